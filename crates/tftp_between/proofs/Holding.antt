@@ -1,7 +1,6 @@
 -- What is held until it is known who the server is, and is then given to the judge of the sides.
-use Rattle.std.proofs.Common.{◌≡◌, ℕ, ◌≤◌, true, false, List, [], ◌∷◌, ◌++◌, length, Some, None, refl, sym, ap, ◌∙◌, subst, append_assoc, append-nil, map, reverse, Option, Result, Ok, Err, OnOk}
+use Rattle.std.proofs.Common.{◌≡◌, ℕ, ◌≤◌, true, false, List, [], ◌∷◌, ◌++◌, length, Some, None, refl, sym, ap, ◌∙◌, subst, append_assoc, append-nil, map, reverse, Option}
 use Rattle.std.specs.List.{All}
-use Rattle.std.specs.declared.alloc.AllocError.{AllocError}
 use Rattle.std.proofs.lemmas.List.{length-map, length-reverse, map-append, reverse-append, reverse-reverse}
 use Rattle.std.proofs.lemmas.List.Elements.{All-append, All-from_recursion}
 use Rattle.tftp_tap.specs.{TapDatagram}
@@ -13,7 +12,7 @@ use Rattle.tftp_views.specs.{Party, IsFed}
 use Rattle.tftp_between.specs.{are_apart, between_capture, is_to_itself, passed_of, sides_of, sides_with, AreHeld, Between, BetweenBy, HasPassed, IsBetweenAfter, IsGoingOn, IsWaiting, View, counted_by, given_to, passed_as}
 use Rattle.tftp_between.proofs.Feeding.{captured_too, passed_fed}
 use Rattle.tftp_views.proofs.Settling.{settled_stays}
-use Rattle.tftp_views.proofs.Holding.{on_ok, ends_too, same_own, server_too, settled_too}
+use Rattle.tftp_views.proofs.Holding.{ends_too, same_own, server_too, settled_too}
 use Rattle.tftp_between.proofs.Settling.{itself, sides_stay}
 use Rattle.tftp_between.proofs.Sides.{to_itself}
 

@@ -1,8 +1,7 @@
 -- Who the ends are stays, once it is known; and what is not of the transfer at its client tells nothing of them.
-use Rattle.std.proofs.Common.{◌≡◌, ℕ, true, false, cond, List, ◌∷◌, ◌++◌, sym, ap, ◌∙◌, filter}
+use Rattle.std.proofs.Common.{◌≡◌, ℕ, true, false, List, ◌++◌, ap}
 use Rattle.tftp_lines.specs.{Transfer, Placed, is_of}
-use Rattle.tftp_transfers.specs.{TransferEnds, AreEndsAfter, is_settled, answered_by, asked_of, server_of, went_on_with}
-use Rattle.tftp_transfers.proofs.OwnDatagrams.{answered_kept, asked_kept, server_kept, settled_kept, went_on_kept}
+use Rattle.tftp_transfers.specs.{is_settled}
 use Rattle.tftp_views.proofs.Settling.{server_stays}
 use Rattle.tftp_between.specs.{sides_of, sides_with}
 

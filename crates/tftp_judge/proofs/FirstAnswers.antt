@@ -1,10 +1,9 @@
 -- The first answer to a request is one, and so is what is known of the transfer.
-use Rattle.std.proofs.Common.{◌≡◌, ℕ, List, [], ◌∷◌, inl, inr, refl, sym, subst, ap, ◌∙◌}
+use Rattle.std.proofs.Common.{◌≡◌, ℕ, List, [], ◌∷◌, inl, inr, refl, sym, ap, ◌∙◌}
 use Rattle.tftp_packet.specs.{Message, RequestParts, Side, Get, Put}
 use Rattle.tftp_hosts.specs.{Dir, Datagram, Header}
 use Rattle.tftp_rules.specs.{Passed, Terms}
-use Rattle.tftp_law.specs.{Answer, Agrees, Begins, IsAnswer, Answers, NotAnswered, FirstAnswer, terms_after, AreTermsAfter}
-use Rattle.tftp_law.proofs.Spelled.{spelled_once}
+use Rattle.tftp_law.specs.{Answer, Agrees, Begins, IsAnswer, NotAnswered, terms_after, AreTermsAfter}
 use Rattle.tftp_law.proofs.FirstBroken.FirstAnswered.{first_one, not_both}
 
 answer_once : (side : Side) (m : Message) (a b : Answer) → IsAnswer side m a → IsAnswer side m b → a ≡ b

@@ -1,13 +1,12 @@
 -- What is said of a text by its first fault.
 use Rattle.std.proofs.Common.{◌≡◌, ◌≢◌, ℕ, ◌<◌, ◌≤◌, ◌⊎◌, inl, inr, List, [], ◌∷◌, ◌++◌, length, All, Err, refl, sym, ap, ◌∙◌, subst, arith, append_assoc, append-nil}
-use Rattle.std.proofs.lemmas.List.{map-append}
 use Rattle.tftp_capture.specs.{Begins, BeginsWith, Numbered, most_ahead, FaultTells, MemoryTells, CaptureFault, BadHeader, BadEnd, BadService, LineTooLong, BadLine, BadPort, BadHost, BadHex, PayloadTooLong, TotalWrong, Truncated, TrailingText, TextTooLong}
 use Rattle.tftp_capture.specs.declared.fault.CaptureFault.TheVariants.{Text, Read, Memory}
 use Rattle.tftp_capture.proofs.Beginnings.{agree, fault_after, unfinished_has}
 use Rattle.tftp_capture.proofs.Staying.{stays}
 use Rattle.tftp_hosts.specs.{Header}
 use Rattle.tftp_law.specs.{IsLawful}
-use Rattle.tftp_law.proofs.Whole.Beginnings.{beginning_is_lawful, empty_is_lawful}
+use Rattle.tftp_law.proofs.Whole.Beginnings.{empty_is_lawful}
 use Rattle.tftp_judge.specs.{EndsText, IsFaultOf, IsLineOf, IsReadVerdict, NoFaultBefore, IsTextVerdict, SaysReadFailed, unnumbered, Capture}
 use Rattle.tftp_judge.proofs.WantOfMemory.{before_want, line_of, no_fault_before}
 use Rattle.tftp_judge.proofs.OneTextVerdict.{front_lawful}

@@ -114,6 +114,14 @@ ended text h ds (Memory count) spare capture is = absurd (spare count refl)
 
 -- ---- the reader's answers
 
+pub still_clean : (new old : Bool) → ⊥ ⊎ (new ≡ old) → old ≡ false → new ≡ false
+still_clean new old (inl x) e = absurd x
+still_clean new old (inr same) e = same ∙ e
+
+pub clean_or : (Reads : Type 0) (new old : Bool) → Reads ⊎ (new ≡ old) → old ≡ false → Reads ⊎ (new ≡ false)
+clean_or Reads new old (inl reads) e = inl reads
+clean_or Reads new old (inr same) e = inr (same ∙ e)
+
 pub clean_says : (failed : Bool) (P : Type 0) → failed ≡ false → failed ≡ true → P
 clean_says failed P clean is = absurd (true≢false (sym is ∙ clean))
 

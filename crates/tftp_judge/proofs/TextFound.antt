@@ -69,6 +69,10 @@ answers (Err (Capture (Text line fault))) = inl tt
 answers (Err (Capture (Read line))) = inr (inl tt)
 answers (Err (Capture (Memory line))) = inr (inr tt)
 
+pub rest_of : (b : Option (List ℕ)) (text bytes : List ℕ) → Consumes (Some text) b bytes → (rest : List ℕ) × (b ≡ Some rest) × (text ≡ bytes ++ rest)
+rest_of None text bytes c = absurd c
+rest_of (Some rest) text bytes c = (rest, refl, c)
+
 module _ (before after : Option (List ℕ)) (failed : Bool) (r : Result Meaning Verdict) (found : Found before after failed r) where
   pub found_judged : (read : List ℕ) × Consumes before after read × IsReadVerdict read r
   found_judged = elim found.said as (λ _. (read : List ℕ) × Consumes before after read × IsReadVerdict read r) [
@@ -81,10 +85,6 @@ module _ (before after : Option (List ℕ)) (failed : Bool) (r : Result Meaning 
 
   pub found_tally : failed ≡ true → SaysReadFailed r
   found_tally = found.tallied
-
-  rest_of : (b : Option (List ℕ)) (text bytes : List ℕ) → Consumes (Some text) b bytes → (rest : List ℕ) × (b ≡ Some rest) × (text ≡ bytes ++ rest)
-  rest_of None text bytes c = absurd c
-  rest_of (Some rest) text bytes c = (rest, refl, c)
 
   pub found_whole : (text : List ℕ) → before ≡ Some text → failed ≡ false → IsTextVerdict text r
   found_whole text all clean =

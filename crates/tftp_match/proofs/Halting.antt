@@ -1,5 +1,5 @@
 -- What is known of a text once a step of its reader is done.
-use Rattle.std.proofs.Common.{◌≡◌, ◌≤◌, ◌⊎◌, inl, inr, ℕ, Bool, true, false, true≢false, List, [], ◌∷◌, ◌++◌, length, reverse, Option, Some, None, Result, Ok, Err, refl, sym, ap, ◌∙◌, subst}
+use Rattle.std.proofs.Common.{◌≡◌, ◌≤◌, ◌⊎◌, inl, inr, ℕ, Bool, true, false, List, [], ◌∷◌, ◌++◌, length, reverse, Option, Some, None, Result, Ok, Err, refl, sym, ap, ◌∙◌, subst}
 use Rattle.std.specs.Io.KnownBytes.{Consumes, IsAtEnd, prepend_known}
 use Rattle.std.proofs.KnownBytes.{Consumes-trans}
 use Rattle.std.proofs.lemmas.List.{map-append, reverse-append, reverse-reverse}
@@ -15,12 +15,12 @@ use Rattle.tftp_judge.specs.{Refuses, IsJudgeAfter, Judge, IsOfText, IsReadVerdi
 use Rattle.tftp_judge.specs.declared.refusal.Refusal.TheVariants.{Memory}
 use Rattle.tftp_judge.proofs.FirstFaults.{begins_longer, fault_kinds}
 use Rattle.tftp_judge.proofs.Follows.{Follows, found_fault, found_refused, clean_says}
-use Rattle.tftp_judge.proofs.TextFound.{Closed, Found, closed, found_ended, found_exact, found_judged, found_tally, found_whole}
+use Rattle.tftp_judge.proofs.TextFound.{Closed, Found, closed, found_ended, found_exact, found_judged, found_tally, found_whole, rest_of}
 use Rattle.tftp_capture.specs.CaptureText.Due.{Body}
 use Rattle.tftp_pair.specs.{IsLawfulTo}
 use Rattle.tftp_pair_judge.specs.{IsReadOf}
 use Rattle.tftp_match.specs.{HasDatagrams, capture_of, IsJudged, HasRead, IsFinished, IsGiven, IsHalted, said_by, Ended, Refused, Fault}
-use Rattle.tftp_match.proofs.Fronts.{all_of, front_in, has_before_fault, has_captured, lawful_front, lawful_whole, rest_of}
+use Rattle.tftp_match.proofs.Fronts.{all_of, front_in, has_before_fault, has_captured, lawful_front, lawful_whole}
 
 -- ---- what was found is what there is to say
 

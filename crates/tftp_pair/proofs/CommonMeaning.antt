@@ -15,7 +15,7 @@ use Rattle.tftp_law.proofs.FirstBroken.FirstRequests.{none_before}
 use Rattle.tftp_law.proofs.FirstBroken.FirstAnswered.{not_both}
 use Rattle.tftp_law.proofs.Accord.FirstReply.{sent_data, sent_zero, no_oack}
 use Rattle.tftp_law.proofs.Accord.HighestNumbers.{transfer_spelled}
-use Rattle.tftp_law.proofs.Soundness.MadeMeaning.{answer_cases, oack_spelled}
+use Rattle.tftp_law.proofs.Soundness.MadeMeaning.{answer_cases}
 use Rattle.tftp_law.proofs.Accord.Moments.{sent_moment}
 use Rattle.tftp_law.proofs.Spelled.{spelled_once}
 use Rattle.tftp_law.proofs.Soundness.Searches.{oack_from, zero_from}

@@ -2,14 +2,15 @@
 use Rattle.std.proofs.Common.{◌≡◌, true, false, List, ◌∷◌, Option, Some, None, inl, inr, sym, subst, ap, ◌∙◌}
 use Rattle.tftp_hosts.specs.{In, Out, Datagram, Header}
 use Rattle.tftp_rules.specs.{route_of, is_of_transfer, transfer_of}
-use Rattle.tftp_law.proofs.FirstBroken.FirstAnswered.{main_none, main_some}
 use Rattle.tftp_pair.specs.{IsBrought, AreMergedBy}
 use Rattle.tftp_pair.proofs.Merged.{at_client, at_server, turned}
 use Rattle.tftp_pair_judge.specs.{WasSent, with_held, Waits, AreMergedBut, IsAskedAgain}
-use Rattle.tftp_pair_judge.proofs.Sides.{in_is_not_out}
 use Rattle.tftp_judge.proofs.Accepting.{transfer_kept, transfer_same}
 
 -- ---- the two ends the other way round
+
+pub in_is_not_out : (d : Datagram) → d.dir ≡ In → d.dir ≡ Out → ⊥
+in_is_not_out d came went = let e : In ≡ Out = sym came ∙ went in absurd (cc)
 
 pub but_turned : (held other_held : Option Datagram) (h k : Header) (read other_read : List Datagram) → AreMergedBut held other_held h read k other_read → AreMergedBut other_held held k other_read h read
 but_turned held other_held h k read other_read but = record {

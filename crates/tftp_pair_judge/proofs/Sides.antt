@@ -37,9 +37,6 @@ flags_stay flags passed d other are j = (
   λ p. elim p [ inl this ↦ absurd (other j this.0 this.1) | inr p ↦ (are j).1 p ],
 )
 
-pub in_is_not_out : (d : Datagram) → d.dir ≡ In → d.dir ≡ Out → ⊥
-in_is_not_out d came went = let e : In ≡ Out = sym came ∙ went in absurd (cc)
-
 pub flags_after_stray : (flags : ℕ → Bool) (h : Header) (read : List Datagram) (d : Datagram) → is_of_transfer (route_of h read d) ≡ false → AreFlags flags (transfer_of h read) → AreFlags flags (transfer_of h (d ∷ read))
 flags_after_stray flags h read d is are = subst (AreFlags flags) (sym (main_none (is_of_transfer (route_of h read d)) d (transfer_of h read) is)) are
 

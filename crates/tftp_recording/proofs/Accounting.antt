@@ -1,5 +1,5 @@
 -- Each frame is accounted for once: what a frame does to those that wait, in three stages, and then whole histories.
-use Rattle.std.proofs.Common.{◌≡◌, ◌≢◌, ℕ, ◌+◌, ◌≤◌, Bool, true, false, ◌⊎◌, inl, inr, List, [], ◌∷◌, ◌++◌, length, Option, Some, None, refl, sym, ap, ◌∙◌, subst, arith}
+use Rattle.std.proofs.Common.{◌≡◌, ◌≢◌, ℕ, ◌+◌, ◌≤◌, Bool, true, ◌⊎◌, inl, inr, List, [], ◌∷◌, ◌++◌, length, Option, Some, None, refl, sym, ap, ◌∙◌, subst, arith}
 use Rattle.std.proofs.lemmas.Bool.{cases_lt, cases_Bool}
 use Rattle.tftp_fragments.specs.{same_key, Arrival, SetState, PutEnds, Sets, frames_of, is_long, set_at, Outcome, Waits, Apart}
 use Rattle.tftp_fragments.specs.Whole.{Part}

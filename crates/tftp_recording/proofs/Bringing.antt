@@ -1,10 +1,9 @@
 -- What a frame does among the fragments that wait.
-use Rattle.std.proofs.Common.{◌≡◌, ◌≢◌, ℕ, inr, List, [], Option, None, Result, Ok, Err, OnErr, sym, ap, ◌∙◌, subst, arith}
+use Rattle.std.proofs.Common.{◌≡◌, ◌≢◌, ℕ, inr, List, [], Option, None, Result, Ok, Err, sym, ap, ◌∙◌, subst, arith}
 use Rattle.std.specs.Result.{IsOkAnd}
 use Rattle.tftp_frames.specs.{SpellsFrame, Packet, shown, HoldsUdp, SpellsUdp, Udp, FrameFault, UdpFault, IpPacket}
 use Rattle.tftp_fragments.specs.{Arrival, SetState, IsTried, MayBePut, PutEnds, Sets, room_of_all, Outcome, Full}
 use Rattle.tftp_fragments.specs.Whole.{Part}
-use Rattle.tftp_fragments.proofs.Rooms.{on_err}
 use Rattle.tftp_recording.specs.{MakesRoom}
 
 pub spells_here : (link other : ℕ) (bytes others : List ℕ) (p : Packet) → other ≡ link → others ≡ bytes → SpellsFrame link bytes p → SpellsFrame other others p

@@ -1,5 +1,5 @@
 -- What becomes of a frame is one thing.
-use Rattle.std.proofs.Common.{◌≡◌, ℕ, true, false, inl, inr, List, ◌∷◌, Option, Some, None, refl, sym, ap, ◌∙◌, subst}
+use Rattle.std.proofs.Common.{◌≡◌, ℕ, inl, inr, List, ◌∷◌, Option, Some, None, refl, sym, ap, ◌∙◌, subst}
 use Rattle.std.proofs.lemmas.Bool.{false≢true}
 use Rattle.tftp_copies.specs.{Packet as Recorded}
 use Rattle.tftp_fragments.specs.{content_of as put_together, Outcome, Waits as Held, Apart as Torn, Empty as Bare, TooLong as Long, Full as Crowded}

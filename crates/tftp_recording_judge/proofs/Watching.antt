@@ -8,7 +8,6 @@ use Rattle.tftp_views.specs.{Naming, Client, View}
 use Rattle.tftp_between.specs.{View as Between}
 use Rattle.tftp_between.proofs.Holding.{passes_by as between_passes_by}
 use Rattle.tftp_transfers.proofs.OwnDatagrams.{about_none}
-use Rattle.tftp_transfers.proofs.AllLines.{on_ok_map}
 use Rattle.tftp_views.proofs.Holding.{passes_by}
 use Rattle.tftp_views.proofs.Passing.{client_passes_by, doubts_pass_by}
 use Rattle.tftp_recording_judge.specs.{Judging, AreJudgesAfter, BetweenStands, ClientStands, IsUnheard, IsWatching, Judges, ServerStands, Watched}

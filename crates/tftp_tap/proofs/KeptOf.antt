@@ -1,7 +1,7 @@
 -- What is kept of a list, and what stands before an ERROR in it.
-use Rattle.std.proofs.Common.{◌≡◌, ◌⊎◌, Bool, true, false, List, [], ◌∷◌, Contains, inl, inr, refl, sym, subst, ap, ◌∙◌, ◌&&◌, ◌||◌, not}
+use Rattle.std.proofs.Common.{◌≡◌, Bool, true, false, List, [], ◌∷◌, Contains, inl, inr, refl, sym, subst, ap, ◌∙◌, ◌&&◌, not}
 use Rattle.std.specs.List.{list_any}
-use Rattle.std.proofs.lemmas.Bool.{true≢false, or_parts, cases_Bool, and_parts}
+use Rattle.std.proofs.lemmas.Bool.{true≢false, or_parts, cases_Bool}
 use Rattle.tftp_packet.specs.{End, Client}
 use Rattle.tftp_model.proofs.Members.{contains_first, contains_later, contains_cases, contains_none}
 use Rattle.tftp_tap.specs.{Tests, is_left_out, kept_of, before_error}

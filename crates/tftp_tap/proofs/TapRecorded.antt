@@ -10,7 +10,7 @@ use Rattle.tftp_law.specs.{from_server, Main, Placed, Division, datagrams_of, vi
 use Rattle.tftp_law.proofs.Division.RouteTests.{same_is, IsTold}
 use Rattle.tftp_law.proofs.Division.Routed.{routed_by}
 use Rattle.tftp_law.proofs.Division.Divided.{any_first, any_later}
-use Rattle.tftp_tap.specs.{Pass, deed_at, as_at, TapDatagram, TapSides, side_of, AreApart, Tests, is_left_out, kept_of, same_end, pass_tests, TapPart, TapPlaced, TapDivision, tapped_of, passed_of, GoesThere, CarriesPass, HasTapPart, HaveTapParts, tap_tests, recorded_at}
+use Rattle.tftp_tap.specs.{Pass, deed_at, as_at, TapDatagram, TapSides, side_of, AreApart, Tests, is_left_out, kept_of, same_end, pass_tests, TapPart, TapDivision, passed_of, GoesThere, CarriesPass, HasTapPart, HaveTapParts, tap_tests, recorded_at}
 use Rattle.tftp_tap.specs.TapDress as tap
 use Rattle.tftp_tap.proofs.KeptOf.{kept_out, kept_in, any_skip}
 use Rattle.tftp_tap.proofs.TapTests.{source_is, asks_some, ends_some}

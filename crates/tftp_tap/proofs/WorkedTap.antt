@@ -2,9 +2,8 @@
 use Rattle.std.proofs.Common.{◌≡◌, ℕ, ◌≤◌, ◌<◌, true, [], ◌∷◌, Any, Contains, codes, inl, inr, refl, sym, subst, ap, arith}
 use Rattle.std.proofs.lemmas.Bool.{true≢false}
 use Rattle.std.specs.FinMap as map
-use Rattle.std.specs.Cmp.Lexicographic.{nat_list_cmp_total}
-use Rattle.tftp_packet.specs.{Num, Message, Spells, IsPair, Client, Server, End}
-use Rattle.tftp_model.specs.{number_or, request_of, blksize_of, windowsize_of, block, block_count, Sent, Took, Req, Oack, Data, Ack, HasSent, IsRun, IsView, two_bytes, two_bytes_view, ten_bytes, ten_bytes_view, eight_by_four, window_repeated, window_repeated_steps}
+use Rattle.tftp_packet.specs.{Message, Spells, IsPair, Client, Server, End}
+use Rattle.tftp_model.specs.{number_or, request_of, block, block_count, Sent, Took, Req, Oack, Data, Ack, HasSent, IsRun, IsView, two_bytes, two_bytes_view, ten_bytes, ten_bytes_view, eight_by_four, window_repeated, window_repeated_steps}
 use Rattle.tftp_model.proofs.Members.{contains_first, contains_cases, contains_none}
 use Rattle.tftp_model.proofs.OneSided.{view_one_sided}
 use Rattle.tftp_model.proofs.Worked.{two_bytes_is_view, ten_bytes_is_view, eight_of_both, four_of_both, has_some, one_block, one_at_a_time}

@@ -1,9 +1,9 @@
 -- What the end that gets the file keeps, after one more datagram, and what it finds of it.
-use Rattle.std.proofs.Common.{◌≡◌, ◌⊎◌, inl, inr, ℕ, Bool, true, false, List, [], ◌∷◌, Err, refl, sym, subst, ap, ◌∙◌, ◌||◌, ◌&&◌, ◌==◌, map}
+use Rattle.std.proofs.Common.{◌≡◌, inl, inr, ℕ, Bool, true, false, List, [], ◌∷◌, Err, refl, sym, subst, ap, ◌∙◌, ◌||◌, ◌&&◌, ◌==◌, map}
 use Rattle.std.specs.List.{list_any}
 use Rattle.std.proofs.lemmas.Bool.{true≢false, eqb-true, cases_Bool}
 use Rattle.tftp_packet.specs.{Side, End, Client, Server, opcode_of}
-use Rattle.tftp_hosts.specs.{Datagram, same_peer}
+use Rattle.tftp_hosts.specs.{Datagram}
 use Rattle.tftp_model.specs.Roles.{receiver_of}
 use Rattle.tftp_judge.specs.{NoneBreaks, Refuses, IsJudgeAfter, Judge, TakesMemory, Refusal}
 use Rattle.tftp_judge.specs.declared.refusal.Refusal.TheVariants as of_end

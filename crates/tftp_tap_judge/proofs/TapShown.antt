@@ -2,10 +2,10 @@
 use Rattle.std.proofs.Common.{◌≡◌, ℕ, true, List, [], ◌∷◌, Contains, inr, refl, sym, subst, ap, ◌∙◌, map, reverse}
 use Rattle.std.proofs.lemmas.List.{reverse-reverse}
 use Rattle.std.specs.List.{list_any}
-use Rattle.tftp_packet.specs.{RequestParts, End, Side, Get, Put}
+use Rattle.tftp_packet.specs.{RequestParts, End}
 use Rattle.tftp_hosts.specs.{Datagram, Header}
 use Rattle.tftp_model.specs.{Meaning, blksize_of, request_of, block_count, Ack, Data, HasSent, HasTaken, IsView, IsOneSided}
-use Rattle.tftp_model.specs.Machines.{other_end, receiver_of, sender_of}
+use Rattle.tftp_model.specs.Machines.{receiver_of, sender_of}
 use Rattle.tftp_model.proofs.Members.{contains_none}
 use Rattle.tftp_model.proofs.OneSided.{view_one_sided}
 use Rattle.tftp_model.proofs.MadeRuns.{one_sided_view}

@@ -1,7 +1,7 @@
 -- Captures that no run of two ends has.
 use Rattle.std.proofs.Common.{◌≡◌, ℕ, not, nat_le, Bool, true, List, [], ◌∷◌, ◌++◌, codes, inl, inr, refl, sym, subst, ap, ◌∙◌, arith}
 use Rattle.std.proofs.lemmas.Bool.{false≢true, leb-true}
-use Rattle.tftp_packet.specs.{Message, RequestParts, OptionMap, Get, Put, Client}
+use Rattle.tftp_packet.specs.{Message, RequestParts, Get, Put, Client}
 use Rattle.tftp_model.specs.{Meaning, request_of, number_or, option_or, windowsize_of, MachinePacket, Data, Ack, HasSent, HasTaken, Step, view_of, IsRun, eight_by_four, six_blocks}
 use Rattle.tftp_model.specs.Roles.{sender_of, receiver_of}
 use Rattle.tftp_model.proofs.Moments.{taken_was_sent}
