@@ -16,6 +16,7 @@ use Rattle.tftp_frames.specs.{SpellsFrame, Packet, HasUdp, HoldsUdp, SpellsUdp, 
 use Rattle.tftp_frames.specs.declared.fault.FrameFault.TheVariants.{Protocol}
 use Rattle.tftp_frames.specs.declared.fault.UdpFault.TheVariants.{Protocol as NotUdp}
 use Rattle.tftp_frames.proofs.FaultOrder.{packet_one}
+use Rattle.tftp_frames.proofs.Uppers.{spells_ip}
 use Rattle.tftp_recording.specs.{LetsGoOld, TakesPart, arrival_of, IsDatagram, IsFateOf, IsHistory, cooked_step, ethernet_step, first_bytes, first_part, first_set, first_step, icmp_content, icmp_frame, last_bytes, last_named, last_of_icmp, last_part, last_step, part_of_icmp, raw_frame, recorded_at, recorded_first, worked_content, worked_key, worked_time, Left, Frame, New}
 use Rattle.tftp_recording.specs.declared.fate.Datagram.{Datagram as Given}
 use Rattle.tftp_recording.specs.declared.fate.Fate.TheVariants.{Datagram}
@@ -30,14 +31,7 @@ first_spells = (
   Ipv4,
   (RawIpv4, refl, (omega arith, refl, (refl, refl))),
   refl,
-  record {
-    header = (omega arith, refl, omega arith, omega arith);
-    whole = (omega arith, omega arith);
-    upper = _;
-    reaches = refl;
-    udp = refl;
-    packet = refl;
-  },
+  spells_ip Unknown Ipv4 first_bytes _ (omega arith, refl, omega arith, omega arith) (omega arith, omega arith) refl refl,
 )
 
 pub last_spells : SpellsFrame 228 last_bytes last_part
@@ -46,14 +40,7 @@ last_spells = (
   Ipv4,
   (RawIpv4, refl, (omega arith, refl, (refl, refl))),
   refl,
-  record {
-    header = (omega arith, refl, omega arith, omega arith);
-    whole = (omega arith, omega arith);
-    upper = _;
-    reaches = refl;
-    udp = refl;
-    packet = refl;
-  },
+  spells_ip Unknown Ipv4 last_bytes _ (omega arith, refl, omega arith, omega arith) (omega arith, omega arith) refl refl,
 )
 
 ethernet_spells : SpellsFrame 1 (two_tags ++ ipv4_bytes) (ipv4_packet Unknown ipv4_bytes)
@@ -62,14 +49,7 @@ ethernet_spells = (
   Ipv4,
   (Ethernet, refl, (omega arith, refl, (2048, (2, (refl, omega arith, (refl, omega arith, (refl, refl, refl)))), refl))),
   refl,
-  record {
-    header = (omega arith, refl, omega arith, omega arith);
-    whole = (omega arith, omega arith);
-    upper = _;
-    reaches = refl;
-    udp = refl;
-    packet = refl;
-  },
+  spells_ip Unknown Ipv4 ipv4_bytes _ (omega arith, refl, omega arith, omega arith) (omega arith, omega arith) refl refl,
 )
 
 cooked_spells : SpellsFrame 113 (cooked_head ++ ipv4_bytes) (ipv4_packet Out ipv4_bytes)
@@ -78,14 +58,7 @@ cooked_spells = (
   Ipv4,
   (Cooked, refl, (omega arith, refl, (2048, (0, (refl, refl, refl)), refl))),
   refl,
-  record {
-    header = (omega arith, refl, omega arith, omega arith);
-    whole = (omega arith, omega arith);
-    upper = _;
-    reaches = refl;
-    udp = refl;
-    packet = refl;
-  },
+  spells_ip Out Ipv4 ipv4_bytes _ (omega arith, refl, omega arith, omega arith) (omega arith, omega arith) refl refl,
 )
 
 -- ---- copies
@@ -303,14 +276,8 @@ icmp_spells = (
   Ipv6,
   (RawIpv6, refl, (omega arith, refl, (refl, refl))),
   refl,
-  record {
-    header = (omega arith, refl);
-    whole = (omega arith, omega arith);
-    upper = record { protocol = 58; fragment = Some last_named; content = part_of_icmp.content };
-    reaches = (0, inr (refl, omega arith, refl, refl));
-    udp = refl;
-    packet = refl;
-  },
+  spells_ip Unknown Ipv6 last_of_icmp (record { protocol = 58; fragment = Some last_named; content = part_of_icmp.content }) (omega arith, refl) (omega arith, omega arith)
+      (0, inr (refl, omega arith, refl, refl)) refl,
 )
 
 pub udp_fate : (content : Made) (frames : Vec ℕ Global) (d : Given) → put_together content ≡ worked_content → IsDatagram icmp_frame part_of_icmp acknowledgement d → IsFateOf icmp_frame New (Some (Whole content frames)) (Datagram d)
