@@ -2,8 +2,8 @@
 use Rattle.std.proofs.Common.{◌≡◌, ℕ, Bool, true, false, List, [], ◌∷◌, Contains, inl, inr, refl, sym, subst, ap, ◌∙◌, ◌&&◌}
 use Rattle.std.specs.List.{list_any}
 use Rattle.std.proofs.lemmas.Bool.{true≢false, or_parts, cases_Bool, and_parts}
-use Rattle.tftp_packet.specs.{Side, Get, Put, End, Client, Server}
-use Rattle.tftp_model.specs.{Meaning, MachinePacket, Req, Oack, Data, Ack, Error, History, HasSent, HasTaken, is_error, takes_error, heard, LetsStartOn, LetsAckZeroOn, MayCome, IsOneSided}
+use Rattle.tftp_packet.specs.{End, Client, Server}
+use Rattle.tftp_model.specs.{Meaning, MachinePacket, Req, Oack, Data, Ack, Error, HasSent, is_error, takes_error, heard, IsOneSided}
 use Rattle.tftp_model.specs.Machines.{other_end, receiver_of}
 use Rattle.tftp_tap.specs.{Pass, deed_at, as_at, MayPass, MayPassEach, KeepsOrder, KeepsOrderEach, is_left_out, before_error, same_end, is_request, pass_tests, kept_at}
 use Rattle.tftp_tap.proofs.Passed.{at_sent, at_took, sent_passed, took_passed}
@@ -11,6 +11,7 @@ use Rattle.tftp_tap.proofs.Ordered.{ack_asked, client_reads}
 use Rattle.tftp_tap.proofs.OneTap.{Has}
 use Rattle.tftp_tap.proofs.AtReceiver.{receiver_is}
 use Rattle.tftp_tap.proofs.KeptOf.{any_of, none_of, some_of, none_in, before_all, before_less, before_more, kept_out, kept_in, kept_there, kept_plain, kept_asks, kept_quiet}
+use Rattle.tftp_tap.proofs.LeftOut.{Serves, come_by}
 
 -- ---- what an end has heard is what passed before the other's ERROR
 
@@ -58,7 +59,7 @@ request_plain f (Data k) asks e = quiet_of f (Data k) refl e
 request_plain f (Ack j) asks e = quiet_of f (Ack j) refl e
 request_plain f (Error code text) asks e = absurd (true≢false (sym (and_parts (same_end Client f) false asks).1))
 
-request_is : (x : Pass) → pass_tests.asks x ≡ true → x ≡ record { from = Client; packet = Req }
+pub request_is : (x : Pass) → pass_tests.asks x ≡ true → x ≡ record { from = Client; packet = Req }
 request_is x asks = by x.from x.packet refl refl asks where
   by : (f : End) (p : MachinePacket) → x.from ≡ f → x.packet ≡ p → (same_end Client f && is_request p) ≡ true → x ≡ record { from = Client; packet = Req }
   by Client Req one other is = λ i. record { from = one i; packet = other i }
@@ -114,33 +115,8 @@ module _ (r : End) where
 
 -- ---- what may come after the one history may come after the other
 
-record Suits (e : End) (h other : History) : Type 0 where
-  sent : (p : MachinePacket) → is_error p ≡ false → HasSent (heard h) p → HasSent (heard other) p
-  asked : HasSent h Req → HasSent other Req
-  errors : (code : ℕ) (text : List ℕ) → HasTaken other (Error code text) → HasTaken h (Error code text)
-
-come_by : (m : Meaning) (wire : List ℕ) (e : End) (h other : History) → Suits e h other → (p : MachinePacket) → MayCome m wire e h p → MayCome m wire e other p
-come_by m wire e h other s Req may = may
-come_by m wire e h other s Oack may = record { client = may.client; agreed = may.agreed; asked = s.asked may.asked }
-come_by m wire e h other s (Error code text) may = record { asked = λ is. s.asked (may.asked is); same = λ c t at. may.same c t (s.errors c t at) }
-come_by m wire e h other s (Data k) may = record {
-  receiver = may.receiver;
-  from_one = may.from_one;
-  in_wire = may.in_wire;
-  started = start m.side may.started;
-  in_window = (may.in_window.0, elim may.in_window.1 [ inl first ↦ inl first | inr acked ↦ inr (s.sent (Ack may.in_window.0) refl acked) ], may.in_window.2);
-}
-  where
-    start : (side : Side) → LetsStartOn side m (heard h) → LetsStartOn side m (heard other)
-    start Get l = elim l [ inl plain ↦ inl (plain.0, s.sent Req refl plain.1) | inr oacked ↦ inr (oacked.0, s.sent (Ack 0) refl oacked.1) ]
-    start Put l = elim l [ inl plain ↦ inl (plain.0, s.sent (Ack 0) refl plain.1) | inr oacked ↦ inr (oacked.0, s.sent Oack refl oacked.1) ]
-come_by m wire e h other s (Ack j) may = record { sender = may.sender; zero = λ is. zero m.side (may.zero is); sent = λ k low high. s.sent (Data k) refl (may.sent k low high) } where
-  zero : (side : Side) → LetsAckZeroOn side m (heard h) → LetsAckZeroOn side m (heard other)
-  zero Get z = (z.0, s.sent Oack refl z.1)
-  zero Put z = elim z [ inl plain ↦ inl (plain.0, s.sent Req refl plain.1) | inr oacked ↦ inr (oacked.0, oacked.1, s.sent (Data oacked.1) refl oacked.2) ]
-
 module _ (r : End) where
-  suits_kept : (e : End) (passed : List Pass) → Suits e (as_at e passed) (as_at e (kept_at r passed))
+  suits_kept : (e : End) (passed : List Pass) → Serves (as_at e passed) (as_at e (kept_at r passed))
   suits_kept e passed = record {
     sent = λ p plain at. before_sent e (kept_at r passed) p (before_kept r (other_end e) passed e p plain (sent_before e passed p at));
     asked = λ at. at_sent e Req (kept_at r passed) (has_kept r passed e Req refl (sent_passed e Req passed at));

@@ -168,27 +168,10 @@ module _ (s : TapSides) (apart : AreApart s) (asked : RequestParts) (cs : List C
 late_never : (s : TapSides) (passed : List TapDatagram) (d : TapDatagram) (broken : Rule) → IsOfSending broken → LateBroken s passed d broken → ⊥
 late_never s passed d broken of l = by l.message broken of l.breaks where
   by : (n : Message) (broken : Rule) → IsOfSending broken → LateBreaks s l.asked.side passed n broken → ⊥
-  by (Message.Request q) rule.RequestAfterStart of b = b
-  by (Message.Request q) rule.OackAfterStart of b = b
-  by (Message.Request q) (rule.Block EndRule.BlockSkipped) of b = b
-  by (Message.Request q) (rule.Block EndRule.GoneBack) of b = b
-  by (Message.Oack options) rule.RequestAfterStart of b = b
-  by (Message.Oack options) rule.OackAfterStart of b = b
-  by (Message.Oack options) (rule.Block EndRule.BlockSkipped) of b = b
-  by (Message.Oack options) (rule.Block EndRule.GoneBack) of b = b
-  by (Message.Data k bytes) rule.RequestAfterStart of b = b
-  by (Message.Data k bytes) rule.OackAfterStart of b = b
-  by (Message.Data k bytes) (rule.Block EndRule.BlockSkipped) of b = b
-  by (Message.Data k bytes) (rule.Block EndRule.GoneBack) of b = b
-  by (Message.Ack j) rule.RequestAfterStart of b = b
-  by (Message.Ack j) rule.OackAfterStart of b = b
-  by (Message.Ack j) (rule.Block EndRule.BlockSkipped) of b = b
-  by (Message.Ack j) (rule.Block EndRule.GoneBack) of b = b
-  by (Message.Error code text) rule.RequestAfterStart of b = b
-  by (Message.Error code text) rule.OackAfterStart of b = b
-  by (Message.Error code text) (rule.Block EndRule.BlockSkipped) of b = b
-  by (Message.Error code text) (rule.Block EndRule.GoneBack) of b = b
-  by n broken of b = absurd of
+  by (Message.Data k bytes) (rule.Block EndRule.NotStarted) of b = of
+  by (Message.Ack j) (rule.Block EndRule.AckAhead) of b = of
+  by (Message.Ack j) (rule.Block EndRule.AckZero) of b = of
+  by _ _ of b = b
 
 low_number : (broken : Rule) → IsOfSending broken → 6 < number_of broken
 low_number rule.RequestAfterStart of = omega arith

@@ -24,7 +24,7 @@ use Rattle.tftp_tap.proofs.Passed.{sent_at, at_sent, took_passed}
 use Rattle.tftp_tap.proofs.AtReceiver.{receiver_is}
 use Rattle.tftp_tap.proofs.OneTap.{Has, pass_moment, begun}
 use Rattle.tftp_tap.proofs.KeptOf.{any_skip, any_of, some_of, before_there, before_all, before_less, kept_out, kept_in, kept_there, kept_plain, kept_asks}
-use Rattle.tftp_tap.proofs.TapKept.{before_sent}
+use Rattle.tftp_tap.proofs.TapKept.{before_sent, request_is}
 use Rattle.tftp_tap.proofs.TapBack.{kept_tells}
 use Rattle.tftp_tap.proofs.TapRouted.{Carried}
 use Rattle.tftp_tap.proofs.TapRecorded.{Each, kept_each, kept_map, asks_same, IsCarried, pair_tests, datagram_in, pass_in, passes_each, header_of_end, placed, placed_datagrams, placed_view, placed_routes}
@@ -267,7 +267,7 @@ module _ (s : TapSides) (apart : AreApart s) (asked : RequestParts) where
     zero_write j packet none put = elim (same_options m.agreed no_options) [
       | inl plain ↦
           let found = some_of pair_tests.asks (before_error pair_tests Server cs) (request_before cs all each (server_after s apart c cs lawful from each)) in
-          let request = asks_pass found.0.pass found.2 in
+          let request = request_is found.0.pass found.2 in
           inl (plain, hears Server Req from (before_has Server cs found.0 (other_end c.pass.from) Req found.1 (ap (λ (x : Pass). x.from) request ∙ ap other_end (sym from)) (ap (λ (x : Pass). x.packet) request)))
       | inr some ↦ elim (decide_kind IsOack decide_oack s cs each) [
         | inr never ↦ absurd (needs_block j packet none put some never)
@@ -284,16 +284,6 @@ module _ (s : TapSides) (apart : AreApart s) (asked : RequestParts) where
       where
         from : c.pass.from ≡ Server
         from = from_receiver j packet Put put
-
-        asks_pass : (x : Pass) → pass_tests.asks x ≡ true → x ≡ record { from = Client; packet = Req }
-        asks_pass x is = by x.from x.packet refl refl is where
-          by : (f : End) (p : MachinePacket) → x.from ≡ f → x.packet ≡ p → (same_end Client f && is_request p) ≡ true → x ≡ record { from = Client; packet = Req }
-          by Client Req one other is = λ i. record { from = one i; packet = other i }
-          by Client Oack one other is = absurd (true≢false (sym is))
-          by Client (Data k) one other is = absurd (true≢false (sym is))
-          by Client (Ack j) one other is = absurd (true≢false (sym is))
-          by Client (Error code text) one other is = absurd (true≢false (sym is))
-          by Server p one other is = absurd (true≢false (sym is))
 
     -- ---- ERRORs
 
@@ -323,17 +313,7 @@ module _ (s : TapSides) (apart : AreApart s) (asked : RequestParts) where
           let server : c.pass.from ≡ Server = sym (other_other c.pass.from) ∙ ap other_end client in
           let some = sym (asks_same pass_in pair_tests pass_tests cs (passes_each cs)) in
           let found = some_of pass_tests.asks (map pass_in cs) (asks_same pass_in pair_tests pass_tests cs (passes_each cs) ∙ server_after s apart c cs lawful server each) in
-          subst (λ e. HasSent (as_at e (map pass_in cs)) Req) (sym client) (at_sent Client Req (map pass_in cs) (subst (Contains (map pass_in cs)) (asks_is found.0 found.2) found.1))
-        where
-          asks_is : (x : Pass) → pass_tests.asks x ≡ true → x ≡ record { from = Client; packet = Req }
-          asks_is x is = by x.from x.packet refl refl is where
-            by : (f : End) (p : MachinePacket) → x.from ≡ f → x.packet ≡ p → (same_end Client f && is_request p) ≡ true → x ≡ record { from = Client; packet = Req }
-            by Client Req one other is = λ i. record { from = one i; packet = other i }
-            by Client Oack one other is = absurd (true≢false (sym is))
-            by Client (Data k) one other is = absurd (true≢false (sym is))
-            by Client (Ack j) one other is = absurd (true≢false (sym is))
-            by Client (Error code text) one other is = absurd (true≢false (sym is))
-            by Server p one other is = absurd (true≢false (sym is))
+          subst (λ e. HasSent (as_at e (map pass_in cs)) Req) (sym client) (at_sent Client Req (map pass_in cs) (subst (Contains (map pass_in cs)) (request_is found.0 found.2) found.1))
 
       same : (one : ℕ) (words : List ℕ) → HasTaken (as_at (other_end c.pass.from) (map pass_in cs)) (Error one words) → (one ≡ code) × (words ≡ text)
       same one words at = equal (spells_error one words (subst (λ e. Has (map pass_in cs) e (Error one words)) (other_other c.pass.from) (took_passed (other_end c.pass.from) (Error one words) (map pass_in cs) at))) where

@@ -35,15 +35,7 @@ late_tap =
     ∷ record { from = Client; packet = Req }
     ∷ [])
     (2, omega arith, refl)
-    (earlier_passed ten_bytes ten_bytes.file (record { from = Client; packet = Ack 2 })
-    (record { from = Server; packet = Data 2 }
-    ∷ record { from = Client; packet = Ack 1 }
-    ∷ record { from = Server; packet = Data 1 }
-    ∷ record { from = Client; packet = Ack 0 }
-    ∷ record { from = Server; packet = Oack }
-    ∷ record { from = Client; packet = Req }
-    ∷ [])
-    all)
+    (earlier_passed ten_bytes ten_bytes.file (record { from = Client; packet = Ack 2 }) _ all)
 
 pub late_server : IsView ten_bytes ten_bytes.file Server (as_at Server block_passes_late) → ⊥
 late_server view =
