@@ -25,15 +25,11 @@ transfer_same h earlier d is = ap (λ b. if b then d ∷ transfer_of h earlier e
 -- a route that may pass breaks no rule of ports, but what answers a stray may
 passing_by : (r : MayPass) → (among_all r ≡ Route.ForeignPort → ⊥) × (among_all r ≡ Route.WrongPort → ⊥) × (among_all r ≡ Route.NoStrayAnswer → ⊥)
 passing_by may.Request = (λ x. cc, λ x. cc, λ x. cc)
-passing_by may.Peer = (λ x. cc, λ x. cc, λ x. cc)
-passing_by may.Stray = (λ x. cc, λ x. cc, λ x. cc)
-passing_by may.StrayAnswer = (λ x. cc, λ x. cc, λ x. cc)
+passing_by _ = (λ x. cc, λ x. cc, λ x. cc)
 
 pub peer_is : (r : MayPass) → among_all r ≡ Route.Peer → r ≡ may.Peer
-peer_is may.Request e = absurd (cc)
 peer_is may.Peer e = refl
-peer_is may.Stray e = absurd (cc)
-peer_is may.StrayAnswer e = absurd (cc)
+peer_is _ e = absurd (cc)
 
 -- ---- the first rules
 
@@ -77,13 +73,10 @@ module _ (h : Header) (earlier : List Datagram) (d : Datagram) where
 
   -- a fault tells the rule
   port_first_by : (r : Route) → route_of h earlier d ≡ r → (fault : PortFault) → Err fault ≡ answer_of r → (rule : Rule) → (After : Type 0) → FindsOf h earlier d After (Err (error_by_port fault))
-  port_first_by Route.Request is fault e rule After = absurd (cc)
-  port_first_by Route.Peer is fault e rule After = absurd (cc)
-  port_first_by Route.Stray is fault e rule After = absurd (cc)
-  port_first_by Route.StrayAnswer is fault e rule After = absurd (cc)
   port_first_by Route.ForeignPort is fault e rule After = let same : PortFault.ForeignPort ≡ fault = cc in subst (λ f. FindsOf h earlier d After (Err (error_by_port f))) same (foreign_first is)
   port_first_by Route.WrongPort is fault e rule After = let same : PortFault.WrongPort ≡ fault = cc in subst (λ f. FindsOf h earlier d After (Err (error_by_port f))) same (wrong_first is)
   port_first_by Route.NoStrayAnswer is fault e rule After = let same : PortFault.StrayAnswer ≡ fault = cc in subst (λ f. FindsOf h earlier d After (Err (error_by_port f))) same (stray_first (inl is))
+  port_first_by _ is fault e rule After = absurd (cc)
 
   pub port_first : (fault : PortFault) (After : Type 0) → Err fault ≡ answer_of (route_of h earlier d) → FindsOf h earlier d After (Err (error_by_port fault))
   port_first fault After e = port_first_by (route_of h earlier d) refl fault e Rule.ForeignPort After
@@ -158,11 +151,7 @@ message_found h earlier d dir m t new way on spells kept same r found =
 main_route : (r : Route) → is_of_transfer r ≡ true → (r ≡ Route.Peer → ⊥) → r ≡ Route.Request
 main_route Route.Request on other = refl
 main_route Route.Peer on other = absurd (other refl)
-main_route Route.Stray on other = absurd (false≢true on)
-main_route Route.StrayAnswer on other = absurd (false≢true on)
-main_route Route.ForeignPort on other = absurd (false≢true on)
-main_route Route.WrongPort on other = absurd (false≢true on)
-main_route Route.NoStrayAnswer on other = absurd (false≢true on)
+main_route _ on other = absurd (false≢true on)
 
 module _ (h : Header) (earlier : List Datagram) (d : Datagram) (m : Message) (none : earlier ≡ []) (on : is_of_transfer (route_of h earlier d) ≡ true) (other : route_of h earlier d ≡ Route.Peer → ⊥)
     (spells : Spells d.payload m) where

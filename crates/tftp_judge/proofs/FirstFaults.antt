@@ -32,19 +32,8 @@ FaultStays (Memory line) = Unit {0}
 pub fault_kinds : (fault : CaptureFault) → FaultStays fault ⊎ (EndsText (Err (Capture fault)) ⊎ SaysReadFailed (Err (Capture fault)))
 fault_kinds (Read line) = inr (inr tt)
 fault_kinds (Memory line) = inl tt
-fault_kinds (Text line BadHeader) = inl (λ e. cc)
-fault_kinds (Text line BadEnd) = inl (λ e. cc)
-fault_kinds (Text line BadService) = inl (λ e. cc)
-fault_kinds (Text line LineTooLong) = inl (λ e. cc)
-fault_kinds (Text line BadLine) = inl (λ e. cc)
-fault_kinds (Text line BadPort) = inl (λ e. cc)
-fault_kinds (Text line BadHost) = inl (λ e. cc)
-fault_kinds (Text line BadHex) = inl (λ e. cc)
-fault_kinds (Text line PayloadTooLong) = inl (λ e. cc)
-fault_kinds (Text line TotalWrong) = inl (λ e. cc)
 fault_kinds (Text line Truncated) = inr (inl refl)
-fault_kinds (Text line TrailingText) = inl (λ e. cc)
-fault_kinds (Text line TextTooLong) = inl (λ e. cc)
+fault_kinds _ = inl (λ e. cc)
 
 -- ---- before a fault there are lawful datagrams only
 

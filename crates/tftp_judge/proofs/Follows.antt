@@ -98,19 +98,15 @@ refused text ahead h ds line d (Memory count) passed stand near wants = (
   },
   λ x. x,
 )
-refused text ahead h ds line d (Aborted by code) passed stand near other = absurd other
-refused text ahead h ds line d (Incomplete count) passed stand near other = absurd other
-refused text ahead h ds line d NormalTooLong passed stand near other = absurd other
+refused text ahead h ds line d _ passed stand near other = absurd other
 
 -- ---- the text's end
 
 ended : (text : List ℕ) (h : Header) (ds : List Numbered) (refusal : Refusal) → ((count : ℕ) → refusal ≡ Memory count → ⊥) → IsCapture text h ds → IsVerdict h (unnumbered ds) (Err refusal)
     → IsTextVerdict text (Err (Refused refusal)) × IsReadVerdict text (Err (Refused refusal))
 ended text h ds (Unlawful index rule) spare capture is = ((h, ds, capture_begins text h ds capture, is), (h, ds, capture_begins text h ds capture, is))
-ended text h ds (Aborted by code) spare capture is = ((h, ds, capture, is), (h, ds, capture, is))
-ended text h ds (Incomplete count) spare capture is = ((h, ds, capture, is), (h, ds, capture, is))
-ended text h ds NormalTooLong spare capture is = ((h, ds, capture, is), (h, ds, capture, is))
 ended text h ds (Memory count) spare capture is = absurd (spare count refl)
+ended text h ds _ spare capture is = ((h, ds, capture, is), (h, ds, capture, is))
 
 -- ---- the reader's answers
 

@@ -198,9 +198,7 @@ pub block_finds : (h : Header) (asked : RequestParts) (passed : List Datagram) (
     → Finds (KindBreaks h asked passed dir m) A r
 block_finds h asked passed dir (Message.Data k bytes) A r is found = found
 block_finds h asked passed dir (Message.Ack j) A r is found = found
-block_finds h asked passed dir (Message.Request now) A r is found = absurd is
-block_finds h asked passed dir (Message.Error code text) A r is found = absurd is
-block_finds h asked passed dir (Message.Oack oack) A r is found = absurd is
+block_finds h asked passed dir _ A r is found = absurd is
 
 -- the test of the kind, by the author and the side that were computed
 pub right_kind : (h : Header) (asked : RequestParts) (dir : Dir) (m : Message) (author : End) (side : Side) (b : Bool) → author ≡ author_of h.named dir → side ≡ asked.side → b ≡ false

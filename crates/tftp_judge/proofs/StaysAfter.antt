@@ -128,9 +128,7 @@ transfer_with_oack_again t h passed d given is after spells =
 pub is_no_error : (m : Message) → IsBlockOrAck m → IsNoError m
 is_no_error (Message.Data k bytes) is code text e = absurd (cc)
 is_no_error (Message.Ack j) is code text e = absurd (cc)
-is_no_error (Message.Request r) is code text e = absurd is
-is_no_error (Message.Error other words) is code text e = absurd is
-is_no_error (Message.Oack o) is code text e = absurd is
+is_no_error _ is code text e = absurd is
 
 pub transfer_kept : (old kept new : Transfer) (h : Header) (passed : List Datagram) (d : Datagram) (m : Message) → IsTransferAfter old h passed → Spells d.payload m → IsBlockOrAck m
     → DiffersByExchange old kept → DiffersBySent kept new → IsExchange h old.asked (d ∷ passed) kept.exchange

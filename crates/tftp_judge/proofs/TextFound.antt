@@ -59,15 +59,10 @@ pub record Found (before after : Option (List ℕ)) (failed : Bool) (r : Result 
 
 -- an answer is of the text, or that a read failed, or want of memory
 pub answers : (r : Result Meaning Verdict) → IsOfText r ⊎ (SaysReadFailed r ⊎ WantsMemory r)
-answers (Ok m) = inl tt
-answers (Err (Refused (refusal.Unlawful index rule))) = inl tt
-answers (Err (Refused (refusal.Aborted by code))) = inl tt
-answers (Err (Refused (refusal.Incomplete count))) = inl tt
-answers (Err (Refused refusal.NormalTooLong)) = inl tt
 answers (Err (Refused (refusal.Memory count))) = inr (inr tt)
-answers (Err (Capture (Text line fault))) = inl tt
 answers (Err (Capture (Read line))) = inr (inl tt)
 answers (Err (Capture (Memory line))) = inr (inr tt)
+answers _ = inl tt
 
 pub rest_of : (b : Option (List ℕ)) (text bytes : List ℕ) → Consumes (Some text) b bytes → (rest : List ℕ) × (b ≡ Some rest) × (text ≡ bytes ++ rest)
 rest_of None text bytes c = absurd c

@@ -17,8 +17,7 @@ by_test false if_true if_false = if_false refl
 
 pub map_or : {X Y : Type 0} (f : X → Y) (o : Option X) (b : Bool) (x : X) → option_map f (or_this o b x) ≡ or_this (option_map f o) b (f x)
 map_or f None true x = refl
-map_or f None false x = refl
-map_or f (Some y) b x = refl
+map_or f _ _ x = refl
 
 pub answered_more : (x : Transfer) (p : Placed) (line : List Placed) → opens p ≡ false → answered_in x (p ∷ line) ≡ or_this (answered_in x line) (answers x p) p.datagram.source
 answered_more x p line shut = rw shut (map_or (λ q. q.datagram.source) (first_of (answers x) (reach line)) (answers x p) p)

@@ -85,11 +85,7 @@ kept_client x passed (q, plain, at) own = by x.from x.packet own where
 
   by : (f : End) (p : MachinePacket) → (same_end Client f && is_error p) ≡ true → is_left_out pass_tests Server (record { from = f; packet = p }) (kept_at Server passed) ≡ false
   by Client (Error code text) own = rw (some) refl
-  by Client Req own = absurd (true≢false (sym own))
-  by Client Oack own = absurd (true≢false (sym own))
-  by Client (Data k) own = absurd (true≢false (sym own))
-  by Client (Ack j) own = absurd (true≢false (sym own))
-  by Server p own = absurd (true≢false (sym own))
+  by _ _ own = absurd (true≢false (sym own))
 
 pub before_put : (passed : List Pass) (q : MachinePacket) → is_error q ≡ false → Has (before_error pass_tests Client passed) Server q
     → (y : Pass) → Contains (before_error pass_tests Client (kept_at Server passed)) y → Contains (before_error pass_tests Client passed) y

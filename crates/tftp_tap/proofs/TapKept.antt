@@ -53,21 +53,14 @@ quiet_of f p plain e = by (same_end e f) where
   by false = refl
 
 request_plain : (f : End) (p : MachinePacket) → (same_end Client f && is_request p) ≡ true → (e : End) → (same_end e f && is_error p) ≡ false
-request_plain f Req asks e = quiet_of f Req refl e
-request_plain f Oack asks e = quiet_of f Oack refl e
-request_plain f (Data k) asks e = quiet_of f (Data k) refl e
-request_plain f (Ack j) asks e = quiet_of f (Ack j) refl e
 request_plain f (Error code text) asks e = absurd (true≢false (sym (and_parts (same_end Client f) false asks).1))
+request_plain f p asks e = quiet_of f p refl e
 
 pub request_is : (x : Pass) → pass_tests.asks x ≡ true → x ≡ record { from = Client; packet = Req }
 request_is x asks = by x.from x.packet refl refl asks where
   by : (f : End) (p : MachinePacket) → x.from ≡ f → x.packet ≡ p → (same_end Client f && is_request p) ≡ true → x ≡ record { from = Client; packet = Req }
   by Client Req one other is = λ i. record { from = one i; packet = other i }
-  by Client Oack one other is = absurd (true≢false (sym is))
-  by Client (Data k) one other is = absurd (true≢false (sym is))
-  by Client (Ack j) one other is = absurd (true≢false (sym is))
-  by Client (Error code text) one other is = absurd (true≢false (sym is))
-  by Server p one other is = absurd (true≢false (sym is))
+  by _ _ one other is = absurd (true≢false (sym is))
 
 -- ---- what is kept of packets
 
@@ -79,22 +72,15 @@ module _ (r : End) where
       subst (Contains (kept_at r passed)) (request_is found.0 found.2) found.1
 
   -- whatever is no ERROR
+  no_request : (e : End) → (same_end Client e && false) ≡ false
+  no_request Client = refl
+  no_request Server = refl
+
   pub has_kept : (passed : List Pass) (e : End) (p : MachinePacket) → is_error p ≡ false → Has passed e p → Has (kept_at r passed) e p
   has_kept passed Client Req plain at = asked_kept passed at
   has_kept passed Server Req plain at = kept_plain pass_tests r passed (record { from = Server; packet = Req }) at refl (quiet_of Server Req plain)
-  has_kept passed e Oack plain at = kept_plain pass_tests r passed (record { from = e; packet = Oack }) at (no_request e) (quiet_of e Oack plain) where
-    no_request : (e : End) → (same_end Client e && false) ≡ false
-    no_request Client = refl
-    no_request Server = refl
-  has_kept passed e (Data k) plain at = kept_plain pass_tests r passed (record { from = e; packet = Data k }) at (no_request e) (quiet_of e (Data k) plain) where
-    no_request : (e : End) → (same_end Client e && false) ≡ false
-    no_request Client = refl
-    no_request Server = refl
-  has_kept passed e (Ack j) plain at = kept_plain pass_tests r passed (record { from = e; packet = Ack j }) at (no_request e) (quiet_of e (Ack j) plain) where
-    no_request : (e : End) → (same_end Client e && false) ≡ false
-    no_request Client = refl
-    no_request Server = refl
   has_kept passed e (Error code text) plain at = absurd (true≢false plain)
+  has_kept passed e p plain at = kept_plain pass_tests r passed (record { from = e; packet = p }) at (no_request e) (quiet_of e p plain)
 
   pub any_kept : (o : End) (x : Pass) (passed : List Pass) → list_any (pass_tests.ends o) (x ∷ passed) ≡ false → list_any (pass_tests.ends o) (kept_at r (x ∷ passed)) ≡ false
   any_kept o x passed none = none_in (pass_tests.ends o) (kept_at r (x ∷ passed)) (λ y at. none_of (pass_tests.ends o) (x ∷ passed) y (kept_there pass_tests r (x ∷ passed) y at) none)
@@ -153,11 +139,9 @@ module _ (m : Meaning) (wire : List ℕ) where
       → is_left_out pass_tests r (record { from = r; packet = p }) (kept_at r passed) ≡ false → KeepsOrder r (as_at r (kept_at r passed)) p
   own_order Client is Req passed allowed may stays = record { after_error = λ plain. no_error_kept Client passed; request = λ same. no_ack_first passed is may stays; asked = λ error. absurd (true≢false (sym error)) }
   own_order Server is Req passed allowed may stays = absurd (cc)
-  own_order r is Oack passed allowed may stays = record { after_error = λ plain. no_error_kept r passed; request = λ same. absurd (cc); asked = λ error. absurd (true≢false (sym error)) }
-  own_order r is (Data k) passed allowed may stays = record { after_error = λ plain. no_error_kept r passed; request = λ same. absurd (cc); asked = λ error. absurd (true≢false (sym error)) }
-  own_order r is (Ack j) passed allowed may stays = record { after_error = λ plain. no_error_kept r passed; request = λ same. absurd (cc); asked = λ error. absurd (true≢false (sym error)) }
   own_order Client is (Error code text) passed allowed may stays = absurd (true≢false stays)
   own_order Server is (Error code text) passed allowed may stays = absurd (true≢false stays)
+  own_order r is _ passed allowed may stays = record { after_error = λ plain. no_error_kept r passed; request = λ same. absurd (cc); asked = λ error. absurd (true≢false (sym error)) }
 
   order_of : (r f : End) → r ≡ receiver_of m.side → (p : MachinePacket) (passed : List Pass) → MayPass m wire passed f p → MayPassEach m wire (kept_at r passed)
       → is_left_out pass_tests r (record { from = f; packet = p }) (kept_at r passed) ≡ false

@@ -59,11 +59,7 @@ module _ (s : TapSides) (apart : AreApart s) where
 
   passing_is : (e : End) (p : MachinePacket) → is_passing (pass_route e p) ≡ true
   passing_is Client Req = refl
-  passing_is Client Oack = refl
-  passing_is Client (Data k) = refl
-  passing_is Client (Ack j) = refl
-  passing_is Client (Error code text) = refl
-  passing_is Server p = refl
+  passing_is _ _ = refl
 
   main_lawful : (division : TapDivision) → HaveTapParts s says_some division → (d : TapDatagram) (x : Pass) → CarriesPass s says_some division d x → TapPasses s (tapped_of division) d → Lawful s (record { datagram = d; pass = x }) (mains division)
   main_lawful division parts d x c passes = record {
@@ -85,11 +81,8 @@ module _ (s : TapSides) (apart : AreApart s) where
 
       answered : (f : End) (p : MachinePacket) → CarriesPass s says_some division d (record { from = f; packet = p }) → f ≡ Client → (p ≡ Req → ⊥) → list_any pair_tests.answers (mains division) ≡ true
       answered Client Req c same other = absurd (other refl)
-      answered Client Oack c same other = main_answers division c.goes.1
-      answered Client (Data k) c same other = main_answers division c.goes.1
-      answered Client (Ack j) c same other = main_answers division c.goes.1
-      answered Client (Error code text) c same other = main_answers division c.goes.1
       answered Server p c same other = absurd (cc)
+      answered Client _ c same other = main_answers division c.goes.1
 
   pub mains_lawful : (division : TapDivision) → HaveTapParts s says_some division → BreaksNoTapRule s (tapped_of division) → AreLawful s (mains division)
   mains_lawful [] parts passes = tt

@@ -57,11 +57,9 @@ find_kind Kind P (b ∷ bs) each any = elim (any_cases (Says Kind) b.datagram (m
 ]
 
 pub decide_reply : Decides IsReply
-decide_reply (Message.Request asked) = inr (λ is. is)
 decide_reply (Message.Oack options) = inl tt
-decide_reply (Message.Data k bytes) = inr (λ is. is)
 decide_reply (Message.Ack j) = elim (cases_lt 0 j) [ inl above ↦ inr (λ is. let e : j ≡ 0 = is in omega (arith, above)) | inr none ↦ let e : j ≡ 0 = omega (arith, none) in inl e ]
-decide_reply (Message.Error code text) = inr (λ is. is)
+decide_reply _ = inr (λ is. is)
 
 pub each_both : {X : Type 0} (P Q : X → Type 0) (xs : List X) → Each P xs → Each Q xs → Each (λ x. P x × Q x) xs
 each_both P Q [] one other = tt
@@ -74,10 +72,7 @@ told_some = record {
 } where
   plain : (p : MachinePacket) → (p ≡ Req → ⊥) → is_request p ≡ false
   plain Req other = absurd (other refl)
-  plain Oack other = refl
-  plain (Data k) other = refl
-  plain (Ack j) other = refl
-  plain (Error code text) other = refl
+  plain _ other = refl
 
 pub recorded_payload : (s : TapSides) (r : End) (d : TapDatagram) → (recorded_at s r d).payload ≡ d.payload
 recorded_payload s r d = elim (cases_Bool (same_peer d.source (side_of s r))) [ inl own ↦ yours own | inr other ↦ theirs other ] where
@@ -100,15 +95,11 @@ module _ (s : TapSides) (apart : AreApart s) (asked : RequestParts) where
   quiet_request : (c : Carried) → pair_tests.asks c ≡ true → (e : End) → pair_tests.ends e c ≡ false
   quiet_request c is e = by c.pass.from c.pass.packet is where
     by : (f : End) (p : MachinePacket) → (same_end Client f && is_request p) ≡ true → (same_end e f && is_error p) ≡ false
-    by Server p is = absurd (true≢false (sym is))
     by Client Req is = plain (same_end e Client) where
       plain : (b : Bool) → (b && false) ≡ false
       plain true = refl
       plain false = refl
-    by Client Oack is = absurd (true≢false (sym is))
-    by Client (Data k) is = absurd (true≢false (sym is))
-    by Client (Ack j) is = absurd (true≢false (sym is))
-    by Client (Error code text) is = absurd (true≢false (sym is))
+    by _ _ is = absurd (true≢false (sym is))
 
   -- on a read all of the server's is kept
   answers_get : (cs : List Carried) → list_any pair_tests.answers cs ≡ true → list_any pair_tests.answers (kept_of pair_tests Client cs) ≡ true
@@ -143,9 +134,7 @@ module _ (s : TapSides) (apart : AreApart s) (asked : RequestParts) where
     by (Message.Ack j) kind same =
         let p = sym (packet (Message.Ack j) (Ack j) refl same) in
         (subst (Sends s apart asked.side c.pass.from) p right.sends ∙ ap receiver_of put, inr (p ∙ ap Ack kind))
-    by (Message.Request q) kind same = absurd kind
-    by (Message.Data k bytes) kind same = absurd kind
-    by (Message.Error code text) kind same = absurd kind
+    by _ kind same = absurd kind
 
   pub some_before : (Kind : Message → Type 0) (o : End) (cs : List Carried) → Each (IsCarried s says_some) cs → HasKind Kind (before_error (tap_tests s) o (map datagram_in cs)) → HasKind Kind (map datagram_in (before_error pair_tests o cs))
   some_before Kind o cs each any = subst (HasKind Kind) (before_map datagram_in pair_tests (tap_tests s) o cs (datagrams_each s apart cs each)) any
@@ -176,10 +165,7 @@ module _ (s : TapSides) (apart : AreApart s) (asked : RequestParts) where
 
       of_block : (n : Message) → Spells c.datagram.payload n → packet_in n ≡ Some (Data k) → (HasKind IsReply (before_error (tap_tests s) Client (map datagram_in cs)) → ⊥) → ⊥
       of_block (Message.Data i bytes) t at never = lawful.late (rule.Block EndRule.NotStarted) (record { asked = asked; first = first; message = Message.Data i bytes; says = t; breaks = late_put asked.side put never })
-      of_block (Message.Request q) t at never = absurd (cc)
-      of_block (Message.Oack options) t at never = absurd (cc)
-      of_block (Message.Ack j) t at never = absurd (cc)
-      of_block (Message.Error code text) t at never = absurd (cc)
+      of_block _ t at never = absurd (cc)
 
   known_next : (c : Carried) (cs : List Carried) → IsCarried s says_some c → Lawful s c cs → Right s apart asked c → (cs ≡ []) ⊎ FirstTapAsked s (map datagram_in cs) asked → Each (IsCarried s says_some) cs → Each (Right s apart asked) cs
       → is_left_out pair_tests (receiver_of asked.side) c (kept_of pair_tests (receiver_of asked.side) cs) ≡ false → Known c (kept_of pair_tests (receiver_of asked.side) cs)
@@ -207,11 +193,8 @@ module _ (s : TapSides) (apart : AreApart s) (asked : RequestParts) where
               either : (b : Bool) → is_request c.pass.packet ≡ b → is_left_out pair_tests Server c (kept_of pair_tests Server cs) ≡ true
               either true asks = absurd (apart_kinds c.pass.packet asks error) where
                 apart_kinds : (p : MachinePacket) → is_request p ≡ true → is_error p ≡ true → ⊥
-                apart_kinds Req one other = true≢false (sym other)
-                apart_kinds Oack one other = true≢false (sym other)
-                apart_kinds (Data k) one other = true≢false (sym other)
-                apart_kinds (Ack j) one other = true≢false (sym other)
                 apart_kinds (Error code text) one other = true≢false (sym one)
+                apart_kinds _ one other = true≢false (sym other)
               either false asks = rw (from, asks, error, none) refl
 
       by : (side : Side) → asked.side ≡ side → (p : MachinePacket) → c.pass.packet ≡ p → c.pass.from ≡ Client → (c.pass.packet ≡ Req → ⊥)
@@ -252,17 +235,11 @@ module _ (s : TapSides) (apart : AreApart s) (asked : RequestParts) where
 
   read_on : (p : MachinePacket) (d : Datagram) (n : Message) → Spells d.payload n → IsRead (packet_route p) d
   read_on Req d n t = (n, t)
-  read_on Oack d n t = (n, t)
-  read_on (Data k) d n t = (n, t)
-  read_on (Ack j) d n t = (n, t)
-  read_on (Error code text) d n t = (n, t)
+  read_on _ d n t = (n, t)
 
   of_packet : (p : MachinePacket) → is_of_transfer (packet_route p) ≡ true
   of_packet Req = refl
-  of_packet Oack = refl
-  of_packet (Data k) = refl
-  of_packet (Ack j) = refl
-  of_packet (Error code text) = refl
+  of_packet _ = refl
 
   ended_next : (c : Carried) (cs : List Carried) → IsCarried s says_some c → Lawful s c cs → Right s apart asked c → (cs ≡ []) ⊎ FirstTapAsked s (map datagram_in cs) asked
       → Each (IsCarried s says_some) cs → Each (IsCarried s says_some) (kept_of pair_tests (receiver_of asked.side) cs) → AreKnown (c ∷ kept_of pair_tests (receiver_of asked.side) cs)

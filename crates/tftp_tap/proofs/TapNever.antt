@@ -102,12 +102,9 @@ module _ (s : TapSides) (apart : AreApart s) (asked : RequestParts) (cs : List C
           none false = refl
 
           by : (f : End) (p : MachinePacket) → (same_end Client f && is_request p) ≡ true → (same_end e f && is_error p) ≡ false
-          by f Req is = none (same_end e f)
-          by f Oack is = none (same_end e f)
-          by f (Data k) is = none (same_end e f)
-          by f (Ack j) is = none (same_end e f)
           by Client (Error code text) is = absurd (true≢false (sym is))
           by Server (Error code text) is = absurd (true≢false (sym is))
+          by f _ is = none (same_end e f)
 
     spelled_there : (n : Message) → Spells (recorded_at s (receiver_of asked.side) d).payload n → Spells d.payload n
     spelled_there n t = subst (λ l. Spells l n) (recorded_payload s (receiver_of asked.side) d) t

@@ -210,15 +210,12 @@ module _ (s : TapSides) (apart : AreApart s) where
     to_server : (r : End) (e : Division) (d : TapDatagram) (p : MachinePacket) → (p ≡ Req → ⊥) → goes_to s Client p d → d.source ≡ s.client → Any (λ (q : Placed). q.datagram.dir ≡ from_server r) e
         → GoesToServer (header_of_end s r) (ids_at s r) e (recorded_at s r d) p
     to_server Client e d Req other goes source any = absurd (other refl)
-    to_server Client e d Oack other goes source any = subst (λ x. (peer_of x ≡ s.server) × ((x.dir ≡ In) ⊎ Any (λ (q : Placed). q.datagram.dir ≡ In) e)) (sym (out_is Client d source)) (goes, inr any)
-    to_server Client e d (Data k) other goes source any = subst (λ x. (peer_of x ≡ s.server) × ((x.dir ≡ In) ⊎ Any (λ (q : Placed). q.datagram.dir ≡ In) e)) (sym (out_is Client d source)) (goes, inr any)
-    to_server Client e d (Ack j) other goes source any = subst (λ x. (peer_of x ≡ s.server) × ((x.dir ≡ In) ⊎ Any (λ (q : Placed). q.datagram.dir ≡ In) e)) (sym (out_is Client d source)) (goes, inr any)
-    to_server Client e d (Error code text) other goes source any = subst (λ x. (peer_of x ≡ s.server) × ((x.dir ≡ In) ⊎ Any (λ (q : Placed). q.datagram.dir ≡ In) e)) (sym (out_is Client d source)) (goes, inr any)
     to_server Server e d Req other goes source any = absurd (other refl)
     to_server Server e d Oack other goes source any = subst (λ x. (x.local ≡ s.server.port) × ((x.dir ≡ Out) ⊎ Any (λ (q : Placed). q.datagram.dir ≡ Out) e)) (sym (in_is Server d source)) (ap (λ x. x.port) goes, inr any)
     to_server Server e d (Data k) other goes source any = subst (λ x. (x.local ≡ s.server.port) × ((x.dir ≡ Out) ⊎ Any (λ (q : Placed). q.datagram.dir ≡ Out) e)) (sym (in_is Server d source)) (ap (λ x. x.port) goes, inr any)
     to_server Server e d (Ack j) other goes source any = subst (λ x. (x.local ≡ s.server.port) × ((x.dir ≡ Out) ⊎ Any (λ (q : Placed). q.datagram.dir ≡ Out) e)) (sym (in_is Server d source)) (ap (λ x. x.port) goes, inr any)
     to_server Server e d (Error code text) other goes source any = subst (λ x. (x.local ≡ s.server.port) × ((x.dir ≡ Out) ⊎ Any (λ (q : Placed). q.datagram.dir ≡ Out) e)) (sym (in_is Server d source)) (ap (λ x. x.port) goes, inr any)
+    to_server Client e d _ other goes source any = subst (λ x. (peer_of x ≡ s.server) × ((x.dir ≡ In) ⊎ Any (λ (q : Placed). q.datagram.dir ≡ In) e)) (sym (out_is Client d source)) (goes, inr any)
 
     asking : (r : End) (e : Division) (d : TapDatagram) → d.destination ≡ s.asked → d.source ≡ s.client → GoesToServer (header_of_end s r) (ids_at s r) e (recorded_at s r d) Req
     asking Client e d goes source = subst (λ x. (x.remote ≡ s.asked.port) × (Client ≡ Client → x.host ≡ s.asked.host)) (sym (out_is Client d source)) (ap (λ x. x.port) goes, λ same. ap (λ x. x.host) goes)
@@ -226,21 +223,15 @@ module _ (s : TapSides) (apart : AreApart s) where
 
     back : (r : End) (e : Division) (d : TapDatagram) (p : MachinePacket) → (p ≡ Req → ⊥) → d.source ≡ s.server → GoesToServer (header_of_end s r) (ids_at s r) e (recorded_at s r d) p
     back r e d Req other source = absurd (other refl)
-    back Client e d Oack other source = subst (λ x. (peer_of x ≡ s.server) × ((x.dir ≡ In) ⊎ Any (λ (q : Placed). q.datagram.dir ≡ In) e)) (sym (in_is Client d source)) (source, inl refl)
-    back Client e d (Data k) other source = subst (λ x. (peer_of x ≡ s.server) × ((x.dir ≡ In) ⊎ Any (λ (q : Placed). q.datagram.dir ≡ In) e)) (sym (in_is Client d source)) (source, inl refl)
-    back Client e d (Ack j) other source = subst (λ x. (peer_of x ≡ s.server) × ((x.dir ≡ In) ⊎ Any (λ (q : Placed). q.datagram.dir ≡ In) e)) (sym (in_is Client d source)) (source, inl refl)
-    back Client e d (Error code text) other source = subst (λ x. (peer_of x ≡ s.server) × ((x.dir ≡ In) ⊎ Any (λ (q : Placed). q.datagram.dir ≡ In) e)) (sym (in_is Client d source)) (source, inl refl)
     back Server e d Oack other source = subst (λ x. (x.local ≡ s.server.port) × ((x.dir ≡ Out) ⊎ Any (λ (q : Placed). q.datagram.dir ≡ Out) e)) (sym (out_is Server d source)) (ap (λ x. x.port) source, inl refl)
     back Server e d (Data k) other source = subst (λ x. (x.local ≡ s.server.port) × ((x.dir ≡ Out) ⊎ Any (λ (q : Placed). q.datagram.dir ≡ Out) e)) (sym (out_is Server d source)) (ap (λ x. x.port) source, inl refl)
     back Server e d (Ack j) other source = subst (λ x. (x.local ≡ s.server.port) × ((x.dir ≡ Out) ⊎ Any (λ (q : Placed). q.datagram.dir ≡ Out) e)) (sym (out_is Server d source)) (ap (λ x. x.port) source, inl refl)
     back Server e d (Error code text) other source = subst (λ x. (x.local ≡ s.server.port) × ((x.dir ≡ Out) ⊎ Any (λ (q : Placed). q.datagram.dir ≡ Out) e)) (sym (out_is Server d source)) (ap (λ x. x.port) source, inl refl)
+    back Client e d _ other source = subst (λ x. (peer_of x ≡ s.server) × ((x.dir ≡ In) ⊎ Any (λ (q : Placed). q.datagram.dir ≡ In) e)) (sym (in_is Client d source)) (source, inl refl)
 
     is_req_or : (p : MachinePacket) → (p ≡ Req) ⊎ (p ≡ Req → ⊥)
     is_req_or Req = inl refl
-    is_req_or Oack = inr (λ is. cc)
-    is_req_or (Data k) = inr (λ is. cc)
-    is_req_or (Ack j) = inr (λ is. cc)
-    is_req_or (Error code text) = inr (λ is. cc)
+    is_req_or _ = inr (λ is. cc)
 
     carries : (r : End) (k : Carried) (ks : List Carried) → IsCarried s says k → Each (IsCarried s says) ks → Known k ks
         → Carries (header_of_end s r) says (ids_at s r) (placed s r ks) (recorded_at s r k.datagram) (deed_at r k.pass.from k.pass.packet)
@@ -297,10 +288,7 @@ module _ (s : TapSides) (apart : AreApart s) where
         → view_in (placed s r ks) ≡ [] → deed_at r f p ≡ request_at r
     first ks Server p server client none = absurd (none_there ks none pair_tests.asks (server refl).1)
     first ks Client Req server client none = asks_first r
-    first ks Client Oack server client none = absurd (none_there ks none pair_tests.answers (client refl (λ is. cc)))
-    first ks Client (Data k) server client none = absurd (none_there ks none pair_tests.answers (client refl (λ is. cc)))
-    first ks Client (Ack j) server client none = absurd (none_there ks none pair_tests.answers (client refl (λ is. cc)))
-    first ks Client (Error code text) server client none = absurd (none_there ks none pair_tests.answers (client refl (λ is. cc)))
+    first ks Client _ server client none = absurd (none_there ks none pair_tests.answers (client refl (λ is. cc)))
 
     not_back : (r f : End) (p : MachinePacket) → (f ≡ Server → (p ≡ Req → ⊥) × (list_any pair_tests.asks ks ≡ true)) → deed_at r f p ≡ request_back r → ⊥
     not_back Client Client p server is = absurd (cc)

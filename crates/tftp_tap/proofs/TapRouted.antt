@@ -115,11 +115,7 @@ module _ (s : TapSides) (apart : AreApart s) where
 
   passing_is : (e : End) (p : MachinePacket) → is_passing (pass_route e p) ≡ true
   passing_is Client Req = refl
-  passing_is Client Oack = refl
-  passing_is Client (Data k) = refl
-  passing_is Client (Ack j) = refl
-  passing_is Client (Error code text) = refl
-  passing_is Server p = refl
+  passing_is _ _ = refl
 
   -- the transfer is what the main datagrams are
   pub transfer_is : (division : TapDivision) → HaveTapParts s says_some division → transfer_between s (tapped_of division) ≡ map (λ (c : Carried). c.datagram) (mains division)

@@ -45,25 +45,16 @@ before_has : (o : End) (cs : List Carried) (b : Carried) (e : End) (p : MachineP
 before_has o cs b e p at from packet = subst (λ l. Has l e p) (sym (before_map pass_in pair_tests pass_tests o cs (passes_each cs))) (has_pass (before_error pair_tests o cs) b e p at from packet)
 
 decide_block : (k : ℕ) → Decides (IsBlock k)
-decide_block k (Message.Request asked) = inr (λ is. is)
-decide_block k (Message.Oack options) = inr (λ is. is)
 decide_block k (Message.Data i bytes) = cases_eq i k
-decide_block k (Message.Ack j) = inr (λ is. is)
-decide_block k (Message.Error code text) = inr (λ is. is)
+decide_block k _ = inr (λ is. is)
 
 decide_some_block : Decides IsSomeBlock
-decide_some_block (Message.Request asked) = inr (λ is. is)
-decide_some_block (Message.Oack options) = inr (λ is. is)
 decide_some_block (Message.Data i bytes) = inl tt
-decide_some_block (Message.Ack j) = inr (λ is. is)
-decide_some_block (Message.Error code text) = inr (λ is. is)
+decide_some_block _ = inr (λ is. is)
 
 decide_oack : Decides IsOack
-decide_oack (Message.Request asked) = inr (λ is. is)
 decide_oack (Message.Oack options) = inl tt
-decide_oack (Message.Data i bytes) = inr (λ is. is)
-decide_oack (Message.Ack j) = inr (λ is. is)
-decide_oack (Message.Error code text) = inr (λ is. is)
+decide_oack _ = inr (λ is. is)
 
 module _ (s : TapSides) (apart : AreApart s) (asked : RequestParts) where
   -- ---- the packet of a message
@@ -72,24 +63,24 @@ module _ (s : TapSides) (apart : AreApart s) (asked : RequestParts) where
 
   block_packet : (c : Carried) → IsCarried s says_some c → (k : ℕ) (n : Message) → Spells c.datagram.payload n → IsBlock k n → c.pass.packet ≡ Data k
   block_packet c is k (Message.Data i bytes) t kind = sym (some_same (Data i) c.pass.packet (spelled_packet c is (Message.Data i bytes) t)) ∙ ap Data kind
-  block_packet c is k (Message.Request q) t kind = absurd kind
-  block_packet c is k (Message.Oack options) t kind = absurd kind
-  block_packet c is k (Message.Ack j) t kind = absurd kind
-  block_packet c is k (Message.Error code text) t kind = absurd kind
+  block_packet c is k _ t kind = absurd kind
 
   some_packet : (c : Carried) → IsCarried s says_some c → (n : Message) → Spells c.datagram.payload n → IsSomeBlock n → (k : ℕ) × (c.pass.packet ≡ Data k)
   some_packet c is (Message.Data i bytes) t kind = (i, sym (some_same (Data i) c.pass.packet (spelled_packet c is (Message.Data i bytes) t)))
-  some_packet c is (Message.Request q) t kind = absurd kind
-  some_packet c is (Message.Oack options) t kind = absurd kind
-  some_packet c is (Message.Ack j) t kind = absurd kind
-  some_packet c is (Message.Error code text) t kind = absurd kind
+  some_packet c is _ t kind = absurd kind
 
   oack_packet : (c : Carried) → IsCarried s says_some c → (n : Message) → Spells c.datagram.payload n → IsOack n → c.pass.packet ≡ Oack
   oack_packet c is (Message.Oack options) t kind = sym (some_same Oack c.pass.packet (spelled_packet c is (Message.Oack options) t))
-  oack_packet c is (Message.Data i bytes) t kind = absurd kind
-  oack_packet c is (Message.Request q) t kind = absurd kind
-  oack_packet c is (Message.Ack j) t kind = absurd kind
-  oack_packet c is (Message.Error code text) t kind = absurd kind
+  oack_packet c is _ t kind = absurd kind
+
+  error_message : (b : Carried) → IsCarried s says_some b → (code : ℕ) (text : List ℕ) → b.pass.packet ≡ Error code text → Spells b.datagram.payload (Message.Error code text)
+  error_message b is code text packet = by is.spells.0 is.spells.1 (is.spells.2 ∙ ap Some packet) where
+    by : (n : Message) → Spells b.datagram.payload n → packet_in n ≡ Some (Error code text) → Spells b.datagram.payload (Message.Error code text)
+    by (Message.Error one words) t at = let first : one ≡ code = cc in let second : words ≡ text = cc in subst (λ x. Spells b.datagram.payload (Message.Error code x)) second (subst (λ x. Spells b.datagram.payload (Message.Error x words)) first t)
+    by (Message.Request q) t at = absurd (cc)
+    by (Message.Oack options) t at = absurd (cc)
+    by (Message.Data k bytes) t at = absurd (cc)
+    by (Message.Ack j) t at = absurd (cc)
 
   -- ---- a datagram is in time
 
@@ -287,15 +278,6 @@ module _ (s : TapSides) (apart : AreApart s) (asked : RequestParts) where
 
     -- ---- ERRORs
 
-    error_message : (b : Carried) → IsCarried s says_some b → (code : ℕ) (text : List ℕ) → b.pass.packet ≡ Error code text → Spells b.datagram.payload (Message.Error code text)
-    error_message b is code text packet = by is.spells.0 is.spells.1 (is.spells.2 ∙ ap Some packet) where
-      by : (n : Message) → Spells b.datagram.payload n → packet_in n ≡ Some (Error code text) → Spells b.datagram.payload (Message.Error code text)
-      by (Message.Error one words) t at = let first : one ≡ code = cc in let second : words ≡ text = cc in subst (λ x. Spells b.datagram.payload (Message.Error code x)) second (subst (λ x. Spells b.datagram.payload (Message.Error x words)) first t)
-      by (Message.Request q) t at = absurd (cc)
-      by (Message.Oack options) t at = absurd (cc)
-      by (Message.Data k bytes) t at = absurd (cc)
-      by (Message.Ack j) t at = absurd (cc)
-
     spells_error : (code : ℕ) (text : List ℕ) → Has (map pass_in cs) c.pass.from (Error code text) → Any (λ (x : TapDatagram). (x.source ≡ side_of s c.pass.from) × Spells x.payload (Message.Error code text)) (map datagram_in cs)
     spells_error code text at = there cs each at where
       there : (bs : List Carried) → Each (IsCarried s says_some) bs → Has (map pass_in bs) c.pass.from (Error code text) → Any (λ (x : TapDatagram). (x.source ≡ side_of s c.pass.from) × Spells x.payload (Message.Error code text)) (map datagram_in bs)
@@ -427,39 +409,21 @@ module _ (s : TapSides) (apart : AreApart s) (asked : RequestParts) where
 
     by : (c : Carried) → Contains cs c → (p : MachinePacket) → c.pass.packet ≡ p → says_of m wire c.pass.packet c.datagram.payload
     by c at Req packet = subst (λ p. says_of m wire p c.datagram.payload) (sym packet) (subst (λ q. Spells c.datagram.payload (Message.Request q)) same ((each_at (Right s apart asked) cs c right at).request packet))
-    by c at (Error code text) packet = subst (λ p. says_of m wire p c.datagram.payload) (sym packet) (error_spelled c (each_at (IsCarried s says_some) cs c each at) code text packet) where
-      error_spelled : (b : Carried) → IsCarried s says_some b → (code : ℕ) (text : List ℕ) → b.pass.packet ≡ Error code text → Spells b.datagram.payload (Message.Error code text)
-      error_spelled b is code text packet = turn is.spells.0 is.spells.1 (is.spells.2 ∙ ap Some packet) where
-        turn : (n : Message) → Spells b.datagram.payload n → packet_in n ≡ Some (Error code text) → Spells b.datagram.payload (Message.Error code text)
-        turn (Message.Error one words) t at = let first : one ≡ code = cc in let second : words ≡ text = cc in subst (λ x. Spells b.datagram.payload (Message.Error code x)) second (subst (λ x. Spells b.datagram.payload (Message.Error x words)) first t)
-        turn (Message.Request q) t at = absurd (cc)
-        turn (Message.Oack options) t at = absurd (cc)
-        turn (Message.Data k bytes) t at = absurd (cc)
-        turn (Message.Ack j) t at = absurd (cc)
-    by c at Oack packet = in_kept c at (ap is_request packet) (ap is_error packet)
-    by c at (Data k) packet = in_kept c at (ap is_request packet) (ap is_error packet)
-    by c at (Ack j) packet = in_kept c at (ap is_request packet) (ap is_error packet)
+    by c at (Error code text) packet = subst (λ p. says_of m wire p c.datagram.payload) (sym packet) (error_message c (each_at (IsCarried s says_some) cs c each at) code text packet)
+    by c at _ packet = in_kept c at (ap is_request packet) (ap is_error packet)
 
   -- the meaning's request is the one that was asked
   pub request_one : (m : Meaning) (wire : List ℕ) (r : End) (cs : List Carried) → Each (Right s apart asked) cs → list_any pair_tests.asks cs ≡ true
       → Each (λ c. says_of m wire c.pass.packet c.datagram.payload) (kept_of pair_tests r cs) → asked ≡ request_of m
   request_one m wire r cs right some kept =
       let found = some_of pair_tests.asks (kept_of pair_tests r cs) (kept_asks pair_tests r cs quiet some) in
-      let packet = request_packet found.0.pass.from found.0.pass.packet found.2 in
+      let packet = ap (λ (x : Pass). x.packet) (request_is found.0.pass found.2) in
       let asks = (each_at (Right s apart asked) cs found.0 right (kept_there pair_tests r cs found.0 found.1)).request packet in
       let says = subst (λ p. says_of m wire p found.0.datagram.payload) packet (each_at (λ c. says_of m wire c.pass.packet c.datagram.payload) (kept_of pair_tests r cs) found.0 kept found.1) in
       request_same asked (request_of m) (spelled_once found.0.datagram.payload (Message.Request asked) (Message.Request (request_of m)) asks says)
     where
-      request_packet : (f : End) (p : MachinePacket) → (same_end Client f && is_request p) ≡ true → p ≡ Req
-      request_packet Server p is = absurd (true≢false (sym is))
-      request_packet Client Req is = refl
-      request_packet Client Oack is = absurd (true≢false (sym is))
-      request_packet Client (Data k) is = absurd (true≢false (sym is))
-      request_packet Client (Ack j) is = absurd (true≢false (sym is))
-      request_packet Client (Error code text) is = absurd (true≢false (sym is))
-
       quiet : (x : Carried) → pair_tests.asks x ≡ true → (e : End) → pair_tests.ends e x ≡ false
-      quiet x is e = ap (λ p. same_end e x.pass.from && is_error p) (request_packet x.pass.from x.pass.packet is) ∙ none (same_end e x.pass.from) where
+      quiet x is e = ap (λ p. same_end e x.pass.from && is_error p) (ap (λ (y : Pass). y.packet) (request_is x.pass is)) ∙ none (same_end e x.pass.from) where
         none : (b : Bool) → (b && false) ≡ false
         none true = refl
         none false = refl

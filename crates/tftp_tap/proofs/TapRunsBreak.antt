@@ -170,10 +170,7 @@ module _ (s : TapSides) (apart : AreApart s) (m : Meaning) (wire : List ℕ) (fi
     no_request none at = by c.pass.from c.pass.packet allowed at where
       by : (f : End) (p : MachinePacket) → MayPass m wire (map pass_in cs) f p → pass_route f p ≡ TapRoute.FromServer → ⊥
       by Client Req allowed at = cc
-      by Client Oack allowed at = cc
-      by Client (Data k) allowed at = cc
-      by Client (Ack j) allowed at = cc
-      by Client (Error code text) allowed at = cc
+      by Client _ allowed at = cc
       by Server p allowed at =
           let asked = any_of pass_tests.asks (map pass_in cs) (record { from = Client; packet = Req }) (server_asked m wire (map pass_in cs) may p allowed).1 refl in
           true≢false (sym asked ∙ asks_same pass_in pair_tests pass_tests cs (passes_each cs) ∙ sym (asks_same datagram_in pair_tests (tap_tests s) cs agree) ∙ none)
@@ -348,22 +345,15 @@ module _ (s : TapSides) (apart : AreApart s) (m : Meaning) (wire : List ℕ) (fi
 
     passed_route : (e : End) (p : MachinePacket) (d : TapDatagram) → (n : Message) → Spells d.payload n → IsTapRead (pass_route e p) d
     passed_route Client Req d n t = (n, t)
-    passed_route Client Oack d n t = (n, t)
-    passed_route Client (Data k) d n t = (n, t)
-    passed_route Client (Ack j) d n t = (n, t)
-    passed_route Client (Error code text) d n t = (n, t)
-    passed_route Server p d n t = (n, t)
+    passed_route _ _ d n t = (n, t)
 
     none_broken : (route : TapRoute) (broken : Rule) → (route ≡ TapRoute.ForeignPort → ⊥) → (route ≡ TapRoute.WrongPort → ⊥) → (route ≡ TapRoute.NoStrayAnswer → ⊥) → (route ≡ TapRoute.StrayAnswer → ⊥) → SidesBreak route c.datagram broken → ⊥
     none_broken route broken one two three four b = sides_none c.datagram route one two three four broken b
 
     sides_break : (e : End) (p : MachinePacket) (broken : Rule) → SidesBreak (pass_route e p) c.datagram broken → ⊥
     sides_break Client Req broken b = none_broken TapRoute.Request broken (λ is. cc) (λ is. cc) (λ is. cc) (λ is. cc) b
-    sides_break Client Oack broken b = none_broken TapRoute.FromClient broken (λ is. cc) (λ is. cc) (λ is. cc) (λ is. cc) b
-    sides_break Client (Data k) broken b = none_broken TapRoute.FromClient broken (λ is. cc) (λ is. cc) (λ is. cc) (λ is. cc) b
-    sides_break Client (Ack j) broken b = none_broken TapRoute.FromClient broken (λ is. cc) (λ is. cc) (λ is. cc) (λ is. cc) b
-    sides_break Client (Error code text) broken b = none_broken TapRoute.FromClient broken (λ is. cc) (λ is. cc) (λ is. cc) (λ is. cc) b
     sides_break Server p broken b = none_broken TapRoute.FromServer broken (λ is. cc) (λ is. cc) (λ is. cc) (λ is. cc) b
+    sides_break Client _ broken b = none_broken TapRoute.FromClient broken (λ is. cc) (λ is. cc) (λ is. cc) (λ is. cc) b
 
     -- a main datagram passes
     pub main_passes : (earlier : List TapDatagram) → transfer_between s earlier ≡ map datagram_in cs → tap_route s earlier c.datagram ≡ pass_route c.pass.from c.pass.packet → TapPasses s earlier c.datagram

@@ -196,16 +196,13 @@ not_yet q way (inr any) = elim (any_cases (λ (p : Placed). p.datagram.dir ≡ O
 
 no_part : (m : Meaning) (wire : List ℕ) (ids : TransferIds) (q : Placed) (part : Part) → q.datagram.dir ≡ In → HasPart at_service m wire ids (q ∷ []) stops_unanswered part → ⊥
 no_part m wire ids q (Main (Took Req)) way h = let e = spelled_once stops_unanswered.payload (Message.Request (request_of m)) (Message.Error 0 []) h.spells stop_spelled in absurd (cc)
-no_part m wire ids q (Main (Took Oack)) way h = not_yet q way h.server.1
-no_part m wire ids q (Main (Took (Data k))) way h = not_yet q way h.server.1
-no_part m wire ids q (Main (Took (Ack j))) way h = not_yet q way h.server.1
-no_part m wire ids q (Main (Took (Error code text))) way h = not_yet q way h.server.1
 no_part m wire ids q (Main (Sent p)) way h = let e = h.dir in absurd (cc)
 no_part m wire ids q Stray way h = elim (any_cases (λ (p : Placed). IsMain p.part × (p.datagram.dir ≡ Out)) q [] h.after) [
   | inl first ↦ let e : In ≡ Out = sym way ∙ first.1 in absurd (cc)
   | inr none ↦ any_none (λ (p : Placed). IsMain p.part × (p.datagram.dir ≡ Out)) none
 ]
 no_part m wire ids q StrayAnswer way h = let e = h.dir in absurd (cc)
+no_part m wire ids q _ way h = not_yet q way h.server.1
 
 pub unanswered_is_unlawful : IsLawful at_service (only_offered ++ stops_unanswered ∷ []) → ⊥
 unanswered_is_unlawful (m, wire, seen) =
