@@ -145,9 +145,7 @@ module _ (before now after : Option (List ℕ)) (old new : ReaderState) (judge :
             (λ lawful. (subst (λ x. OneEnded x (datagram_of d ∷ read)) named lawful).0.lawful rule broken.0) in
             (named, first_part.0, first_part.1)
         by (Memory count) refuses of text is k es datagrams = absurd of
-        by (Aborted b code) refuses of text is k es datagrams = absurd refuses
-        by (Incomplete count) refuses of text is k es datagrams = absurd refuses
-        by NormalTooLong refuses of text is k es datagrams = absurd refuses
+        by _ refuses of text is k es datagrams = absurd refuses
 
     pub given : IsGiven before after failed new old.header read (datagram_of d)
     given = record {

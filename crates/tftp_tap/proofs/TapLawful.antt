@@ -15,7 +15,7 @@ use Rattle.tftp_tap.specs.{Pass, TapDatagram, TapSides, side_of, AreApart, same_
 use Rattle.tftp_tap.specs.TapDress.{Stray, StrayAnswer}
 use Rattle.tftp_tap.proofs.KeptOf.{any_here, any_skip, any_more}
 use Rattle.tftp_tap.proofs.TapPlacing.{has_part}
-use Rattle.tftp_tap.proofs.TapRouted.{Carried, add_main, mains, pass_route, route_is, transfer_is}
+use Rattle.tftp_tap.proofs.TapRouted.{Carried, add_main, mains, pass_route, route_is, transfer_is, passing_is}
 use Rattle.tftp_tap.proofs.TapRecorded.{Each, asks_same, IsCarried, pair_tests, datagram_in, datagrams_each}
 
 -- ---- it divides
@@ -56,10 +56,6 @@ module _ (s : TapSides) (apart : AreApart s) where
       by (Main x) some = any_more pair_tests.answers (record { datagram = p.datagram; pass = x }) (mains division) some
       by Stray some = some
       by StrayAnswer some = some
-
-  passing_is : (e : End) (p : MachinePacket) → is_passing (pass_route e p) ≡ true
-  passing_is Client Req = refl
-  passing_is _ _ = refl
 
   main_lawful : (division : TapDivision) → HaveTapParts s says_some division → (d : TapDatagram) (x : Pass) → CarriesPass s says_some division d x → TapPasses s (tapped_of division) d → Lawful s (record { datagram = d; pass = x }) (mains division)
   main_lawful division parts d x c passes = record {

@@ -74,6 +74,12 @@ told_some = record {
   plain Req other = absurd (other refl)
   plain _ other = refl
 
+pub deed_packet : (r f : End) (p : MachinePacket) → packet_of (deed_at r f p) ≡ p
+deed_packet Client Client p = refl
+deed_packet Client Server p = refl
+deed_packet Server Client p = refl
+deed_packet Server Server p = refl
+
 pub recorded_payload : (s : TapSides) (r : End) (d : TapDatagram) → (recorded_at s r d).payload ≡ d.payload
 recorded_payload s r d = elim (cases_Bool (same_peer d.source (side_of s r))) [ inl own ↦ yours own | inr other ↦ theirs other ] where
   yours : same_peer d.source (side_of s r) ≡ true → (recorded_at s r d).payload ≡ d.payload
@@ -226,12 +232,6 @@ module _ (s : TapSides) (apart : AreApart s) (asked : RequestParts) where
       ]
 
   -- ---- and breaks no rule at the receiver
-
-  deed_packet : (r f : End) (p : MachinePacket) → packet_of (deed_at r f p) ≡ p
-  deed_packet Client Client p = refl
-  deed_packet Client Server p = refl
-  deed_packet Server Client p = refl
-  deed_packet Server Server p = refl
 
   read_on : (p : MachinePacket) (d : Datagram) (n : Message) → Spells d.payload n → IsRead (packet_route p) d
   read_on Req d n t = (n, t)

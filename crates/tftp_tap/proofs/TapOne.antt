@@ -73,10 +73,8 @@ goes_server s m wire division d (Main x) apart c known source plain quiet = by x
   by : (e : End) (p : MachinePacket) → d.source ≡ side_of s e → GoesThere s division d e p → is_request p ≡ false → is_error p ≡ false → d.destination ≡ s.server
   by Server p at goes plain quiet = absurd (apart.server (sym source ∙ at))
   by Client Req at goes plain quiet = absurd (true≢false plain)
-  by Client Oack at goes plain quiet = goes.0
-  by Client (Data k) at goes plain quiet = goes.0
-  by Client (Ack j) at goes plain quiet = goes.0
   by Client (Error code text) at goes plain quiet = absurd (true≢false quiet)
+  by Client _ at goes plain quiet = goes.0
 goes_server s m wire division d Stray apart c known source plain quiet = absurd (c.elsewhere Client source)
 goes_server s m wire division d StrayAnswer apart c known source plain quiet = absurd (true≢false (sym (ends_says d.payload (Message.Error 5 c.spells.0) c.spells.1) ∙ quiet))
 

@@ -45,11 +45,8 @@ module _ (s : TapSides) (apart : AreApart s) where
   stray_is division parts d (Main x) c e to client server = by x.from x.packet c.source c.goes where
     by : (f : End) (p : MachinePacket) → d.source ≡ side_of s f → GoesThere s division d f p → Main x ≡ Stray
     by Client Req source goes = absurd (apart.asked (sym (subst (λ v. d.destination ≡ side_of s v) (client source) to) ∙ goes))
-    by Client Oack source goes = absurd (apart.server (sym (subst (λ v. d.destination ≡ side_of s v) (client source) to) ∙ goes.0))
-    by Client (Data k) source goes = absurd (apart.server (sym (subst (λ v. d.destination ≡ side_of s v) (client source) to) ∙ goes.0))
-    by Client (Ack j) source goes = absurd (apart.server (sym (subst (λ v. d.destination ≡ side_of s v) (client source) to) ∙ goes.0))
-    by Client (Error code text) source goes = absurd (apart.server (sym (subst (λ v. d.destination ≡ side_of s v) (client source) to) ∙ goes.0))
     by Server p source goes = absurd (apart.server (sym goes ∙ subst (λ v. d.destination ≡ side_of s v) (server source) to))
+    by Client _ source goes = absurd (apart.server (sym (subst (λ v. d.destination ≡ side_of s v) (client source) to) ∙ goes.0))
   stray_is division parts d Stray c e to client server = refl
   stray_is division parts d StrayAnswer c e to client server = absurd (no_stray_side s apart division parts e d.source d.destination to c.there)
 

@@ -115,11 +115,8 @@ module _ (s : TapSides) (says : Saying) where
   carried_is division d x c = record { source = c.source; goes = by x.from x.packet c.goes; spells = c.spells } where
     by : (e : End) (p : MachinePacket) → GoesThere s division d e p → goes_to s e p d
     by Client Req goes = goes
-    by Client Oack goes = goes.0
-    by Client (Data k) goes = goes.0
-    by Client (Ack j) goes = goes.0
-    by Client (Error code text) goes = goes.0
     by Server p goes = goes
+    by Client _ goes = goes.0
 
   pub mains_carried : (division : TapDivision) → HaveTapParts s says division → Each (IsCarried s says) (mains division)
   mains_carried [] parts = tt
@@ -211,11 +208,8 @@ module _ (s : TapSides) (apart : AreApart s) where
         → GoesToServer (header_of_end s r) (ids_at s r) e (recorded_at s r d) p
     to_server Client e d Req other goes source any = absurd (other refl)
     to_server Server e d Req other goes source any = absurd (other refl)
-    to_server Server e d Oack other goes source any = subst (λ x. (x.local ≡ s.server.port) × ((x.dir ≡ Out) ⊎ Any (λ (q : Placed). q.datagram.dir ≡ Out) e)) (sym (in_is Server d source)) (ap (λ x. x.port) goes, inr any)
-    to_server Server e d (Data k) other goes source any = subst (λ x. (x.local ≡ s.server.port) × ((x.dir ≡ Out) ⊎ Any (λ (q : Placed). q.datagram.dir ≡ Out) e)) (sym (in_is Server d source)) (ap (λ x. x.port) goes, inr any)
-    to_server Server e d (Ack j) other goes source any = subst (λ x. (x.local ≡ s.server.port) × ((x.dir ≡ Out) ⊎ Any (λ (q : Placed). q.datagram.dir ≡ Out) e)) (sym (in_is Server d source)) (ap (λ x. x.port) goes, inr any)
-    to_server Server e d (Error code text) other goes source any = subst (λ x. (x.local ≡ s.server.port) × ((x.dir ≡ Out) ⊎ Any (λ (q : Placed). q.datagram.dir ≡ Out) e)) (sym (in_is Server d source)) (ap (λ x. x.port) goes, inr any)
     to_server Client e d _ other goes source any = subst (λ x. (peer_of x ≡ s.server) × ((x.dir ≡ In) ⊎ Any (λ (q : Placed). q.datagram.dir ≡ In) e)) (sym (out_is Client d source)) (goes, inr any)
+    to_server Server e d _ other goes source any = subst (λ x. (x.local ≡ s.server.port) × ((x.dir ≡ Out) ⊎ Any (λ (q : Placed). q.datagram.dir ≡ Out) e)) (sym (in_is Server d source)) (ap (λ x. x.port) goes, inr any)
 
     asking : (r : End) (e : Division) (d : TapDatagram) → d.destination ≡ s.asked → d.source ≡ s.client → GoesToServer (header_of_end s r) (ids_at s r) e (recorded_at s r d) Req
     asking Client e d goes source = subst (λ x. (x.remote ≡ s.asked.port) × (Client ≡ Client → x.host ≡ s.asked.host)) (sym (out_is Client d source)) (ap (λ x. x.port) goes, λ same. ap (λ x. x.host) goes)
@@ -223,11 +217,8 @@ module _ (s : TapSides) (apart : AreApart s) where
 
     back : (r : End) (e : Division) (d : TapDatagram) (p : MachinePacket) → (p ≡ Req → ⊥) → d.source ≡ s.server → GoesToServer (header_of_end s r) (ids_at s r) e (recorded_at s r d) p
     back r e d Req other source = absurd (other refl)
-    back Server e d Oack other source = subst (λ x. (x.local ≡ s.server.port) × ((x.dir ≡ Out) ⊎ Any (λ (q : Placed). q.datagram.dir ≡ Out) e)) (sym (out_is Server d source)) (ap (λ x. x.port) source, inl refl)
-    back Server e d (Data k) other source = subst (λ x. (x.local ≡ s.server.port) × ((x.dir ≡ Out) ⊎ Any (λ (q : Placed). q.datagram.dir ≡ Out) e)) (sym (out_is Server d source)) (ap (λ x. x.port) source, inl refl)
-    back Server e d (Ack j) other source = subst (λ x. (x.local ≡ s.server.port) × ((x.dir ≡ Out) ⊎ Any (λ (q : Placed). q.datagram.dir ≡ Out) e)) (sym (out_is Server d source)) (ap (λ x. x.port) source, inl refl)
-    back Server e d (Error code text) other source = subst (λ x. (x.local ≡ s.server.port) × ((x.dir ≡ Out) ⊎ Any (λ (q : Placed). q.datagram.dir ≡ Out) e)) (sym (out_is Server d source)) (ap (λ x. x.port) source, inl refl)
     back Client e d _ other source = subst (λ x. (peer_of x ≡ s.server) × ((x.dir ≡ In) ⊎ Any (λ (q : Placed). q.datagram.dir ≡ In) e)) (sym (in_is Client d source)) (source, inl refl)
+    back Server e d _ other source = subst (λ x. (x.local ≡ s.server.port) × ((x.dir ≡ Out) ⊎ Any (λ (q : Placed). q.datagram.dir ≡ Out) e)) (sym (out_is Server d source)) (ap (λ x. x.port) source, inl refl)
 
     is_req_or : (p : MachinePacket) → (p ≡ Req) ⊎ (p ≡ Req → ⊥)
     is_req_or Req = inl refl

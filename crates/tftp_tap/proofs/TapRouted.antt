@@ -44,6 +44,10 @@ part_route StrayAnswer = TapRoute.StrayAnswer
 abbrev GoneSo : PeerId → PeerId → TapPlaced → Type 0
 GoneSo from to p = (p.part ≡ Stray) × (p.datagram.source ≡ from) × (p.datagram.destination ≡ to)
 
+pub passing_is : (e : End) (p : MachinePacket) → is_passing (pass_route e p) ≡ true
+passing_is Client Req = refl
+passing_is _ _ = refl
+
 module _ (s : TapSides) (apart : AreApart s) where
   gone_here : (from to : PeerId) (d : TapDatagram) (ds : List TapDatagram) → d.source ≡ from → d.destination ≡ to → has_gone from to (d ∷ ds) ≡ true
   gone_here from to d ds one other = rw (same_is d.source from one, same_is d.destination to other) refl
@@ -72,11 +76,8 @@ module _ (s : TapSides) (apart : AreApart s) where
   main_route earlier parts d x c = by x.from x.packet c.source c.goes (asks_some d.payload x.packet c.spells) where
     by : (e : End) (p : MachinePacket) → d.source ≡ side_of s e → GoesThere s earlier d e p → asks_in d.payload ≡ is_request p → tap_route s (tapped_of earlier) d ≡ pass_route e p
     by Client Req source goes asks = rw (same_is d.source s.client source, asks, same_is d.destination s.asked goes) refl
-    by Client Oack source goes asks = from_client earlier parts d source asks goes.0 goes.1
-    by Client (Data k) source goes asks = from_client earlier parts d source asks goes.0 goes.1
-    by Client (Ack j) source goes asks = from_client earlier parts d source asks goes.0 goes.1
-    by Client (Error code text) source goes asks = from_client earlier parts d source asks goes.0 goes.1
     by Server p source goes asks = rw (source_is s apart d Server Client source, source_is s apart d Server Server source, same_is d.destination s.client goes) refl
+    by Client _ source goes asks = from_client earlier parts d source asks goes.0 goes.1
 
   no_request_in : (d : TapDatagram) → PassesAstray s d → d.destination ≡ s.server → ((s.server.port == s.asked.port) && asks_in d.payload) ≡ false
   no_request_in d p to = elim (cases_Bool ((s.server.port == s.asked.port) && asks_in d.payload)) [
@@ -112,10 +113,6 @@ module _ (s : TapSides) (apart : AreApart s) where
   route_is earlier parts d (Main x) p = main_route earlier parts d x p
   route_is earlier parts d Stray p = stray_route earlier d p
   route_is earlier parts d StrayAnswer p = answer_route earlier parts d p
-
-  passing_is : (e : End) (p : MachinePacket) → is_passing (pass_route e p) ≡ true
-  passing_is Client Req = refl
-  passing_is _ _ = refl
 
   -- the transfer is what the main datagrams are
   pub transfer_is : (division : TapDivision) → HaveTapParts s says_some division → transfer_between s (tapped_of division) ≡ map (λ (c : Carried). c.datagram) (mains division)

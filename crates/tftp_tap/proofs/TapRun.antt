@@ -30,7 +30,7 @@ use Rattle.tftp_tap.proofs.TapRouted.{Carried}
 use Rattle.tftp_tap.proofs.TapRecorded.{Each, kept_each, kept_map, asks_same, IsCarried, pair_tests, datagram_in, pass_in, passes_each, header_of_end, placed, placed_datagrams, placed_view, placed_routes}
 use Rattle.tftp_tap.proofs.TapBefore.{before_map, before_each, pass_at}
 use Rattle.tftp_tap.proofs.TapLawful.{Lawful, AreLawful, server_after, Sends, begins_before, Right, rights}
-use Rattle.tftp_tap.proofs.TapMade.{Decides, decide_kind, find_kind, each_both, told_some, recorded_payload, reply_kept, decide_before, block_replied, known_kept, ended_kept}
+use Rattle.tftp_tap.proofs.TapMade.{Decides, decide_kind, find_kind, each_both, told_some, recorded_payload, reply_kept, decide_before, block_replied, known_kept, ended_kept, deed_packet}
 
 pub each_at : {X : Type 0} (P : X → Type 0) (xs : List X) (x : X) → Each P xs → Contains xs x → P x
 each_at P [] x each at = absurd (contains_none x at)
@@ -77,10 +77,7 @@ module _ (s : TapSides) (apart : AreApart s) (asked : RequestParts) where
   error_message b is code text packet = by is.spells.0 is.spells.1 (is.spells.2 ∙ ap Some packet) where
     by : (n : Message) → Spells b.datagram.payload n → packet_in n ≡ Some (Error code text) → Spells b.datagram.payload (Message.Error code text)
     by (Message.Error one words) t at = let first : one ≡ code = cc in let second : words ≡ text = cc in subst (λ x. Spells b.datagram.payload (Message.Error code x)) second (subst (λ x. Spells b.datagram.payload (Message.Error x words)) first t)
-    by (Message.Request q) t at = absurd (cc)
-    by (Message.Oack options) t at = absurd (cc)
-    by (Message.Data k bytes) t at = absurd (cc)
-    by (Message.Ack j) t at = absurd (cc)
+    by _ t at = absurd (cc)
 
   -- ---- a datagram is in time
 
@@ -119,10 +116,7 @@ module _ (s : TapSides) (apart : AreApart s) (asked : RequestParts) where
     ack_message j packet = by is.spells.0 is.spells.1 (is.spells.2 ∙ ap Some packet) where
       by : (n : Message) → Spells c.datagram.payload n → packet_in n ≡ Some (Ack j) → Spells c.datagram.payload (Message.Ack j)
       by (Message.Ack i) t at = let same : i ≡ j = cc in subst (λ x. Spells c.datagram.payload (Message.Ack x)) same t
-      by (Message.Request q) t at = absurd (cc)
-      by (Message.Oack options) t at = absurd (cc)
-      by (Message.Data k bytes) t at = absurd (cc)
-      by (Message.Error code text) t at = absurd (cc)
+      by _ t at = absurd (cc)
 
     not_request : (j : ℕ) → c.pass.packet ≡ Ack j → c.pass.packet ≡ Req → ⊥
     not_request j packet req = let bad : Ack j ≡ Req = sym packet ∙ req in cc
@@ -224,10 +218,7 @@ module _ (s : TapSides) (apart : AreApart s) (asked : RequestParts) where
     no_oack never at = never (there cs each at) where
       is_oack : (n : Message) → packet_in n ≡ Some Oack → IsOack n
       is_oack (Message.Oack options) at = tt
-      is_oack (Message.Request q) at = absurd (cc)
-      is_oack (Message.Data k bytes) at = absurd (cc)
-      is_oack (Message.Ack j) at = absurd (cc)
-      is_oack (Message.Error code text) at = absurd (cc)
+      is_oack _ at = absurd (cc)
 
       there : (bs : List Carried) → Each (IsCarried s says_some) bs → Has (map pass_in bs) Server Oack → HasKind IsOack (map datagram_in bs)
       there [] each at = absurd (contains_none _ at)
@@ -381,15 +372,9 @@ module _ (s : TapSides) (apart : AreApart s) (asked : RequestParts) where
   pub says_each : (m : Meaning) (wire : List ℕ) (r : End) (ks : List Carried) → AreRouted (header_of_end s r) m wire (placed s r ks) → Each (λ c. says_of m wire c.pass.packet c.datagram.payload) ks
   says_each m wire r [] routed = tt
   says_each m wire r (k ∷ ks) routed = (
-    subst (λ l. says_of m wire k.pass.packet l) (recorded_payload s r k.datagram) (subst (λ p. says_of m wire p (recorded_at s r k.datagram).payload) (deed_is r k.pass.from k.pass.packet) routed.1.1),
+    subst (λ l. says_of m wire k.pass.packet l) (recorded_payload s r k.datagram) (subst (λ p. says_of m wire p (recorded_at s r k.datagram).payload) (deed_packet r k.pass.from k.pass.packet) routed.1.1),
     says_each m wire r ks routed.2,
   )
-    where
-      deed_is : (r f : End) (p : MachinePacket) → packet_of (deed_at r f p) ≡ p
-      deed_is Client Client p = refl
-      deed_is Client Server p = refl
-      deed_is Server Client p = refl
-      deed_is Server Server p = refl
 
   each_of : {X : Type 0} (P : X → Type 0) (xs : List X) → ((x : X) → Contains xs x → P x) → Each P xs
   each_of P [] all = tt
