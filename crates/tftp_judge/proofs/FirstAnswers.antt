@@ -1,9 +1,9 @@
 -- The first answer to a request is one, and so is what is known of the transfer.
-use Rattle.std.proofs.Common.{◌≡◌, ℕ, List, [], ◌∷◌, inl, inr, refl, sym, ap, ◌∙◌}
-use Rattle.tftp_packet.specs.{Message, RequestParts, Side, Get, Put}
+use Rattle.std.proofs.Common.{◌≡◌, ℕ, List, [], ◌∷◌, inl, inr, sym, ap, ◌∙◌}
+use Rattle.tftp_packet.specs.{Message, RequestParts, Get}
 use Rattle.tftp_hosts.specs.{Dir, Datagram, Header}
 use Rattle.tftp_rules.specs.{Passed, Terms}
-use Rattle.tftp_law.specs.{Answer, Agrees, Begins, IsAnswer, NotAnswered, terms_after, AreTermsAfter}
+use Rattle.tftp_law.specs.{Begins, NotAnswered, terms_after, AreTermsAfter}
 use Rattle.tftp_law.proofs.FirstBroken.FirstAnswered.{first_one, not_both}
 
 pub terms_once : (h : Header) (asked : RequestParts) (ds : List Datagram) (t u : Terms) → AreTermsAfter h asked ds t → AreTermsAfter h asked ds u → t ≡ u

@@ -11,7 +11,7 @@ use Rattle.tftp_hosts.specs.{Datagram, Header}
 use Rattle.tftp_model.specs.{Meaning}
 use Rattle.tftp_law.specs.{IsLawful, OneEnded, Passes, FirstBroken, Rule}
 use Rattle.tftp_law.proofs.Whole.TwoEnds.{lawful}
-use Rattle.tftp_judge.specs.{Refuses, IsJudgeAfter, Judge, EndsText, IsReadVerdict, IsTextVerdict, SaysReadFailed, WantsToJudge, unnumbered, Verdict, IsUnlawfulAt, IsVerdict, Refusal, Unlawful, Aborted, Incomplete, NormalTooLong, Capture, Refused}
+use Rattle.tftp_judge.specs.{Refuses, IsJudgeAfter, Judge, EndsText, IsReadVerdict, IsTextVerdict, SaysReadFailed, WantsToJudge, unnumbered, Verdict, IsUnlawfulAt, IsVerdict, Refusal, Unlawful, Capture, Refused}
 use Rattle.tftp_judge.specs.declared.refusal.Refusal.TheVariants.{Memory}
 use Rattle.tftp_judge.proofs.FirstFaults.{begins_longer, lawful_in, told_alone}
 use Rattle.tftp_judge.proofs.TextFound.{Closed, Found, Stays, closed, failed_or, found_by_fault}

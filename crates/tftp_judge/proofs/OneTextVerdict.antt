@@ -3,7 +3,7 @@ use Rattle.std.proofs.Common.{◌≡◌, ℕ, inl, inr, List, ◌∷◌, ◌++�
 use Rattle.std.proofs.lemmas.List.{map-append}
 use Rattle.tftp_capture.specs.{BeginsWith, HasFault, IsCapture, Numbered, TextFault}
 use Rattle.tftp_capture.specs.CaptureText.Reading.{Capture, Fault}
-use Rattle.tftp_capture.specs.declared.fault.CaptureFault.TheVariants.{Text, Read, Memory}
+use Rattle.tftp_capture.specs.declared.fault.CaptureFault.TheVariants.{Text}
 use Rattle.tftp_capture.proofs.Beginnings.{agree, capture_has}
 use Rattle.tftp_capture.proofs.Readings.{reads_same}
 use Rattle.tftp_hosts.specs.{Header}

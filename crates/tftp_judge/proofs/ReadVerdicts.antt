@@ -1,6 +1,6 @@
 -- What is said of what was read is said of it as a text.
-use Rattle.std.proofs.Common.{ℕ, List, [], Result, Ok, Err, sym, subst, append-nil}
-use Rattle.tftp_capture.specs.declared.fault.CaptureFault.TheVariants.{Text, Read, Memory}
+use Rattle.std.proofs.Common.{ℕ, List, [], Result, Err, sym, subst, append-nil}
+use Rattle.tftp_capture.specs.declared.fault.CaptureFault.TheVariants.{Memory}
 use Rattle.tftp_model.specs.{Meaning}
 use Rattle.tftp_judge.specs.{IsLineOf, IsReadVerdict, IsTextVerdict, NoFaultBefore, WantsToRead, Verdict, Capture, Refused}
 use Rattle.tftp_judge.specs.declared.refusal.Refusal.TheVariants as refusal

@@ -11,7 +11,7 @@ use Rattle.tftp_capture.proofs.Staying.{stays}
 use Rattle.tftp_hosts.specs.{Datagram, Header}
 use Rattle.tftp_model.specs.{Meaning}
 use Rattle.tftp_law.specs.{OneEnded}
-use Rattle.tftp_judge.specs.{Refuses, IsJudgeAfter, Judge, IsOfText, IsReadVerdict, IsTextVerdict, SaysReadFailed, unnumbered, IsVerdict, Refusal, Unlawful, Aborted, Incomplete, NormalTooLong, Verdict, Capture, Refused as RefusedFor}
+use Rattle.tftp_judge.specs.{Refuses, IsJudgeAfter, Judge, IsOfText, IsReadVerdict, IsTextVerdict, SaysReadFailed, unnumbered, IsVerdict, Refusal, Unlawful, Verdict, Capture, Refused as RefusedFor}
 use Rattle.tftp_judge.specs.declared.refusal.Refusal.TheVariants.{Memory}
 use Rattle.tftp_judge.proofs.FirstFaults.{begins_longer, fault_kinds}
 use Rattle.tftp_judge.proofs.Follows.{Follows, found_fault, found_refused, clean_says}

@@ -10,7 +10,7 @@ use Rattle.tftp_hosts.specs.{Header}
 use Rattle.tftp_model.specs.{Meaning}
 use Rattle.tftp_law.specs.{IsLawful}
 use Rattle.tftp_law.proofs.Whole.TwoEnds.{lawful}
-use Rattle.tftp_judge.specs.{IsOfText, IsTextVerdict, SaysReadFailed, WantsMemory, unnumbered, IsVerdict, Unlawful, Aborted, Incomplete, NormalTooLong, Verdict, Capture, Refused}
+use Rattle.tftp_judge.specs.{IsOfText, IsTextVerdict, SaysReadFailed, WantsMemory, unnumbered, IsVerdict, Unlawful, Verdict, Capture, Refused}
 use Rattle.tftp_judge.specs.declared.refusal.Refusal.TheVariants.{Memory}
 use Rattle.tftp_judge.proofs.OneTextVerdict.{captured_or_faulty, longer_unlawful}
 use Rattle.tftp_judge.proofs.OneVerdict.{not_lawful}

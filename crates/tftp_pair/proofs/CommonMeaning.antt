@@ -113,10 +113,6 @@ begins_block : (x : Message) → IsAnswer Get x Begins → (k : ℕ) × (bytes :
 begins_block (Message.Data k bytes) is = (k, bytes, refl)
 begins_block _ is = absurd is
 
-begins_zero : (x : Message) → IsAnswer Put x Begins → x ≡ Message.Ack 0
-begins_zero (Message.Ack j) is = ap Message.Ack is
-begins_zero _ is = absurd is
-
 block_passed : (passed : List Datagram) → FirstAnswer Get passed Begins → (k : ℕ) × (bytes : List ℕ) × HasPassed (Message.Data k bytes) passed
 block_passed [] first = absurd first
 block_passed (d ∷ passed) first = elim first [

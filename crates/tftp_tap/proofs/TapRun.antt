@@ -8,7 +8,7 @@ use Rattle.tftp_model.specs.Machines.{other_end, sender_of, receiver_of}
 use Rattle.tftp_model.proofs.Members.{contains_first, contains_later, contains_cases, contains_none}
 use Rattle.tftp_model.proofs.Stops.{lawful_tail}
 use Rattle.tftp_rules.specs.{EndRule}
-use Rattle.tftp_law.specs.{view_in, says_of, packet_of, Fits, AreRouted, packet_in, says_some}
+use Rattle.tftp_law.specs.{view_in, says_of, Fits, AreRouted, packet_in, says_some}
 use Rattle.tftp_law.specs.declared.rule.Rule.TheVariants as rule
 use Rattle.tftp_law.proofs.Soundness.MadeMeaning.{some_accord}
 use Rattle.tftp_law.proofs.Soundness.RulesDivide.{divides}
