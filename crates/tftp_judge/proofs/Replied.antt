@@ -120,11 +120,11 @@ own t dir (Message.Request r) author side e f right = tt
 own t dir (Message.Error code text) author side e f right = tt
 own t dir (Message.Oack o) author side e f right = tt
 
-terms_named : (h : Header) (asked : RequestParts) (answer : Answer) → (terms_after h asked answer).named ≡ h.named
+pub terms_named : (h : Header) (asked : RequestParts) (answer : Answer) → (terms_after h asked answer).named ≡ h.named
 terms_named h asked (Agrees options) = refl
 terms_named h asked Begins = refl
 
-terms_side : (h : Header) (asked : RequestParts) (answer : Answer) → (terms_after h asked answer).side ≡ asked.side
+pub terms_side : (h : Header) (asked : RequestParts) (answer : Answer) → (terms_after h asked answer).side ≡ asked.side
 terms_side h asked (Agrees options) = refl
 terms_side h asked Begins = refl
 
