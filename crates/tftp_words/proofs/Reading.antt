@@ -2,7 +2,7 @@
 use Rattle.std.proofs.Common.{◌≡◌, ◌≢◌, ℕ, ◌+◌, ◌<◌, List, [], ◌∷◌, ◌++◌, length, drop, take, map, Bool, Option, Some, None, codes, slice_get, get_or, Bor, refl, sym, ap, ◌∙◌, subst, append-nil, append_assoc, add-one}
 use Rattle.std.proofs.lemmas.List.{map-append}
 use Rattle.std.proofs.Math.Seq.{take-suc}
-use Rattle.tftp_words.specs.{Point, Given, ReadFault, Word, Part, Plain, Say, Have, Holds, IsOnce}
+use Rattle.tftp_words.specs.{Point, Given, ReadFault, Word, Part, Plain, Begins, Say, Have, Holds, IsOnce}
 use Rattle.tftp_words.specs.declared.given.ReadFault.TheVariants as fault
 use Rattle.tftp_words.proofs.Having.{have_word}
 use Rattle.tftp_words.proofs.Saying.{say_on, say_step, say_nothing, say_end, said_end, say_plain, said_plain}

@@ -1,10 +1,19 @@
 -- Words say one list of parts.
-use Rattle.std.proofs.Common.{◌≡◌, ◌≢◌, ◌⊎◌, inl, inr, ℕ, ◌≤◌, List, [], ◌∷◌, ◌++◌, length, drop, map, Option, Some, None, codes, slice_get, refl, sym, ap, ◌∙◌, get_or, subst, arith}
-use Rattle.tftp_words.specs.{Point, Word, Part, Service, Json, At, Plain, IsOption, IsPlain, IsPort, IsNumber, Begins, Says, Say, Done, First, Rest, point_word}
+use Rattle.std.proofs.Common.{◌≡◌, ◌≢◌, ◌⊎◌, inl, inr, ℕ, ◌≤◌, List, [], ◌∷◌, ◌++◌, length, drop, map, Option, Some, None, codes, slice_get, refl, sym, ap, ◌∙◌, get_or, subst, arith, append-nil}
+use Rattle.std.proofs.lemmas.List.{append_cancel_left}
+use Rattle.tftp_words.specs.{Point, Word, Part, Service, Json, At, Plain, IsOption, IsPlain, IsPort, IsNumber, Gives, Begins, Says, Say, Done, First, Rest, point_word}
 use Rattle.tftp_words.specs.declared.point.Point.TheVariants as point
 use Rattle.tftp_words.proofs.PartLemmas.{service_given, point_given, one_value, third_of}
 
 -- ---- the words begin with one part
+
+one_count : (name word : Word) (next : Option Word) (v w : Word) (k l : ℕ) → Gives name word next v k → Gives name word next w l → k ≡ l
+one_count name word next v w k l (inl (one, is)) (inl (other, also)) = one ∙ sym other
+one_count name word next v w k l (inl (one, is)) (inr (other, also, second)) =
+    let bad : 61 ∷ v ≡ [] = append_cancel_left name (61 ∷ v) [] (sym is ∙ also ∙ sym (append-nil name)) in cc
+one_count name word next v w k l (inr (one, is, first)) (inl (other, also)) =
+    let bad : 61 ∷ w ≡ [] = append_cancel_left name (61 ∷ w) [] (sym also ∙ is ∙ sym (append-nil name)) in cc
+one_count name word next v w k l (inr (one, is, first)) (inr (other, also, second)) = one ∙ sym other
 
 dashes_not_plain : (rest : Word) → IsPlain (45 ∷ 45 ∷ rest) → ⊥
 dashes_not_plain rest (inl not) = not (45 ∷ rest) refl
@@ -16,6 +25,10 @@ third (Service port) = 115
 third Json = 106
 third (At point) = 101
 third (Plain word) = 0
+
+given_dashes : (name rest word : Word) (next : Option Word) (v : Word) (k : ℕ) → name ≡ 45 ∷ 45 ∷ rest → Gives name word next v k → IsPlain word → ⊥
+given_dashes name rest word next v k dashes (inl (one, is)) plain = dashes_not_plain (rest ++ (61 ∷ v)) (subst IsPlain (is ∙ ap (λ n. n ++ (61 ∷ v)) dashes) plain)
+given_dashes name rest word next v k dashes (inr (two, is, second)) plain = dashes_not_plain rest (subst IsPlain (is ∙ dashes) plain)
 
 json_is : (word : Word) (next : Option Word) (k : ℕ) → Begins word next Json k → (k ≡ 1) × (word ≡ codes "--json")
 json_is word next k (inl (one, is)) = (one, ap (λ ws. get_or ws 0 []) is)

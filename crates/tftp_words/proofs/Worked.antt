@@ -1,8 +1,17 @@
 -- Worked command lines.
-use Rattle.std.proofs.Common.{rules, inl, inr, [], ◌∷◌, codes, false, true, Some, refl}
+use Rattle.std.proofs.Common.{rules, ◌≡◌, inl, inr, [], ◌∷◌, codes, false, true, Some, refl, get_or, ap, arith}
 use Rattle.tftp_packet.specs.declared.kinds.End.TheVariants as end
 use Rattle.tftp_words.specs.declared.point.Point.TheVariants as point
-use Rattle.tftp_words.specs.{Service, Json, At, Plain, First, Rest, Listed, Judged, IsRequest}
+use Rattle.tftp_words.specs.{Service, Json, At, Plain, IsPort, IsPlain, Done, First, Rest, Listed, Judged, IsRequest}
+
+port_6969 : IsPort (codes "6969") 6969
+port_6969 = search rules
+
+dash_plain : IsPlain (codes "-")
+dash_plain = inr refl
+
+boot_plain : IsPlain (codes "boot")
+boot_plain = inl (λ rest e. let bad : 98 ≡ 45 = ap (λ w. get_or w 0 0) e in omega (arith, bad))
 
 -- tftp-transfers - --service=6969
 pub listed : IsRequest (Listed (6969 ∷ []) false (codes "-")) (codes "tftp-transfers" ∷ codes "-" ∷ codes "--service=6969" ∷ [])
