@@ -73,10 +73,13 @@ module _ (h : Header) (earlier : List Datagram) (d : Datagram) where
 
   -- a fault tells the rule
   port_first_by : (r : Route) → route_of h earlier d ≡ r → (fault : PortFault) → Err fault ≡ answer_of r → (rule : Rule) → (After : Type 0) → FindsOf h earlier d After (Err (error_by_port fault))
+  port_first_by Route.Request is fault e rule After = absurd (cc)
+  port_first_by Route.Peer is fault e rule After = absurd (cc)
+  port_first_by Route.Stray is fault e rule After = absurd (cc)
+  port_first_by Route.StrayAnswer is fault e rule After = absurd (cc)
   port_first_by Route.ForeignPort is fault e rule After = let same : PortFault.ForeignPort ≡ fault = cc in subst (λ f. FindsOf h earlier d After (Err (error_by_port f))) same (foreign_first is)
   port_first_by Route.WrongPort is fault e rule After = let same : PortFault.WrongPort ≡ fault = cc in subst (λ f. FindsOf h earlier d After (Err (error_by_port f))) same (wrong_first is)
   port_first_by Route.NoStrayAnswer is fault e rule After = let same : PortFault.StrayAnswer ≡ fault = cc in subst (λ f. FindsOf h earlier d After (Err (error_by_port f))) same (stray_first (inl is))
-  port_first_by _ is fault e rule After = absurd (cc)
 
   pub port_first : (fault : PortFault) (After : Type 0) → Err fault ≡ answer_of (route_of h earlier d) → FindsOf h earlier d After (Err (error_by_port fault))
   port_first fault After e = port_first_by (route_of h earlier d) refl fault e Rule.ForeignPort After
