@@ -1,3 +1,4 @@
+mod BlockNumbers
 mod Spelled
 mod Read
 mod ReadRuns

@@ -7,8 +7,8 @@ use Rattle.tftp_hosts.specs.{Datagram, Header}
 use Rattle.tftp_rules.specs.{route_of, is_of_transfer}
 use Rattle.tftp_law.specs.{number_of, Broken, IsRefused, Rule}
 use Rattle.tftp_worked.specs.{at_client, read_without_its_ack, acknowledges_too_long, asks_for_mail}
+use Rattle.tftp_worked.proofs.BlockNumbers.{from_18}
 use Rattle.tftp_worked.proofs.Bases.{plain_begun}
-use Rattle.tftp_judge.proofs.Replied.{lowest}
 
 module _ (h : Header) (earlier : List Datagram) (d : Datagram) (routed : is_of_transfer (route_of h earlier d) ≡ true) (asked : Broken h earlier d Rule.NoRequest → ⊥) where
   -- a datagram of the transfer breaks no rule of ports
@@ -18,7 +18,7 @@ module _ (h : Header) (earlier : List Datagram) (d : Datagram) (routed : is_of_t
   under_malformed Rule.StrayAnswer low (inl b) = false≢true (sym (ap is_of_transfer b) ∙ routed)
   under_malformed Rule.StrayAnswer low (inr b) = false≢true (sym (ap is_of_transfer b.0) ∙ routed)
   under_malformed Rule.NoRequest low b = asked b
-  under_malformed (Rule.Block e) low b = let from = lowest e in omega (arith, low, from)
+  under_malformed (Rule.Block e) low b = let from = from_18 e in omega (arith, low, from)
   under_malformed _ low b = omega arith
 
 -- ---- an ACK with a byte too many

@@ -12,6 +12,7 @@ use Rattle.tftp_model.proofs.Worked.{eight_for_blksize}
 use Rattle.tftp_law.specs.{number_of, plain_terms, NotAnswered, OackBreaks, MessageBreaks, Broken, OneEnded, IsRefused, Rule}
 use Rattle.tftp_law.proofs.FirstBroken.OneMessage.{breaks_by, back}
 use Rattle.tftp_worked.specs.{at_client, asks_for_a, one_block_read, request, oack, by_eight, only_asked, asks_for_b, agrees_to_none, agrees_unasked, by_multicast, only_multicast_asked, agrees_to_multicast, by_foo, only_foo_asked, agrees_to_foo, only_512_asked, agrees_to_1024}
+use Rattle.tftp_worked.proofs.BlockNumbers.{from_18}
 use Rattle.tftp_worked.proofs.Spelled.{request_spelled, ack_spelled}
 use Rattle.tftp_worked.proofs.Payloads.{Spelled, request_spells, request_for_spells, oack_spells, eight_is}
 use Rattle.tftp_worked.proofs.Passing.{asked_by, asked_back, asked_there, first_answer, first_asked, main_of, terms_of, unanswered_there}
@@ -23,7 +24,6 @@ use Rattle.tftp_worked.proofs.Bases.{asks_for, plain_asks, plain_asked}
 use Rattle.tftp_worked.proofs.OneOption.{single, found_single, only_single, not_there, has_some}
 use Rattle.tftp_worked.proofs.Accepted.{plain}
 use Rattle.tftp_worked.proofs.RefusedMore.{asked}
-use Rattle.tftp_judge.proofs.Replied.{lowest}
 
 -- ---- another request, and a request that comes late
 
@@ -49,7 +49,7 @@ not_changed b = none_by_kind (breaks_by at_client (reverse one_block_read) asks_
 
 none_before_late : (rule : Rule) → number_of rule < 9 → Broken at_client (reverse one_block_read) asks_for_a rule → ⊥
 none_before_late Rule.RequestChanged low b = not_changed b
-none_before_late (Rule.Block e) low b = let from = lowest e in omega (arith, low, from)
+none_before_late (Rule.Block e) low b = let from = from_18 e in omega (arith, low, from)
 none_before_late rule low b = none_under 8 at_client (plain.known []) plain.es plain_asks plain.spelled request_spelled refl refl refl rule (omega arith) b
 
 pub late_request_refused : IsRefused at_client (reverse one_block_read) asks_for_a Rule.RequestAfterStart
