@@ -9,8 +9,9 @@ use Rattle.tftp_capture.proofs.Staying.{stays}
 use Rattle.tftp_hosts.specs.{Header}
 use Rattle.tftp_judge.specs.{Capture}
 use Rattle.tftp_judge.proofs.FirstFaults.{fault_kinds}
+use Rattle.tftp_judge.proofs.TextFound.{rest_of}
 use Rattle.tftp_match.specs.{HasBegun, IsStopped, NamesEnd}
-use Rattle.tftp_match.proofs.Fronts.{all_of, rest_of}
+use Rattle.tftp_match.proofs.Fronts.{all_of}
 
 pub has_begun : (before after : Option (List ℕ)) (failed : Bool) (reader : ReaderState) (taken : List ℕ) → Consumes before (prepend_known reader.lines.ahead after) taken → GoesOn reader.header reader.lines reader.count taken [] → reader.standing ≡ Open → failed ≡ false
     → HasBegun before after failed reader

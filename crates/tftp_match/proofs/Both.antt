@@ -1,9 +1,9 @@
 -- Two texts that are read side by side, of which one goes on.
-use Rattle.std.proofs.Common.{◌≡◌, ◌^◌, ◌<◌, ◌≤◌, ℕ, Option, Some, None, refl, sym, ap, subst, arith}
+use Rattle.std.proofs.Common.{sym, ap, subst}
 use Rattle.tftp_packet.specs.{Client, Server}
 use Rattle.tftp_judge.specs.{Judge}
 use Rattle.tftp_pair_judge.specs.{HasSame, Pair}
-use Rattle.tftp_match.specs.{IsSeenAt, Seen, BothRun, Runs, lines_left, Halt}
+use Rattle.tftp_match.specs.{IsSeenAt, Seen, BothRun, Runs}
 
 module _ (client server : Seen) (start : Pair) (mine theirs : Seen) (p p' : Pair) (runs : BothRun client server start mine theirs p) where
   pub client_goes : (mine' : Seen) → Runs Client mine p mine' p' → HasSame p.server p'.server → BothRun client server start mine' theirs p'
@@ -31,8 +31,3 @@ module _ (client server : Seen) (start : Pair) (mine theirs : Seen) (p p' : Pair
           pair = pair_on;
         },
       )
-
-pub less_left : (halt halt' : Option Halt) (n n' : ℕ) → halt ≡ None → (halt' ≡ None → n < n') → (halt' ≡ None → n' ≤ 2 ^ 40) → lines_left halt' n' < lines_left halt n
-less_left None None n n' none rises line = let more = rises refl in let top = line refl in omega (arith, more, top)
-less_left None (Some why) n n' none rises line = omega arith
-less_left (Some was) halt' n n' none rises line = absurd (cc)

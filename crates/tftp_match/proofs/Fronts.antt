@@ -99,10 +99,6 @@ has_one text h k ds es has also = ((agree text h k ds es has.begins also.begins)
 
 -- ---- all of a text was taken
 
-pub rest_of : (now : Option (List ℕ)) (text taken : List ℕ) → Consumes (Some text) now taken → (rest : List ℕ) × (now ≡ Some rest) × (text ≡ taken ++ rest)
-rest_of None text taken c = absurd c
-rest_of (Some rest) text taken c = (rest, refl, c)
-
 pub all_of : (now : Option (List ℕ)) (text taken : List ℕ) → Consumes (Some text) now taken → IsAtEnd now → text ≡ taken
 all_of None text taken c end = absurd c
 all_of (Some rest) text taken c end = c ∙ ap (λ l. taken ++ l) end ∙ append-nil taken

@@ -1,5 +1,5 @@
 -- What is known of a text once a step of its reader is done.
-use Rattle.std.proofs.Common.{◌≡◌, ◌≤◌, ◌⊎◌, inl, inr, ℕ, Bool, true, false, true≢false, List, [], ◌∷◌, ◌++◌, length, reverse, Option, Some, None, Result, Ok, Err, refl, sym, ap, ◌∙◌, subst}
+use Rattle.std.proofs.Common.{◌≡◌, ◌≤◌, ◌⊎◌, inl, inr, ℕ, Bool, true, false, List, [], ◌∷◌, ◌++◌, length, reverse, Option, Some, None, Result, Ok, Err, refl, sym, ap, ◌∙◌, subst}
 use Rattle.std.specs.Io.KnownBytes.{Consumes, IsAtEnd, prepend_known}
 use Rattle.std.proofs.KnownBytes.{Consumes-trans}
 use Rattle.std.proofs.lemmas.List.{map-append, reverse-append, reverse-reverse}
@@ -11,16 +11,16 @@ use Rattle.tftp_capture.proofs.Staying.{stays}
 use Rattle.tftp_hosts.specs.{Datagram, Header}
 use Rattle.tftp_model.specs.{Meaning}
 use Rattle.tftp_law.specs.{OneEnded}
-use Rattle.tftp_judge.specs.{Refuses, IsJudgeAfter, Judge, IsOfText, IsReadVerdict, IsTextVerdict, SaysReadFailed, unnumbered, IsVerdict, Refusal, Unlawful, Aborted, Incomplete, NormalTooLong, Verdict, Capture, Refused as RefusedFor}
+use Rattle.tftp_judge.specs.{Refuses, IsJudgeAfter, Judge, IsOfText, IsReadVerdict, IsTextVerdict, SaysReadFailed, unnumbered, IsVerdict, Refusal, Unlawful, Verdict, Capture, Refused as RefusedFor}
 use Rattle.tftp_judge.specs.declared.refusal.Refusal.TheVariants.{Memory}
 use Rattle.tftp_judge.proofs.FirstFaults.{begins_longer, fault_kinds}
-use Rattle.tftp_judge.proofs.Follows.{Follows, found_fault, found_refused}
-use Rattle.tftp_judge.proofs.TextFound.{Closed, Found, closed, found_ended, found_exact, found_judged, found_tally, found_whole}
+use Rattle.tftp_judge.proofs.Follows.{Follows, found_fault, found_refused, clean_says}
+use Rattle.tftp_judge.proofs.TextFound.{Closed, Found, closed, found_ended, found_exact, found_judged, found_tally, found_whole, rest_of}
 use Rattle.tftp_capture.specs.CaptureText.Due.{Body}
 use Rattle.tftp_pair.specs.{IsLawfulTo}
 use Rattle.tftp_pair_judge.specs.{IsReadOf}
 use Rattle.tftp_match.specs.{HasDatagrams, capture_of, IsJudged, HasRead, IsFinished, IsGiven, IsHalted, said_by, Ended, Refused, Fault}
-use Rattle.tftp_match.proofs.Fronts.{all_of, front_in, has_before_fault, has_captured, lawful_front, lawful_whole, rest_of}
+use Rattle.tftp_match.proofs.Fronts.{all_of, front_in, has_before_fault, has_captured, lawful_front, lawful_whole}
 
 -- ---- what was found is what there is to say
 
@@ -33,9 +33,6 @@ judged_of before after failed r found = record {
   whole = found_whole before after failed r found;
   exact = found_exact before after failed r found;
 }
-
-clean_says : (failed : Bool) (P : Type 0) → failed ≡ false → failed ≡ true → P
-clean_says failed P clean is = absurd (true≢false (sym is ∙ clean))
 
 -- of the whole text that is over
 ended : (text : List ℕ) (h : Header) (ds : List Numbered) (refusal : Refusal) → ((count : ℕ) → refusal ≡ Memory count → ⊥) → IsCapture text h ds → IsVerdict h (unnumbered ds) (Err refusal)
@@ -148,9 +145,7 @@ module _ (before now after : Option (List ℕ)) (old new : ReaderState) (judge :
             (λ lawful. (subst (λ x. OneEnded x (datagram_of d ∷ read)) named lawful).0.lawful rule broken.0) in
             (named, first_part.0, first_part.1)
         by (Memory count) refuses of text is k es datagrams = absurd of
-        by (Aborted b code) refuses of text is k es datagrams = absurd refuses
-        by (Incomplete count) refuses of text is k es datagrams = absurd refuses
-        by NormalTooLong refuses of text is k es datagrams = absurd refuses
+        by _ refuses of text is k es datagrams = absurd refuses
 
     pub given : IsGiven before after failed new old.header read (datagram_of d)
     given = record {

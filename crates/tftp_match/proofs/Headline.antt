@@ -10,7 +10,7 @@ use Rattle.tftp_hosts.specs.{Header}
 use Rattle.tftp_model.specs.{Meaning}
 use Rattle.tftp_law.specs.{IsLawful}
 use Rattle.tftp_law.proofs.Whole.TwoEnds.{lawful}
-use Rattle.tftp_judge.specs.{IsOfText, IsTextVerdict, SaysReadFailed, WantsMemory, unnumbered, IsVerdict, Unlawful, Aborted, Incomplete, NormalTooLong, Verdict, Capture, Refused}
+use Rattle.tftp_judge.specs.{IsOfText, IsTextVerdict, SaysReadFailed, WantsMemory, unnumbered, IsVerdict, Unlawful, Verdict, Capture, Refused}
 use Rattle.tftp_judge.specs.declared.refusal.Refusal.TheVariants.{Memory}
 use Rattle.tftp_judge.proofs.OneTextVerdict.{captured_or_faulty, longer_unlawful}
 use Rattle.tftp_judge.proofs.OneVerdict.{not_lawful}
@@ -31,20 +31,17 @@ lawful_capture text h k ds es one other is = let same = reads_same text (Says k 
       subst (λ x. IsLawful x (unnumbered ds)) a (subst (λ l. IsLawful k (unnumbered l)) b is)
 
 all_lawful : (text : List ℕ) (h : Header) (ds : List Numbered) (r : Result Meaning Verdict) → IsCapture text h ds → IsOfText r → IsTextVerdict text r → IsAllLawful r ↔ IsLawful h (unnumbered ds)
-all_lawful text h ds (Ok m) capture of (k, es, other, is) = (λ _. lawful_capture text h k ds es capture other is.0, λ _. tt)
 all_lawful text h ds (Err (Refused (Unlawful index rule))) capture of (k, es, begins, is) = (
   λ none. absurd none,
   λ lawful.
       let first = capture_has text h k ds es capture begins in
       not_lawful h (unnumbered ds) index rule (longer_unlawful h ds es index rule first.1 (subst (λ x. IsVerdict x (unnumbered es) (Err (Unlawful index rule))) first.0 is)) lawful,
 )
-all_lawful text h ds (Err (Refused (Aborted by code))) capture of (k, es, other, is) = (λ _. lawful_capture text h k ds es capture other is.0, λ _. tt)
-all_lawful text h ds (Err (Refused (Incomplete count))) capture of (k, es, other, is) = (λ _. lawful_capture text h k ds es capture other is.0, λ _. tt)
-all_lawful text h ds (Err (Refused NormalTooLong)) capture of (k, es, other, is) = (λ _. lawful_capture text h k ds es capture other is.0, λ _. tt)
 all_lawful text h ds (Err (Refused (Memory count))) capture of is = absurd of
 all_lawful text h ds (Err (Capture (Text line fault))) capture of is = absurd (captured_or_faulty text h ds is.0.0 line fault capture is.0.1)
 all_lawful text h ds (Err (Capture (Read line))) capture of is = absurd of
 all_lawful text h ds (Err (Capture (NoMemory line))) capture of is = absurd of
+all_lawful text h ds _ capture of (k, es, other, is) = (λ _. lawful_capture text h k ds es capture other is.0, λ _. tt)
 
 not_faulty : (text : List ℕ) (h : Header) (ds : List Numbered) (r : Result Meaning Verdict) → IsCapture text h ds → IsTextVerdict text r → IsTextFault r → ⊥
 not_faulty text h ds (Err (Capture (Text line why))) capture is fault = captured_or_faulty text h ds is.0.0 line why capture is.0.1

@@ -1,13 +1,14 @@
 -- Each frame is accounted for once: what a frame does to those that wait, in three stages, and then whole histories.
-use Rattle.std.proofs.Common.{◌≡◌, ◌≢◌, ℕ, ◌+◌, ◌≤◌, Bool, true, false, ◌⊎◌, inl, inr, List, [], ◌∷◌, ◌++◌, length, Option, Some, None, refl, sym, ap, ◌∙◌, subst, arith}
-use Rattle.std.proofs.lemmas.Bool.{cases_lt}
+use Rattle.std.proofs.Common.{◌≡◌, ◌≢◌, ℕ, ◌+◌, ◌≤◌, Bool, true, ◌⊎◌, inl, inr, List, [], ◌∷◌, ◌++◌, length, Option, Some, None, refl, sym, ap, ◌∙◌, subst, arith}
+use Rattle.std.proofs.lemmas.Bool.{cases_lt, cases_Bool}
 use Rattle.tftp_fragments.specs.{same_key, Arrival, SetState, PutEnds, Sets, frames_of, is_long, set_at, Outcome, Waits, Apart}
 use Rattle.tftp_fragments.specs.Whole.{Part}
 use Rattle.tftp_fragments.specs.declared.key.Key.{Key}
 use Rattle.tftp_fragments.specs.declared.outcome.Outcome.TheVariants.{Whole}
+use Rattle.tftp_fragments.proofs.Holding.{not_both}
 use Rattle.tftp_pcap.specs.{FrameParts}
 use Rattle.tftp_recording.specs.{IsIn, IsSettled, IsTold, IsWaiting, NoneTwice, ToldOneWay, WaitsAt, BroughtState, LetsGoOld, MakesRoom, Takes, TakesPart, nothing_brought, sharers, IsHistory, Step, waiting, is_copy}
-use Rattle.tftp_recording.proofs.Keys.{same_on, same_set_at, truth}
+use Rattle.tftp_recording.proofs.Keys.{same_on, same_set_at}
 
 in_left : (n : ℕ) (xs ys : List ℕ) → IsIn n xs → IsIn n (xs ++ ys)
 in_left n [] ys h = absurd h
@@ -35,22 +36,19 @@ at_same n a b e h = subst (λ (o : Option SetState). IsIn n (frames_of o)) e h
 abbrev pub One : Sets → Type 0
 One sets = (n : ℕ) (k l : Key) → WaitsAt k n sets → WaitsAt l n sets → same_key k l ≡ true
 
-not_both : (b : Bool) → b ≡ true → b ≡ false → ⊥
-not_both b e f = cc
-
 -- ---- what is too old
 
 module _ (key : Key) (time : Option ℕ) (old new : Sets) (gone : List ℕ) (h : LetsGoOld key time old new gone) where
   -- under the key all is gone, and told, or all stays
   pub old_at : (o : Option SetState) → set_at key old ≡ o → ((set_at key new ≡ None) × (gone ≡ frames_of o)) ⊎ ((set_at key new ≡ o) × (gone ≡ []))
   old_at None e = inr ((h.none e).0, (h.none e).1)
-  old_at (Some s) e = elim (truth (is_long s.began time)) [
+  old_at (Some s) e = elim (cases_Bool (is_long s.began time)) [
     | inl long ↦ inl (h.long s e long)
     | inr young ↦ inr (h.young s e young)
   ]
 
   old_or_stays : (k : Key) (n : ℕ) → WaitsAt k n old → IsIn n gone ⊎ WaitsAt k n new
-  old_or_stays k n w = elim (truth (same_key key k)) [
+  old_or_stays k n w = elim (cases_Bool (same_key key k)) [
     | inl same ↦
         let here : WaitsAt key n old = at_same n _ _ (sym (same_set_at key k old same)) w in
         elim (old_at (set_at key old) refl) [
@@ -61,7 +59,7 @@ module _ (key : Key) (time : Option ℕ) (old new : Sets) (gone : List ℕ) (h :
   ]
 
   stayed_young : (k : Key) (n : ℕ) → WaitsAt k n new → WaitsAt k n old
-  stayed_young k n w = elim (truth (same_key key k)) [
+  stayed_young k n w = elim (cases_Bool (same_key key k)) [
     | inl same ↦
         let here : WaitsAt key n new = at_same n _ _ (sym (same_set_at key k new same)) w in
         elim (old_at (set_at key old) refl) [
@@ -151,7 +149,7 @@ module _ (key : Key) (a : Arrival) (old new : Sets) (b : BroughtState) (t : Take
   before_roomy k n w = stayed_young key a.time old t.young b.old t.lets_go k n (stayed_roomy a.part t.young t.roomy b.ousted k n t.makes_room w)
 
   put_stayed : (k : Key) (n : ℕ) → WaitsAt k n new → ((n ≡ a.frame) × (same_key key k ≡ true) × (t.outcome ≡ Waits)) ⊎ WaitsAt k n t.roomy
-  put_stayed k n w = elim (truth (same_key key k)) [
+  put_stayed k n w = elim (cases_Bool (same_key key k)) [
     | inl same ↦ elim (stayed_put_at _ _ _ a t.outcome n t.ends (at_same n _ _ (sym (same_set_at key k new same)) w)) [
       | inl own ↦ inl (own.0, same, own.1)
       | inr i ↦ inr (at_same n _ _ (same_set_at key k t.roomy same) i)
@@ -167,7 +165,7 @@ module _ (key : Key) (a : Arrival) (old new : Sets) (b : BroughtState) (t : Take
     | inl g ↦ inl (inl g)
     | inr y ↦ elim (ousted_or_stays a.part t.young t.roomy b.ousted k n t.makes_room y) [
       | inl o ↦ inl (inr (inl o))
-      | inr r ↦ elim (truth (same_key key k)) [
+      | inr r ↦ elim (cases_Bool (same_key key k)) [
         | inl same ↦ elim (put_or_stays_at _ _ _ a t.outcome n t.ends (at_same n _ _ (sym (same_set_at key k t.roomy same)) r)) [
           | inl s ↦ inl (inr (inr (inl (shared n s))))
           | inr i ↦ inr (key, i)
@@ -208,7 +206,7 @@ module _ (key : Key) (a : Arrival) (old new : Sets) (b : BroughtState) (t : Take
       | inl own ↦ let v = ousted_waited a.part t.young t.roomy b.ousted n t.makes_room o in not_own n v.0 own.0 (stayed_young key a.time old t.young b.old t.lets_go v.0 n v.1)
       | inr r ↦ ousted_is_gone a.part t.young t.roomy b.ousted n t.makes_room o (k, r)
     ]
-    part_apart n k (inr (inr (inl s))) w = elim (truth (same_key key k)) [
+    part_apart n k (inr (inr (inl s))) w = elim (cases_Bool (same_key key k)) [
       | inl same ↦ sharers_gone_at _ _ _ a t.outcome n t.ends (sharing n s) (at_same n _ _ (sym (same_set_at key k new same)) w)
       | inr other ↦ elim (put_stayed k n w) [
         | inl own ↦ not_both (same_key key k) own.1 other

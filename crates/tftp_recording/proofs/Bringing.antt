@@ -1,14 +1,10 @@
 -- What a frame does among the fragments that wait.
-use Rattle.std.proofs.Common.{◌≡◌, ◌≢◌, ℕ, inr, List, [], Option, None, Result, Ok, Err, OnErr, length, refl, sym, ap, ◌∙◌, subst, arith}
+use Rattle.std.proofs.Common.{◌≡◌, ◌≢◌, ℕ, inr, List, [], Option, None, Result, Ok, Err, sym, ap, ◌∙◌, subst, arith}
 use Rattle.std.specs.Result.{IsOkAnd}
 use Rattle.tftp_frames.specs.{SpellsFrame, Packet, shown, HoldsUdp, SpellsUdp, Udp, FrameFault, UdpFault, IpPacket}
-use Rattle.tftp_fragments.specs.{Arrival, SetState, HasRoom, IsTried, MayBePut, PutEnds, Sets, room_of_all, Outcome, Empty, TooLong, Full}
+use Rattle.tftp_fragments.specs.{Arrival, SetState, IsTried, MayBePut, PutEnds, Sets, room_of_all, Outcome, Full}
 use Rattle.tftp_fragments.specs.Whole.{Part}
 use Rattle.tftp_recording.specs.{MakesRoom}
-
-pub on_err : {A E : Type 0} (r : Result A E) (X : Type 0) → X → OnErr r X
-on_err (Ok a) X x = tt
-on_err (Err e) X x = x
 
 pub spells_here : (link other : ℕ) (bytes others : List ℕ) (p : Packet) → other ≡ link → others ≡ bytes → SpellsFrame link bytes p → SpellsFrame other others p
 spells_here link other bytes others p e f h = subst (λ (l : ℕ). SpellsFrame l others p) (sym e) (subst (λ (l : List ℕ). SpellsFrame link l p) (sym f) h)
@@ -38,13 +34,6 @@ pub never_full : (old new : Option SetState) (roomy : Sets) (a : Arrival) (outco
 never_full old new roomy a outcome none ends full =
     let h = subst (PutEnds old new (room_of_all roomy) a) full ends in
     absurd (omega (arith, h.1, h.2, ap room_of_all none))
-
--- there is room for a part that may be put, where it is not said that there is none
-pub has_room : (all : ℕ) (p : Part) (outcome : Outcome) → IsTried all p outcome → outcome ≢ Full → MayBePut p → HasRoom all p
-has_room all p Empty t n may = absurd (omega (arith, may.0, ap length t))
-has_room all p TooLong t n may = absurd (omega (arith, may.1, t.1))
-has_room all p Full t n may = absurd (n refl)
-has_room all p _ t n may = t.1
 
 pub may_be_put : (all : ℕ) (p : Part) (outcome : Outcome) → outcome ≡ Full → IsTried all p outcome → MayBePut p
 may_be_put all p outcome full t = (subst (IsTried all p) full t).0

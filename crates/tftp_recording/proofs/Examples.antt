@@ -1,26 +1,27 @@
 -- The worked examples.
 use Rattle.std.proofs.Common.{◌≡◌, ℕ, zero, suc, ◌+◌, Bool, true, false, inl, inr, List, [], ◌∷◌, ◌++◌, length, length-append, map, Option, Some, None, Vec, Global, cond, refl, sym, ap, ◌∙◌, subst, arith, rules}
 use Rattle.std.proofs.lemmas.List.{get_or-append-add, get_or-map, get_or_append_left, get_or_past, length-map}
+use Rattle.std.proofs.lemmas.Bool.{cases_Bool}
 use Rattle.tftp_copies.specs.{Packet as Recorded, IsCopy}
 use Rattle.tftp_fragments.specs.{Agrees, AreLaid, Held, IsHeld, content_of as put_together, nothing_held, same_key, Arrival, IsSetOf, SetState, parts_of, IsKeptOf, PutEnds, Sets, is_long, room_under, set_at, Give, Outcome, Waits}
 use Rattle.tftp_fragments.specs.Whole.{Content, Part}
 use Rattle.tftp_fragments.specs.declared.content.Content.{Content as Made}
 use Rattle.tftp_fragments.specs.declared.key.Key.{Key}
 use Rattle.tftp_fragments.specs.declared.outcome.Outcome.TheVariants.{Whole}
-use Rattle.tftp_fragments.proofs.Holding.{Added, stands_more, whole_given}
+use Rattle.tftp_fragments.proofs.Holding.{Added, stands_more, whole_given, not_both}
 use Rattle.tftp_fragments.proofs.Puts.{empty_set, nothing_agrees}
+use Rattle.tftp_fragments.proofs.Keeping.{no_byte}
+use Rattle.tftp_fragments.proofs.Rooms.{same_set, no_set}
 use Rattle.tftp_frames.specs.{SpellsFrame, Packet, HasUdp, HoldsUdp, SpellsUdp, Reached, acknowledgement, cooked_head, ipv4_bytes, ipv4_packet, two_tags, udp_bytes, Cooked, Ethernet, RawIpv4, RawIpv6, Ipv4, Ipv6, Out, Unknown}
 use Rattle.tftp_frames.specs.declared.fault.FrameFault.TheVariants.{Protocol}
 use Rattle.tftp_frames.specs.declared.fault.UdpFault.TheVariants.{Protocol as NotUdp}
 use Rattle.tftp_frames.proofs.FaultOrder.{packet_one}
+use Rattle.tftp_frames.proofs.Uppers.{spells_ip}
 use Rattle.tftp_recording.specs.{LetsGoOld, TakesPart, arrival_of, IsDatagram, IsFateOf, IsHistory, cooked_step, ethernet_step, first_bytes, first_part, first_set, first_step, icmp_content, icmp_frame, last_bytes, last_named, last_of_icmp, last_part, last_step, part_of_icmp, raw_frame, recorded_at, recorded_first, worked_content, worked_key, worked_time, Left, Frame, New}
 use Rattle.tftp_recording.specs.declared.fate.Datagram.{Datagram as Given}
 use Rattle.tftp_recording.specs.declared.fate.Fate.TheVariants.{Datagram}
 use Rattle.tftp_recording.specs.declared.likeness.Likeness.TheVariants.{Copy}
-use Rattle.tftp_recording.proofs.Keys.{same_back, same_itself, truth}
-
-not_both : (b : Bool) → b ≡ true → b ≡ false → ⊥
-not_both b e f = cc
+use Rattle.tftp_recording.proofs.Keys.{same_back, same_itself}
 
 -- ---- the frames
 
@@ -30,14 +31,7 @@ first_spells = (
   Ipv4,
   (RawIpv4, refl, (omega arith, refl, (refl, refl))),
   refl,
-  record {
-    header = (omega arith, refl, omega arith, omega arith);
-    whole = (omega arith, omega arith);
-    upper = _;
-    reaches = refl;
-    udp = refl;
-    packet = refl;
-  },
+  spells_ip Unknown Ipv4 first_bytes _ (omega arith, refl, omega arith, omega arith) (omega arith, omega arith) refl refl,
 )
 
 pub last_spells : SpellsFrame 228 last_bytes last_part
@@ -46,14 +40,7 @@ last_spells = (
   Ipv4,
   (RawIpv4, refl, (omega arith, refl, (refl, refl))),
   refl,
-  record {
-    header = (omega arith, refl, omega arith, omega arith);
-    whole = (omega arith, omega arith);
-    upper = _;
-    reaches = refl;
-    udp = refl;
-    packet = refl;
-  },
+  spells_ip Unknown Ipv4 last_bytes _ (omega arith, refl, omega arith, omega arith) (omega arith, omega arith) refl refl,
 )
 
 ethernet_spells : SpellsFrame 1 (two_tags ++ ipv4_bytes) (ipv4_packet Unknown ipv4_bytes)
@@ -62,14 +49,7 @@ ethernet_spells = (
   Ipv4,
   (Ethernet, refl, (omega arith, refl, (2048, (2, (refl, omega arith, (refl, omega arith, (refl, refl, refl)))), refl))),
   refl,
-  record {
-    header = (omega arith, refl, omega arith, omega arith);
-    whole = (omega arith, omega arith);
-    upper = _;
-    reaches = refl;
-    udp = refl;
-    packet = refl;
-  },
+  spells_ip Unknown Ipv4 ipv4_bytes _ (omega arith, refl, omega arith, omega arith) (omega arith, omega arith) refl refl,
 )
 
 cooked_spells : SpellsFrame 113 (cooked_head ++ ipv4_bytes) (ipv4_packet Out ipv4_bytes)
@@ -78,14 +58,7 @@ cooked_spells = (
   Ipv4,
   (Cooked, refl, (omega arith, refl, (2048, (0, (refl, refl, refl)), refl))),
   refl,
-  record {
-    header = (omega arith, refl, omega arith, omega arith);
-    whole = (omega arith, omega arith);
-    upper = _;
-    reaches = refl;
-    udp = refl;
-    packet = refl;
-  },
+  spells_ip Out Ipv4 ipv4_bytes _ (omega arith, refl, omega arith, omega arith) (omega arith, omega arith) refl refl,
 )
 
 -- ---- copies
@@ -145,9 +118,6 @@ first_added = record { laid = laid [] first_part.content; kept = λ e. absurd (n
 last_added : Added first_set.held (part_in last_part 8 false) all_held
 last_added = record { laid = laid first_set.held.cells last_part.content; kept = λ e. refl; set = λ e. refl; only = λ e. inr refl; first = λ at. absurd (omega (arith, at)); other = λ away. refl }
 
-no_byte : (o : Option ℕ) (b : ℕ) → o ≡ None → o ≡ Some b → ⊥
-no_byte o b e f = cc
-
 last_agrees : Agrees first_set.held (part_in last_part 8 false)
 last_agrees = record {
   bytes = λ i b within e. absurd (no_byte _ b (get_or_past first_set.held.cells (8 + i) None (omega arith)) e);
@@ -167,7 +137,7 @@ at_key : (key : Key) (s : SetState) → set_at key ((key, s) ∷ []) ≡ Some s
 at_key key s = ap (λ b. cond b (Some s) None) (same_itself key)
 
 other_way : (key other : Key) → same_key key other ≡ false → same_key other key ≡ false
-other_way key other e = elim (truth (same_key other key)) [
+other_way key other e = elim (cases_Bool (same_key other key)) [
   | inl same ↦ absurd (not_both (same_key key other) (same_back other key same) e)
   | inr differs ↦ differs
 ]
@@ -175,19 +145,13 @@ other_way key other e = elim (truth (same_key other key)) [
 at_other : (key other : Key) (s : SetState) → same_key key other ≡ false → set_at other ((key, s) ∷ []) ≡ None
 at_other key other s e = ap (λ b. cond b (Some s) None) (other_way key other e)
 
-none_some : (s : SetState) → None ≡ Some s → ⊥
-none_some s e = cc
-
-one_set : (s t : SetState) → Some s ≡ Some t → s ≡ t
-one_set s t e = cc
-
 nothing_goes : LetsGoOld worked_key worked_time [] [] []
 nothing_goes = record {
   others = λ other e. refl;
   counted = refl;
   none = λ e. (refl, refl);
-  long = λ s e. absurd (none_some s e);
-  young = λ s e. absurd (none_some s e);
+  long = λ s e. absurd (no_set s e);
+  young = λ s e. absurd (no_set s e);
 }
 
 abbrev waits_first : Sets
@@ -200,8 +164,8 @@ none_goes : LetsGoOld worked_key worked_time waits_first waits_first []
 none_goes = record {
   others = λ other e. refl;
   counted = refl;
-  none = λ e. absurd (none_some first_set (sym e ∙ at_key worked_key first_set));
-  long = λ s e long. absurd (not_both (is_long worked_time worked_time) (ap (λ (x : SetState). is_long x.began worked_time) (one_set first_set s (sym (at_key worked_key first_set) ∙ e)) ∙ long) is_young);
+  none = λ e. absurd (no_set first_set (sym e ∙ at_key worked_key first_set));
+  long = λ s e long. absurd (not_both (is_long worked_time worked_time) (ap (λ (x : SetState). is_long x.began worked_time) (same_set first_set s (sym (at_key worked_key first_set) ∙ e)) ∙ long) is_young);
   young = λ s e young. (e, refl);
 }
 
@@ -312,14 +276,8 @@ icmp_spells = (
   Ipv6,
   (RawIpv6, refl, (omega arith, refl, (refl, refl))),
   refl,
-  record {
-    header = (omega arith, refl);
-    whole = (omega arith, omega arith);
-    upper = record { protocol = 58; fragment = Some last_named; content = part_of_icmp.content };
-    reaches = (0, inr (refl, omega arith, refl, refl));
-    udp = refl;
-    packet = refl;
-  },
+  spells_ip Unknown Ipv6 last_of_icmp (record { protocol = 58; fragment = Some last_named; content = part_of_icmp.content }) (omega arith, refl) (omega arith, omega arith)
+      (0, inr (refl, omega arith, refl, refl)) refl,
 )
 
 pub udp_fate : (content : Made) (frames : Vec ℕ Global) (d : Given) → put_together content ≡ worked_content → IsDatagram icmp_frame part_of_icmp acknowledgement d → IsFateOf icmp_frame New (Some (Whole content frames)) (Datagram d)

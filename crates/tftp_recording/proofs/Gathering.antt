@@ -2,6 +2,7 @@
 use Rattle.std.proofs.Common.{◌≡◌, ℕ, ◌+◌, inl, inr, List, [], ◌∷◌, ◌++◌, length, map, reverse, Option, Some, None, Vec, Global, refl, sym, ap, ◌∙◌, subst}
 use Rattle.std.specs.List.{AllByRecursion}
 use Rattle.std.proofs.lemmas.List.{reverse-append}
+use Rattle.std.proofs.lemmas.Bool.{cases_Bool}
 use Rattle.tftp_frames.specs.{Packet, Fragment}
 use Rattle.tftp_fragments.specs.{same_key, Arrival, SetState, parts_of, IsKeptOf, PutEnds, Sets, frames_of, set_at, Give, content_of, Outcome, Waits, Apart}
 use Rattle.tftp_fragments.specs.Whole.{Content, Part}
@@ -10,7 +11,7 @@ use Rattle.tftp_fragments.specs.declared.key.Key.{Key}
 use Rattle.tftp_fragments.specs.declared.outcome.Outcome.TheVariants.{Whole}
 use Rattle.tftp_recording.specs.{BroughtState, IsPart, LetsGoOld, MakesRoom, TakesPart, arrival_of, key_of, IsBrought, IsPutTogether, IsHistory, Step, waiting}
 use Rattle.tftp_recording.proofs.Accounting.{none_waits, old_at, some_is}
-use Rattle.tftp_recording.proofs.Keys.{same_back, same_itself, same_set_at, truth}
+use Rattle.tftp_recording.proofs.Keys.{same_back, same_itself, same_set_at}
 
 -- what waits under the key is that of fragments which the frames brought
 record Kept (history : List Step) (sets : Sets) (key : Key) : Type 0 where
@@ -25,7 +26,7 @@ kept_none : (history : List Step) (sets : Sets) (key : Key) → set_at key sets 
 kept_none history sets key e = record { arrivals = []; kept = subst (λ (o : Option SetState). IsKeptOf o []) (sym e) refl; brought = tt }
 
 kept_young : (history : List Step) (key : Key) (time : Option ℕ) (old new : Sets) (gone : List ℕ) → LetsGoOld key time old new gone → (k : Key) → Kept history old k → Kept history new k
-kept_young history key time old new gone h k kept = elim (truth (same_key key k)) [
+kept_young history key time old new gone h k kept = elim (cases_Bool (same_key key k)) [
   | inl same ↦ elim (old_at key time old new gone h (set_at key old) refl) [
     | inl away ↦ kept_none history new k (sym (same_set_at key k new same) ∙ away.0)
     | inr stays ↦ kept_at history old new k (sym (same_set_at key k new same) ∙ stays.0 ∙ same_set_at key k old same) kept
@@ -58,7 +59,7 @@ module _ (before : List Step) (step : Step) (p : Packet) (f : Fragment) (is : Is
       let r = roomy_kept k kept in
       let a : Arrival = arrival_of step.frame (length before + 1) p f in
       let old = later step before k r.arrivals r.brought in
-      elim (truth (same_key (key_of p f) k)) [
+      elim (cases_Bool (same_key (key_of p f) k)) [
         | inl same ↦
             let here = subst (λ (o : Option SetState). IsKeptOf o r.arrivals) (sym (same_set_at (key_of p f) k t.roomy same)) r.kept in
             let new = put_kept_at (AllByRecursion (IsBrought (step ∷ before) k)) _ _ _ a t.outcome r.arrivals t.ends here tt old (inl (p, f, is, same_back (key_of p f) k same, refl), old) in
@@ -79,7 +80,7 @@ all_kept (step ∷ before) h k = elim h.0 [
 
 frames_kept : (o : Option SetState) (arrivals : List Arrival) (a : Arrival) (content : Content) → IsKeptOf o arrivals → Give (parts_of (a ∷ arrivals)) content → frames_of o ≡ reverse (map (λ (x : Arrival). x.frame) arrivals)
 frames_kept None arrivals a content kept give = ap (λ (l : List Arrival). reverse (map (λ (x : Arrival). x.frame) l)) (sym kept)
-frames_kept (Some s) arrivals a content kept give = elim (truth s.spoiled) [
+frames_kept (Some s) arrivals a content kept give = elim (cases_Bool s.spoiled) [
   | inl apart ↦ absurd ((kept.2.apart apart).1 content give.each.1)
   | inr sound ↦ kept.2.frames sound
 ]

@@ -1,6 +1,6 @@
 -- The same fragments wait in two readings, and the same becomes of the next.
-use Rattle.std.proofs.Common.{◌≡◌, ◌⊎◌, ◌≢◌, ◌↔◌, ℕ, ◌+◌, ◌<◌, ◌≤◌, Bool, true, false, inl, inr, List, [], ◌∷◌, ◌++◌, length, length-append, map, Option, Some, None, Vec, Global, refl, sym, ap, ◌∙◌, subst, arith}
-use Rattle.std.proofs.lemmas.Bool.{cases_lt}
+use Rattle.std.proofs.Common.{◌≡◌, ◌≢◌, ◌↔◌, ℕ, ◌+◌, ◌<◌, ◌≤◌, Bool, true, false, inl, inr, List, [], ◌∷◌, ◌++◌, length, length-append, map, Option, Some, None, Vec, Global, refl, sym, ap, ◌∙◌, subst, arith}
+use Rattle.std.proofs.lemmas.Bool.{cases_lt, cases_Bool}
 use Rattle.std.proofs.lemmas.List.{get_or-map, get_or_append_left, length-map}
 use Rattle.tftp_fragments.specs.{Held, HoldsPart, StandsFor, content_of, same_key, AreApart, Arrival, IsSetOf, SetState, parts_of, CountsAt, IsFull, IsKeptOf, IsTried, MayBePut, PutEnds, Sets, frames_of, is_long, least_behind, room_of_all, room_under, set_at, EndsRightly, HasPart, end_of, Outcome, Waits, Apart, Empty, TooLong, Full}
 use Rattle.tftp_fragments.specs.Whole.{Content, Part}
@@ -9,11 +9,9 @@ use Rattle.tftp_fragments.specs.declared.key.Key.{Key}
 use Rattle.tftp_fragments.specs.declared.outcome.Outcome.TheVariants.{Whole}
 use Rattle.tftp_fragments.proofs.Contents.{one_content}
 use Rattle.tftp_fragments.proofs.Members.{all_at, all_weaker, member}
+use Rattle.tftp_fragments.proofs.Holding.{not_both, by_end}
 use Rattle.tftp_recording.specs.{BroughtState, LetsGoOld, MakesRoom, TakesPart, frames_at}
-use Rattle.tftp_recording.proofs.Keys.{same_set_at, truth}
-
-not_both : (b : Bool) → b ≡ true → b ≡ false → ⊥
-not_both b e f = cc
+use Rattle.tftp_recording.proofs.Keys.{same_set_at}
 
 -- ---- parts that are held are of some content
 
@@ -34,10 +32,6 @@ filled_content h = record { protocol = byte_or h.protocol; bytes = filled h ++ b
 filled_size : (h : Held) (ended : Bool) → length (filled h ++ behind ended) ≡ length h.cells + length (behind ended)
 filled_size h ended = length-append (filled h) (behind ended) ∙ ap (λ n. n + length (behind ended)) (length-map h.cells byte_or)
 
-by_end : (more : Bool) (end size : ℕ) → (more ≡ false → end ≡ size) → (more ≡ true → end < size) → EndsRightly more end size
-by_end true end size last inner = inner refl
-by_end false end size last inner = last refl
-
 filled_ends : (h : Held) (ended : Bool) (p : Part) → h.ended ≡ ended → HoldsPart h p → EndsRightly p.more (end_of p) (length (filled h ++ behind ended))
 filled_ends h true p e held = by_end p.more (end_of p) (length (filled h ++ behind true)) (λ last. omega (arith, (held.last last).1, filled_size h true)) (λ more. omega (arith, held.inner more e, filled_size h true))
 filled_ends h false p e held = by_end p.more (end_of p) (length (filled h ++ behind false)) (λ last. absurd (not_both h.ended (held.last last).0 e)) (λ more. omega (arith, held.within, filled_size h false))
@@ -57,12 +51,12 @@ held_not_apart h parts s apart = apart (filled_content h) (all_weaker (HoldsPart
 -- ---- what is kept of the same fragments
 
 set_frames : (s t : SetState) (arrivals : List Arrival) → IsSetOf s arrivals → IsSetOf t arrivals → s.frames ≡ t.frames
-set_frames s t arrivals g h = elim (truth s.spoiled) [
-  | inl a ↦ elim (truth t.spoiled) [
+set_frames s t arrivals g h = elim (cases_Bool s.spoiled) [
+  | inl a ↦ elim (cases_Bool t.spoiled) [
     | inl b ↦ (g.apart a).0 ∙ sym (h.apart b).0
     | inr b ↦ absurd (held_not_apart t.held (parts_of arrivals) (h.held b) (g.apart a).1)
   ]
-  | inr a ↦ elim (truth t.spoiled) [
+  | inr a ↦ elim (cases_Bool t.spoiled) [
     | inl b ↦ absurd (held_not_apart s.held (parts_of arrivals) (g.held a) (h.apart b).1)
     | inr b ↦ g.frames a ∙ sym (h.frames b)
   ]
@@ -88,12 +82,12 @@ held_size : (h k : Held) (parts : List Part) → StandsFor h parts → StandsFor
 held_size h k parts s t = omega (arith, held_within h k parts s t, held_within k h parts t s)
 
 set_size : (s t : SetState) (arrivals : List Arrival) → IsSetOf s arrivals → IsSetOf t arrivals → length s.held.cells ≡ length t.held.cells
-set_size s t arrivals g h = elim (truth s.spoiled) [
-  | inl a ↦ elim (truth t.spoiled) [
+set_size s t arrivals g h = elim (cases_Bool s.spoiled) [
+  | inl a ↦ elim (cases_Bool t.spoiled) [
     | inl b ↦ ap (λ (x : Held). length x.cells) (g.nothing a ∙ sym (h.nothing b))
     | inr b ↦ absurd (held_not_apart t.held (parts_of arrivals) (h.held b) (g.apart a).1)
   ]
-  | inr a ↦ elim (truth t.spoiled) [
+  | inr a ↦ elim (cases_Bool t.spoiled) [
     | inl b ↦ absurd (held_not_apart s.held (parts_of arrivals) (g.held a) (h.apart b).1)
     | inr b ↦ held_size s.held t.held (parts_of arrivals) (g.held a) (h.held b)
   ]
@@ -111,7 +105,7 @@ no_snoc (x ∷ xs) n e = cc
 
 waits_not_apart : (o : Option SetState) (arrivals : List Arrival) (frames : List ℕ) (n : ℕ) → IsKeptOf o arrivals → frames_of o ≡ frames ++ n ∷ [] → AreApart (parts_of arrivals) → ⊥
 waits_not_apart None arrivals frames n kept e apart = no_snoc frames n e
-waits_not_apart (Some s) arrivals frames n kept e apart = elim (truth s.spoiled) [
+waits_not_apart (Some s) arrivals frames n kept e apart = elim (cases_Bool s.spoiled) [
   | inl a ↦ no_snoc frames n (sym (kept.2.apart a).0 ∙ e)
   | inr a ↦ held_not_apart s.held (parts_of arrivals) (kept.2.held a) apart
 ]
@@ -232,7 +226,7 @@ went_alike time None x (Some t) y gone away l g h v w = absurd (h.0 g)
 went_alike time (Some s) x None y gone away l g h v w = absurd (g.0 h)
 went_alike time (Some s) x (Some t) y gone away l g h v w =
     let began : is_long t.began time ≡ is_long s.began time = ap (λ (b : Option ℕ). is_long b time) (h.1 ∙ sym g.1) in
-    elim (truth (is_long s.began time)) [
+    elim (cases_Bool (is_long s.began time)) [
       | inl long ↦
           let e = v.0 long in
           let f = w.0 (began ∙ long) in
@@ -248,7 +242,7 @@ let_go_alike key time old new others later gone away v w alike =
     let s = alike.at key in
     let here = went_alike time (set_at key old) (set_at key new) (set_at key others) (set_at key later) gone away s.arrivals s.one s.other (went key time old new gone v (set_at key old) refl) (went key time others later away w (set_at key others) refl) in (
       record {
-        at = λ k. elim (truth (same_key key k)) [
+        at = λ k. elim (cases_Bool (same_key key k)) [
           | inl same ↦ same_at _ _ _ _ (same_set_at key k new same) (same_set_at key k later same) here.0
           | inr other ↦ same_at _ _ _ _ (sym (v.others k other)) (sym (w.others k other)) (alike.at k)
         ];
@@ -290,7 +284,7 @@ part_alike key a old new others later b d t u alike =
     let s = roomy.0.at key in
     let put = put_alike (set_at key t.roomy) (set_at key new) (set_at key u.roomy) (set_at key later) _ _ a s.arrivals s.one s.other t.outcome u.outcome t.ends u.ends t.tried u.tried t.not_full u.not_full in (
       record {
-        at = λ k. elim (truth (same_key key k)) [
+        at = λ k. elim (cases_Bool (same_key key k)) [
           | inl same ↦ same_at _ _ _ _ (same_set_at key k new same) (same_set_at key k later same) put.0
           | inr other ↦ same_at _ _ _ _ (sym (t.others k other)) (sym (u.others k other)) (roomy.0.at k)
         ];

@@ -1,5 +1,5 @@
 -- What waits under keys that nothing tells apart.
-use Rattle.std.proofs.Common.{◌≡◌, Bool, true, false, ◌⊎◌, inl, inr, [], ◌∷◌, Some, cond, refl, sym, ap, ◌∙◌}
+use Rattle.std.proofs.Common.{◌≡◌, Bool, true, [], ◌∷◌, Some, cond, refl, sym, ap, ◌∙◌}
 use Rattle.std.specs.Map.{lookup}
 use Rattle.std.specs.Ordering.{is_eq}
 use Rattle.std.specs.declared.cmp.Ordering.{Ordering}
@@ -7,10 +7,6 @@ use Rattle.std.specs.declared.cmp.Ordering.TheVariants.{Equal}
 use Rattle.std.proofs.lemmas.Cmp.{tied_itself}
 use Rattle.tftp_fragments.specs.{key_cmp, same_key, key_total, Sets, set_at}
 use Rattle.tftp_fragments.specs.declared.key.Key.{Key}
-
-pub truth : (b : Bool) → (b ≡ true) ⊎ (b ≡ false)
-truth true = inl refl
-truth false = inr refl
 
 equal_if : (o : Ordering) → is_eq o ≡ true → o ≡ Equal
 equal_if Equal e = refl

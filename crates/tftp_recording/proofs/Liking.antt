@@ -1,24 +1,19 @@
 -- Which packets are copies, by what is told of them.
-use Rattle.std.proofs.Common.{◌≡◌, ◌<◌, ◌↔◌, ℕ, Bool, true, false, inr, List, ◌∷◌, length, Option, Some, IsTrue, refl, sym, subst, ap, arith}
+use Rattle.std.proofs.Common.{◌≡◌, ◌↔◌, ℕ, Bool, true, false, inr, List, ◌∷◌, Option, Some, IsTrue, refl, sym, subst, ap}
+use Rattle.std.proofs.lemmas.Bool.{false≢true}
 use Rattle.tftp_copies.specs.{Packet as Recorded, IsCopy, RecentState, StandsFor}
 use Rattle.tftp_frames.specs.{Packet, is_identified, SpellsFrame, Fragment}
 use Rattle.tftp_fragments.specs.{Sets}
 use Rattle.tftp_pcap.specs.{FrameParts}
-use Rattle.tftp_recording.specs.{DoesNothing, IsNoPart, Wants, WantsPart, key_of, key_protocol, Comes, IsLike, WantsToHold, likeness_by, recorded, Likeness}
-
-impossible : false ≡ true → ⊥
-impossible e = cc
+use Rattle.tftp_recording.specs.{DoesNothing, IsNoPart, Wants, WantsPart, key_of, key_protocol, Comes, IsLike, likeness_by, recorded, Likeness}
 
 like_by : (came : List Recorded) (time : Option ℕ) (p : Packet) (one identified : Bool) → IsTrue one ↔ IsCopy came (recorded time p) → identified ≡ is_identified p → IsLike came time p (likeness_by one identified)
-like_by came time p false identified told e = λ copy. impossible (told.1 copy)
+like_by came time p false identified told e = λ copy. false≢true (told.1 copy)
 like_by came time p true false told e = (told.0 refl, sym e)
 like_by came time p true true told e = (told.0 refl, sym e)
 
 pub like : (came : List Recorded) (time : Option ℕ) (p : Packet) (one identified : Bool) (l : Likeness) → IsTrue one ↔ IsCopy came (recorded time p) → identified ≡ is_identified p → l ≡ likeness_by one identified → IsLike came time p l
 like came time p one identified l told e is = subst (IsLike came time p) (sym is) (like_by came time p one identified told e)
-
-pub wants_to_hold : (recent : RecentState) (before : List Recorded) (frame : FrameParts) (p : Packet) → SpellsFrame frame.link frame.bytes p → recent.room < length p.packet → StandsFor recent before → WantsToHold before frame
-wants_to_hold recent before frame p spells longer stands = (p, spells, λ q e. omega (arith, longer, stands.room q e))
 
 pub coming : (old new : RecentState) (frame : FrameParts) (time : Option ℕ) (p : Packet) (l : Likeness) → time ≡ frame.time → SpellsFrame frame.link frame.bytes p
     → ((came : List Recorded) → StandsFor old came → IsLike came time p l) → ((came : List Recorded) → StandsFor old came → StandsFor new (recorded time p ∷ came))

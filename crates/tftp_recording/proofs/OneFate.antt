@@ -1,5 +1,6 @@
 -- What becomes of a frame is one thing.
-use Rattle.std.proofs.Common.{◌≡◌, ℕ, true, false, inl, inr, List, ◌∷◌, Option, Some, None, refl, sym, ap, ◌∙◌, subst}
+use Rattle.std.proofs.Common.{◌≡◌, ℕ, inl, inr, List, ◌∷◌, Option, Some, None, refl, sym, ap, ◌∙◌, subst}
+use Rattle.std.proofs.lemmas.Bool.{false≢true}
 use Rattle.tftp_copies.specs.{Packet as Recorded}
 use Rattle.tftp_fragments.specs.{content_of as put_together, Outcome, Waits as Held, Apart as Torn, Empty as Bare, TooLong as Long, Full as Crowded}
 use Rattle.tftp_fragments.specs.Whole.{Content}
@@ -17,18 +18,15 @@ use Rattle.tftp_recording.specs.declared.fate.LeftOut.TheVariants.{Copy}
 use Rattle.tftp_recording.specs.declared.likeness.Likeness.TheVariants as likeness
 use Rattle.tftp_recording.proofs.KeptOnce.{IsSame}
 
-impossible : false ≡ true → ⊥
-impossible e = cc
-
 -- ---- likeness
 
 like_one : (before : List Recorded) (time : Option ℕ) (p : Packet) (l m : Likeness) → IsLike before time p l → IsLike before time p m → l ≡ m
 like_one before time p likeness.New likeness.Doubtful a b = absurd (a b.0)
 like_one before time p likeness.New likeness.Copy a b = absurd (a b.0)
 like_one before time p likeness.Doubtful likeness.New a b = absurd (b a.0)
-like_one before time p likeness.Doubtful likeness.Copy a b = absurd (impossible (sym a.1 ∙ b.1))
+like_one before time p likeness.Doubtful likeness.Copy a b = absurd (false≢true (sym a.1 ∙ b.1))
 like_one before time p likeness.Copy likeness.New a b = absurd (b a.0)
-like_one before time p likeness.Copy likeness.Doubtful a b = absurd (impossible (sym b.1 ∙ a.1))
+like_one before time p likeness.Copy likeness.Doubtful a b = absurd (false≢true (sym b.1 ∙ a.1))
 like_one before time p _ _ a b = refl
 
 pub comes_one : (before : List Recorded) (frame : FrameParts) (l m : Likeness) (came now : List Recorded) → Comes before frame l came → Comes before frame m now → (l ≡ m) × (came ≡ now)
@@ -74,12 +72,7 @@ module _ (frame : FrameParts) (whole : Option Content) where
   with_datagram d (Left (Frame fault)) (p, udp, s, u, is) (inl h) = absurd (no_fault frame.link frame.bytes p fault s h.0)
   with_datagram d (Left (Frame fault)) (p, udp, s, u, is) (inr h) = absurd (no_fault_of p udp NotUdp s u h.1)
   with_datagram d (Left (NoUdp fault)) (p, udp, s, u, is) h = absurd (no_fault_of p udp fault s u h.0)
-  with_datagram d (Left Apart) g h = absurd h
-  with_datagram d (Left Empty) g h = absurd h
-  with_datagram d (Left TooLong) g h = absurd h
-  with_datagram d (Left Full) g h = absurd h
-  with_datagram d (Left Copy) g h = absurd h
-  with_datagram d Waits g h = absurd h
+  with_datagram d _ g h = absurd h
 
   with_fault : (fault : FrameFault) (fate : Fate) → Says frame whole (Left (Frame fault)) → Says frame whole fate → IsSameFate (Left (Frame fault)) fate
   with_fault fault (Datagram e) (inl g) (q, other, t, v, has) = absurd (no_fault frame.link frame.bytes q fault t g.0)
@@ -90,24 +83,14 @@ module _ (frame : FrameParts) (whole : Option Content) where
   with_fault fault (Left (Frame other)) (inr g) (inr h) = ap (λ (f : FrameFault). Left (Frame f)) (h.0 ∙ sym g.0)
   with_fault fault (Left (NoUdp other)) (inl g) h = absurd (no_fault frame.link frame.bytes h.0.0 fault h.0.1 g.0)
   with_fault fault (Left (NoUdp other)) (inr g) h = absurd (h.1 (one_fault_of NotUdp other g.1 h.0))
-  with_fault fault (Left Apart) g h = absurd h
-  with_fault fault (Left Empty) g h = absurd h
-  with_fault fault (Left TooLong) g h = absurd h
-  with_fault fault (Left Full) g h = absurd h
-  with_fault fault (Left Copy) g h = absurd h
-  with_fault fault Waits g h = absurd h
+  with_fault fault _ g h = absurd h
 
   with_udp : (fault : UdpFault) (fate : Fate) → Says frame whole (Left (NoUdp fault)) → Says frame whole fate → IsSameFate (Left (NoUdp fault)) fate
   with_udp fault (Datagram e) g (q, other, t, v, has) = absurd (no_fault_of q other fault t v g.0)
   with_udp fault (Left (Frame other)) g (inl h) = absurd (no_fault frame.link frame.bytes g.0.0 other g.0.1 h.0)
   with_udp fault (Left (Frame other)) g (inr h) = absurd (g.1 (one_fault_of NotUdp fault h.1 g.0))
   with_udp fault (Left (NoUdp other)) g h = ap (λ (f : UdpFault). Left (NoUdp f)) (one_fault_of fault other g.0 h.0)
-  with_udp fault (Left Apart) g h = absurd h
-  with_udp fault (Left Empty) g h = absurd h
-  with_udp fault (Left TooLong) g h = absurd h
-  with_udp fault (Left Full) g h = absurd h
-  with_udp fault (Left Copy) g h = absurd h
-  with_udp fault Waits g h = absurd h
+  with_udp fault _ g h = absurd h
 
   says_one : (fate same : Fate) → Says frame whole fate → Says frame whole same → IsSameFate fate same
   says_one (Datagram d) same g h = with_datagram d same g h
@@ -146,12 +129,9 @@ fate_of_one frame likeness.Doubtful o m fate same is g h = fate_one frame o m fa
 fate_of_one frame likeness.Copy o m fate same is g h = both_left Copy fate same g h
 
 sharers_with : (x y : Outcome) → IsSame x y → sharers (Some x) ≡ sharers (Some y)
-sharers_with Held y e = ap (λ (o : Outcome). sharers (Some o)) (sym e)
 sharers_with (Whole content frames) y (others, shares, e, is, are) = are ∙ ap (λ (o : Outcome). sharers (Some o)) (sym e)
 sharers_with (Torn frames) y (shares, e, are) = are ∙ ap (λ (o : Outcome). sharers (Some o)) (sym e)
-sharers_with Bare y e = ap (λ (o : Outcome). sharers (Some o)) (sym e)
-sharers_with Long y e = ap (λ (o : Outcome). sharers (Some o)) (sym e)
-sharers_with Crowded y e = ap (λ (o : Outcome). sharers (Some o)) (sym e)
+sharers_with _ y e = ap (λ (o : Outcome). sharers (Some o)) (sym e)
 
 pub sharers_one : (o m : Option Outcome) → IsSameIf o m → sharers o ≡ sharers m
 sharers_one None m e = ap sharers (sym e)

@@ -1,15 +1,13 @@
 -- What is kept of all transfers, with one datagram more.
-use Rattle.std.proofs.Common.{rules, arith, ◌≡◌, ◌≤◌, ◌<◌, ℕ, suc, Bool, true, false, cond, List, [], ◌∷◌, length, Option, Some, None, ◌⊎◌, inl, inr, refl, sym, ap, subst, ◌∙◌, ◌==◌, ◌&&◌, ◌||◌, not, IsSome, if◌then◌else◌}
+use Rattle.std.proofs.Common.{rules, arith, ◌≡◌, ◌≤◌, ◌<◌, ℕ, Bool, true, false, cond, List, [], ◌∷◌, length, Option, Some, None, ◌⊎◌, inl, inr, refl, sym, ap, subst, ◌∙◌, ◌==◌, ◌&&◌, ◌||◌, not, IsSome, if◌then◌else◌}
 use Rattle.std.specs.BTreeMap.{get, is_at, BTreeMap, IsLowerBound, IsUnchanged}
 use Rattle.std.specs.Map.{lookup}
 use Rattle.std.specs.Ordering.{is_eq, is_gt, nat_cmp}
-use Rattle.std.specs.List.{All}
-use Rattle.std.proofs.lemmas.Bool.{eqb-true, or_parts}
-use Rattle.std.proofs.lemmas.List.Elements.{All-head, All-tail}
+use Rattle.std.proofs.lemmas.Bool.{eqb-true, or_parts, or_right}
 use Rattle.tftp_lines.specs.{Place, Opens, Transfer, Recorded, Placed, newest_of, transfer_of, may_be_answer_of}
 use Rattle.tftp_transfers.specs.{place_of, placed, is_about, opened_it, is_it}
 use Rattle.tftp_lines.proofs.Lines.{by_test}
-use Rattle.tftp_transfers.proofs.Numbers.{none_answers_before, none_before, opening_number}
+use Rattle.tftp_transfers.proofs.Numbers.{none_answers_before, none_before, opening_number, length_placed}
 use Rattle.tftp_views.specs.{Naming}
 use Rattle.tftp_recording_judge.specs.{Judging, AreCrowded, AreHanded, AreKept, IsCrowded, IsKept, IsUnheard, IsWatching, Watched, is_among, opened}
 use Rattle.tftp_recording_judge.proofs.Watching.{watching_on, watching_unheard}
@@ -21,11 +19,6 @@ pub is_itself : (n : ℕ) → (n == n) ≡ true
 is_itself n = search rules
 
 -- ---- which transfers were opened
-
-opening_about : (n : ℕ) (d : Recorded) (now : ℕ) (place : Place) → is_about n (record { datagram = d; moment = now; place = place }) ≡ false
-    → opened_it n (record { datagram = d; moment = now; place = place }) ≡ false
-opening_about n d now (Opens x) off = off
-opening_about n d now _ off = refl
 
 abbrev found_opening : Option Placed → Option Transfer
 found_opening None = None
@@ -43,12 +36,6 @@ opened_elsewhere n p older off =
 
 opened_here : (n : ℕ) (p : Placed) (older : List Placed) → opened_it n p ≡ true → opened n (p ∷ older) ≡ transfer_of p.place
 opened_here n p older is = opened_as n (p ∷ older) ∙ ap (λ b. found_opening (if b then Some p else newest_of (opened_it n) older)) is
-
-none_opened : (n : ℕ) (older : List Placed) → All (λ (p : Placed). is_about n p ≡ false) older → opened n older ≡ None
-none_opened n [] all = refl
-none_opened n (p ∷ older) all =
-    opened_elsewhere n p older (opening_about n p.datagram p.moment p.place (All-head (λ (q : Placed). is_about n q ≡ false) p older all))
-    ∙ none_opened n older (All-tail (λ (q : Placed). is_about n q ≡ false) p older all)
 
 opening_of : (n : ℕ) (d : Recorded) (now : ℕ) (place : Place) (x : Transfer) → place ≡ Opens x → opened_it n (record { datagram = d; moment = now; place = place }) ≡ (x.number == n)
 opening_of n d now place x is = ap (λ (q : Place). opened_it n (record { datagram = d; moment = now; place = q })) is
@@ -69,10 +56,6 @@ kept_opened : (judging : Judging) (name : Naming) (out : List ℕ) (one other fe
 kept_opened judging name out one other fed n None same (inl none) = inl (same ∙ none)
 kept_opened judging name out one other fed n None same (inr gone) = inr gone
 kept_opened judging name out one other fed n (Some w) same kept = (same ∙ kept.0, kept.1)
-
-pub opens_none : (watched : BTreeMap ℕ Watched) (judging : Judging) (name : Naming) (out : List ℕ) (p : Placed) (older : List Placed) → ((n : ℕ) → opened_it n p ≡ false)
-    → AreKept watched judging name out older older → AreKept watched judging name out (p ∷ older) older
-opens_none watched judging name out p older none kept = λ n. kept_opened judging name out older (p ∷ older) older n (get nat_cmp watched n) (opened_elsewhere n p older (none n)) (kept n)
 
 -- ---- a datagram that opens one
 
@@ -99,13 +82,6 @@ module _ (got : ℕ → Bool) (old new : BTreeMap ℕ Watched) (judging : Judgin
       → IsKept judging name out (p ∷ older) (if ((m == n) || got n) then p ∷ older else older) n (get nat_cmp new n)
   handed_others n off same kept = subst (IsKept judging name out (p ∷ older) (if ((m == n) || got n) then p ∷ older else older) n) (sym same)
       (subst (λ b. IsKept judging name out (p ∷ older) (if b then p ∷ older else older) n (get nat_cmp old n)) (sym (ap (λ b. b || got n) off)) (kept n))
-
-  pub handed_none : get nat_cmp old m ≡ None → ((n : ℕ) → get nat_cmp new n ≡ get nat_cmp old n) → AreHanded got old judging name out p older → AreHanded (λ n. is_it n (Some m) || got n) new judging name out p older
-  handed_none none same kept = λ n. by_test (m == n)
-      (λ is. subst (IsKept judging name out (p ∷ older) (if ((m == n) || got n) then p ∷ older else older) n) (sym (same n ∙ ap (get nat_cmp old) (sym (eqb-true m n is)) ∙ none))
-      (kept_fed judging name out (p ∷ older) (if got n then p ∷ older else older) (if ((m == n) || got n) then p ∷ older else older) n
-      (subst (IsKept judging name out (p ∷ older) (if got n then p ∷ older else older) n) (ap (get nat_cmp old) (sym (eqb-true m n is)) ∙ none) (kept n))))
-      (λ off. handed_others n off (same n) kept)
 
   pub handed_one : (w v : Watched) → get nat_cmp old m ≡ Some w → ((n : ℕ) → get nat_cmp new n ≡ cond (is_eq (nat_cmp m n)) (Some v) (get nat_cmp old n))
       → v.transfer ≡ w.transfer → IsWatching v judging w.transfer name (p ∷ older)
@@ -193,14 +169,10 @@ crowded_more old new w m none updates crowded = by_test (m == crowded.number)
 
 -- ---- before an opening
 
-placed_length : (named : List ℕ) (recorded : List Recorded) → length (placed named recorded) ≡ length recorded
-placed_length named [] = refl
-placed_length named (d ∷ recorded) = ap suc (placed_length named recorded)
-
 pub unheard_before : (named : List ℕ) (recorded : List Recorded) (now : ℕ) (d : Recorded) (x : Transfer) → place_of named (placed named recorded) now d ≡ Opens x → IsUnheard x.number (placed named recorded)
 unheard_before named recorded now d x opens =
     let number : x.number ≡ length (placed named recorded) = opening_number named (placed named recorded) now d x opens in
-    let same : length (placed named recorded) ≡ length recorded = placed_length named recorded in
+    let same : length (placed named recorded) ≡ length recorded = length_placed named recorded in
     let up : length recorded ≤ x.number = omega arith in
     (none_before named recorded x.number up, none_answers_before named recorded x.number up)
 
@@ -213,13 +185,9 @@ kept_here watched judging name out all k w was kept =
     let number : w.transfer.number ≡ k = opened_number k all w.transfer held.0 in
     (number, (ap (λ n. opened n all) number ∙ held.0, held.1))
 
-or_yes : (one other : Bool) → other ≡ true → (one || other) ≡ true
-or_yes true other is = refl
-or_yes false other is = is
-
 kept_out : (judging : Judging) (name : Naming) (out : List ℕ) (m : ℕ) (all : List Placed) (n : ℕ) (o : Option Watched) → IsKept judging name out all all n o → IsKept judging name (m ∷ out) all all n o
 kept_out judging name out m all n None (inl none) = inl none
-kept_out judging name out m all n None (inr gone) = inr (or_yes (m == n) (is_among n out) gone)
+kept_out judging name out m all n None (inr gone) = inr (or_right (m == n) (is_among n out) gone)
 kept_out judging name out m all n (Some w) kept = kept
 
 pub kept_less : (old new : BTreeMap ℕ Watched) (judging : Judging) (name : Naming) (out : List ℕ) (all : List Placed) (k : ℕ) (w : Watched) → get nat_cmp old k ≡ Some w

@@ -14,10 +14,6 @@ use Rattle.tftp_recording_judge.specs.{Judging, AreJudgesAfter, BetweenStands, C
 
 -- ---- at each point
 
-pub on_ok_map : {X E P Q : Type 0} (r : Result X E) → (P → Q) → OnOk r P → OnOk r Q
-on_ok_map (Ok x) f is = f is
-on_ok_map (Err e) f is = tt
-
 pub on_ok_when : {X E A B : Type 0} (C : Type 0) (r : Result X E) → B → (A → OnOk r C) → OnOk r (B × (A → C))
 on_ok_when C (Ok x) here then = (here, then)
 on_ok_when C (Err e) here then = tt

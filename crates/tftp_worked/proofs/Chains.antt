@@ -41,7 +41,7 @@ pub record OackFine (asked : RequestParts) (oack : OptionMap) (n : ℕ) : Type 0
 same_request : (a b : RequestParts) → Some (Message.Request a) ≡ Some (Message.Request b) → a ≡ b
 same_request a b e = cc
 
-same_oack : (a b : OptionMap) → Message.Oack a ≡ Message.Oack b → a ≡ b
+pub same_oack : (a b : OptionMap) → Message.Oack a ≡ Message.Oack b → a ≡ b
 same_oack a b e = cc
 
 oack_fault : (h : Header) (es : List Spelled) (e : Spelled) (s : AllSpelled es) (here : Spells e.0.payload e.1) (asked : RequestParts) (oack : OptionMap)

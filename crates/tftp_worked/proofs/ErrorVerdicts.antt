@@ -1,10 +1,10 @@
 -- Worked verdicts of transfers in which an ERROR is sent.
-use Rattle.std.proofs.Common.{◌≡◌, ℕ, List, [], ◌∷◌, ◌++◌, ◌+◌, length, reverse, codes, Some, None, inl, inr, Ok, Err, refl}
+use Rattle.std.proofs.Common.{ℕ, List, [], ◌∷◌, ◌++◌, ◌+◌, reverse, codes, Some, None, inl, inr, Ok, Err, refl}
 use Rattle.tftp_packet.specs.{Num, Get}
 use Rattle.tftp_hosts.specs.{Datagram, Header}
 use Rattle.tftp_model.specs.{Meaning, two_bytes, eight_a_block}
 use Rattle.tftp_rules.specs.{NoReply, Plain, EndRule}
-use Rattle.tftp_law.specs.{IsAborted, AbortedBy, Local, Peer, IsLawful, IsRefused, Meant, plain_terms, Rule}
+use Rattle.tftp_law.specs.{IsAborted, AbortedBy, Local, Peer, IsLawful, Meant, plain_terms, Rule}
 use Rattle.tftp_law.proofs.Whole.TwoEnds.{whole}
 use Rattle.tftp_judge.specs.{IsVerdict, Unlawful, Aborted}
 use Rattle.tftp_worked.specs.{at_client, acknowledges_hi, says_forbidden, read_refused, read_refused_twice, read_given_up, read_given_up_twice, stopped_at_the_end, stopped_after_the_end, block_after_error, before_late_answer, late_answer}
@@ -13,8 +13,9 @@ use Rattle.tftp_worked.proofs.Bases.{asks_for, plain_asked, plain_begun, read_by
 use Rattle.tftp_worked.proofs.Options.{terms}
 use Rattle.tftp_worked.proofs.RefusedErrors.{not_found_spelled, stop_spelled, full_spelled, refused, refused_again, given_up, given_up_again, after_error, another_refused, ack_refused, late_refused}
 use Rattle.tftp_worked.proofs.Unfinished.{no_errors, means_nothing}
-use Rattle.tftp_worked.proofs.ErrorsShown.{refused_lawful, refused_again_lawful, given_up_lawful, given_up_again_lawful, stopped_shown, stopped_after_shown, after_lawful, late_lawful, another_is_unlawful, ack_is_unlawful, late_is_unlawful}
+use Rattle.tftp_worked.proofs.ErrorsShown.{refused_lawful, refused_again_lawful, given_up_lawful, given_up_again_lawful, stopped_shown, stopped_after_shown, after_lawful}
 use Rattle.tftp_worked.proofs.Verdicts.{accepted}
+use Rattle.tftp_worked.proofs.ByRules.{refused_verdict as refused_last}
 
 aborted : (h : Header) (ds : List Datagram) (by : AbortedBy) (code : ℕ) → IsLawful h ds → ((m : Meaning) → Meant h (reverse ds) m → ⊥) → IsAborted h (reverse ds) by code → IsVerdict h ds (Err (Aborted by code))
 aborted h ds by code lawful nothing first = (lawful, (λ m shown. nothing m ((whole h m ds).1 shown)), first)
@@ -55,24 +56,11 @@ stopped_after_verdict = accepted at_client two_bytes stopped_after_the_end stopp
 
 -- ---- unlawful
 
-unlawful_last : (h : Header) (before : List Datagram) (d : Datagram) (rule : Rule) → IsLawful h before → (IsLawful h (before ++ d ∷ []) → ⊥) → IsRefused h (reverse before) d rule → (index : ℕ) → index ≡ length before + 1
-    → IsVerdict h (before ++ d ∷ []) (Err (Unlawful index rule))
-unlawful_last h before d rule lawful unlawful refused index is = record {
-  before = before;
-  datagram = d;
-  rest = [];
-  split = refl;
-  index_is = is;
-  lawful = lawful;
-  unlawful = unlawful;
-  broken = refused.broken;
-}
-
 pub another_verdict : IsVerdict at_client (read_refused ++ says_forbidden ∷ []) (Err (Unlawful 3 Rule.AfterError))
-another_verdict = unlawful_last at_client read_refused says_forbidden Rule.AfterError refused_lawful another_is_unlawful another_refused 3 refl
+another_verdict = refused_last at_client read_refused says_forbidden Rule.AfterError 3 refl refl another_refused
 
 pub ack_verdict : IsVerdict at_client (read_given_up ++ acknowledges_hi ∷ []) (Err (Unlawful 4 Rule.AfterError))
-ack_verdict = unlawful_last at_client read_given_up acknowledges_hi Rule.AfterError given_up_lawful ack_is_unlawful ack_refused 4 refl
+ack_verdict = refused_last at_client read_given_up acknowledges_hi Rule.AfterError 4 refl refl ack_refused
 
 pub late_verdict : IsVerdict at_client (before_late_answer ++ late_answer ∷ []) (Err (Unlawful 7 (Rule.Block EndRule.WindowOverrun)))
-late_verdict = unlawful_last at_client before_late_answer late_answer (Rule.Block EndRule.WindowOverrun) late_lawful late_is_unlawful late_refused 7 refl
+late_verdict = refused_last at_client before_late_answer late_answer (Rule.Block EndRule.WindowOverrun) 7 refl refl late_refused

@@ -1,7 +1,7 @@
 -- Captures in which an ERROR is sent: the runs that they show, and those that no run has.
 use Rattle.std.proofs.Common.{◌≡◌, ◌⊎◌, ℕ, ◌+◌, ◌≤◌, nat_le, Bool, true, List, [], ◌∷◌, ◌++◌, Any, codes, inl, inr, refl, sym, subst, ap, ◌∙◌, arith}
 use Rattle.std.proofs.lemmas.Bool.{leb-true}
-use Rattle.tftp_packet.specs.{Message, OptionMap, Get, Client}
+use Rattle.tftp_packet.specs.{Message, Get, Client}
 use Rattle.tftp_hosts.specs.{In, Out, Datagram}
 use Rattle.tftp_model.specs.{Meaning, request_of, option_or, windowsize_of, MachinePacket, Sent, Took, Req, Oack, Data, Ack, Error, History, IsOneSided, Step, IsView, client, server, two_bytes, ten_bytes, eight_a_block, read_refused_view, read_given_up_view, given_up_view, stopped_at_the_end_view, one_block_view, block_after_error_view}
 use Rattle.tftp_model.proofs.Members.{contains_first}
@@ -24,6 +24,7 @@ use Rattle.tftp_worked.proofs.ReadShown.{ids, read_dressed, two_shown}
 use Rattle.tftp_worked.proofs.MoreShown.{eights_fit}
 use Rattle.tftp_worked.proofs.Bases.{asks_for, plain_asks, plain_hi, plain_begun, read_by_eight}
 use Rattle.tftp_worked.proofs.RefusedErrors.{not_found_spelled, stop_spelled, not_found, forbidden, full, plain_ack}
+use Rattle.tftp_worked.proofs.Chains.{same_oack}
 
 -- ---- reads of two bytes
 
@@ -163,9 +164,6 @@ late_all = came 2 (codes "89") ∷ stopped_news
 abbrev late : List Spelled
 late = late_all ++ read_by_eight.es
 
-same_options : (p q : OptionMap) → Message.Oack p ≡ Message.Oack q → p ≡ q
-same_options p q e = cc
-
 abbrev is_ack_zero : MachinePacket → Bool
 is_ack_zero (Ack j) = nat_le j 0
 is_ack_zero _ = true
@@ -184,7 +182,7 @@ pub late_is_unlawful : IsLawful at_client (before_late_answer ++ late_answer ∷
 late_is_unlawful (m, wire, seen) =
     let dress = seen.dressed in
     let meant = client_meant m wire dress.ids late_all (comes (oack by_eight), Message.Oack eight_a_block) (asks (request 1 by_eight), Message.Request (asks_for Get eight_a_block)) dress.division dress.whole dress.parts read_by_eight.spelled refl in
-    let agreed : m.agreed ≡ eight_a_block = same_options m.agreed eight_a_block meant.1.1.1.1.1.1.0 in
+    let agreed : m.agreed ≡ eight_a_block = same_oack m.agreed eight_a_block meant.1.1.1.1.1.1.0 in
     late_is_out m wire (one_sided_as m wire seen.view (deeds_for late) seen.run (sym dress.main ∙ meant.0)) (ap (λ o. option_or 1 o (codes "windowsize")) agreed ∙ one_at_a_time)
 
 -- ---- at a server that has not answered
@@ -198,16 +196,13 @@ not_yet q way (inr any) = elim (any_cases (λ (p : Placed). p.datagram.dir ≡ O
 
 no_part : (m : Meaning) (wire : List ℕ) (ids : TransferIds) (q : Placed) (part : Part) → q.datagram.dir ≡ In → HasPart at_service m wire ids (q ∷ []) stops_unanswered part → ⊥
 no_part m wire ids q (Main (Took Req)) way h = let e = spelled_once stops_unanswered.payload (Message.Request (request_of m)) (Message.Error 0 []) h.spells stop_spelled in absurd (cc)
-no_part m wire ids q (Main (Took Oack)) way h = not_yet q way h.server.1
-no_part m wire ids q (Main (Took (Data k))) way h = not_yet q way h.server.1
-no_part m wire ids q (Main (Took (Ack j))) way h = not_yet q way h.server.1
-no_part m wire ids q (Main (Took (Error code text))) way h = not_yet q way h.server.1
 no_part m wire ids q (Main (Sent p)) way h = let e = h.dir in absurd (cc)
 no_part m wire ids q Stray way h = elim (any_cases (λ (p : Placed). IsMain p.part × (p.datagram.dir ≡ Out)) q [] h.after) [
   | inl first ↦ let e : In ≡ Out = sym way ∙ first.1 in absurd (cc)
   | inr none ↦ any_none (λ (p : Placed). IsMain p.part × (p.datagram.dir ≡ Out)) none
 ]
 no_part m wire ids q StrayAnswer way h = let e = h.dir in absurd (cc)
+no_part m wire ids q _ way h = not_yet q way h.server.1
 
 pub unanswered_is_unlawful : IsLawful at_service (only_offered ++ stops_unanswered ∷ []) → ⊥
 unanswered_is_unlawful (m, wire, seen) =

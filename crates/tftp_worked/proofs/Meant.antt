@@ -94,16 +94,13 @@ tail_of header m wire ids (d ∷ newer) older division whole parts =
 oack_shows : (m : Meaning) (wire : List ℕ) (ids : TransferIds) (q : Placed) (d : Datagram) (options : RequestParts) (part : Part) → q.datagram.dir ≡ Out → d.dir ≡ In
     → ((request : RequestParts) → Spells d.payload (Message.Request request) → ⊥) → HasPart at_client m wire ids (q ∷ []) d part → peer_of d ≡ ids.peer
 oack_shows m wire ids q d options (Main (Took Req)) out way other h = absurd (other (request_of m) h.spells)
-oack_shows m wire ids q d options (Main (Took Oack)) out way other h = h.server.0
-oack_shows m wire ids q d options (Main (Took (Data k))) out way other h = h.server.0
-oack_shows m wire ids q d options (Main (Took (Ack j))) out way other h = h.server.0
-oack_shows m wire ids q d options (Main (Took (Error code text))) out way other h = h.server.0
 oack_shows m wire ids q d options (Main (Sent p)) out way other h = let e = sym way ∙ h.dir in absurd (cc)
 oack_shows m wire ids q d options Stray out way other h = elim (any_cases (λ (p : Placed). IsMain p.part × (p.datagram.dir ≡ In)) q [] h.after) [
   | inl first ↦ let e : Out ≡ In = sym out ∙ first.1 in absurd (cc)
   | inr none ↦ absurd (any_none (λ (p : Placed). IsMain p.part × (p.datagram.dir ≡ In)) none)
 ]
 oack_shows m wire ids q d options StrayAnswer out way other h = let e = sym way ∙ h.dir in absurd (cc)
+oack_shows m wire ids q d options _ out way other h = h.server.0
 
 -- the second datagram shows it, where it comes in and spells no request
 pub second_shows : (m : Meaning) (wire : List ℕ) (ids : TransferIds) (newer : List Datagram) (second first : Datagram) (message : Message) (division : Division)

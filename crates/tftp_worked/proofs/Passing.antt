@@ -9,6 +9,7 @@ use Rattle.tftp_law.specs.{FirstAsked, Answer, Answers, NotAnswered, FirstAnswer
 use Rattle.tftp_law.proofs.FirstBroken.Answering.{answer_of, answer_is, answer_there}
 use Rattle.tftp_law.proofs.Spelled.{spelled_once}
 use Rattle.tftp_worked.proofs.Payloads.{Spelled, datagrams, AllSpelled}
+use Rattle.tftp_ends.proofs.KeptIds.{two_ways}
 
 -- ---- which way, and what it is
 
@@ -204,11 +205,6 @@ or_now None now = now
 abbrev pub first_answer : Side → List Spelled → Option Answer
 first_answer side [] = None
 first_answer side (e ∷ es) = or_now (first_answer side es) (answer_of side e.1)
-
--- no option has two values
-pub two_ways : {X : Type 0} (o : Option X) → (o ≡ None) ⊎ ((x : X) × (o ≡ Some x))
-two_ways None = inl refl
-two_ways (Some x) = inr (x, refl)
 
 answers_is : (side : Side) (e : Spelled) (a : Answer) → Spells e.0.payload e.1 → Answers side e.0 a → answer_of side e.1 ≡ Some a
 answers_is side e a s (m, t, is) = ap (answer_of side) (spelled_once e.0.payload e.1 m s t) ∙ answer_is side m a is

@@ -1,9 +1,10 @@
 -- What the worked read says of its meaning, where one more datagram may follow.
 use Rattle.std.proofs.Common.{◌≡◌, ◌&&◌, ℕ, true, List, [], ◌∷◌, ◌++◌, codes, refl, sym, ◌∙◌}
-use Rattle.tftp_packet.specs.{Message, RequestParts}
+use Rattle.tftp_packet.specs.{Message}
 use Rattle.tftp_hosts.specs.{In, Out, peer_of}
 use Rattle.tftp_model.specs.{Meaning, request_of, blksize_of, block, Sent, Took, Req, Data, History, two_bytes}
 use Rattle.tftp_law.specs.{Division, datagrams_of, view_in, TransferIds, HaveParts}
+use Rattle.tftp_law.proofs.FirstBroken.FirstRequests.{request_same}
 use Rattle.tftp_worked.specs.{at_client, brings_hi, asks_for_a}
 use Rattle.tftp_worked.proofs.Spelled.{request_spelled, hi_spelled}
 use Rattle.tftp_worked.proofs.Payloads.{Spelled, all_spell}
@@ -11,9 +12,6 @@ use Rattle.tftp_worked.proofs.Passing.{same_dir}
 use Rattle.tftp_worked.proofs.RuleTests.{not_request}
 use Rattle.tftp_worked.proofs.Meant.{deed_for, deeds_for, AllMeant, all_near, client_meant}
 use Rattle.tftp_worked.proofs.Bases.{plain_asks, plain_hi}
-
-same_parts : (p q : RequestParts) → Message.Request p ≡ Message.Request q → p ≡ q
-same_parts p q e = cc
 
 same_bytes : (k j : ℕ) (x y : List ℕ) → Message.Data k x ≡ Message.Data j y → x ≡ y
 same_bytes k j x y e = cc
@@ -27,7 +25,7 @@ pub record Followed (m : Meaning) (wire : List ℕ) (seen view : History) : Type
 followed_by : (m : Meaning) (wire : List ℕ) (view : History) (division : Division) (newer : List Spelled) → view_in division ≡ view → view_in division ≡ deeds_for (newer ++ plain_hi ∷ plain_asks ∷ []) → AllMeant m wire (plain_hi ∷ plain_asks ∷ [])
     → Followed m wire (deeds_for (newer ++ plain_hi ∷ plain_asks ∷ [])) view
 followed_by m wire view division newer main is meant = record {
-  request = same_parts (request_of m) (request_of two_bytes) meant.1.0;
+  request = request_same (request_of m) (request_of two_bytes) meant.1.0;
   hi = same_bytes 1 1 (block (blksize_of m) wire 1) (codes "hi") meant.0;
   is = sym main ∙ is;
 }

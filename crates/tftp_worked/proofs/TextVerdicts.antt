@@ -12,7 +12,6 @@ use Rattle.tftp_model.proofs.Defaults.{default_blksize}
 use Rattle.tftp_model.proofs.Worked.{two_bytes_is_view, two_bytes_complete}
 use Rattle.tftp_law.specs.{TransferIds, IsDressed, IsLawful, IsRefused, Rule}
 use Rattle.tftp_law.proofs.Whole.Beginnings.{empty_is_lawful}
-use Rattle.tftp_law.proofs.FirstBroken.FirstBroken.{refused_does_not_pass}
 use Rattle.tftp_judge.specs.{IsTextVerdict, unnumbered, IsVerdictByRules, Unlawful, Capture, Refused}
 use Rattle.tftp_judge.proofs.ByRuns.{verdict}
 use Rattle.tftp_worked.specs.{overrun_text, unversioned_text}
@@ -25,6 +24,7 @@ use Rattle.tftp_worked.proofs.RefusedMore.{asked}
 use Rattle.tftp_worked.proofs.Spelled.{request_spelled}
 use Rattle.tftp_worked.proofs.TextsRead.{asks, brings, acknowledges, read_of, read_said, overrun_said, no_version_said}
 use Rattle.tftp_worked.proofs.Verdicts.{accepted}
+use Rattle.tftp_worked.proofs.ByRules.{refused_by_rules}
 
 -- ---- the read of one block
 
@@ -59,16 +59,7 @@ overrun_refused : IsRefused worked_header (asks ∷ []) (brings 2) (Rule.Block E
 overrun_refused = refused_end worked_header begun (brings 2, Message.Data 2 (codes "hi")) EndRule.WindowOverrun refl (0, inr (refl, none_acked), omega arith)
 
 overrun_by_rules : IsVerdictByRules worked_header (read_of 2) (Err (Unlawful 2 (Rule.Block EndRule.WindowOverrun)))
-overrun_by_rules = record {
-  before = asks ∷ [];
-  datagram = brings 2;
-  rest = acknowledges ∷ [];
-  split = refl;
-  index_is = refl;
-  lawful = begun.lawful;
-  unlawful = λ passes. refused_does_not_pass worked_header (asks ∷ []) (brings 2) (Rule.Block EndRule.WindowOverrun) overrun_refused passes;
-  broken = overrun_refused.broken;
-}
+overrun_by_rules = refused_by_rules worked_header (asks ∷ []) (brings 2) (acknowledges ∷ []) (Rule.Block EndRule.WindowOverrun) 2 refl refl overrun_refused
 
 pub overrun_refused_at : IsTextVerdict overrun_text (Err (Refused (Unlawful 2 (Rule.Block EndRule.WindowOverrun))))
 overrun_refused_at = (

@@ -1,7 +1,7 @@
 -- Captures that no run of two ends has.
 use Rattle.std.proofs.Common.{◌≡◌, ℕ, not, nat_le, Bool, true, List, [], ◌∷◌, ◌++◌, codes, inl, inr, refl, sym, subst, ap, ◌∙◌, arith}
 use Rattle.std.proofs.lemmas.Bool.{false≢true, leb-true}
-use Rattle.tftp_packet.specs.{Message, RequestParts, OptionMap, Get, Put, Client}
+use Rattle.tftp_packet.specs.{Message, RequestParts, Get, Put, Client}
 use Rattle.tftp_model.specs.{Meaning, request_of, number_or, option_or, windowsize_of, MachinePacket, Data, Ack, HasSent, HasTaken, Step, view_of, IsRun, eight_by_four, six_blocks}
 use Rattle.tftp_model.specs.Roles.{sender_of, receiver_of}
 use Rattle.tftp_model.proofs.Moments.{taken_was_sent}
@@ -16,6 +16,7 @@ use Rattle.tftp_worked.proofs.Exchanges.{went, came, twos, four_news}
 use Rattle.tftp_worked.proofs.Bases.{asks_for, read_by_four, write_by_two}
 use Rattle.tftp_worked.proofs.WindowsShown.{six_shown}
 use Rattle.tftp_worked.proofs.Meant.{deeds_for, client_meant}
+use Rattle.tftp_worked.proofs.Chains.{same_oack}
 
 -- ---- a block beyond the window
 
@@ -31,9 +32,6 @@ is_ack_up_to n _ = true
 
 same_side : (p q : RequestParts) → Message.Request p ≡ Message.Request q → p.side ≡ q.side
 same_side p q e = cc
-
-same_options : (p q : OptionMap) → Message.Oack p ≡ Message.Oack q → p ≡ q
-same_options p q e = cc
 
 -- no ACK that was sent allows the block
 overrun_run : (m : Meaning) (wire : List ℕ) (steps : List Step) → IsRun m wire steps → m.side ≡ Get → windowsize_of m ≡ 4 → view_of Client steps ≡ deeds_for overrun → ⊥
@@ -54,7 +52,7 @@ overrun_is_unlawful (m, wire, seen) =
     let dress = seen.dressed in
     let meant = client_meant m wire dress.ids overrun_news (comes (oack by_four), Message.Oack eight_by_four) (asks (request 1 by_four), Message.Request (asks_for Get eight_by_four)) dress.division dress.whole dress.parts read_by_four.spelled refl in
     let says = meant.1.1.1.1.1.1.1 in
-    let agreed : m.agreed ≡ eight_by_four = same_options m.agreed eight_by_four says.0 in
+    let agreed : m.agreed ≡ eight_by_four = same_oack m.agreed eight_by_four says.0 in
     let side : m.side ≡ Get = same_side (request_of m) (asks_for Get eight_by_four) says.1.0 in
     let four : windowsize_of m ≡ 4 = ap (λ o. option_or 1 o (codes "windowsize")) agreed ∙ ap (number_or 1) four_of_both in
     overrun_run m wire seen.run.0 seen.run.1 side four (seen.run.2 ∙ sym dress.main ∙ meant.0)

@@ -9,12 +9,11 @@ use Rattle.tftp_worked.specs.{at_client, one_block_read, read_without_its_ack, w
 use Rattle.tftp_worked.proofs.Bases.{plain_begun}
 use Rattle.tftp_worked.proofs.Unfinished.{no_errors}
 use Rattle.tftp_law.proofs.Whole.Beginnings.{shown_is_lawful}
-use Rattle.tftp_law.proofs.FirstBroken.FirstBroken.{refused_does_not_pass}
 use Rattle.tftp_worked.proofs.ReadShown.{read_is_shown, begin_is_lawful, begin_shows_nothing}
 use Rattle.tftp_worked.proofs.WindowsShown.{six_shown}
-use Rattle.tftp_worked.proofs.Unlawful.{overrun_is_first, overrun_is_unlawful}
 use Rattle.tftp_worked.proofs.Refused.{overrun_refused}
 use Rattle.tftp_worked.proofs.Accepted.{plain_passes, plain_meant}
+use Rattle.tftp_worked.proofs.ByRules.{refused_by_rules, refused_verdict}
 
 pub accepted : (header : Header) (m : Meaning) (datagrams : List Datagram) → Shows header m datagrams → IsVerdict header datagrams (Ok m)
 accepted header m datagrams shows = (shown_is_lawful header m datagrams shows, (shows.wire, shows.shown), shows.writable)
@@ -32,28 +31,10 @@ pub begin_incomplete : IsVerdict at_client read_without_its_ack (Err (Incomplete
 begin_incomplete = (begin_is_lawful, (λ m shown. begin_shows_nothing m shown.0 shown.1), begin_has_no_error, refl)
 
 pub overrun_verdict : IsVerdict at_client (before_overrun ++ block_seven ∷ []) (Err (Unlawful 8 (Rule.Block EndRule.WindowOverrun)))
-overrun_verdict = record {
-  before = before_overrun;
-  datagram = block_seven;
-  rest = [];
-  split = refl;
-  index_is = refl;
-  lawful = overrun_is_first.lawful;
-  unlawful = overrun_is_unlawful;
-  broken = overrun_refused.broken;
-}
+overrun_verdict = refused_verdict at_client before_overrun block_seven (Rule.Block EndRule.WindowOverrun) 8 refl refl overrun_refused
 
 pub read_by_rules : IsVerdictByRules at_client one_block_read (Ok two_bytes)
 read_by_rules = (plain_passes, plain_meant, read_is_shown.writable)
 
 pub overrun_by_rules : IsVerdictByRules at_client (before_overrun ++ block_seven ∷ []) (Err (Unlawful 8 (Rule.Block EndRule.WindowOverrun)))
-overrun_by_rules = record {
-  before = before_overrun;
-  datagram = block_seven;
-  rest = [];
-  split = refl;
-  index_is = refl;
-  lawful = overrun_refused.lawful;
-  unlawful = λ passes. refused_does_not_pass at_client (reverse before_overrun) block_seven (Rule.Block EndRule.WindowOverrun) overrun_refused passes;
-  broken = overrun_refused.broken;
-}
+overrun_by_rules = refused_by_rules at_client before_overrun block_seven [] (Rule.Block EndRule.WindowOverrun) 8 refl refl overrun_refused

@@ -1,20 +1,12 @@
-use Rattle.std.proofs.Common.{◌≡◌, ◌⊎◌, Bool, false, [], Ok, Err, ap, ◌∙◌, reverse, subst, inl, inr, arith}
+use Rattle.std.proofs.Common.{false, [], Ok, Err, ap, reverse, subst, arith}
 use Rattle.std.specs.Io.KnownBytes.{prepend_known}
 use Rattle.std.proofs.lemmas.Result.{err_from_is_err_and}
 use Rattle.tftp_capture.specs.{IsReadFault, IsReadStanding}
 use Rattle.tftp_judge.specs.{IsJudgeAfter, unnumbered}
-use Rattle.tftp_judge.proofs.Follows.{follows_on, found_fault, found_meaning, found_refused, found_unfinished}
+use Rattle.tftp_judge.proofs.Follows.{follows_on, found_fault, found_meaning, found_refused, found_unfinished, still_clean, clean_or}
 use Rattle.tftp_judge.proofs.TextFound.{Found, found_ended, found_exact, found_judged, found_no_header, found_tally, found_whole}
 use Rattle.tftp_judge.proofs.text.judge_text.Given.{Over}
 use Rattle.tftp_judge.proofs.text.judge_text.Goals as goal
-
-still_clean : (new old : Bool) → ⊥ ⊎ (new ≡ old) → old ≡ false → new ≡ false
-still_clean new old (inl x) e = absurd x
-still_clean new old (inr same) e = same ∙ e
-
-clean_or : (Reads : Type 0) (new old : Bool) → Reads ⊎ (new ≡ old) → old ≡ false → Reads ⊎ (new ≡ false)
-clean_or Reads new old (inl reads) e = inl reads
-clean_or Reads new old (inr same) e = inr (same ∙ e)
 
 -- ---- the header is not read
 

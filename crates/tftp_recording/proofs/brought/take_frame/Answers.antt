@@ -1,7 +1,8 @@
 use Rattle.std.proofs.Common.{inl, inr, refl, sym, ◌∙◌}
 use Rattle.tftp_frames.specs.{shown}
-use Rattle.tftp_recording.proofs.Bringing.{no_packet, not_read, on_err, spells_here, whole_packet}
+use Rattle.tftp_recording.proofs.Bringing.{no_packet, not_read, spells_here, whole_packet}
 use Rattle.tftp_recording.proofs.Liking.{coming, does_nothing, wants_part}
+use Rattle.tftp_fragments.proofs.Rooms.{on_err}
 use Rattle.tftp_recording.proofs.brought.take_frame.Goals as goal
 
 pub returns-in_default-clause-comes : goal.returns-in_default-clause-comes

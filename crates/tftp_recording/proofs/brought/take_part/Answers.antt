@@ -1,6 +1,7 @@
 use Rattle.std.proofs.Common.{◌≡◌, [], Ok, inl, refl, ap, ◌∙◌}
 use Rattle.tftp_fragments.specs.{part_of, Arrival, set_at, Outcome}
-use Rattle.tftp_recording.proofs.Bringing.{makes_room, may_be_put, never_full, on_err}
+use Rattle.tftp_fragments.proofs.Rooms.{on_err}
+use Rattle.tftp_recording.proofs.Bringing.{makes_room, may_be_put, never_full}
 use Rattle.tftp_recording.proofs.brought.take_part.Goals as goal
 
 pub returns-in_err-outcome-clause-wants : goal.returns-in_err-outcome-clause-wants

@@ -1,5 +1,5 @@
-use Rattle.std.proofs.Common.{inr, Err, ℕ, List, refl, sym, ap, ◌∙◌, subst}
-use Rattle.tftp_frames.specs.{shown, SpellsUdp, datagram}
+use Rattle.std.proofs.Common.{inr, Err, refl, sym, ap, ◌∙◌}
+use Rattle.tftp_frames.specs.{shown, datagram}
 use Rattle.tftp_pcap.specs.{Direction}
 use Rattle.tftp_recording.specs.{direction_of}
 use Rattle.tftp_frames.specs.declared.fault.UdpFault.TheVariants.{Protocol as NotUdp}

@@ -1,9 +1,9 @@
 use Rattle.std.proofs.Common.{◌≡◌, Option, Some, false, sym, ap, subst, ◌∙◌, IfSome}
 use Rattle.tftp_transfers.proofs.OwnDatagrams.{about_none}
 use Rattle.tftp_transfers.specs.{is_about}
+use Rattle.tftp_transfers.proofs.AllLines.{on_ok_map}
 use Rattle.tftp_views.specs.{Client}
 use Rattle.tftp_recording_judge.specs.{ClientStands}
-use Rattle.tftp_recording_judge.proofs.Watching.{on_ok_map}
 use Rattle.tftp_recording_judge.proofs.client.feed.Goals as goal
 
 pub returns-in-Some-clause-stands : goal.returns-in-Some-clause-stands

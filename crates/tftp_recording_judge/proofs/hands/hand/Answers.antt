@@ -1,8 +1,8 @@
 use Rattle.std.proofs.Common.{ℕ, Option, false, refl, sym, ap, subst, is_some, OnOk}
 use Rattle.tftp_transfers.specs.{is_it}
+use Rattle.tftp_transfers.proofs.AllLines.{on_ok_map}
 use Rattle.tftp_recording_judge.specs.{AreHanded}
 use Rattle.tftp_recording_judge.proofs.Keeping.{handed_alone, handed_one, held_one}
-use Rattle.tftp_recording_judge.proofs.Watching.{on_ok_map}
 use Rattle.tftp_recording_judge.proofs.hands.hand.Goals as goal
 
 pub returns-in-Some-get_mut-clause-handed : goal.returns-in-Some-get_mut-clause-handed

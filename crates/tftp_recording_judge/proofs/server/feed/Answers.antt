@@ -1,7 +1,7 @@
 use Rattle.std.proofs.Common.{Option, Some, subst, ◌∙◌}
 use Rattle.tftp_views.specs.{View}
 use Rattle.tftp_recording_judge.specs.{ServerStands}
-use Rattle.tftp_recording_judge.proofs.Watching.{on_ok_map}
+use Rattle.tftp_transfers.proofs.AllLines.{on_ok_map}
 use Rattle.tftp_recording_judge.proofs.server.feed.Goals as goal
 
 pub returns-in-Some-clause-stands : goal.returns-in-Some-clause-stands

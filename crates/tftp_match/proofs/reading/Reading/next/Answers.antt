@@ -1,17 +1,10 @@
-use Rattle.std.proofs.Common.{◌≡◌, ◌⊎◌, Bool, false, None, Ok, inl, inr, refl, sym, ap, ◌∙◌, subst}
+use Rattle.std.proofs.Common.{None, Ok, refl, sym, ap, subst}
 use Rattle.tftp_capture.specs.{datagram_of, IsReadFault}
 use Rattle.tftp_judge.specs.{IsJudgeAfter}
+use Rattle.tftp_judge.proofs.Follows.{still_clean, clean_or}
 use Rattle.tftp_match.specs.{IsGiven, IsHalted, Ended, Fault}
 use Rattle.tftp_match.proofs.Halting.{given, halted_end, halted_fault}
 use Rattle.tftp_match.proofs.reading.Reading.next.Goals as goal
-
-still_clean : (new old : Bool) → ⊥ ⊎ (new ≡ old) → old ≡ false → new ≡ false
-still_clean new old (inl x) e = absurd x
-still_clean new old (inr same) e = same ∙ e
-
-clean_or : (Reads : Type 0) (new old : Bool) → Reads ⊎ (new ≡ old) → old ≡ false → Reads ⊎ (new ≡ false)
-clean_or Reads new old (inl reads) e = inl reads
-clean_or Reads new old (inr same) e = inr (same ∙ e)
 
 pub returns-in-Ok-true-clause-given : goal.returns-in-Ok-true-clause-given
 returns-in-Ok-true-clause-given g c = λ _ before h read judge on accepted.
