@@ -1,5 +1,5 @@
 -- What is found of a message, by its kind, is the first rule that it breaks.
-use Rattle.std.proofs.Common.{◌≡◌, ◌≢◌, ◌⊎◌, ℕ, ◌+◌, ◌<◌, ◌≤◌, Bool, true, false, List, Ok, Err, inl, inr, refl, sym, subst, ap, ◌∙◌, arith, Result, OnOk, IfErr}
+use Rattle.std.proofs.Common.{◌≡◌, ◌≢◌, ℕ, ◌<◌, Bool, true, false, List, Ok, Err, inl, inr, refl, sym, subst, ap, ◌∙◌, arith, Result, OnOk, IfErr}
 use Rattle.std.proofs.lemmas.Bool.{false≢true}
 use Rattle.tftp_packet.specs.{OptionMap, no_options, Message, RequestParts, Side, Get, End, Client, Server}
 use Rattle.tftp_hosts.specs.{Dir, Out, Datagram, Header}
