@@ -114,9 +114,9 @@ pub still_clean : (new old : Bool) → ⊥ ⊎ (new ≡ old) → old ≡ false �
 still_clean new old (inl x) e = absurd x
 still_clean new old (inr same) e = same ∙ e
 
-pub clean_or : (Reads : Type 0) (new old : Bool) → Reads ⊎ (new ≡ old) → old ≡ false → Reads ⊎ (new ≡ false)
-clean_or Reads new old (inl reads) e = inl reads
-clean_or Reads new old (inr same) e = inr (same ∙ e)
+pub reads_or_clean : (Reads : Type 0) (new old : Bool) → Reads ⊎ (new ≡ old) → old ≡ false → Reads ⊎ (new ≡ false)
+reads_or_clean Reads new old (inl reads) e = inl reads
+reads_or_clean Reads new old (inr same) e = inr (same ∙ e)
 
 pub clean_says : (failed : Bool) (P : Type 0) → failed ≡ false → failed ≡ true → P
 clean_says failed P clean is = absurd (true≢false (sym is ∙ clean))

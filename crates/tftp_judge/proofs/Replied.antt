@@ -36,7 +36,7 @@ module _ (passed : List Datagram) (before : IsBeforeBlocks passed) where
 
 -- ---- the message that answers
 
-pub lowest : (e : EndRule) → 18 ≤ end_number e
+lowest : (e : EndRule) → 18 ≤ end_number e
 lowest EndRule.NotStarted = omega arith
 lowest _ = omega arith
 
@@ -51,8 +51,8 @@ module _ (h : Header) (asked : RequestParts) (passed : List Datagram) (none : No
         broken = subst (λ (x : Side). BlocksWait x NoReply (usable passed)) (sym put) tt;
         first = λ other low b. let high = lowest other in omega arith;
       })
-  not_started (Message.Data k bytes) Get get waits = absurd waits
-  not_started _ _ e waits = absurd waits
+  not_started _ Get e waits = absurd waits
+  not_started _ Put e waits = absurd waits
 
   -- the others break the rules that they would break after a plain reply
   abbrev IsAlike : Message → Type 0

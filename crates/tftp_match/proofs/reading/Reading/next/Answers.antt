@@ -1,7 +1,7 @@
 use Rattle.std.proofs.Common.{None, Ok, refl, sym, ap, subst}
 use Rattle.tftp_capture.specs.{datagram_of, IsReadFault}
 use Rattle.tftp_judge.specs.{IsJudgeAfter}
-use Rattle.tftp_judge.proofs.Follows.{still_clean, clean_or}
+use Rattle.tftp_judge.proofs.Follows.{still_clean, reads_or_clean}
 use Rattle.tftp_match.specs.{IsGiven, IsHalted, Ended, Fault}
 use Rattle.tftp_match.proofs.Halting.{given, halted_end, halted_fault}
 use Rattle.tftp_match.proofs.reading.Reading.next.Goals as goal
@@ -36,5 +36,5 @@ returns-in-Err-clause-halted g c = λ _ before h read judge on accepted.
       subst (λ x. IsHalted before (g.R.Read.remaining c.next_into.new.reader.0) c.next_into.new.reader.1 (Fault fault) None x read) on.header
           (halted_fault before _ (g.R.Read.remaining c.next_into.new.reader.0) c.args.self.now.capture c.next_into.new.self judge read on.ready on.has (subst (λ x. IsJudgeAfter judge x read) (sym on.header) accepted)
           fault c.next_into.new.reader.1 e.continues e.standing (e.near on.ready) (e.cut on.ready) (e.drained on.ready) e.read
-          (clean_or (IsReadFault fault) c.next_into.new.reader.1 c.args.reader.now.1 e.tally on.clean)),
+          (reads_or_clean (IsReadFault fault) c.next_into.new.reader.1 c.args.reader.now.1 e.tally on.clean)),
     )
