@@ -48,7 +48,7 @@ impl Gathered {
     /// Adds a piece of any length: where there is no room for both, what waits is written first, and
     /// then at once a piece of more than 16,384 bytes. After a fault only the writer tells what was
     /// written.
-    #[tactic(auto, using(crate::proofs::Gathering::writes_past, crate::proofs::Gathering::prefix_of))]
+    #[inline(always)]
     pub fn add<W: Write>(&mut self, writer: &mut Tallied<W>, bytes: &[u8]) -> Result<(), WriteFault>
         requires clean { writer.old.1 ≡ false }
         ensures adds { Adds W.contents writer.old writer.new result self.old self.new bytes.now }
@@ -56,6 +56,19 @@ impl Gathered {
         if self.push(bytes) {
             return Ok(());
         }
+        self.add_after(writer, bytes)
+    }
+
+    /// Adds a piece after what waits is written.
+    #[tactic(auto, using(crate::proofs::Gathering::writes_past, crate::proofs::Gathering::prefix_of))]
+    fn add_after<W: Write>(
+        &mut self,
+        writer: &mut Tallied<W>,
+        bytes: &[u8],
+    ) -> Result<(), WriteFault>
+        requires clean { writer.old.1 ≡ false }
+        ensures adds { Adds W.contents writer.old writer.new result self.old self.new bytes.now }
+    {
         self.write(writer)?;
         if self.push(bytes) {
             return Ok(());
