@@ -8,6 +8,7 @@ pub mod Gathering
 pub mod Headers
 pub mod Histories
 pub mod InTwo
+pub mod Lanes
 mod Named
 pub mod Nibbles
 pub mod Pairs

@@ -1,11 +1,7 @@
 use Rattle.std.proofs.Common.{arith}
-use Rattle.hex.specs.Hex.{lower_digits}
-use Rattle.hex.proofs.Pairs.{encode_step, encode_done}
+use Rattle.std.proofs.lemmas.List.{take_rest}
+use Rattle.tftp_capture.proofs.Lanes.{rest_written}
 use Rattle.tftp_capture.proofs.digits.encode.Goals as goal
 
-pub loop-i-preserved : goal.loop-i-preserved
-loop-i-preserved c =
-    encode_step lower_digits c.args.bytes.now c.loop-i.digits c.loop-i.i _ _ (omega arith) (omega arith) c.digit-high.ensures c.digit-low.ensures c.loop-i.invariant
-
 pub returns : goal.returns
-returns c = encode_done lower_digits _ _ c.loop-i.i (omega arith) (omega arith) c.loop-i.invariant
+returns c = rest_written c.args.bytes.now _ _ c.encode_blocks-done.result _ (omega arith) (omega arith) c.encode_blocks-done.ensures.written (rw take_rest at c.encode_rest.ensures)

@@ -7,16 +7,16 @@ use Rattle.tftp_capture.proofs.gathered.Gathered.add_hex.Goals as goal
 pub loop-done-init : goal.loop-done-init
 loop-done-init g c = record { clean = search rules; within = search rules; gathers = rw encode-nil (gathers_none _ _) }
 
-pub returns-in_err-add : goal.returns-in_err-add
-returns-in_err-add g c =
+pub returns-in_err-add_digits : goal.returns-in_err-add_digits
+returns-in_err-add_digits g c =
     let bytes = c.args.bytes.now in
     let done = c.loop-done.done in
     let size = c.min-size.result in
     record {
       adds =
-          adds_err g.W.Write.contents c.args.writer.now c.add.new.writer c.from_residual.result _ _ _ c.from_residual.ensures.0 c.in_err-add.ensures.adds.0
+          adds_err g.W.Write.contents c.args.writer.now c.add_digits.new.writer c.from_residual.result _ _ _ c.from_residual.ensures.0 c.in_err-add_digits.ensures.adds.0
           (rw (encode_rest bytes done size)
-          (gathers_prefix _ _ _ _ _ _ _ (encode_lower (drop (done + size - done) (drop done bytes))) c.loop-done.invariant.gathers (rw c.encode.ensures at c.in_err-add.ensures.adds.1)));
+          (gathers_prefix _ _ _ _ _ _ _ (encode_lower (drop (done + size - done) (drop done bytes))) c.loop-done.invariant.gathers c.in_err-add_digits.ensures.adds.1));
     }
 
 pub loop-done-preserved : goal.loop-done-preserved
@@ -25,5 +25,5 @@ loop-done-preserved g c = record {
   within = search rules;
   gathers =
       rw (encode_more c.args.bytes.now c.loop-done.done c.min-size.result)
-      (gathers_more _ _ _ _ _ _ _ _ c.loop-done.invariant.gathers (rw c.encode.ensures at c.in_ok-add.ensures.adds.1));
+      (gathers_more _ _ _ _ _ _ _ _ c.loop-done.invariant.gathers c.in_ok-add_digits.ensures.adds.1);
 }

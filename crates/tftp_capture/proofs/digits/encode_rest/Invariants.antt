@@ -1,6 +1,6 @@
 use Rattle.std.proofs.Common.{◌≡◌, ◌*◌, ◌++◌, take, drop}
 use Rattle.hex.specs.Hex.{encode_lower}
-use Rattle.tftp_capture.proofs.digits.encode.Given as goal
+use Rattle.tftp_capture.proofs.digits.encode_rest.Given as goal
 
 -- what is written, and the digits of what is left
 abbrev pub invariant-loop-i : goal.invariant-loop-i
