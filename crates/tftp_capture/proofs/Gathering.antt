@@ -1,5 +1,5 @@
 -- Bytes given to a writer piece by piece.
-use Rattle.std.proofs.Common.{◌≡◌, ◌≢◌, ℕ, suc, ◌+◌, ◌<◌, arith, length-drop, get_or, flat_map, drop-cons, List, [], ◌∷◌, ◌++◌, length, take, drop, Option, Result, Ok, Err, OnOk, is_err, IsErr, true, false, true≢false, refl, sym, ap, ◌∙◌, subst, append_assoc, append-nil, take-append-drop, length-append}
+use Rattle.std.proofs.Common.{◌≡◌, ◌≢◌, ℕ, suc, ◌+◌, ◌<◌, arith, length-drop, get_or, flat_map, drop-cons, List, [], ◌∷◌, ◌++◌, length, take, drop, Option, Result, Ok, Err, OnOk, is_err, IsErr, true, false, true≢false, refl, sym, ap, ◌∙◌, subst, append_assoc, append-nil, take-append-drop}
 use Rattle.std.specs.Io.KnownBytes.{Appends, Keeps}
 use Rattle.std.proofs.KnownBytes.{Appends-nil, Appends-trans, Appends-kept}
 use Rattle.std.proofs.lemmas.List.{take_more}
@@ -157,6 +157,10 @@ module _ {W : Type 0} (contents : W → Option (List ℕ)) where
     pub writes_more : (s t u : Sink W) (r : Result A E) (first second : List ℕ) → Added contents s t first → Writes contents t u r second → Writes contents s u r (first ++ second)
     writes_more s t u (Ok x) first second p q = (p.0, q.1, q.2, gathers_written _ _ _ _ _ _ _ p.2 q.3)
     writes_more s t u (Err e) first second p q = stops_after s t u first second p q
+
+    -- bytes were added, and then what waited was written, or was not
+    pub writes_flushed : (s t u : Sink W) (r : Result A E) (bytes : List ℕ) → Added contents s t bytes → Writes contents t u r [] → Writes contents s u r bytes
+    writes_flushed s t u r bytes p q = subst (Writes contents s u r) (append-nil bytes) (writes_more s t u r bytes [] p q)
 
     pub writes_adds : (s t : Sink W) (r : Result A E) (bytes : List ℕ) → Writes contents s t r bytes → Adds contents s t r bytes
     writes_adds s t (Ok x) bytes p = wrote_added s t bytes p

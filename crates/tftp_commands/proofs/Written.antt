@@ -39,6 +39,14 @@ module _ {W : Type 0} (contents : W → Option (List ℕ)) (s t : Sink W) where
   pub printed_after : (u : Sink W) (bytes : List ℕ) (said result : Status) → Added contents s t bytes → printing t u t.waits said result → printing s u (s.waits ++ bytes) said result
   printed_after u bytes said result p q = (written_all (contents s.inner) (contents t.inner) (contents u.inner) u.failed s.waits t.waits bytes said result p.2 q.0, q.1)
 
+  -- ---- where no bytes were to come
+
+  pub printed_waits : (said : Status) → Wrote contents s t [] → printing s t s.waits said said
+  printed_waits said p = subst (λ l. printing s t l said said) (append-nil s.waits) (printed [] said p)
+
+  pub cut_waits : (said : Status) → s.failed ≡ false → Stops contents s t [] → printing s t s.waits said status.Fault
+  cut_waits said clean p = subst (λ l. printing s t l said status.Fault) (append-nil s.waits) (cut [] said clean p)
+
   -- ---- where nothing waited
 
   pub printed_fresh : (bytes : List ℕ) (said : Status) → IsFresh s → Wrote contents s t bytes → printing s t bytes said said

@@ -1,5 +1,5 @@
-use Rattle.std.proofs.Common.{[], ◌∙◌, append-nil}
-use Rattle.tftp_capture.proofs.Gathering.{writes_err, writes_more}
+use Rattle.std.proofs.Common.{◌∙◌}
+use Rattle.tftp_capture.proofs.Gathering.{writes_err, writes_flushed}
 use Rattle.tftp_capture.proofs.writer.finish.Goals as goal
 
 pub returns-in_err-add_all : goal.returns-in_err-add_all
@@ -10,4 +10,4 @@ returns-in_err-add_all g c =
 pub returns : goal.returns
 returns g c =
     let total = rw (c.as_bytes-number.ensures.value ∙ c.format.ensures.text) at c.in_ok-add_all.ensures.adds in
-    record { writes = rw append-nil at (writes_more g.W.Write.contents c.args.writer.now c.add_all.new.self c.flush.new.self c.flush.result _ [] total c.flush.ensures.writes) }
+    record { writes = writes_flushed g.W.Write.contents c.args.writer.now c.add_all.new.self c.flush.new.self c.flush.result _ total c.flush.ensures.writes }

@@ -1,5 +1,5 @@
-use Rattle.std.proofs.Common.{[], append-nil}
-use Rattle.tftp_capture.proofs.Gathering.{adds_err, writes_adds, writes_empty, writes_more}
+use Rattle.std.proofs.Common.{[]}
+use Rattle.tftp_capture.proofs.Gathering.{adds_err, writes_adds, writes_empty, writes_flushed}
 use Rattle.tftp_commands.proofs.show.show_datagram.Goals as goal
 
 pub returns-in_err-put_datagram-clause-adds : goal.returns-in_err-put_datagram-clause-adds
@@ -10,8 +10,8 @@ returns-in_err-put_datagram-clause-adds g c =
 pub returns-then-wait-clause-adds : goal.returns-then-wait-clause-adds
 returns-then-wait-clause-adds g c =
     let put = c.in_ok-put_datagram.ensures.adds in
-    let written = writes_more g.W.Write.contents c.args.writer.now c.put_datagram.new.writer c.flush.new.self c.flush.result _ [] put.2 c.flush.ensures.writes in
-    (put.0, put.1, writes_adds g.W.Write.contents c.args.writer.now c.flush.new.self c.flush.result _ (rw append-nil at written))
+    let written = writes_flushed g.W.Write.contents c.args.writer.now c.put_datagram.new.writer c.flush.new.self c.flush.result _ put.2 c.flush.ensures.writes in
+    (put.0, put.1, writes_adds g.W.Write.contents c.args.writer.now c.flush.new.self c.flush.result _ written)
 
 pub returns-then-wait-clause-early : goal.returns-then-wait-clause-early
 returns-then-wait-clause-early g c = λ _. writes_empty g.W.Write.contents c.put_datagram.new.writer c.flush.new.self c.flush.result [] c.flush.ensures.writes

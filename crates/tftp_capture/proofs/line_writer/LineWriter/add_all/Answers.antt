@@ -1,5 +1,4 @@
-use Rattle.std.proofs.Common.{rules}
-use Rattle.tftp_capture.proofs.Gathering.{adds_err, gathers_none, pieces_failed, pieces_gathered, stops_again, stops_now}
+use Rattle.tftp_capture.proofs.Gathering.{adds_err, pieces_failed, pieces_gathered, stops_now}
 use Rattle.tftp_capture.proofs.line_writer.LineWriter.add_all.Goals as goal
 
 pub returns-in_err-add : goal.returns-in_err-add
