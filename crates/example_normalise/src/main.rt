@@ -3,13 +3,13 @@
 
 use std::io;
 use std::process::ExitCode;
-use tftp_capture::Tallied;
+use tftp_capture::{LineWriter, Tallied};
 use tftp_normal::normalise;
 
 /// Ends with status 2, and tells why on standard error, where no normal text was written, or only a part of one.
 fn main(rt: HostRuntime) -> ExitCode {
     let mut reader = Tallied::new(rt.reader());
-    let mut writer = Tallied::new(io::writer(&rt));
+    let mut writer = LineWriter::new(rt.alloc(), io::writer(&rt));
     match normalise(rt.alloc(), &mut reader, &mut writer) {
         Ok(()) => ExitCode::SUCCESS,
         Err(fault) => {

@@ -3,7 +3,7 @@
 
 use std::process::ExitCode;
 use std::{env, io};
-use tftp_capture::Tallied;
+use tftp_capture::{LineWriter, Tallied};
 use tftp_commands::run;
 
 /// Ends with status 2, and no output, where it can't get its words.
@@ -15,7 +15,7 @@ fn main(rt: HostRuntime) -> ExitCode {
         return ExitCode::from(2);
     };
     let mut reader = Tallied::new(rt.reader());
-    let mut writer = Tallied::new(io::writer(&rt));
+    let mut writer = LineWriter::new(rt.alloc(), io::writer(&rt));
     let status = run(rt.alloc(), words.as_slice(), &mut reader, &mut writer);
     ExitCode::from(status.code())
 }

@@ -11,7 +11,7 @@ use std::alloc::Global;
 use std::io::{ErrorKind, Read, Write};
 use std::{env, io};
 use tftp_blocks::{MapDelivered, RingDelivered};
-use tftp_capture::{CaptureReader, CaptureWriter, Datagram, Header, Tallied};
+use tftp_capture::{CaptureReader, CaptureWriter, Datagram, Header, LineWriter, Tallied};
 use tftp_hosts::Dir;
 use tftp_netascii::{Decoder, encode};
 use tftp_packet::End;
@@ -171,12 +171,12 @@ fn write_datagrams<R: Read, W: Write + Drop>(
     reader: &mut R,
     writer: W,
 ) -> io::Result<u64> {
-    let mut writer = Tallied::new(writer);
+    let mut writer = LineWriter::new(alloc, writer);
     let header = Header {
         named: End::Client,
         service: 69,
     };
-    let Ok(mut capture) = CaptureWriter::begin(alloc, &mut writer, &header) else {
+    let Ok(mut capture) = CaptureWriter::begin(&mut writer, &header) else {
         return Err(io::Error::from(ErrorKind::Other));
     };
     let mut piece = [0u8; LARGEST];

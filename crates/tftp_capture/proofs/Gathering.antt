@@ -1,10 +1,10 @@
 -- Bytes given to a writer piece by piece.
-use Rattle.std.proofs.Common.{◌≡◌, ◌≢◌, ℕ, suc, ◌+◌, ◌<◌, arith, length-drop, get_or, flat_map, drop-cons, List, [], ◌∷◌, ◌++◌, length, take, drop, Option, Result, Ok, Err, OnOk, is_err, IsErr, Bool, true, false, true≢false, refl, sym, ap, ◌∙◌, subst, append_assoc, append-nil, take-append-drop, length-append}
+use Rattle.std.proofs.Common.{◌≡◌, ◌≢◌, ℕ, suc, ◌+◌, ◌<◌, arith, length-drop, get_or, flat_map, drop-cons, List, [], ◌∷◌, ◌++◌, length, take, drop, Option, Result, Ok, Err, OnOk, is_err, IsErr, true, false, true≢false, refl, sym, ap, ◌∙◌, subst, append_assoc, append-nil, take-append-drop}
 use Rattle.std.specs.Io.KnownBytes.{Appends, Keeps}
 use Rattle.std.proofs.KnownBytes.{Appends-nil, Appends-trans, Appends-kept}
 use Rattle.std.proofs.lemmas.List.{take_more}
 use Rattle.std.proofs.lemmas.List.Concat.{flat_map-append}
-use Rattle.tftp_capture.specs.{Adds, AppendsPrefix, Gathers, Writes}
+use Rattle.tftp_capture.specs.{Added, Adds, AppendsPrefix, Ends, Gathers, Sink, Stops, Writes, WritesPart, Wrote}
 
 pub gathers_none : (c : Option (List ℕ)) (held : List ℕ) → Gathers c c held held []
 gathers_none c held = record { written = []; are = append-nil held; appended = Appends-nil c }
@@ -50,41 +50,20 @@ gathers_prefix c0 c1 c2 h0 h1 first second more p q = record {
 pub prefix_after : (c0 c1 c2 : Option (List ℕ)) (h0 h1 first second : List ℕ) → Gathers c0 c1 h0 h1 first → AppendsPrefix c1 c2 (h1 ++ second) → AppendsPrefix c0 c2 (h0 ++ (first ++ second))
 prefix_after c0 c1 c2 h0 h1 first second p q = rw append-nil at (gathers_prefix c0 c1 c2 h0 h1 first second [] p q)
 
--- what waited was written, and then the bytes failed
-pub written_prefix : (c0 c1 c2 : Option (List ℕ)) (held bytes : List ℕ) → Appends c0 c1 held → AppendsPrefix c1 c2 bytes → AppendsPrefix c0 c2 (held ++ bytes)
-written_prefix c0 c1 c2 held bytes p q = record {
+-- some pieces were gathered, and then what waited was written, and more
+pub gathers_written : (c0 c1 c2 : Option (List ℕ)) (h0 h1 bytes last : List ℕ) → Gathers c0 c1 h0 h1 bytes → Appends c1 c2 (h1 ++ last) → Appends c0 c2 (h0 ++ (bytes ++ last))
+gathers_written c0 c1 c2 h0 h1 bytes last p q =
+    let are : p.written ++ (h1 ++ last) ≡ h0 ++ (bytes ++ last) = sym (append_assoc p.written h1 last) ∙ ap (λ l. l ++ last) (sym p.are) ∙ append_assoc h0 bytes last in
+    subst (Appends c0 c2) are (Appends-trans _ _ _ _ _ p.appended q)
+
+-- what waited was written, and then a part of the bytes
+pub prefix_written : (c0 c1 c2 : Option (List ℕ)) (held bytes : List ℕ) → Appends c0 c1 held → AppendsPrefix c1 c2 bytes → AppendsPrefix c0 c2 (held ++ bytes)
+prefix_written c0 c1 c2 held bytes p q = record {
   written = held ++ q.written;
   rest = q.rest;
   are = ap (λ l. held ++ l) q.are ∙ sym (append_assoc held q.written q.rest);
   left = q.left;
   appended = Appends-trans _ _ _ _ _ p q.appended;
-}
-
--- what waited was written, and then the bytes
-pub gathers_past : (c0 c1 c2 : Option (List ℕ)) (held bytes : List ℕ) → Appends c0 c1 held → Appends c1 c2 bytes → Gathers c0 c2 held [] bytes
-gathers_past c0 c1 c2 held bytes p q = record { written = held ++ bytes; are = sym (append-nil (held ++ bytes)); appended = Appends-trans _ _ _ _ _ p q }
-
--- some pieces were gathered, and then all that waited was written
-pub gathers_all : (c0 c1 c2 : Option (List ℕ)) (h0 h1 bytes : List ℕ) → Gathers c0 c1 h0 h1 bytes → Appends c1 c2 h1 → Appends c0 c2 (h0 ++ bytes)
-gathers_all c0 c1 c2 h0 h1 bytes p q = rw p.are (Appends-trans _ _ _ _ _ p.appended q)
-
-pub prefix_all : (c0 c1 c2 : Option (List ℕ)) (h0 h1 bytes : List ℕ) → Gathers c0 c1 h0 h1 bytes → AppendsPrefix c1 c2 h1 → AppendsPrefix c0 c2 (h0 ++ bytes)
-prefix_all c0 c1 c2 h0 h1 bytes p q = record {
-  written = p.written ++ q.written;
-  rest = q.rest;
-  are = p.are ∙ ap (λ l. p.written ++ l) q.are ∙ sym (append_assoc p.written q.written q.rest);
-  left = q.left;
-  appended = Appends-trans _ _ _ _ _ p.appended q.appended;
-}
-
--- a line was not written at all
-pub prefix_nothing : (c : Option (List ℕ)) (held line : List ℕ) → AppendsPrefix c c (held ++ (line ++ 10 ∷ []))
-prefix_nothing c held line = record {
-  written = [];
-  rest = held ++ (line ++ 10 ∷ []);
-  are = refl;
-  left = λ e. absurd (omega (arith, ap length e, length-append held (line ++ 10 ∷ []), length-append line (10 ∷ [])));
-  appended = Appends-nil c;
 }
 
 rest_left : (n : ℕ) (bytes : List ℕ) → n < length bytes → drop n bytes ≢ []
@@ -127,69 +106,89 @@ pieces_gathered f ps i d c0 c1 c2 h0 h1 h2 within p q = rw (pieces_more f ps i d
 
 -- ---- what a call does, however it ends
 
-pub adds_err : {W E : Type 0} (contents : W → Option (List ℕ)) (t0 t1 : W × Bool) (r : Result (Unit {0}) E) (h0 h1 text : List ℕ) → IsErr r → t1.1 ≡ true → AppendsPrefix (contents t0.0) (contents t1.0) (h0 ++ text)
-    → Adds contents t0 t1 r h0 h1 text
-adds_err contents t0 t1 (Ok x) h0 h1 text is failed p = absurd (true≢false (sym is))
-adds_err contents t0 t1 (Err e) h0 h1 text is failed p = (failed, p)
+module _ {W : Type 0} (contents : W → Option (List ℕ)) where
+  -- a write had failed before
+  pub stops_again : (s : Sink W) (bytes : List ℕ) → s.failed ≡ true → Stops contents s s bytes
+  stops_again s bytes failed = record { failed = failed; before = λ _. refl; part = λ clean. absurd (true≢false (sym failed ∙ clean)) }
 
-pub writes_err : {W E : Type 0} (contents : W → Option (List ℕ)) (t0 t1 : W × Bool) (r : Result (Unit {0}) E) (bytes : List ℕ) → IsErr r → t1.1 ≡ true → AppendsPrefix (contents t0.0) (contents t1.0) bytes
-    → Writes contents t0 t1 r bytes
-writes_err contents t0 t1 (Ok x) bytes is failed p = absurd (true≢false (sym is))
-writes_err contents t0 t1 (Err e) bytes is failed p = (failed, p)
+  -- a write fails now
+  pub stops_now : (s t : Sink W) (bytes : List ℕ) → s.failed ≡ false → t.failed ≡ true → WritesPart contents s t bytes → Stops contents s t bytes
+  stops_now s t bytes clean failed p = record { failed = failed; before = λ e. absurd (true≢false (sym e ∙ clean)); part = λ _. p }
 
--- the same text, written another way
-pub adds_same : {W E : Type 0} (contents : W → Option (List ℕ)) (t0 t1 : W × Bool) (r : Result (Unit {0}) E) (h0 h1 one other : List ℕ) → one ≡ other → Adds contents t0 t1 r h0 h1 one → Adds contents t0 t1 r h0 h1 other
-adds_same contents t0 t1 r h0 h1 one other e p = subst (Adds contents t0 t1 r h0 h1) e p
+  -- the same where more bytes were to come
+  pub stops_short : (s t : Sink W) (head tail line : List ℕ) → head ++ tail ≡ line → Stops contents s t head → Stops contents s t line
+  stops_short s t head tail line are p = record {
+    failed = p.failed;
+    before = p.before;
+    part = λ clean. subst (WritesPart contents s t) are (rw append_assoc at (prefix_of _ _ (s.waits ++ head) tail (p.part clean)));
+  }
 
--- a text was added, and then another was, or was not
-pub adds_more : {W E : Type 0} (contents : W → Option (List ℕ)) (t0 t1 t2 : W × Bool) (r : Result (Unit {0}) E) (h0 h1 h2 first second : List ℕ) → Gathers (contents t0.0) (contents t1.0) h0 h1 first
-    → Adds contents t1 t2 r h1 h2 second → Adds contents t0 t2 r h0 h2 (first ++ second)
-adds_more contents t0 t1 t2 (Ok x) h0 h1 h2 first second p q = (q.0, gathers_more _ _ _ _ _ _ _ _ p q.1)
-adds_more contents t0 t1 t2 (Err e) h0 h1 h2 first second p q = (q.0, prefix_after _ _ _ _ _ _ _ p q.1)
+  -- bytes were added, and then a write fails
+  pub stops_after : (s t u : Sink W) (first second : List ℕ) → Added contents s t first → Stops contents t u second → Stops contents s u (first ++ second)
+  stops_after s t u first second p q = stops_now s u (first ++ second) p.0 q.failed (prefix_after _ _ _ _ _ _ _ p.2 (q.part p.1))
 
--- the first pieces of a line were added, and then the others were, or were not
-pub line_added : {W E : Type 0} (contents : W → Option (List ℕ)) (t0 t1 t2 : W × Bool) (r : Result (Unit {0}) E) (h0 h1 h2 head tail line : List ℕ) → head ++ tail ≡ line → Gathers (contents t0.0) (contents t1.0) h0 h1 head
-    → Adds contents t1 t2 r h1 h2 tail → Adds contents t0 t2 r h0 h2 line
-line_added contents t0 t1 t2 r h0 h1 h2 head tail line are p q = adds_same contents t0 t2 r h0 h2 (head ++ tail) line are (adds_more contents t0 t1 t2 r h0 h1 h2 head tail p q)
+  -- what was written was added, and nothing waits
+  pub wrote_added : (s t : Sink W) (bytes : List ℕ) → Wrote contents s t bytes → Added contents s t bytes
+  wrote_added s t bytes p = (p.0, p.1, record { written = s.waits ++ bytes; are = sym (append-nil (s.waits ++ bytes)) ∙ ap (λ l. (s.waits ++ bytes) ++ l) (sym p.2); appended = p.3 })
 
-pub head_failed : (c0 c1 : Option (List ℕ)) (h0 head tail line : List ℕ) → head ++ tail ≡ line → AppendsPrefix c0 c1 (h0 ++ head) → AppendsPrefix c0 c1 (h0 ++ line)
-head_failed c0 c1 h0 head tail line are p = subst (λ (l : List ℕ). AppendsPrefix c0 c1 (h0 ++ l)) are (rw append_assoc at (prefix_of c0 c1 (h0 ++ head) tail p))
+  module _ {A E : Type 0} where
+    pub adds_err : (s t : Sink W) (r : Result A E) (bytes : List ℕ) → IsErr r → Stops contents s t bytes → Adds contents s t r bytes
+    adds_err s t (Ok x) bytes is p = absurd (true≢false (sym is))
+    adds_err s t (Err e) bytes is p = p
 
--- what waited was written, and then the bytes were, or were not
-pub writes_past : {W E : Type 0} (contents : W → Option (List ℕ)) (t0 t1 t2 : W × Bool) (r : Result (Unit {0}) E) (held bytes : List ℕ) → Appends (contents t0.0) (contents t1.0) held
-    → Writes contents t1 t2 r bytes → Adds contents t0 t2 r held [] bytes
-writes_past contents t0 t1 t2 (Ok x) held bytes p q = (q.0, gathers_past _ _ _ _ _ p q.1)
-writes_past contents t0 t1 t2 (Err e) held bytes p q = (q.0, written_prefix _ _ _ _ _ p q.1)
+    pub writes_err : (s t : Sink W) (r : Result A E) (bytes : List ℕ) → IsErr r → Stops contents s t bytes → Writes contents s t r bytes
+    writes_err s t (Ok x) bytes is p = absurd (true≢false (sym is))
+    writes_err s t (Err e) bytes is p = p
 
--- a text was added, and then all that waited was written, or was not
-pub writes_rest : {W E : Type 0} (contents : W → Option (List ℕ)) (t0 t1 t2 : W × Bool) (r : Result (Unit {0}) E) (h0 h1 text : List ℕ) → Gathers (contents t0.0) (contents t1.0) h0 h1 text
-    → Writes contents t1 t2 r h1 → Writes contents t0 t2 r (h0 ++ text)
-writes_rest contents t0 t1 t2 (Ok x) h0 h1 text p q = (q.0, gathers_all _ _ _ _ _ _ p q.1)
-writes_rest contents t0 t1 t2 (Err e) h0 h1 text p q = (q.0, prefix_all _ _ _ _ _ _ p q.1)
+    -- the same text, written another way
+    pub adds_same : (s t : Sink W) (r : Result A E) (one other : List ℕ) → one ≡ other → Adds contents s t r one → Adds contents s t r other
+    adds_same s t r one other e p = subst (Adds contents s t r) e p
 
--- all that waited was written with the text, and nothing waits, or it was not
-pub adds_all : {W E : Type 0} (contents : W → Option (List ℕ)) (t0 t1 : W × Bool) (r : Result (Unit {0}) E) (h0 h1 text : List ℕ) → Writes contents t0 t1 r (h0 ++ text) → OnOk r (h1 ≡ []) → Adds contents t0 t1 r h0 h1 text
-adds_all contents t0 t1 (Ok x) h0 h1 text p none = (p.0, record { written = h0 ++ text; are = sym (append-nil (h0 ++ text)) ∙ ap (λ l. (h0 ++ text) ++ l) (sym none); appended = p.1 })
-adds_all contents t0 t1 (Err e) h0 h1 text p none = p
+    -- bytes were added, and then others were, or were not
+    pub adds_more : (s t u : Sink W) (r : Result A E) (first second : List ℕ) → Added contents s t first → Adds contents t u r second → Adds contents s u r (first ++ second)
+    adds_more s t u (Ok x) first second p q = (p.0, q.1, gathers_more _ _ _ _ _ _ _ _ p.2 q.2)
+    adds_more s t u (Err e) first second p q = stops_after s t u first second p q
 
--- all that was to be written was
-pub writes_all : {W E : Type 0} (contents : W → Option (List ℕ)) (t0 t1 : W × Bool) (P : Type 0) (r : Result (Unit {0}) E) (bytes : List ℕ) → (Appends (contents t0.0) (contents t1.0) bytes → P) → Writes contents t0 t1 r bytes → OnOk r P
-writes_all contents t0 t1 P (Ok x) bytes f q = f q.1
-writes_all contents t0 t1 P (Err e) bytes f q = tt
+    -- the first pieces of a line were added, and then the others were, or were not
+    pub line_added : (s t u : Sink W) (r : Result A E) (head tail line : List ℕ) → head ++ tail ≡ line → Added contents s t head → Adds contents t u r tail → Adds contents s u r line
+    line_added s t u r head tail line are p q = adds_same s u r (head ++ tail) line are (adds_more s t u r head tail p q)
 
--- what follows of a text that was added
-pub adds_then : {W E : Type 0} (contents : W → Option (List ℕ)) (t0 t1 : W × Bool) (P : Type 0) (r : Result (Unit {0}) E) (h0 h1 text : List ℕ) → (Gathers (contents t0.0) (contents t1.0) h0 h1 text → P) → Adds contents t0 t1 r h0 h1 text
-    → OnOk r P
-adds_then contents t0 t1 P (Ok x) h0 h1 text f q = f q.1
-adds_then contents t0 t1 P (Err e) h0 h1 text f q = tt
+    -- bytes were added, and then what waited was written with more, or was not
+    pub writes_more : (s t u : Sink W) (r : Result A E) (first second : List ℕ) → Added contents s t first → Writes contents t u r second → Writes contents s u r (first ++ second)
+    writes_more s t u (Ok x) first second p q = (p.0, q.1, q.2, gathers_written _ _ _ _ _ _ _ p.2 q.3)
+    writes_more s t u (Err e) first second p q = stops_after s t u first second p q
 
--- what a call did that succeeded, and what one did that failed
-pub added : {W E : Type 0} (contents : W → Option (List ℕ)) (t0 t1 : W × Bool) (r : Result (Unit {0}) E) (h0 h1 text : List ℕ) → is_err r ≡ false → Adds contents t0 t1 r h0 h1 text
-    → (t1.1 ≡ false) × Gathers (contents t0.0) (contents t1.0) h0 h1 text
-added contents t0 t1 (Ok x) h0 h1 text e p = p
-added contents t0 t1 (Err y) h0 h1 text e p = absurd (true≢false e)
+    -- bytes were added, and then what waited was written, or was not
+    pub writes_flushed : (s t u : Sink W) (r : Result A E) (bytes : List ℕ) → Added contents s t bytes → Writes contents t u r [] → Writes contents s u r bytes
+    writes_flushed s t u r bytes p q = subst (Writes contents s u r) (append-nil bytes) (writes_more s t u r bytes [] p q)
 
-pub not_added : {W E : Type 0} (contents : W → Option (List ℕ)) (t0 t1 : W × Bool) (r : Result (Unit {0}) E) (h0 h1 text : List ℕ) → is_err r ≡ true → Adds contents t0 t1 r h0 h1 text
-    → (t1.1 ≡ true) × AppendsPrefix (contents t0.0) (contents t1.0) (h0 ++ text)
-not_added contents t0 t1 (Ok x) h0 h1 text e p = absurd (true≢false (sym e))
-not_added contents t0 t1 (Err y) h0 h1 text e p = p
+    pub writes_adds : (s t : Sink W) (r : Result A E) (bytes : List ℕ) → Writes contents s t r bytes → Adds contents s t r bytes
+    writes_adds s t (Ok x) bytes p = wrote_added s t bytes p
+    writes_adds s t (Err e) bytes p = p
+
+    pub writes_empty : (s t : Sink W) (r : Result A E) (bytes : List ℕ) → Writes contents s t r bytes → OnOk r (t.waits ≡ [])
+    writes_empty s t (Ok x) bytes p = p.2
+    writes_empty s t (Err e) bytes p = tt
+
+    -- what follows of bytes that were added, and of such that were written
+    pub adds_then : (s t : Sink W) (P : Type 0) (r : Result A E) (bytes : List ℕ) → (Added contents s t bytes → P) → Adds contents s t r bytes → OnOk r P
+    adds_then s t P (Ok x) bytes f q = f q
+    adds_then s t P (Err e) bytes f q = tt
+
+    pub writes_then : (s t : Sink W) (P : Type 0) (r : Result A E) (bytes : List ℕ) → (Appends (contents s.inner) (contents t.inner) (s.waits ++ bytes) → P) → Writes contents s t r bytes → OnOk r P
+    writes_then s t P (Ok x) bytes f q = f q.3
+    writes_then s t P (Err e) bytes f q = tt
+
+    -- what a call did that succeeded, and what one did that failed
+    pub added : (s t : Sink W) (r : Result A E) (bytes : List ℕ) → is_err r ≡ false → Adds contents s t r bytes → Added contents s t bytes
+    added s t (Ok x) bytes e p = p
+    added s t (Err y) bytes e p = absurd (true≢false e)
+
+    pub not_added : (s t : Sink W) (r : Result A E) (bytes : List ℕ) → is_err r ≡ true → Adds contents s t r bytes → Stops contents s t bytes
+    not_added s t (Ok x) bytes e p = absurd (true≢false (sym e))
+    not_added s t (Err y) bytes e p = p
+
+  -- what waited was written, and the writer inside given back
+  pub ends_written : {E : Type 0} (s t : Sink W) (r : Result (Unit {0}) E) → Writes contents s t r [] → Ends contents s t.inner r
+  ends_written s t (Ok x) p = (p.0, rw append-nil at p.3)
+  ends_written s t (Err e) p = (λ failed. ap (λ (k : Sink W). k.inner) (p.before failed), λ clean. rw append-nil at (p.part clean))

@@ -2,14 +2,13 @@
 use Rattle.std.proofs.Common.{◌≡◌, ◌≢◌, ℕ, ◌+◌, ◌-◌, ◌/◌, ◌%◌, slice_index, List, [], ◌∷◌, ◌++◌, length, map, take, drop, codes, decimal, Option, None, Some, refl, sym, ap, ◌∙◌, arith, append_assoc, append-nil, length-append, take-append-drop}
 use Rattle.std.specs.Io.KnownBytes.{Appends}
 use Rattle.std.proofs.Math.Seq.{take-add}
-use Rattle.std.proofs.KnownBytes.{Appends-trans}
 use Rattle.std.proofs.lemmas.List.{map-append}
 use Rattle.std.proofs.lemmas.List.Concat.{flat_map-append}
 use Rattle.hex.specs.Hex.{encode_lower, encode_with, lower_digits}
-use Rattle.tftp_capture.specs.{Version, One, Two, datagram_line, dir_word, end_line, end_word, head_line, line_with_host, payload_text, service_line, text_of, total_line, whole_lines, Entry, comment_line, commented_text, entry_line, said_in, Gathers, HasWritten, HasWrittenHosts, WriterState, header_text_in, host_field, line_naming}
+use Rattle.tftp_capture.specs.{Version, One, Two, datagram_line, dir_word, end_line, end_word, head_line, line_with_host, payload_text, service_line, text_of, total_line, whole_lines, Entry, comment_line, commented_text, entry_line, said_in, Gathers, HasWritten, HasWrittenHosts, Sink, header_text_in, host_field, line_naming}
 use Rattle.tftp_capture.specs.CaptureText.{Datagram, Header}
 use Rattle.tftp_capture.specs.Commented.Entry.{Comment, Passed}
-use Rattle.tftp_capture.proofs.Gathering.{gathers_more}
+use Rattle.tftp_capture.proofs.Gathering.{gathers_more, gathers_written}
 use Rattle.tftp_capture.proofs.Skips.{whole_lines-push}
 
 three_lines : (head named service : List ℕ) → head ++ ((10 ∷ codes "end ") ++ (named ++ ((10 ∷ codes "service ") ++ (service ++ 10 ∷ [])))) ≡ whole_lines (head ∷ (codes "end " ++ named) ∷ (codes "service " ++ service) ∷ [])
@@ -44,43 +43,28 @@ encode-append (x ∷ xs) ys = ap (λ l. slice_index lower_digits (x / 16) ∷ sl
 
 -- ---- one more datagram, and the whole text, whatever the lines of datagrams are
 
-module _ {A : Type 0} (line : A → List ℕ) where
-  line_written : (start before now : Option (List ℕ)) (old new front : List ℕ) (datagrams : List A) (d : A)
-      → Gathers start before [] old (front ++ whole_lines (map line datagrams)) → Gathers before now old new (line d ++ 10 ∷ []) → Gathers start now [] new (front ++ whole_lines (map line (datagrams ++ d ∷ [])))
-  line_written start before now old new front datagrams d h g =
+module _ {A : Type 0} (line : A → List ℕ) (c0 c1 c2 : Option (List ℕ)) where
+  line_written : (h0 h1 h2 front : List ℕ) (datagrams : List A) (d : A) → Gathers c0 c1 h0 h1 (front ++ whole_lines (map line datagrams)) → Gathers c1 c2 h1 h2 (line d ++ 10 ∷ [])
+      → Gathers c0 c2 h0 h2 (front ++ whole_lines (map line (datagrams ++ d ∷ [])))
+  line_written h0 h1 h2 front datagrams d h g =
       let lines : whole_lines (map line (datagrams ++ d ∷ [])) ≡ whole_lines (map line datagrams) ++ (line d ++ 10 ∷ []) =
       ap whole_lines (map-append line datagrams (d ∷ [])) ∙ whole_lines-push (map line datagrams) (line d) in
       let all : front ++ whole_lines (map line (datagrams ++ d ∷ [])) ≡ (front ++ whole_lines (map line datagrams)) ++ (line d ++ 10 ∷ []) =
       ap (λ l. front ++ l) lines ∙ sym (append_assoc front (whole_lines (map line datagrams)) (line d ++ 10 ∷ [])) in
       rw all (gathers_more _ _ _ _ _ _ _ _ h g)
 
-  whole_written : (start before now : Option (List ℕ)) (writer : WriterState) (version : Version) (header : Header) (datagrams : List A) (number : ℕ)
-      → Gathers start before [] writer.held (header_text_in version header ++ whole_lines (map line datagrams)) → writer.count ≡ number
-      → Appends before now (writer.held ++ (total_line writer.count ++ 10 ∷ []))
-      → Appends start now (whole_lines (head_line version ∷ end_line header.named ∷ service_line header.service ∷ (map line datagrams ++ total_line number ∷ [])))
-  whole_written start before now writer version header datagrams number h counted a =
+  whole_written : (h0 h1 : List ℕ) (version : Version) (header : Header) (datagrams : List A) (count number : ℕ) → Gathers c0 c1 h0 h1 (header_text_in version header ++ whole_lines (map line datagrams)) → count ≡ number
+      → Appends c1 c2 (h1 ++ (total_line count ++ 10 ∷ []))
+      → Appends c0 c2 (h0 ++ whole_lines (head_line version ∷ end_line header.named ∷ service_line header.service ∷ (map line datagrams ++ total_line number ∷ [])))
+  whole_written h0 h1 version header datagrams count number h counted a =
       let lines = map line datagrams in
       let head = header_text_in version header in
-      let total : whole_lines (lines ++ total_line number ∷ []) ≡ whole_lines lines ++ (total_line number ++ 10 ∷ []) = whole_lines-push lines (total_line number) in
       let all : whole_lines (head_line version ∷ end_line header.named ∷ service_line header.service ∷ (lines ++ total_line number ∷ [])) ≡ head ++ whole_lines (lines ++ total_line number ∷ []) =
       flat_map-append (λ (l : List ℕ). l ++ 10 ∷ []) (head_line version ∷ end_line header.named ∷ service_line header.service ∷ []) (lines ++ total_line number ∷ []) in
-      let joined : whole_lines (head_line version ∷ end_line header.named ∷ service_line header.service ∷ (lines ++ total_line number ∷ [])) ≡ h.written ++ (writer.held ++ (total_line writer.count ++ 10 ∷ [])) =
-      all ∙ ap (λ l. head ++ l) (total ∙ ap (λ n. whole_lines lines ++ (total_line n ++ 10 ∷ [])) (sym counted))
-      ∙ sym (append_assoc head (whole_lines lines) (total_line writer.count ++ 10 ∷ []))
-      ∙ ap (λ l. l ++ (total_line writer.count ++ 10 ∷ [])) h.are ∙ append_assoc h.written writer.held (total_line writer.count ++ 10 ∷ []) in
-      rw joined (Appends-trans _ _ _ _ _ h.appended a)
-
-one_more : (old new : WriterState) (datagrams : List Datagram) (d : Datagram) → new.count ≡ old.count + 1 → old.count ≡ length datagrams → new.count ≡ length (datagrams ++ d ∷ [])
-one_more old new datagrams d e h = e ∙ ap (λ n. n + 1) h ∙ sym (length-append datagrams (d ∷ []))
-
-pub datagram_written : (start before now : Option (List ℕ)) (old new : WriterState) (header : Header) (datagrams : List Datagram) (d : Datagram)
-    → HasWritten start before old header datagrams → Gathers before now old.held new.held (datagram_line d ++ 10 ∷ []) → new.count ≡ old.count + 1 → HasWritten start now new header (datagrams ++ d ∷ [])
-datagram_written start before now old new header datagrams d h g e = record {
-  text = line_written datagram_line start before now old.held new.held (header_text_in One header) datagrams d h.text g;
-  count = one_more old new datagrams d e h.count;
-}
-
--- ---- the same of datagrams with their hosts, and of comments
+      let joined : whole_lines (head_line version ∷ end_line header.named ∷ service_line header.service ∷ (lines ++ total_line number ∷ [])) ≡ (head ++ whole_lines lines) ++ (total_line count ++ 10 ∷ []) =
+      all ∙ ap (λ l. head ++ l) (whole_lines-push lines (total_line number) ∙ ap (λ n. whole_lines lines ++ (total_line n ++ 10 ∷ [])) (sym counted))
+      ∙ sym (append_assoc head (whole_lines lines) (total_line count ++ 10 ∷ [])) in
+      rw joined (gathers_written c0 c1 c2 h0 h1 (head ++ whole_lines lines) (total_line count ++ 10 ∷ []) h a)
 
 said-push : (entries : List Entry) (d : Datagram) → length (said_in (entries ++ Passed d ∷ [])) ≡ length (said_in entries) + 1
 said-push [] d = refl
@@ -92,27 +76,35 @@ said-comment [] words = refl
 said-comment (Comment others ∷ entries) words = said-comment entries words
 said-comment (Passed e ∷ entries) words = ap (λ ds. e ∷ ds) (said-comment entries words)
 
-pub host_written : (start before now : Option (List ℕ)) (old new : WriterState) (header : Header) (entries : List Entry) (d : Datagram)
-    → HasWrittenHosts start before old header entries → Gathers before now old.held new.held (line_with_host d ++ 10 ∷ []) → new.count ≡ old.count + 1 → HasWrittenHosts start now new header (entries ++ Passed d ∷ [])
-host_written start before now old new header entries d h g e = record {
-  text = line_written entry_line start before now old.held new.held (header_text_in Two header) entries (Passed d) h.text g;
-  count = e ∙ ap (λ n. n + 1) h.count ∙ sym (said-push entries d);
-}
+module _ {W : Type 0} (contents : W → Option (List ℕ)) (start before now : Sink W) (count : ℕ) (header : Header) where
+  pub datagram_written : (more : ℕ) (datagrams : List Datagram) (d : Datagram) → HasWritten contents start before count header datagrams
+      → Gathers (contents before.inner) (contents now.inner) before.waits now.waits (datagram_line d ++ 10 ∷ []) → more ≡ count + 1 → HasWritten contents start now more header (datagrams ++ d ∷ [])
+  datagram_written more datagrams d h g e = record {
+    text = line_written datagram_line _ _ _ _ _ _ (header_text_in One header) datagrams d h.text g;
+    are = e ∙ ap (λ n. n + 1) h.are ∙ sym (length-append datagrams (d ∷ []));
+  }
 
-pub comment_written : (start before now : Option (List ℕ)) (old new : WriterState) (header : Header) (entries : List Entry) (words : List ℕ)
-    → HasWrittenHosts start before old header entries → Gathers before now old.held new.held (comment_line words ++ 10 ∷ []) → new.count ≡ old.count → HasWrittenHosts start now new header (entries ++ Comment words ∷ [])
-comment_written start before now old new header entries words h g e = record {
-  text = line_written entry_line start before now old.held new.held (header_text_in Two header) entries (Comment words) h.text g;
-  count = e ∙ h.count ∙ sym (ap length (said-comment entries words));
-}
+  pub host_written : (more : ℕ) (entries : List Entry) (d : Datagram) → HasWrittenHosts contents start before count header entries
+      → Gathers (contents before.inner) (contents now.inner) before.waits now.waits (line_with_host d ++ 10 ∷ []) → more ≡ count + 1 → HasWrittenHosts contents start now more header (entries ++ Passed d ∷ [])
+  host_written more entries d h g e = record {
+    text = line_written entry_line _ _ _ _ _ _ (header_text_in Two header) entries (Passed d) h.text g;
+    are = e ∙ ap (λ n. n + 1) h.are ∙ sym (said-push entries d);
+  }
 
-pub text_written : (start before now : Option (List ℕ)) (writer : WriterState) (header : Header) (datagrams : List Datagram)
-    → HasWritten start before writer header datagrams → Appends before now (writer.held ++ (total_line writer.count ++ 10 ∷ [])) → Appends start now (text_of header datagrams)
-text_written start before now writer header datagrams h a = whole_written datagram_line start before now writer One header datagrams (length datagrams) h.text h.count a
+  pub comment_written : (same : ℕ) (entries : List Entry) (words : List ℕ) → HasWrittenHosts contents start before count header entries
+      → Gathers (contents before.inner) (contents now.inner) before.waits now.waits (comment_line words ++ 10 ∷ []) → same ≡ count → HasWrittenHosts contents start now same header (entries ++ Comment words ∷ [])
+  comment_written same entries words h g e = record {
+    text = line_written entry_line _ _ _ _ _ _ (header_text_in Two header) entries (Comment words) h.text g;
+    are = e ∙ h.are ∙ sym (ap length (said-comment entries words));
+  }
 
-pub hosts_written : (start before now : Option (List ℕ)) (writer : WriterState) (header : Header) (entries : List Entry)
-    → HasWrittenHosts start before writer header entries → Appends before now (writer.held ++ (total_line writer.count ++ 10 ∷ [])) → Appends start now (commented_text header entries)
-hosts_written start before now writer header entries h a = whole_written entry_line start before now writer Two header entries (length (said_in entries)) h.text h.count a
+  pub text_written : (datagrams : List Datagram) → HasWritten contents start before count header datagrams → Appends (contents before.inner) (contents now.inner) (before.waits ++ (total_line count ++ 10 ∷ []))
+      → Appends (contents start.inner) (contents now.inner) (start.waits ++ text_of header datagrams)
+  text_written datagrams h a = whole_written datagram_line _ _ _ _ _ One header datagrams count (length datagrams) h.text h.are a
+
+  pub hosts_written : (entries : List Entry) → HasWrittenHosts contents start before count header entries → Appends (contents before.inner) (contents now.inner) (before.waits ++ (total_line count ++ 10 ∷ []))
+      → Appends (contents start.inner) (contents now.inner) (start.waits ++ commented_text header entries)
+  hosts_written entries h a = whole_written entry_line _ _ _ _ _ Two header entries count (length (said_in entries)) h.text h.are a
 
 -- the digits of one more piece, and of the bytes after it
 pub encode_more : (bytes : List ℕ) (done size : ℕ) → encode_lower (take (done + size) bytes) ≡ encode_lower (take done bytes) ++ encode_lower (take (done + size - done) (drop done bytes))

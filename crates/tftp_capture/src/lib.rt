@@ -1,4 +1,4 @@
-//! The capture text read and written, and readers and writers that remember whether they have failed.
+//! The capture text read and written, readers that remember whether they have failed, and a writer of lines.
 #![tactic(auto)]
 
 mod ahead;
@@ -6,10 +6,10 @@ mod datagram;
 mod digits;
 mod fault;
 mod fields;
-mod gathered;
 mod host_writer;
 mod laws;
 mod line;
+mod line_writer;
 mod lines;
 mod reader;
 mod standing;
@@ -23,7 +23,6 @@ mod writer;
 pub use ahead::Ahead;
 pub use datagram::{Datagram, Header};
 pub use fault::{CaptureFault, TextFault, WriteFault};
-pub use gathered::Gathered;
 pub use host_writer::HostCaptureWriter;
 pub use laws::{
     beginnings_agree, canonical_text_is_read, capture_has_its_beginnings, commented_text_is_read,
@@ -31,7 +30,7 @@ pub use laws::{
     worked_text_is_canonical, worked_text_is_in_version_two, worked_text_names_hosts,
     worked_text_with_hosts_is_canonical,
 };
+pub use line_writer::LineWriter;
 pub use reader::CaptureReader;
 pub use tallied::Tallied;
-pub use whole::write_whole;
 pub use writer::CaptureWriter;

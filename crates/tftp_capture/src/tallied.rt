@@ -1,14 +1,12 @@
 ghost use Rattle.std.specs.Prelude.{◌≡◌, ◌||◌, false, is_err};
-ghost use Rattle.std.specs.Io.{ReadsAtMost, WritesAtMost};
-ghost use Rattle.std.specs.Io.KnownBytes.{Keeps, ReadConsumes, WriteAppends};
-ghost use Rattle.tftp_capture.specs.Tally.{write_failed};
+ghost use Rattle.std.specs.Io.{ReadsAtMost};
+ghost use Rattle.std.specs.Io.KnownBytes.{ReadConsumes};
 
 use std::io;
-use std::io::{Read, Write};
+use std::io::Read;
 use std::marker::Model;
 
-/// A reader or a writer, and whether it has answered an error, of whatever kind, or taken none of a
-/// slice that is not empty.
+/// A reader, and whether it has answered an error, of whatever kind.
 #[derive(Drop)]
 pub struct Tallied<T> {
     inner: T,
@@ -24,7 +22,7 @@ impl<T> Model for Tallied<T> {
 }
 
 impl<T> Tallied<T> {
-    /// Wraps a reader or a writer; nothing has failed yet.
+    /// Wraps a reader; nothing has failed yet.
     pub fn new(inner: T) -> Self
         ensures { result ≡ (inner, false) }
     {
@@ -42,7 +40,7 @@ impl<T> Tallied<T> {
         self.failed
     }
 
-    /// Gives the reader or writer back, as the calls left it.
+    /// Gives the reader back, as the calls left it.
     pub fn into_inner(self) -> T
         ensures { result ≡ self.0 }
     {
@@ -60,35 +58,6 @@ impl<R: Read> Read for Tallied<R> {
         ensures tally { self.new.1 ≡ (self.old.1 || is_err result) }
     {
         let result = self.inner.read(buf);
-        if result.is_err() {
-            self.failed = true;
-        }
-        result
-    }
-}
-
-impl<W: Write> Write for Tallied<W> {
-    ghost contents = { λ t. W.contents t.0 };
-
-    fn write(&mut self, buf: &[u8]) -> io::Result<usize>
-        ensures bound { WritesAtMost result buf.now }
-        ensures bytes { WriteAppends (W.contents self.old.0) (W.contents self.new.0) result buf.now }
-        ensures tally { self.new.1 ≡ (self.old.1 || write_failed result buf.now) }
-    {
-        let result = self.inner.write(buf);
-        match &result {
-            Ok(0) if !buf.is_empty() => self.failed = true,
-            Ok(_) => {}
-            Err(_) => self.failed = true,
-        }
-        result
-    }
-
-    fn flush(&mut self) -> io::Result<()>
-        ensures bytes { Keeps (W.contents self.old.0) (W.contents self.new.0) }
-        ensures tally { self.new.1 ≡ (self.old.1 || is_err result) }
-    {
-        let result = self.inner.flush();
         if result.is_err() {
             self.failed = true;
         }

@@ -2,15 +2,16 @@
 use Rattle.std.proofs.Common.{◌≡◌, ℕ, List, Bool, false, true, Option, Some, Result, refl, sym, ◌∙◌}
 use Rattle.std.proofs.lemmas.Bool.{false≢true}
 use Rattle.std.specs.Io.KnownBytes.{Consumes, IsAtEnd}
+use Rattle.tftp_capture.specs.{Sink}
 use Rattle.tftp_model.specs.{Meaning}
 use Rattle.tftp_judge.specs.{EndsText, IsReadVerdict, IsTextVerdict, SaysReadFailed, Verdict}
 use Rattle.tftp_judge.proofs.ReadVerdicts.{read_is_text}
-use Rattle.tftp_commands.specs.{Status, IsToldBy, IsWritten, Output, Runs}
+use Rattle.tftp_commands.specs.{Status, IsToldBy, Output, Prints, Runs}
 
-pub judged_runs : {R W : Type 0} (remaining : R → Option (List ℕ)) (contents : W → Option (List ℕ)) (answer : Result Meaning Verdict → Output) (r0 r1 : R × Bool) (w0 w1 : W × Bool) (said : Result Meaning Verdict) (status : Status)
+pub judged_runs : {R W : Type 0} (remaining : R → Option (List ℕ)) (contents : W → Option (List ℕ)) (answer : Result Meaning Verdict → Output) (r0 r1 : R × Bool) (w0 w1 : Sink W) (said : Result Meaning Verdict) (status : Status)
     → (read : List ℕ) × Consumes (remaining r0.0) (remaining r1.0) read × IsReadVerdict read said → (EndsText said → IsAtEnd (remaining r1.0)) → (SaysReadFailed said → r1.1 ≡ true) → (r1.1 ≡ true → SaysReadFailed said)
     → ((text : List ℕ) → remaining r0.0 ≡ Some text → r1.1 ≡ false → IsTextVerdict text said)
-    → IsWritten (contents w0.0) (contents w1.0) w1.1 (answer said) status → Runs remaining contents (IsToldBy answer) r0 r1 w0 w1 status
+    → Prints contents w0 w1 (answer said) status → Runs remaining contents (IsToldBy answer) r0 r1 w0 w1 status
 judged_runs remaining contents answer r0 r1 w0 w1 said status judged ended reads tally whole written = record {
   said = (
     judged.0,

@@ -1,16 +1,17 @@
 -- What was written of a text whose normal text was asked for.
-use Rattle.std.proofs.Common.{◌≡◌, ℕ, List, Bool, true, false, true≢false, Option, Some, Result, Ok, Err, refl, sym, ◌∙◌, subst}
+use Rattle.std.proofs.Common.{◌≡◌, ℕ, List, Bool, true, false, true≢false, Option, Some, Result, Ok, Err, refl, sym, ap, ◌∙◌, subst}
 use Rattle.std.specs.Io.KnownBytes.{Consumes, IsAtEnd}
-use Rattle.std.proofs.KnownBytes.{Appends-nil}
+use Rattle.tftp_capture.specs.{IsFresh, Sink}
 use Rattle.tftp_capture.specs.declared.fault.CaptureFault.TheVariants.{Memory}
 use Rattle.tftp_model.specs.{Meaning}
 use Rattle.tftp_judge.specs.{EndsText, IsReadVerdict, IsTextVerdict, SaysReadFailed, Verdict, Capture}
 use Rattle.tftp_judge.proofs.ReadVerdicts.{read_is_text}
-use Rattle.tftp_normal.specs.{Normalises, NormalFault}
+use Rattle.tftp_normal.specs.{normal_text, Normalises, NormalFault}
 use Rattle.tftp_normal.specs.declared.fault.NormalFault.TheVariants as fault
-use Rattle.tftp_commands.specs.{Status, verdict_status, IsJudged, IsNormalised, normalised, IsWritten, Output, Runs, Source, given}
+use Rattle.tftp_commands.specs.{Status, verdict_status, IsJudged, IsNormalised, normalised, Output, Prints, Runs, Source, given}
 use Rattle.tftp_commands.specs.declared.status.Status.TheVariants as status
 use Rattle.tftp_commands.proofs.Memory.{memory_judged}
+use Rattle.tftp_commands.proofs.Written.{cut_fresh, printed_fresh, printed_none}
 
 abbrev pub status_after : Result (Unit {0}) NormalFault → Status
 status_after (Ok done) = status.Success
@@ -40,25 +41,16 @@ judged_told source (Ok m) (Err fault.Memory) judged = memory_judged source (not_
 judged_told source (Ok m) (Err (fault.Verdict verdict)) judged = judged
 judged_told source (Err verdict) result judged = judged
 
-module _ {W : Type 0} (contents : W → Option (List ℕ)) (old new : W × Bool) where
-  -- nothing was written, and the status is that of what is said
-  untouched : (verdict : Verdict) → old.1 ≡ false → new ≡ old → IsWritten (contents old.0) (contents new.0) new.1 (normalised (Err verdict)) (verdict_status verdict)
-  untouched verdict clean same =
-      let here : IsWritten (contents old.0) (contents old.0) old.1 (normalised (Err verdict)) (verdict_status verdict) =
-      subst (λ b. IsWritten (contents old.0) (contents old.0) b (normalised (Err verdict)) (verdict_status verdict)) (sym clean) (Appends-nil (contents old.0), refl) in
-      subst (λ (w : W × Bool). IsWritten (contents old.0) (contents w.0) w.1 (normalised (Err verdict)) (verdict_status verdict)) (sym same) here
-
-  written : (said : Result Meaning Verdict) (result : Result (Unit {0}) NormalFault) → old.1 ≡ false → Normalises contents old new said result
-      → IsWritten (contents old.0) (contents new.0) new.1 (normalised (told said result)) (status_after result)
-  written (Ok m) (Ok done) clean is = subst (λ b. IsWritten (contents old.0) (contents new.0) b (normalised (Ok m)) status.Success) (sym is.0) (is.1, refl)
-  written (Ok m) (Err fault.Write) clean is = subst (λ b. IsWritten (contents old.0) (contents new.0) b (normalised (Ok m)) status.Fault) (sym is.0) (is.1, refl)
-  written (Ok m) (Err fault.Memory) clean is = untouched (Capture (Memory 1)) clean is
-  written (Ok m) (Err (fault.Verdict other)) clean is = absurd is
-  written (Err verdict) (Ok done) clean is = absurd is
-  written (Err verdict) (Err fault.Write) clean is = absurd is
-  written (Err verdict) (Err fault.Memory) clean is = absurd is
-  written (Err verdict) (Err (fault.Verdict other)) clean is =
-      subst (λ v. IsWritten (contents old.0) (contents new.0) new.1 (normalised (Err verdict)) (verdict_status v)) (sym is.0) (untouched verdict clean is.1)
+module _ {W : Type 0} (contents : W → Option (List ℕ)) (old new : Sink W) where
+  written : (said : Result Meaning Verdict) (result : Result (Unit {0}) NormalFault) → IsFresh old → Normalises contents old new said result → Prints contents old new (normalised (told said result)) (status_after result)
+  written (Ok m) (Ok done) fresh is = printed_fresh contents old new (normal_text m) status.Success fresh is
+  written (Ok m) (Err fault.Write) fresh is = cut_fresh contents old new (normal_text m) status.Success fresh is
+  written (Ok m) (Err fault.Memory) fresh is = printed_none contents old new status.Fault status.Fault fresh is refl
+  written (Ok m) (Err (fault.Verdict other)) fresh is = absurd is
+  written (Err verdict) (Ok done) fresh is = absurd is
+  written (Err verdict) (Err fault.Write) fresh is = absurd is
+  written (Err verdict) (Err fault.Memory) fresh is = absurd is
+  written (Err verdict) (Err (fault.Verdict other)) fresh is = printed_none contents old new (verdict_status verdict) (verdict_status other) fresh is.1 (ap verdict_status is.0)
 
   -- what is said of a text that is not accepted is said once
   same_failure : (one two : Result Meaning Verdict) (result : Result (Unit {0}) NormalFault) → Normalises contents old new one result → Normalises contents old new two result → SaysReadFailed two → SaysReadFailed one
@@ -72,7 +64,7 @@ module _ {W : Type 0} (contents : W → Option (List ℕ)) (old new : W × Bool)
   same_failure (Err first) (Err verdict) (Err fault.Memory) is also h = absurd also
   same_failure (Err first) (Err verdict) (Err (fault.Verdict other)) is also h = subst (λ v. SaysReadFailed (Err v)) (sym also.0 ∙ is.0) h
 
-  module _ (before after : Option (List ℕ)) (failed : Bool) (result : Result (Unit {0}) NormalFault) (clean : old.1 ≡ false) where
+  module _ (before after : Option (List ℕ)) (failed : Bool) (result : Result (Unit {0}) NormalFault) (fresh : IsFresh old) where
     -- what was said of what was read, as `normalise` tells it
     abbrev pub Told : Type 0
     Told =
@@ -80,7 +72,7 @@ module _ {W : Type 0} (contents : W → Option (List ℕ)) (old new : W × Bool)
         × Normalises contents old new said result
 
     normalised_said : Told → (read : List ℕ) × (output : Output) × Consumes before after read × IsNormalised (record { read = read; left = after; failed = failed }) output
-        × IsWritten (contents old.0) (contents new.0) new.1 output (status_after result)
+        × Prints contents old new output (status_after result)
     normalised_said (read, said, consumed, is_said, at_end, reads, tally, is) = (
       read,
       normalised (told said result),
@@ -90,11 +82,11 @@ module _ {W : Type 0} (contents : W → Option (List ℕ)) (old new : W × Bool)
         judged = judged_told (record { read = read; left = after; failed = failed }) said result (record { is_said = read_is_text read said is_said; at_end = at_end; failed = (reads, tally) });
         is = refl;
       },
-      written said result clean is,
+      written said result fresh is,
     )
 
     normalised_whole : Told → failed ≡ false → (text : List ℕ) → (said : Result Meaning Verdict) × IsTextVerdict text said × Normalises contents old new said result
-        → (output : Output) × IsNormalised (given text) output × IsWritten (contents old.0) (contents new.0) new.1 output (status_after result)
+        → (output : Output) × IsNormalised (given text) output × Prints contents old new output (status_after result)
     normalised_whole (read, one, consumed, is_said, at_end, reads, tally, was) sound text (said, is_text, is) = (
       normalised (told said result),
       record {
@@ -106,13 +98,13 @@ module _ {W : Type 0} (contents : W → Option (List ℕ)) (old new : W × Bool)
         });
         is = refl;
       },
-      written said result clean is,
+      written said result fresh is,
     )
 
-  pub normalised_runs : {R : Type 0} (remaining : R → Option (List ℕ)) (r0 r1 : R × Bool) (result : Result (Unit {0}) NormalFault) (clean : old.1 ≡ false) → Told (remaining r0.0) (remaining r1.0) r1.1 result clean
+  pub normalised_runs : {R : Type 0} (remaining : R → Option (List ℕ)) (r0 r1 : R × Bool) (result : Result (Unit {0}) NormalFault) (fresh : IsFresh old) → Told (remaining r0.0) (remaining r1.0) r1.1 result fresh
       → ((text : List ℕ) → remaining r0.0 ≡ Some text → r1.1 ≡ false → (said : Result Meaning Verdict) × IsTextVerdict text said × Normalises contents old new said result)
       → Runs remaining contents IsNormalised r0 r1 old new (status_after result)
-  normalised_runs remaining r0 r1 result clean told whole = record {
-    said = normalised_said (remaining r0.0) (remaining r1.0) r1.1 result clean told;
-    whole = λ text tells sound. normalised_whole (remaining r0.0) (remaining r1.0) r1.1 result clean told sound text (whole text tells sound);
+  normalised_runs remaining r0 r1 result fresh told whole = record {
+    said = normalised_said (remaining r0.0) (remaining r1.0) r1.1 result fresh told;
+    whole = λ text tells sound. normalised_whole (remaining r0.0) (remaining r1.0) r1.1 result fresh told sound text (whole text tells sound);
   }

@@ -2,7 +2,7 @@
 use Rattle.std.proofs.Common.{◌≡◌, ◌≢◌, ◌⊎◌, inl, inr, ℕ, ◌+◌, List, [], ◌∷◌, ◌++◌, length, Bool, true, false, true≢false, Option, Some, None, Result, Ok, Err, refl, sym, ap, ◌∙◌, subst, append_assoc, append-nil, length-append, arith}
 use Rattle.std.specs.Io.KnownBytes.{prepend_known, Consumes, IsAtEnd}
 use Rattle.std.proofs.KnownBytes.{Consumes-trans}
-use Rattle.tftp_capture.specs.{TextFault, BadHeader, BadEnd, BadService, LineTooLong, BadLine, BadPort, BadHost, BadHex, PayloadTooLong, TotalWrong, Truncated, TrailingText, TextTooLong, CaptureFault, Open, Over, Failed, Version, Numbered, Stands, IsCapture, HasFault, datagram_of, Continues, FailsToBegin, FaultTells, GoesOn, IsAtTextEnd, IsReadFault, ReaderState, StandsFor, AppendsPrefix, Gathers}
+use Rattle.tftp_capture.specs.{TextFault, BadHeader, BadEnd, BadService, LineTooLong, BadLine, BadPort, BadHost, BadHex, PayloadTooLong, TotalWrong, Truncated, TrailingText, TextTooLong, CaptureFault, Open, Over, Failed, Version, Numbered, Stands, IsCapture, HasFault, datagram_of, Continues, FailsToBegin, FaultTells, GoesOn, IsAtTextEnd, IsReadFault, ReaderState, Sink, StandsFor, AppendsPrefix, Gathers}
 use Rattle.tftp_capture.specs.declared.fault.CaptureFault.TheVariants.{Text, Read, Memory}
 use Rattle.tftp_capture.specs.declared.datagram.Datagram.{Datagram as Owned}
 use Rattle.tftp_capture.specs.CaptureText.{Header}
@@ -270,11 +270,13 @@ whole_text text start now before after failed cut result tells clean said = by n
     )
 
 -- the run, whatever comes of it
-pub shown_runs : {R W : Type 0} (remaining : R → Option (List ℕ)) (contents : W → Option (List ℕ)) (r0 r1 : R × Bool) (w0 w1 : W × Bool) (result : Status) → Said (remaining r0.0) (remaining r1.0) r1.1 (contents w0.0) (contents w1.0) w1.1 result
-    → Runs remaining contents (λ source. IsShown source w1.1) r0 r1 w0 w1 result
-shown_runs remaining contents r0 r1 w0 w1 result said = record {
-  said = said;
-  whole = λ text tells clean. whole_text text (remaining r0.0) (remaining r1.0) (contents w0.0) (contents w1.0) r1.1 w1.1 result tells clean said;
+pub shown_runs : {R W : Type 0} (remaining : R → Option (List ℕ)) (contents : W → Option (List ℕ)) (r0 r1 : R × Bool) (w0 w1 : Sink W) (result : Status)
+    → Said (remaining r0.0) (remaining r1.0) r1.1 (contents w0.inner) (contents w1.inner) w1.failed result → (w1.failed ≡ false → w1.waits ≡ []) → Runs remaining contents (λ source. IsShown source w1.failed) r0 r1 w0 w1 result
+shown_runs remaining contents r0 r1 w0 w1 result said none = record {
+  said = (said.0, said.1, said.2, said.3, (said.4, none));
+  whole = λ text tells clean.
+      let whole = whole_text text (remaining r0.0) (remaining r1.0) (contents w0.inner) (contents w1.inner) r1.1 w1.failed result tells clean said in
+      (whole.0, whole.1, (whole.2, none));
 }
 
 -- it is the other one

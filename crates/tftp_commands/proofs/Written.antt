@@ -1,20 +1,15 @@
 -- What a writer was given, piece by piece.
-use Rattle.std.proofs.Common.{◌≡◌, ℕ, List, [], ◌++◌, Bool, true, false, Option, Some, None, sym, ap, ◌∙◌, subst, append_assoc, append-nil}
-use Rattle.std.specs.Io.KnownBytes.{Appends}
-use Rattle.std.proofs.KnownBytes.{Appends-trans}
-use Rattle.tftp_capture.specs.{Gathers}
-use Rattle.tftp_capture.proofs.Gathering.{prefix_after}
-use Rattle.tftp_commands.specs.{IsWritten, Output, Status}
-
-appends_after : (c0 c1 c2 : Option (List ℕ)) (h0 h1 bytes last : List ℕ) → Gathers c0 c1 h0 h1 bytes → Appends c1 c2 (h1 ++ last) → Appends c0 c2 (h0 ++ (bytes ++ last))
-appends_after c0 c1 c2 h0 h1 bytes last p q =
-    let are : p.written ++ (h1 ++ last) ≡ h0 ++ (bytes ++ last) = sym (append_assoc p.written h1 last) ∙ ap (λ l. l ++ last) (sym p.are) ∙ append_assoc h0 bytes last in
-    subst (Appends c0 c2) are (Appends-trans _ _ _ _ _ p.appended q)
+use Rattle.std.proofs.Common.{◌≡◌, ℕ, List, [], ◌++◌, Bool, true, false, true≢false, Option, Some, None, refl, sym, ap, ◌∙◌, subst, append-nil}
+use Rattle.std.proofs.KnownBytes.{Appends-nil}
+use Rattle.tftp_capture.specs.{Added, Gathers, IsFresh, Sink, Stops, Wrote}
+use Rattle.tftp_capture.proofs.Gathering.{gathers_written, prefix_after}
+use Rattle.tftp_commands.specs.{IsWritten, Output, Prints, Status}
+use Rattle.tftp_commands.specs.declared.status.Status.TheVariants as status
 
 -- bytes were gathered, and then what waited was written, and more
 pub written_after : (c0 c1 c2 : Option (List ℕ)) (failed : Bool) (h0 h1 bytes last : List ℕ) (status result : Status) → Gathers c0 c1 h0 h1 bytes
     → IsWritten c1 c2 failed (record { bytes = h1 ++ last; status = status }) result → IsWritten c0 c2 failed (record { bytes = h0 ++ (bytes ++ last); status = status }) result
-written_after c0 c1 c2 false h0 h1 bytes last status result p q = (appends_after c0 c1 c2 h0 h1 bytes last p q.0, q.1)
+written_after c0 c1 c2 false h0 h1 bytes last status result p q = (gathers_written c0 c1 c2 h0 h1 bytes last p q.0, q.1)
 written_after c0 c1 c2 true h0 h1 bytes last status result p q = (prefix_after c0 c1 c2 h0 h1 bytes last p q.0, q.1)
 
 -- bytes were gathered, and then all that waited was written
@@ -23,6 +18,52 @@ pub written_all : (c0 c1 c2 : Option (List ℕ)) (failed : Bool) (h0 h1 bytes : 
 written_all c0 c1 c2 failed h0 h1 bytes status result p q =
     let wide : IsWritten c1 c2 failed (record { bytes = h1 ++ []; status = status }) result = subst (λ (l : List ℕ). IsWritten c1 c2 failed (record { bytes = l; status = status }) result) (sym (append-nil h1)) q in
     subst (λ (l : List ℕ). IsWritten c0 c2 failed (record { bytes = h0 ++ l; status = status }) result) (append-nil bytes) (written_after c0 c1 c2 failed h0 h1 bytes [] status result p wide)
+
+module _ {W : Type 0} (contents : W → Option (List ℕ)) (s t : Sink W) where
+  -- an output of these bytes
+  abbrev printing : Sink W → Sink W → List ℕ → Status → Status → Type 0
+  printing old new bytes said result = Prints contents old new (record { bytes = bytes; status = said }) result
+
+  -- what waited was written, and then the bytes
+  pub printed : (bytes : List ℕ) (said : Status) → Wrote contents s t bytes → printing s t (s.waits ++ bytes) said said
+  printed bytes said p = (subst (λ b. IsWritten (contents s.inner) (contents t.inner) b (record { bytes = s.waits ++ bytes; status = said }) said) (sym p.1) (p.3, refl), λ _. p.2)
+
+  -- or a part of these was
+  pub cut : (bytes : List ℕ) (said : Status) → s.failed ≡ false → Stops contents s t bytes → printing s t (s.waits ++ bytes) said status.Fault
+  cut bytes said clean p = (
+    subst (λ b. IsWritten (contents s.inner) (contents t.inner) b (record { bytes = s.waits ++ bytes; status = said }) status.Fault) (sym p.failed) (p.part clean, refl),
+    λ passed. absurd (true≢false (sym p.failed ∙ passed)),
+  )
+
+  -- bytes were added, and then what waited was printed
+  pub printed_after : (u : Sink W) (bytes : List ℕ) (said result : Status) → Added contents s t bytes → printing t u t.waits said result → printing s u (s.waits ++ bytes) said result
+  printed_after u bytes said result p q = (written_all (contents s.inner) (contents t.inner) (contents u.inner) u.failed s.waits t.waits bytes said result p.2 q.0, q.1)
+
+  -- ---- where no bytes were to come
+
+  pub printed_waits : (said : Status) → Wrote contents s t [] → printing s t s.waits said said
+  printed_waits said p = subst (λ l. printing s t l said said) (append-nil s.waits) (printed [] said p)
+
+  pub cut_waits : (said : Status) → s.failed ≡ false → Stops contents s t [] → printing s t s.waits said status.Fault
+  cut_waits said clean p = subst (λ l. printing s t l said status.Fault) (append-nil s.waits) (cut [] said clean p)
+
+  -- ---- where nothing waited
+
+  pub printed_fresh : (bytes : List ℕ) (said : Status) → IsFresh s → Wrote contents s t bytes → printing s t bytes said said
+  printed_fresh bytes said fresh p = subst (λ l. printing s t (l ++ bytes) said said) fresh.0 (printed bytes said p)
+
+  pub cut_fresh : (bytes : List ℕ) (said : Status) → IsFresh s → Stops contents s t bytes → printing s t bytes said status.Fault
+  cut_fresh bytes said fresh p = subst (λ l. printing s t (l ++ bytes) said status.Fault) fresh.0 (cut bytes said fresh.1 p)
+
+  pub after_fresh : (u : Sink W) (bytes : List ℕ) (said result : Status) → IsFresh s → Added contents s t bytes → printing t u t.waits said result → printing s u bytes said result
+  after_fresh u bytes said result fresh p q = subst (λ l. printing s u (l ++ bytes) said result) fresh.0 (printed_after u bytes said result p q)
+
+  -- nothing was to be printed
+  pub printed_none : (said result : Status) → IsFresh s → t ≡ s → result ≡ said → printing s t [] said result
+  printed_none said result fresh same is =
+      let here : printing s s [] said result =
+      (subst (λ b. IsWritten (contents s.inner) (contents s.inner) b (record { bytes = []; status = said }) result) (sym fresh.1) (Appends-nil (contents s.inner), is), λ _. fresh.0) in
+      subst (λ w. printing s w [] said result) (sym same) here
 
 -- an output is written in one way
 pub written_once : (held : List ℕ) (new other : Option (List ℕ)) (output : Output) (status also : Status) → IsWritten (Some held) new false output status → IsWritten (Some held) other false output also

@@ -13,7 +13,7 @@ pub mod Run
 pub mod One
 pub use Words.{IsCommand, IsNoCommand, IsQuiet, audit_app, memory_fault, name_of, with_command}
 pub use Names.{by_name, packet_fault_name, text_fault_name}
-pub use Outputs.{IsWritten, Output, fault_line, memory_line, usage_line}
+pub use Outputs.{IsWritten, Output, Prints, fault_line, memory_line, usage_line}
 pub use Sources.{Source, given}
 pub use Shown.{AreFirst, AreLines, Cut, Ending, EndsBy, Faulty, IsDatagramLine, IsPayloadText, IsShown, Whole, last_line, message_text, status_of}
 pub use Judged.{IsJudged, IsToldBy}

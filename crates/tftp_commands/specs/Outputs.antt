@@ -1,7 +1,7 @@
 -- What is printed, and the status that goes with it. Each line ends by LF.
-use Rattle.std.specs.Prelude.{◌≡◌, ℕ, ◌++◌, List, Bool, true, false, codes, decimal, Option}
+use Rattle.std.specs.Prelude.{◌≡◌, ℕ, ◌++◌, List, [], Bool, true, false, codes, decimal, Option}
 use Rattle.std.specs.Io.KnownBytes.{Appends}
-use Rattle.tftp_capture.specs.{CaptureFault, AppendsPrefix}
+use Rattle.tftp_capture.specs.{CaptureFault, AppendsPrefix, Sink}
 use Rattle.tftp_capture.specs.declared.fault.CaptureFault.TheVariants.{Text, Read, Memory}
 use Rattle.tftp_commands.specs.declared.status.Status.{Status}
 use Rattle.tftp_commands.specs.declared.status.Status.TheVariants as status
@@ -36,3 +36,7 @@ fault_line (Memory line) = memory_line
 abbrev pub IsWritten : Option (List ℕ) → Option (List ℕ) → Bool → Output → Status → Type 0
 IsWritten old new false output result = Appends old new output.bytes × (result ≡ output.status)
 IsWritten old new true output result = AppendsPrefix old new output.bytes × (result ≡ status.Fault)
+
+-- the same of what a writer of lines holds, in which nothing waits then
+abbrev pub Prints : {W : Type 0} → (W → Option (List ℕ)) → Sink W → Sink W → Output → Status → Type 0
+Prints contents old new output result = IsWritten (contents old.inner) (contents new.inner) new.failed output result × (new.failed ≡ false → new.waits ≡ [])

@@ -1,4 +1,5 @@
 ghost use Rattle.std.specs.Prelude.{◌≡◌, false};
+ghost use Rattle.tftp_capture.specs.{IsFresh};
 ghost use Rattle.tftp_commands.specs.Extracted.{IsExtracted};
 ghost use Rattle.tftp_commands.specs.Running.{Runs};
 
@@ -6,7 +7,7 @@ use crate::status::Status;
 use crate::verdicts::status_of;
 use std::alloc::Global;
 use std::io::{Read, Write};
-use tftp_capture::Tallied;
+use tftp_capture::{LineWriter, Tallied};
 use tftp_judge::OutFault;
 
 /// Writes the file of a capture text that is accepted, and nothing beside it; of a text that is not accepted nothing is
@@ -14,10 +15,10 @@ use tftp_judge::OutFault;
 pub fn extract<R: Read, W: Write>(
     alloc: Global,
     reader: &mut Tallied<R>,
-    writer: &mut Tallied<W>,
+    writer: &mut LineWriter<W>,
 ) -> Status
     requires reading { reader.old.1 ≡ false }
-    requires writing { writer.old.1 ≡ false }
+    requires fresh { IsFresh writer.old }
     ensures { Runs R.remaining W.contents IsExtracted reader.old reader.new writer.old writer.new result }
 {
     match tftp_judge::extract(alloc, reader, writer) {

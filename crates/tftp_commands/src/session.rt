@@ -1,6 +1,7 @@
 ghost use Rattle.std.specs.Prelude.{◌≡◌, ℕ, List, Some, false, map};
 ghost use Rattle.std.specs.Io.KnownBytes.{Consumes};
-ghost use Rattle.tftp_commands.specs.Outputs.{IsWritten, Output};
+ghost use Rattle.tftp_capture.specs.{IsFresh};
+ghost use Rattle.tftp_commands.specs.Outputs.{Output, Prints};
 ghost use Rattle.tftp_commands.specs.Run.{IsOutput};
 ghost use Rattle.tftp_commands.specs.Sources.{Source, given};
 ghost use Rattle.tftp_commands.specs.Words.{IsNoCommand};
@@ -16,7 +17,7 @@ use crate::words::{Action, UsageFault, action_of};
 use std::alloc::Global;
 use std::convert::AsStr;
 use std::io::{Read, Write};
-use tftp_capture::Tallied;
+use tftp_capture::{LineWriter, Tallied};
 
 /// Runs the command that the words name, the first of which is the program's name: reads a capture text, and writes
 /// lines, a file or a normal text. After a write that fails nothing more is written.
@@ -24,21 +25,21 @@ pub fn run<S: AsStr, R: Read, W: Write>(
     alloc: Global,
     words: &[S],
     reader: &mut Tallied<R>,
-    writer: &mut Tallied<W>,
+    writer: &mut LineWriter<W>,
 ) -> Status
     requires reading { reader.old.1 ≡ false }
-    requires writing { writer.old.1 ≡ false }
+    requires fresh { IsFresh writer.old }
 
     // Whatever the reader, the writer and the memory do: bytes were read, and the output is one that there is of the
     // words and of these. It was written, and its status is the run's; or, where a write failed, a part of it was.
     ensures said { (read : List ℕ) × (output : Output) × Consumes (R.remaining reader.old.0) (R.remaining reader.new.0) read
-        × IsOutput (map S.text words.now) (record { read = read; left = R.remaining reader.new.0; failed = reader.new.1 }) writer.new.1 output
-        × IsWritten (W.contents writer.old.0) (W.contents writer.new.0) writer.new.1 output result }
+        × IsOutput (map S.text words.now) (record { read = read; left = R.remaining reader.new.0; failed = reader.new.1 }) writer.new.failed output
+        × Prints W.contents writer.old writer.new output result }
 
     // Where no read fails, it is the output on exactly the text that the reader had.
     ensures whole { (text : List ℕ) → R.remaining reader.old.0 ≡ Some text → reader.new.1 ≡ false
-        → (output : Output) × IsOutput (map S.text words.now) (given text) writer.new.1 output
-        × IsWritten (W.contents writer.old.0) (W.contents writer.new.0) writer.new.1 output result }
+        → (output : Output) × IsOutput (map S.text words.now) (given text) writer.new.failed output
+        × Prints W.contents writer.old writer.new output result }
 
     // Where the words are no command, nothing is read.
     ensures untouched { IsNoCommand (map S.text words.now) → reader.new ≡ reader.old }

@@ -1,4 +1,4 @@
-ghost use Rattle.std.specs.Prelude.{◌≡◌, ◌++◌, false};
+ghost use Rattle.std.specs.Prelude.{◌≡◌, ◌++◌};
 ghost use Rattle.tftp_capture.specs.{Adds};
 ghost use Rattle.tftp_judge.specs.{Refusal};
 ghost use Rattle.tftp_commands.specs.Checked.{accepted_line, detail, refusal_line, verdict_line, verdict_status};
@@ -8,7 +8,7 @@ use crate::names::{by_name, mode_name, packet_fault_name, side_name};
 use crate::status::Status;
 use itoa::Buffer;
 use std::io::Write;
-use tftp_capture::{Gathered, Tallied, WriteFault};
+use tftp_capture::{LineWriter, WriteFault};
 use tftp_judge::{AbortedBy, Meaning, Refusal, Rule, Verdict};
 
 /// The status that goes with a text that is not accepted.
@@ -23,90 +23,70 @@ pub fn status_of(verdict: Verdict) -> Status
 }
 
 /// Adds the line of a text that is not accepted.
-pub fn put_verdict<W: Write>(
-    gathered: &mut Gathered,
-    writer: &mut Tallied<W>,
-    verdict: Verdict,
-) -> Result<(), WriteFault>
-    requires clean { writer.old.1 ≡ false }
-    ensures adds { Adds W.contents writer.old writer.new result gathered.old gathered.new (verdict_line verdict) }
+pub fn put_verdict<W: Write>(writer: &mut LineWriter<W>, verdict: Verdict) -> Result<(), WriteFault>
+    ensures adds { Adds W.contents writer.old writer.new result (verdict_line verdict) }
 {
     match verdict {
-        Verdict::Capture(fault) => put_fault(gathered, writer, fault),
-        Verdict::Refused(refusal) => put_refusal(gathered, writer, refusal),
+        Verdict::Capture(fault) => put_fault(writer, fault),
+        Verdict::Refused(refusal) => put_refusal(writer, refusal),
     }
 }
 
 /// Adds the line of a text that is accepted.
 pub fn put_accepted<W: Write>(
-    gathered: &mut Gathered,
-    writer: &mut Tallied<W>,
+    writer: &mut LineWriter<W>,
     meaning: &Meaning,
 ) -> Result<(), WriteFault>
-    requires clean { writer.old.1 ≡ false }
-    ensures adds { Adds W.contents writer.old writer.new result gathered.old gathered.new (accepted_line meaning.now) }
+    ensures adds { Adds W.contents writer.old writer.new result (accepted_line meaning.now) }
 {
     let mut blocks_buffer = Buffer::new();
     let mut bytes_buffer = Buffer::new();
-    gathered.add_all(
-        writer,
-        &[
-            b"accepted ",
-            side_name(meaning.request().side()),
-            b" ",
-            mode_name(meaning.request().mode()),
-            b" blocks ",
-            blocks_buffer.format(meaning.blocks()).as_bytes(),
-            b" bytes ",
-            bytes_buffer.format(meaning.file_len()).as_bytes(),
-            b"\n",
-        ],
-    )
+    writer.add_all(&[
+        b"accepted ",
+        side_name(meaning.request().side()),
+        b" ",
+        mode_name(meaning.request().mode()),
+        b" blocks ",
+        blocks_buffer.format(meaning.blocks()).as_bytes(),
+        b" bytes ",
+        bytes_buffer.format(meaning.file_len()).as_bytes(),
+        b"\n",
+    ])
 }
 
-fn put_refusal<W: Write>(
-    gathered: &mut Gathered,
-    writer: &mut Tallied<W>,
-    refusal: Refusal,
-) -> Result<(), WriteFault>
-    requires clean { writer.old.1 ≡ false }
-    ensures adds { Adds W.contents writer.old writer.new result gathered.old gathered.new (refusal_line refusal) }
+fn put_refusal<W: Write>(writer: &mut LineWriter<W>, refusal: Refusal) -> Result<(), WriteFault>
+    ensures adds { Adds W.contents writer.old writer.new result (refusal_line refusal) }
 {
     match refusal {
-        Refusal::Unlawful(index, rule) => put_unlawful(gathered, writer, index, rule),
-        Refusal::Aborted(by, code) => put_aborted(gathered, writer, by, code),
-        Refusal::Incomplete(count) => put_incomplete(gathered, writer, count),
-        Refusal::NormalTooLong => gathered.add(writer, b"too long when normal\n"),
-        Refusal::Memory(_) => gathered.add(writer, b"fault memory\n"),
+        Refusal::Unlawful(index, rule) => put_unlawful(writer, index, rule),
+        Refusal::Aborted(by, code) => put_aborted(writer, by, code),
+        Refusal::Incomplete(count) => put_incomplete(writer, count),
+        Refusal::NormalTooLong => writer.add(b"too long when normal\n"),
+        Refusal::Memory(_) => writer.add(b"fault memory\n"),
     }
 }
 
 fn put_unlawful<W: Write>(
-    gathered: &mut Gathered,
-    writer: &mut Tallied<W>,
+    writer: &mut LineWriter<W>,
     index: u64,
     rule: Rule,
 ) -> Result<(), WriteFault>
-    requires clean { writer.old.1 ≡ false }
-    ensures adds { Adds W.contents writer.old writer.new result gathered.old gathered.new (refusal_line (Refusal.Unlawful index rule)) }
+    ensures adds { Adds W.contents writer.old writer.new result (refusal_line (Refusal.Unlawful index rule)) }
 {
     let mut index_buffer = Buffer::new();
     let mut number_buffer = Buffer::new();
     let (space, fault) = detail_of(rule);
-    gathered.add_all(
-        writer,
-        &[
-            b"refused datagram ",
-            index_buffer.format(index).as_bytes(),
-            b" rule ",
-            number_buffer.format(rule.number()).as_bytes(),
-            b" ",
-            rule.name().as_bytes(),
-            space,
-            fault,
-            b"\n",
-        ],
-    )
+    writer.add_all(&[
+        b"refused datagram ",
+        index_buffer.format(index).as_bytes(),
+        b" rule ",
+        number_buffer.format(rule.number()).as_bytes(),
+        b" ",
+        rule.name().as_bytes(),
+        space,
+        fault,
+        b"\n",
+    ])
 }
 
 /// What stands behind the rule's name: a space, and what is wrong with the payload, where that is the rule.
@@ -120,38 +100,25 @@ fn detail_of(rule: Rule) -> (&'static [u8], &'static [u8])
 }
 
 fn put_aborted<W: Write>(
-    gathered: &mut Gathered,
-    writer: &mut Tallied<W>,
+    writer: &mut LineWriter<W>,
     by: AbortedBy,
     code: u16,
 ) -> Result<(), WriteFault>
-    requires clean { writer.old.1 ≡ false }
-    ensures adds { Adds W.contents writer.old writer.new result gathered.old gathered.new (refusal_line (Refusal.Aborted by code)) }
+    ensures adds { Adds W.contents writer.old writer.new result (refusal_line (Refusal.Aborted by code)) }
 {
     let mut buffer = Buffer::new();
-    gathered.add_all(
-        writer,
-        &[
-            b"aborted by ",
-            by_name(by),
-            b" code ",
-            buffer.format(code).as_bytes(),
-            b"\n",
-        ],
-    )
+    writer.add_all(&[
+        b"aborted by ",
+        by_name(by),
+        b" code ",
+        buffer.format(code).as_bytes(),
+        b"\n",
+    ])
 }
 
-fn put_incomplete<W: Write>(
-    gathered: &mut Gathered,
-    writer: &mut Tallied<W>,
-    count: u64,
-) -> Result<(), WriteFault>
-    requires clean { writer.old.1 ≡ false }
-    ensures adds { Adds W.contents writer.old writer.new result gathered.old gathered.new (refusal_line (Refusal.Incomplete count)) }
+fn put_incomplete<W: Write>(writer: &mut LineWriter<W>, count: u64) -> Result<(), WriteFault>
+    ensures adds { Adds W.contents writer.old writer.new result (refusal_line (Refusal.Incomplete count)) }
 {
     let mut buffer = Buffer::new();
-    gathered.add_all(
-        writer,
-        &[b"incomplete after ", buffer.format(count).as_bytes(), b"\n"],
-    )
+    writer.add_all(&[b"incomplete after ", buffer.format(count).as_bytes(), b"\n"])
 }

@@ -2,7 +2,7 @@
 
 use std::alloc::AllocError;
 use std::test::Fail;
-use tftp_capture::Tallied;
+use tftp_capture::{LineWriter, Tallied};
 use tftp_judge::{Meaning, Verdict, judge_text};
 use tftp_normal::{NormalFault, normal_capture, normal_count, normalise};
 use tftp_trials::drip::{DripReader, DripWriter};
@@ -20,9 +20,9 @@ fn normalised_on(
     drip: DripWriter,
 ) -> (Result<(), NormalFault>, DripWriter) {
     let mut reader = Tallied::new(DripReader::new(text, usize::MAX, 0, None));
-    let mut writer = Tallied::new(drip);
+    let mut writer = LineWriter::new(rt.alloc(), drip);
     let answer = normalise(rt.alloc(), &mut reader, &mut writer);
-    (answer, writer.into_inner())
+    (answer, writer.finish().0)
 }
 
 /// What `normal_capture` answers to a meaning, and what it has written then.
@@ -31,9 +31,9 @@ fn written_of(
     meaning: Meaning,
     drip: DripWriter,
 ) -> (Result<(), NormalFault>, DripWriter) {
-    let mut writer = Tallied::new(drip);
+    let mut writer = LineWriter::new(rt.alloc(), drip);
     let answer = normal_capture(rt.alloc(), meaning, &mut writer);
-    (answer, writer.into_inner())
+    (answer, writer.finish().0)
 }
 
 /// Whether this was written.

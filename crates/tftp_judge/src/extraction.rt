@@ -10,14 +10,14 @@ use crate::verdict::Verdict;
 use std::alloc::Global;
 use std::convert::From;
 use std::io::{Read, Write};
-use tftp_capture::{Tallied, WriteFault, write_whole};
+use tftp_capture::{LineWriter, Tallied, WriteFault};
 
 /// Why a file was not written, or not whole.
 #[derive(Clone, Copy, Debug, PartialEq, Eq)]
 pub enum OutFault {
     /// The text is not accepted, and nothing was written.
     Verdict(Verdict),
-    /// A write failed. A part of the file, from its start, was written.
+    /// A write failed. A part of what waited and of the file, from their start, was written.
     Write,
 }
 
@@ -48,10 +48,9 @@ impl From<WriteFault> for OutFault {
 pub fn extract<R: Read, W: Write>(
     alloc: Global,
     reader: &mut Tallied<R>,
-    writer: &mut Tallied<W>,
+    writer: &mut LineWriter<W>,
 ) -> Result<(), OutFault>
     requires reading { reader.old.1 ≡ false }
-    requires writing { writer.old.1 ≡ false }
     ensures extracts { (read : List ℕ) × (said : Result Meaning Refused) × Consumes (R.remaining reader.old.0) (R.remaining reader.new.0) read
         × IsReadVerdict read said × (EndsText said → IsAtEnd (R.remaining reader.new.0)) × (SaysReadFailed said → reader.new.1 ≡ true)
         × (reader.new.1 ≡ true → SaysReadFailed said) × Extracts W.contents writer.old writer.new said result }
@@ -62,6 +61,6 @@ pub fn extract<R: Read, W: Write>(
 {
     let meaning = judge_text(alloc, reader)?;
     let file = meaning.into_file();
-    write_whole(writer, file.as_slice())?;
+    writer.write(file.as_slice())?;
     Ok(())
 }

@@ -3,7 +3,7 @@
 use crate::copies::{Copies, copies_in};
 use anyhow::{Result, bail};
 use std::alloc::Global;
-use tftp_capture::Tallied;
+use tftp_capture::LineWriter;
 use tftp_commands::{Status, say_accepted, say_verdict};
 use tftp_counts::Carried;
 use tftp_judge::{Meaning, Refusal, Verdict};
@@ -95,10 +95,10 @@ impl Facts {
 impl Line {
     /// The line of one capture alone.
     fn of(alloc: Global, said: Result<Meaning, Verdict>) -> Result<Self> {
-        let mut written = Tallied::new(Vec::new(alloc));
+        let mut written = LineWriter::new(alloc, Vec::new(alloc));
         let status = match said {
-            Ok(meaning) => say_accepted(alloc, &mut written, &meaning),
-            Err(verdict) => say_verdict(alloc, &mut written, verdict),
+            Ok(meaning) => say_accepted(&mut written, &meaning),
+            Err(verdict) => say_verdict(&mut written, verdict),
         };
         let text = text_of(alloc, written)?;
         Ok(Line { text, status })
@@ -106,8 +106,8 @@ impl Line {
 }
 
 /// What was written, without its line's end.
-fn text_of(alloc: Global, written: Tallied<Vec<u8>>) -> Result<String> {
-    let line = written.into_inner();
+fn text_of(alloc: Global, written: LineWriter<Vec<u8>>) -> Result<String> {
+    let (line, _) = written.finish();
     match line.as_slice() {
         [line @ .., b'\n'] => Ok(String::from_utf8_lossy(alloc, line)?),
         _ => bail!("no memory"),

@@ -7,7 +7,7 @@ use crate::told::{Named, tell_apart, tell_several, told};
 use anyhow::{Result, bail};
 use std::alloc::Global;
 use std::io::Read;
-use tftp_capture::{CaptureReader, Datagram, Tallied};
+use tftp_capture::{CaptureReader, Datagram, LineWriter, Tallied};
 use tftp_packet::End;
 use tftp_session::{Asked, Session, TextAt, TextFault, requests_of};
 
@@ -171,12 +171,9 @@ impl<'a> Recorded<'a> {
     /// The text of a transfer at the recording's end.
     fn text(&self, alloc: Global, number: u64) -> Result<Vec<u8>> {
         let found = TextAt::find(alloc, self.session, number, self.end, self.named.file)?;
-        let mut written = Tallied::new(Vec::new(alloc));
-        match found
-            .text
-            .write(alloc, &mut written, self.end, &found.heading)
-        {
-            Ok(()) => Ok(written.into_inner()),
+        let mut written = LineWriter::new(alloc, Vec::new(alloc));
+        match found.text.write(&mut written, self.end, &found.heading) {
+            Ok(()) => Ok(written.finish().0),
             Err(_) => bail!("no memory"),
         }
     }

@@ -2,7 +2,7 @@
 use Rattle.std.proofs.Common.{◌≡◌, ℕ, suc, ◌+◌, ◌-◌, ◌*◌, ◌<◌, List, [], ◌∷◌, ◌++◌, length, length-append, take, drop, Option, refl, sym, subst, ap, ◌∙◌, arith, suc-mul, zero-mul, drop-drop}
 use Rattle.std.proofs.lemmas.List.{length-map}
 use Rattle.tftp_packet.specs.{Message, canonical, End, Client, Server}
-use Rattle.tftp_capture.specs.{AppendsPrefix, WriterState}
+use Rattle.tftp_capture.specs.{Sink, WritesPart}
 use Rattle.tftp_hosts.specs.{Datagram}
 use Rattle.tftp_model.specs.{Meaning, blksize_of, block, MachinePacket, Data, Ack, message_of}
 use Rattle.tftp_model.specs.Machines.{sender_of, receiver_of}
@@ -42,30 +42,32 @@ module _ (m : Meaning) where
   pub length-blocks : (k more : ℕ) → length (datagrams_of m (blocks_after k more)) ≡ more
   length-blocks k more = length-map (blocks_after k more) (normal_datagram m) ∙ blocks_length k more
 
-  module _ (c0 c1 : Option (List ℕ)) (s t : WriterState) (k last : ℕ) (all : List Datagram) (low : k < last) (p : Putting c0 c1 s t (datagrams_of m (blocks_after k (last - k))) all) where
+module _ {W : Type 0} (contents : W → Option (List ℕ)) (m : Meaning) where
+  module _ (c0 c1 : Sink W) (s t : ℕ) (k last : ℕ) (all : List Datagram) (low : k < last) (p : Putting contents c0 c1 s t (datagrams_of m (blocks_after k (last - k))) all) where
     -- with the next block at the front
-    pub step_putting : Putting c0 c1 s t (normal_datagram m (Data (k + 1)) ∷ datagrams_of m (blocks_after (k + 1) (last - (k + 1)))) all
-    step_putting = subst (λ ps. Putting c0 c1 s t (datagrams_of m ps) all) (blocks_step k last low) p
+    pub step_putting : Putting contents c0 c1 s t (normal_datagram m (Data (k + 1)) ∷ datagrams_of m (blocks_after (k + 1) (last - (k + 1)))) all
+    step_putting = subst (λ ps. Putting contents c0 c1 s t (datagrams_of m ps) all) (blocks_step m k last low) p
 
-    pub step_put : (c2 : Option (List ℕ)) (u : WriterState) (d : Datagram) → d ≡ normal_datagram m (Data (k + 1)) → HasPut c1 c2 t u (d ∷ []) → Putting c0 c2 s u (datagrams_of m (blocks_after (k + 1) (last - (k + 1)))) all
+    pub step_put : (c2 : Sink W) (u : ℕ) (d : Datagram) → d ≡ normal_datagram m (Data (k + 1)) → HasPut contents c1 c2 t u (d ∷ [])
+        → Putting contents c0 c2 s u (datagrams_of m (blocks_after (k + 1) (last - (k + 1)))) all
     step_put c2 u d is put =
-        putting_next c0 c1 c2 s t u (normal_datagram m (Data (k + 1)) ∷ []) (datagrams_of m (blocks_after (k + 1) (last - (k + 1)))) all step_putting (subst (λ x. HasPut c1 c2 t u (x ∷ [])) is put)
+        putting_next contents c0 c1 c2 s t u (normal_datagram m (Data (k + 1)) ∷ []) (datagrams_of m (blocks_after (k + 1) (last - (k + 1)))) all step_putting (subst (λ x. HasPut contents c1 c2 t u (x ∷ [])) is put)
 
-    pub step_failed : (c2 : Option (List ℕ)) (d : Datagram) → d ≡ normal_datagram m (Data (k + 1)) → AppendsPrefix c1 c2 (t.held ++ lines_of (d ∷ [])) → AppendsPrefix c0 c2 (s.held ++ lines_of all)
+    pub step_failed : (c2 : Sink W) (d : Datagram) → d ≡ normal_datagram m (Data (k + 1)) → WritesPart contents c1 c2 (lines_of (d ∷ [])) → WritesPart contents c0 c2 (lines_of all)
     step_failed c2 d is put =
-        putting_failed c0 c1 c2 s t (normal_datagram m (Data (k + 1)) ∷ []) (datagrams_of m (blocks_after (k + 1) (last - (k + 1)))) all step_putting
-        (subst (λ x. AppendsPrefix c1 c2 (t.held ++ lines_of (x ∷ []))) is put)
+        putting_failed contents c0 c1 c2 s t (normal_datagram m (Data (k + 1)) ∷ []) (datagrams_of m (blocks_after (k + 1) (last - (k + 1)))) all step_putting
+        (subst (λ x. WritesPart contents c1 c2 (lines_of (x ∷ []))) is put)
 
--- how many are counted
-pub putting_count : (c0 c1 : Option (List ℕ)) (s t : WriterState) (rest all : List Datagram) → Putting c0 c1 s t rest all → t.count + length rest ≡ s.count + length all
-putting_count c0 c1 s t rest all p =
-    let both = length-append p.done rest in
-    let same = ap length p.whole in
-    let count = p.put.count in
-    omega (arith, both, same, count)
+  -- how many are counted
+  pub putting_count : (c0 c1 : Sink W) (s t : ℕ) (rest all : List Datagram) → Putting contents c0 c1 s t rest all → t + length rest ≡ s + length all
+  putting_count c0 c1 s t rest all p =
+      let both = length-append p.done rest in
+      let same = ap length p.whole in
+      let count = p.put.counted in
+      omega (arith, both, same, count)
+
+  pub blocks_counted : (c0 c1 : Sink W) (s t : ℕ) (k more : ℕ) → HasPut contents c0 c1 s t (datagrams_of m (blocks_after k more)) → t ≡ s + more
+  blocks_counted c0 c1 s t k more p = let count = p.counted in let size = length-blocks m k more in omega (arith, count, size)
 
 pub left_at_start : (m : Meaning) → wire_of m ≡ drop (0 * blksize_of m) (wire_of m)
 left_at_start m = let none : 0 ≡ 0 * blksize_of m = sym (zero-mul (blksize_of m)) in ap (λ i. drop i (wire_of m)) none
-
-pub blocks_counted : (m : Meaning) (c0 c1 : Option (List ℕ)) (s t : WriterState) (k more : ℕ) → HasPut c0 c1 s t (datagrams_of m (blocks_after k more)) → t.count ≡ s.count + more
-blocks_counted m c0 c1 s t k more p = let count = p.count in let size = length-blocks m k more in omega (arith, count, size)

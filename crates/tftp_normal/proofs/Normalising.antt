@@ -1,6 +1,7 @@
 -- What was written of a text that a judge accepts.
-use Rattle.std.proofs.Common.{◌≡◌, ℕ, List, Bool, true, false, Option, Result, Ok, Err, OnOk, ◌⊎◌, inl, inr, refl, sym, subst}
+use Rattle.std.proofs.Common.{◌≡◌, ℕ, List, ◌++◌, Bool, true, false, Option, Result, Ok, Err, OnOk, ◌⊎◌, inl, inr, refl, sym, subst}
 use Rattle.std.specs.Io.KnownBytes.{Appends}
+use Rattle.tftp_capture.specs.{Sink}
 use Rattle.tftp_model.specs.{Meaning}
 use Rattle.tftp_judge.specs.{IsTextVerdict, WantsMemory, Verdict}
 use Rattle.tftp_normal.specs.declared.fault.NormalFault.TheVariants as fault
@@ -12,19 +13,19 @@ not_true true none = absurd (none refl)
 not_true false none = refl
 
 -- where the call succeeds
-pub written_normal : {W : Type 0} (contents : W → Option (List ℕ)) (old new : W × Bool) (m : Meaning) (text : List ℕ) (result : Result (Unit {0}) NormalFault) → IsTextVerdict text (Ok m) → Normalises contents old new (Ok m) result
-    → OnOk result ((o : Meaning) × IsAccepted text o × Appends (contents old.0) (contents new.0) (normal_text o))
-written_normal contents old new m text (Ok done) said is = (m, shown_text text m said, is.1)
+pub written_normal : {W : Type 0} (contents : W → Option (List ℕ)) (old new : Sink W) (m : Meaning) (text : List ℕ) (result : Result (Unit {0}) NormalFault) → IsTextVerdict text (Ok m) → Normalises contents old new (Ok m) result
+    → OnOk result ((o : Meaning) × IsAccepted text o × Appends (contents old.inner) (contents new.inner) (old.waits ++ normal_text o))
+written_normal contents old new m text (Ok done) said is = (m, shown_text text m said, is.3)
 written_normal contents old new m text (Err fault) said is = tt
 
 -- of a text that is accepted, where memory was wanting before anything was written
-pub wanted_normal : {W : Type 0} (contents : W → Option (List ℕ)) (old new : W × Bool) (m : Meaning) (verdict : Verdict) (result : Result (Unit {0}) NormalFault) → result ≡ Err (fault.Verdict verdict) → new ≡ old
+pub wanted_normal : {W : Type 0} (contents : W → Option (List ℕ)) (old new : Sink W) (m : Meaning) (verdict : Verdict) (result : Result (Unit {0}) NormalFault) → result ≡ Err (fault.Verdict verdict) → new ≡ old
     → (◌≡◌ {A = Result Meaning Verdict} (Err verdict) (Ok m)) ⊎ WantsMemory (Err verdict) → WritesNormal contents old new m result
 wanted_normal contents old new m verdict result is same (inl other) = absurd (cc)
 wanted_normal contents old new m verdict result is same (inr wants) = inr (verdict, wants, subst (Normalises contents old new (Err verdict)) (sym is) (refl, same))
 
 -- and where its normal text was
-pub exact_normal : {W : Type 0} (contents : W → Option (List ℕ)) (old new : W × Bool) (m o : Meaning) (result : Result (Unit {0}) NormalFault) → Normalises contents old new (Ok o) result
+pub exact_normal : {W : Type 0} (contents : W → Option (List ℕ)) (old new : Sink W) (m o : Meaning) (result : Result (Unit {0}) NormalFault) → Normalises contents old new (Ok o) result
     → (◌≡◌ {A = Result Meaning Verdict} (Ok o) (Ok m)) ⊎ WantsMemory (Ok o) → WritesNormal contents old new m result
 exact_normal contents old new m o result is (inl same) = let one : o ≡ m = cc in inl (subst (λ x. Normalises contents old new (Ok x) result) one is)
 exact_normal contents old new m o result is (inr wants) = absurd wants

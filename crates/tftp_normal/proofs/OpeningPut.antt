@@ -2,12 +2,13 @@
 use Rattle.std.proofs.Common.{◌≡◌, ◌≢◌, ℕ, zero, suc, ◌-◌, List, [], ◌∷◌, ◌++◌, Option, refl, sym, subst, ap, ◌∙◌, arith, false}
 use Rattle.std.specs.FinMap as map
 use Rattle.tftp_packet.specs.{Message, canonical, Side, Get, Put, Client, Server}
-use Rattle.tftp_capture.specs.{AppendsPrefix, WriterState}
+use Rattle.tftp_capture.specs.{Sink, Stops, WritesPart}
+use Rattle.tftp_capture.proofs.Gathering.{stops_short}
 use Rattle.tftp_hosts.specs.{Datagram}
 use Rattle.tftp_model.specs.{Meaning, request_of, Req, Oack, Ack}
 use Rattle.tftp_model.specs.Machines.{receiver_of}
 use Rattle.tftp_normal.specs.{opening_on, opening, normal_datagram, asked_by, sent_by, datagrams_of, lines_of, HasPut}
-use Rattle.tftp_normal.proofs.Putting.{put_failed, put_none}
+use Rattle.tftp_normal.proofs.Putting.{lines_both, put_failed}
 use Rattle.tftp_normal.proofs.BlocksPut.{ack_datagram}
 
 is_more : (n : ℕ) → n ≢ 0 → n ≡ suc (n - 1)
@@ -54,13 +55,14 @@ module _ (m : Meaning) (request oack : List ℕ) (asked : request ≡ canonical 
       ∙ ap (λ d. d ∷ normal_datagram m Oack ∷ []) asks
       ∙ ap (λ d. asked_by request ∷ d ∷ []) answers
 
-  pub request_failed : (c0 c1 : Option (List ℕ)) (s : WriterState) → AppendsPrefix c0 c1 (s.held ++ lines_of (asked_by request ∷ [])) → AppendsPrefix c0 c1 (s.held ++ lines_of (datagrams_of m (opening m)))
-  request_failed c0 c1 s p =
-      let b = begins in
-      subst (λ ds. AppendsPrefix c0 c1 (s.held ++ lines_of ds)) (sym b.1) (put_failed c0 c0 c1 s s [] (asked_by request ∷ []) b.0 (put_none c0 s) p)
+  module _ {W : Type 0} (contents : W → Option (List ℕ)) where
+    pub request_failed : (c0 c1 : Sink W) → Stops contents c0 c1 (lines_of (asked_by request ∷ [])) → Stops contents c0 c1 (lines_of (datagrams_of m (opening m)))
+    request_failed c0 c1 p =
+        let b = begins in
+        stops_short contents c0 c1 (lines_of (asked_by request ∷ [])) (lines_of b.0) (lines_of (datagrams_of m (opening m))) (sym (lines_both (asked_by request ∷ []) b.0) ∙ ap lines_of (sym b.1)) p
 
-  pub answer_failed : (c0 c1 c2 : Option (List ℕ)) (s t : WriterState) → Get ≡ m.side → map.len m.agreed ≢ 0 → HasPut c0 c1 s t (asked_by request ∷ []) → AppendsPrefix c1 c2 (t.held ++ lines_of (sent_by Server oack ∷ []))
-      → AppendsPrefix c0 c2 (s.held ++ lines_of (datagrams_of m (opening m)))
-  answer_failed c0 c1 c2 s t side some put p =
-      subst (λ ds. AppendsPrefix c0 c2 (s.held ++ lines_of ds)) (sym (read_answered side some))
-      (put_failed c0 c1 c2 s t (asked_by request ∷ []) (sent_by Server oack ∷ []) (sent_by Client (canonical (Message.Ack 0)) ∷ []) put p)
+    pub answer_failed : (c0 c1 c2 : Sink W) (s t : ℕ) → Get ≡ m.side → map.len m.agreed ≢ 0 → HasPut contents c0 c1 s t (asked_by request ∷ []) → WritesPart contents c1 c2 (lines_of (sent_by Server oack ∷ []))
+        → WritesPart contents c0 c2 (lines_of (datagrams_of m (opening m)))
+    answer_failed c0 c1 c2 s t side some put p =
+        subst (λ ds. WritesPart contents c0 c2 (lines_of ds)) (sym (read_answered side some))
+        (put_failed contents c0 c1 c2 s t (asked_by request ∷ []) (sent_by Server oack ∷ []) (sent_by Client (canonical (Message.Ack 0)) ∷ []) put p)

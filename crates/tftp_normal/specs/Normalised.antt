@@ -1,18 +1,17 @@
 -- What is written of a capture text: the normal text of what it means, and nothing of any other.
-use Rattle.std.specs.Prelude.{◌≡◌, ◌⊎◌, ℕ, Bool, true, false, List, Option, Result, Ok, Err}
-use Rattle.std.specs.Io.KnownBytes.{Appends}
-use Rattle.tftp_capture.specs.{AppendsPrefix}
+use Rattle.std.specs.Prelude.{◌≡◌, ◌⊎◌, ℕ, List, Option, Result, Ok, Err}
+use Rattle.tftp_capture.specs.{Sink, Stops, Wrote}
 use Rattle.tftp_model.specs.{Meaning}
 use Rattle.tftp_judge.specs.{WantsMemory, Verdict}
 use Rattle.tftp_normal.specs.declared.fault.NormalFault.{NormalFault}
 use Rattle.tftp_normal.specs.declared.fault.NormalFault.TheVariants as fault
 use Rattle.tftp_normal.specs.Normal.{normal_text}
 
--- The normal text, whole, or where a write failed a part of it from its start; nothing where memory was wanting, or the
--- text is not accepted.
-abbrev pub Normalises : {W : Type 0} → (W → Option (List ℕ)) → W × Bool → W × Bool → Result Meaning Verdict → Result (Unit {0}) NormalFault → Type 0
-Normalises contents old new (Ok m) (Ok done) = (new.1 ≡ false) × Appends (contents old.0) (contents new.0) (normal_text m)
-Normalises contents old new (Ok m) (Err fault.Write) = (new.1 ≡ true) × AppendsPrefix (contents old.0) (contents new.0) (normal_text m)
+-- After what waited the normal text, whole, or where a write failed a part of these from their start; nothing where memory
+-- was wanting, or the text is not accepted.
+abbrev pub Normalises : {W : Type 0} → (W → Option (List ℕ)) → Sink W → Sink W → Result Meaning Verdict → Result (Unit {0}) NormalFault → Type 0
+Normalises contents old new (Ok m) (Ok done) = Wrote contents old new (normal_text m)
+Normalises contents old new (Ok m) (Err fault.Write) = Stops contents old new (normal_text m)
 Normalises contents old new (Ok m) (Err fault.Memory) = new ≡ old
 Normalises contents old new (Ok m) (Err (fault.Verdict verdict)) = ⊥
 Normalises contents old new (Err verdict) (Ok done) = ⊥
@@ -20,8 +19,8 @@ Normalises contents old new (Err verdict) (Err fault.Write) = ⊥
 Normalises contents old new (Err verdict) (Err fault.Memory) = ⊥
 Normalises contents old new (Err verdict) (Err (fault.Verdict other)) = (other ≡ verdict) × (new ≡ old)
 
--- Of a text that is accepted with this meaning: its normal text, whole, or where a write failed a part of it from its start;
--- or memory was wanting, and nothing was written.
-abbrev pub WritesNormal : {W : Type 0} → (W → Option (List ℕ)) → W × Bool → W × Bool → Meaning → Result (Unit {0}) NormalFault → Type 0
+-- Of a text that is accepted with this meaning: its normal text, whole, or in part where a write failed; or memory was
+-- wanting, and nothing was written.
+abbrev pub WritesNormal : {W : Type 0} → (W → Option (List ℕ)) → Sink W → Sink W → Meaning → Result (Unit {0}) NormalFault → Type 0
 WritesNormal contents old new m result =
     Normalises contents old new (Ok m) result ⊎ ((verdict : Verdict) × WantsMemory (Err verdict) × Normalises contents old new (Err verdict) result)

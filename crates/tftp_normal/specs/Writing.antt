@@ -1,8 +1,8 @@
 -- What is written of a capture: the lines of its datagrams, one after another.
-use Rattle.std.specs.Prelude.{◌≡◌, ℕ, ◌+◌, ◌++◌, Bool, true, false, List, length, map as each, Option, Result, Ok, Err}
+use Rattle.std.specs.Prelude.{◌≡◌, ℕ, ◌+◌, false, List, length, map as each, Option, Result, Ok, Err}
 use Rattle.tftp_hosts.specs.{no_host, Dir, In, Out, Datagram}
 use Rattle.tftp_packet.specs.{End, Client, Server}
-use Rattle.tftp_capture.specs.{datagram_line, whole_lines, AppendsPrefix, Gathers, WriterState}
+use Rattle.tftp_capture.specs.{datagram_line, whole_lines, Gathers, Sink, Stops}
 use Rattle.tftp_model.specs.{Meaning, MachinePacket}
 use Rattle.tftp_normal.specs.Normal.{normal_datagram}
 
@@ -27,12 +27,11 @@ abbrev pub lines_of : List Datagram → List ℕ
 lines_of datagrams = whole_lines (each datagram_line datagrams)
 
 -- the datagrams were put: their lines came after what waited, and they are counted
-pub record HasPut (before after : Option (List ℕ)) (old new : WriterState) (datagrams : List Datagram) : Type 0 where
-  pub gathers : Gathers before after old.held new.held (lines_of datagrams)
-  pub count : new.count ≡ old.count + length datagrams
+pub record HasPut {W : Type 0} (contents : W → Option (List ℕ)) (old new : Sink W) (was count : ℕ) (datagrams : List Datagram) : Type 0 where
+  pub gathers : Gathers (contents old.inner) (contents new.inner) old.waits new.waits (lines_of datagrams)
+  pub counted : count ≡ was + length datagrams
 
--- What a call that puts datagrams does, however it ends: nothing failed, and they were put; or the writer has failed, and
--- what it holds grew by a part of what waited and their lines, from their start, and not by all.
-abbrev pub Puts : {W E : Type 0} → (W → Option (List ℕ)) → W × Bool → W × Bool → Result (Unit {0}) E → WriterState → WriterState → List Datagram → Type 0
-Puts contents old new (Ok _) was now datagrams = (new.1 ≡ false) × HasPut (contents old.0) (contents new.0) was now datagrams
-Puts contents old new (Err e) was now datagrams = (new.1 ≡ true) × AppendsPrefix (contents old.0) (contents new.0) (was.held ++ lines_of datagrams)
+-- What a call that puts datagrams does, however it ends: no write has failed, then or before, and they were put; or one has.
+abbrev pub Puts : {W E : Type 0} → (W → Option (List ℕ)) → Sink W → Sink W → Result (Unit {0}) E → ℕ → ℕ → List Datagram → Type 0
+Puts contents old new (Ok _) was count datagrams = (old.failed ≡ false) × (new.failed ≡ false) × HasPut contents old new was count datagrams
+Puts contents old new (Err e) was count datagrams = Stops contents old new (lines_of datagrams)

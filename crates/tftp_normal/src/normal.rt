@@ -1,6 +1,6 @@
 //! The calls that write normal texts, and the one that counts.
 
-ghost use Rattle.std.specs.Prelude.{◌≡◌, ℕ, List, Some, length, true, false, Result, Ok, OnOk};
+ghost use Rattle.std.specs.Prelude.{◌≡◌, ◌++◌, ℕ, List, Some, length, true, false, Result, Ok, OnOk};
 ghost use Rattle.std.specs.FinMap as map;
 ghost use Rattle.std.specs.Io.KnownBytes.{Appends, Consumes, IsAtEnd};
 ghost use Rattle.tftp_model.specs.{Meaning as Parts};
@@ -14,7 +14,7 @@ use crate::transfer::{Transfer, window_size_of};
 use crate::writing::write_normal;
 use std::alloc::Global;
 use std::io::{Read, Write};
-use tftp_capture::Tallied;
+use tftp_capture::{LineWriter, Tallied};
 use tftp_judge::{Meaning, MeaningParts, judge_text};
 use tftp_packet::Side;
 
@@ -23,9 +23,8 @@ use tftp_packet::Side;
 pub fn normal_capture<W: Write>(
     alloc: Global,
     meaning: Meaning,
-    writer: &mut Tallied<W>,
+    writer: &mut LineWriter<W>,
 ) -> Result<(), NormalFault>
-    requires writing { writer.old.1 ≡ false }
     ensures normalises { Normalises W.contents writer.old writer.new (Ok meaning) result }
 {
     let MeaningParts {
@@ -43,17 +42,16 @@ pub fn normal_capture<W: Write>(
 pub fn normalise<R: Read, W: Write>(
     alloc: Global,
     reader: &mut Tallied<R>,
-    writer: &mut Tallied<W>,
+    writer: &mut LineWriter<W>,
 ) -> Result<(), NormalFault>
     requires reading { reader.old.1 ≡ false }
-    requires writing { writer.old.1 ≡ false }
     ensures normalises { (read : List ℕ) × (said : Result Parts Verdict) × Consumes (R.remaining reader.old.0) (R.remaining reader.new.0) read
         × IsReadVerdict read said × (EndsText said → IsAtEnd (R.remaining reader.new.0)) × (SaysReadFailed said → reader.new.1 ≡ true)
         × (reader.new.1 ≡ true → SaysReadFailed said) × Normalises W.contents writer.old writer.new said result }
     ensures whole { (text : List ℕ) → R.remaining reader.old.0 ≡ Some text → reader.new.1 ≡ false
         → (said : Result Parts Verdict) × IsTextVerdict text said × Normalises W.contents writer.old writer.new said result }
     ensures accepted { (text : List ℕ) → R.remaining reader.old.0 ≡ Some text
-        → OnOk result ((m : Parts) × IsAccepted text m × Appends (W.contents writer.old.0) (W.contents writer.new.0) (normal_text m)) }
+        → OnOk result ((m : Parts) × IsAccepted text m × Appends (W.contents writer.old.inner) (W.contents writer.new.inner) (writer.old.waits ++ normal_text m)) }
     ensures exact { (text : List ℕ) (m : Parts) → R.remaining reader.old.0 ≡ Some text → reader.new.1 ≡ false → IsAccepted text m
         → WritesNormal W.contents writer.old writer.new m result }
 {

@@ -16,7 +16,7 @@ use crate::fault::NormalFault;
 use crate::transfer::Transfer;
 use std::alloc::Global;
 use std::io::Write;
-use tftp_capture::{CaptureWriter, Header, Tallied, WriteFault};
+use tftp_capture::{CaptureWriter, Header, LineWriter, WriteFault};
 use tftp_hosts::Dir;
 use tftp_packet::{End, Side};
 
@@ -34,10 +34,9 @@ fn put_from<W: Write>(
     author: End,
     payload: &[u8],
     capture: &mut CaptureWriter,
-    writer: &mut Tallied<W>,
+    writer: &mut LineWriter<W>,
 ) -> Result<(), WriteFault>
-    requires clean { writer.old.1 ≡ false }
-    requires few { capture.old.count + 1 ≤ 2 ^ 40 }
+    requires few { capture.old + 1 ≤ 2 ^ 40 }
     requires short { length payload.now ≤ 65527 }
     ensures { Puts W.contents writer.old writer.new result capture.old capture.new (sent_by author payload.now ∷ []) }
 {
@@ -53,10 +52,9 @@ fn put_ack<W: Write>(
     author: End,
     block: u16,
     capture: &mut CaptureWriter,
-    writer: &mut Tallied<W>,
+    writer: &mut LineWriter<W>,
 ) -> Result<(), WriteFault>
-    requires clean { writer.old.1 ≡ false }
-    requires few { capture.old.count + 1 ≤ 2 ^ 40 }
+    requires few { capture.old + 1 ≤ 2 ^ 40 }
     ensures { Puts W.contents writer.old writer.new result capture.old capture.new (sent_by author (canonical (Message.Ack block)) ∷ []) }
 {
     let [high, low] = block.to_be_bytes();
@@ -70,11 +68,11 @@ fn put_blocks<W: Write>(
     acked: u16,
     last: u16,
     capture: &mut CaptureWriter,
-    writer: &mut Tallied<W>,
+    writer: &mut LineWriter<W>,
 ) -> Result<(), WriteFault>
-    requires clean { writer.old.1 ≡ false }
+    requires clean { writer.old.failed ≡ false }
     requires order { acked ≤ last }
-    requires few { capture.old.count + (last - acked) ≤ 2 ^ 40 }
+    requires few { capture.old + (last - acked) ≤ 2 ^ 40 }
     requires size { packets.old.size ≡ blksize_of transfer.now }
     requires left { packets.old.left ≡ drop (acked * blksize_of transfer.now) (wire_of transfer.now) }
     ensures puts { Puts W.contents writer.old writer.new result capture.old capture.new (datagrams_of transfer.now (blocks_after acked (last - acked))) }
@@ -99,11 +97,11 @@ fn put_windows<W: Write>(
     transfer: &Transfer<'_>,
     packets: &mut DataPackets<'_>,
     capture: &mut CaptureWriter,
-    writer: &mut Tallied<W>,
+    writer: &mut LineWriter<W>,
 ) -> Result<(), WriteFault>
-    requires clean { writer.old.1 ≡ false }
+    requires clean { writer.old.failed ≡ false }
     requires window { 1 ≤ windowsize_of transfer.now }
-    requires few { capture.old.count + length (datagrams_of transfer.now (windows_after (windowsize_of transfer.now) (blocks_of transfer.now) 0 (windows_of transfer.now))) ≤ 2 ^ 40 }
+    requires few { capture.old + length (datagrams_of transfer.now (windows_after (windowsize_of transfer.now) (blocks_of transfer.now) 0 (windows_of transfer.now))) ≤ 2 ^ 40 }
     requires size { packets.old.size ≡ blksize_of transfer.now }
     requires left { packets.old.left ≡ wire_of transfer.now }
     ensures { Puts W.contents writer.old writer.new result capture.old capture.new (datagrams_of transfer.now (windows_after (windowsize_of transfer.now) (blocks_of transfer.now) 0 (windows_of transfer.now))) }
@@ -128,10 +126,9 @@ fn put_opening<W: Write>(
     request: &[u8],
     oack: &[u8],
     capture: &mut CaptureWriter,
-    writer: &mut Tallied<W>,
+    writer: &mut LineWriter<W>,
 ) -> Result<(), WriteFault>
-    requires clean { writer.old.1 ≡ false }
-    requires few { capture.old.count + 3 ≤ 2 ^ 40 }
+    requires few { capture.old + 3 ≤ 2 ^ 40 }
     requires request { request.now ≡ canonical (Message.Request (request_of transfer.now)) }
     requires request_short { length request.now ≤ 65527 }
     requires oack { oack.now ≡ canonical (Message.Oack transfer.now.agreed) }
@@ -154,10 +151,9 @@ fn put_opening<W: Write>(
 fn put_request<W: Write>(
     request: &[u8],
     capture: &mut CaptureWriter,
-    writer: &mut Tallied<W>,
+    writer: &mut LineWriter<W>,
 ) -> Result<(), WriteFault>
-    requires clean { writer.old.1 ≡ false }
-    requires few { capture.old.count + 1 ≤ 2 ^ 40 }
+    requires few { capture.old + 1 ≤ 2 ^ 40 }
     requires short { length request.now ≤ 65527 }
     ensures { Puts W.contents writer.old writer.new result capture.old capture.new (asked_by request.now ∷ []) }
 {
@@ -166,14 +162,12 @@ fn put_request<W: Write>(
 
 /// Writes a normal capture whose packets are at hand. It wants no memory.
 fn write_capture<W: Write>(
-    alloc: Global,
     transfer: &Transfer<'_>,
     request: &[u8],
     oack: &[u8],
     packets: &mut DataPackets<'_>,
-    writer: &mut Tallied<W>,
+    writer: &mut LineWriter<W>,
 ) -> Result<(), WriteFault>
-    requires clean { writer.old.1 ≡ false }
     requires window { 1 ≤ windowsize_of transfer.now }
     requires few { normal_count transfer.now ≤ 131073 }
     requires size { packets.old.size ≡ blksize_of transfer.now }
@@ -188,7 +182,7 @@ fn write_capture<W: Write>(
         named: End::Client,
         service: SERVICE_PORT,
     };
-    let mut capture = CaptureWriter::begin(alloc, writer, &header)?;
+    let mut capture = CaptureWriter::begin(writer, &header)?;
     put_opening(transfer, request, oack, &mut capture, writer)?;
     put_windows(transfer, packets, &mut capture, writer)?;
     capture.close(writer)
@@ -198,9 +192,8 @@ fn write_capture<W: Write>(
 pub(crate) fn write_normal<W: Write>(
     alloc: Global,
     transfer: &Transfer<'_>,
-    writer: &mut Tallied<W>,
+    writer: &mut LineWriter<W>,
 ) -> Result<(), NormalFault>
-    requires clean { writer.old.1 ≡ false }
     requires can { CanBeWritten transfer.now }
     ensures normalises { Normalises W.contents writer.old writer.new (Ok transfer.now) result }
 {
@@ -208,7 +201,6 @@ pub(crate) fn write_normal<W: Write>(
     let oack = transfer.oack_payload(alloc)?;
     let mut packets = DataPackets::new(alloc, transfer.wire(), transfer.block_size())?;
     write_capture(
-        alloc,
         transfer,
         request.as_slice(),
         oack.as_slice(),

@@ -1,8 +1,9 @@
 -- What one datagram, and then the whole, adds to a text.
 use Rattle.std.proofs.Common.{◌≡◌, ℕ, Bool, true, false, cond, List, [], ◌∷◌, ◌++◌, All, Option, Result, Ok, Err, map, reverse, take, append_assoc, append-nil, sym, ap, ◌∙◌, subst, OnOk, filter}
+use Rattle.std.specs.Io.KnownBytes.{Appends}
 use Rattle.std.proofs.lemmas.List.Elements.{All-cons, All-nil}
 use Rattle.tftp_capture.specs.CaptureText.{Datagram, Header}
-use Rattle.tftp_capture.specs.{Entry, said_in, HasWrittenHosts, WriterState, WriteFault}
+use Rattle.tftp_capture.specs.{Entry, said_in, HasWrittenHosts, Sink, WriteFault, Writes, Wrote}
 use Rattle.tftp_capture.specs.Commented.Entry.{Comment, Passed}
 use Rattle.tftp_hosts.specs.{Dir, In, Out}
 use Rattle.tftp_packet.specs.{End}
@@ -16,22 +17,27 @@ pub on_written : {A B : Type 0} (r : Result (Unit {0}) WriteFault) → (A → B)
 on_written (Ok u) f a = f a
 on_written (Err e) f a = tt
 
--- entries were added, of which this is said
-abbrev pub HasAdded : Option (List ℕ) → Option (List ℕ) → WriterState → Header → List Entry → (List Datagram → Type 0) → Type 0
-HasAdded start now w header entries P = (more : List Entry) × HasWrittenHosts start now w header (entries ++ more) × All HasComment more × P (said_in more)
+-- what was written of a text that was closed
+pub on_closed : {W A : Type 0} (contents : W → Option (List ℕ)) (s t u : Sink W) (r : Result (Unit {0}) WriteFault) (total bytes : List ℕ) → s.failed ≡ false → Writes contents t u r total
+    → OnOk r (Appends (contents s.inner) (contents u.inner) (s.waits ++ bytes)) → (Wrote contents s u bytes → A) → OnOk r A
+on_closed contents s t u (Ok x) total bytes clean closed appended f = f (clean, closed.1, closed.2, appended)
+on_closed contents s t u (Err e) total bytes clean closed appended f = tt
 
-pub added_none : (start now : Option (List ℕ)) (w : WriterState) (header : Header) (entries : List Entry) (P : List Datagram → Type 0)
-    → HasWrittenHosts start now w header entries → P [] → HasAdded start now w header entries P
-added_none start now w header entries P h none = ([], subst (HasWrittenHosts start now w header) (sym (append-nil entries)) h, All-nil HasComment, none)
+module _ {W : Type 0} (contents : W → Option (List ℕ)) (start now : Sink W) (count : ℕ) (header : Header) (entries : List Entry) where
+  -- entries were added, of which this is said
+  abbrev pub HasAdded : (List Datagram → Type 0) → Type 0
+  HasAdded P = (more : List Entry) × HasWrittenHosts contents start now count header (entries ++ more) × All HasComment more × P (said_in more)
 
-pub added_one : (start now : Option (List ℕ)) (w : WriterState) (header : Header) (entries : List Entry) (words : List ℕ) (d : Datagram) (P : List Datagram → Type 0)
-    → IsComment words → P (d ∷ []) → HasWrittenHosts start now w header ((entries ++ Comment words ∷ []) ++ Passed d ∷ []) → HasAdded start now w header entries P
-added_one start now w header entries words d P comment says h = (
-  Comment words ∷ Passed d ∷ [],
-  subst (HasWrittenHosts start now w header) (append_assoc entries (Comment words ∷ []) (Passed d ∷ [])) h,
-  All-cons HasComment (Comment words) (Passed d ∷ []) comment (All-cons HasComment (Passed d) [] tt (All-nil HasComment)),
-  says,
-)
+  pub added_none : (P : List Datagram → Type 0) → HasWrittenHosts contents start now count header entries → P [] → HasAdded P
+  added_none P h none = ([], subst (HasWrittenHosts contents start now count header) (sym (append-nil entries)) h, All-nil HasComment, none)
+
+  pub added_one : (words : List ℕ) (d : Datagram) (P : List Datagram → Type 0) → IsComment words → P (d ∷ []) → HasWrittenHosts contents start now count header ((entries ++ Comment words ∷ []) ++ Passed d ∷ []) → HasAdded P
+  added_one words d P comment says h = (
+    Comment words ∷ Passed d ∷ [],
+    subst (HasWrittenHosts contents start now count header) (append_assoc entries (Comment words ∷ []) (Passed d ∷ [])) h,
+    All-cons HasComment (Comment words) (Passed d ∷ []) comment (All-cons HasComment (Passed d) [] tt (All-nil HasComment)),
+    says,
+  )
 
 module _ (end : End) (name : Naming) (x : Transfer) (whole : List Placed) (p : Placed) where
   pub unseen : is_seen end x.number whole p ≡ false → [] ≡ capture_at end name x whole (p ∷ [])

@@ -1,9 +1,8 @@
 //! The datagrams of one transfer, kept for its capture text.
 
 ghost use Rattle.std.specs.Prelude.{◌≡◌, ◌+◌, ◌^◌, ◌<◌, ◌≤◌, ◌∷◌, ◌++◌, ℕ, List, [], All, Option, filter, length, IfSome, OnErr, OnOk, None, Ok, true, false};
-ghost use Rattle.std.specs.Io.KnownBytes.{Appends};
 ghost use Rattle.tftp_capture.specs.CaptureText.{Header as HeaderParts};
-ghost use Rattle.tftp_capture.specs.{IsPort, Entry, said_in, HasWrittenHosts};
+ghost use Rattle.tftp_capture.specs.{IsPort, Entry, said_in, HasWrittenHosts, Sink, Wrote};
 ghost use Rattle.tftp_hosts.specs.{In, Out};
 ghost use Rattle.tftp_transfers.specs.{AreEndsAfter, is_about, is_end, server_of};
 ghost use Rattle.tftp_lines.specs.{Placed};
@@ -16,7 +15,7 @@ use crate::noted::Noted;
 use std::alloc::{AllocError, Global};
 use std::io::Write;
 use std::marker::Model;
-use tftp_capture::{Header, HostCaptureWriter, Tallied, WriteFault};
+use tftp_capture::{Header, HostCaptureWriter, LineWriter, WriteFault};
 use tftp_hosts::Dir;
 use tftp_lines::{Endpoint, Place, Transfer};
 use tftp_packet::{Bytes, End};
@@ -136,22 +135,20 @@ impl TransferText {
     /// Writes the text of an end, with a comment after its header and one before each datagram.
     pub fn write<W: Write>(
         &self,
-        alloc: Global,
-        writer: &mut Tallied<W>,
+        writer: &mut LineWriter<W>,
         end: End,
         heading: &Comment,
     ) -> Result<(), WriteFault>
-        requires clean { writer.old.1 ≡ false }
         ensures written { (name : Naming) (placed : List Placed) → AreNotesAfter self.now name placed
-            → OnOk result ((text : List ℕ) × Appends (W.contents writer.old.0) (W.contents writer.new.0) text
+            → OnOk result ((text : List ℕ) × Wrote W.contents writer.old writer.new text
             × IsTextOf text (header_at end self.now.transfer) (capture_at end name self.now.transfer placed placed)) }
-        ensures failed { OnErr result (writer.new.1 ≡ true) }
+        ensures failed { OnErr result (writer.new.failed ≡ true) }
     {
         let header = Header {
             named: end,
             service: self.transfer.asked.port,
         };
-        let mut capture = HostCaptureWriter::begin(alloc, writer, &header)?;
+        let mut capture = HostCaptureWriter::begin(writer, &header)?;
         capture.comment(writer, heading.words())?;
         for noted in self.noted.iter() {
             self.put(writer, &mut capture, end, noted)?;
@@ -162,20 +159,18 @@ impl TransferText {
     /// Writes a datagram with its comment, if it is in the end's view.
     fn put<W: Write>(
         &self,
-        writer: &mut Tallied<W>,
+        writer: &mut LineWriter<W>,
         capture: &mut HostCaptureWriter,
         end: End,
         noted: &Noted,
     ) -> Result<(), WriteFault>
-        requires clean { writer.old.1 ≡ false }
-        requires few { capture.old.count < 2 ^ 40 }
+        requires few { capture.old < 2 ^ 40 }
         requires whole { CanBeWritten noted.now }
-        ensures clean { OnOk result (writer.new.1 ≡ false) }
-        ensures counted { OnOk result (capture.new.count ≤ capture.old.count + 1) }
-        ensures failed { OnErr result (writer.new.1 ≡ true) }
-        ensures written { (start : Option (List ℕ)) (header : HeaderParts) (entries : List Entry)
-            → HasWrittenHosts start (W.contents writer.old.0) capture.old header entries
-            → OnOk result ((more : List Entry) × HasWrittenHosts start (W.contents writer.new.0) capture.new header (entries ++ more) × All HasComment more
+        ensures counted { OnOk result (capture.new ≤ capture.old + 1) }
+        ensures failed { OnErr result (writer.new.failed ≡ true) }
+        ensures written { (start : Sink W) (header : HeaderParts) (entries : List Entry)
+            → HasWrittenHosts W.contents start writer.old capture.old header entries
+            → OnOk result ((more : List Entry) × HasWrittenHosts W.contents start writer.new capture.new header (entries ++ more) × All HasComment more
             × ((name : Naming) (p : Placed) (placed : List Placed) → AreEndsAfter self.now.ends placed → self.now.ends.number ≡ self.now.transfer.number
             → IsFed name p noted.now.held.place noted.now.held.source noted.now.held.target noted.now.held.payload
             → said_in more ≡ capture_at end name self.now.transfer placed (p ∷ []))) }

@@ -4,7 +4,7 @@ use crate::checking::{tell_asked, tell_notes};
 use crate::reasoned::Reasoned;
 use anyhow::Result;
 use std::{fs, io};
-use tftp_capture::Tallied;
+use tftp_capture::LineWriter;
 use tftp_packet::End;
 use tftp_recording_judge::Judging;
 use tftp_session::{Kept, Session, TextAt, TextFault, Wanted, read_whole};
@@ -88,12 +88,9 @@ fn read_file(rt: HostRuntime, path: &str, session: &mut Session) -> Result<()> {
 }
 
 fn print_text(rt: HostRuntime, end: End, found: &TextAt<'_>) -> Result<()> {
-    let mut writer = Tallied::new(Reasoned::new(io::writer(&rt)));
-    match found
-        .text
-        .write(rt.alloc(), &mut writer, end, &found.heading)
-    {
+    let mut writer = LineWriter::new(rt.alloc(), Reasoned::new(io::writer(&rt)));
+    match found.text.write(&mut writer, end, &found.heading) {
         Ok(()) => Ok(()),
-        Err(_) => writer.into_inner().into_error(),
+        Err(_) => writer.finish().0.into_error(),
     }
 }

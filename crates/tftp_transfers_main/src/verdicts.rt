@@ -2,7 +2,7 @@
 
 use std::alloc::{AllocError, Global};
 use tftp_blame::{Blamed, Doubted, Span, Trail, put_unseen};
-use tftp_capture::Tallied;
+use tftp_capture::LineWriter;
 use tftp_commands::{say_accepted, say_verdict};
 use tftp_judge::{Meaning, Refusal, Rule, Verdict};
 use tftp_packet::End;
@@ -241,15 +241,15 @@ fn frame_of(blamed: &Option<Blamed>) -> Option<u64> {
 
 /// The line of an accepted transfer, without its end.
 fn accepted_line(alloc: Global, meaning: &Meaning) -> Result<String, AllocError> {
-    let mut written = Tallied::new(Vec::new(alloc));
-    say_accepted(alloc, &mut written, meaning);
+    let mut written = LineWriter::new(alloc, Vec::new(alloc));
+    say_accepted(&mut written, meaning);
     line_of(alloc, written)
 }
 
 /// The line of one that is not accepted at an end.
 fn refused_line(alloc: Global, refusal: Refusal) -> Result<String, AllocError> {
-    let mut written = Tallied::new(Vec::new(alloc));
-    say_verdict(alloc, &mut written, Verdict::Refused(refusal));
+    let mut written = LineWriter::new(alloc, Vec::new(alloc));
+    say_verdict(&mut written, Verdict::Refused(refusal));
     line_of(alloc, written)
 }
 
@@ -272,10 +272,9 @@ fn line_between(alloc: Global, refusal: TapRefusal) -> Result<String, AllocError
 }
 
 /// What was written, without its line's end.
-fn line_of(alloc: Global, written: Tallied<Vec<u8>>) -> Result<String, AllocError> {
-    let has_failed = written.failed();
-    let line = written.into_inner();
-    if has_failed {
+fn line_of(alloc: Global, written: LineWriter<Vec<u8>>) -> Result<String, AllocError> {
+    let (line, answer) = written.finish();
+    if answer.is_err() {
         return Err(AllocError);
     }
     match line.as_slice() {

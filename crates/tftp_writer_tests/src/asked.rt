@@ -5,7 +5,7 @@ ghost use Rattle.std.specs.Prelude.{◌≡◌, IfOk};
 use std::io;
 use std::io::{ErrorKind, Read, Write};
 use std::test::Fail;
-use tftp_capture::Tallied;
+use tftp_capture::{LineWriter, Tallied};
 use tftp_trials::comparing::is_so;
 
 /// Counts how often it was asked, and answers one call with an error.
@@ -44,34 +44,17 @@ impl Write for Asked {
     }
 }
 
-/// A call.
-#[derive(Clone, Copy)]
-enum Call {
-    Read,
-    Write,
-    Flush,
-}
-
-/// What a call answers; a flush that passes answers as the others do.
-fn answer(tallied: &mut Tallied<Asked>, call: Call) -> Option<usize> {
-    match call {
-        Call::Read => tallied.read(&mut [0u8; 2]).ok(),
-        Call::Write => tallied.write(b"ab").ok(),
-        Call::Flush => tallied.flush().ok().map(|_| 2),
-    }
-}
-
 /// Whether the call with this number answers what is wanted, and the failure is kept from then on.
 fn is_kept(found: Option<usize>, failed: bool, number: u64, fails_at: u64) -> bool {
     let wanted = if number == fails_at { None } else { Some(2) };
     found == wanted && failed == (fails_at != 0 && fails_at <= number)
 }
 
-/// Fails unless each of three calls asks once, of which one fails, or none.
-fn asks_once(call: Call, fails_at: u64) -> Result<(), Fail> {
+/// Fails unless each of three reads asks once, of which one fails, or none.
+fn asks_once(fails_at: u64) -> Result<(), Fail> {
     let mut tallied = Tallied::new(Asked { calls: 0, fails_at });
     for number in 1..4u64 {
-        let found = answer(&mut tallied, call);
+        let found = tallied.read(&mut [0u8; 2]).ok();
         is_so(
             is_kept(found, tallied.failed(), number, fails_at),
             "another answer",
@@ -81,11 +64,49 @@ fn asks_once(call: Call, fails_at: u64) -> Result<(), Fail> {
 }
 
 #[test]
-fn each_call_asks_once(_rt: HostRuntime) -> Result<(), Fail> {
+fn each_read_asks_once(_rt: HostRuntime) -> Result<(), Fail> {
     for fails_at in 0..4 {
-        asks_once(Call::Read, fails_at)?;
-        asks_once(Call::Write, fails_at)?;
-        asks_once(Call::Flush, fails_at)?;
+        asks_once(fails_at)?;
     }
     Ok(())
+}
+
+/// Fails unless each of three writes asks once, until one fails, and no more are made then.
+fn asks_until_it_fails(rt: &HostRuntime, fails_at: u64) -> Result<(), Fail> {
+    let mut writer = LineWriter::new(rt.alloc(), Asked { calls: 0, fails_at });
+    for number in 1..4u64 {
+        let passes = fails_at == 0 || number < fails_at;
+        is_so(writer.write(b"ab").is_ok() == passes, "another answer")?;
+    }
+    let (asked, ended) = writer.finish();
+    let calls = if fails_at == 0 { 3 } else { fails_at };
+    is_so(ended.is_ok() == (fails_at == 0), "another end")?;
+    is_so(asked.calls == calls, "another count")
+}
+
+#[test]
+fn each_write_asks_once_until_one_fails(rt: HostRuntime) -> Result<(), Fail> {
+    for fails_at in 0..4 {
+        asks_until_it_fails(&rt, fails_at)?;
+    }
+    Ok(())
+}
+
+/// Each call after a write that failed answers a fault, and asks for nothing.
+#[test]
+fn a_failure_is_for_good(rt: HostRuntime) -> Result<(), Fail> {
+    let asked = Asked {
+        calls: 0,
+        fails_at: 1,
+    };
+    let mut writer = LineWriter::new(rt.alloc(), asked);
+    is_so(writer.add(b"ab").is_ok(), "it does not wait")?;
+    is_so(writer.flush().is_err(), "no write failed")?;
+    is_so(writer.add(b"ab").is_err(), "adds")?;
+    is_so(writer.add_all(&[]).is_err(), "adds no pieces")?;
+    is_so(writer.add_hex(b"").is_err(), "adds no digits")?;
+    is_so(writer.write(b"").is_err(), "writes")?;
+    is_so(writer.flush().is_err(), "writes what waits")?;
+    let (asked, ended) = writer.finish();
+    is_so(ended.is_err() && asked.calls == 1, "another end")
 }

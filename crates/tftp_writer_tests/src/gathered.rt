@@ -2,98 +2,41 @@
 
 use crate::writes::has_written;
 use crate::writing::{Written, written};
-use std::alloc::{AllocError, Global};
-use std::marker::Model;
+use std::alloc::AllocError;
 use std::test::Fail;
-use tftp_capture::{Gathered, Tallied, WriteFault};
+use tftp_capture::{LineWriter, WriteFault};
 use tftp_trials::drip::DripWriter;
 use tftp_trials::texts::long;
 
-/// What is gathered, and where it is written. Contracts see nothing of it.
-#[derive(Drop)]
-struct Gathering {
-    writer: Tallied<DripWriter>,
-    gathered: Gathered,
+/// Adds two bytes as they are, and the others as digits; what waits is written.
+fn take_digits(writer: &mut LineWriter<DripWriter>, bytes: &[u8]) -> Result<(), WriteFault> {
+    writer.add(b"- ")?;
+    writer.add_hex(bytes)?;
+    writer.flush()
 }
 
-impl Model for Gathering {
-    ghost Value = { Unit {0} };
-
-    ghost view = { λ _. tt };
-}
-
-/// Each of its calls is made where no write has failed.
-impl Gathering {
-    fn new(alloc: Global, drip: DripWriter) -> Self {
-        Gathering {
-            writer: Tallied::new(drip),
-            gathered: Gathered::new(alloc),
-        }
-    }
-
-    fn add(&mut self, bytes: &[u8]) -> Result<(), WriteFault> {
-        if self.writer.failed() {
-            return Err(WriteFault);
-        }
-        self.gathered.add(&mut self.writer, bytes)
-    }
-
-    fn add_all(&mut self, pieces: &[&[u8]]) -> Result<(), WriteFault> {
-        if self.writer.failed() {
-            return Err(WriteFault);
-        }
-        self.gathered.add_all(&mut self.writer, pieces)
-    }
-
-    fn add_hex(&mut self, bytes: &[u8]) -> Result<(), WriteFault> {
-        if self.writer.failed() {
-            return Err(WriteFault);
-        }
-        self.gathered.add_hex(&mut self.writer, bytes)
-    }
-
-    fn write(&mut self) -> Result<(), WriteFault> {
-        if self.writer.failed() {
-            return Err(WriteFault);
-        }
-        self.gathered.write(&mut self.writer)
-    }
-
-    /// Two bytes as they are, and the others as digits; what waits is written.
-    fn take_digits(&mut self, bytes: &[u8]) -> Result<(), WriteFault> {
-        self.add(b"- ")?;
-        self.add_hex(bytes)?;
-        self.write()
-    }
-
-    /// The bytes in pieces of 100, of 16,384, of 16,385 and of what is left; what waits is written.
-    fn take_pieces(&mut self, bytes: &[u8]) -> Result<(), WriteFault> {
-        let (short, rest) = bytes.split_at(bytes.len().min(100));
-        let (full, rest) = rest.split_at(rest.len().min(16_384));
-        let (long, rest) = rest.split_at(rest.len().min(16_385));
-        self.add(short)?;
-        self.add_all(&[full, long, b"", rest])?;
-        self.write()
-    }
-
-    fn written(self, answer: Result<(), WriteFault>) -> Written {
-        let Gathering { writer, .. } = self;
-        written(writer, answer)
-    }
+/// Adds the bytes in pieces of 100, of 16,384, of 16,385 and of what is left; what waits is written.
+fn take_pieces(writer: &mut LineWriter<DripWriter>, bytes: &[u8]) -> Result<(), WriteFault> {
+    let (short, rest) = bytes.split_at(bytes.len().min(100));
+    let (full, rest) = rest.split_at(rest.len().min(16_384));
+    let (long, rest) = rest.split_at(rest.len().min(16_385));
+    writer.add(short)?;
+    writer.add_all(&[full, long, b"", rest])?;
+    writer.flush()
 }
 
 /// Gathers digits there.
 fn digits_gathered(rt: &HostRuntime, drip: DripWriter, bytes: &[u8]) -> Written {
-    let mut gathering = Gathering::new(rt.alloc(), drip);
-    let answer = gathering.take_digits(bytes);
-    gathering.written(answer)
+    let mut writer = LineWriter::new(rt.alloc(), drip);
+    let answer = take_digits(&mut writer, bytes);
+    written(writer, answer)
 }
 
 /// Gathers pieces there.
 fn pieces_gathered(rt: &HostRuntime, drip: DripWriter, bytes: &[u8]) -> Written {
-    let mut gathering = Gathering::new(rt.alloc(), drip);
-    let answer = gathering.take_pieces(bytes);
-    gathering.written(answer)
+    let mut writer = LineWriter::new(rt.alloc(), drip);
+    let answer = take_pieces(&mut writer, bytes);
+    written(writer, answer)
 }
 
 /// The digits of two bytes and 9,000 times another, after what is as it was.

@@ -1,10 +1,10 @@
 //! A text that is written, of either version.
 
-ghost use Rattle.std.specs.Prelude.{◌≡◌, false};
+ghost use Rattle.std.specs.Prelude.{◌≡◌};
 
 use std::alloc::Global;
 use std::marker::Model;
-use tftp_capture::{CaptureWriter, Header, HostCaptureWriter, Tallied, WriteFault};
+use tftp_capture::{CaptureWriter, Header, HostCaptureWriter, LineWriter, WriteFault};
 use tftp_hosts::{Dir, Host};
 use tftp_trials::drip::DripWriter;
 
@@ -14,17 +14,17 @@ pub type Row<'a> = (Dir, u16, u16, &'a [u8]);
 /// What was written, the answer, and whether a write failed.
 pub type Written = (DripWriter, Result<(), WriteFault>, bool);
 
-/// What was written when that was answered.
-pub fn written(writer: Tallied<DripWriter>, answer: Result<(), WriteFault>) -> Written {
-    let failed = writer.failed();
-    (writer.into_inner(), answer, failed)
+/// What was written when that was answered, and what waited then.
+pub fn written(writer: LineWriter<DripWriter>, answer: Result<(), WriteFault>) -> Written {
+    let (drip, ended) = writer.finish();
+    (drip, answer, ended.is_err())
 }
 
 /// A text of version 1 whose header was written. Contracts see nothing of it, so that what the library promises of its
 /// writers is read only here, where it is called.
 #[derive(Drop)]
 pub struct Writing {
-    writer: Tallied<DripWriter>,
+    writer: LineWriter<DripWriter>,
     capture: CaptureWriter,
     puts: u8,
 }
@@ -34,17 +34,17 @@ impl Model for Writing {
 
     ghost view = { λ _. tt };
 
-    ghost invariant = { λ a. a.writer.1 ≡ false → a.capture.count ≡ a.puts };
+    ghost invariant = { λ a. a.capture ≡ a.puts };
 }
 
 impl Writing {
     /// Writes a header of a whole port; what was written where that fails.
     fn begin(alloc: Global, drip: DripWriter, header: &Header) -> Result<Self, Written> {
-        let mut writer = Tallied::new(drip);
+        let mut writer = LineWriter::new(alloc, drip);
         if header.service == 0 {
             return Err(written(writer, Err(WriteFault)));
         }
-        match CaptureWriter::begin(alloc, &mut writer, header) {
+        match CaptureWriter::begin(&mut writer, header) {
             Ok(capture) => Ok(Writing {
                 writer,
                 capture,
@@ -54,10 +54,10 @@ impl Writing {
         }
     }
 
-    /// Writes a datagram of whole ports and at most 65,527 bytes, where nothing failed yet.
+    /// Writes a datagram of whole ports and at most 65,527 bytes.
     fn put(&mut self, (dir, local, remote, payload): &Row<'_>) -> Result<(), WriteFault> {
         let is_datagram = *local != 0 && *remote != 0 && payload.len() <= 65_527;
-        if !is_datagram || self.writer.failed() || self.puts == 255 {
+        if !is_datagram || self.puts == 255 {
             return Err(WriteFault);
         }
         self.capture
@@ -104,7 +104,7 @@ pub fn write(alloc: Global, drip: DripWriter, header: &Header, rows: &[Row<'_>])
 /// The same of version 2.
 #[derive(Drop)]
 pub struct HostWriting {
-    writer: Tallied<DripWriter>,
+    writer: LineWriter<DripWriter>,
     capture: HostCaptureWriter,
     puts: u8,
 }
@@ -114,17 +114,17 @@ impl Model for HostWriting {
 
     ghost view = { λ _. tt };
 
-    ghost invariant = { λ a. a.writer.1 ≡ false → a.capture.count ≡ a.puts };
+    ghost invariant = { λ a. a.capture ≡ a.puts };
 }
 
 impl HostWriting {
     /// Writes a header of a whole port; what was written where that fails.
     fn begin(alloc: Global, drip: DripWriter, header: &Header) -> Result<Self, Written> {
-        let mut writer = Tallied::new(drip);
+        let mut writer = LineWriter::new(alloc, drip);
         if header.service == 0 {
             return Err(written(writer, Err(WriteFault)));
         }
-        match HostCaptureWriter::begin(alloc, &mut writer, header) {
+        match HostCaptureWriter::begin(&mut writer, header) {
             Ok(capture) => Ok(HostWriting {
                 writer,
                 capture,
@@ -134,14 +134,14 @@ impl HostWriting {
         }
     }
 
-    /// Writes a datagram of whole ports and at most 65,527 bytes, where nothing failed yet.
+    /// Writes a datagram of whole ports and at most 65,527 bytes.
     fn put(
         &mut self,
         host: &Host,
         (dir, local, remote, payload): &Row<'_>,
     ) -> Result<(), WriteFault> {
         let is_datagram = *local != 0 && *remote != 0 && payload.len() <= 65_527;
-        if !is_datagram || self.writer.failed() || self.puts == 255 {
+        if !is_datagram || self.puts == 255 {
             return Err(WriteFault);
         }
         self.capture

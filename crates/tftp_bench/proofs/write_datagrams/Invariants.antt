@@ -3,4 +3,4 @@ use Rattle.tftp_bench.proofs.write_datagrams.Given as goal
 
 -- each datagram is counted
 abbrev pub invariant-loop-count : goal.invariant-loop-count
-invariant-loop-count g l = l.capture.count ≡ l.count
+invariant-loop-count g l = l.capture ≡ l.count

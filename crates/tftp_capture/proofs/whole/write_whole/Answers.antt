@@ -7,13 +7,12 @@ use Rattle.tftp_capture.proofs.whole.write_whole.Goals as goal
 
 pub loop-written-preserved : goal.loop-written-preserved
 loop-written-preserved g c = record {
-  clean = search rules;
   within = search rules;
   appended = rw (take-add c.loop-written.written c.in-Ok.count c.args.bytes.now) (Appends-trans _ _ _ _ _ c.loop-written.invariant.appended (rw take_rest at c.in-Ok.ensures.bytes));
 }
 
 pub returns-in_default : goal.returns-in_default
-returns-in_default g c = record { writes = (search rules, prefix_kept _ _ _ c.loop-written.written c.args.bytes.now c.loop-written-test.true c.loop-written.invariant.appended c.in_default.ensures.bytes) }
+returns-in_default g c = record { writes = prefix_kept _ _ _ c.loop-written.written c.args.bytes.now c.loop-written-test.true c.loop-written.invariant.appended c.in_default.ensures.bytes }
 
 pub returns-then-count-eq0 : goal.returns-then-count-eq0
-returns-then-count-eq0 g c = record { writes = (search rules, prefix_none _ _ _ c.loop-written.written c.args.bytes.now c.loop-written-test.true c.loop-written.invariant.appended (rw c.if-count-eq0.true at c.in-Ok.ensures.bytes)) }
+returns-then-count-eq0 g c = record { writes = prefix_none _ _ _ c.loop-written.written c.args.bytes.now c.loop-written-test.true c.loop-written.invariant.appended (rw c.if-count-eq0.true at c.in-Ok.ensures.bytes) }

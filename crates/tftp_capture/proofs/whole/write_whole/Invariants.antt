@@ -1,12 +1,11 @@
-use Rattle.std.proofs.Common.{length, take, ◌-◌, ◌≡◌, ◌≤◌, false}
+use Rattle.std.proofs.Common.{length, take, ◌-◌, ◌≤◌}
 use Rattle.std.specs.Io.KnownBytes.{Appends}
 use Rattle.tftp_capture.proofs.whole.write_whole.Given as goal
 
 abbrev pub invariant-loop-written : goal.invariant-loop-written
 invariant-loop-written g l = record {
-  clean : l.writer.1 ≡ false;
   within : l.written ≤ length l.bytes;
-  appended : Appends (g.W.Write.contents l.initial.writer.0) (g.W.Write.contents l.writer.0) (take l.written l.bytes);
+  appended : Appends (g.W.Write.contents l.initial.writer) (g.W.Write.contents l.writer) (take l.written l.bytes);
 }
 
 abbrev pub decreases-loop-written : goal.decreases-loop-written

@@ -1,8 +1,9 @@
 use Rattle.std.proofs.Common.{[], Err, refl, ap, ◌∙◌}
 use Rattle.std.proofs.lemmas.List.{length-map}
-use Rattle.std.proofs.KnownBytes.{Appends-nil, Consumes-nil}
+use Rattle.std.proofs.KnownBytes.{Consumes-nil}
 use Rattle.tftp_commands.specs.{Check, Extract, Normal, Show, Count}
 use Rattle.tftp_commands.proofs.Commands.{command_output, memory_output, memory_told, no_command, silent_output, usage_output}
+use Rattle.tftp_commands.proofs.Written.{printed_none}
 use Rattle.tftp_commands.proofs.session.run.Goals as goal
 
 pub returns-in-Ok-Check-clause-said : goal.returns-in-Ok-Check-clause-said
@@ -103,12 +104,12 @@ returns-in-Err-Memory-clause-whole g c = λ text tells clean.
 pub returns-in-Err-Silent-clause-said : goal.returns-in-Err-Silent-clause-said
 returns-in-Err-Silent-clause-said g c =
     let (a, is, told) = c.action_of.ensures.quiet (c.in-Err-Silent.is ∙ ap Err c.in-Err-Silent.field-0-is) in
-    ([], _, Consumes-nil _, silent_output a _ _ _ is told c.requires.reading, rw c.requires.writing (Appends-nil _, refl))
+    ([], _, Consumes-nil _, silent_output a _ _ _ is told c.requires.reading, printed_none g.W.Write.contents c.args.writer.now c.args.writer.now _ _ c.requires.fresh refl refl)
 
 pub returns-in-Err-Silent-clause-whole : goal.returns-in-Err-Silent-clause-whole
 returns-in-Err-Silent-clause-whole g c = λ text tells clean.
     let (a, is, told) = c.action_of.ensures.quiet (c.in-Err-Silent.is ∙ ap Err c.in-Err-Silent.field-0-is) in
-    (_, silent_output a _ _ _ is told refl, rw c.requires.writing (Appends-nil _, refl))
+    (_, silent_output a _ _ _ is told refl, printed_none g.W.Write.contents c.args.writer.now c.args.writer.now _ _ c.requires.fresh refl refl)
 
 pub returns-in-Err-Silent-clause-untouched : goal.returns-in-Err-Silent-clause-untouched
 returns-in-Err-Silent-clause-untouched g c = λ none. refl

@@ -1,6 +1,6 @@
 use Rattle.std.proofs.Common.{◌++◌, codes, decimal, inl, inr, refl, ap, ◌∙◌}
 use Rattle.tftp_packet.specs.{meaning}
-use Rattle.tftp_capture.proofs.Gathering.{adds_err, head_failed, line_added}
+use Rattle.tftp_capture.proofs.Gathering.{adds_err, line_added, stops_short}
 use Rattle.tftp_capture.specs.{dir_word}
 use Rattle.tftp_commands.specs.{message_text}
 use Rattle.tftp_commands.proofs.Lines.{line_pieces, payload_said}
@@ -14,7 +14,7 @@ returns-in_err-add_all g c =
       adds = (
         decimal c.args.number ++ codes " " ++ dir_word c.args.datagram.now.dir ++ codes " " ++ said.0 ++ codes "\n",
         (said.0, said.1, refl),
-        adds_err g.W.Write.contents c.args.writer.now c.add_all.new.writer c.from_residual.result _ _ _ c.from_residual.ensures.0 c.in_err-add_all.ensures.adds.0 (head_failed _ _ _ _ _ _ are c.in_err-add_all.ensures.adds.1),
+        adds_err g.W.Write.contents c.args.writer.now c.add_all.new.self c.from_residual.result _ c.from_residual.ensures.0 (stops_short g.W.Write.contents c.args.writer.now c.add_all.new.self _ _ _ are c.in_err-add_all.ensures.adds),
       );
     }
 
@@ -27,7 +27,7 @@ returns-in-Ok g c =
       adds = (
         decimal c.args.number ++ codes " " ++ dir_word c.args.datagram.now.dir ++ codes " " ++ text ++ codes "\n",
         (text, inl (meaning c.in-Ok.packet, found, refl), refl),
-        line_added g.W.Write.contents c.args.writer.now c.add_all.new.writer c.put_packet.new.writer c.put_packet.result _ _ _ _ _ _ are c.in_ok-add_all.ensures.adds.1 c.put_packet.ensures.adds,
+        line_added g.W.Write.contents c.args.writer.now c.add_all.new.self c.put_packet.new.writer c.put_packet.result _ _ _ are c.in_ok-add_all.ensures.adds c.put_packet.ensures.adds,
       );
     }
 
@@ -40,6 +40,6 @@ returns-in-Err g c =
       adds = (
         decimal c.args.number ++ codes " " ++ dir_word c.args.datagram.now.dir ++ codes " " ++ text ++ codes "\n",
         (text, inr (c.in-Err.fault, first, ap (λ l. codes "malformed " ++ l) c.packet_fault_name.ensures), refl),
-        line_added g.W.Write.contents c.args.writer.now c.add_all.new.writer c.add_all-in-Err.new.writer c.add_all-in-Err.result _ _ _ _ _ _ are c.in_ok-add_all.ensures.adds.1 c.add_all-in-Err.ensures.adds,
+        line_added g.W.Write.contents c.args.writer.now c.add_all.new.self c.add_all-in-Err.new.self c.add_all-in-Err.result _ _ _ are c.in_ok-add_all.ensures.adds c.add_all-in-Err.ensures.adds,
       );
     }

@@ -12,7 +12,7 @@ pub put_from-requires-clause-few : goal.put_from-requires-clause-few
 put_from-requires-clause-few g c =
     let m = c.args.transfer.now in
     let low : c.loop-block.block < c.args.last = c.loop-block-test.true in
-    let count = putting_count _ _ _ _ _ _ (step_putting m _ _ _ _ c.loop-block.block c.args.last _ low c.loop-block.invariant.putting) in
+    let count = putting_count g.W.Write.contents m _ _ _ _ _ _ (step_putting g.W.Write.contents m _ _ _ _ c.loop-block.block c.args.last _ low c.loop-block.invariant.putting) in
     let all = length-blocks m c.args.acked (c.args.last - c.args.acked) in
     let few = c.requires.few in
     omega (arith, count, all, few)
@@ -27,11 +27,11 @@ loop-block-preserved g c =
     let is : sent_by c.match-side.author c.packet.result.now ≡ normal_datagram c.args.transfer.now (Data (c.loop-block.block + 1)) =
     ap (λ e. sent_by e c.packet.result.now) author ∙ ap (sent_by (sender_of c.args.transfer.now.side)) payload ∙ data_datagram m (c.loop-block.block + 1) in
     record {
-      clean = c.in_ok-put_from.ensures.0;
+      clean = c.in_ok-put_from.ensures.1;
       order = omega (arith, low);
       size = c.fill.ensures.size ∙ c.loop-block.invariant.size;
       left = c.fill.ensures.left ∙ next_left m c.loop-block.block c.loop-block.packets.size c.loop-block.packets.left c.loop-block.invariant.size c.loop-block.invariant.left;
-      putting = step_put m _ _ _ _ c.loop-block.block c.args.last _ low c.loop-block.invariant.putting _ _ _ is c.in_ok-put_from.ensures.1;
+      putting = step_put g.W.Write.contents m _ _ _ _ c.loop-block.block c.args.last _ low c.loop-block.invariant.putting _ _ _ is c.in_ok-put_from.ensures.2;
     }
 
 pub returns-in_err-put_from-clause-puts : goal.returns-in_err-put_from-clause-puts
@@ -43,5 +43,5 @@ returns-in_err-put_from-clause-puts g c =
     let payload = c.packet.ensures.packet ∙ c.fill.ensures.packet ∙ ap (λ l. canonical (Message.Data (c.loop-block.block + 1) l)) bytes in
     let is : sent_by c.match-side.author c.packet.result.now ≡ normal_datagram c.args.transfer.now (Data (c.loop-block.block + 1)) =
     ap (λ e. sent_by e c.packet.result.now) author ∙ ap (sent_by (sender_of c.args.transfer.now.side)) payload ∙ data_datagram m (c.loop-block.block + 1) in
-    puts_err g.W.Write.contents c.args.writer.now c.put_from.new.writer c.from_residual.result c.args.capture.now c.put_from.new.capture _ c.from_residual.ensures.0 c.in_err-put_from.ensures.0
-    (step_failed m _ _ _ _ c.loop-block.block c.args.last _ low c.loop-block.invariant.putting _ _ is c.in_err-put_from.ensures.1)
+    puts_err g.W.Write.contents c.args.writer.now c.put_from.new.writer c.from_residual.result c.args.capture.now c.put_from.new.capture _ c.from_residual.ensures.0 c.requires.clean c.in_err-put_from.ensures.failed
+    (step_failed g.W.Write.contents m _ _ _ _ c.loop-block.block c.args.last _ low c.loop-block.invariant.putting _ _ is (c.in_err-put_from.ensures.part c.loop-block.invariant.clean))

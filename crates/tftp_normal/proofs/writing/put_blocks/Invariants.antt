@@ -7,11 +7,11 @@ use Rattle.tftp_normal.proofs.writing.put_blocks.Given as goal
 
 abbrev pub invariant-loop-block : goal.invariant-loop-block
 invariant-loop-block g l = record {
-  clean : l.writer.1 ≡ false;
+  clean : l.writer.failed ≡ false;
   order : l.block ≤ l.last;
   size : l.packets.size ≡ blksize_of l.transfer;
   left : l.packets.left ≡ drop (l.block * blksize_of l.transfer) (wire_of l.transfer);
-  putting : Putting (g.W.Write.contents l.initial.writer.0) (g.W.Write.contents l.writer.0) l.initial.capture l.capture (datagrams_of l.transfer (blocks_after l.block (l.last - l.block))) (datagrams_of l.transfer (blocks_after l.acked (l.last - l.acked)));
+  putting : Putting g.W.Write.contents l.initial.writer l.writer l.initial.capture l.capture (datagrams_of l.transfer (blocks_after l.block (l.last - l.block))) (datagrams_of l.transfer (blocks_after l.acked (l.last - l.acked)));
 }
 
 abbrev pub decreases-loop-block : goal.decreases-loop-block

@@ -6,11 +6,11 @@ use Rattle.tftp_normal.proofs.writing.put_windows.Given as goal
 
 abbrev pub invariant-loop-acked : goal.invariant-loop-acked
 invariant-loop-acked g l = record {
-  clean : l.writer.1 ≡ false;
+  clean : l.writer.failed ≡ false;
   order : l.acked ≤ blocks_of l.transfer;
   size : l.packets.size ≡ blksize_of l.transfer;
   left : l.packets.left ≡ drop (l.acked * blksize_of l.transfer) (wire_of l.transfer);
-  windows : WindowsLeft l.transfer (g.W.Write.contents l.initial.writer.0) (g.W.Write.contents l.writer.0) l.initial.capture l.capture l.acked;
+  windows : WindowsLeft l.transfer g.W.Write.contents l.initial.writer l.writer l.initial.capture l.capture l.acked;
 }
 
 abbrev pub decreases-loop-acked : goal.decreases-loop-acked

@@ -7,7 +7,7 @@ use Rattle.tftp_texts.proofs.transfer_text.TransferText.put.Goals as goal
 
 pub returns-then-not-is_seen-clause-written : goal.returns-then-not-is_seen-clause-written
 returns-then-not-is_seen-clause-written g c = λ start header entries h.
-    added_none start _ c.args.capture.now header entries (ShowsNote c.args.end c.args.self.now c.args.noted.now) h (λ name p placed ends number fed.
+    added_none g.W.Write.contents start _ c.args.capture.now header entries (ShowsNote c.args.end c.args.self.now c.args.noted.now) h (λ name p placed ends number fed.
     let x = c.args.self.now.transfer in
     unseen c.args.end name x placed p
     (ap (λ n. is_seen c.args.end n placed p) (sym number) ∙ sym (c.is_seen.ensures placed p ends fed.belongs fed.from fed.to) ∙ c.if-not-is_seen.true))
@@ -18,7 +18,7 @@ returns-then-goes_out-clause-written g c = λ start header entries h.
     let held = c.args.noted.now.held in
     let noted = c.in_ok-comment.ensures.written start header entries h in
     on_written c.put.result
-    (added_one start _ c.put.new.self header entries c.words.result.now
+    (added_one g.W.Write.contents start _ c.put.new.self header entries c.words.result.now
     (record { dir = Out; local = held.source.end.port; host = held.target.host; remote = held.target.end.port; payload = c.as_slice-payload.result.now }) (ShowsNote c.args.end c.args.self.now c.args.noted.now) c.words.ensures.comment
     (λ name p placed ends number fed.
     let is : is_seen c.args.end x.number placed p ≡ true =
@@ -33,7 +33,7 @@ returns-else-goes_out-clause-written g c = λ start header entries h.
     let held = c.args.noted.now.held in
     let noted = c.in_ok-comment.ensures.written start header entries h in
     on_written c.put-else-goes_out.result
-    (added_one start _ c.put-else-goes_out.new.self header entries c.words.result.now
+    (added_one g.W.Write.contents start _ c.put-else-goes_out.new.self header entries c.words.result.now
     (record { dir = In; local = held.target.end.port; host = held.source.host; remote = held.source.end.port; payload = c.as_slice-payload.result.now }) (ShowsNote c.args.end c.args.self.now c.args.noted.now) c.words.ensures.comment
     (λ name p placed ends number fed.
     let is : is_seen c.args.end x.number placed p ≡ true =

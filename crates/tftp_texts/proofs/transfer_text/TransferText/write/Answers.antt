@@ -8,17 +8,16 @@ use Rattle.tftp_texts.specs.{Notes, HasComment, capture_at, header_at, Noted}
 use Rattle.tftp_texts.proofs.Captures.{capture_more, header_is, own_capture}
 use Rattle.tftp_texts.proofs.Entries.{said-append}
 use Rattle.tftp_texts.proofs.Notes.{IsFedAs, all_taken, at_place}
-use Rattle.tftp_texts.proofs.Writing.{ShowsNotes, added_none, on_written}
+use Rattle.tftp_texts.proofs.Writing.{ShowsNotes, added_none, on_closed}
 use Rattle.tftp_texts.proofs.transfer_text.TransferText.write.Goals as goal
 
 pub loop-noted-init : goal.loop-noted-init
 loop-noted-init g c =
-    let none = c.in_ok-capture.ensures.ok.count in
+    let none = c.in_ok-capture.ensures.begun.are in
     let same = c.in_ok-comment.ensures.counted in
     record {
-      clean = search rules;
       counted = omega (arith, none, same);
-      written = λ start header entries h. added_none start _ c.comment.new.self header entries (ShowsNotes c.args.end c.args.self.now 0) h (λ name placed notes. refl);
+      written = λ start header entries h. added_none g.W.Write.contents start _ c.comment.new.self header entries (ShowsNotes c.args.end c.args.self.now 0) h (λ name placed notes. refl);
     }
 
 pub loop-noted-preserved : goal.loop-noted-preserved
@@ -27,13 +26,12 @@ loop-noted-preserved g c =
     let x = c.args.self.now.transfer in
     let items : c.deref-noted-items.result.now ≡ c.args.self.now.noted = c.deref-noted-items.ensures.value ∙ ap (λ (t : Notes). t.noted) c.self.view_is in
     record {
-      clean = search rules;
       counted = omega (arith, c.in_ok-put.ensures.counted, c.loop-noted.invariant.counted);
       written = λ start header entries h.
           let so = c.loop-noted.invariant.written start header entries h in
           let one = c.in_ok-put.ensures.written start header (entries ++ so.0) so.1 in (
             so.0 ++ one.0,
-            subst (HasWrittenHosts start _ c.put.new.capture header) (append_assoc entries so.0 one.0) one.1,
+            subst (HasWrittenHosts g.W.Write.contents start _ c.put.new.capture header) (append_assoc entries so.0 one.0) one.1,
             All-append HasComment so.0 one.0 so.2 one.2,
             λ name placed notes.
                 let own = reverse (filter (is_about x.number) placed) in
@@ -51,16 +49,15 @@ returns-clause-written g c = λ name placed notes.
     let x = c.args.self.now.transfer in
     let own = reverse (filter (is_about x.number) placed) in
     let items : c.deref-noted-items.result.now ≡ c.args.self.now.noted = c.deref-noted-items.ensures.value ∙ ap (λ (t : Notes). t.noted) c.self.view_is in
-    let begun = c.in_ok-capture.ensures.ok in
+    let begun = c.in_ok-capture.ensures.begun in
     let headed = c.in_ok-comment.ensures.written _ _ _ begun in
     let so = c.loop-noted.invariant.written _ _ _ headed in
     let whole : c.loop-noted.noted-index ≡ length c.deref-noted-items.result.now = omega (arith, c.loop-noted-test.false, c.loop-noted.auto.noted-index-end) in
     let all : take c.loop-noted.noted-index own ≡ own =
     ap (λ k. take k own) whole ∙ all_taken name c.deref-noted-items.result.now own (subst (λ (l : List Noted). AreHeld name (map (λ n. n.held) l) own) (sym items) notes.noted) in
-    on_written c.close.result
-    (λ appended. (
+    on_closed g.W.Write.contents c.args.writer.now _ c.close.new.writer c.close.result _ _ c.in_ok-capture.ensures.adds.0 c.close.ensures.writes (c.close.ensures.written _ _ _ so.1) (λ wrote. (
       _,
-      appended,
+      wrote,
       record {
         entries = Comment c.words.result.now ∷ so.0;
         are = ap (λ h. commented_text h (Comment c.words.result.now ∷ so.0)) (header_is end c.self.inside.transfer ∙ ap (λ (t : Notes). header_at end t.transfer) c.self.view_is);
@@ -68,4 +65,3 @@ returns-clause-written g c = λ name placed notes.
         comments = All-cons HasComment (Comment c.words.result.now) so.0 c.words.ensures.comment so.2;
       },
     ))
-    (c.close.ensures.written _ _ _ so.1)

@@ -1,6 +1,6 @@
-use Rattle.std.proofs.Common.{◌≡◌, ◌≤◌, ◌++◌, ℕ, List, All, Option, false, take, reverse, filter}
+use Rattle.std.proofs.Common.{◌≡◌, ◌≤◌, ◌++◌, ℕ, List, All, take, reverse, filter}
 use Rattle.tftp_capture.specs.CaptureText.{Header}
-use Rattle.tftp_capture.specs.{Entry, said_in, HasWrittenHosts}
+use Rattle.tftp_capture.specs.{Entry, said_in, HasWrittenHosts, Sink}
 use Rattle.tftp_lines.specs.{Placed}
 use Rattle.tftp_transfers.specs.{is_about}
 use Rattle.tftp_views.specs.{Naming}
@@ -9,10 +9,9 @@ use Rattle.tftp_texts.proofs.transfer_text.TransferText.write.Given as goal
 
 abbrev pub invariant-loop-noted : goal.invariant-loop-noted
 invariant-loop-noted g l = record {
-  clean : l.writer.1 ≡ false;
-  counted : l.capture.count ≤ l.noted-index;
-  written : (start : Option (List ℕ)) (header : Header) (entries : List Entry) → HasWrittenHosts start (g.W.Write.contents l.initial.writer.0) l.initial.capture header entries
-      → (more : List Entry) × HasWrittenHosts start (g.W.Write.contents l.writer.0) l.capture header (entries ++ more) × All HasComment more
+  counted : l.capture ≤ l.noted-index;
+  written : (start : Sink g.W) (header : Header) (entries : List Entry) → HasWrittenHosts g.W.Write.contents start l.initial.writer l.initial.capture header entries
+      → (more : List Entry) × HasWrittenHosts g.W.Write.contents start l.writer l.capture header (entries ++ more) × All HasComment more
       × ((name : Naming) (placed : List Placed) → AreNotesAfter l.self name placed
       → said_in more ≡ capture_at l.end name l.self.transfer placed (take l.noted-index (reverse (filter (is_about l.self.transfer.number) placed))));
 }
