@@ -3,12 +3,12 @@
 
 use std::io;
 use std::process::ExitCode;
-use tftp_capture::{LineWriter, Tallied};
+use tftp_capture::{LatchedReader, LineWriter};
 use tftp_normal::normalise;
 
 /// Ends with status 2, and tells why on standard error, where no normal text was written, or only a part of one.
 fn main(rt: HostRuntime) -> ExitCode {
-    let mut reader = Tallied::new(rt.reader());
+    let mut reader = LatchedReader::new(rt.reader());
     let mut writer = LineWriter::new(rt.alloc(), io::writer(&rt));
     match normalise(rt.alloc(), &mut reader, &mut writer) {
         Ok(()) => ExitCode::SUCCESS,

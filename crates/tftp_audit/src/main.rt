@@ -3,7 +3,7 @@
 
 use std::process::ExitCode;
 use std::{env, io};
-use tftp_capture::{LineWriter, Tallied};
+use tftp_capture::{LatchedReader, LineWriter};
 use tftp_commands::run;
 
 /// Ends with status 2, and no output, where it can't get its words.
@@ -14,7 +14,7 @@ fn main(rt: HostRuntime) -> ExitCode {
     let Ok(words) = words.collect::<Vec<String>>(rt.alloc()) else {
         return ExitCode::from(2);
     };
-    let mut reader = Tallied::new(rt.reader());
+    let mut reader = LatchedReader::new(rt.reader());
     let mut writer = LineWriter::new(rt.alloc(), io::writer(&rt));
     let status = run(rt.alloc(), words.as_slice(), &mut reader, &mut writer);
     ExitCode::from(status.code())

@@ -11,7 +11,7 @@ use std::alloc::Global;
 use std::io::{ErrorKind, Read, Write};
 use std::{env, io};
 use tftp_blocks::{MapDelivered, RingDelivered};
-use tftp_capture::{CaptureReader, CaptureWriter, Datagram, Header, LineWriter, Tallied};
+use tftp_capture::{CaptureReader, CaptureWriter, Datagram, Header, LatchedReader, LineWriter};
 use tftp_hosts::Dir;
 use tftp_netascii::{Decoder, encode};
 use tftp_packet::End;
@@ -128,7 +128,7 @@ fn translate<R: Read, W: Write>(
 
 /// How many datagrams the capture reader gives.
 fn count_datagrams<R: Read + Drop>(alloc: Global, reader: R) -> io::Result<u64> {
-    let mut reader = Tallied::new(reader);
+    let mut reader = LatchedReader::new(reader);
     let Ok(mut capture) = CaptureReader::begin(alloc, &mut reader) else {
         return Err(io::Error::from(ErrorKind::InvalidData));
     };
@@ -145,7 +145,7 @@ fn count_datagrams<R: Read + Drop>(alloc: Global, reader: R) -> io::Result<u64> 
 
 /// Counts the datagrams of a recording.
 fn count_recorded<R: Read + Drop>(alloc: Global, reader: R) -> io::Result<u64> {
-    let mut reader = Tallied::new(reader);
+    let mut reader = LatchedReader::new(reader);
     let Ok(mut recording) = RecordingReader::begin(alloc, &mut reader) else {
         return Err(io::Error::from(ErrorKind::InvalidData));
     };

@@ -2,7 +2,7 @@ ghost use Rattle.std.specs.Prelude.{◌≡◌, ◌≤◌, [], length, drop, true
 ghost use Rattle.std.specs.Io.KnownBytes.{prepend_known, Keeps, IsAtEnd};
 ghost use Rattle.tftp_capture.specs.Lines.{most_ahead};
 
-use crate::tallied::Tallied;
+use crate::latched_reader::LatchedReader;
 use std::alloc::{AllocError, Global};
 use std::io;
 use std::io::Read;
@@ -64,7 +64,7 @@ impl Ahead {
     }
 
     /// Reads once where nothing is held; then nothing is held only at the reader's end.
-    pub fn fill<R: Read>(&mut self, reader: &mut Tallied<R>) -> io::Result<()>
+    pub fn fill<R: Read>(&mut self, reader: &mut LatchedReader<R>) -> io::Result<()>
         ensures few { length self.new ≤ most_ahead }
         ensures kept { Keeps (prepend_known self.old (R.remaining reader.old.0)) (prepend_known self.new (R.remaining reader.new.0)) }
         ensures end { IfOk result (λ _. length self.new ≡ 0 → IsAtEnd (prepend_known self.new (R.remaining reader.new.0))) }

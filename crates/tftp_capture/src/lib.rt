@@ -7,6 +7,7 @@ mod digits;
 mod fault;
 mod fields;
 mod host_writer;
+mod latched_reader;
 mod laws;
 mod line;
 mod line_writer;
@@ -15,7 +16,6 @@ mod reader;
 mod standing;
 mod stop;
 mod supply;
-mod tallied;
 mod version;
 mod whole;
 mod writer;
@@ -24,6 +24,7 @@ pub use ahead::Ahead;
 pub use datagram::{Datagram, Header};
 pub use fault::{CaptureFault, TextFault, WriteFault};
 pub use host_writer::HostCaptureWriter;
+pub use latched_reader::LatchedReader;
 pub use laws::{
     beginnings_agree, canonical_text_is_read, capture_has_its_beginnings, commented_text_is_read,
     fault_comes_after_beginnings, fault_stays, text_has_one_reading, version_two_says_the_same,
@@ -32,5 +33,4 @@ pub use laws::{
 };
 pub use line_writer::LineWriter;
 pub use reader::CaptureReader;
-pub use tallied::Tallied;
 pub use writer::CaptureWriter;

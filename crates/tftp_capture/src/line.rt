@@ -3,9 +3,9 @@ ghost use Rattle.std.specs.Io.KnownBytes.{prepend_known, Consumes, IsAtEnd};
 ghost use Rattle.tftp_capture.specs.Lines.{bytes_lying, line_at, most_ahead, most_of_line, LineEnds};
 
 use crate::fault::TextFault;
+use crate::latched_reader::LatchedReader;
 use crate::stop::Stop;
 use crate::supply::Supply;
-use crate::tallied::Tallied;
 use memchr::memchr;
 use std::io::Read;
 
@@ -26,7 +26,7 @@ pub fn count_before(bytes: &[u8], value: u8) -> usize
 /// answer is how many bytes it has with its LF. After a fault nothing is held.
 pub fn read_line<R: Read>(
     ahead: &mut Supply,
-    reader: &mut Tallied<R>,
+    reader: &mut LatchedReader<R>,
     longest: usize,
     room: u64,
 ) -> Result<usize, Stop>

@@ -4,10 +4,10 @@ ghost use Rattle.tftp_capture.specs.Lines.{most_ahead, unread, HoldsLine, HoldsN
 ghost use Rattle.tftp_capture.specs.CaptureText.{longest_line, says_nothing};
 
 use crate::fault::TextFault;
+use crate::latched_reader::LatchedReader;
 use crate::line::{count_before, read_line};
 use crate::stop::Stop;
 use crate::supply::Supply;
-use crate::tallied::Tallied;
 use crate::version::Version;
 use std::alloc::{AllocError, Global};
 use std::io::Read;
@@ -129,7 +129,7 @@ impl Lines {
     }
 
     /// Reads the next line.
-    pub fn next<R: Read>(&mut self, reader: &mut Tallied<R>) -> Result<(), Stop>
+    pub fn next<R: Read>(&mut self, reader: &mut LatchedReader<R>) -> Result<(), Stop>
         ensures ends { (bytes : List ℕ) × Consumes (prepend_known self.old.ahead (R.remaining reader.old.0)) (prepend_known self.new.ahead (R.remaining reader.new.0)) bytes
             × LineEnds result self.new.line (longest_line self.old.version) (2 ^ 40 - self.old.taken) bytes × LeavesEnd result (2 ^ 40 - self.old.taken) bytes self.new.ahead }
         ensures taken { OnOk result (self.new.taken ≡ self.old.taken + length self.new.line + 1) }
@@ -155,7 +155,7 @@ impl Lines {
     }
 
     /// Reads on to the next line that says something.
-    pub fn next_said<R: Read>(&mut self, reader: &mut Tallied<R>) -> Result<(), Stop>
+    pub fn next_said<R: Read>(&mut self, reader: &mut LatchedReader<R>) -> Result<(), Stop>
         ensures reaches { ReachesLine result self.old self.new (prepend_known self.old.ahead (R.remaining reader.old.0)) (prepend_known self.new.ahead (R.remaining reader.new.0)) }
         ensures end { result ≡ Err (Stop.Text TextFault.Truncated) → IsAtEnd (prepend_known self.new.ahead (R.remaining reader.new.0)) }
         ensures read { result ≡ Err Stop.Read → reader.new.1 ≡ true }
@@ -172,7 +172,7 @@ impl Lines {
     }
 
     /// Looks for the text's end after the line last read.
-    pub fn finish<R: Read>(&mut self, reader: &mut Tallied<R>) -> Result<(), Stop>
+    pub fn finish<R: Read>(&mut self, reader: &mut LatchedReader<R>) -> Result<(), Stop>
         ensures ends { (bytes : List ℕ) × Consumes (prepend_known self.old.ahead (R.remaining reader.old.0)) (prepend_known self.new.ahead (R.remaining reader.new.0)) bytes
             × TextEnds result self.old.taken bytes }
         ensures same { (self.new.taken ≡ self.old.taken) × (self.new.count ≡ self.old.count) }

@@ -8,10 +8,10 @@ ghost use Rattle.tftp_capture.specs.History.{Answers, Continues, FailsToBegin, G
 use crate::datagram::{Datagram, Header};
 use crate::fault::{CaptureFault, TextFault};
 use crate::fields::{body_line, end_of, service_of};
+use crate::latched_reader::LatchedReader;
 use crate::lines::Lines;
 use crate::standing::Standing;
 use crate::stop::Stop;
-use crate::tallied::Tallied;
 use crate::version::Version;
 use std::alloc::Global;
 use std::io::Read;
@@ -42,7 +42,10 @@ impl Model for CaptureReader {
 
 impl CaptureReader {
     /// Reads the header: the first line, the end line and the service line.
-    pub fn begin<R: Read>(alloc: Global, reader: &mut Tallied<R>) -> Result<Self, CaptureFault>
+    pub fn begin<R: Read>(
+        alloc: Global,
+        reader: &mut LatchedReader<R>,
+    ) -> Result<Self, CaptureFault>
         requires clean { reader.old.1 ≡ false }
         ensures ok { IfOk result (λ begun. (taken : List ℕ) × Consumes (R.remaining reader.old.0) (prepend_known begun.lines.ahead (R.remaining reader.new.0)) taken
             × GoesOn begun.header begun.lines begun.count taken []) }
@@ -93,7 +96,7 @@ impl CaptureReader {
     /// caller holds.
     pub fn next_into<R: Read>(
         &mut self,
-        reader: &mut Tallied<R>,
+        reader: &mut LatchedReader<R>,
         datagram: &mut Datagram,
     ) -> Result<bool, CaptureFault>
         requires told { IsReadStanding self.old.standing → reader.old.1 ≡ true }
@@ -168,7 +171,7 @@ impl CaptureReader {
 /// Reads to the next datagram, or over the total to the text's end, after `count` datagrams.
 fn read_on<R: Read>(
     lines: &mut Lines,
-    reader: &mut Tallied<R>,
+    reader: &mut LatchedReader<R>,
     count: u64,
     datagram: &mut Datagram,
 ) -> Result<bool, CaptureFault>

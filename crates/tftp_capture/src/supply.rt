@@ -2,7 +2,7 @@ ghost use Rattle.std.specs.Prelude.{◌≡◌, ◌≢◌, ◌≤◌, ◌==◌, �
 ghost use Rattle.std.specs.Io.KnownBytes.{prepend_known, Consumes, Keeps, IsAtEnd};
 ghost use Rattle.tftp_capture.specs.Lines.{most_ahead, most_of_line};
 
-use crate::tallied::Tallied;
+use crate::latched_reader::LatchedReader;
 use std::alloc::{AllocError, Global};
 use std::io;
 use std::io::Read;
@@ -78,7 +78,7 @@ impl Supply {
 
     /// Reads once, at most 65,536 bytes, behind what is held, which is moved to the front of its memory. Nothing has come
     /// only at the reader's end.
-    pub fn read_on<R: Read>(&mut self, reader: &mut Tallied<R>) -> io::Result<()>
+    pub fn read_on<R: Read>(&mut self, reader: &mut LatchedReader<R>) -> io::Result<()>
         requires room { length self.old.bytes ≤ most_of_line }
         ensures more { (more : List ℕ) × (self.new.bytes ≡ self.old.bytes ++ more) × (length more ≤ most_ahead) }
         ensures full { OnOk result (self.new.full ≡ (length self.new.bytes - length self.old.bytes == most_ahead)) }
@@ -103,7 +103,7 @@ impl Supply {
     }
 
     /// Reads once where nothing is held; then nothing is held only at the reader's end.
-    pub fn fill<R: Read>(&mut self, reader: &mut Tallied<R>) -> io::Result<()>
+    pub fn fill<R: Read>(&mut self, reader: &mut LatchedReader<R>) -> io::Result<()>
         ensures few { self.old.bytes ≡ [] → length self.new.bytes ≤ most_ahead }
         ensures held { self.old.bytes ≢ [] → self.new.bytes ≡ self.old.bytes }
         ensures kept { Keeps (prepend_known self.old.bytes (R.remaining reader.old.0)) (prepend_known self.new.bytes (R.remaining reader.new.0)) }
@@ -134,7 +134,7 @@ fn move_to_front(buf: &mut [u8], start: usize, end: usize)
 /// Moves the bytes from `start` to `end` to the front, and reads once behind them, at most 65,536. Answers how many have
 /// come.
 fn read_behind<R: Read>(
-    reader: &mut Tallied<R>,
+    reader: &mut LatchedReader<R>,
     buf: &mut [u8],
     start: usize,
     end: usize,

@@ -5,14 +5,14 @@ ghost use Rattle.tftp_capture.specs.{IsReadStanding};
 
 use std::alloc::Global;
 use std::marker::Model;
-use tftp_capture::{CaptureFault, CaptureReader, Datagram, Header, Tallied};
+use tftp_capture::{CaptureFault, CaptureReader, Datagram, Header, LatchedReader};
 use tftp_trials::drip::DripReader;
 
 /// A text whose header was read. Contracts see nothing of it, so that what the library promises of its readers is read
 /// only here, where it is called.
 #[derive(Drop)]
 pub struct Reading<'a> {
-    reader: Tallied<DripReader<'a>>,
+    reader: LatchedReader<DripReader<'a>>,
     capture: CaptureReader,
 }
 
@@ -27,7 +27,7 @@ impl<'a> Model for Reading<'a> {
 impl<'a> Reading<'a> {
     /// The fault of a header, and whether a read failed.
     pub fn begin(alloc: Global, drip: DripReader<'a>) -> Result<Self, (CaptureFault, bool)> {
-        let mut reader = Tallied::new(drip);
+        let mut reader = LatchedReader::new(drip);
         match CaptureReader::begin(alloc, &mut reader) {
             Ok(capture) => Ok(Reading { reader, capture }),
             Err(fault) => Err((fault, reader.failed())),

@@ -9,13 +9,13 @@ use crate::status::Status;
 use crate::verdicts::{put_accepted, put_verdict, status_of};
 use std::alloc::Global;
 use std::io::{Read, Write};
-use tftp_capture::{LineWriter, Tallied};
+use tftp_capture::{LatchedReader, LineWriter};
 use tftp_judge::{Meaning, Verdict, judge_text};
 
 /// Judges a capture text, and says in one line what it means, or why it is not accepted.
 pub fn check<R: Read, W: Write>(
     alloc: Global,
-    reader: &mut Tallied<R>,
+    reader: &mut LatchedReader<R>,
     writer: &mut LineWriter<W>,
 ) -> Status
     requires reading { reader.old.1 ≡ false }

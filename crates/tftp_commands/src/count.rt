@@ -10,14 +10,14 @@ use crate::status::Status;
 use itoa::Buffer;
 use std::alloc::Global;
 use std::io::{Read, Write};
-use tftp_capture::{LineWriter, Tallied, WriteFault};
+use tftp_capture::{LatchedReader, LineWriter, WriteFault};
 use tftp_judge::{Meaning, judge_text};
 use tftp_normal::normal_count;
 
 /// Judges a capture text, and says in one line how many datagrams its normal capture has, or why it is not accepted.
 pub fn count<R: Read, W: Write>(
     alloc: Global,
-    reader: &mut Tallied<R>,
+    reader: &mut LatchedReader<R>,
     writer: &mut LineWriter<W>,
 ) -> Status
     requires reading { reader.old.1 ≡ false }

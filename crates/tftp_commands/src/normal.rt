@@ -7,14 +7,14 @@ use crate::status::Status;
 use crate::verdicts::status_of;
 use std::alloc::Global;
 use std::io::{Read, Write};
-use tftp_capture::{LineWriter, Tallied};
+use tftp_capture::{LatchedReader, LineWriter};
 use tftp_normal::{NormalFault, normalise};
 
 /// Writes the normal text of a capture text that is accepted, and nothing beside it; of a text that is not accepted
 /// nothing is written, and so where memory is wanting.
 pub fn normal<R: Read, W: Write>(
     alloc: Global,
-    reader: &mut Tallied<R>,
+    reader: &mut LatchedReader<R>,
     writer: &mut LineWriter<W>,
 ) -> Status
     requires reading { reader.old.1 ≡ false }

@@ -12,7 +12,7 @@ use crate::status::Status;
 use itoa::Buffer;
 use std::alloc::Global;
 use std::io::{Read, Write};
-use tftp_capture::{CaptureFault, CaptureReader, Datagram, LineWriter, Tallied, WriteFault};
+use tftp_capture::{CaptureFault, CaptureReader, Datagram, LatchedReader, LineWriter, WriteFault};
 use tftp_packet::{Packet, read_packet};
 
 /// Shows the datagrams of a capture text, up to its end or its first fault, as they come: a line each, numbered from
@@ -20,7 +20,7 @@ use tftp_packet::{Packet, read_packet};
 /// Where the next datagram may have to be waited for, as from a pipe, nothing is held back.
 pub fn show<R: Read, W: Write>(
     alloc: Global,
-    reader: &mut Tallied<R>,
+    reader: &mut LatchedReader<R>,
     writer: &mut LineWriter<W>,
 ) -> Status
     requires reading { reader.old.1 ≡ false }

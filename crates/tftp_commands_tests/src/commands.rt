@@ -1,7 +1,7 @@
 //! The commands, each once: what they say of many texts is tried on the built program.
 
 use std::test::Fail;
-use tftp_capture::{LineWriter, Tallied};
+use tftp_capture::{LatchedReader, LineWriter};
 use tftp_commands::run;
 use tftp_trials::drip::{DripReader, DripWriter};
 use tftp_trials::texts::READ;
@@ -13,7 +13,7 @@ type Said = (&'static [&'static str], &'static str, u8);
 
 /// Runs the program on a text. It promises nothing, so that what `run` promises is read only here.
 fn ran(rt: &HostRuntime, words: &[&str], text: &[u8], drip: DripWriter) -> (u8, DripWriter) {
-    let mut reader = Tallied::new(DripReader::new(text, 7, 0, None));
+    let mut reader = LatchedReader::new(DripReader::new(text, 7, 0, None));
     let mut writer = LineWriter::new(rt.alloc(), drip);
     let status = run(rt.alloc(), words, &mut reader, &mut writer).code();
     (status, writer.finish().0)

@@ -1,6 +1,6 @@
 use std::alloc::Global;
 use std::io;
-use tftp_capture::Tallied;
+use tftp_capture::LatchedReader;
 use tftp_fragments::Fragments;
 use tftp_pcap::{Direction, PcapFault};
 use tftp_recording::{Datagram, Event, Fate, LeftOut, RecordingReader};
@@ -8,7 +8,7 @@ use tftp_recording::{Datagram, Event, Fate, LeftOut, RecordingReader};
 /// Lists what a recording has; whether it is one to its end.
 pub fn list(rt: HostRuntime) -> io::Result<bool> {
     let alloc = rt.alloc();
-    let mut reader = Tallied::new(rt.reader());
+    let mut reader = LatchedReader::new(rt.reader());
     let mut recording = match RecordingReader::begin(alloc, &mut reader) {
         Ok(recording) => recording,
         Err(fault) => return put_fault(rt, fault),

@@ -4,7 +4,7 @@ use crate::judges::{End, Judging};
 use std::alloc::{AllocError, Global};
 use std::test::Fail;
 use tftp_blocks::Delivered;
-use tftp_capture::{CaptureFault, Tallied};
+use tftp_capture::{CaptureFault, LatchedReader};
 use tftp_capture_tests::reading::Reading;
 use tftp_judge::{AbortedBy, Meaning, Refusal, Rule, Verdict, judge_text};
 use tftp_packet::{Mode, Side};
@@ -112,7 +112,7 @@ fn verdict_of(
     piece: usize,
     fails_at: u64,
 ) -> Result<Meaning, Verdict> {
-    let mut reader = Tallied::new(DripReader::new(text, piece, fails_at, None));
+    let mut reader = LatchedReader::new(DripReader::new(text, piece, fails_at, None));
     judge_text(rt.alloc(), &mut reader)
 }
 

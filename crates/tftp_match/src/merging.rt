@@ -9,7 +9,7 @@ use crate::reading::{Halt, Reading};
 use std::alloc::Global;
 use std::io::Read;
 use tftp_blocks::RingDelivered;
-use tftp_capture::{Datagram, Tallied};
+use tftp_capture::{Datagram, LatchedReader};
 use tftp_packet::End;
 use tftp_pair_judge::PairJudge;
 
@@ -20,7 +20,7 @@ impl Reading {
         alloc: Global,
         pair: &mut PairJudge<RingDelivered>,
         end: End,
-        reader: &mut Tallied<R>,
+        reader: &mut LatchedReader<R>,
         datagram: &mut Datagram,
     )
         requires goes { self.old.halt ≡ None }
@@ -63,9 +63,9 @@ pub fn merge<R: Read, S: Read>(
     alloc: Global,
     pair: &mut PairJudge<RingDelivered>,
     client: &mut Reading,
-    client_reader: &mut Tallied<R>,
+    client_reader: &mut LatchedReader<R>,
     server: &mut Reading,
-    server_reader: &mut Tallied<S>,
+    server_reader: &mut LatchedReader<S>,
     datagram: &mut Datagram,
 )
     requires client_open { client.old.halt ≡ None → client.old.capture.standing ≡ Standing.Open }

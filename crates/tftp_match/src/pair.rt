@@ -16,7 +16,7 @@ use crate::said::{Apart, Matched, PairSaid, together_of};
 use std::alloc::Global;
 use std::io::Read;
 use tftp_blocks::RingDelivered;
-use tftp_capture::{CaptureReader, Datagram, Tallied};
+use tftp_capture::{CaptureReader, Datagram, LatchedReader};
 use tftp_judge::{Judge, Meaning, Refusal, Verdict, judge_text};
 use tftp_packet::End;
 use tftp_pair_judge::{PairJudge, PairVerdict};
@@ -29,8 +29,8 @@ use tftp_pair_judge::{PairJudge, PairVerdict};
 /// the ACKs that it has sent.
 pub fn judge_pair<R: Read, S: Read>(
     alloc: Global,
-    client: &mut Tallied<R>,
-    server: &mut Tallied<S>,
+    client: &mut LatchedReader<R>,
+    server: &mut LatchedReader<S>,
 ) -> PairSaid
     requires client_clean { client.old.1 ≡ false }
     requires server_clean { server.old.1 ≡ false }
@@ -69,8 +69,8 @@ pub fn judge_pair<R: Read, S: Read>(
 /// The same, in fewer words.
 fn judge_both<R: Read, S: Read>(
     alloc: Global,
-    client: &mut Tallied<R>,
-    server: &mut Tallied<S>,
+    client: &mut LatchedReader<R>,
+    server: &mut LatchedReader<S>,
 ) -> PairSaid
     requires client_clean { client.old.1 ≡ false }
     requires server_clean { server.old.1 ≡ false }
@@ -101,7 +101,7 @@ fn judge_both<R: Read, S: Read>(
 fn judge_alone<R: Read>(
     alloc: Global,
     capture: CaptureReader,
-    reader: &mut Tallied<R>,
+    reader: &mut LatchedReader<R>,
 ) -> Result<Meaning, Verdict>
     requires open { capture.standing ≡ Standing.Open }
     ensures { (before : Option (List ℕ)) → HasBegun before (R.remaining reader.old.0) reader.old.1 capture
@@ -121,9 +121,9 @@ fn judge_alone<R: Read>(
 fn judge_begun<R: Read, S: Read>(
     alloc: Global,
     client: CaptureReader,
-    client_reader: &mut Tallied<R>,
+    client_reader: &mut LatchedReader<R>,
     server: CaptureReader,
-    server_reader: &mut Tallied<S>,
+    server_reader: &mut LatchedReader<S>,
 ) -> PairSaid
     requires client_open { client.standing ≡ Standing.Open }
     requires server_open { server.standing ≡ Standing.Open }

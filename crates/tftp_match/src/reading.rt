@@ -6,7 +6,7 @@ ghost use Rattle.tftp_match.specs.Reading.{GoesOnAt, IsGiven, IsHalted, said_by}
 ghost use Rattle.tftp_match.specs.declared.reading.Halt.{Halt as HaltKind};
 
 use std::io::Read;
-use tftp_capture::{CaptureFault, CaptureReader, Datagram, Tallied};
+use tftp_capture::{CaptureFault, CaptureReader, Datagram, LatchedReader};
 use tftp_judge::{Meaning, Refusal, Verdict};
 
 /// Why no more of a text is read.
@@ -29,7 +29,7 @@ pub struct Reading {
 
 impl Reading {
     /// The next datagram, into what the caller holds; false once no more is read, and then it is kept why.
-    pub fn next<R: Read>(&mut self, reader: &mut Tallied<R>, datagram: &mut Datagram) -> bool
+    pub fn next<R: Read>(&mut self, reader: &mut LatchedReader<R>, datagram: &mut Datagram) -> bool
         requires open { self.old.capture.standing ≡ Standing.Open }
         ensures given { result ≡ true → (before : Option (List ℕ)) (h : HeaderParts) (read : List DatagramParts) (judge : JudgeParts)
             → GoesOnAt before (R.remaining reader.old.0) reader.old.1 self.old.capture h read → IsJudgeAfter judge h read

@@ -10,7 +10,7 @@ use crate::reading::{Halt, Reading};
 use std::alloc::Global;
 use std::io::Read;
 use tftp_blocks::RingDelivered;
-use tftp_capture::{Datagram, Tallied};
+use tftp_capture::{Datagram, LatchedReader};
 use tftp_judge::Judge;
 use tftp_packet::End;
 use tftp_pair_judge::PairRest;
@@ -22,7 +22,7 @@ impl Reading {
         alloc: Global,
         rest: &mut PairRest<RingDelivered>,
         end: End,
-        reader: &mut Tallied<R>,
+        reader: &mut LatchedReader<R>,
         datagram: &mut Datagram,
     )
         requires goes { self.old.halt ≡ None }
@@ -51,7 +51,7 @@ impl Reading {
         alloc: Global,
         rest: &mut PairRest<RingDelivered>,
         end: End,
-        reader: &mut Tallied<R>,
+        reader: &mut LatchedReader<R>,
         datagram: &mut Datagram,
     )
         requires open { self.old.halt ≡ None → self.old.capture.standing ≡ Standing.Open }
@@ -72,7 +72,7 @@ impl Reading {
         &mut self,
         alloc: Global,
         judge: &mut Judge<RingDelivered>,
-        reader: &mut Tallied<R>,
+        reader: &mut LatchedReader<R>,
         datagram: &mut Datagram,
     )
         requires goes { self.old.halt ≡ None }

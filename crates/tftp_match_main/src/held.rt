@@ -3,7 +3,7 @@
 use crate::source::Whole;
 use std::alloc::Global;
 use std::io::Read;
-use tftp_capture::Tallied;
+use tftp_capture::LatchedReader;
 use tftp_match::{PairSaid, judge_pair};
 
 /// A capture text: one that is read while it is judged, or one in memory.
@@ -15,7 +15,7 @@ pub enum Held<R: Read + Drop> {
 
 /// What there is to say of a text of the client and one of the server.
 pub fn said_of<R: Read + Drop, S: Read + Drop>(alloc: Global, client: R, server: S) -> PairSaid {
-    let mut client = Tallied::new(client);
-    let mut server = Tallied::new(server);
+    let mut client = LatchedReader::new(client);
+    let mut server = LatchedReader::new(server);
     judge_pair(alloc, &mut client, &mut server)
 }

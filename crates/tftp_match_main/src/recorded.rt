@@ -7,7 +7,7 @@ use crate::told::{Named, tell_apart, tell_several, told};
 use anyhow::{Result, bail};
 use std::alloc::Global;
 use std::io::Read;
-use tftp_capture::{CaptureReader, Datagram, LineWriter, Tallied};
+use tftp_capture::{CaptureReader, Datagram, LatchedReader, LineWriter};
 use tftp_packet::End;
 use tftp_session::{Asked, Session, TextAt, TextFault, requests_of};
 
@@ -83,7 +83,7 @@ fn read_out<R: Read + Drop>(alloc: Global, mut reader: R) -> Result<Vec<u8>> {
 
 /// The payload of the first datagram of a text; without one an empty one.
 fn first_payload(alloc: Global, text: &[u8]) -> Result<Vec<u8>> {
-    let mut reader = Tallied::new(text);
+    let mut reader = LatchedReader::new(text);
     let mut capture = CaptureReader::begin(alloc, &mut reader)?;
     let mut first = Datagram::empty(alloc);
     if capture.next_into(&mut reader, &mut first)? {

@@ -14,7 +14,7 @@ use crate::transfer::{Transfer, window_size_of};
 use crate::writing::write_normal;
 use std::alloc::Global;
 use std::io::{Read, Write};
-use tftp_capture::{LineWriter, Tallied};
+use tftp_capture::{LatchedReader, LineWriter};
 use tftp_judge::{Meaning, MeaningParts, judge_text};
 use tftp_packet::Side;
 
@@ -41,7 +41,7 @@ pub fn normal_capture<W: Write>(
 /// memory is taken, before the first byte is written.
 pub fn normalise<R: Read, W: Write>(
     alloc: Global,
-    reader: &mut Tallied<R>,
+    reader: &mut LatchedReader<R>,
     writer: &mut LineWriter<W>,
 ) -> Result<(), NormalFault>
     requires reading { reader.old.1 ≡ false }

@@ -11,7 +11,7 @@ use crate::pieces::{said_by, skipped_in};
 use crate::sizes::{begins_as_one, front_of, size_of};
 use crate::skip::skip_rest;
 use std::io::Read;
-use tftp_capture::{Ahead, Tallied};
+use tftp_capture::{Ahead, LatchedReader};
 
 /// What the end of the recording is within the first bytes of a piece: the end after the pieces before it, or a fault.
 fn ended(layout: Layout, piece: &[u8]) -> Result<Option<usize>, FaultKind>
@@ -32,7 +32,7 @@ fn ended(layout: Layout, piece: &[u8]) -> Result<Option<usize>, FaultKind>
 pub fn read_front<R: Read>(
     layout: Layout,
     ahead: &mut Ahead,
-    reader: &mut Tallied<R>,
+    reader: &mut LatchedReader<R>,
     piece: &mut Vec<u8>,
 ) -> Result<Option<usize>, FaultKind>
     ensures taken { Consumes (prepend_known ahead.old (R.remaining reader.old.0)) (prepend_known ahead.new (R.remaining reader.new.0)) piece.new.items }
@@ -58,7 +58,7 @@ fn hold_rest<R: Read>(
     layout: Layout,
     interfaces: &[Interface],
     ahead: &mut Ahead,
-    reader: &mut Tallied<R>,
+    reader: &mut LatchedReader<R>,
     piece: &mut Vec<u8>,
     size: usize,
 ) -> Result<Found, FaultKind>
@@ -92,7 +92,7 @@ pub fn read_rest<R: Read>(
     layout: Layout,
     interfaces: &[Interface],
     ahead: &mut Ahead,
-    reader: &mut Tallied<R>,
+    reader: &mut LatchedReader<R>,
     piece: &mut Vec<u8>,
     size: usize,
 ) -> Result<Found, FaultKind>

@@ -10,12 +10,12 @@ use crate::found::Found;
 use crate::gather::gather;
 use crate::numbers::Order;
 use std::io::Read;
-use tftp_capture::{Ahead, Tallied};
+use tftp_capture::{Ahead, LatchedReader};
 
 /// Reads on over so many bytes, of which none is held; false where the recording ends before.
 fn skip<R: Read>(
     ahead: &mut Ahead,
-    reader: &mut Tallied<R>,
+    reader: &mut LatchedReader<R>,
     count: usize,
 ) -> Result<bool, FaultKind>
     ensures skips { (bytes : List ℕ) × Consumes (prepend_known ahead.old (R.remaining reader.old.0)) (prepend_known ahead.new (R.remaining reader.new.0)) bytes × SkipEnds result count bytes }
@@ -45,7 +45,7 @@ fn skip<R: Read>(
 /// before.
 fn skip_to_end<R: Read>(
     ahead: &mut Ahead,
-    reader: &mut Tallied<R>,
+    reader: &mut LatchedReader<R>,
     piece: &mut Vec<u8>,
     size: usize,
 ) -> Result<bool, FaultKind>
@@ -75,7 +75,7 @@ fn skip_to_end<R: Read>(
 pub fn skip_rest<R: Read>(
     order: Order,
     ahead: &mut Ahead,
-    reader: &mut Tallied<R>,
+    reader: &mut LatchedReader<R>,
     piece: &mut Vec<u8>,
     size: usize,
 ) -> Result<Found, FaultKind>

@@ -20,7 +20,7 @@ use crate::next::{AuditFault, NextFrame};
 use std::alloc::{AllocError, Global};
 use std::io::Read;
 use tftp_blocks::Delivered;
-use tftp_capture::Tallied;
+use tftp_capture::LatchedReader;
 use tftp_lines::{Endpoint, spells_request};
 use tftp_parties::party_of;
 use tftp_recording::{Datagram, Event, Fate, RecordingReader};
@@ -81,7 +81,7 @@ impl<D: Delivered + Drop> RecordingAudit<D> {
     pub fn next_into<R: Read>(
         &mut self,
         alloc: Global,
-        reader: &mut Tallied<R>,
+        reader: &mut LatchedReader<R>,
         recording: &mut RecordingReader,
         event: &mut Event,
     ) -> Result<NextFrame, AuditFault>

@@ -5,14 +5,14 @@ use crate::headed::{Headed, hint};
 use crate::session::Session;
 use std::alloc::{AllocError, Global};
 use std::io::Read;
-use tftp_capture::Tallied;
+use tftp_capture::LatchedReader;
 use tftp_pcap::{FaultKind, PcapFault};
 use tftp_recording::{Event, RecordingReader};
 
 /// A recording that is being read.
 #[derive(Drop)]
 pub struct Opened<R: Read + Drop> {
-    reader: Tallied<Headed<R>>,
+    reader: LatchedReader<Headed<R>>,
     recording: RecordingReader,
     event: Event,
 }
@@ -20,7 +20,7 @@ pub struct Opened<R: Read + Drop> {
 impl<R: Read + Drop> Opened<R> {
     /// Reads the file's beginning.
     pub fn begin(alloc: Global, reader: R) -> Result<Self, ReadFault> {
-        let mut reader = Tallied::new(Headed::new(reader));
+        let mut reader = LatchedReader::new(Headed::new(reader));
         match RecordingReader::begin(alloc, &mut reader) {
             Ok(recording) => Ok(Opened {
                 reader,

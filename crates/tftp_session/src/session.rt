@@ -10,7 +10,7 @@ use std::collections::BTreeMap;
 use std::io::Read;
 use tftp_blame::{Passing, Span, Trail, about};
 use tftp_blocks::RingDelivered;
-use tftp_capture::Tallied;
+use tftp_capture::LatchedReader;
 use tftp_lines::{Place, Transfer};
 use tftp_parties::party_of;
 use tftp_pcap::{FaultKind, PcapFault};
@@ -57,7 +57,7 @@ impl Session {
     pub fn next<R: Read>(
         &mut self,
         alloc: Global,
-        reader: &mut Tallied<R>,
+        reader: &mut LatchedReader<R>,
         recording: &mut RecordingReader,
         event: &mut Event,
     ) -> Result<bool, ReadFault> {

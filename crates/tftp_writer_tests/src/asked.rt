@@ -5,7 +5,7 @@ ghost use Rattle.std.specs.Prelude.{◌≡◌, IfOk};
 use std::io;
 use std::io::{ErrorKind, Read, Write};
 use std::test::Fail;
-use tftp_capture::{LineWriter, Tallied};
+use tftp_capture::{LatchedReader, LineWriter};
 use tftp_trials::comparing::is_so;
 
 /// Counts how often it was asked, and answers one call with an error.
@@ -52,15 +52,15 @@ fn is_kept(found: Option<usize>, failed: bool, number: u64, fails_at: u64) -> bo
 
 /// Fails unless each of three reads asks once, of which one fails, or none.
 fn asks_once(fails_at: u64) -> Result<(), Fail> {
-    let mut tallied = Tallied::new(Asked { calls: 0, fails_at });
+    let mut latched = LatchedReader::new(Asked { calls: 0, fails_at });
     for number in 1..4u64 {
-        let found = tallied.read(&mut [0u8; 2]).ok();
+        let found = latched.read(&mut [0u8; 2]).ok();
         is_so(
-            is_kept(found, tallied.failed(), number, fails_at),
+            is_kept(found, latched.failed(), number, fails_at),
             "another answer",
         )?;
     }
-    is_so(tallied.into_inner().calls == 3, "another count")
+    is_so(latched.into_inner().calls == 3, "another count")
 }
 
 #[test]

@@ -6,7 +6,7 @@ use std::io;
 use std::io::{Read, Write};
 use std::slice::Iter;
 use std::test::Fail;
-use tftp_capture::{LineWriter, Tallied};
+use tftp_capture::{LatchedReader, LineWriter};
 use tftp_commands::run;
 use tftp_trials::drip::DripReader;
 
@@ -97,7 +97,7 @@ impl Write for Counting<'_> {
 
 /// Shows what a reader gives, and answers the status.
 fn shown<R: Read + Drop>(rt: &HostRuntime, reader: R, pipe: &Pipe) -> u8 {
-    let mut reader = Tallied::new(reader);
+    let mut reader = LatchedReader::new(reader);
     let mut writer = LineWriter::new(rt.alloc(), Counting { pipe });
     run(
         rt.alloc(),

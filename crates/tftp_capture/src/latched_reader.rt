@@ -6,14 +6,14 @@ use std::io;
 use std::io::Read;
 use std::marker::Model;
 
-/// A reader, and whether it has answered an error, of whatever kind.
+/// A reader with a latch, which tells whether a read has failed, by whatever error.
 #[derive(Drop)]
-pub struct Tallied<T> {
+pub struct LatchedReader<T> {
     inner: T,
     failed: bool,
 }
 
-impl<T> Model for Tallied<T> {
+impl<T> Model for LatchedReader<T> {
     ghost use Rattle.std.specs.Prelude.{Bool};
 
     ghost Value = { T × Bool };
@@ -21,12 +21,12 @@ impl<T> Model for Tallied<T> {
     ghost view = { λ t. (t.inner, t.failed) };
 }
 
-impl<T> Tallied<T> {
+impl<T> LatchedReader<T> {
     /// Wraps a reader; nothing has failed yet.
     pub fn new(inner: T) -> Self
         ensures { result ≡ (inner, false) }
     {
-        Tallied {
+        LatchedReader {
             inner,
             failed: false,
         }
@@ -44,12 +44,12 @@ impl<T> Tallied<T> {
     pub fn into_inner(self) -> T
         ensures { result ≡ self.0 }
     {
-        let Tallied { inner, failed: _ } = self;
+        let LatchedReader { inner, failed: _ } = self;
         inner
     }
 }
 
-impl<R: Read> Read for Tallied<R> {
+impl<R: Read> Read for LatchedReader<R> {
     ghost remaining = { λ t. R.remaining t.0 };
 
     fn read(&mut self, buf: &mut [u8]) -> io::Result<usize>
