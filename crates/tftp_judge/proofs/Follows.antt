@@ -181,7 +181,7 @@ module _ (before now after : Option (List ℕ)) (old new : ReaderState) (judge :
             (λ more. lawful_in (text ++ more) old.header follows.datagrams (begins_longer text more old.header follows.datagrams first) are_lawful);
         ended = λ h. (close.ended h).1;
         failing = read;
-        tallied = failed_or fault failed (clean_or fault failed tally);
+        latched = failed_or fault failed (clean_or fault failed tally);
       }
 
   -- a datagram was read
@@ -201,7 +201,7 @@ module _ (before now after : Option (List ℕ)) (old new : ReaderState) (judge :
           said = inl says.0;
           ended = λ h. absurd (says.1 h);
           failing = λ h. absurd h;
-          tallied = λ h. clean_says failed ⊥ clean h;
+          latched = λ h. clean_says failed ⊥ clean h;
         }
 
     -- which the judge accepted
@@ -236,7 +236,7 @@ module _ (before now after : Option (List ℕ)) (old new : ReaderState) (judge :
       said = inr (record { all = (close.ended tt).0; is = is; read = read; why = inl (close.ended tt).1 });
       ended = λ h. (close.ended tt).1;
       failing = λ h. absurd (works h);
-      tallied = λ h. clean_says failed (SaysReadFailed r) clean h;
+      latched = λ h. clean_says failed (SaysReadFailed r) clean h;
     }
 
     pub found_meaning : (m : Meaning) → Finishes (Ok m) → Found before after failed (Ok m)

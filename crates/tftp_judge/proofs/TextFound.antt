@@ -55,7 +55,7 @@ pub record Found (before after : Option (List ℕ)) (failed : Bool) (r : Result 
   pub said : Stays taken ahead r ⊎ Ends after taken ahead r
   pub ended : EndsText r → IsAtEnd after
   pub failing : SaysReadFailed r → failed ≡ true
-  pub tallied : failed ≡ true → SaysReadFailed r
+  pub latched : failed ≡ true → SaysReadFailed r
 
 -- an answer is of the text, or that a read failed, or want of memory
 pub answers : (r : Result Meaning Verdict) → IsOfText r ⊎ (SaysReadFailed r ⊎ WantsMemory r)
@@ -79,7 +79,7 @@ module _ (before after : Option (List ℕ)) (failed : Bool) (r : Result Meaning 
   found_ended = found.ended
 
   pub found_tally : failed ≡ true → SaysReadFailed r
-  found_tally = found.tallied
+  found_tally = found.latched
 
   pub found_whole : (text : List ℕ) → before ≡ Some text → failed ≡ false → IsTextVerdict text r
   found_whole text all clean =
@@ -133,5 +133,5 @@ found_no_header before after failed fault fails end read clean = record {
   said = found_by_fault after fails.taken fails.ahead [] fault fails.tells fails.memory fails.near (λ h. (fails.ended h, end h)) fails.drained (λ more. none_in (fails.taken ++ more));
   ended = end;
   failing = λ h. read h;
-  tallied = failed_or fault failed clean;
+  latched = failed_or fault failed clean;
 }

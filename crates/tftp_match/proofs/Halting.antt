@@ -175,7 +175,7 @@ module _ (before now after : Option (List ℕ)) (old new : ReaderState) (judge :
       said = inr (record { all = (closes.ended tt).0; is = is; read = says; why = inl (closes.ended tt).1 });
       ended = λ h. (closes.ended tt).1;
       failing = λ h. absurd (works h);
-      tallied = λ h. clean_says failed (SaysReadFailed r) clean h;
+      latched = λ h. clean_says failed (SaysReadFailed r) clean h;
     })
 
     verdict : (r : Result Meaning Refusal) → IsVerdict old.header (reverse read) r → IsVerdict old.header (unnumbered has.datagrams) r
