@@ -21,10 +21,6 @@ step next bytes r skipped = ((λ s. forth s.0 s.1), λ s. (suc s.0, (skipped, s.
     forth zero s = absurd (skipped_does_not_stop next bytes r skipped s)
     forth (suc headers) s = (headers, s.1)
 
--- a header that is skipped has 8 bytes or more
-pub skips_some : (next : ℕ) (bytes : List ℕ) → 8 ≤ skipped_size next bytes
-skips_some next bytes = grind arith
-
 -- nothing is reached over a header that is cut
 pub cut_header : (next : ℕ) (bytes : List ℕ) (r : Reached) → (IsSkipped next bytes → ⊥) → (Stops next bytes r → ⊥) → ReachesOver next bytes r → ⊥
 cut_header next bytes r not_skipped not_there s = none s.0 s.1

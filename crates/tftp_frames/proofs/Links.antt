@@ -1,6 +1,6 @@
 -- A frame of a link carries one thing.
 use Rattle.std.proofs.Common.{◌≡◌, ℕ, ◌≤◌, List, length, drop, sym, ap, subst, ◌∙◌, Option, Some, None, MatchOption}
-use Rattle.tftp_frames.specs.{pair, least, Linked, CarriesTyped, Carries, SpellsLink, direction_said, type_network, linked, IsLinked, LinkType, Null, Ethernet, Raw, Loop, Cooked, RawIpv4, RawIpv6, CookedTwo, LinkContent, Direction}
+use Rattle.tftp_frames.specs.{pair, least, Linked, CarriesTyped, Carries, SpellsLink, direction_said, type_network, linked, IsLinked, LinkType, Ethernet, Cooked, CookedTwo, LinkContent, Direction}
 use Rattle.tftp_frames.proofs.Tags.{leads_one}
 
 -- an answer of one function, made that of another

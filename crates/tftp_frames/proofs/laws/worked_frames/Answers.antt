@@ -1,5 +1,6 @@
 use Rattle.std.proofs.Common.{◌++◌, [], ◌∷◌, inl, inr, refl, arith, Some, None}
 use Rattle.tftp_frames.specs.{Null, Ethernet, Raw, Cooked, RawIpv4, RawIpv6, CookedTwo, Ipv4, Ipv6, Unknown, In, Out, udp_bytes_of_ipv6, ipv4_bytes, ipv4_with_options, ipv4_fragment, ipv6_with_extensions, ipv6_fragment, ipv6_fragment_of_icmp, ipv6_part}
+use Rattle.tftp_frames.proofs.Uppers.{spells_ip}
 use Rattle.tftp_frames.proofs.laws.worked_frames.Goals as goal
 
 pub returns-clause-tags : goal.returns-clause-tags
@@ -8,14 +9,7 @@ returns-clause-tags c = (
   Ipv4,
   (Ethernet, refl, (omega arith, refl, (2048, (2, (refl, omega arith, (refl, omega arith, (refl, refl, refl)))), refl))),
   refl,
-  record {
-    header = (omega arith, refl, omega arith, omega arith);
-    whole = (omega arith, omega arith);
-    upper = _;
-    reaches = refl;
-    udp = refl;
-    packet = refl;
-  },
+  spells_ip Unknown Ipv4 (ipv4_bytes ++ 0 ∷ 0 ∷ []) _ (omega arith, refl, omega arith, omega arith) (omega arith, omega arith) refl refl,
 )
 
 pub returns-clause-cooked : goal.returns-clause-cooked
@@ -24,14 +18,7 @@ returns-clause-cooked c = (
   Ipv4,
   (Cooked, refl, (omega arith, refl, (2048, (0, (refl, refl, refl)), refl))),
   refl,
-  record {
-    header = (omega arith, refl, omega arith, omega arith);
-    whole = (omega arith, omega arith);
-    upper = _;
-    reaches = refl;
-    udp = refl;
-    packet = refl;
-  },
+  spells_ip Out Ipv4 ipv4_bytes _ (omega arith, refl, omega arith, omega arith) (omega arith, omega arith) refl refl,
 )
 
 pub returns-clause-cooked_two : goal.returns-clause-cooked_two
@@ -40,14 +27,7 @@ returns-clause-cooked_two c = (
   Ipv4,
   (CookedTwo, refl, (omega arith, refl, (2048, (0, (refl, refl, refl)), refl))),
   refl,
-  record {
-    header = (omega arith, refl, omega arith, omega arith);
-    whole = (omega arith, omega arith);
-    upper = _;
-    reaches = refl;
-    udp = refl;
-    packet = refl;
-  },
+  spells_ip In Ipv4 ipv4_bytes _ (omega arith, refl, omega arith, omega arith) (omega arith, omega arith) refl refl,
 )
 
 pub returns-clause-options : goal.returns-clause-options
@@ -56,14 +36,7 @@ returns-clause-options c = (
   Ipv4,
   (Raw, refl, (omega arith, refl, (refl, refl))),
   refl,
-  record {
-    header = (omega arith, refl, omega arith, omega arith);
-    whole = (omega arith, omega arith);
-    upper = _;
-    reaches = refl;
-    udp = refl;
-    packet = refl;
-  },
+  spells_ip Unknown Ipv4 ipv4_with_options _ (omega arith, refl, omega arith, omega arith) (omega arith, omega arith) refl refl,
 )
 
 pub returns-clause-part : goal.returns-clause-part
@@ -72,14 +45,7 @@ returns-clause-part c = (
   Ipv4,
   (RawIpv4, refl, (omega arith, refl, (refl, refl))),
   refl,
-  record {
-    header = (omega arith, refl, omega arith, omega arith);
-    whole = (omega arith, omega arith);
-    upper = _;
-    reaches = refl;
-    udp = refl;
-    packet = refl;
-  },
+  spells_ip Unknown Ipv4 ipv4_fragment _ (omega arith, refl, omega arith, omega arith) (omega arith, omega arith) refl refl,
 )
 
 pub returns-clause-extensions : goal.returns-clause-extensions
@@ -88,14 +54,8 @@ returns-clause-extensions c = (
   Ipv6,
   (RawIpv6, refl, (omega arith, refl, (refl, refl))),
   refl,
-  record {
-    header = (omega arith, refl);
-    whole = (omega arith, omega arith);
-    upper = record { protocol = 17; fragment = None; content = udp_bytes_of_ipv6 };
-    reaches = (2, ((omega arith, omega arith, inl refl), ((omega arith, omega arith, inl refl), inl (refl, (λ e. omega arith), refl))));
-    udp = refl;
-    packet = refl;
-  },
+  spells_ip Unknown Ipv6 ipv6_with_extensions (record { protocol = 17; fragment = None; content = udp_bytes_of_ipv6 }) (omega arith, refl) (omega arith, omega arith)
+      (2, ((omega arith, omega arith, inl refl), ((omega arith, omega arith, inl refl), inl (refl, (λ e. omega arith), refl)))) refl,
 )
 
 pub returns-clause-ipv6_part : goal.returns-clause-ipv6_part
@@ -104,14 +64,8 @@ returns-clause-ipv6_part c = (
   Ipv6,
   (Null, refl, (omega arith, refl, (refl, refl))),
   refl,
-  record {
-    header = (omega arith, refl);
-    whole = (omega arith, omega arith);
-    upper = record { protocol = 17; fragment = ipv6_part.fragment; content = ipv6_part.content };
-    reaches = (0, inr (refl, omega arith, refl, refl));
-    udp = refl;
-    packet = refl;
-  },
+  spells_ip Unknown Ipv6 ipv6_fragment (record { protocol = 17; fragment = ipv6_part.fragment; content = ipv6_part.content }) (omega arith, refl) (omega arith, omega arith)
+      (0, inr (refl, omega arith, refl, refl)) refl,
 )
 
 pub returns-clause-another : goal.returns-clause-another
@@ -120,12 +74,6 @@ returns-clause-another c = (
   Ipv6,
   (RawIpv6, refl, (omega arith, refl, (refl, refl))),
   refl,
-  record {
-    header = (omega arith, refl);
-    whole = (omega arith, omega arith);
-    upper = record { protocol = 58; fragment = ipv6_part.fragment; content = ipv6_part.content };
-    reaches = (0, inr (refl, omega arith, refl, refl));
-    udp = refl;
-    packet = refl;
-  },
+  spells_ip Unknown Ipv6 ipv6_fragment_of_icmp (record { protocol = 58; fragment = ipv6_part.fragment; content = ipv6_part.content }) (omega arith, refl) (omega arith, omega arith)
+      (0, inr (refl, omega arith, refl, refl)) refl,
 )
