@@ -7,9 +7,6 @@ use Rattle.tftp_fragments.specs.Whole.{Content, Part}
 use Rattle.tftp_fragments.specs.{Among, AreSame, Covers, EndsRightly, FirstNames, Give, HasPart, InRow, IsCutInto, end_of}
 use Rattle.tftp_fragments.proofs.Members.{all_at, all_from, among_at, byte_of, first_part, last_ends, member}
 
-IsLast : Part → Type 0
-IsLast p = p.more ≡ false
-
 size_of : (parts : List Part) (whole : Content) (p : Part) → p.more ≡ false → HasPart whole p → end_of p ≡ length whole.bytes
 size_of parts whole p e h = last_ends p.more (end_of p) (length whole.bytes) e h.ends
 

@@ -1,7 +1,7 @@
 -- What is held of parts: what it says of the content, and one more part.
 use Rattle.std.proofs.Common.{◌≡◌, ◌≢◌, ℕ, zero, suc, ◌+◌, ◌-◌, ◌<◌, ◌≤◌, Bool, true, false, ◌⊎◌, inl, inr, List, ◌∷◌, length, slice_index, slice_index_or, Some, None, refl, sym, ap, ◌∙◌, subst, arith}
 use Rattle.std.specs.List.{AllByRecursion}
-use Rattle.std.proofs.lemmas.Bool.{cases_lt}
+use Rattle.std.proofs.lemmas.Bool.{cases_lt, cases_Bool}
 use Rattle.std.proofs.lemmas.List.{get_or-map, length-map}
 use Rattle.tftp_fragments.specs.Whole.{Content, Part}
 use Rattle.tftp_fragments.specs.{Among, Covers, EndsRightly, Give, HasPart, end_of, Agrees, AreLaid, Held, HoldsPart, IsComplete, IsHeld, StandsFor, cell}
@@ -10,14 +10,10 @@ use Rattle.tftp_fragments.proofs.Members.{all_at, all_weaker, among_weaker, byte
 some_is : (a b : ℕ) → Some a ≡ Some b → a ≡ b
 some_is a b e = cc
 
-pub truth : (b : Bool) → (b ≡ true) ⊎ (b ≡ false)
-truth true = inl refl
-truth false = inr refl
-
 pub not_both : (b : Bool) → b ≡ true → b ≡ false → ⊥
 not_both b e f = cc
 
-by_end : (more : Bool) (end size : ℕ) → (more ≡ false → end ≡ size) → (more ≡ true → end < size) → EndsRightly more end size
+pub by_end : (more : Bool) (end size : ℕ) → (more ≡ false → end ≡ size) → (more ≡ true → end < size) → EndsRightly more end size
 by_end true end size last inner = inner refl
 by_end false end size last inner = last refl
 
@@ -78,7 +74,7 @@ agreed h parts p whole some s all has = record {
           let held = all_at (HoldsPart h) parts m.0 s.each m.2 in
           let there = all_at (HasPart whole) parts m.0 all m.2 in
           let size = last_ends p.more (end_of p) (length whole.bytes) last has.ends in
-          elim (truth m.0.more) [
+          elim (cases_Bool m.0.more) [
             | inl inner ↦ let short = inner_ends m.0.more (end_of m.0) (length whole.bytes) inner there.ends in absurd (omega (arith, m.1))
             | inr outer ↦ absurd (not_both h.ended (held.last outer).0 e)
           ]
@@ -108,7 +104,7 @@ module _ (h : Held) (p : Part) (new : Held) (agrees : Agrees h p) (added : Added
 
   last_size : p.more ≡ false → end_of p ≡ length new.cells
   last_size e =
-      elim (truth h.ended) [
+      elim (cases_Bool h.ended) [
         | inl ended ↦ last_ends p.more (end_of p) (length h.cells) e (agrees.ends.0 ended) ∙ sym (same_size ended)
         | inr before ↦ let past = agrees.ends.1 before e in elim added.laid.exact [ inl same ↦ absurd (omega (arith, same, past, added.laid.reached)) | inr grown ↦ sym grown ]
       ]
@@ -141,7 +137,7 @@ module _ (h : Held) (p : Part) (new : Held) (agrees : Agrees h p) (added : Added
     last = λ e. (added.kept (held.last e).0, (held.last e).1 ∙ sym (same_size (held.last e).0));
     inner = λ e ended. elim (added.only ended) [
       | inl before ↦ omega (arith, held.inner e before, added.laid.longer)
-      | inr last ↦ elim (truth h.ended) [
+      | inr last ↦ elim (cases_Bool h.ended) [
         | inl before ↦ omega (arith, held.inner e before, added.laid.longer)
         | inr before ↦ let past = agrees.ends.1 before last in omega (arith, past, held.within, added.laid.reached)
       ]

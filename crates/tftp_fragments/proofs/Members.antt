@@ -9,10 +9,6 @@ pub pick : (P Q : Part → Type 0) (ps : List Part) → Among P ps → AllByRecu
 pick P Q [] a h = absurd a
 pick P Q (p ∷ ps) a h = elim a [ inl x ↦ (p, x, h.0) | inr y ↦ pick P Q ps y h.1 ]
 
-pub all_both : (P Q : Part → Type 0) (ps : List Part) → AllByRecursion P ps → AllByRecursion Q ps → AllByRecursion (λ p. P p × Q p) ps
-all_both P Q [] g h = tt
-all_both P Q (p ∷ ps) g h = ((g.0, h.0), all_both P Q ps g.1 h.1)
-
 pub all_weaker : (P Q : Part → Type 0) → ((p : Part) → P p → Q p) → (ps : List Part) → AllByRecursion P ps → AllByRecursion Q ps
 all_weaker P Q f [] h = tt
 all_weaker P Q f (p ∷ ps) h = (f p h.0, all_weaker P Q f ps h.1)

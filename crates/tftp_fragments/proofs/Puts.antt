@@ -1,9 +1,8 @@
 -- A fragment that came, and what is known then.
-use Rattle.std.proofs.Common.{◌≡◌, ◌≢◌, ℕ, ◌+◌, ◌<◌, ◌≤◌, inl, inr, true, false, List, [], ◌∷◌, Option, Some, None, Vec, Global, length, refl, sym, ◌∙◌, subst, arith}
+use Rattle.std.proofs.Common.{◌≡◌, ◌≢◌, ℕ, ◌≤◌, false, List, [], ◌∷◌, Option, Some, None, Vec, Global, length, refl, sym, ◌∙◌, subst, arith}
 use Rattle.tftp_fragments.specs.Whole.{Content, Part}
-use Rattle.tftp_fragments.specs.{Give, HasPart, end_of, Agrees, IsComplete, IsHeld, StandsFor, nothing_held, Arrival, IsSetOf, SetState, TakeEnds, parts_of, Comes, IsKeptOf, began_of}
-use Rattle.tftp_fragments.proofs.Holding.{complete, not_both, truth, whole_given}
-use Rattle.tftp_fragments.proofs.Members.{inner_ends, last_ends}
+use Rattle.tftp_fragments.specs.{Give, Agrees, IsComplete, IsHeld, StandsFor, nothing_held, Arrival, IsSetOf, SetState, TakeEnds, parts_of, Comes, IsKeptOf, began_of}
+use Rattle.tftp_fragments.proofs.Holding.{complete, not_both, whole_given}
 
 no_byte_held : (k b : ℕ) → None ≡ Some b → ⊥
 no_byte_held k b e = cc
@@ -55,13 +54,6 @@ not_given t arrivals whole e is not_all g = not_all (complete t.held (parts_of a
 
 pub given : (t : SetState) (arrivals : List Arrival) (content : Content) → t.spoiled ≡ false → IsSetOf t arrivals → IsComplete t.held → IsHeld t.held content → Give (parts_of arrivals) content
 given t arrivals content e is all are = whole_given t.held (parts_of arrivals) content (is.held e) all.last are
-
-pub too_long : (p : Part) (whole : Content) (bit : ℕ) → (p.more ≡ true → bit ≡ 1) → (p.more ≡ false → bit ≡ 0) → 65535 < end_of p + bit → HasPart whole p → 65535 < length whole.bytes
-too_long p whole bit with_more without long h =
-    elim (truth p.more) [
-      | inl more ↦ let short = inner_ends p.more (end_of p) (length whole.bytes) more h.ends in omega (arith, with_more more)
-      | inr last ↦ let same = last_ends p.more (end_of p) (length whole.bytes) last h.ends in omega (arith, without last)
-    ]
 
 -- ---- the same under a key
 
