@@ -74,17 +74,7 @@ asks (Judged end services json files) w ws command.Check count at (two, inr is) 
     let it = subst (λ n. Arguments (Judged end services json files) (drop n ws)) two said in
     (drop 2 ws, (found.0, inr (found.1 ∙ ap (λ x. found.0 ∷ x ∷ drop 2 ws) is)), it.0, it.1, it.2)
 asks (Listed services json file) w ws command.Text count at names calls said = absurd calls
-asks (Listed services json file) w ws command.Texts count at names calls said = absurd calls
-asks (Listed services json file) w ws command.Check count at names calls said = absurd calls
-asks (Written number end services file) w ws command.List count at names calls said = absurd calls
-asks (Written number end services file) w ws command.Texts count at names calls said = absurd calls
-asks (Written number end services file) w ws command.Check count at names calls said = absurd calls
-asks (AllWritten end services file) w ws command.List count at names calls said = absurd calls
-asks (AllWritten end services file) w ws command.Text count at names calls said = absurd calls
-asks (AllWritten end services file) w ws command.Check count at names calls said = absurd calls
-asks (Judged end services json files) w ws command.List count at names calls said = absurd calls
-asks (Judged end services json files) w ws command.Text count at names calls said = absurd calls
-asks (Judged end services json files) w ws command.Texts count at names calls said = absurd calls
+asks _ w ws _ count at names calls said = absurd calls
 
 -- ---- a word tells one command
 
@@ -161,10 +151,8 @@ count_fits w ws command.Check k at (two, is) = omega (arith, two, slice_get_with
 
 -- no transfer has this number
 pub no_number : (items : List (Bor Word)) (d : Bor Word) (ps : List Part) (a : Asked) → plains ps ≡ map (λ (w : Bor Word). w.now) items → Calls command.Text a → Argues a ps → ((n : ℕ) → IsTransfer (get_or items 0 d).now n → ⊥) → ⊥
-no_number items d ps (Listed services json file) are calls argues none = calls
-no_number items d ps (AllWritten end services file) are calls argues none = calls
-no_number items d ps (Judged at services json files) are calls argues none = calls
 no_number [] d ps (Written number end services file) are calls argues none = (let bad : [] ≡ argues.0 ∷ end_word end ∷ file ∷ [] = sym are ∙ argues.2.3 in cc)
 no_number (x ∷ items) d ps (Written number end services file) are calls argues none =
     let same : argues.0 ≡ x.now = ap (λ l. get_or l 0 []) (sym argues.2.3 ∙ are) in
     none number (subst (λ t. IsTransfer t number) same argues.1)
+no_number items d ps _ are calls argues none = calls

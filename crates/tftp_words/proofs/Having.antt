@@ -6,30 +6,22 @@ use Rattle.tftp_words.specs.{Point, Word, Part, Service, Json, At, Plain, servic
 services-append : (ps qs : List Part) → services (ps ++ qs) ≡ services ps ++ services qs
 services-append [] qs = refl
 services-append (Service port ∷ ps) qs = ap (λ xs. port ∷ xs) (services-append ps qs)
-services-append (Json ∷ ps) qs = services-append ps qs
-services-append (At point ∷ ps) qs = services-append ps qs
-services-append (Plain word ∷ ps) qs = services-append ps qs
+services-append (_ ∷ ps) qs = services-append ps qs
 
 points-append : (ps qs : List Part) → points (ps ++ qs) ≡ points ps ++ points qs
 points-append [] qs = refl
-points-append (Service port ∷ ps) qs = points-append ps qs
-points-append (Json ∷ ps) qs = points-append ps qs
 points-append (At point ∷ ps) qs = ap (λ xs. point ∷ xs) (points-append ps qs)
-points-append (Plain word ∷ ps) qs = points-append ps qs
+points-append (_ ∷ ps) qs = points-append ps qs
 
 plains-append : (ps qs : List Part) → plains (ps ++ qs) ≡ plains ps ++ plains qs
 plains-append [] qs = refl
-plains-append (Service port ∷ ps) qs = plains-append ps qs
-plains-append (Json ∷ ps) qs = plains-append ps qs
-plains-append (At point ∷ ps) qs = plains-append ps qs
 plains-append (Plain word ∷ ps) qs = ap (λ xs. word ∷ xs) (plains-append ps qs)
+plains-append (_ ∷ ps) qs = plains-append ps qs
 
 jsons-append : (ps qs : List Part) → jsons (ps ++ qs) ≡ jsons ps + jsons qs
 jsons-append [] qs = omega arith
-jsons-append (Service port ∷ ps) qs = jsons-append ps qs
 jsons-append (Json ∷ ps) qs = omega (arith, jsons-append ps qs)
-jsons-append (At point ∷ ps) qs = jsons-append ps qs
-jsons-append (Plain word ∷ ps) qs = jsons-append ps qs
+jsons-append (_ ∷ ps) qs = jsons-append ps qs
 
 pub have_service : (ps : List Part) (ports : List ℕ) (json : Bool) (at : Option Point) (words : List Word) (port : ℕ) → Have ps ports json at words → Have (ps ++ Service port ∷ []) (ports ++ port ∷ []) json at words
 have_service ps ports json at words port h = (

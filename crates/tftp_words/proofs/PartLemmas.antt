@@ -68,13 +68,6 @@ no_port word next text k plain json option none Json count begins = not_json wor
 no_port word next text k plain json option none (At point) count begins = two_names word next text (point_word point) k count option (point_given word next point count begins)
 no_port word next text k plain json option none (Plain w) count begins = not_plain word w next count plain begins
 
-pub no_point : (word : Word) (next : Option Word) (text : Word) (k : ℕ) → (IsPlain word → ⊥) → word ≢ codes "--json" → Gives (codes "--end") word next text k → ((point : Point) → text ≢ point_word point)
-    → (p : Part) (count : ℕ) → Begins word next p count → ⊥
-no_point word next text k plain json option none (Service port) count begins = let given = service_given word next port count begins in two_names word next given.0 text count k given.2 option
-no_point word next text k plain json option none Json count begins = not_json word next count json begins
-no_point word next text k plain json option none (At point) count begins = none point (one_value (codes "--end") word next text (point_word point) k count option (point_given word next point count begins))
-no_point word next text k plain json option none (Plain w) count begins = not_plain word w next count plain begins
-
 pub no_part : (word : Word) (next : Option Word) → (IsPlain word → ⊥) → word ≢ codes "--json" → ((v : Word) (k : ℕ) → Gives (codes "--service") word next v k → ⊥) → ((v : Word) (k : ℕ) → Gives (codes "--end") word next v k → ⊥)
     → (p : Part) (count : ℕ) → Begins word next p count → ⊥
 no_part word next plain json service end (Service port) count begins = let given = service_given word next port count begins in service given.0 count given.2

@@ -2,7 +2,7 @@
 use Rattle.std.proofs.Common.{rules, ◌≡◌, inl, inr, [], ◌∷◌, codes, false, true, Some, refl, get_or, ap, arith}
 use Rattle.tftp_packet.specs.declared.kinds.End.TheVariants as end
 use Rattle.tftp_words.specs.declared.point.Point.TheVariants as point
-use Rattle.tftp_words.specs.{Service, Json, At, Plain, IsPort, IsPlain, Done, First, Rest, Listed, AllWritten, Judged, IsRequest}
+use Rattle.tftp_words.specs.{Service, Json, At, Plain, IsPort, IsPlain, Done, First, Rest, Listed, Judged, IsRequest}
 
 port_6969 : IsPort (codes "6969") 6969
 port_6969 = search rules
@@ -13,9 +13,6 @@ dash_plain = inr refl
 boot_plain : IsPlain (codes "boot")
 boot_plain = inl (λ rest e. let bad : 98 ≡ 45 = ap (λ w. get_or w 0 0) e in omega (arith, bad))
 
-server_plain : IsPlain (codes "server")
-server_plain = inl (λ rest e. let bad : 115 ≡ 45 = ap (λ w. get_or w 0 0) e in omega (arith, bad))
-
 -- tftp-transfers - --service=6969
 pub listed : IsRequest (Listed (6969 ∷ []) false (codes "-")) (codes "tftp-transfers" ∷ codes "-" ∷ codes "--service=6969" ∷ [])
 listed = (
@@ -24,17 +21,6 @@ listed = (
   Plain (codes "-") ∷ Service 6969 ∷ [],
   First (codes "-" ∷ []) (codes "--service=6969" ∷ []) (Plain (codes "-")) (Service 6969 ∷ []) (dash_plain, refl)
       (First (codes "--service=6969" ∷ []) [] (Service 6969) [] (codes "6969", port_6969, inr refl) Done),
-  (refl, refl, refl, refl),
-)
-
--- tftp-transfers texts server boot
-pub all_written : IsRequest (AllWritten end.Server [] (codes "boot")) (codes "tftp-transfers" ∷ codes "texts" ∷ codes "server" ∷ codes "boot" ∷ [])
-all_written = (
-  codes "server" ∷ codes "boot" ∷ [],
-  (codes "tftp-transfers", refl),
-  Plain (codes "server") ∷ Plain (codes "boot") ∷ [],
-  First (codes "server" ∷ []) (codes "boot" ∷ []) (Plain (codes "server")) (Plain (codes "boot") ∷ []) (server_plain, refl)
-      (First (codes "boot" ∷ []) [] (Plain (codes "boot")) [] (boot_plain, refl) Done),
   (refl, refl, refl, refl),
 )
 
