@@ -17,8 +17,7 @@ by_test false if_true if_false = if_false refl
 
 pub map_or : {X Y : Type 0} (f : X → Y) (o : Option X) (b : Bool) (x : X) → option_map f (or_this o b x) ≡ or_this (option_map f o) b (f x)
 map_or f None true x = refl
-map_or f None false x = refl
-map_or f (Some y) b x = refl
+map_or f _ _ x = refl
 
 pub answered_more : (x : Transfer) (p : Placed) (line : List Placed) → opens p ≡ false → answered_in x (p ∷ line) ≡ or_this (answered_in x line) (answers x p) p.datagram.source
 answered_more x p line shut = rw shut (map_or (λ q. q.datagram.source) (first_of (answers x) (reach line)) (answers x p) p)
@@ -70,14 +69,6 @@ not_goes : (c o q : Endpoint) (d : Recorded) → is_between c o d ≡ true → s
 not_goes c o q d between other = by_test (goes c q d)
     (λ this. absurd (false≢true (sym other ∙ subst (λ e. same_endpoint o e ≡ true) (other_goes c o q d between other this) (same_itself o))))
     (λ off. off)
-
-turned : (c o : Endpoint) (d : Recorded) → is_between c o d ≡ true → is_between o c d ≡ true
-turned c o d between = or_turned (goes c o d) (goes o c d) between where
-  or_turned : (a b : Bool) → (a || b) ≡ true → (b || a) ≡ true
-  or_turned true true e = refl
-  or_turned true false e = refl
-  or_turned false true e = refl
-  or_turned false false e = e
 
 came_from : (c o q : Endpoint) (d : Recorded) → is_between c o d ≡ true → goes q c d ≡ true → o ≡ q
 came_from c o q d between this =

@@ -1,13 +1,11 @@
 -- A line with one request more.
 use Rattle.std.proofs.Common.{◌≡◌, ℕ, Bool, true, false, List, ◌∷◌, Option, Some, None, refl, sym, ap, subst, ◌∙◌, ◌==◌, ◌&&◌, ◌||◌, nat_lt, if◌then◌else◌}
-use Rattle.std.specs.List.{list_any}
-use Rattle.std.specs.Ordering.{nat_cmp}
 use Rattle.std.specs.Str.{bytes_eq}
-use Rattle.std.specs.BTreeMap.{get, BTreeMap}
+use Rattle.std.specs.BTreeMap.{BTreeMap}
 use Rattle.std.proofs.lemmas.Bool.{and_parts}
 use Rattle.std.proofs.lemmas.Slice.Eq.{bytes_eq-Decides}
 use Rattle.tftp_rules.specs.{or_this}
-use Rattle.tftp_lines.specs.{Endpoint, Place, Opens, Repeats, Transfer, Line, Recorded, same_endpoint, endpoint_cmp, is_again, Placed, answered_in, talk_in, place_asked, IsLineOf, IsRequestOf, asked_by, is_past, IsTimed, is_later}
+use Rattle.tftp_lines.specs.{Endpoint, Place, Opens, Repeats, Transfer, Line, Recorded, same_endpoint, is_again, Placed, answered_in, place_asked, IsLineOf, IsTimed}
 use Rattle.tftp_lines.proofs.Endpoints.{is_same, same_itself}
 use Rattle.tftp_lines.proofs.Lines.{answered_more}
 
@@ -20,36 +18,6 @@ again_is c t payload d e source target same from =
 
 abbrev chosen : Bool → Transfer → ℕ → Recorded → Place
 chosen again x number e = if again then Repeats x else Opens (record { number = number; client = e.source; asked = e.target })
-
--- what a line keeps after a request that opened a transfer
-pub record IsOpened (new : Line) (x : Transfer) (payload : List ℕ) (now : ℕ) : Type 0 where
-  pub latest : new.latest ≡ x
-  pub answered : new.answered ≡ None
-  pub moment : new.moment ≡ now
-  pub request : new.request.items ≡ payload
-  pub ends : new.ends_in_request ≡ true
-  pub went_on : new.went_on ≡ false
-
-asked_opened : (new : Line) (x : Transfer) (payload : List ℕ) (time now number : ℕ) (line : List Placed) (d e : Recorded) → IsOpened new x payload now → IsRequestOf x payload time d → e.source ≡ new.latest.client
-    → place_asked number e (record { datagram = d; moment = now; place = Opens x } ∷ line) ≡ asked_by new number e
-asked_opened new x payload time now number line d e opened of from =
-    ap (λ again. chosen again x number e) (again_is x.client x.asked payload d e of.source of.target of.same (from ∙ ap (λ y. y.client) opened.latest))
-    ∙ (λ i. chosen (sym opened.ends i && bytes_eq (sym opened.request i) e.payload && same_endpoint (sym opened.latest i).asked e.target) (sym opened.latest i) number e)
-
-pub opened_stands : (new : Line) (x : Transfer) (payload : List ℕ) (time now : ℕ) (line : List Placed) (d : Recorded) → IsOpened new x payload now → IsRequestOf x payload time d
-    → ((o : Endpoint) → get endpoint_cmp new.talks o ≡ talk_in x.client o line)
-    → ((n at : ℕ) → is_past at (get nat_cmp new.newest n) ≡ (((x.number == n) && nat_lt at time) || list_any (is_later n at) line)) → IsLineOf new (record { datagram = d; moment = now; place = Opens x } ∷ line)
-opened_stands new x payload time now line d opened of talks newest = record {
-  latest = ap Some (sym opened.latest);
-  answered = sym opened.answered;
-  moment = sym opened.moment;
-  asked = λ number e from. asked_opened new x payload time now number line d e opened of from;
-  talks = λ o. talks o ∙ ap (λ y. talk_in y.client o line) (sym opened.latest);
-  again = λ e from. again_is x.client x.asked payload d e of.source of.target of.same (from ∙ ap (λ y. y.client) opened.latest)
-      ∙ (λ i. bytes_eq (sym opened.request i) e.payload && same_endpoint (sym opened.latest i).asked e.target);
-  went_on = sym opened.went_on;
-  newest = λ n at. ap (λ m. ((x.number == n) && nat_lt at m) || list_any (is_later n at) line) of.passed ∙ sym (newest n at);
-}
 
 -- ---- a request that repeats
 
