@@ -65,11 +65,8 @@ module _ (s : TapSides) (apart : AreApart s) where
 
     by : (e : End) (packet : MachinePacket) → d.source ≡ side_of s e → GoesThere s earlier d e packet → says_some packet d.payload → ⊥
     by Client Req source goes says = says_error Req refl says
-    by Client Oack source goes says = goes_to Server goes.0
-    by Client (Data k) source goes says = goes_to Server goes.0
-    by Client (Ack j) source goes says = goes_to Server goes.0
-    by Client (Error code text) source goes says = goes_to Server goes.0
     by Server packet source goes says = goes_to Client goes
+    by Client _ source goes says = goes_to Server goes.0
 
   one_part : (earlier : TapDivision) → HaveTapParts s says_some earlier → (d : TapDatagram) (one other : TapPart)
       → HasTapPart s says_some earlier d one → HasTapPart s says_some earlier d other → one ≡ other

@@ -1,7 +1,7 @@
 -- What passed may pass where what is kept of it may, and the rest came in time.
 use Rattle.std.proofs.Common.{◌≡◌, ◌⊎◌, ◌↔◌, ℕ, Bool, true, false, List, [], ◌∷◌, Contains, inl, inr, refl, sym, subst, ap, ◌∙◌, ◌&&◌, ◌||◌, not}
 use Rattle.std.specs.List.{list_any}
-use Rattle.std.proofs.lemmas.Bool.{true≢false}
+use Rattle.std.proofs.lemmas.Bool.{true≢false, cases_Bool}
 use Rattle.tftp_packet.specs.{Side, Get, Put, End, Client, Server}
 use Rattle.tftp_model.specs.{Meaning, MachinePacket, Req, Oack, Data, Ack, Error, HasSent, is_error, heard, LetsStartOn, MayComeOack, MayComeData, IsOneSided}
 use Rattle.tftp_model.specs.Machines.{other_end, receiver_of}
@@ -9,7 +9,7 @@ use Rattle.tftp_tap.specs.{Pass, as_at, MayPass, MayPassEach, is_left_out, befor
 use Rattle.tftp_tap.proofs.Passed.{at_sent, sent_passed}
 use Rattle.tftp_tap.proofs.OneTap.{Has}
 use Rattle.tftp_tap.proofs.AtReceiver.{receiver_is}
-use Rattle.tftp_tap.proofs.KeptOf.{is_or_not, any_here, any_skip, any_of, before_all, before_less, before_there, kept_out, kept_in, kept_there}
+use Rattle.tftp_tap.proofs.KeptOf.{any_here, any_skip, any_of, before_all, before_less, before_there, kept_out, kept_in, kept_there}
 use Rattle.tftp_tap.proofs.TapKept.{sent_before, before_sent, has_kept, any_kept, kept_one_sided}
 
 -- ---- where each ERROR of an end is kept
@@ -21,7 +21,7 @@ module _ (o r : End) (G : List Pass → Type 0) (down : (x : Pass) (passed : Lis
     before : (y : Pass) → Contains (before_error pass_tests o (kept_at r passed)) y → Contains (before_error pass_tests o passed) y
 
   same_more : (x : Pass) (passed : List Pass) → G (x ∷ passed) → (G passed → SameBefore passed) → SameBefore (x ∷ passed)
-  same_more x passed g rest = elim (is_or_not (list_any (pass_tests.ends o) (x ∷ passed))) [ inl some ↦ over some (down x passed some g) (rest (down x passed some g)) | inr none ↦ going none ]
+  same_more x passed g rest = elim (cases_Bool (list_any (pass_tests.ends o) (x ∷ passed))) [ inl some ↦ over some (down x passed some g) (rest (down x passed some g)) | inr none ↦ going none ]
     where
       going : list_any (pass_tests.ends o) (x ∷ passed) ≡ false → SameBefore (x ∷ passed)
       going none =
@@ -35,8 +35,8 @@ module _ (o r : End) (G : List Pass → Type 0) (down : (x : Pass) (passed : Lis
       back some s y at = subst (λ v. Contains v y) (sym (before_less pass_tests o x passed some)) (s.before y at)
 
       over : list_any (pass_tests.ends o) (x ∷ passed) ≡ true → G passed → SameBefore passed → SameBefore (x ∷ passed)
-      over some g s = elim (is_or_not (is_left_out pass_tests r x (kept_at r passed))) [
-        | inl out ↦ elim (is_or_not (pass_tests.ends o x)) [
+      over some g s = elim (cases_Bool (is_left_out pass_tests r x (kept_at r passed))) [
+        | inl out ↦ elim (cases_Bool (pass_tests.ends o x)) [
           | inl own ↦ absurd (true≢false (sym out ∙ stays x passed g own))
           | inr other ↦ record {
             ends = ap (list_any (pass_tests.ends o)) (kept_out pass_tests r x passed out) ∙ s.ends ∙ sym (any_skip (pass_tests.ends o) x passed other);
@@ -52,7 +52,7 @@ module _ (o r : End) (G : List Pass → Type 0) (down : (x : Pass) (passed : Lis
       ]
         where
           both : list_any (pass_tests.ends o) (x ∷ passed) ≡ true → SameBefore passed → list_any (pass_tests.ends o) (x ∷ kept_at r passed) ≡ true
-          both some s = elim (is_or_not (pass_tests.ends o x)) [
+          both some s = elim (cases_Bool (pass_tests.ends o x)) [
             | inl own ↦ any_here (pass_tests.ends o) x (kept_at r passed) own
             | inr other ↦ any_skip (pass_tests.ends o) x (kept_at r passed) other ∙ s.ends ∙ sym (any_skip (pass_tests.ends o) x passed other) ∙ some
           ]
@@ -85,11 +85,7 @@ kept_client x passed (q, plain, at) own = by x.from x.packet own where
 
   by : (f : End) (p : MachinePacket) → (same_end Client f && is_error p) ≡ true → is_left_out pass_tests Server (record { from = f; packet = p }) (kept_at Server passed) ≡ false
   by Client (Error code text) own = rw (some) refl
-  by Client Req own = absurd (true≢false (sym own))
-  by Client Oack own = absurd (true≢false (sym own))
-  by Client (Data k) own = absurd (true≢false (sym own))
-  by Client (Ack j) own = absurd (true≢false (sym own))
-  by Server p own = absurd (true≢false (sym own))
+  by _ _ own = absurd (true≢false (sym own))
 
 pub before_put : (passed : List Pass) (q : MachinePacket) → is_error q ≡ false → Has (before_error pass_tests Client passed) Server q
     → (y : Pass) → Contains (before_error pass_tests Client (kept_at Server passed)) y → Contains (before_error pass_tests Client passed) y
@@ -151,7 +147,7 @@ module _ (m : Meaning) (wire : List ℕ) where
       data_back (other_end f) passed k allowed.receiver time allowed
 
   kept_rest : (r : End) (x : Pass) (passed : List Pass) → MayPassEach m wire (kept_at r (x ∷ passed)) → MayPassEach m wire (kept_at r passed)
-  kept_rest r x passed may = elim (is_or_not (is_left_out pass_tests r x (kept_at r passed))) [
+  kept_rest r x passed may = elim (cases_Bool (is_left_out pass_tests r x (kept_at r passed))) [
     | inl out ↦ subst (MayPassEach m wire) (kept_out pass_tests r x passed out) may
     | inr stays ↦ (subst (MayPassEach m wire) (kept_in pass_tests r x passed stays) may).1
   ]

@@ -1,6 +1,7 @@
 -- What a list of main datagrams has, by its packets and by what is spelled.
 use Rattle.std.proofs.Common.{◌≡◌, ◌⊎◌, ℕ, Bool, true, false, List, [], ◌∷◌, Contains, Option, Some, None, inl, inr, refl, sym, subst, ap, ◌∙◌, map}
 use Rattle.std.specs.List.{list_any}
+use Rattle.std.proofs.lemmas.Bool.{cases_Bool}
 use Rattle.tftp_packet.specs.{Message, RequestParts, Spells, End}
 use Rattle.tftp_model.specs.{Meaning, request_of, MachinePacket, Req, Oack, Data, Ack, Error, message_of}
 use Rattle.tftp_rules.specs.{first_of, or_this}
@@ -12,21 +13,21 @@ use Rattle.tftp_law.proofs.Division.Divided.{any_first, any_later}
 use Rattle.tftp_tap.specs.{Pass, TapDatagram, TapSides, Tests, before_error, tap_tests, FirstTapAsked, Says, HasKind}
 use Rattle.tftp_tap.proofs.OneTap.{Has}
 use Rattle.tftp_tap.proofs.OneTapDivision.{some_of}
-use Rattle.tftp_tap.proofs.KeptOf.{is_or_not, before_all, before_less}
+use Rattle.tftp_tap.proofs.KeptOf.{before_all, before_less}
 use Rattle.tftp_tap.proofs.TapRouted.{Carried}
 use Rattle.tftp_tap.proofs.TapRecorded.{Agrees, Each, IsCarried, ends_same, datagram_in, pass_in}
 
 module _ {X Y : Type 0} (f : X → Y) (t : Tests X) (u : Tests Y) where
   pub before_map : (e : End) (xs : List X) → Each (Agrees f t u) xs → before_error u e (map f xs) ≡ map f (before_error t e xs)
   before_map e [] each = refl
-  before_map e (x ∷ xs) each = elim (is_or_not (list_any (t.ends e) (x ∷ xs))) [
+  before_map e (x ∷ xs) each = elim (cases_Bool (list_any (t.ends e) (x ∷ xs))) [
     | inl some ↦ before_less u e (f x) (map f xs) (ends_same f t u e (x ∷ xs) each ∙ some) ∙ before_map e xs each.1 ∙ ap (map f) (sym (before_less t e x xs some))
     | inr none ↦ before_all u e (map f (x ∷ xs)) (ends_same f t u e (x ∷ xs) each ∙ none) ∙ ap (map f) (sym (before_all t e (x ∷ xs) none))
   ]
 
 pub before_each : {X : Type 0} (P : X → Type 0) (t : Tests X) (e : End) (xs : List X) → Each P xs → Each P (before_error t e xs)
 before_each P t e [] each = tt
-before_each P t e (x ∷ xs) each = elim (is_or_not (list_any (t.ends e) (x ∷ xs))) [
+before_each P t e (x ∷ xs) each = elim (cases_Bool (list_any (t.ends e) (x ∷ xs))) [
   | inl some ↦ subst (Each P) (sym (before_less t e x xs some)) (before_each P t e xs each.1)
   | inr none ↦ subst (Each P) (sym (before_all t e (x ∷ xs) none)) each
 ]

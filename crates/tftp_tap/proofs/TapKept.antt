@@ -1,16 +1,17 @@
 -- What is kept of what passed may pass, and the other way round.
 use Rattle.std.proofs.Common.{◌≡◌, ℕ, Bool, true, false, List, [], ◌∷◌, Contains, inl, inr, refl, sym, subst, ap, ◌∙◌, ◌&&◌}
 use Rattle.std.specs.List.{list_any}
-use Rattle.std.proofs.lemmas.Bool.{true≢false}
-use Rattle.tftp_packet.specs.{Side, Get, Put, End, Client, Server}
-use Rattle.tftp_model.specs.{Meaning, MachinePacket, Req, Oack, Data, Ack, Error, History, HasSent, HasTaken, is_error, takes_error, heard, LetsStartOn, LetsAckZeroOn, MayCome, IsOneSided}
+use Rattle.std.proofs.lemmas.Bool.{true≢false, or_parts, cases_Bool, and_parts}
+use Rattle.tftp_packet.specs.{End, Client, Server}
+use Rattle.tftp_model.specs.{Meaning, MachinePacket, Req, Ack, Error, HasSent, is_error, takes_error, heard, IsOneSided}
 use Rattle.tftp_model.specs.Machines.{other_end, receiver_of}
 use Rattle.tftp_tap.specs.{Pass, deed_at, as_at, MayPass, MayPassEach, KeepsOrder, KeepsOrderEach, is_left_out, before_error, same_end, is_request, pass_tests, kept_at}
 use Rattle.tftp_tap.proofs.Passed.{at_sent, at_took, sent_passed, took_passed}
 use Rattle.tftp_tap.proofs.Ordered.{ack_asked, client_reads}
 use Rattle.tftp_tap.proofs.OneTap.{Has}
 use Rattle.tftp_tap.proofs.AtReceiver.{receiver_is}
-use Rattle.tftp_tap.proofs.KeptOf.{is_or_not, or_false, and_true, any_of, none_of, some_of, none_in, before_all, before_less, before_more, kept_out, kept_in, kept_there, kept_plain, kept_asks, kept_quiet}
+use Rattle.tftp_tap.proofs.KeptOf.{any_of, none_of, some_of, none_in, before_all, before_less, before_more, kept_out, kept_in, kept_there, kept_plain, kept_asks, kept_quiet}
+use Rattle.tftp_tap.proofs.LeftOut.{Serves, come_by}
 
 -- ---- what an end has heard is what passed before the other's ERROR
 
@@ -26,7 +27,7 @@ any_takes e (x ∷ passed) = rw (takes_is e x.from x.packet, any_takes e passed)
 
 pub heard_is : (e : End) (passed : List Pass) → heard (as_at e passed) ≡ as_at e (before_error pass_tests (other_end e) passed)
 heard_is e [] = refl
-heard_is e (x ∷ passed) = elim (is_or_not (list_any (pass_tests.ends (other_end e)) (x ∷ passed))) [
+heard_is e (x ∷ passed) = elim (cases_Bool (list_any (pass_tests.ends (other_end e)) (x ∷ passed))) [
   | inl some ↦ over (any_takes e (x ∷ passed) ∙ some) ∙ heard_is e passed ∙ ap (as_at e) (sym (before_less pass_tests (other_end e) x passed some))
   | inr none ↦ going (any_takes e (x ∷ passed) ∙ none) ∙ ap (as_at e) (sym (before_all pass_tests (other_end e) (x ∷ passed) none))
 ]
@@ -52,21 +53,14 @@ quiet_of f p plain e = by (same_end e f) where
   by false = refl
 
 request_plain : (f : End) (p : MachinePacket) → (same_end Client f && is_request p) ≡ true → (e : End) → (same_end e f && is_error p) ≡ false
-request_plain f Req asks e = quiet_of f Req refl e
-request_plain f Oack asks e = quiet_of f Oack refl e
-request_plain f (Data k) asks e = quiet_of f (Data k) refl e
-request_plain f (Ack j) asks e = quiet_of f (Ack j) refl e
-request_plain f (Error code text) asks e = absurd (true≢false (sym (and_true (same_end Client f) false asks).1))
+request_plain f (Error code text) asks e = absurd (true≢false (sym (and_parts (same_end Client f) false asks).1))
+request_plain f p asks e = quiet_of f p refl e
 
-request_is : (x : Pass) → pass_tests.asks x ≡ true → x ≡ record { from = Client; packet = Req }
+pub request_is : (x : Pass) → pass_tests.asks x ≡ true → x ≡ record { from = Client; packet = Req }
 request_is x asks = by x.from x.packet refl refl asks where
   by : (f : End) (p : MachinePacket) → x.from ≡ f → x.packet ≡ p → (same_end Client f && is_request p) ≡ true → x ≡ record { from = Client; packet = Req }
   by Client Req one other is = λ i. record { from = one i; packet = other i }
-  by Client Oack one other is = absurd (true≢false (sym is))
-  by Client (Data k) one other is = absurd (true≢false (sym is))
-  by Client (Ack j) one other is = absurd (true≢false (sym is))
-  by Client (Error code text) one other is = absurd (true≢false (sym is))
-  by Server p one other is = absurd (true≢false (sym is))
+  by _ _ one other is = absurd (true≢false (sym is))
 
 -- ---- what is kept of packets
 
@@ -78,22 +72,15 @@ module _ (r : End) where
       subst (Contains (kept_at r passed)) (request_is found.0 found.2) found.1
 
   -- whatever is no ERROR
+  no_request : (e : End) → (same_end Client e && false) ≡ false
+  no_request Client = refl
+  no_request Server = refl
+
   pub has_kept : (passed : List Pass) (e : End) (p : MachinePacket) → is_error p ≡ false → Has passed e p → Has (kept_at r passed) e p
   has_kept passed Client Req plain at = asked_kept passed at
   has_kept passed Server Req plain at = kept_plain pass_tests r passed (record { from = Server; packet = Req }) at refl (quiet_of Server Req plain)
-  has_kept passed e Oack plain at = kept_plain pass_tests r passed (record { from = e; packet = Oack }) at (no_request e) (quiet_of e Oack plain) where
-    no_request : (e : End) → (same_end Client e && false) ≡ false
-    no_request Client = refl
-    no_request Server = refl
-  has_kept passed e (Data k) plain at = kept_plain pass_tests r passed (record { from = e; packet = Data k }) at (no_request e) (quiet_of e (Data k) plain) where
-    no_request : (e : End) → (same_end Client e && false) ≡ false
-    no_request Client = refl
-    no_request Server = refl
-  has_kept passed e (Ack j) plain at = kept_plain pass_tests r passed (record { from = e; packet = Ack j }) at (no_request e) (quiet_of e (Ack j) plain) where
-    no_request : (e : End) → (same_end Client e && false) ≡ false
-    no_request Client = refl
-    no_request Server = refl
   has_kept passed e (Error code text) plain at = absurd (true≢false plain)
+  has_kept passed e p plain at = kept_plain pass_tests r passed (record { from = e; packet = p }) at (no_request e) (quiet_of e p plain)
 
   pub any_kept : (o : End) (x : Pass) (passed : List Pass) → list_any (pass_tests.ends o) (x ∷ passed) ≡ false → list_any (pass_tests.ends o) (kept_at r (x ∷ passed)) ≡ false
   any_kept o x passed none = none_in (pass_tests.ends o) (kept_at r (x ∷ passed)) (λ y at. none_of (pass_tests.ends o) (x ∷ passed) y (kept_there pass_tests r (x ∷ passed) y at) none)
@@ -101,10 +88,10 @@ module _ (r : End) where
   -- what is kept of what passed before an ERROR is before it in what is kept
   pub before_kept : (o : End) (passed : List Pass) (e : End) (p : MachinePacket) → is_error p ≡ false → Has (before_error pass_tests o passed) e p → Has (before_error pass_tests o (kept_at r passed)) e p
   before_kept o [] e p plain at = at
-  before_kept o (x ∷ passed) e p plain at = elim (is_or_not (list_any (pass_tests.ends o) (x ∷ passed))) [
+  before_kept o (x ∷ passed) e p plain at = elim (cases_Bool (list_any (pass_tests.ends o) (x ∷ passed))) [
     | inl some ↦
         let before = before_kept o passed e p plain (subst (λ v. Has v e p) (before_less pass_tests o x passed some) at) in
-        elim (is_or_not (is_left_out pass_tests r x (kept_at r passed))) [
+        elim (cases_Bool (is_left_out pass_tests r x (kept_at r passed))) [
           | inl out ↦ subst (λ v. Has (before_error pass_tests o v) e p) (sym (kept_out pass_tests r x passed out)) before
           | inr stays ↦ subst (λ v. Has (before_error pass_tests o v) e p) (sym (kept_in pass_tests r x passed stays)) (before_more pass_tests o x (kept_at r passed) (record { from = e; packet = p }) before)
         ]
@@ -114,33 +101,8 @@ module _ (r : End) where
 
 -- ---- what may come after the one history may come after the other
 
-record Suits (e : End) (h other : History) : Type 0 where
-  sent : (p : MachinePacket) → is_error p ≡ false → HasSent (heard h) p → HasSent (heard other) p
-  asked : HasSent h Req → HasSent other Req
-  errors : (code : ℕ) (text : List ℕ) → HasTaken other (Error code text) → HasTaken h (Error code text)
-
-come_by : (m : Meaning) (wire : List ℕ) (e : End) (h other : History) → Suits e h other → (p : MachinePacket) → MayCome m wire e h p → MayCome m wire e other p
-come_by m wire e h other s Req may = may
-come_by m wire e h other s Oack may = record { client = may.client; agreed = may.agreed; asked = s.asked may.asked }
-come_by m wire e h other s (Error code text) may = record { asked = λ is. s.asked (may.asked is); same = λ c t at. may.same c t (s.errors c t at) }
-come_by m wire e h other s (Data k) may = record {
-  receiver = may.receiver;
-  from_one = may.from_one;
-  in_wire = may.in_wire;
-  started = start m.side may.started;
-  in_window = (may.in_window.0, elim may.in_window.1 [ inl first ↦ inl first | inr acked ↦ inr (s.sent (Ack may.in_window.0) refl acked) ], may.in_window.2);
-}
-  where
-    start : (side : Side) → LetsStartOn side m (heard h) → LetsStartOn side m (heard other)
-    start Get l = elim l [ inl plain ↦ inl (plain.0, s.sent Req refl plain.1) | inr oacked ↦ inr (oacked.0, s.sent (Ack 0) refl oacked.1) ]
-    start Put l = elim l [ inl plain ↦ inl (plain.0, s.sent (Ack 0) refl plain.1) | inr oacked ↦ inr (oacked.0, s.sent Oack refl oacked.1) ]
-come_by m wire e h other s (Ack j) may = record { sender = may.sender; zero = λ is. zero m.side (may.zero is); sent = λ k low high. s.sent (Data k) refl (may.sent k low high) } where
-  zero : (side : Side) → LetsAckZeroOn side m (heard h) → LetsAckZeroOn side m (heard other)
-  zero Get z = (z.0, s.sent Oack refl z.1)
-  zero Put z = elim z [ inl plain ↦ inl (plain.0, s.sent Req refl plain.1) | inr oacked ↦ inr (oacked.0, oacked.1, s.sent (Data oacked.1) refl oacked.2) ]
-
 module _ (r : End) where
-  suits_kept : (e : End) (passed : List Pass) → Suits e (as_at e passed) (as_at e (kept_at r passed))
+  suits_kept : (e : End) (passed : List Pass) → Serves (as_at e passed) (as_at e (kept_at r passed))
   suits_kept e passed = record {
     sent = λ p plain at. before_sent e (kept_at r passed) p (before_kept r (other_end e) passed e p plain (sent_before e passed p at));
     asked = λ at. at_sent e Req (kept_at r passed) (has_kept r passed e Req refl (sent_passed e Req passed at));
@@ -152,7 +114,7 @@ module _ (r : End) where
 module _ (m : Meaning) (wire : List ℕ) where
   pub kept_may : (r : End) (passed : List Pass) → MayPassEach m wire passed → MayPassEach m wire (kept_at r passed)
   kept_may r [] may = tt
-  kept_may r (x ∷ passed) may = elim (is_or_not (is_left_out pass_tests r x (kept_at r passed))) [
+  kept_may r (x ∷ passed) may = elim (cases_Bool (is_left_out pass_tests r x (kept_at r passed))) [
     | inl out ↦ subst (MayPassEach m wire) (sym (kept_out pass_tests r x passed out)) (kept_may r passed may.1)
     | inr stays ↦ subst (MayPassEach m wire) (sym (kept_in pass_tests r x passed stays))
         (come_by m wire (other_end x.from) (as_at (other_end x.from) passed) (as_at (other_end x.from) (kept_at r passed)) (suits_kept r (other_end x.from) passed) x.packet may.0, kept_may r passed may.1)
@@ -169,7 +131,7 @@ module _ (m : Meaning) (wire : List ℕ) where
   no_ack_first : (passed : List Pass) → Client ≡ receiver_of m.side → MayPassEach m wire (kept_at Client passed)
       → is_left_out pass_tests Client (record { from = Client; packet = Req }) (kept_at Client passed) ≡ false → (j : ℕ) → HasSent (as_at Client (kept_at Client passed)) (Ack j) → ⊥
   no_ack_first passed is may stays j at =
-      let first = or_false (list_any pass_tests.asks (kept_at Client passed)) _ stays in
+      let first = or_parts (list_any pass_tests.asks (kept_at Client passed)) _ stays in
       let asked = ack_asked m wire (kept_at Client passed) may (client_reads m.side is) j (sent_passed Client (Ack j) (kept_at Client passed) at) in
       true≢false (sym (any_of pass_tests.asks (kept_at Client passed) (record { from = Client; packet = Req }) asked refl) ∙ first.0)
 
@@ -177,11 +139,9 @@ module _ (m : Meaning) (wire : List ℕ) where
       → is_left_out pass_tests r (record { from = r; packet = p }) (kept_at r passed) ≡ false → KeepsOrder r (as_at r (kept_at r passed)) p
   own_order Client is Req passed allowed may stays = record { after_error = λ plain. no_error_kept Client passed; request = λ same. no_ack_first passed is may stays; asked = λ error. absurd (true≢false (sym error)) }
   own_order Server is Req passed allowed may stays = absurd (cc)
-  own_order r is Oack passed allowed may stays = record { after_error = λ plain. no_error_kept r passed; request = λ same. absurd (cc); asked = λ error. absurd (true≢false (sym error)) }
-  own_order r is (Data k) passed allowed may stays = record { after_error = λ plain. no_error_kept r passed; request = λ same. absurd (cc); asked = λ error. absurd (true≢false (sym error)) }
-  own_order r is (Ack j) passed allowed may stays = record { after_error = λ plain. no_error_kept r passed; request = λ same. absurd (cc); asked = λ error. absurd (true≢false (sym error)) }
   own_order Client is (Error code text) passed allowed may stays = absurd (true≢false stays)
   own_order Server is (Error code text) passed allowed may stays = absurd (true≢false stays)
+  own_order r is _ passed allowed may stays = record { after_error = λ plain. no_error_kept r passed; request = λ same. absurd (cc); asked = λ error. absurd (true≢false (sym error)) }
 
   order_of : (r f : End) → r ≡ receiver_of m.side → (p : MachinePacket) (passed : List Pass) → MayPass m wire passed f p → MayPassEach m wire (kept_at r passed)
       → is_left_out pass_tests r (record { from = f; packet = p }) (kept_at r passed) ≡ false
@@ -193,7 +153,7 @@ module _ (m : Meaning) (wire : List ℕ) where
 
   pub kept_order : (r : End) → r ≡ receiver_of m.side → (passed : List Pass) → MayPassEach m wire passed → KeepsOrderEach r (as_at r (kept_at r passed))
   kept_order r is [] may = tt
-  kept_order r is (x ∷ passed) may = elim (is_or_not (is_left_out pass_tests r x (kept_at r passed))) [
+  kept_order r is (x ∷ passed) may = elim (cases_Bool (is_left_out pass_tests r x (kept_at r passed))) [
     | inl out ↦ subst (λ v. KeepsOrderEach r (as_at r v)) (sym (kept_out pass_tests r x passed out)) (kept_order r is passed may.1)
     | inr stays ↦ subst (λ v. KeepsOrderEach r (as_at r v)) (sym (kept_in pass_tests r x passed stays))
         (order_of r x.from is x.packet passed may.0 (kept_may r passed may.1) stays (kept_order r is passed may.1))

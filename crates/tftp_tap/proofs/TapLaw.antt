@@ -1,6 +1,7 @@
 -- The rules between the ends are the runs that pass there.
 use Rattle.std.proofs.Common.{◌≡◌, ◌↔◌, ℕ, true, List, [], ◌∷◌, inl, inr, refl, sym, subst, ap, ◌∙◌, map}
 use Rattle.std.specs.List.{list_any}
+use Rattle.std.proofs.lemmas.Bool.{cases_Bool, and_parts}
 use Rattle.tftp_packet.specs.{Message, RequestParts, Spells, Get}
 use Rattle.tftp_model.specs.{Meaning}
 use Rattle.tftp_rules.specs.{first_of}
@@ -10,7 +11,6 @@ use Rattle.tftp_law.proofs.FirstBroken.FirstRequests.{begins_asked}
 use Rattle.tftp_tap.specs.{MayPassEach, TapDatagram, TapSides, AreApart, TapPart, Main, TapDivision, tapped_of, passed_of, HasTapPart, HaveTapParts, IsLawfulBetween, asks_in, tap_tests, header_at, FirstTapAsked, BreaksNoTapRule}
 use Rattle.tftp_tap.specs.TapDress.{Stray, StrayAnswer}
 use Rattle.tftp_tap.proofs.Replays.{tap_view_is}
-use Rattle.tftp_tap.proofs.KeptOf.{is_or_not, and_true}
 use Rattle.tftp_tap.proofs.TapRouted.{Carried, add_main, mains}
 use Rattle.tftp_tap.proofs.TapRecorded.{Each, IsCarried, mains_carried, passed_is, pair_tests, datagram_in, pass_in}
 use Rattle.tftp_tap.proofs.TapBefore.{first_holds, carried_at}
@@ -35,7 +35,7 @@ module _ (s : TapSides) (apart : AreApart s) where
       let found = some_first (tap_tests s).asks (map datagram_in cs) (asks_is s apart cs each ∙ some) (first_of (tap_tests s).asks (map datagram_in cs)) refl in
       let holds = first_holds (tap_tests s).asks (map datagram_in cs) found.0 found.1 in
       let (c, at, is, same) = carried_at (IsCarried s says_some) cs each found.0 holds.1 in
-      let begins : asks_in found.0.payload ≡ true = (and_true _ (asks_in found.0.payload) holds.0).1 in
+      let begins : asks_in found.0.payload ≡ true = (and_parts _ (asks_in found.0.payload) holds.0).1 in
       let spelled = subst (λ (d : TapDatagram). Spells d.payload is.spells.0) same is.spells.1 in
       let asked = begins_asked found.0.payload is.spells.0 spelled begins in
       (asked.0, (found.0, found.1, subst (Spells found.0.payload) {y = Message.Request asked.0} asked.1 spelled))
@@ -72,7 +72,7 @@ module _ (s : TapSides) (apart : AreApart s) where
       let x = parted s apart tapped passes in
       let each = mains_carried s says_some x.division x.parts in
       let lawful = mains_lawful s apart x.division x.parts (subst (BreaksNoTapRule s) (sym x.whole) passes) in
-      elim (is_or_not (list_any pair_tests.asks (mains x.division))) [
+      elim (cases_Bool (list_any pair_tests.asks (mains x.division))) [
         | inr none ↦ seen_none tapped x.division x.whole x.parts (none_asked s apart (mains x.division) lawful each none)
         | inl some ↦
             let asked = first_request (mains x.division) each some in

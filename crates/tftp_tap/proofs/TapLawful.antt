@@ -1,21 +1,21 @@
 -- What breaks no rule between the ends divides; and what its main datagrams break none of.
 use Rattle.std.proofs.Common.{◌≡◌, ◌⊎◌, Bool, true, false, List, [], ◌∷◌, Any, Some, None, Option, inl, inr, refl, sym, subst, ap, ◌∙◌, map}
 use Rattle.std.specs.List.{list_any}
-use Rattle.std.proofs.lemmas.Bool.{true≢false}
+use Rattle.std.proofs.lemmas.Bool.{true≢false, cases_Bool}
 use Rattle.tftp_packet.specs.{Message, RequestParts, Spells, Side, Get, Put, End, Client, Server}
 use Rattle.tftp_model.specs.Machines.{sender_of, receiver_of}
 use Rattle.tftp_model.specs.{MachinePacket, Req, Oack, Data, Ack, Error}
 use Rattle.tftp_rules.specs.{first_of, or_this}
 use Rattle.tftp_law.specs.{packet_in, says_some, IsWrongKind, Rule}
 use Rattle.tftp_law.specs.declared.rule.Rule.TheVariants as rule
-use Rattle.tftp_law.proofs.FirstBroken.FirstRequests.{some_same}
+use Rattle.tftp_law.proofs.FirstBroken.FirstRequests.{some_same, or_none, first_stays}
 use Rattle.tftp_law.proofs.Soundness.SameOrNot.{same_request}
 use Rattle.tftp_law.proofs.Division.Divided.{any_none, any_cases}
 use Rattle.tftp_tap.specs.{Pass, TapDatagram, TapSides, side_of, AreApart, same_end, TapPart, Main, TapPlaced, TapDivision, tapped_of, IsMainFrom, CarriesPass, HasTapPart, HaveTapParts, tap_tests, tap_route, is_passing, transfer_between, FirstTapAsked, PassingBreaks, LateBroken, KeptBreaks, TapPasses, BreaksNoTapRule}
 use Rattle.tftp_tap.specs.TapDress.{Stray, StrayAnswer}
-use Rattle.tftp_tap.proofs.KeptOf.{is_or_not, any_here, any_skip, any_more}
+use Rattle.tftp_tap.proofs.KeptOf.{any_here, any_skip, any_more}
 use Rattle.tftp_tap.proofs.TapPlacing.{has_part}
-use Rattle.tftp_tap.proofs.TapRouted.{Carried, add_main, mains, pass_route, route_is, transfer_is}
+use Rattle.tftp_tap.proofs.TapRouted.{Carried, add_main, mains, pass_route, route_is, transfer_is, passing_is}
 use Rattle.tftp_tap.proofs.TapRecorded.{Each, asks_same, IsCarried, pair_tests, datagram_in, datagrams_each}
 
 -- ---- it divides
@@ -57,14 +57,6 @@ module _ (s : TapSides) (apart : AreApart s) where
       by Stray some = some
       by StrayAnswer some = some
 
-  passing_is : (e : End) (p : MachinePacket) → is_passing (pass_route e p) ≡ true
-  passing_is Client Req = refl
-  passing_is Client Oack = refl
-  passing_is Client (Data k) = refl
-  passing_is Client (Ack j) = refl
-  passing_is Client (Error code text) = refl
-  passing_is Server p = refl
-
   main_lawful : (division : TapDivision) → HaveTapParts s says_some division → (d : TapDatagram) (x : Pass) → CarriesPass s says_some division d x → TapPasses s (tapped_of division) d → Lawful s (record { datagram = d; pass = x }) (mains division)
   main_lawful division parts d x c passes = record {
     answered = answered x.from x.packet c;
@@ -85,11 +77,8 @@ module _ (s : TapSides) (apart : AreApart s) where
 
       answered : (f : End) (p : MachinePacket) → CarriesPass s says_some division d (record { from = f; packet = p }) → f ≡ Client → (p ≡ Req → ⊥) → list_any pair_tests.answers (mains division) ≡ true
       answered Client Req c same other = absurd (other refl)
-      answered Client Oack c same other = main_answers division c.goes.1
-      answered Client (Data k) c same other = main_answers division c.goes.1
-      answered Client (Ack j) c same other = main_answers division c.goes.1
-      answered Client (Error code text) c same other = main_answers division c.goes.1
       answered Server p c same other = absurd (cc)
+      answered Client _ c same other = main_answers division c.goes.1
 
   pub mains_lawful : (division : TapDivision) → HaveTapParts s says_some division → BreaksNoTapRule s (tapped_of division) → AreLawful s (mains division)
   mains_lawful [] parts passes = tt
@@ -106,7 +95,7 @@ module _ (s : TapSides) (apart : AreApart s) where
 
   -- each packet of the server's follows a request
   pub server_after : (c : Carried) (cs : List Carried) → Lawful s c cs → c.pass.from ≡ Server → Each (IsCarried s says_some) cs → list_any pair_tests.asks cs ≡ true
-  server_after c cs lawful server each = elim (is_or_not (list_any pair_tests.asks cs)) [
+  server_after c cs lawful server each = elim (cases_Bool (list_any pair_tests.asks cs)) [
     | inl is ↦ is
     | inr none ↦ absurd (lawful.passing rule.NoRequest (asks_is cs each ∙ none, ap (λ f. pass_route f c.pass.packet) server))
   ]
@@ -118,7 +107,7 @@ module _ (s : TapSides) (apart : AreApart s) where
   -- a list with a packet of the server's has a request
   pub answers_asked : (cs : List Carried) → AreLawful s cs → Each (IsCarried s says_some) cs → list_any pair_tests.answers cs ≡ true → list_any pair_tests.asks cs ≡ true
   answers_asked [] lawful each some = absurd (true≢false (sym some))
-  answers_asked (c ∷ cs) lawful each some = any_more pair_tests.asks c cs (elim (is_or_not (pair_tests.answers c)) [
+  answers_asked (c ∷ cs) lawful each some = any_more pair_tests.asks c cs (elim (cases_Bool (pair_tests.answers c)) [
     | inl now ↦ server_after c cs lawful.0 (server_is c.pass.from now) each.1
     | inr other ↦ answers_asked cs lawful.1 each.1 (sym (any_skip pair_tests.answers c cs other) ∙ some)
   ])
@@ -179,26 +168,18 @@ module _ (s : TapSides) (apart : AreApart s) where
 
 -- ---- after the first request
 
-or_nothing : {X : Type 0} (o : Option X) (b : Bool) (x : X) → or_this o b x ≡ None → (o ≡ None) × (b ≡ false)
-or_nothing None true x e = absurd (cc)
-or_nothing None false x e = (refl, refl)
-or_nothing (Some y) b x e = absurd (cc)
-
 none_first : {X : Type 0} (test : X → Bool) (xs : List X) → first_of test xs ≡ None → list_any test xs ≡ false
 none_first test [] none = refl
-none_first test (x ∷ xs) none = let both = or_nothing (first_of test xs) (test x) x none in any_skip test x xs both.1 ∙ none_first test xs both.0
+none_first test (x ∷ xs) none = let both = or_none (first_of test xs) (test x) x none in any_skip test x xs both.1 ∙ none_first test xs both.0
 
 pub some_first : {X : Type 0} (test : X → Bool) (xs : List X) → list_any test xs ≡ true → (o : Option X) → first_of test xs ≡ o → (x : X) × (first_of test xs ≡ Some x)
 some_first test xs some (Some x) is = (x, is)
 some_first test xs some None is = absurd (true≢false (sym some ∙ none_first test xs is))
 
-first_stays : {X : Type 0} (test : X → Bool) (x y : X) (xs : List X) → first_of test xs ≡ Some y → first_of test (x ∷ xs) ≡ Some y
-first_stays test x y xs is = ap (λ o. or_this o (test x) x) is
-
 module _ (s : TapSides) (apart : AreApart s) (asked : RequestParts) where
   -- the first request of a list is that of what it begins with
   pub begins_before : (c : Carried) (cs : List Carried) → AreLawful s cs → Each (IsCarried s says_some) cs → FirstTapAsked s (map datagram_in (c ∷ cs)) asked → (cs ≡ []) ⊎ FirstTapAsked s (map datagram_in cs) asked
-  begins_before c cs lawful each (d, first, says) = elim (is_or_not (list_any pair_tests.asks cs)) [
+  begins_before c cs lawful each (d, first, says) = elim (cases_Bool (list_any pair_tests.asks cs)) [
     | inr none ↦ inl (none_asked s apart cs lawful each none)
     | inl some ↦
         let found = some_first (tap_tests s).asks (map datagram_in cs) (asks_is s apart cs each ∙ some) (first_of (tap_tests s).asks (map datagram_in cs)) refl in

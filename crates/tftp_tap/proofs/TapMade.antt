@@ -1,7 +1,7 @@
 -- What breaks no rule between the ends is kept as a capture of the receiver that breaks none.
 use Rattle.std.proofs.Common.{◌≡◌, ◌⊎◌, ℕ, Bool, true, false, List, [], ◌∷◌, Contains, Some, inl, inr, refl, sym, subst, ap, ◌∙◌, arith, ◌&&◌, map}
 use Rattle.std.specs.List.{list_any}
-use Rattle.std.proofs.lemmas.Bool.{true≢false, cases_lt}
+use Rattle.std.proofs.lemmas.Bool.{true≢false, cases_lt, cases_Bool}
 use Rattle.tftp_packet.specs.{Message, RequestParts, Spells, Side, Get, Put, End, Client, Server}
 use Rattle.tftp_hosts.specs.{Datagram, Header, same_peer}
 use Rattle.tftp_model.specs.Machines.{receiver_of}
@@ -16,7 +16,7 @@ use Rattle.tftp_law.proofs.FirstBroken.FirstRequests.{some_same}
 use Rattle.tftp_law.proofs.FirstBroken.OneMessage.{only_messages}
 use Rattle.tftp_law.proofs.Division.Divided.{any_none, any_cases, any_first, any_later}
 use Rattle.tftp_tap.specs.{deed_at, TapDatagram, TapSides, side_of, AreApart, is_left_out, kept_of, before_error, same_end, is_request, tap_tests, recorded_at, header_at, FirstTapAsked, Says, HasKind, IsReply, IsLateBlock, is_of_ports}
-use Rattle.tftp_tap.proofs.KeptOf.{is_or_not, any_here, any_skip, any_of, some_of, before_there, kept_out, kept_in, kept_more, kept_plain, kept_asks}
+use Rattle.tftp_tap.proofs.KeptOf.{any_here, any_skip, any_of, some_of, before_there, kept_out, kept_in, kept_more, kept_plain, kept_asks}
 use Rattle.tftp_tap.proofs.TapTests.{asks_some}
 use Rattle.tftp_tap.proofs.TapRouted.{Carried}
 use Rattle.tftp_tap.proofs.TapRecorded.{Agrees, Each, kept_each, out_same, kept_map, IsCarried, pair_tests, datagram_in, datagrams_each, Known, AreKnown, placed_datagrams, placed_routes}
@@ -57,11 +57,9 @@ find_kind Kind P (b ∷ bs) each any = elim (any_cases (Says Kind) b.datagram (m
 ]
 
 pub decide_reply : Decides IsReply
-decide_reply (Message.Request asked) = inr (λ is. is)
 decide_reply (Message.Oack options) = inl tt
-decide_reply (Message.Data k bytes) = inr (λ is. is)
 decide_reply (Message.Ack j) = elim (cases_lt 0 j) [ inl above ↦ inr (λ is. let e : j ≡ 0 = is in omega (arith, above)) | inr none ↦ let e : j ≡ 0 = omega (arith, none) in inl e ]
-decide_reply (Message.Error code text) = inr (λ is. is)
+decide_reply _ = inr (λ is. is)
 
 pub each_both : {X : Type 0} (P Q : X → Type 0) (xs : List X) → Each P xs → Each Q xs → Each (λ x. P x × Q x) xs
 each_both P Q [] one other = tt
@@ -74,13 +72,16 @@ told_some = record {
 } where
   plain : (p : MachinePacket) → (p ≡ Req → ⊥) → is_request p ≡ false
   plain Req other = absurd (other refl)
-  plain Oack other = refl
-  plain (Data k) other = refl
-  plain (Ack j) other = refl
-  plain (Error code text) other = refl
+  plain _ other = refl
+
+pub deed_packet : (r f : End) (p : MachinePacket) → packet_of (deed_at r f p) ≡ p
+deed_packet Client Client p = refl
+deed_packet Client Server p = refl
+deed_packet Server Client p = refl
+deed_packet Server Server p = refl
 
 pub recorded_payload : (s : TapSides) (r : End) (d : TapDatagram) → (recorded_at s r d).payload ≡ d.payload
-recorded_payload s r d = elim (is_or_not (same_peer d.source (side_of s r))) [ inl own ↦ yours own | inr other ↦ theirs other ] where
+recorded_payload s r d = elim (cases_Bool (same_peer d.source (side_of s r))) [ inl own ↦ yours own | inr other ↦ theirs other ] where
   yours : same_peer d.source (side_of s r) ≡ true → (recorded_at s r d).payload ≡ d.payload
   yours is = rw (is) refl
 
@@ -100,20 +101,16 @@ module _ (s : TapSides) (apart : AreApart s) (asked : RequestParts) where
   quiet_request : (c : Carried) → pair_tests.asks c ≡ true → (e : End) → pair_tests.ends e c ≡ false
   quiet_request c is e = by c.pass.from c.pass.packet is where
     by : (f : End) (p : MachinePacket) → (same_end Client f && is_request p) ≡ true → (same_end e f && is_error p) ≡ false
-    by Server p is = absurd (true≢false (sym is))
     by Client Req is = plain (same_end e Client) where
       plain : (b : Bool) → (b && false) ≡ false
       plain true = refl
       plain false = refl
-    by Client Oack is = absurd (true≢false (sym is))
-    by Client (Data k) is = absurd (true≢false (sym is))
-    by Client (Ack j) is = absurd (true≢false (sym is))
-    by Client (Error code text) is = absurd (true≢false (sym is))
+    by _ _ is = absurd (true≢false (sym is))
 
   -- on a read all of the server's is kept
   answers_get : (cs : List Carried) → list_any pair_tests.answers cs ≡ true → list_any pair_tests.answers (kept_of pair_tests Client cs) ≡ true
   answers_get [] some = some
-  answers_get (c ∷ cs) some = elim (is_or_not (pair_tests.answers c)) [
+  answers_get (c ∷ cs) some = elim (cases_Bool (pair_tests.answers c)) [
     | inl now ↦ subst (λ l. list_any pair_tests.answers l ≡ true) (sym (kept_in pair_tests Client c cs (stays c.pass.from now))) (any_here pair_tests.answers c (kept_of pair_tests Client cs) now)
     | inr other ↦
         let found = some_of pair_tests.answers (kept_of pair_tests Client cs) (answers_get cs (sym (any_skip pair_tests.answers c cs other) ∙ some)) in
@@ -143,9 +140,7 @@ module _ (s : TapSides) (apart : AreApart s) (asked : RequestParts) where
     by (Message.Ack j) kind same =
         let p = sym (packet (Message.Ack j) (Ack j) refl same) in
         (subst (Sends s apart asked.side c.pass.from) p right.sends ∙ ap receiver_of put, inr (p ∙ ap Ack kind))
-    by (Message.Request q) kind same = absurd kind
-    by (Message.Data k bytes) kind same = absurd kind
-    by (Message.Error code text) kind same = absurd kind
+    by _ kind same = absurd kind
 
   pub some_before : (Kind : Message → Type 0) (o : End) (cs : List Carried) → Each (IsCarried s says_some) cs → HasKind Kind (before_error (tap_tests s) o (map datagram_in cs)) → HasKind Kind (map datagram_in (before_error pair_tests o cs))
   some_before Kind o cs each any = subst (HasKind Kind) (before_map datagram_in pair_tests (tap_tests s) o cs (datagrams_each s apart cs each)) any
@@ -176,10 +171,7 @@ module _ (s : TapSides) (apart : AreApart s) (asked : RequestParts) where
 
       of_block : (n : Message) → Spells c.datagram.payload n → packet_in n ≡ Some (Data k) → (HasKind IsReply (before_error (tap_tests s) Client (map datagram_in cs)) → ⊥) → ⊥
       of_block (Message.Data i bytes) t at never = lawful.late (rule.Block EndRule.NotStarted) (record { asked = asked; first = first; message = Message.Data i bytes; says = t; breaks = late_put asked.side put never })
-      of_block (Message.Request q) t at never = absurd (cc)
-      of_block (Message.Oack options) t at never = absurd (cc)
-      of_block (Message.Ack j) t at never = absurd (cc)
-      of_block (Message.Error code text) t at never = absurd (cc)
+      of_block _ t at never = absurd (cc)
 
   known_next : (c : Carried) (cs : List Carried) → IsCarried s says_some c → Lawful s c cs → Right s apart asked c → (cs ≡ []) ⊎ FirstTapAsked s (map datagram_in cs) asked → Each (IsCarried s says_some) cs → Each (Right s apart asked) cs
       → is_left_out pair_tests (receiver_of asked.side) c (kept_of pair_tests (receiver_of asked.side) cs) ≡ false → Known c (kept_of pair_tests (receiver_of asked.side) cs)
@@ -195,7 +187,7 @@ module _ (s : TapSides) (apart : AreApart s) (asked : RequestParts) where
       nothing none from other = true≢false (sym (ap (list_any pair_tests.answers) (sym none) ∙ lawful.answered from other))
 
       error_out : (p : MachinePacket) → c.pass.from ≡ Client → is_error c.pass.packet ≡ true → is_left_out pair_tests Server c (kept_of pair_tests Server cs) ≡ false → list_any pair_tests.answers (kept_of pair_tests Server cs) ≡ true
-      error_out p from error stays = elim (is_or_not (list_any pair_tests.answers (kept_of pair_tests Server cs))) [
+      error_out p from error stays = elim (cases_Bool (list_any pair_tests.answers (kept_of pair_tests Server cs))) [
         | inl some ↦ some
         | inr none ↦ absurd (true≢false (sym (out none) ∙ stays))
       ]
@@ -207,11 +199,8 @@ module _ (s : TapSides) (apart : AreApart s) (asked : RequestParts) where
               either : (b : Bool) → is_request c.pass.packet ≡ b → is_left_out pair_tests Server c (kept_of pair_tests Server cs) ≡ true
               either true asks = absurd (apart_kinds c.pass.packet asks error) where
                 apart_kinds : (p : MachinePacket) → is_request p ≡ true → is_error p ≡ true → ⊥
-                apart_kinds Req one other = true≢false (sym other)
-                apart_kinds Oack one other = true≢false (sym other)
-                apart_kinds (Data k) one other = true≢false (sym other)
-                apart_kinds (Ack j) one other = true≢false (sym other)
                 apart_kinds (Error code text) one other = true≢false (sym one)
+                apart_kinds _ one other = true≢false (sym other)
               either false asks = rw (from, asks, error, none) refl
 
       by : (side : Side) → asked.side ≡ side → (p : MachinePacket) → c.pass.packet ≡ p → c.pass.from ≡ Client → (c.pass.packet ≡ Req → ⊥)
@@ -237,32 +226,20 @@ module _ (s : TapSides) (apart : AreApart s) (asked : RequestParts) where
       let begins = begins_before s apart asked c cs lawful.1 each.1 first in
       let before = known_kept cs each.1 lawful.1 right.1 begins in
       let r = receiver_of asked.side in
-      elim (is_or_not (is_left_out pair_tests r c (kept_of pair_tests r cs))) [
+      elim (cases_Bool (is_left_out pair_tests r c (kept_of pair_tests r cs))) [
         | inl out ↦ subst AreKnown (sym (kept_out pair_tests r c cs out)) before
         | inr stays ↦ subst AreKnown (sym (kept_in pair_tests r c cs stays)) (known_next c cs each.0 lawful.0 right.0 begins each.1 right.1 stays, before)
       ]
 
   -- ---- and breaks no rule at the receiver
 
-  deed_packet : (r f : End) (p : MachinePacket) → packet_of (deed_at r f p) ≡ p
-  deed_packet Client Client p = refl
-  deed_packet Client Server p = refl
-  deed_packet Server Client p = refl
-  deed_packet Server Server p = refl
-
   read_on : (p : MachinePacket) (d : Datagram) (n : Message) → Spells d.payload n → IsRead (packet_route p) d
   read_on Req d n t = (n, t)
-  read_on Oack d n t = (n, t)
-  read_on (Data k) d n t = (n, t)
-  read_on (Ack j) d n t = (n, t)
-  read_on (Error code text) d n t = (n, t)
+  read_on _ d n t = (n, t)
 
   of_packet : (p : MachinePacket) → is_of_transfer (packet_route p) ≡ true
   of_packet Req = refl
-  of_packet Oack = refl
-  of_packet (Data k) = refl
-  of_packet (Ack j) = refl
-  of_packet (Error code text) = refl
+  of_packet _ = refl
 
   ended_next : (c : Carried) (cs : List Carried) → IsCarried s says_some c → Lawful s c cs → Right s apart asked c → (cs ≡ []) ⊎ FirstTapAsked s (map datagram_in cs) asked
       → Each (IsCarried s says_some) cs → Each (IsCarried s says_some) (kept_of pair_tests (receiver_of asked.side) cs) → AreKnown (c ∷ kept_of pair_tests (receiver_of asked.side) cs)
@@ -292,7 +269,7 @@ module _ (s : TapSides) (apart : AreApart s) (asked : RequestParts) where
           let same : kept_of (tap_tests s) r (map datagram_in cs) ≡ map datagram_in ks = kept_map datagram_in pair_tests (tap_tests s) r cs agree in
           let out : is_left_out (tap_tests s) r c.datagram (map datagram_in ks) ≡ is_left_out pair_tests r c ks
           = out_same datagram_in pair_tests (tap_tests s) r c ks (datagrams_each s apart (c ∷ []) (is, tt)).0 (kept_each (Agrees datagram_in pair_tests (tap_tests s)) pair_tests r cs agree) in
-          elim (is_or_not (is_of_ports broken)) [
+          elim (cases_Bool (is_of_ports broken)) [
             | inl ports ↦ true≢false (sym (ap is_of_transfer route ∙ of_packet c.pass.packet) ∙ ports_off (header_at s asked.side) (map (recorded_at s r) (map datagram_in ks)) (recorded_at s r c.datagram) broken ports b)
             | inr content ↦ lawful.kept broken (record {
               of_content = content;
@@ -326,7 +303,7 @@ module _ (s : TapSides) (apart : AreApart s) (asked : RequestParts) where
       let begins = begins_before s apart asked c cs lawful.1 each.1 first in
       let before = ended_kept cs each.1 lawful.1 right.1 begins in
       let r = receiver_of asked.side in
-      elim (is_or_not (is_left_out pair_tests r c (kept_of pair_tests r cs))) [
+      elim (cases_Bool (is_left_out pair_tests r c (kept_of pair_tests r cs))) [
         | inl out ↦ subst (λ l. OneEnded (header_at s asked.side) (map (recorded_at s r) (map datagram_in l))) (sym (kept_out pair_tests r c cs out)) before
         | inr stays ↦ subst (λ l. OneEnded (header_at s asked.side) (map (recorded_at s r) (map datagram_in l))) (sym (kept_in pair_tests r c cs stays)) (
           ended_next c cs each.0 lawful.0 right.0 begins each.1 (kept_each (IsCarried s says_some) pair_tests r cs each.1)

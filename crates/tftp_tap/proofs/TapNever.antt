@@ -1,7 +1,7 @@
 -- The rules of the order in which an end sends are never the first that is broken between the ends.
 use Rattle.std.proofs.Common.{◌≡◌, ◌<◌, Bool, true, false, List, [], ◌∷◌, Contains, inl, inr, refl, sym, subst, ap, ◌∙◌, arith, ◌&&◌, map}
 use Rattle.std.specs.List.{list_any}
-use Rattle.std.proofs.lemmas.Bool.{true≢false}
+use Rattle.std.proofs.lemmas.Bool.{true≢false, or_parts, cases_Bool}
 use Rattle.tftp_packet.specs.{Message, RequestParts, Spells, Side, Get, Put, End, Client, Server, OptionMap}
 use Rattle.tftp_hosts.specs.{In, Out, Datagram, Header, same_peer}
 use Rattle.tftp_model.specs.Machines.{sender_of, receiver_of}
@@ -14,7 +14,7 @@ use Rattle.tftp_law.proofs.Spelled.{spelled_once}
 use Rattle.tftp_law.proofs.FirstBroken.FirstRequests.{request_same, some_same}
 use Rattle.tftp_law.proofs.Division.RouteTests.{is_same, same_is}
 use Rattle.tftp_tap.specs.{TapDatagram, TapSides, side_of, AreApart, is_left_out, kept_of, same_end, is_request, asks_in, tap_tests, tap_route, is_passing, transfer_between, recorded_at, header_at, FirstTapAsked, LateBroken, LateBreaks, SidesBreak, PassingBreaks, KeptBreaks, FirstTapBroken, BreaksNoTapRule, IsOfSending, TapRoute}
-use Rattle.tftp_tap.proofs.KeptOf.{is_or_not, or_false, any_of, kept_there, kept_asks}
+use Rattle.tftp_tap.proofs.KeptOf.{any_of, kept_there, kept_asks}
 use Rattle.tftp_tap.proofs.TapTests.{asks_says}
 use Rattle.tftp_tap.proofs.TapRouted.{Carried, mains, transfer_is}
 use Rattle.tftp_tap.proofs.TapRecorded.{Each, kept_map, asks_same, kept_each, IsCarried, mains_carried, pair_tests, datagram_in, datagrams_each}
@@ -22,15 +22,12 @@ use Rattle.tftp_tap.proofs.TapBefore.{first_holds}
 use Rattle.tftp_tap.proofs.TapLawful.{parted, AreLawful, mains_lawful, asks_is, Right, rights}
 use Rattle.tftp_tap.proofs.TapMade.{recorded_payload}
 use Rattle.tftp_tap.proofs.TapRun.{each_at}
+use Rattle.tftp_tap.proofs.AtReceiver.{not_sender}
 
 -- what is said of the terms of a transfer
 terms_side : (h : Header) (asked : RequestParts) (answer : Answer) → ((terms_after h asked answer).named ≡ h.named) × ((terms_after h asked answer).side ≡ asked.side)
 terms_side h asked (Agrees options) = (refl, refl)
 terms_side h asked Begins = (refl, refl)
-
-not_sender : (side : Side) → receiver_of side ≡ sender_of side → ⊥
-not_sender Get is = cc
-not_sender Put is = cc
 
 module _ (s : TapSides) (apart : AreApart s) (asked : RequestParts) (cs : List Carried) (each : Each (IsCarried s says_some) cs) (lawful : AreLawful s cs) (first : FirstTapAsked s (map datagram_in cs) asked) where
   right : Each (Right s apart asked) cs
@@ -74,7 +71,7 @@ module _ (s : TapSides) (apart : AreApart s) (asked : RequestParts) (cs : List C
     kept_is = kept_map datagram_in pair_tests (tap_tests s) (receiver_of asked.side) cs (datagrams_each s apart cs each)
 
     goes_out_is : (r : End) → (recorded_at s r d).dir ≡ Out → d.source ≡ side_of s r
-    goes_out_is r out = elim (is_or_not (same_peer d.source (side_of s r))) [ inl own ↦ is_same d.source (side_of s r) own | inr other ↦ absurd (comes other out) ] where
+    goes_out_is r out = elim (cases_Bool (same_peer d.source (side_of s r))) [ inl own ↦ is_same d.source (side_of s r) own | inr other ↦ absurd (comes other out) ] where
       comes : same_peer d.source (side_of s r) ≡ false → (recorded_at s r d).dir ≡ Out → ⊥
       comes other out = let turned : In ≡ Out = sym (ap_dir other) ∙ out in cc where
         ap_dir : same_peer d.source (side_of s r) ≡ false → (recorded_at s r d).dir ≡ In
@@ -83,7 +80,7 @@ module _ (s : TapSides) (apart : AreApart s) (asked : RequestParts) (cs : List C
     -- a request of the client is left out: one has passed
     request_left : d.source ≡ s.client → asks_in d.payload ≡ true → ⊥
     request_left source asks =
-        let none = or_false ((tap_tests s).asks d && list_any (tap_tests s).asks (kept_of (tap_tests s) (receiver_of asked.side) (map datagram_in cs))) _ stays in
+        let none = or_parts ((tap_tests s).asks d && list_any (tap_tests s).asks (kept_of (tap_tests s) (receiver_of asked.side) (map datagram_in cs))) _ stays in
         let some : list_any (tap_tests s).asks (kept_of (tap_tests s) (receiver_of asked.side) (map datagram_in cs)) ≡ true
         = ap (list_any (tap_tests s).asks) kept_is ∙ asks_same datagram_in pair_tests (tap_tests s) (kept_of pair_tests (receiver_of asked.side) cs)
         (datagrams_each s apart (kept_of pair_tests (receiver_of asked.side) cs) (kept_each (IsCarried s says_some) pair_tests (receiver_of asked.side) cs each)) ∙ kept_asks pair_tests (receiver_of asked.side) cs quiet asked_there in
@@ -105,12 +102,9 @@ module _ (s : TapSides) (apart : AreApart s) (asked : RequestParts) (cs : List C
           none false = refl
 
           by : (f : End) (p : MachinePacket) → (same_end Client f && is_request p) ≡ true → (same_end e f && is_error p) ≡ false
-          by f Req is = none (same_end e f)
-          by f Oack is = none (same_end e f)
-          by f (Data k) is = none (same_end e f)
-          by f (Ack j) is = none (same_end e f)
           by Client (Error code text) is = absurd (true≢false (sym is))
           by Server (Error code text) is = absurd (true≢false (sym is))
+          by f _ is = none (same_end e f)
 
     spelled_there : (n : Message) → Spells (recorded_at s (receiver_of asked.side) d).payload n → Spells d.payload n
     spelled_there n t = subst (λ l. Spells l n) (recorded_payload s (receiver_of asked.side) d) t
@@ -171,27 +165,10 @@ module _ (s : TapSides) (apart : AreApart s) (asked : RequestParts) (cs : List C
 late_never : (s : TapSides) (passed : List TapDatagram) (d : TapDatagram) (broken : Rule) → IsOfSending broken → LateBroken s passed d broken → ⊥
 late_never s passed d broken of l = by l.message broken of l.breaks where
   by : (n : Message) (broken : Rule) → IsOfSending broken → LateBreaks s l.asked.side passed n broken → ⊥
-  by (Message.Request q) rule.RequestAfterStart of b = b
-  by (Message.Request q) rule.OackAfterStart of b = b
-  by (Message.Request q) (rule.Block EndRule.BlockSkipped) of b = b
-  by (Message.Request q) (rule.Block EndRule.GoneBack) of b = b
-  by (Message.Oack options) rule.RequestAfterStart of b = b
-  by (Message.Oack options) rule.OackAfterStart of b = b
-  by (Message.Oack options) (rule.Block EndRule.BlockSkipped) of b = b
-  by (Message.Oack options) (rule.Block EndRule.GoneBack) of b = b
-  by (Message.Data k bytes) rule.RequestAfterStart of b = b
-  by (Message.Data k bytes) rule.OackAfterStart of b = b
-  by (Message.Data k bytes) (rule.Block EndRule.BlockSkipped) of b = b
-  by (Message.Data k bytes) (rule.Block EndRule.GoneBack) of b = b
-  by (Message.Ack j) rule.RequestAfterStart of b = b
-  by (Message.Ack j) rule.OackAfterStart of b = b
-  by (Message.Ack j) (rule.Block EndRule.BlockSkipped) of b = b
-  by (Message.Ack j) (rule.Block EndRule.GoneBack) of b = b
-  by (Message.Error code text) rule.RequestAfterStart of b = b
-  by (Message.Error code text) rule.OackAfterStart of b = b
-  by (Message.Error code text) (rule.Block EndRule.BlockSkipped) of b = b
-  by (Message.Error code text) (rule.Block EndRule.GoneBack) of b = b
-  by n broken of b = absurd of
+  by (Message.Data k bytes) (rule.Block EndRule.NotStarted) of b = of
+  by (Message.Ack j) (rule.Block EndRule.AckAhead) of b = of
+  by (Message.Ack j) (rule.Block EndRule.AckZero) of b = of
+  by _ _ of b = b
 
 low_number : (broken : Rule) → IsOfSending broken → 6 < number_of broken
 low_number rule.RequestAfterStart of = omega arith

@@ -1,9 +1,9 @@
 -- A capture between the ends shows one transfer, names one first broken rule, and tells its server.
 use Rattle.std.proofs.Common.{◌≡◌, ℕ, Bool, true, false, List, [], ◌∷◌, Contains, Some, inl, inr, refl, sym, subst, ap, ◌∙◌, arith, ◌||◌, not}
-use Rattle.std.proofs.lemmas.Bool.{true≢false, cases_lt}
+use Rattle.std.proofs.lemmas.Bool.{true≢false, cases_lt, or_parts, and_parts}
 use Rattle.tftp_packet.specs.{Message, End, Client, Server}
 use Rattle.tftp_hosts.specs.{same_peer}
-use Rattle.tftp_model.specs.{Meaning, MachinePacket, Req, Oack, Data, Ack, Error, is_error}
+use Rattle.tftp_model.specs.{Meaning, MachinePacket, Req, Error, is_error}
 use Rattle.tftp_rules.specs.{first_of}
 use Rattle.tftp_model.proofs.Members.{contains_cases, contains_none}
 use Rattle.tftp_law.specs.{says_of, says_some, number_of, Rule}
@@ -12,7 +12,6 @@ use Rattle.tftp_tap.specs.{Tapped, AreCarried, IsSeenAtTap, ShowsAtTap, TapDatag
 use Rattle.tftp_tap.specs.TapDress.{Stray, StrayAnswer}
 use Rattle.tftp_tap.proofs.OneTap.{shown_one}
 use Rattle.tftp_tap.proofs.OneTapDivision.{parts_some, one_division}
-use Rattle.tftp_tap.proofs.KeptOf.{and_true, or_false}
 use Rattle.tftp_tap.proofs.TapTests.{asks_some, ends_some, ends_says}
 use Rattle.tftp_tap.proofs.TapBefore.{first_holds}
 
@@ -74,10 +73,8 @@ goes_server s m wire division d (Main x) apart c known source plain quiet = by x
   by : (e : End) (p : MachinePacket) → d.source ≡ side_of s e → GoesThere s division d e p → is_request p ≡ false → is_error p ≡ false → d.destination ≡ s.server
   by Server p at goes plain quiet = absurd (apart.server (sym source ∙ at))
   by Client Req at goes plain quiet = absurd (true≢false plain)
-  by Client Oack at goes plain quiet = goes.0
-  by Client (Data k) at goes plain quiet = goes.0
-  by Client (Ack j) at goes plain quiet = goes.0
   by Client (Error code text) at goes plain quiet = absurd (true≢false quiet)
+  by Client _ at goes plain quiet = goes.0
 goes_server s m wire division d Stray apart c known source plain quiet = absurd (c.elsewhere Client source)
 goes_server s m wire division d StrayAnswer apart c known source plain quiet = absurd (true≢false (sym (ends_says d.payload (Message.Error 5 c.spells.0) c.spells.1) ∙ quiet))
 
@@ -88,8 +85,8 @@ all_go s m wire (p ∷ division) apart parts d at goes = elim (contains_cases p.
   | inr before ↦ all_go s m wire division apart parts.1 d before goes
   | inl now ↦
       let mine : goes_on_to s p.datagram ≡ true = ap (goes_on_to s) now ∙ goes in
-      let both = and_true (same_peer p.datagram.source s.client) (not (asks_in p.datagram.payload || ends_in p.datagram.payload)) mine in
-      let neither = or_false (asks_in p.datagram.payload) (ends_in p.datagram.payload) (not_true (asks_in p.datagram.payload || ends_in p.datagram.payload) both.1) in
+      let both = and_parts (same_peer p.datagram.source s.client) (not (asks_in p.datagram.payload || ends_in p.datagram.payload)) mine in
+      let neither = or_parts (asks_in p.datagram.payload) (ends_in p.datagram.payload) (not_true (asks_in p.datagram.payload || ends_in p.datagram.payload) both.1) in
       sym (ap (λ (x : TapDatagram). x.destination) now) ∙ goes_server s m wire division p.datagram p.part apart parts.0 (parts_some s m wire (p ∷ division) parts).0 (is_same p.datagram.source s.client both.0) neither.0 neither.1
 ]
   where

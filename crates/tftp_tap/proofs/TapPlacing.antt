@@ -1,6 +1,6 @@
 -- A datagram that passes between the ends has a part.
 use Rattle.std.proofs.Common.{◌≡◌, ℕ, true, false, List, [], ◌∷◌, Any, inl, inr, refl, sym, subst, ◌∙◌, ◌&&◌, ◌==◌}
-use Rattle.std.proofs.lemmas.Bool.{true≢false, eq-eqb}
+use Rattle.std.proofs.lemmas.Bool.{true≢false, eq-eqb, cases_Bool, and_parts}
 use Rattle.tftp_packet.specs.{Message, Spells, End, Client, Server}
 use Rattle.tftp_hosts.specs.{same_peer}
 use Rattle.tftp_model.specs.{MachinePacket, Req, Oack, Data, Ack, Error}
@@ -12,7 +12,7 @@ use Rattle.tftp_law.proofs.Division.Divided.{any_first, any_later}
 use Rattle.tftp_tap.specs.{Pass, PeerId, TapDatagram, TapSides, side_of, AreApart, TapPart, Main, TapPlaced, TapDivision, tapped_of, IsMainFrom, GoesThere, HasTapPart, HaveTapParts, asks_in, ends_in, has_gone, route_astray, tap_route, IsTapRead, TapPasses, TapRoute}
 use Rattle.tftp_tap.specs.TapDress.{Stray, StrayAnswer}
 use Rattle.tftp_tap.proofs.OneTapDivision.{no_stray_side}
-use Rattle.tftp_tap.proofs.KeptOf.{is_or_not, and_true, any_skip}
+use Rattle.tftp_tap.proofs.KeptOf.{any_skip}
 use Rattle.tftp_tap.proofs.TapTests.{asks_says, source_is}
 
 -- a payload that opens as a request, tested
@@ -32,9 +32,9 @@ module _ (s : TapSides) (apart : AreApart s) where
 
   gone_answered : (division : TapDivision) → HaveTapParts s says_some division → has_gone s.server s.client (tapped_of division) ≡ true → Any (λ p. IsMainFrom Server p.part) division
   gone_answered [] parts gone = absurd (true≢false (sym gone))
-  gone_answered (p ∷ division) parts gone = elim (is_or_not (same_peer p.datagram.source s.server && same_peer p.datagram.destination s.client)) [
+  gone_answered (p ∷ division) parts gone = elim (cases_Bool (same_peer p.datagram.source s.server && same_peer p.datagram.destination s.client)) [
     | inl now ↦
-        let both = and_true (same_peer p.datagram.source s.server) (same_peer p.datagram.destination s.client) now in
+        let both = and_parts (same_peer p.datagram.source s.server) (same_peer p.datagram.destination s.client) now in
         any_first (λ (q : TapPlaced). IsMainFrom Server q.part) p division (from_server_is division parts.1 p.datagram p.part parts.0 (is_same p.datagram.source s.server both.0) (is_same p.datagram.destination s.client both.1))
     | inr other ↦ any_later (λ (q : TapPlaced). IsMainFrom Server q.part) p division (gone_answered division parts.1 (sym (any_skip (λ d. same_peer d.source s.server && same_peer d.destination s.client) p.datagram (tapped_of division) other) ∙ gone))
   ]
@@ -45,20 +45,17 @@ module _ (s : TapSides) (apart : AreApart s) where
   stray_is division parts d (Main x) c e to client server = by x.from x.packet c.source c.goes where
     by : (f : End) (p : MachinePacket) → d.source ≡ side_of s f → GoesThere s division d f p → Main x ≡ Stray
     by Client Req source goes = absurd (apart.asked (sym (subst (λ v. d.destination ≡ side_of s v) (client source) to) ∙ goes))
-    by Client Oack source goes = absurd (apart.server (sym (subst (λ v. d.destination ≡ side_of s v) (client source) to) ∙ goes.0))
-    by Client (Data k) source goes = absurd (apart.server (sym (subst (λ v. d.destination ≡ side_of s v) (client source) to) ∙ goes.0))
-    by Client (Ack j) source goes = absurd (apart.server (sym (subst (λ v. d.destination ≡ side_of s v) (client source) to) ∙ goes.0))
-    by Client (Error code text) source goes = absurd (apart.server (sym (subst (λ v. d.destination ≡ side_of s v) (client source) to) ∙ goes.0))
     by Server p source goes = absurd (apart.server (sym goes ∙ subst (λ v. d.destination ≡ side_of s v) (server source) to))
+    by Client _ source goes = absurd (apart.server (sym (subst (λ v. d.destination ≡ side_of s v) (client source) to) ∙ goes.0))
   stray_is division parts d Stray c e to client server = refl
   stray_is division parts d StrayAnswer c e to client server = absurd (no_stray_side s apart division parts e d.source d.destination to c.there)
 
   gone_stray : (from to : PeerId) (e : End) → to ≡ side_of s e → (from ≡ s.client → e ≡ Client) → (from ≡ s.server → e ≡ Server) → (division : TapDivision) → HaveTapParts s says_some division
       → has_gone from to (tapped_of division) ≡ true → Any (λ p. (p.part ≡ Stray) × (p.datagram.source ≡ from) × (p.datagram.destination ≡ to)) division
   gone_stray from to e at client server [] parts gone = absurd (true≢false (sym gone))
-  gone_stray from to e at client server (p ∷ division) parts gone = elim (is_or_not (same_peer p.datagram.source from && same_peer p.datagram.destination to)) [
+  gone_stray from to e at client server (p ∷ division) parts gone = elim (cases_Bool (same_peer p.datagram.source from && same_peer p.datagram.destination to)) [
     | inl now ↦
-        let both = and_true (same_peer p.datagram.source from) (same_peer p.datagram.destination to) now in
+        let both = and_parts (same_peer p.datagram.source from) (same_peer p.datagram.destination to) now in
         let source = is_same p.datagram.source from both.0 in
         let there = is_same p.datagram.destination to both.1 in
         any_first (λ (q : TapPlaced). (q.part ≡ Stray) × (q.datagram.source ≡ from) × (q.datagram.destination ≡ to)) p division
@@ -100,9 +97,9 @@ module _ (s : TapSides) (apart : AreApart s) where
 
     -- an answer to a stray
     astray : (e : End) → d.source ≡ side_of s e → (d.destination ≡ s.client → e ≡ Client) → (d.destination ≡ s.server → e ≡ Server) → tap_route s (tapped_of earlier) d ≡ route_astray (tapped_of earlier) d → HasPart
-    astray e source client server is = elim (is_or_not (has_gone d.destination d.source (tapped_of earlier))) [
+    astray e source client server is = elim (cases_Bool (has_gone d.destination d.source (tapped_of earlier))) [
       | inr never ↦ absurd (not_wrong (is ∙ wrong never))
-      | inl gone ↦ elim (is_or_not (ends_in d.payload)) [
+      | inl gone ↦ elim (cases_Bool (ends_in d.payload)) [
         | inr other ↦ absurd (passes.lawful rule.StrayAnswer (inl (inl (is ∙ bad gone other))))
         | inl ends ↦ (StrayAnswer, record { own = (e, source); there = gone_stray d.destination d.source e source client server earlier parts gone; spells = read_as TapRoute.StrayAnswer (is ∙ good gone ends) })
       ]
@@ -118,16 +115,16 @@ module _ (s : TapSides) (apart : AreApart s) where
         good gone ends = rw (gone, ends) refl
 
     by_client : d.source ≡ s.client → HasPart
-    by_client source = elim (is_or_not (asks_in d.payload)) [
-      | inl asks ↦ elim (is_or_not (same_peer d.destination s.asked)) [
+    by_client source = elim (cases_Bool (asks_in d.payload)) [
+      | inl asks ↦ elim (cases_Bool (same_peer d.destination s.asked)) [
         | inl there ↦
             let read = read_as TapRoute.Request (rw (same, asks, there) refl) in
             let asked = begins_asked d.payload read.0 read.1 asks in
             of_end (record { from = Client; packet = Req }) source (is_same d.destination s.asked there) (Message.Request asked.0, subst (Spells d.payload) asked.1 read.1, refl)
         | inr elsewhere ↦ absurd (not_wrong (rw (same, asks, elsewhere) refl))
       ]
-      | inr plain ↦ elim (is_or_not (same_peer d.destination s.server)) [
-        | inl there ↦ elim (is_or_not (has_gone s.server s.client (tapped_of earlier))) [
+      | inr plain ↦ elim (cases_Bool (same_peer d.destination s.server)) [
+        | inl there ↦ elim (cases_Bool (has_gone s.server s.client (tapped_of earlier))) [
           | inl gone ↦ let read = read_as TapRoute.FromClient (rw (same, plain, there, gone) refl) in client_said source plain (is_same d.destination s.server there, gone_answered earlier parts gone) read.0 read.1
           | inr never ↦ absurd (not_wrong (rw (same, plain, there, never) refl))
         ]
@@ -139,7 +136,7 @@ module _ (s : TapSides) (apart : AreApart s) where
         same = same_is d.source s.client source
 
     by_server : d.source ≡ s.server → HasPart
-    by_server source = elim (is_or_not (same_peer d.destination s.client)) [
+    by_server source = elim (cases_Bool (same_peer d.destination s.client)) [
       | inl there ↦ let read = read_as TapRoute.FromServer (rw (other, same, there) refl) in server_said source (is_same d.destination s.client there) read.0 read.1
       | inr elsewhere ↦ astray Server source (λ is. absurd (apart_is d.destination s.client elsewhere is)) (λ is. refl) (rw (other, same, elsewhere) refl)
     ]
@@ -151,11 +148,11 @@ module _ (s : TapSides) (apart : AreApart s) where
         same = source_is s apart d Server Server source
 
     by_other : same_peer d.source s.client ≡ false → same_peer d.source s.server ≡ false → HasPart
-    by_other no_client no_server = elim (is_or_not (same_peer d.destination s.client)) [
+    by_other no_client no_server = elim (cases_Bool (same_peer d.destination s.client)) [
       | inl there ↦ (Stray, record { elsewhere = elsewhere; here = (Client, is_same d.destination s.client there); no_request = λ to. absurd (apart.server (sym (is_same d.destination s.client there) ∙ to)) })
-      | inr not_client ↦ elim (is_or_not (same_peer d.destination s.server)) [
+      | inr not_client ↦ elim (cases_Bool (same_peer d.destination s.server)) [
         | inr not_server ↦ absurd (not_foreign (rw (no_client, no_server, not_client, not_server) refl))
-        | inl there ↦ elim (is_or_not ((s.server.port == s.asked.port) && asks_in d.payload)) [
+        | inl there ↦ elim (cases_Bool ((s.server.port == s.asked.port) && asks_in d.payload)) [
           | inl another ↦ absurd (not_foreign (rw (no_client, no_server, not_client, there, another) refl))
           | inr fine ↦ (Stray, record { elsewhere = elsewhere; here = (Server, is_same d.destination s.server there); no_request = λ to port begins. true≢false (sym (both port begins) ∙ fine) })
         ]
@@ -170,9 +167,9 @@ module _ (s : TapSides) (apart : AreApart s) where
         both port begins = rw (eq-eqb s.server.port s.asked.port port, request_tested d.payload begins) refl
 
     pub has_part : HasPart
-    has_part = elim (is_or_not (same_peer d.source s.client)) [
+    has_part = elim (cases_Bool (same_peer d.source s.client)) [
       | inl client ↦ by_client (is_same d.source s.client client)
-      | inr no_client ↦ elim (is_or_not (same_peer d.source s.server)) [
+      | inr no_client ↦ elim (cases_Bool (same_peer d.source s.server)) [
         | inl server ↦ by_server (is_same d.source s.server server)
         | inr no_server ↦ by_other no_client no_server
       ]

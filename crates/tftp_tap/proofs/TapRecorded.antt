@@ -1,7 +1,7 @@
 -- What is kept of a division, as the receiver's capture.
 use Rattle.std.proofs.Common.{◌≡◌, ◌⊎◌, Bool, true, false, List, [], ◌∷◌, Any, inl, inr, refl, sym, subst, ap, ◌∙◌, map}
 use Rattle.std.specs.List.{list_any}
-use Rattle.std.proofs.lemmas.Bool.{true≢false}
+use Rattle.std.proofs.lemmas.Bool.{true≢false, cases_Bool}
 use Rattle.tftp_packet.specs.{End, Client, Server}
 use Rattle.tftp_hosts.specs.{In, Out, Datagram, Header, peer_of, same_peer}
 use Rattle.tftp_model.specs.Machines.{other_end}
@@ -10,9 +10,9 @@ use Rattle.tftp_law.specs.{from_server, Main, Placed, Division, datagrams_of, vi
 use Rattle.tftp_law.proofs.Division.RouteTests.{same_is, IsTold}
 use Rattle.tftp_law.proofs.Division.Routed.{routed_by}
 use Rattle.tftp_law.proofs.Division.Divided.{any_first, any_later}
-use Rattle.tftp_tap.specs.{Pass, deed_at, as_at, TapDatagram, TapSides, side_of, AreApart, Tests, is_left_out, kept_of, same_end, pass_tests, TapPart, TapPlaced, TapDivision, tapped_of, passed_of, GoesThere, CarriesPass, HasTapPart, HaveTapParts, tap_tests, recorded_at}
+use Rattle.tftp_tap.specs.{Pass, deed_at, as_at, TapDatagram, TapSides, side_of, AreApart, Tests, is_left_out, kept_of, same_end, pass_tests, TapPart, TapDivision, passed_of, GoesThere, CarriesPass, HasTapPart, HaveTapParts, tap_tests, recorded_at}
 use Rattle.tftp_tap.specs.TapDress as tap
-use Rattle.tftp_tap.proofs.KeptOf.{is_or_not, kept_out, kept_in, any_skip}
+use Rattle.tftp_tap.proofs.KeptOf.{kept_out, kept_in, any_skip}
 use Rattle.tftp_tap.proofs.TapTests.{source_is, asks_some, ends_some}
 use Rattle.tftp_tap.proofs.TapRouted.{Carried, add_main, mains}
 
@@ -29,7 +29,7 @@ Each P (x ∷ xs) = P x × Each P xs
 
 pub kept_each : {X : Type 0} (P : X → Type 0) (t : Tests X) (r : End) (xs : List X) → Each P xs → Each P (kept_of t r xs)
 kept_each P t r [] each = tt
-kept_each P t r (x ∷ xs) each = elim (is_or_not (is_left_out t r x (kept_of t r xs))) [
+kept_each P t r (x ∷ xs) each = elim (cases_Bool (is_left_out t r x (kept_of t r xs))) [
   | inl out ↦ subst (Each P) (sym (kept_out t r x xs out)) (kept_each P t r xs each.1)
   | inr stays ↦ subst (Each P) (sym (kept_in t r x xs stays)) (each.0, kept_each P t r xs each.1)
 ]
@@ -69,7 +69,7 @@ module _ {X Y : Type 0} (f : X → Y) (t : Tests X) (u : Tests Y) where
       let before = kept_map r xs each.1 in
       let same : is_left_out u r (f x) (kept_of u r (map f xs)) ≡ is_left_out t r x (kept_of t r xs)
       = ap (is_left_out u r (f x)) before ∙ out_same r x (kept_of t r xs) each.0 (kept_each (Agrees f t u) t r xs each.1) in
-      elim (is_or_not (is_left_out t r x (kept_of t r xs))) [
+      elim (cases_Bool (is_left_out t r x (kept_of t r xs))) [
         | inl out ↦ kept_out u r (f x) (map f xs) (same ∙ out) ∙ before ∙ ap (map f) (sym (kept_out t r x xs out))
         | inr stays ↦ kept_in u r (f x) (map f xs) (same ∙ stays) ∙ ap (λ l. f x ∷ l) before ∙ ap (map f) (sym (kept_in t r x xs stays))
       ]
@@ -115,11 +115,8 @@ module _ (s : TapSides) (says : Saying) where
   carried_is division d x c = record { source = c.source; goes = by x.from x.packet c.goes; spells = c.spells } where
     by : (e : End) (p : MachinePacket) → GoesThere s division d e p → goes_to s e p d
     by Client Req goes = goes
-    by Client Oack goes = goes.0
-    by Client (Data k) goes = goes.0
-    by Client (Ack j) goes = goes.0
-    by Client (Error code text) goes = goes.0
     by Server p goes = goes
+    by Client _ goes = goes.0
 
   pub mains_carried : (division : TapDivision) → HaveTapParts s says division → Each (IsCarried s says) (mains division)
   mains_carried [] parts = tt
@@ -201,7 +198,7 @@ module _ (s : TapSides) (apart : AreApart s) where
 
   any_from : (r : End) (says : Saying) (ks : List Carried) → Each (IsCarried s says) ks → list_any pair_tests.answers ks ≡ true → Any (λ (p : Placed). p.datagram.dir ≡ from_server r) (placed s r ks)
   any_from r says [] each some = absurd (true≢false (sym some))
-  any_from r says (k ∷ ks) each some = elim (is_or_not (pair_tests.answers k)) [
+  any_from r says (k ∷ ks) each some = elim (cases_Bool (pair_tests.answers k)) [
     | inl now ↦ any_first (λ (p : Placed). p.datagram.dir ≡ from_server r) (place s r k) (placed s r ks) (from_dir r k says each.0 now)
     | inr other ↦ any_later (λ (p : Placed). p.datagram.dir ≡ from_server r) (place s r k) (placed s r ks) (any_from r says ks each.1 (sym (any_skip pair_tests.answers k ks other) ∙ some))
   ]
@@ -210,15 +207,9 @@ module _ (s : TapSides) (apart : AreApart s) where
     to_server : (r : End) (e : Division) (d : TapDatagram) (p : MachinePacket) → (p ≡ Req → ⊥) → goes_to s Client p d → d.source ≡ s.client → Any (λ (q : Placed). q.datagram.dir ≡ from_server r) e
         → GoesToServer (header_of_end s r) (ids_at s r) e (recorded_at s r d) p
     to_server Client e d Req other goes source any = absurd (other refl)
-    to_server Client e d Oack other goes source any = subst (λ x. (peer_of x ≡ s.server) × ((x.dir ≡ In) ⊎ Any (λ (q : Placed). q.datagram.dir ≡ In) e)) (sym (out_is Client d source)) (goes, inr any)
-    to_server Client e d (Data k) other goes source any = subst (λ x. (peer_of x ≡ s.server) × ((x.dir ≡ In) ⊎ Any (λ (q : Placed). q.datagram.dir ≡ In) e)) (sym (out_is Client d source)) (goes, inr any)
-    to_server Client e d (Ack j) other goes source any = subst (λ x. (peer_of x ≡ s.server) × ((x.dir ≡ In) ⊎ Any (λ (q : Placed). q.datagram.dir ≡ In) e)) (sym (out_is Client d source)) (goes, inr any)
-    to_server Client e d (Error code text) other goes source any = subst (λ x. (peer_of x ≡ s.server) × ((x.dir ≡ In) ⊎ Any (λ (q : Placed). q.datagram.dir ≡ In) e)) (sym (out_is Client d source)) (goes, inr any)
     to_server Server e d Req other goes source any = absurd (other refl)
-    to_server Server e d Oack other goes source any = subst (λ x. (x.local ≡ s.server.port) × ((x.dir ≡ Out) ⊎ Any (λ (q : Placed). q.datagram.dir ≡ Out) e)) (sym (in_is Server d source)) (ap (λ x. x.port) goes, inr any)
-    to_server Server e d (Data k) other goes source any = subst (λ x. (x.local ≡ s.server.port) × ((x.dir ≡ Out) ⊎ Any (λ (q : Placed). q.datagram.dir ≡ Out) e)) (sym (in_is Server d source)) (ap (λ x. x.port) goes, inr any)
-    to_server Server e d (Ack j) other goes source any = subst (λ x. (x.local ≡ s.server.port) × ((x.dir ≡ Out) ⊎ Any (λ (q : Placed). q.datagram.dir ≡ Out) e)) (sym (in_is Server d source)) (ap (λ x. x.port) goes, inr any)
-    to_server Server e d (Error code text) other goes source any = subst (λ x. (x.local ≡ s.server.port) × ((x.dir ≡ Out) ⊎ Any (λ (q : Placed). q.datagram.dir ≡ Out) e)) (sym (in_is Server d source)) (ap (λ x. x.port) goes, inr any)
+    to_server Client e d _ other goes source any = subst (λ x. (peer_of x ≡ s.server) × ((x.dir ≡ In) ⊎ Any (λ (q : Placed). q.datagram.dir ≡ In) e)) (sym (out_is Client d source)) (goes, inr any)
+    to_server Server e d _ other goes source any = subst (λ x. (x.local ≡ s.server.port) × ((x.dir ≡ Out) ⊎ Any (λ (q : Placed). q.datagram.dir ≡ Out) e)) (sym (in_is Server d source)) (ap (λ x. x.port) goes, inr any)
 
     asking : (r : End) (e : Division) (d : TapDatagram) → d.destination ≡ s.asked → d.source ≡ s.client → GoesToServer (header_of_end s r) (ids_at s r) e (recorded_at s r d) Req
     asking Client e d goes source = subst (λ x. (x.remote ≡ s.asked.port) × (Client ≡ Client → x.host ≡ s.asked.host)) (sym (out_is Client d source)) (ap (λ x. x.port) goes, λ same. ap (λ x. x.host) goes)
@@ -226,21 +217,12 @@ module _ (s : TapSides) (apart : AreApart s) where
 
     back : (r : End) (e : Division) (d : TapDatagram) (p : MachinePacket) → (p ≡ Req → ⊥) → d.source ≡ s.server → GoesToServer (header_of_end s r) (ids_at s r) e (recorded_at s r d) p
     back r e d Req other source = absurd (other refl)
-    back Client e d Oack other source = subst (λ x. (peer_of x ≡ s.server) × ((x.dir ≡ In) ⊎ Any (λ (q : Placed). q.datagram.dir ≡ In) e)) (sym (in_is Client d source)) (source, inl refl)
-    back Client e d (Data k) other source = subst (λ x. (peer_of x ≡ s.server) × ((x.dir ≡ In) ⊎ Any (λ (q : Placed). q.datagram.dir ≡ In) e)) (sym (in_is Client d source)) (source, inl refl)
-    back Client e d (Ack j) other source = subst (λ x. (peer_of x ≡ s.server) × ((x.dir ≡ In) ⊎ Any (λ (q : Placed). q.datagram.dir ≡ In) e)) (sym (in_is Client d source)) (source, inl refl)
-    back Client e d (Error code text) other source = subst (λ x. (peer_of x ≡ s.server) × ((x.dir ≡ In) ⊎ Any (λ (q : Placed). q.datagram.dir ≡ In) e)) (sym (in_is Client d source)) (source, inl refl)
-    back Server e d Oack other source = subst (λ x. (x.local ≡ s.server.port) × ((x.dir ≡ Out) ⊎ Any (λ (q : Placed). q.datagram.dir ≡ Out) e)) (sym (out_is Server d source)) (ap (λ x. x.port) source, inl refl)
-    back Server e d (Data k) other source = subst (λ x. (x.local ≡ s.server.port) × ((x.dir ≡ Out) ⊎ Any (λ (q : Placed). q.datagram.dir ≡ Out) e)) (sym (out_is Server d source)) (ap (λ x. x.port) source, inl refl)
-    back Server e d (Ack j) other source = subst (λ x. (x.local ≡ s.server.port) × ((x.dir ≡ Out) ⊎ Any (λ (q : Placed). q.datagram.dir ≡ Out) e)) (sym (out_is Server d source)) (ap (λ x. x.port) source, inl refl)
-    back Server e d (Error code text) other source = subst (λ x. (x.local ≡ s.server.port) × ((x.dir ≡ Out) ⊎ Any (λ (q : Placed). q.datagram.dir ≡ Out) e)) (sym (out_is Server d source)) (ap (λ x. x.port) source, inl refl)
+    back Client e d _ other source = subst (λ x. (peer_of x ≡ s.server) × ((x.dir ≡ In) ⊎ Any (λ (q : Placed). q.datagram.dir ≡ In) e)) (sym (in_is Client d source)) (source, inl refl)
+    back Server e d _ other source = subst (λ x. (x.local ≡ s.server.port) × ((x.dir ≡ Out) ⊎ Any (λ (q : Placed). q.datagram.dir ≡ Out) e)) (sym (out_is Server d source)) (ap (λ x. x.port) source, inl refl)
 
     is_req_or : (p : MachinePacket) → (p ≡ Req) ⊎ (p ≡ Req → ⊥)
     is_req_or Req = inl refl
-    is_req_or Oack = inr (λ is. cc)
-    is_req_or (Data k) = inr (λ is. cc)
-    is_req_or (Ack j) = inr (λ is. cc)
-    is_req_or (Error code text) = inr (λ is. cc)
+    is_req_or _ = inr (λ is. cc)
 
     carries : (r : End) (k : Carried) (ks : List Carried) → IsCarried s says k → Each (IsCarried s says) ks → Known k ks
         → Carries (header_of_end s r) says (ids_at s r) (placed s r ks) (recorded_at s r k.datagram) (deed_at r k.pass.from k.pass.packet)
@@ -297,10 +279,7 @@ module _ (s : TapSides) (apart : AreApart s) where
         → view_in (placed s r ks) ≡ [] → deed_at r f p ≡ request_at r
     first ks Server p server client none = absurd (none_there ks none pair_tests.asks (server refl).1)
     first ks Client Req server client none = asks_first r
-    first ks Client Oack server client none = absurd (none_there ks none pair_tests.answers (client refl (λ is. cc)))
-    first ks Client (Data k) server client none = absurd (none_there ks none pair_tests.answers (client refl (λ is. cc)))
-    first ks Client (Ack j) server client none = absurd (none_there ks none pair_tests.answers (client refl (λ is. cc)))
-    first ks Client (Error code text) server client none = absurd (none_there ks none pair_tests.answers (client refl (λ is. cc)))
+    first ks Client _ server client none = absurd (none_there ks none pair_tests.answers (client refl (λ is. cc)))
 
     not_back : (r f : End) (p : MachinePacket) → (f ≡ Server → (p ≡ Req → ⊥) × (list_any pair_tests.asks ks ≡ true)) → deed_at r f p ≡ request_back r → ⊥
     not_back Client Client p server is = absurd (cc)

@@ -1,6 +1,6 @@
 -- The route of a datagram that passed between the ends is that of its part.
 use Rattle.std.proofs.Common.{◌≡◌, true, false, List, [], ◌∷◌, Any, inl, inr, refl, sym, subst, ap, ◌∙◌, ◌&&◌, ◌==◌, map}
-use Rattle.std.proofs.lemmas.Bool.{eqb-true}
+use Rattle.std.proofs.lemmas.Bool.{eqb-true, cases_Bool, and_parts}
 use Rattle.tftp_packet.specs.{Message, End, Client, Server}
 use Rattle.tftp_hosts.specs.{same_peer}
 use Rattle.tftp_model.specs.{MachinePacket, Req, Oack, Data, Ack, Error}
@@ -11,7 +11,7 @@ use Rattle.tftp_law.proofs.Division.Divided.{any_none, any_cases}
 use Rattle.tftp_tap.specs.{Pass, is_request, PeerId, TapDatagram, TapSides, side_of, AreApart, TapPart, Main, TapPlaced, TapDivision, tapped_of, IsMainFrom, GoesThere, CarriesPass, PassesAstray, AnswersTapStray, HasTapPart, HaveTapParts, asks_in, has_gone, tap_route, is_passing, transfer_between, TapRoute}
 use Rattle.tftp_tap.specs.TapDress.{Stray, StrayAnswer}
 use Rattle.tftp_tap.proofs.OneTapDivision.{no_stray_side}
-use Rattle.tftp_tap.proofs.KeptOf.{is_or_not, and_true, any_more}
+use Rattle.tftp_tap.proofs.KeptOf.{any_more}
 use Rattle.tftp_tap.proofs.TapTests.{asks_says, ends_says, asks_some, source_is}
 
 -- the main datagrams, each with its packet
@@ -44,6 +44,10 @@ part_route StrayAnswer = TapRoute.StrayAnswer
 abbrev GoneSo : PeerId → PeerId → TapPlaced → Type 0
 GoneSo from to p = (p.part ≡ Stray) × (p.datagram.source ≡ from) × (p.datagram.destination ≡ to)
 
+pub passing_is : (e : End) (p : MachinePacket) → is_passing (pass_route e p) ≡ true
+passing_is Client Req = refl
+passing_is _ _ = refl
+
 module _ (s : TapSides) (apart : AreApart s) where
   gone_here : (from to : PeerId) (d : TapDatagram) (ds : List TapDatagram) → d.source ≡ from → d.destination ≡ to → has_gone from to (d ∷ ds) ≡ true
   gone_here from to d ds one other = rw (same_is d.source from one, same_is d.destination to other) refl
@@ -72,16 +76,13 @@ module _ (s : TapSides) (apart : AreApart s) where
   main_route earlier parts d x c = by x.from x.packet c.source c.goes (asks_some d.payload x.packet c.spells) where
     by : (e : End) (p : MachinePacket) → d.source ≡ side_of s e → GoesThere s earlier d e p → asks_in d.payload ≡ is_request p → tap_route s (tapped_of earlier) d ≡ pass_route e p
     by Client Req source goes asks = rw (same_is d.source s.client source, asks, same_is d.destination s.asked goes) refl
-    by Client Oack source goes asks = from_client earlier parts d source asks goes.0 goes.1
-    by Client (Data k) source goes asks = from_client earlier parts d source asks goes.0 goes.1
-    by Client (Ack j) source goes asks = from_client earlier parts d source asks goes.0 goes.1
-    by Client (Error code text) source goes asks = from_client earlier parts d source asks goes.0 goes.1
     by Server p source goes asks = rw (source_is s apart d Server Client source, source_is s apart d Server Server source, same_is d.destination s.client goes) refl
+    by Client _ source goes asks = from_client earlier parts d source asks goes.0 goes.1
 
   no_request_in : (d : TapDatagram) → PassesAstray s d → d.destination ≡ s.server → ((s.server.port == s.asked.port) && asks_in d.payload) ≡ false
-  no_request_in d p to = elim (is_or_not ((s.server.port == s.asked.port) && asks_in d.payload)) [
+  no_request_in d p to = elim (cases_Bool ((s.server.port == s.asked.port) && asks_in d.payload)) [
     | inr other ↦ other
-    | inl is ↦ let both = and_true (s.server.port == s.asked.port) (asks_in d.payload) is in absurd (p.no_request to (eqb-true s.server.port s.asked.port both.0) (byte_begins d.payload both.1))
+    | inl is ↦ let both = and_parts (s.server.port == s.asked.port) (asks_in d.payload) is in absurd (p.no_request to (eqb-true s.server.port s.asked.port both.0) (byte_begins d.payload both.1))
   ]
 
   stray_route : (earlier : TapDivision) (d : TapDatagram) → PassesAstray s d → tap_route s (tapped_of earlier) d ≡ TapRoute.Stray
@@ -112,14 +113,6 @@ module _ (s : TapSides) (apart : AreApart s) where
   route_is earlier parts d (Main x) p = main_route earlier parts d x p
   route_is earlier parts d Stray p = stray_route earlier d p
   route_is earlier parts d StrayAnswer p = answer_route earlier parts d p
-
-  passing_is : (e : End) (p : MachinePacket) → is_passing (pass_route e p) ≡ true
-  passing_is Client Req = refl
-  passing_is Client Oack = refl
-  passing_is Client (Data k) = refl
-  passing_is Client (Ack j) = refl
-  passing_is Client (Error code text) = refl
-  passing_is Server p = refl
 
   -- the transfer is what the main datagrams are
   pub transfer_is : (division : TapDivision) → HaveTapParts s says_some division → transfer_between s (tapped_of division) ≡ map (λ (c : Carried). c.datagram) (mains division)

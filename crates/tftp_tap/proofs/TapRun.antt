@@ -1,14 +1,14 @@
 -- What breaks no rule between the ends is what some run shows there.
-use Rattle.std.proofs.Common.{◌≡◌, ◌⊎◌, ℕ, ◌≤◌, Bool, true, false, List, [], ◌∷◌, Any, Contains, Some, inl, inr, refl, sym, subst, ap, ◌∙◌, arith, ◌&&◌, ◌||◌, not, map}
+use Rattle.std.proofs.Common.{◌≡◌, ◌⊎◌, ℕ, ◌≤◌, Bool, true, false, List, [], ◌∷◌, Any, Contains, Some, inl, inr, refl, sym, subst, ap, ◌∙◌, ◌&&◌, ◌||◌, not, map}
 use Rattle.std.specs.List.{list_any}
-use Rattle.std.proofs.lemmas.Bool.{true≢false, cases_lt}
+use Rattle.std.proofs.lemmas.Bool.{true≢false, cases_Bool, cases_eq}
 use Rattle.tftp_packet.specs.{no_options, Message, RequestParts, Spells, Side, Get, Put, End, Client, Server}
 use Rattle.tftp_model.specs.{Meaning, request_of, SomethingAgreed, MachinePacket, Req, Oack, Data, Ack, Error, HasSent, HasTaken, MayAckZeroOn, is_error, heard, LetsAckZeroOn, MayComeError, IsOneSided}
 use Rattle.tftp_model.specs.Machines.{other_end, sender_of, receiver_of}
 use Rattle.tftp_model.proofs.Members.{contains_first, contains_later, contains_cases, contains_none}
 use Rattle.tftp_model.proofs.Stops.{lawful_tail}
 use Rattle.tftp_rules.specs.{EndRule}
-use Rattle.tftp_law.specs.{view_in, says_of, packet_of, Fits, AreRouted, packet_in, says_some}
+use Rattle.tftp_law.specs.{view_in, says_of, Fits, AreRouted, packet_in, says_some}
 use Rattle.tftp_law.specs.declared.rule.Rule.TheVariants as rule
 use Rattle.tftp_law.proofs.Soundness.MadeMeaning.{some_accord}
 use Rattle.tftp_law.proofs.Soundness.RulesDivide.{divides}
@@ -23,14 +23,14 @@ use Rattle.tftp_tap.specs.{Pass, deed_at, as_at, MayPassEach, TapDatagram, TapSi
 use Rattle.tftp_tap.proofs.Passed.{sent_at, at_sent, took_passed}
 use Rattle.tftp_tap.proofs.AtReceiver.{receiver_is}
 use Rattle.tftp_tap.proofs.OneTap.{Has, pass_moment, begun}
-use Rattle.tftp_tap.proofs.KeptOf.{is_or_not, any_skip, any_of, some_of, before_there, before_all, before_less, kept_out, kept_in, kept_there, kept_plain, kept_asks}
-use Rattle.tftp_tap.proofs.TapKept.{before_sent}
+use Rattle.tftp_tap.proofs.KeptOf.{any_skip, any_of, some_of, before_there, before_all, before_less, kept_out, kept_in, kept_there, kept_plain, kept_asks}
+use Rattle.tftp_tap.proofs.TapKept.{before_sent, request_is}
 use Rattle.tftp_tap.proofs.TapBack.{kept_tells}
 use Rattle.tftp_tap.proofs.TapRouted.{Carried}
 use Rattle.tftp_tap.proofs.TapRecorded.{Each, kept_each, kept_map, asks_same, IsCarried, pair_tests, datagram_in, pass_in, passes_each, header_of_end, placed, placed_datagrams, placed_view, placed_routes}
 use Rattle.tftp_tap.proofs.TapBefore.{before_map, before_each, pass_at}
 use Rattle.tftp_tap.proofs.TapLawful.{Lawful, AreLawful, server_after, Sends, begins_before, Right, rights}
-use Rattle.tftp_tap.proofs.TapMade.{Decides, decide_kind, find_kind, each_both, told_some, recorded_payload, reply_kept, decide_before, block_replied, known_kept, ended_kept}
+use Rattle.tftp_tap.proofs.TapMade.{Decides, decide_kind, find_kind, each_both, told_some, recorded_payload, reply_kept, decide_before, block_replied, known_kept, ended_kept, deed_packet}
 
 pub each_at : {X : Type 0} (P : X → Type 0) (xs : List X) (x : X) → Each P xs → Contains xs x → P x
 each_at P [] x each at = absurd (contains_none x at)
@@ -44,32 +44,17 @@ has_pass bs b e p at from packet = subst (Contains (map pass_in bs)) (whole b.pa
 before_has : (o : End) (cs : List Carried) (b : Carried) (e : End) (p : MachinePacket) → Contains (before_error pair_tests o cs) b → b.pass.from ≡ e → b.pass.packet ≡ p → Has (before_error pass_tests o (map pass_in cs)) e p
 before_has o cs b e p at from packet = subst (λ l. Has l e p) (sym (before_map pass_in pair_tests pass_tests o cs (passes_each cs))) (has_pass (before_error pair_tests o cs) b e p at from packet)
 
-same_number : (a b : ℕ) → (a ≡ b) ⊎ (a ≡ b → ⊥)
-same_number a b = elim (cases_lt a b) [
-  | inl below ↦ inr (λ is. omega (arith, below))
-  | inr up ↦ elim (cases_lt b a) [ inl above ↦ inr (λ is. omega (arith, above)) | inr down ↦ inl (omega (arith, up, down)) ]
-]
-
 decide_block : (k : ℕ) → Decides (IsBlock k)
-decide_block k (Message.Request asked) = inr (λ is. is)
-decide_block k (Message.Oack options) = inr (λ is. is)
-decide_block k (Message.Data i bytes) = same_number i k
-decide_block k (Message.Ack j) = inr (λ is. is)
-decide_block k (Message.Error code text) = inr (λ is. is)
+decide_block k (Message.Data i bytes) = cases_eq i k
+decide_block k _ = inr (λ is. is)
 
 decide_some_block : Decides IsSomeBlock
-decide_some_block (Message.Request asked) = inr (λ is. is)
-decide_some_block (Message.Oack options) = inr (λ is. is)
 decide_some_block (Message.Data i bytes) = inl tt
-decide_some_block (Message.Ack j) = inr (λ is. is)
-decide_some_block (Message.Error code text) = inr (λ is. is)
+decide_some_block _ = inr (λ is. is)
 
 decide_oack : Decides IsOack
-decide_oack (Message.Request asked) = inr (λ is. is)
 decide_oack (Message.Oack options) = inl tt
-decide_oack (Message.Data i bytes) = inr (λ is. is)
-decide_oack (Message.Ack j) = inr (λ is. is)
-decide_oack (Message.Error code text) = inr (λ is. is)
+decide_oack _ = inr (λ is. is)
 
 module _ (s : TapSides) (apart : AreApart s) (asked : RequestParts) where
   -- ---- the packet of a message
@@ -78,24 +63,21 @@ module _ (s : TapSides) (apart : AreApart s) (asked : RequestParts) where
 
   block_packet : (c : Carried) → IsCarried s says_some c → (k : ℕ) (n : Message) → Spells c.datagram.payload n → IsBlock k n → c.pass.packet ≡ Data k
   block_packet c is k (Message.Data i bytes) t kind = sym (some_same (Data i) c.pass.packet (spelled_packet c is (Message.Data i bytes) t)) ∙ ap Data kind
-  block_packet c is k (Message.Request q) t kind = absurd kind
-  block_packet c is k (Message.Oack options) t kind = absurd kind
-  block_packet c is k (Message.Ack j) t kind = absurd kind
-  block_packet c is k (Message.Error code text) t kind = absurd kind
+  block_packet c is k _ t kind = absurd kind
 
   some_packet : (c : Carried) → IsCarried s says_some c → (n : Message) → Spells c.datagram.payload n → IsSomeBlock n → (k : ℕ) × (c.pass.packet ≡ Data k)
   some_packet c is (Message.Data i bytes) t kind = (i, sym (some_same (Data i) c.pass.packet (spelled_packet c is (Message.Data i bytes) t)))
-  some_packet c is (Message.Request q) t kind = absurd kind
-  some_packet c is (Message.Oack options) t kind = absurd kind
-  some_packet c is (Message.Ack j) t kind = absurd kind
-  some_packet c is (Message.Error code text) t kind = absurd kind
+  some_packet c is _ t kind = absurd kind
 
   oack_packet : (c : Carried) → IsCarried s says_some c → (n : Message) → Spells c.datagram.payload n → IsOack n → c.pass.packet ≡ Oack
   oack_packet c is (Message.Oack options) t kind = sym (some_same Oack c.pass.packet (spelled_packet c is (Message.Oack options) t))
-  oack_packet c is (Message.Data i bytes) t kind = absurd kind
-  oack_packet c is (Message.Request q) t kind = absurd kind
-  oack_packet c is (Message.Ack j) t kind = absurd kind
-  oack_packet c is (Message.Error code text) t kind = absurd kind
+  oack_packet c is _ t kind = absurd kind
+
+  error_message : (b : Carried) → IsCarried s says_some b → (code : ℕ) (text : List ℕ) → b.pass.packet ≡ Error code text → Spells b.datagram.payload (Message.Error code text)
+  error_message b is code text packet = by is.spells.0 is.spells.1 (is.spells.2 ∙ ap Some packet) where
+    by : (n : Message) → Spells b.datagram.payload n → packet_in n ≡ Some (Error code text) → Spells b.datagram.payload (Message.Error code text)
+    by (Message.Error one words) t at = let first : one ≡ code = cc in let second : words ≡ text = cc in subst (λ x. Spells b.datagram.payload (Message.Error code x)) second (subst (λ x. Spells b.datagram.payload (Message.Error x words)) first t)
+    by _ t at = absurd (cc)
 
   -- ---- a datagram is in time
 
@@ -134,10 +116,7 @@ module _ (s : TapSides) (apart : AreApart s) (asked : RequestParts) where
     ack_message j packet = by is.spells.0 is.spells.1 (is.spells.2 ∙ ap Some packet) where
       by : (n : Message) → Spells c.datagram.payload n → packet_in n ≡ Some (Ack j) → Spells c.datagram.payload (Message.Ack j)
       by (Message.Ack i) t at = let same : i ≡ j = cc in subst (λ x. Spells c.datagram.payload (Message.Ack x)) same t
-      by (Message.Request q) t at = absurd (cc)
-      by (Message.Oack options) t at = absurd (cc)
-      by (Message.Data k bytes) t at = absurd (cc)
-      by (Message.Error code text) t at = absurd (cc)
+      by _ t at = absurd (cc)
 
     not_request : (j : ℕ) → c.pass.packet ≡ Ack j → c.pass.packet ≡ Req → ⊥
     not_request j packet req = let bad : Ack j ≡ Req = sym packet ∙ req in cc
@@ -188,9 +167,9 @@ module _ (s : TapSides) (apart : AreApart s) (asked : RequestParts) where
     -- the request has passed before the server's first ERROR
     request_before : (bs : List Carried) → AreLawful s bs → Each (IsCarried s says_some) bs → list_any pair_tests.asks bs ≡ true → list_any pair_tests.asks (before_error pair_tests Server bs) ≡ true
     request_before [] lawful each some = some
-    request_before (b ∷ bs) lawful each some = elim (is_or_not (list_any (pair_tests.ends Server) (b ∷ bs))) [
+    request_before (b ∷ bs) lawful each some = elim (cases_Bool (list_any (pair_tests.ends Server) (b ∷ bs))) [
       | inr none ↦ subst (λ l. list_any pair_tests.asks l ≡ true) (sym (before_all pair_tests Server (b ∷ bs) none)) some
-      | inl ended ↦ subst (λ l. list_any pair_tests.asks l ≡ true) (sym (before_less pair_tests Server b bs ended)) (request_before bs lawful.1 each.1 (elim (is_or_not (pair_tests.ends Server b)) [
+      | inl ended ↦ subst (λ l. list_any pair_tests.asks l ≡ true) (sym (before_less pair_tests Server b bs ended)) (request_before bs lawful.1 each.1 (elim (cases_Bool (pair_tests.ends Server b)) [
         | inl now ↦ server_after s apart b bs lawful.0 (server_is b.pass.from b.pass.packet now) each.1
         | inr other ↦ asks_later bs lawful.1 each.1 (sym (any_skip (pair_tests.ends Server) b bs other) ∙ ended)
       ]))
@@ -202,7 +181,7 @@ module _ (s : TapSides) (apart : AreApart s) (asked : RequestParts) where
 
         asks_later : (bs : List Carried) → AreLawful s bs → Each (IsCarried s says_some) bs → list_any (pair_tests.ends Server) bs ≡ true → list_any pair_tests.asks bs ≡ true
         asks_later [] lawful each ended = absurd (true≢false (sym ended))
-        asks_later (x ∷ bs) lawful each ended = elim (is_or_not (pair_tests.ends Server x)) [
+        asks_later (x ∷ bs) lawful each ended = elim (cases_Bool (pair_tests.ends Server x)) [
           | inl now ↦ any_more_asks x bs (server_after s apart x bs lawful.0 (server_is x.pass.from x.pass.packet now) each.1)
           | inr other ↦ any_more_asks x bs (asks_later bs lawful.1 each.1 (sym (any_skip (pair_tests.ends Server) x bs other) ∙ ended))
         ]
@@ -239,10 +218,7 @@ module _ (s : TapSides) (apart : AreApart s) (asked : RequestParts) where
     no_oack never at = never (there cs each at) where
       is_oack : (n : Message) → packet_in n ≡ Some Oack → IsOack n
       is_oack (Message.Oack options) at = tt
-      is_oack (Message.Request q) at = absurd (cc)
-      is_oack (Message.Data k bytes) at = absurd (cc)
-      is_oack (Message.Ack j) at = absurd (cc)
-      is_oack (Message.Error code text) at = absurd (cc)
+      is_oack _ at = absurd (cc)
 
       there : (bs : List Carried) → Each (IsCarried s says_some) bs → Has (map pass_in bs) Server Oack → HasKind IsOack (map datagram_in bs)
       there [] each at = absurd (contains_none _ at)
@@ -273,7 +249,7 @@ module _ (s : TapSides) (apart : AreApart s) (asked : RequestParts) where
     zero_write j packet none put = elim (same_options m.agreed no_options) [
       | inl plain ↦
           let found = some_of pair_tests.asks (before_error pair_tests Server cs) (request_before cs all each (server_after s apart c cs lawful from each)) in
-          let request = asks_pass found.0.pass found.2 in
+          let request = request_is found.0.pass found.2 in
           inl (plain, hears Server Req from (before_has Server cs found.0 (other_end c.pass.from) Req found.1 (ap (λ (x : Pass). x.from) request ∙ ap other_end (sym from)) (ap (λ (x : Pass). x.packet) request)))
       | inr some ↦ elim (decide_kind IsOack decide_oack s cs each) [
         | inr never ↦ absurd (needs_block j packet none put some never)
@@ -291,26 +267,7 @@ module _ (s : TapSides) (apart : AreApart s) (asked : RequestParts) where
         from : c.pass.from ≡ Server
         from = from_receiver j packet Put put
 
-        asks_pass : (x : Pass) → pass_tests.asks x ≡ true → x ≡ record { from = Client; packet = Req }
-        asks_pass x is = by x.from x.packet refl refl is where
-          by : (f : End) (p : MachinePacket) → x.from ≡ f → x.packet ≡ p → (same_end Client f && is_request p) ≡ true → x ≡ record { from = Client; packet = Req }
-          by Client Req one other is = λ i. record { from = one i; packet = other i }
-          by Client Oack one other is = absurd (true≢false (sym is))
-          by Client (Data k) one other is = absurd (true≢false (sym is))
-          by Client (Ack j) one other is = absurd (true≢false (sym is))
-          by Client (Error code text) one other is = absurd (true≢false (sym is))
-          by Server p one other is = absurd (true≢false (sym is))
-
     -- ---- ERRORs
-
-    error_message : (b : Carried) → IsCarried s says_some b → (code : ℕ) (text : List ℕ) → b.pass.packet ≡ Error code text → Spells b.datagram.payload (Message.Error code text)
-    error_message b is code text packet = by is.spells.0 is.spells.1 (is.spells.2 ∙ ap Some packet) where
-      by : (n : Message) → Spells b.datagram.payload n → packet_in n ≡ Some (Error code text) → Spells b.datagram.payload (Message.Error code text)
-      by (Message.Error one words) t at = let first : one ≡ code = cc in let second : words ≡ text = cc in subst (λ x. Spells b.datagram.payload (Message.Error code x)) second (subst (λ x. Spells b.datagram.payload (Message.Error x words)) first t)
-      by (Message.Request q) t at = absurd (cc)
-      by (Message.Oack options) t at = absurd (cc)
-      by (Message.Data k bytes) t at = absurd (cc)
-      by (Message.Ack j) t at = absurd (cc)
 
     spells_error : (code : ℕ) (text : List ℕ) → Has (map pass_in cs) c.pass.from (Error code text) → Any (λ (x : TapDatagram). (x.source ≡ side_of s c.pass.from) × Spells x.payload (Message.Error code text)) (map datagram_in cs)
     spells_error code text at = there cs each at where
@@ -329,17 +286,7 @@ module _ (s : TapSides) (apart : AreApart s) (asked : RequestParts) where
           let server : c.pass.from ≡ Server = sym (other_other c.pass.from) ∙ ap other_end client in
           let some = sym (asks_same pass_in pair_tests pass_tests cs (passes_each cs)) in
           let found = some_of pass_tests.asks (map pass_in cs) (asks_same pass_in pair_tests pass_tests cs (passes_each cs) ∙ server_after s apart c cs lawful server each) in
-          subst (λ e. HasSent (as_at e (map pass_in cs)) Req) (sym client) (at_sent Client Req (map pass_in cs) (subst (Contains (map pass_in cs)) (asks_is found.0 found.2) found.1))
-        where
-          asks_is : (x : Pass) → pass_tests.asks x ≡ true → x ≡ record { from = Client; packet = Req }
-          asks_is x is = by x.from x.packet refl refl is where
-            by : (f : End) (p : MachinePacket) → x.from ≡ f → x.packet ≡ p → (same_end Client f && is_request p) ≡ true → x ≡ record { from = Client; packet = Req }
-            by Client Req one other is = λ i. record { from = one i; packet = other i }
-            by Client Oack one other is = absurd (true≢false (sym is))
-            by Client (Data k) one other is = absurd (true≢false (sym is))
-            by Client (Ack j) one other is = absurd (true≢false (sym is))
-            by Client (Error code text) one other is = absurd (true≢false (sym is))
-            by Server p one other is = absurd (true≢false (sym is))
+          subst (λ e. HasSent (as_at e (map pass_in cs)) Req) (sym client) (at_sent Client Req (map pass_in cs) (subst (Contains (map pass_in cs)) (request_is found.0 found.2) found.1))
 
       same : (one : ℕ) (words : List ℕ) → HasTaken (as_at (other_end c.pass.from) (map pass_in cs)) (Error one words) → (one ≡ code) × (words ≡ text)
       same one words at = equal (spells_error one words (subst (λ e. Has (map pass_in cs) e (Error one words)) (other_other c.pass.from) (took_passed (other_end c.pass.from) (Error one words) (map pass_in cs) at))) where
@@ -357,7 +304,7 @@ module _ (s : TapSides) (apart : AreApart s) (asked : RequestParts) where
         })
 
         equal : Any (λ (x : TapDatagram). (x.source ≡ side_of s c.pass.from) × Spells x.payload (Message.Error one words)) (map datagram_in cs) → (one ≡ code) × (words ≡ text)
-        equal before = elim (same_number one code) [
+        equal before = elim (cases_eq one code) [
           | inr differs ↦ absurd (other (λ both. differs (sym both.0)) before)
           | inl number ↦ elim (same_text words text) [
             | inr differs ↦ absurd (other (λ both. differs (sym both.1)) before)
@@ -391,7 +338,7 @@ module _ (s : TapSides) (apart : AreApart s) (asked : RequestParts) where
     by false false = refl
 
   own_rest : (m : Meaning) (wire : List ℕ) (r : End) (c : Carried) (cs : List Carried) → IsOneSided m wire r (as_at r (map pass_in (kept_of pair_tests r (c ∷ cs)))) → IsOneSided m wire r (as_at r (map pass_in (kept_of pair_tests r cs)))
-  own_rest m wire r c cs own = elim (is_or_not (is_left_out pair_tests r c (kept_of pair_tests r cs))) [
+  own_rest m wire r c cs own = elim (cases_Bool (is_left_out pair_tests r c (kept_of pair_tests r cs))) [
     | inl out ↦ subst (λ l. IsOneSided m wire r (as_at r (map pass_in l))) (kept_out pair_tests r c cs out) own
     | inr stays ↦ lawful_tail m wire r (deed_at r c.pass.from c.pass.packet) (as_at r (map pass_in (kept_of pair_tests r cs))) (subst (λ l. IsOneSided m wire r (as_at r (map pass_in l))) (kept_in pair_tests r c cs stays) own)
   ]
@@ -425,15 +372,9 @@ module _ (s : TapSides) (apart : AreApart s) (asked : RequestParts) where
   pub says_each : (m : Meaning) (wire : List ℕ) (r : End) (ks : List Carried) → AreRouted (header_of_end s r) m wire (placed s r ks) → Each (λ c. says_of m wire c.pass.packet c.datagram.payload) ks
   says_each m wire r [] routed = tt
   says_each m wire r (k ∷ ks) routed = (
-    subst (λ l. says_of m wire k.pass.packet l) (recorded_payload s r k.datagram) (subst (λ p. says_of m wire p (recorded_at s r k.datagram).payload) (deed_is r k.pass.from k.pass.packet) routed.1.1),
+    subst (λ l. says_of m wire k.pass.packet l) (recorded_payload s r k.datagram) (subst (λ p. says_of m wire p (recorded_at s r k.datagram).payload) (deed_packet r k.pass.from k.pass.packet) routed.1.1),
     says_each m wire r ks routed.2,
   )
-    where
-      deed_is : (r f : End) (p : MachinePacket) → packet_of (deed_at r f p) ≡ p
-      deed_is Client Client p = refl
-      deed_is Client Server p = refl
-      deed_is Server Client p = refl
-      deed_is Server Server p = refl
 
   each_of : {X : Type 0} (P : X → Type 0) (xs : List X) → ((x : X) → Contains xs x → P x) → Each P xs
   each_of P [] all = tt
@@ -453,39 +394,21 @@ module _ (s : TapSides) (apart : AreApart s) (asked : RequestParts) where
 
     by : (c : Carried) → Contains cs c → (p : MachinePacket) → c.pass.packet ≡ p → says_of m wire c.pass.packet c.datagram.payload
     by c at Req packet = subst (λ p. says_of m wire p c.datagram.payload) (sym packet) (subst (λ q. Spells c.datagram.payload (Message.Request q)) same ((each_at (Right s apart asked) cs c right at).request packet))
-    by c at (Error code text) packet = subst (λ p. says_of m wire p c.datagram.payload) (sym packet) (error_spelled c (each_at (IsCarried s says_some) cs c each at) code text packet) where
-      error_spelled : (b : Carried) → IsCarried s says_some b → (code : ℕ) (text : List ℕ) → b.pass.packet ≡ Error code text → Spells b.datagram.payload (Message.Error code text)
-      error_spelled b is code text packet = turn is.spells.0 is.spells.1 (is.spells.2 ∙ ap Some packet) where
-        turn : (n : Message) → Spells b.datagram.payload n → packet_in n ≡ Some (Error code text) → Spells b.datagram.payload (Message.Error code text)
-        turn (Message.Error one words) t at = let first : one ≡ code = cc in let second : words ≡ text = cc in subst (λ x. Spells b.datagram.payload (Message.Error code x)) second (subst (λ x. Spells b.datagram.payload (Message.Error x words)) first t)
-        turn (Message.Request q) t at = absurd (cc)
-        turn (Message.Oack options) t at = absurd (cc)
-        turn (Message.Data k bytes) t at = absurd (cc)
-        turn (Message.Ack j) t at = absurd (cc)
-    by c at Oack packet = in_kept c at (ap is_request packet) (ap is_error packet)
-    by c at (Data k) packet = in_kept c at (ap is_request packet) (ap is_error packet)
-    by c at (Ack j) packet = in_kept c at (ap is_request packet) (ap is_error packet)
+    by c at (Error code text) packet = subst (λ p. says_of m wire p c.datagram.payload) (sym packet) (error_message c (each_at (IsCarried s says_some) cs c each at) code text packet)
+    by c at _ packet = in_kept c at (ap is_request packet) (ap is_error packet)
 
   -- the meaning's request is the one that was asked
   pub request_one : (m : Meaning) (wire : List ℕ) (r : End) (cs : List Carried) → Each (Right s apart asked) cs → list_any pair_tests.asks cs ≡ true
       → Each (λ c. says_of m wire c.pass.packet c.datagram.payload) (kept_of pair_tests r cs) → asked ≡ request_of m
   request_one m wire r cs right some kept =
       let found = some_of pair_tests.asks (kept_of pair_tests r cs) (kept_asks pair_tests r cs quiet some) in
-      let packet = request_packet found.0.pass.from found.0.pass.packet found.2 in
+      let packet = ap (λ (x : Pass). x.packet) (request_is found.0.pass found.2) in
       let asks = (each_at (Right s apart asked) cs found.0 right (kept_there pair_tests r cs found.0 found.1)).request packet in
       let says = subst (λ p. says_of m wire p found.0.datagram.payload) packet (each_at (λ c. says_of m wire c.pass.packet c.datagram.payload) (kept_of pair_tests r cs) found.0 kept found.1) in
       request_same asked (request_of m) (spelled_once found.0.datagram.payload (Message.Request asked) (Message.Request (request_of m)) asks says)
     where
-      request_packet : (f : End) (p : MachinePacket) → (same_end Client f && is_request p) ≡ true → p ≡ Req
-      request_packet Server p is = absurd (true≢false (sym is))
-      request_packet Client Req is = refl
-      request_packet Client Oack is = absurd (true≢false (sym is))
-      request_packet Client (Data k) is = absurd (true≢false (sym is))
-      request_packet Client (Ack j) is = absurd (true≢false (sym is))
-      request_packet Client (Error code text) is = absurd (true≢false (sym is))
-
       quiet : (x : Carried) → pair_tests.asks x ≡ true → (e : End) → pair_tests.ends e x ≡ false
-      quiet x is e = ap (λ p. same_end e x.pass.from && is_error p) (request_packet x.pass.from x.pass.packet is) ∙ none (same_end e x.pass.from) where
+      quiet x is e = ap (λ p. same_end e x.pass.from && is_error p) (ap (λ (y : Pass). y.packet) (request_is x.pass is)) ∙ none (same_end e x.pass.from) where
         none : (b : Bool) → (b && false) ≡ false
         none true = refl
         none false = refl

@@ -1,7 +1,7 @@
 -- What a run shows between its ends breaks no rule there.
 use Rattle.std.proofs.Common.{◌≡◌, ℕ, zero, suc, true, false, List, [], ◌∷◌, Any, Contains, inl, inr, refl, sym, subst, ap, ◌∙◌, arith, not, map}
 use Rattle.std.specs.List.{list_any}
-use Rattle.std.proofs.lemmas.Bool.{true≢false}
+use Rattle.std.proofs.lemmas.Bool.{true≢false, cases_Bool}
 use Rattle.tftp_packet.specs.{Message, RequestParts, Spells, Side, Get, Put, End, Client, Server, no_options}
 use Rattle.tftp_packet.proofs.NoFault.{no_fault}
 use Rattle.tftp_model.specs.{Meaning, request_of, MachinePacket, Req, Oack, Data, Ack, Error, HasSent, message_of, is_error, heard, LetsStartOn, LetsAckZeroOn, IsOneSided}
@@ -19,9 +19,9 @@ use Rattle.tftp_tap.specs.TapDress.{Stray, StrayAnswer}
 use Rattle.tftp_tap.proofs.Replays.{tap_view_is}
 use Rattle.tftp_tap.proofs.Passed.{sent_passed, at_took}
 use Rattle.tftp_tap.proofs.OneTap.{Has, begun}
-use Rattle.tftp_tap.proofs.Ordered.{ack_asked}
+use Rattle.tftp_tap.proofs.Ordered.{ack_asked, client_reads}
 use Rattle.tftp_tap.proofs.OneTapDivision.{parts_some, some_of}
-use Rattle.tftp_tap.proofs.KeptOf.{is_or_not, any_of, before_there, kept_out, kept_in}
+use Rattle.tftp_tap.proofs.KeptOf.{any_of, before_there, kept_out, kept_in}
 use Rattle.tftp_tap.proofs.TapKept.{sent_before, kept_may, kept_one_sided}
 use Rattle.tftp_tap.proofs.TapBack.{in_time}
 use Rattle.tftp_tap.proofs.TapRouted.{Carried, mains, pass_route, route_is, transfer_is}
@@ -44,10 +44,6 @@ module _ (m : Meaning) (wire : List ℕ) (l : List Pass) (each : MayPassEach m w
   block_asked : (k : ℕ) (side : Side) → m.side ≡ side → sender_of side ≡ Client → Has l Client (Data k) → Has l Client Req
   block_asked k side is client at = (begun m wire l each k (subst (λ e. Has l e (Data k)) (sym client ∙ sym (ap sender_of is)) at)).0
 
-  server_reads : (side : Side) → Client ≡ receiver_of side → side ≡ Get
-  server_reads Get is = refl
-  server_reads Put is = absurd (cc)
-
   client_sends : (side : Side) → Client ≡ sender_of side → side ≡ Put
   client_sends Put is = refl
   client_sends Get is = absurd (cc)
@@ -66,7 +62,7 @@ module _ (m : Meaning) (wire : List ℕ) (l : List Pass) (each : MayPassEach m w
   server_asked Oack may = (λ is. cc, sent_passed Client Req l may.asked)
   server_asked (Error code text) may = (λ is. cc, sent_passed Client Req l (may.asked refl))
   server_asked (Data k) may =
-      let get = server_reads m.side may.receiver in (
+      let get = client_reads m.side may.receiver in (
         λ is. cc,
         elim (subst (λ side. LetsStartOn side m (heard (as_at Client l))) get may.started) [
           | inl plain ↦ heard_has Client Req plain.1
@@ -110,7 +106,7 @@ module _ (s : TapSides) (apart : AreApart s) (m : Meaning) (wire : List ℕ) (fi
     answered is = sym (answers_same pass_in pair_tests pass_tests ks (passes_each ks)) ∙ is
 
     error_known : (r : End) (code : ℕ) (text : List ℕ) → is_left_out pair_tests r (record { datagram = c.datagram; pass = record { from = Client; packet = Error code text } }) ks ≡ false → list_any pair_tests.answers ks ≡ true
-    error_known r code text stays = elim (is_or_not (list_any pair_tests.answers ks)) [ inl is ↦ is | inr none ↦ absurd (true≢false (sym (out r none) ∙ stays)) ] where
+    error_known r code text stays = elim (cases_Bool (list_any pair_tests.answers ks)) [ inl is ↦ is | inr none ↦ absurd (true≢false (sym (out r none) ∙ stays)) ] where
       out : (r : End) → list_any pair_tests.answers ks ≡ false → is_left_out pair_tests r (record { datagram = c.datagram; pass = record { from = Client; packet = Error code text } }) ks ≡ true
       out Client none = refl
       out Server none = rw (none) refl
@@ -129,7 +125,7 @@ module _ (s : TapSides) (apart : AreApart s) (m : Meaning) (wire : List ℕ) (fi
 
   pub kept_known : (r : End) (cs : List Carried) → MayPassEach m wire (map pass_in cs) → AreKnown (kept_of pair_tests r cs)
   kept_known r [] may = tt
-  kept_known r (c ∷ cs) may = elim (is_or_not (is_left_out pair_tests r c (kept_of pair_tests r cs))) [
+  kept_known r (c ∷ cs) may = elim (cases_Bool (is_left_out pair_tests r c (kept_of pair_tests r cs))) [
     | inl out ↦ subst AreKnown (sym (kept_out pair_tests r c cs out)) (kept_known r cs may.1)
     | inr stays ↦
         let all : MayPassEach m wire (map pass_in (c ∷ kept_of pair_tests r cs))
@@ -174,10 +170,7 @@ module _ (s : TapSides) (apart : AreApart s) (m : Meaning) (wire : List ℕ) (fi
     no_request none at = by c.pass.from c.pass.packet allowed at where
       by : (f : End) (p : MachinePacket) → MayPass m wire (map pass_in cs) f p → pass_route f p ≡ TapRoute.FromServer → ⊥
       by Client Req allowed at = cc
-      by Client Oack allowed at = cc
-      by Client (Data k) allowed at = cc
-      by Client (Ack j) allowed at = cc
-      by Client (Error code text) allowed at = cc
+      by Client _ allowed at = cc
       by Server p allowed at =
           let asked = any_of pass_tests.asks (map pass_in cs) (record { from = Client; packet = Req }) (server_asked m wire (map pass_in cs) may p allowed).1 refl in
           true≢false (sym asked ∙ asks_same pass_in pair_tests pass_tests cs (passes_each cs) ∙ sym (asks_same datagram_in pair_tests (tap_tests s) cs agree) ∙ none)
@@ -352,22 +345,15 @@ module _ (s : TapSides) (apart : AreApart s) (m : Meaning) (wire : List ℕ) (fi
 
     passed_route : (e : End) (p : MachinePacket) (d : TapDatagram) → (n : Message) → Spells d.payload n → IsTapRead (pass_route e p) d
     passed_route Client Req d n t = (n, t)
-    passed_route Client Oack d n t = (n, t)
-    passed_route Client (Data k) d n t = (n, t)
-    passed_route Client (Ack j) d n t = (n, t)
-    passed_route Client (Error code text) d n t = (n, t)
-    passed_route Server p d n t = (n, t)
+    passed_route _ _ d n t = (n, t)
 
     none_broken : (route : TapRoute) (broken : Rule) → (route ≡ TapRoute.ForeignPort → ⊥) → (route ≡ TapRoute.WrongPort → ⊥) → (route ≡ TapRoute.NoStrayAnswer → ⊥) → (route ≡ TapRoute.StrayAnswer → ⊥) → SidesBreak route c.datagram broken → ⊥
     none_broken route broken one two three four b = sides_none c.datagram route one two three four broken b
 
     sides_break : (e : End) (p : MachinePacket) (broken : Rule) → SidesBreak (pass_route e p) c.datagram broken → ⊥
     sides_break Client Req broken b = none_broken TapRoute.Request broken (λ is. cc) (λ is. cc) (λ is. cc) (λ is. cc) b
-    sides_break Client Oack broken b = none_broken TapRoute.FromClient broken (λ is. cc) (λ is. cc) (λ is. cc) (λ is. cc) b
-    sides_break Client (Data k) broken b = none_broken TapRoute.FromClient broken (λ is. cc) (λ is. cc) (λ is. cc) (λ is. cc) b
-    sides_break Client (Ack j) broken b = none_broken TapRoute.FromClient broken (λ is. cc) (λ is. cc) (λ is. cc) (λ is. cc) b
-    sides_break Client (Error code text) broken b = none_broken TapRoute.FromClient broken (λ is. cc) (λ is. cc) (λ is. cc) (λ is. cc) b
     sides_break Server p broken b = none_broken TapRoute.FromServer broken (λ is. cc) (λ is. cc) (λ is. cc) (λ is. cc) b
+    sides_break Client _ broken b = none_broken TapRoute.FromClient broken (λ is. cc) (λ is. cc) (λ is. cc) (λ is. cc) b
 
     -- a main datagram passes
     pub main_passes : (earlier : List TapDatagram) → transfer_between s earlier ≡ map datagram_in cs → tap_route s earlier c.datagram ≡ pass_route c.pass.from c.pass.packet → TapPasses s earlier c.datagram

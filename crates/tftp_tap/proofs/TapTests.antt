@@ -5,7 +5,7 @@ use Rattle.tftp_hosts.specs.{same_peer}
 use Rattle.tftp_model.specs.{MachinePacket, Req, Oack, Data, Ack, Error, is_error}
 use Rattle.tftp_law.specs.{packet_in, says_some}
 use Rattle.tftp_law.proofs.Division.RouteTests.{request_begins, same_is, other_peer}
-use Rattle.tftp_tap.specs.{Pass, TapDatagram, TapSides, side_of, AreApart, same_end, is_request, pass_tests, asks_in, ends_in, tap_tests, TapDivision, CarriesPass}
+use Rattle.tftp_tap.specs.{TapDatagram, TapSides, side_of, AreApart, same_end, is_request, asks_in, ends_in}
 
 abbrev pub asks_message : Message → Bool
 asks_message (Message.Request asked) = true
@@ -66,13 +66,3 @@ module _ (s : TapSides) (apart : AreApart s) where
 
   pub source_is : (d : TapDatagram) (e f : End) → d.source ≡ side_of s e → same_peer d.source (side_of s f) ≡ same_end f e
   source_is d e f is = ap (λ x. same_peer x (side_of s f)) is ∙ side_tests e f
-
-  -- the tests of a datagram are those of its packet
-  pub asks_pass : (earlier : TapDivision) (d : TapDatagram) (x : Pass) → CarriesPass s says_some earlier d x → (tap_tests s).asks d ≡ pass_tests.asks x
-  asks_pass earlier d x p = rw (source_is d x.from Client p.source, asks_some d.payload x.packet p.spells) refl
-
-  pub answers_pass : (earlier : TapDivision) (d : TapDatagram) (x : Pass) → CarriesPass s says_some earlier d x → (tap_tests s).answers d ≡ pass_tests.answers x
-  answers_pass earlier d x p = source_is d x.from Server p.source
-
-  pub ends_pass : (earlier : TapDivision) (d : TapDatagram) (x : Pass) → CarriesPass s says_some earlier d x → (e : End) → (tap_tests s).ends e d ≡ pass_tests.ends e x
-  ends_pass earlier d x p e = rw (source_is d x.from e p.source, ends_some d.payload x.packet p.spells) refl

@@ -2,12 +2,11 @@
 use Rattle.std.proofs.Common.{◌≡◌, ℕ, ◌≤◌, ◌<◌, true, [], ◌∷◌, Any, Contains, codes, inl, inr, refl, sym, subst, ap, arith}
 use Rattle.std.proofs.lemmas.Bool.{true≢false}
 use Rattle.std.specs.FinMap as map
-use Rattle.std.specs.Cmp.Lexicographic.{nat_list_cmp_total}
-use Rattle.tftp_packet.specs.{Num, Message, Spells, IsPair, Client, Server, End}
-use Rattle.tftp_model.specs.{number_or, request_of, blksize_of, windowsize_of, block, block_count, Sent, Took, Req, Oack, Data, Ack, HasSent, IsRun, IsView, two_bytes, two_bytes_view, ten_bytes, ten_bytes_view, eight_by_four, window_repeated, window_repeated_steps}
+use Rattle.tftp_packet.specs.{Message, Spells, IsPair, Client, Server, End}
+use Rattle.tftp_model.specs.{number_or, request_of, block, block_count, Sent, Took, Req, Oack, Data, Ack, HasSent, IsRun, IsView, two_bytes, two_bytes_view, ten_bytes, ten_bytes_view, eight_by_four, window_repeated, window_repeated_steps}
 use Rattle.tftp_model.proofs.Members.{contains_first, contains_cases, contains_none}
 use Rattle.tftp_model.proofs.OneSided.{view_one_sided}
-use Rattle.tftp_model.proofs.Worked.{two_bytes_is_view, ten_bytes_is_view, eight_of_both, four_of_both, has_some}
+use Rattle.tftp_model.proofs.Worked.{two_bytes_is_view, ten_bytes_is_view, eight_of_both, four_of_both, has_some, one_block, one_at_a_time}
 use Rattle.tftp_model.proofs.Computed.{IsPlan, run_is}
 use Rattle.tftp_law.specs.{says_of, BeginsAsRequest}
 use Rattle.tftp_law.proofs.Whole.NothingAgreed.{two_bytes_fit}
@@ -36,23 +35,12 @@ late_tap =
     ∷ record { from = Client; packet = Req }
     ∷ [])
     (2, omega arith, refl)
-    (earlier_passed ten_bytes ten_bytes.file (record { from = Client; packet = Ack 2 })
-    (record { from = Server; packet = Data 2 }
-    ∷ record { from = Client; packet = Ack 1 }
-    ∷ record { from = Server; packet = Data 1 }
-    ∷ record { from = Client; packet = Ack 0 }
-    ∷ record { from = Server; packet = Oack }
-    ∷ record { from = Client; packet = Req }
-    ∷ [])
-    all)
-
-one_window : windowsize_of ten_bytes ≡ 1
-one_window = ap (number_or 1) (map.get-from_entries nat_list_cmp_total ((codes "blksize", Num 8) ∷ []) (codes "windowsize"))
+    (earlier_passed ten_bytes ten_bytes.file (record { from = Client; packet = Ack 2 }) _ all)
 
 pub late_server : IsView ten_bytes ten_bytes.file Server (as_at Server block_passes_late) → ⊥
 late_server view =
     let own = view_one_sided ten_bytes ten_bytes.file Server (as_at Server block_passes_late) view in
-    let high : 2 ≤ 1 = own.0.in_step one_window 2 (contains_first (Sent (Data 2)) (Took (Ack 1) ∷ Sent (Data 1) ∷ Took (Ack 0) ∷ Sent Oack ∷ Took Req ∷ [])) in
+    let high : 2 ≤ 1 = own.0.in_step one_at_a_time 2 (contains_first (Sent (Data 2)) (Took (Ack 1) ∷ Sent (Data 1) ∷ Took (Ack 0) ∷ Sent Oack ∷ Took Req ∷ [])) in
     absurd (omega (arith, high))
 
 pub both_tap : IsTapView ten_bytes ten_bytes.file both_pass_late
@@ -66,7 +54,7 @@ both_client view =
 pub both_server : IsView ten_bytes ten_bytes.file Server (as_at Server both_pass_late) → ⊥
 both_server view =
     let own = view_one_sided ten_bytes ten_bytes.file Server (as_at Server both_pass_late) view in
-    let high : 2 ≤ 1 = own.1.0.in_step one_window 2 (contains_first (Sent (Data 2)) (Took (Ack 1) ∷ Sent (Data 1) ∷ Took (Ack 0) ∷ Sent Oack ∷ Took Req ∷ [])) in
+    let high : 2 ≤ 1 = own.1.0.in_step one_at_a_time 2 (contains_first (Sent (Data 2)) (Took (Ack 1) ∷ Sent (Data 1) ∷ Took (Ack 0) ∷ Sent Oack ∷ Took Req ∷ [])) in
     absurd (omega (arith, high))
 
 window_is_plan : IsPlan window_repeated window_repeated.file (record { agreed = true; windowsize = 4; blocks = 2 })
@@ -194,9 +182,6 @@ parts = (
     ),
   ),
 )
-
-one_block : block_count (blksize_of two_bytes) two_bytes.file ≡ 1
-one_block = ap (λ b. block_count b two_bytes.file) (default_blksize two_bytes refl)
 
 seen : IsSeenBetween worked_sides two_bytes two_bytes.file read_between
 seen = record {
