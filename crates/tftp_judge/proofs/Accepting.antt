@@ -25,15 +25,11 @@ transfer_same h earlier d is = ap (λ b. if b then d ∷ transfer_of h earlier e
 -- a route that may pass breaks no rule of ports, but what answers a stray may
 passing_by : (r : MayPass) → (among_all r ≡ Route.ForeignPort → ⊥) × (among_all r ≡ Route.WrongPort → ⊥) × (among_all r ≡ Route.NoStrayAnswer → ⊥)
 passing_by may.Request = (λ x. cc, λ x. cc, λ x. cc)
-passing_by may.Peer = (λ x. cc, λ x. cc, λ x. cc)
-passing_by may.Stray = (λ x. cc, λ x. cc, λ x. cc)
-passing_by may.StrayAnswer = (λ x. cc, λ x. cc, λ x. cc)
+passing_by _ = (λ x. cc, λ x. cc, λ x. cc)
 
 pub peer_is : (r : MayPass) → among_all r ≡ Route.Peer → r ≡ may.Peer
-peer_is may.Request e = absurd (cc)
 peer_is may.Peer e = refl
-peer_is may.Stray e = absurd (cc)
-peer_is may.StrayAnswer e = absurd (cc)
+peer_is _ e = absurd (cc)
 
 -- ---- the first rules
 
@@ -158,11 +154,7 @@ message_found h earlier d dir m t new way on spells kept same r found =
 main_route : (r : Route) → is_of_transfer r ≡ true → (r ≡ Route.Peer → ⊥) → r ≡ Route.Request
 main_route Route.Request on other = refl
 main_route Route.Peer on other = absurd (other refl)
-main_route Route.Stray on other = absurd (false≢true on)
-main_route Route.StrayAnswer on other = absurd (false≢true on)
-main_route Route.ForeignPort on other = absurd (false≢true on)
-main_route Route.WrongPort on other = absurd (false≢true on)
-main_route Route.NoStrayAnswer on other = absurd (false≢true on)
+main_route _ on other = absurd (false≢true on)
 
 module _ (h : Header) (earlier : List Datagram) (d : Datagram) (m : Message) (none : earlier ≡ []) (on : is_of_transfer (route_of h earlier d) ≡ true) (other : route_of h earlier d ≡ Route.Peer → ⊥)
     (spells : Spells d.payload m) where

@@ -13,7 +13,7 @@ use Rattle.tftp_model.specs.Roles.{sender_of, receiver_of}
 use Rattle.tftp_blocks.specs.{Held, IsHeldFront, IsJoin}
 use Rattle.tftp_law.specs.{CanBeWritten, ReadsAs, written_wire, IsWritable, OneEnded, IsAgreed, IsEnded, IsWhole, Meant, meaning_from, Answer, AreTerms, FirstAnswer, FirstAsked, NotAnswered, plain_terms, terms_after}
 use Rattle.tftp_law.proofs.Written.EachOf.{all_reverse}
-use Rattle.tftp_law.proofs.FirstBroken.FirstAnswered.{known_by, terms_one}
+use Rattle.tftp_law.proofs.FirstBroken.FirstAnswered.{known_by, terms_one, first_one}
 use Rattle.tftp_law.proofs.Whole.OneMeaning.{one_meaning}
 use Rattle.tftp_law.proofs.Soundness.Settled.{settled, last_one}
 use Rattle.tftp_law.proofs.Whole.TwoEnds.{whole}
@@ -23,12 +23,9 @@ use Rattle.tftp_judge.specs.{IsUnfinished, HasBegun, IsExchange, Transfer, IsTra
 use Rattle.tftp_judge.specs.Kept.{Exchange}
 use Rattle.tftp_judge.specs.declared.refusal.Refusal.TheVariants.{Memory}
 use Rattle.tftp_judge.proofs.Ended.{end_is, unfinished_by}
-use Rattle.tftp_judge.proofs.FirstAnswers.{first_once, terms_once}
+use Rattle.tftp_judge.proofs.FirstAnswers.{terms_once}
 use Rattle.tftp_judge.proofs.WhoAcknowledges.{ack_in_to_sender, ack_out_of_receiver}
-
-named_is : (h : Header) (asked : RequestParts) (answer : Answer) → ((terms_after h asked answer).named ≡ h.named) × ((terms_after h asked answer).side ≡ asked.side)
-named_is h asked (Answer.Agrees options) = (refl, refl)
-named_is h asked Answer.Begins = (refl, refl)
+use Rattle.tftp_judge.proofs.Replied.{terms_named, terms_side}
 
 -- ---- the front of what is held
 
@@ -74,7 +71,7 @@ module _ (h : Header) (earlier : List Datagram) (lawful : OneEnded h earlier) (a
 
   done_by : (end : NamedEnd) → IsEndAfter end through → terms_of end ≡ terms_after h asked answer → IsEndDone end through → (last : ℕ) × IsWhole (terms_of end) through last
   done_by (Sends s) after is (last, known, told) =
-      let sends : s.terms.named ≡ sender_of s.terms.side = ap (λ (t : Terms). t.named) is ∙ (named_is h asked answer).0 ∙ ack_in_to_sender h earlier asked last lawful first told ∙ ap sender_of (sym (ap (λ (t : Terms). t.side) is ∙ (named_is h asked answer).1)) in (
+      let sends : s.terms.named ≡ sender_of s.terms.side = ap (λ (t : Terms). t.named) is ∙ terms_named h asked answer ∙ ack_in_to_sender h earlier asked last lawful first told ∙ ap sender_of (sym (ap (λ (t : Terms). t.side) is ∙ terms_side h asked answer)) in (
         last,
         record {
           known = known;
@@ -84,7 +81,7 @@ module _ (h : Header) (earlier : List Datagram) (lawful : OneEnded h earlier) (a
         },
       )
   done_by (Receives r) after is (last, known, front, went) =
-      let receives : r.terms.named ≡ receiver_of r.terms.side = ap (λ (t : Terms). t.named) is ∙ (named_is h asked answer).0 ∙ ack_out_of_receiver h earlier asked last lawful first went ∙ ap receiver_of (sym (ap (λ (t : Terms). t.side) is ∙ (named_is h asked answer).1)) in (
+      let receives : r.terms.named ≡ receiver_of r.terms.side = ap (λ (t : Terms). t.named) is ∙ terms_named h asked answer ∙ ack_out_of_receiver h earlier asked last lawful first went ∙ ap receiver_of (sym (ap (λ (t : Terms). t.side) is ∙ terms_side h asked answer)) in (
         last,
         record {
           known = known;
@@ -116,7 +113,7 @@ begins_alone options e = cc
 
 agreed_by : (asked : RequestParts) (passed : List Datagram) (answer : Answer) (agreed : OptionMap) → FirstAnswer asked.side passed answer → IsAnsweredBy answer agreed → IsAgreed asked passed agreed
 agreed_by asked passed (Answer.Agrees options) agreed first is = inl (subst (λ o. FirstAnswer asked.side passed (Answer.Agrees o)) (sym is) first)
-agreed_by asked passed Answer.Begins agreed first is = inr (is, λ options other. begins_alone options (first_once asked.side passed Answer.Begins (Answer.Agrees options) first other))
+agreed_by asked passed Answer.Begins agreed first is = inr (is, λ options other. begins_alone options (first_one asked.side passed Answer.Begins (Answer.Agrees options) first other))
 
 -- the blocks up to the front are a wire that reads as the file
 abbrev pub HoldsFile : Held → Mode → List ℕ → Type 0

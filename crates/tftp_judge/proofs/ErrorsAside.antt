@@ -32,10 +32,8 @@ module _ (d : Datagram) (passed : List Datagram) (m : Message) (spells : Spells 
       no_request : (side : Side) → ((side_opcode side == 5) || has_stopped passed) ≡ has_stopped passed
       no_request Get = refl
       no_request Put = refl
-    by In way (Message.Oack options) is = stopped_with d m passed (way, spells) ∙ rw (is) refl
-    by In way (Message.Data k bytes) is = stopped_with d m passed (way, spells) ∙ rw (is) refl
-    by In way (Message.Ack j) is = stopped_with d m passed (way, spells) ∙ rw (is) refl
     by In way (Message.Error code text) is = absurd (other code text is)
+    by In way _ is = stopped_with d m passed (way, spells) ∙ rw (is) refl
 
 pub errors_aside : (errors : Errors) (passed : List Datagram) (d : Datagram) (m : Message) → AreErrors errors passed → Spells d.payload m
     → ((code : ℕ) (text : List ℕ) → m ≡ Message.Error code text → ⊥) → AreErrors errors (d ∷ passed)

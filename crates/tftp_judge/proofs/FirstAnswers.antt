@@ -1,51 +1,16 @@
 -- The first answer to a request is one, and so is what is known of the transfer.
-use Rattle.std.proofs.Common.{◌≡◌, ℕ, List, [], ◌∷◌, inl, inr, refl, sym, subst, ap, ◌∙◌}
-use Rattle.tftp_packet.specs.{Message, RequestParts, Side, Get, Put}
+use Rattle.std.proofs.Common.{◌≡◌, ℕ, List, [], ◌∷◌, inl, inr, sym, ap, ◌∙◌}
+use Rattle.tftp_packet.specs.{Message, RequestParts, Get}
 use Rattle.tftp_hosts.specs.{Dir, Datagram, Header}
 use Rattle.tftp_rules.specs.{Passed, Terms}
-use Rattle.tftp_law.specs.{Answer, Agrees, Begins, IsAnswer, Answers, NotAnswered, FirstAnswer, terms_after, AreTermsAfter}
-use Rattle.tftp_law.proofs.Spelled.{spelled_once}
-
-answer_once : (side : Side) (m : Message) (a b : Answer) → IsAnswer side m a → IsAnswer side m b → a ≡ b
-answer_once Get (Message.Oack o) (Agrees x) (Agrees y) p q = ap Agrees (sym p ∙ q)
-answer_once Put (Message.Oack o) (Agrees x) (Agrees y) p q = ap Agrees (sym p ∙ q)
-answer_once Get (Message.Oack o) (Agrees x) Begins p q = absurd q
-answer_once Put (Message.Oack o) (Agrees x) Begins p q = absurd q
-answer_once Get (Message.Oack o) Begins b p q = absurd p
-answer_once Put (Message.Oack o) Begins b p q = absurd p
-answer_once Get (Message.Data k bytes) Begins Begins p q = refl
-answer_once Get (Message.Data k bytes) Begins (Agrees y) p q = absurd q
-answer_once Get (Message.Data k bytes) (Agrees x) b p q = absurd p
-answer_once Put (Message.Data k bytes) a b p q = absurd p
-answer_once Put (Message.Ack j) Begins Begins p q = refl
-answer_once Put (Message.Ack j) Begins (Agrees y) p q = absurd q
-answer_once Put (Message.Ack j) (Agrees x) b p q = absurd p
-answer_once Get (Message.Ack j) a b p q = absurd p
-answer_once Get (Message.Request r) a b p q = absurd p
-answer_once Put (Message.Request r) a b p q = absurd p
-answer_once Get (Message.Error code text) a b p q = absurd p
-answer_once Put (Message.Error code text) a b p q = absurd p
-
-answers_once : (side : Side) (d : Datagram) (a b : Answer) → Answers side d a → Answers side d b → a ≡ b
-answers_once side d a b (m, s, p) (n, t, q) = answer_once side m a b p (subst (λ x. IsAnswer side x b) (spelled_once d.payload n m t s) q)
-
-pub not_both : (side : Side) (ds : List Datagram) (a : Answer) → NotAnswered side ds → FirstAnswer side ds a → ⊥
-not_both side [] a none first = first
-not_both side (d ∷ ds) a none (inl before) = not_both side ds a none.1 before
-not_both side (d ∷ ds) a none (inr now) = none.0 a now.1
-
-pub first_once : (side : Side) (ds : List Datagram) (a b : Answer) → FirstAnswer side ds a → FirstAnswer side ds b → a ≡ b
-first_once side [] a b first other = absurd first
-first_once side (d ∷ ds) a b (inl before) (inl other) = first_once side ds a b before other
-first_once side (d ∷ ds) a b (inl before) (inr now) = absurd (not_both side ds a now.0 before)
-first_once side (d ∷ ds) a b (inr now) (inl before) = absurd (not_both side ds b now.0 before)
-first_once side (d ∷ ds) a b (inr now) (inr other) = answers_once side d a b now.1 other.1
+use Rattle.tftp_law.specs.{Begins, NotAnswered, terms_after, AreTermsAfter}
+use Rattle.tftp_law.proofs.FirstBroken.FirstAnswered.{first_one, not_both}
 
 pub terms_once : (h : Header) (asked : RequestParts) (ds : List Datagram) (t u : Terms) → AreTermsAfter h asked ds t → AreTermsAfter h asked ds u → t ≡ u
 terms_once h asked ds t u (inl none) (inl other) = none.1 ∙ sym other.1
 terms_once h asked ds t u (inl none) (inr (b, first, is)) = absurd (not_both asked.side ds b none.0 first)
 terms_once h asked ds t u (inr (a, first, is)) (inl none) = absurd (not_both asked.side ds a none.0 first)
-terms_once h asked ds t u (inr (a, first, is)) (inr (b, other, are)) = is ∙ ap (terms_after h asked) (first_once asked.side ds a b first other) ∙ sym are
+terms_once h asked ds t u (inr (a, first, is)) (inr (b, other, are)) = is ∙ ap (terms_after h asked) (first_one asked.side ds a b first other) ∙ sym are
 
 -- on a read a block is an answer
 pub block_answers : (dir : Dir) (k : ℕ) (bytes : List ℕ) (ds : List Datagram) → Passed dir (Message.Data k bytes) ds → NotAnswered Get ds → ⊥

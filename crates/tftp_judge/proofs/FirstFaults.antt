@@ -1,15 +1,15 @@
 -- What is said of a text by its first fault.
 use Rattle.std.proofs.Common.{◌≡◌, ◌≢◌, ℕ, ◌<◌, ◌≤◌, ◌⊎◌, inl, inr, List, [], ◌∷◌, ◌++◌, length, All, Err, refl, sym, ap, ◌∙◌, subst, arith, append_assoc, append-nil}
-use Rattle.std.proofs.lemmas.List.{map-append}
-use Rattle.tftp_capture.specs.{Begins, BeginsWith, Numbered, most_ahead, FaultTells, MemoryTells, CaptureFault, BadHeader, BadEnd, BadService, LineTooLong, BadLine, BadPort, BadHost, BadHex, PayloadTooLong, TotalWrong, Truncated, TrailingText, TextTooLong}
+use Rattle.tftp_capture.specs.{Begins, BeginsWith, Numbered, most_ahead, FaultTells, MemoryTells, CaptureFault, Truncated}
 use Rattle.tftp_capture.specs.declared.fault.CaptureFault.TheVariants.{Text, Read, Memory}
 use Rattle.tftp_capture.proofs.Beginnings.{agree, fault_after, unfinished_has}
 use Rattle.tftp_capture.proofs.Staying.{stays}
 use Rattle.tftp_hosts.specs.{Header}
 use Rattle.tftp_law.specs.{IsLawful}
-use Rattle.tftp_law.proofs.Whole.Beginnings.{beginning_is_lawful, empty_is_lawful}
+use Rattle.tftp_law.proofs.Whole.Beginnings.{empty_is_lawful}
 use Rattle.tftp_judge.specs.{EndsText, IsFaultOf, IsLineOf, IsReadVerdict, NoFaultBefore, IsTextVerdict, SaysReadFailed, unnumbered, Capture}
 use Rattle.tftp_judge.proofs.WantOfMemory.{before_want, line_of, no_fault_before}
+use Rattle.tftp_judge.proofs.OneTextVerdict.{front_lawful}
 
 -- ---- what is said stays, whatever follows
 
@@ -32,29 +32,13 @@ FaultStays (Memory line) = Unit {0}
 pub fault_kinds : (fault : CaptureFault) → FaultStays fault ⊎ (EndsText (Err (Capture fault)) ⊎ SaysReadFailed (Err (Capture fault)))
 fault_kinds (Read line) = inr (inr tt)
 fault_kinds (Memory line) = inl tt
-fault_kinds (Text line BadHeader) = inl (λ e. cc)
-fault_kinds (Text line BadEnd) = inl (λ e. cc)
-fault_kinds (Text line BadService) = inl (λ e. cc)
-fault_kinds (Text line LineTooLong) = inl (λ e. cc)
-fault_kinds (Text line BadLine) = inl (λ e. cc)
-fault_kinds (Text line BadPort) = inl (λ e. cc)
-fault_kinds (Text line BadHost) = inl (λ e. cc)
-fault_kinds (Text line BadHex) = inl (λ e. cc)
-fault_kinds (Text line PayloadTooLong) = inl (λ e. cc)
-fault_kinds (Text line TotalWrong) = inl (λ e. cc)
 fault_kinds (Text line Truncated) = inr (inl refl)
-fault_kinds (Text line TrailingText) = inl (λ e. cc)
-fault_kinds (Text line TextTooLong) = inl (λ e. cc)
+fault_kinds _ = inl (λ e. cc)
 
 -- ---- before a fault there are lawful datagrams only
 
 abbrev pub LawfulIn : List ℕ → List Numbered → Type 0
 LawfulIn text ds = (h : Header) (es : List Numbered) → Begins text h es → BeginsWith ds es → IsLawful h (unnumbered es)
-
--- the datagrams that come first of lawful ones are lawful
-front_lawful : (h : Header) (ds es : List Numbered) → IsLawful h (unnumbered ds) → BeginsWith ds es → IsLawful h (unnumbered es)
-front_lawful h ds es lawful (rest, is) =
-    beginning_is_lawful h (unnumbered es) (unnumbered rest) (subst (IsLawful h) (ap unnumbered is ∙ map-append (λ (n : Numbered). n.1) es rest) lawful)
 
 -- the datagrams before the fault are known, and lawful
 pub lawful_in : (text : List ℕ) (h : Header) (ds : List Numbered) → Begins text h ds → IsLawful h (unnumbered ds) → LawfulIn text ds

@@ -11,7 +11,7 @@ use Rattle.tftp_hosts.specs.{Datagram, Header}
 use Rattle.tftp_model.specs.{Meaning}
 use Rattle.tftp_law.specs.{IsLawful, OneEnded, Passes, FirstBroken, Rule}
 use Rattle.tftp_law.proofs.Whole.TwoEnds.{lawful}
-use Rattle.tftp_judge.specs.{Refuses, IsJudgeAfter, Judge, EndsText, IsReadVerdict, IsTextVerdict, SaysReadFailed, WantsToJudge, unnumbered, Verdict, IsUnlawfulAt, IsVerdict, Refusal, Unlawful, Aborted, Incomplete, NormalTooLong, Capture, Refused}
+use Rattle.tftp_judge.specs.{Refuses, IsJudgeAfter, Judge, EndsText, IsReadVerdict, IsTextVerdict, SaysReadFailed, WantsToJudge, unnumbered, Verdict, IsUnlawfulAt, IsVerdict, Refusal, Unlawful, Capture, Refused}
 use Rattle.tftp_judge.specs.declared.refusal.Refusal.TheVariants.{Memory}
 use Rattle.tftp_judge.proofs.FirstFaults.{begins_longer, lawful_in, told_alone}
 use Rattle.tftp_judge.proofs.TextFound.{Closed, Found, Stays, closed, failed_or, found_by_fault}
@@ -98,23 +98,27 @@ refused text ahead h ds line d (Memory count) passed stand near wants = (
   },
   λ x. x,
 )
-refused text ahead h ds line d (Aborted by code) passed stand near other = absurd other
-refused text ahead h ds line d (Incomplete count) passed stand near other = absurd other
-refused text ahead h ds line d NormalTooLong passed stand near other = absurd other
+refused text ahead h ds line d _ passed stand near other = absurd other
 
 -- ---- the text's end
 
 ended : (text : List ℕ) (h : Header) (ds : List Numbered) (refusal : Refusal) → ((count : ℕ) → refusal ≡ Memory count → ⊥) → IsCapture text h ds → IsVerdict h (unnumbered ds) (Err refusal)
     → IsTextVerdict text (Err (Refused refusal)) × IsReadVerdict text (Err (Refused refusal))
 ended text h ds (Unlawful index rule) spare capture is = ((h, ds, capture_begins text h ds capture, is), (h, ds, capture_begins text h ds capture, is))
-ended text h ds (Aborted by code) spare capture is = ((h, ds, capture, is), (h, ds, capture, is))
-ended text h ds (Incomplete count) spare capture is = ((h, ds, capture, is), (h, ds, capture, is))
-ended text h ds NormalTooLong spare capture is = ((h, ds, capture, is), (h, ds, capture, is))
 ended text h ds (Memory count) spare capture is = absurd (spare count refl)
+ended text h ds _ spare capture is = ((h, ds, capture, is), (h, ds, capture, is))
 
 -- ---- the reader's answers
 
-clean_says : (failed : Bool) (P : Type 0) → failed ≡ false → failed ≡ true → P
+pub still_clean : (new old : Bool) → ⊥ ⊎ (new ≡ old) → old ≡ false → new ≡ false
+still_clean new old (inl x) e = absurd x
+still_clean new old (inr same) e = same ∙ e
+
+pub reads_or_clean : (Reads : Type 0) (new old : Bool) → Reads ⊎ (new ≡ old) → old ≡ false → Reads ⊎ (new ≡ false)
+reads_or_clean Reads new old (inl reads) e = inl reads
+reads_or_clean Reads new old (inr same) e = inr (same ∙ e)
+
+pub clean_says : (failed : Bool) (P : Type 0) → failed ≡ false → failed ≡ true → P
 clean_says failed P clean is = absurd (true≢false (sym is ∙ clean))
 
 clean_or : (fault : CaptureFault) (failed : Bool) → IsReadFault fault ⊎ (failed ≡ false) → (IsReadFault fault → ⊥) → failed ≡ false

@@ -1,7 +1,7 @@
 -- What is found of a message, by its kind, is the first rule that it breaks.
 use Rattle.std.proofs.Common.{◌≡◌, ◌≢◌, ◌⊎◌, ℕ, ◌+◌, ◌<◌, ◌≤◌, Bool, true, false, List, Ok, Err, inl, inr, refl, sym, subst, ap, ◌∙◌, arith, Result, OnOk, IfErr}
 use Rattle.std.proofs.lemmas.Bool.{false≢true}
-use Rattle.tftp_packet.specs.{OptionMap, no_options, Message, RequestParts, Side, Get, Put, End, Client, Server}
+use Rattle.tftp_packet.specs.{OptionMap, no_options, Message, RequestParts, Side, Get, End, Client, Server}
 use Rattle.tftp_hosts.specs.{Dir, Out, Datagram, Header}
 use Rattle.tftp_ends.specs.{IsBlockOrAck, Rejection}
 use Rattle.tftp_rules.specs.{author_of, end_number, EndBroken, FirstEndBroken, Passed, Terms, EndRule}
@@ -9,8 +9,10 @@ use Rattle.tftp_nego.specs.{MayAgree, FirstFault, number, NegoFault}
 use Rattle.tftp_nego.proofs.Tested.{no_fault}
 use Rattle.tftp_law.specs.{number_of, Agrees, Begins, NotAnswered, FirstAnswer, IsWrongKind, GoesOn, ClientWentOn, AreTermsAfter, BlockSent, RequestBreaks, FirstOackBreaks, LaterOackBreaks, OackBreaks, TermsBreak, KindBreaks, MessageBreaks, Rule}
 use Rattle.tftp_law.proofs.FirstBroken.OneMessage.{kind_from}
+use Rattle.tftp_law.proofs.FirstBroken.FirstAnswered.{first_one, not_both}
+use Rattle.tftp_law.proofs.Accord.WhoSends.{request_kind, oack_kind}
 use Rattle.tftp_judge.specs.{Finds, NoneBreaks, IsFirstOf, error_of_fault, error_of_rejection, PassError}
-use Rattle.tftp_judge.proofs.FirstAnswers.{not_both, first_once, terms_once, block_answers}
+use Rattle.tftp_judge.proofs.FirstAnswers.{terms_once, block_answers}
 
 -- rules that are broken in the same cases, and more that follows
 pub finds_by : (P Q : Rule → Type 0) (A B : Type 0) → ((rule : Rule) → P rule → Q rule) → ((rule : Rule) → Q rule → P rule) → (A → B) → (r : Result (Unit {0}) PassError) → Finds P A r → Finds Q B r
@@ -36,16 +38,6 @@ finds_with P A (Err stop) found a = finds_stop P (Unit {0}) A stop found
 pub finds_rejected : (P : Rule → Type 0) (A : Type 0) (rejection : Rejection) (r : Result (Unit {0}) PassError) → (stop : PassError) × (r ≡ Err stop) × (stop ≡ error_of_rejection rejection)
     → Finds P A (Err (error_of_rejection rejection)) → Finds P A r
 finds_rejected P A rejection r is found = subst (Finds P A) (sym (is.1 ∙ ap (λ (s : PassError). Err s) is.2)) found
-
-memory_by : (rejection : Rejection) → error_of_rejection rejection ≡ PassError.Memory → rejection ≡ Rejection.Memory
-memory_by (Rejection.Broken rule) is = absurd (cc)
-memory_by Rejection.Memory is = refl
-
-pub rejected_by_memory : (rejection : Rejection) (r : Result (Unit {0}) PassError) → (stop : PassError) × (r ≡ Err stop) × (stop ≡ error_of_rejection rejection) → r ≡ Err PassError.Memory → rejection ≡ Rejection.Memory
-rejected_by_memory rejection r is wants =
-    let both : Err is.0 ≡ Err PassError.Memory = sym is.1 ∙ wants in
-    let stop : is.0 ≡ PassError.Memory = cc in
-    memory_by rejection (sym is.2 ∙ stop)
 
 -- ---- a request
 
@@ -140,10 +132,10 @@ module _ (asked : RequestParts) (passed : List Datagram) (dir : Dir) (oack : Opt
     later_there rule b = absurd b
 
     agreed_once : (was : OptionMap) → FirstAnswer asked.side passed (Agrees was) → was ≡ first
-    agreed_once was is = let same : Agrees was ≡ Agrees first = first_once asked.side passed (Agrees was) (Agrees first) is answered in cc
+    agreed_once was is = let same : Agrees was ≡ Agrees first = first_one asked.side passed (Agrees was) (Agrees first) is answered in cc
 
     later_back : (rule : Rule) → OackBreaks asked passed dir oack rule → LaterOackBreaks asked.side passed dir first oack rule
-    later_back Rule.ReplyChanged b = let same : Begins ≡ Agrees first = first_once asked.side passed Begins (Agrees first) b answered in absurd (cc)
+    later_back Rule.ReplyChanged b = let same : Begins ≡ Agrees first = first_one asked.side passed Begins (Agrees first) b answered in absurd (cc)
     later_back Rule.OackChanged (was, is, apart) = λ same. apart (same ∙ sym (agreed_once was is))
     later_back Rule.OackAfterStart b = b
     later_back rule b = absurd (not_both asked.side passed (Agrees first) b.0 answered)
@@ -206,9 +198,7 @@ pub block_finds : (h : Header) (asked : RequestParts) (passed : List Datagram) (
     → Finds (KindBreaks h asked passed dir m) A r
 block_finds h asked passed dir (Message.Data k bytes) A r is found = found
 block_finds h asked passed dir (Message.Ack j) A r is found = found
-block_finds h asked passed dir (Message.Request now) A r is found = absurd is
-block_finds h asked passed dir (Message.Error code text) A r is found = absurd is
-block_finds h asked passed dir (Message.Oack oack) A r is found = absurd is
+block_finds h asked passed dir _ A r is found = absurd is
 
 -- the test of the kind, by the author and the side that were computed
 pub right_kind : (h : Header) (asked : RequestParts) (dir : Dir) (m : Message) (author : End) (side : Side) (b : Bool) → author ≡ author_of h.named dir → side ≡ asked.side → b ≡ false
@@ -218,35 +208,15 @@ right_kind h asked dir m author side b e f right tells wrong =
 
 -- ---- the first request again
 
-server_asks : (side : Side) (asked : RequestParts) → IsWrongKind Server side (Message.Request asked)
-server_asks Get asked = tt
-server_asks Put asked = tt
-
-client_asks : (side : Side) (asked : RequestParts) → IsWrongKind Client side (Message.Request asked) → ⊥
-client_asks Get asked wrong = wrong
-client_asks Put asked wrong = wrong
-
 module _ (h : Header) (asked : RequestParts) (passed : List Datagram) (dir : Dir) where
   abbrev Again : Rule → Type 0
   Again = MessageBreaks h asked passed dir (Message.Request asked)
 
-  pub again_wrong : author_of h.named dir ≡ Server → IsFirstOf Again Rule.WrongKind
-  again_wrong server = (inl (refl, subst (λ (e : End). IsWrongKind e asked.side (Message.Request asked)) (sym server) (server_asks asked.side asked)), below)
-    where
-      below : (other : Rule) → number_of other < 6 → Again other → ⊥
-      below other low (inl (is, wrong)) = let same = ap number_of is in omega (arith, low, same)
-      below other low (inr (inl (is, on))) = let same = ap number_of is in omega (arith, low, same)
-      below other low (inr (inr b)) = let high = kind_from h asked passed dir (Message.Request asked) other b in omega (arith, low, high)
-
   right_by : (author : End) → (author ≡ Server → ⊥) → IsWrongKind author asked.side (Message.Request asked) → ⊥
-  right_by Client other wrong = client_asks asked.side asked wrong
+  right_by Client other wrong = request_kind asked.side asked wrong
   right_by Server other wrong = other refl
 
   module _ (other : author_of h.named dir ≡ Server → ⊥) where
-    pub again_ended : dir ≡ Out → (code : ℕ) × (text : List ℕ) × Passed Out (Message.Error code text) passed → IsFirstOf Again Rule.AfterError
-    again_ended out (code, text, stop) = gone_on h asked passed dir (Message.Request asked) (right_by (author_of h.named dir) other)
-        (Message.Error code text, (code, text, refl), subst (λ way. Passed way (Message.Error code text) passed) (sym out) stop, (λ e. cc), inl out)
-
     -- no ERROR went this way, or it came in
     pub again_goes : (dir ≡ Out → (code : ℕ) × (text : List ℕ) × Passed Out (Message.Error code text) passed → ⊥) → GoesOn passed dir (Message.Request asked) → ⊥
     again_goes none (stop, (code, text, is), went, differs, inl out) =
@@ -276,29 +246,13 @@ module _ (side : Side) (passed : List Datagram) (dir : Dir) (first oack : Option
   later_passes early Rule.OackAfterStart b = early b
   later_passes early rule b = b
 
-client_agrees : (side : Side) (oack : OptionMap) → IsWrongKind Client side (Message.Oack oack)
-client_agrees Get oack = tt
-client_agrees Put oack = tt
-
-server_agrees : (side : Side) (oack : OptionMap) → IsWrongKind Server side (Message.Oack oack) → ⊥
-server_agrees Get oack wrong = wrong
-server_agrees Put oack wrong = wrong
-
 module _ (h : Header) (asked : RequestParts) (passed : List Datagram) (dir : Dir) (oack : OptionMap) where
   abbrev OackAgain : Rule → Type 0
   OackAgain = MessageBreaks h asked passed dir (Message.Oack oack)
 
-  pub oack_again_wrong : author_of h.named dir ≡ Client → IsFirstOf OackAgain Rule.WrongKind
-  oack_again_wrong client = (inl (refl, subst (λ (e : End). IsWrongKind e asked.side (Message.Oack oack)) (sym client) (client_agrees asked.side oack)), below)
-    where
-      below : (other : Rule) → number_of other < 6 → OackAgain other → ⊥
-      below other low (inl (is, wrong)) = let same = ap number_of is in omega (arith, low, same)
-      below other low (inr (inl (is, on))) = let same = ap number_of is in omega (arith, low, same)
-      below other low (inr (inr b)) = let high = kind_from h asked passed dir (Message.Oack oack) other b in omega (arith, low, high)
-
   oack_right_by : (author : End) → (author ≡ Client → ⊥) → IsWrongKind author asked.side (Message.Oack oack) → ⊥
   oack_right_by Client other wrong = other refl
-  oack_right_by Server other wrong = server_agrees asked.side oack wrong
+  oack_right_by Server other wrong = oack_kind asked.side oack wrong
 
   module _ (other : author_of h.named dir ≡ Client → ⊥) where
     pub oack_again_ended : dir ≡ Out → (code : ℕ) × (text : List ℕ) × Passed Out (Message.Error code text) passed → IsFirstOf OackAgain Rule.AfterError

@@ -3,7 +3,7 @@ use Rattle.std.proofs.Common.{◌≡◌, ℕ, inl, inr, List, ◌∷◌, ◌++�
 use Rattle.std.proofs.lemmas.List.{map-append}
 use Rattle.tftp_capture.specs.{BeginsWith, HasFault, IsCapture, Numbered, TextFault}
 use Rattle.tftp_capture.specs.CaptureText.Reading.{Capture, Fault}
-use Rattle.tftp_capture.specs.declared.fault.CaptureFault.TheVariants.{Text, Read, Memory}
+use Rattle.tftp_capture.specs.declared.fault.CaptureFault.TheVariants.{Text}
 use Rattle.tftp_capture.proofs.Beginnings.{agree, capture_has}
 use Rattle.tftp_capture.proofs.Readings.{reads_same}
 use Rattle.tftp_hosts.specs.{Header}
@@ -38,10 +38,8 @@ said_is text (Err (verdict.Refused (Unlawful index rule))) of is = unlawful inde
 said_is text (Err (verdict.Refused (refusal.Aborted by code))) of (h, ds, capture, is) = captured (Err (refusal.Aborted by code)) h ds tt capture is is.0
 said_is text (Err (verdict.Refused (refusal.Incomplete count))) of (h, ds, capture, is) = captured (Err (refusal.Incomplete count)) h ds tt capture is is.0
 said_is text (Err (verdict.Refused refusal.NormalTooLong)) of (h, ds, capture, is) = captured (Err refusal.NormalTooLong) h ds tt capture is is.0
-said_is text (Err (verdict.Refused (refusal.Memory count))) of is = absurd of
 said_is text (Err (verdict.Capture (Text line fault))) of is = faulty line fault is.0.0 is.0.1 is.1
-said_is text (Err (verdict.Capture (Read line))) of is = absurd of
-said_is text (Err (verdict.Capture (Memory line))) of is = absurd of
+said_is text _ of is = absurd of
 
 -- what is unlawful of the first datagrams is so of all
 pub longer_unlawful : (h : Header) (ds es : List Numbered) (index : ℕ) (rule : Rule) → BeginsWith ds es → IsVerdict h (unnumbered es) (Err (Unlawful index rule)) → IsVerdict h (unnumbered ds) (Err (Unlawful index rule))

@@ -159,10 +159,8 @@ module _ (h : Header) (ds : List Datagram) where
 
   unlawful_or : (i : ℕ) (r : Rule) (w : Refusal) → IsSaid (Err w) → IsVerdict h ds (Err (Unlawful i r)) → IsVerdict h ds (Err w) → Unlawful i r ≡ w
   unlawful_or i r (Unlawful j q) said one other = one_place h ds i j r q one other
-  unlawful_or i r (Aborted by code) said one other = absurd (not_lawful h ds i r one other.0)
-  unlawful_or i r (Incomplete c) said one other = absurd (not_lawful h ds i r one other.0)
-  unlawful_or i r NormalTooLong said one other = absurd (not_lawful h ds i r one other.0)
   unlawful_or i r (Memory n) said one other = absurd said
+  unlawful_or i r _ said one other = absurd (not_lawful h ds i r one other.0)
 
   one_refusal : (v w : Refusal) → IsSaid (Err v) → IsSaid (Err w) → IsVerdict h ds (Err v) → IsVerdict h ds (Err w) → v ≡ w
   one_refusal (Unlawful i r) w said also one other = unlawful_or i r w also one other

@@ -109,11 +109,7 @@ module _ (h : Header) (ds : List Datagram) (d : Datagram) where
   main_read : (r : Route) (m : Message) → is_of_transfer r ≡ true → Spells d.payload m → IsRead r d
   main_read Route.Request m on s = (m, s)
   main_read Route.Peer m on s = (m, s)
-  main_read Route.Stray m on s = absurd (false≢true on)
-  main_read Route.StrayAnswer m on s = absurd (false≢true on)
-  main_read Route.ForeignPort m on s = absurd (false≢true on)
-  main_read Route.WrongPort m on s = absurd (false≢true on)
-  main_read Route.NoStrayAnswer m on s = absurd (false≢true on)
+  main_read _ m on s = absurd (false≢true on)
 
   pub main_passes : (m : Message) → is_of_transfer (route_of h ds d) ≡ true → Spells d.payload m → ((rule : Rule) → Broken h ds d rule → ⊥) → Passes h ds d
   main_passes m on s lawful = record { read = main_read (route_of h ds d) m on s; lawful = lawful }

@@ -1,6 +1,6 @@
 -- What is said of what was read is said of it as a text.
-use Rattle.std.proofs.Common.{ℕ, List, [], Result, Ok, Err, sym, subst, append-nil}
-use Rattle.tftp_capture.specs.declared.fault.CaptureFault.TheVariants.{Text, Read, Memory}
+use Rattle.std.proofs.Common.{ℕ, List, [], Result, Err, sym, subst, append-nil}
+use Rattle.tftp_capture.specs.declared.fault.CaptureFault.TheVariants.{Memory}
 use Rattle.tftp_model.specs.{Meaning}
 use Rattle.tftp_judge.specs.{IsLineOf, IsReadVerdict, IsTextVerdict, NoFaultBefore, WantsToRead, Verdict, Capture, Refused}
 use Rattle.tftp_judge.specs.declared.refusal.Refusal.TheVariants as refusal
@@ -13,12 +13,6 @@ faults_read : (read : List ℕ) (line : ℕ) → WantsToRead read line → NoFau
 faults_read read line wants = subst (λ t. NoFaultBefore t line) (sym wants.to.0) (no_fault_before wants.taken wants.ahead wants.ahead wants.datagrams line wants.tells)
 
 pub read_is_text : (read : List ℕ) (r : Result Meaning Verdict) → IsReadVerdict read r → IsTextVerdict read r
-read_is_text read (Ok m) is = is
-read_is_text read (Err (Refused (refusal.Unlawful index rule))) is = is
-read_is_text read (Err (Refused (refusal.Aborted by code))) is = is
-read_is_text read (Err (Refused (refusal.Incomplete count))) is = is
-read_is_text read (Err (Refused refusal.NormalTooLong)) is = is
 read_is_text read (Err (Refused (refusal.Memory count))) wants = (read, [], sym (append-nil read), wants)
-read_is_text read (Err (Capture (Text line fault))) is = is
-read_is_text read (Err (Capture (Read line))) is = is
 read_is_text read (Err (Capture (Memory line))) (wants, before) = (line_read read line wants, faults_read read line wants, before)
+read_is_text read _ is = is

@@ -51,15 +51,8 @@ module _ (h : Header) (asked : RequestParts) (passed : List Datagram) (none : No
         broken = subst (λ (x : Side). BlocksWait x NoReply (usable passed)) (sym put) tt;
         first = λ other low b. let high = lowest other in omega arith;
       })
-  not_started (Message.Data k bytes) Get get waits = absurd waits
-  not_started (Message.Request r) Get e waits = absurd waits
-  not_started (Message.Request r) Put e waits = absurd waits
-  not_started (Message.Ack j) Get e waits = absurd waits
-  not_started (Message.Ack j) Put e waits = absurd waits
-  not_started (Message.Error code text) Get e waits = absurd waits
-  not_started (Message.Error code text) Put e waits = absurd waits
-  not_started (Message.Oack o) Get e waits = absurd waits
-  not_started (Message.Oack o) Put e waits = absurd waits
+  not_started _ Get e waits = absurd waits
+  not_started _ Put e waits = absurd waits
 
   -- the others break the rules that they would break after a plain reply
   abbrev IsAlike : Message → Type 0
@@ -69,9 +62,7 @@ module _ (h : Header) (asked : RequestParts) (passed : List Datagram) (none : No
   alike m Get get is other = λ e. read_alike (plain_terms h asked.side NoReply) passed m get e
   alike (Message.Ack j) Put put is other = λ e. ack_put_alike (plain_terms h asked.side NoReply) passed j put e
   alike (Message.Data k bytes) Put put is other = absurd (other tt)
-  alike (Message.Request r) Put put is other = absurd is
-  alike (Message.Error code text) Put put is other = absurd is
-  alike (Message.Oack o) Put put is other = absurd is
+  alike _ Put put is other = absurd is
 
   pub first_broken : (m : Message) → IsBlockOrAck m → (WaitsForReply asked.side m → ⊥) → (t : Terms) → t ≡ plain_terms h asked.side Plain → (e : EndRule) → FirstEndBroken t passed m e
       → IsFirstOf (TermsBreak h asked passed m) (Rule.Block e)
@@ -99,9 +90,7 @@ module _ (h : Header) (asked : RequestParts) (passed : List Datagram) (none : No
         absurd (none_of EndRule.AckZero (ack_is_zero passed before (plain_terms h asked.side NoReply) j (none_of EndRule.AckAhead), subst (λ (x : Side). AckZeroWaits x NoReply (usable passed)) (sym get) tt))
     answers_by (Message.Ack j) e Put put block waits none_of =
         subst (λ (x : Side). IsAnswer x (Message.Ack j) Begins) (sym put) (ack_is_zero passed before (plain_terms h asked.side NoReply) j (none_of EndRule.AckAhead))
-    answers_by (Message.Request r) e side f block waits none_of = absurd block
-    answers_by (Message.Error code text) e side f block waits none_of = absurd block
-    answers_by (Message.Oack o) e side f block waits none_of = absurd block
+    answers_by _ e side f block waits none_of = absurd block
 
     pub has_begun : (d : Datagram) (dir : Dir) → Says d dir m → (end : NamedEnd) → terms_of end ≡ t → IsEndAfter end (d ∷ passed) → HasBegun h asked (d ∷ passed) Begins end
     has_begun d dir says end terms after = record {
@@ -131,11 +120,11 @@ own t dir (Message.Request r) author side e f right = tt
 own t dir (Message.Error code text) author side e f right = tt
 own t dir (Message.Oack o) author side e f right = tt
 
-terms_named : (h : Header) (asked : RequestParts) (answer : Answer) → (terms_after h asked answer).named ≡ h.named
+pub terms_named : (h : Header) (asked : RequestParts) (answer : Answer) → (terms_after h asked answer).named ≡ h.named
 terms_named h asked (Agrees options) = refl
 terms_named h asked Begins = refl
 
-terms_side : (h : Header) (asked : RequestParts) (answer : Answer) → (terms_after h asked answer).side ≡ asked.side
+pub terms_side : (h : Header) (asked : RequestParts) (answer : Answer) → (terms_after h asked answer).side ≡ asked.side
 terms_side h asked (Agrees options) = refl
 terms_side h asked Begins = refl
 

@@ -93,10 +93,6 @@ pub request_answers_nothing : (side : Side) (now : RequestParts) → AnswersNoth
 request_answers_nothing Get now answer is = absurd is
 request_answers_nothing Put now answer is = absurd is
 
-pub error_answers_nothing : (side : Side) (code : ℕ) (text : List ℕ) → AnswersNothing side (Message.Error code text)
-error_answers_nothing Get code text answer is = absurd is
-error_answers_nothing Put code text answer is = absurd is
-
 -- ---- by kind
 
 pub transfer_with_request : (t : Transfer) (h : Header) (passed : List Datagram) (d : Datagram) (now : RequestParts) → IsTransferAfter t h passed → Spells d.payload (Message.Request now)
@@ -132,9 +128,7 @@ transfer_with_oack_again t h passed d given is after spells =
 pub is_no_error : (m : Message) → IsBlockOrAck m → IsNoError m
 is_no_error (Message.Data k bytes) is code text e = absurd (cc)
 is_no_error (Message.Ack j) is code text e = absurd (cc)
-is_no_error (Message.Request r) is code text e = absurd is
-is_no_error (Message.Error other words) is code text e = absurd is
-is_no_error (Message.Oack o) is code text e = absurd is
+is_no_error _ is code text e = absurd is
 
 pub transfer_kept : (old kept new : Transfer) (h : Header) (passed : List Datagram) (d : Datagram) (m : Message) → IsTransferAfter old h passed → Spells d.payload m → IsBlockOrAck m
     → DiffersByExchange old kept → DiffersBySent kept new → IsExchange h old.asked (d ∷ passed) kept.exchange
@@ -175,15 +169,6 @@ error_is_right Client Get code text wrong = wrong
 error_is_right Client Put code text wrong = wrong
 error_is_right Server Get code text wrong = wrong
 error_is_right Server Put code text wrong = wrong
-
-pub error_waits_for_none : (h : Header) (asked : RequestParts) (passed : List Datagram) (d : Datagram) (dir : Dir) (code : ℕ) (text : List ℕ) (exchange : Exchange) → exchange ≡ Unanswered
-    → Says d dir (Message.Error code text) → IsExchange h asked passed exchange → IsExchange h asked (d ∷ passed) exchange
-error_waits_for_none h asked passed d dir code text exchange unanswered says kept =
-    let was = subst (IsExchange h asked passed) unanswered kept in
-    subst (IsExchange h asked (d ∷ passed)) (sym unanswered) (
-      still_unanswered d dir (Message.Error code text) passed says asked.side (error_answers_nothing asked.side code text) was.0,
-      still_before_blocks d dir (Message.Error code text) passed says (λ k bytes e. absurd (cc)) (λ j e. absurd (cc)) was.1,
-    )
 
 pub transfer_with_error : (old : Transfer) (h : Header) (passed : List Datagram) (d : Datagram) (dir : Dir) (code : ℕ) (text : List ℕ) (exchange : Exchange) (errors : Errors) → IsTransferAfter old h passed
     → Says d dir (Message.Error code text) → IsExchange h old.asked (d ∷ passed) exchange → AreErrors errors (d ∷ passed)

@@ -1,8 +1,9 @@
 -- What was found in the bytes of a reader.
-use Rattle.std.proofs.Common.{◌≡◌, ◌≤◌, ◌⊎◌, ℕ, inl, inr, Bool, true, false, true≢false, List, [], ◌∷◌, ◌++◌, length, Option, Some, None, Result, Ok, Err, refl, sym, ap, ◌∙◌, subst, arith, append_assoc, append-nil}
+use Rattle.std.proofs.Common.{◌≡◌, ◌≤◌, ◌⊎◌, ℕ, inl, inr, Bool, true, false, true≢false, List, [], ◌∷◌, ◌++◌, length, Option, Some, None, Result, Err, refl, sym, ap, ◌∙◌, subst, arith, append_assoc, append-nil}
 use Rattle.std.specs.Io.KnownBytes.{Consumes, IsAtEnd, prepend_known}
 use Rattle.tftp_capture.specs.{Numbered, most_ahead, FailsToBegin, FaultTells, IsAtTextEnd, IsReadFault, MemoryTells, CaptureFault}
 use Rattle.tftp_capture.specs.declared.fault.CaptureFault.TheVariants.{Text, Read, Memory}
+use Rattle.tftp_capture.proofs.Headers.{at_end_rest}
 use Rattle.tftp_model.specs.{Meaning}
 use Rattle.tftp_judge.specs.{EndsText, IsOfText, IsReadVerdict, IsTextVerdict, SaysReadFailed, WantsMemory, Verdict, Capture, Refused}
 use Rattle.tftp_judge.specs.declared.refusal.Refusal.TheVariants as refusal
@@ -21,14 +22,10 @@ no_front : (ahead rest : List ℕ) → ahead ++ rest ≡ [] → (ahead ≡ []) �
 no_front [] rest e = (refl, e)
 no_front (b ∷ bs) rest e = absurd (omega (arith, ap length e))
 
-end_inside : (after : Option (List ℕ)) (ahead : List ℕ) → IsAtEnd (prepend_known ahead after) → IsAtEnd after
-end_inside None ahead e = tt
-end_inside (Some rest) ahead e = (no_front ahead rest e).1
-
 -- what is read ahead is consumed too
 pub closed : (before after : Option (List ℕ)) (taken ahead : List ℕ) (AtEnd Drained : Type 0) → Consumes before (prepend_known ahead after) taken → (AtEnd → IsAtEnd (prepend_known ahead after)) → (Drained → ahead ≡ [])
     → Closed before after taken ahead AtEnd Drained
-closed None after taken ahead AtEnd Drained consumed end drained = record { ahead = []; consumed = tt; ended = λ h. (refl, end_inside after ahead (end h)); drained = λ h. refl; all_held = inl refl }
+closed None after taken ahead AtEnd Drained consumed end drained = record { ahead = []; consumed = tt; ended = λ h. (refl, at_end_rest after ahead (end h)); drained = λ h. refl; all_held = inl refl }
 closed (Some x) None taken ahead AtEnd Drained consumed end drained = absurd consumed
 closed (Some x) (Some y) taken ahead AtEnd Drained consumed end drained = record {
   ahead = ahead;
@@ -62,15 +59,14 @@ pub record Found (before after : Option (List ℕ)) (failed : Bool) (r : Result 
 
 -- an answer is of the text, or that a read failed, or want of memory
 pub answers : (r : Result Meaning Verdict) → IsOfText r ⊎ (SaysReadFailed r ⊎ WantsMemory r)
-answers (Ok m) = inl tt
-answers (Err (Refused (refusal.Unlawful index rule))) = inl tt
-answers (Err (Refused (refusal.Aborted by code))) = inl tt
-answers (Err (Refused (refusal.Incomplete count))) = inl tt
-answers (Err (Refused refusal.NormalTooLong)) = inl tt
 answers (Err (Refused (refusal.Memory count))) = inr (inr tt)
-answers (Err (Capture (Text line fault))) = inl tt
 answers (Err (Capture (Read line))) = inr (inl tt)
 answers (Err (Capture (Memory line))) = inr (inr tt)
+answers _ = inl tt
+
+pub rest_of : (b : Option (List ℕ)) (text bytes : List ℕ) → Consumes (Some text) b bytes → (rest : List ℕ) × (b ≡ Some rest) × (text ≡ bytes ++ rest)
+rest_of None text bytes c = absurd c
+rest_of (Some rest) text bytes c = (rest, refl, c)
 
 module _ (before after : Option (List ℕ)) (failed : Bool) (r : Result Meaning Verdict) (found : Found before after failed r) where
   pub found_judged : (read : List ℕ) × Consumes before after read × IsReadVerdict read r
@@ -84,10 +80,6 @@ module _ (before after : Option (List ℕ)) (failed : Bool) (r : Result Meaning 
 
   pub found_tally : failed ≡ true → SaysReadFailed r
   found_tally = found.tallied
-
-  rest_of : (b : Option (List ℕ)) (text bytes : List ℕ) → Consumes (Some text) b bytes → (rest : List ℕ) × (b ≡ Some rest) × (text ≡ bytes ++ rest)
-  rest_of None text bytes c = absurd c
-  rest_of (Some rest) text bytes c = (rest, refl, c)
 
   pub found_whole : (text : List ℕ) → before ≡ Some text → failed ≡ false → IsTextVerdict text r
   found_whole text all clean =

@@ -1,20 +1,12 @@
-use Rattle.std.proofs.Common.{◌≡◌, ◌⊎◌, Bool, false, [], Ok, Err, ap, ◌∙◌, reverse, subst, inl, inr, arith}
+use Rattle.std.proofs.Common.{false, [], Ok, Err, ap, reverse, subst, arith}
 use Rattle.std.specs.Io.KnownBytes.{prepend_known}
 use Rattle.std.proofs.lemmas.Result.{err_from_is_err_and}
 use Rattle.tftp_capture.specs.{IsReadFault, IsReadStanding}
 use Rattle.tftp_judge.specs.{IsJudgeAfter, unnumbered}
-use Rattle.tftp_judge.proofs.Follows.{follows_on, found_fault, found_meaning, found_refused, found_unfinished}
+use Rattle.tftp_judge.proofs.Follows.{follows_on, found_fault, found_meaning, found_refused, found_unfinished, still_clean, reads_or_clean}
 use Rattle.tftp_judge.proofs.TextFound.{Found, found_ended, found_exact, found_judged, found_no_header, found_tally, found_whole}
 use Rattle.tftp_judge.proofs.text.judge_text.Given.{Over}
 use Rattle.tftp_judge.proofs.text.judge_text.Goals as goal
-
-still_clean : (new old : Bool) → ⊥ ⊎ (new ≡ old) → old ≡ false → new ≡ false
-still_clean new old (inl x) e = absurd x
-still_clean new old (inr same) e = same ∙ e
-
-clean_or : (Reads : Type 0) (new old : Bool) → Reads ⊎ (new ≡ old) → old ≡ false → Reads ⊎ (new ≡ false)
-clean_or Reads new old (inl reads) e = inl reads
-clean_or Reads new old (inr same) e = inr (same ∙ e)
 
 -- ---- the header is not read
 
@@ -66,7 +58,7 @@ stopped g c =
     rw (p.1, p.2)
     (found_fault (g.R.Read.remaining c.args.reader.now.0) (prepend_known c.loop-datagram.capture.lines.ahead (g.R.Read.remaining c.loop-datagram.reader.0)) (g.R.Read.remaining c.next_into.new.reader.0) c.loop-datagram.capture c.next_into.new.self
     c.loop-datagram.judge i.goes i.follows fault c.next_into.new.reader.1 e.continues e.standing (e.near i.goes) (e.cut i.goes) (e.drained i.goes) e.read
-    (clean_or (IsReadFault fault) c.next_into.new.reader.1 c.loop-datagram.reader.1 e.tally i.clean))
+    (reads_or_clean (IsReadFault fault) c.next_into.new.reader.1 c.loop-datagram.reader.1 e.tally i.clean))
 
 pub returns-in_err-next_into-clause-judged : goal.returns-in_err-next_into-clause-judged
 returns-in_err-next_into-clause-judged g c = found_judged _ _ _ _ (stopped g c)

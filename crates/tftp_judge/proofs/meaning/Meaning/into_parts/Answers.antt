@@ -1,4 +1,4 @@
-use Rattle.std.proofs.Common.{◌≡◌, ℕ, List, ap, sym, subst, ◌∙◌}
+use Rattle.std.proofs.Common.{ℕ, List, ap, sym, subst, ◌∙◌}
 use Rattle.tftp_packet.specs.{Mode}
 use Rattle.tftp_law.specs.{meaning_from}
 use Rattle.tftp_judge.specs.{file_in, IsCanonical}

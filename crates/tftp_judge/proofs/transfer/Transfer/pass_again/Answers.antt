@@ -7,7 +7,7 @@ use Rattle.tftp_judge.specs.{Errors, AreErrors, Transfer, IsTransferAfter}
 use Rattle.tftp_judge.proofs.MessageFound.{again_goes, again_late, again_passes}
 use Rattle.tftp_judge.proofs.StaysAfter.{transfer_with_request}
 use Rattle.tftp_judge.proofs.transfer.Transfer.pass_again.Given.{Over}
-use Rattle.tftp_judge.proofs.transfer.Transfer.pass_again.Goals.{Else-eq, Else-has_gone_out}
+use Rattle.tftp_judge.proofs.transfer.Transfer.pass_again.Goals.{Else-eq}
 use Rattle.tftp_judge.proofs.transfer.Transfer.pass_again.Goals as goal
 
 -- the client sends it

@@ -7,7 +7,7 @@ use Rattle.tftp_judge.specs.{Errors, AreErrors, Transfer, IsTransferAfter}
 use Rattle.tftp_judge.proofs.MessageFound.{oack_again_ended, oack_again_goes, oack_again_late, oack_again_passes}
 use Rattle.tftp_judge.proofs.StaysAfter.{agreed_first, transfer_with_oack_again}
 use Rattle.tftp_judge.proofs.transfer.Transfer.pass_oack_again.Given.{Over}
-use Rattle.tftp_judge.proofs.transfer.Transfer.pass_oack_again.Goals.{Else-eq, Else-has_stopped}
+use Rattle.tftp_judge.proofs.transfer.Transfer.pass_oack_again.Goals.{Else-eq}
 use Rattle.tftp_judge.proofs.transfer.Transfer.pass_oack_again.Goals as goal
 
 -- the server sends it
