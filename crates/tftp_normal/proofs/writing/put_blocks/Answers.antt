@@ -44,4 +44,4 @@ returns-in_err-put_from-clause-puts g c =
     let is : sent_by c.match-side.author c.packet.result.now ≡ normal_datagram c.args.transfer.now (Data (c.loop-block.block + 1)) =
     ap (λ e. sent_by e c.packet.result.now) author ∙ ap (sent_by (sender_of c.args.transfer.now.side)) payload ∙ data_datagram m (c.loop-block.block + 1) in
     puts_err g.W.Write.contents c.args.writer.now c.put_from.new.writer c.from_residual.result c.args.capture.now c.put_from.new.capture _ c.from_residual.ensures.0 c.requires.clean c.in_err-put_from.ensures.failed
-    (step_failed g.W.Write.contents m _ _ _ _ c.loop-block.block c.args.last _ low c.loop-block.invariant.putting _ _ is (c.in_err-put_from.ensures.part c.loop-block.invariant.clean))
+    (step_failed g.W.Write.contents m _ _ _ _ c.loop-block.block c.args.last _ low c.loop-block.invariant.putting c.put_from.new.writer _ is (c.in_err-put_from.ensures.part c.loop-block.invariant.clean))

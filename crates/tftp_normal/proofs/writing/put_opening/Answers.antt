@@ -19,7 +19,7 @@ returns-in_err-put_from-in-Get-false g c =
     let stop = c.in_err-put_from-in-Get-false.ensures in
     puts_err g.W.Write.contents c.args.writer.now c.put_from.new.writer c.from_residual-in_err-put_from-in-Get-false.result c.args.capture.now c.put_from.new.capture _
     c.from_residual-in_err-put_from-in-Get-false.ensures.0 asked.0 stop.failed
-    (answer_failed c.args.transfer.now c.args.request.now c.args.oack.now c.requires.request c.requires.oack g.W.Write.contents _ _ _ c.args.capture.now c.put_request.new.capture c.in-Get-false.ensures some asked.2 (stop.part asked.1))
+    (answer_failed c.args.transfer.now c.args.request.now c.args.oack.now c.requires.request c.requires.oack g.W.Write.contents c.args.writer.now c.put_request.new.writer c.put_from.new.writer c.args.capture.now c.put_request.new.capture c.in-Get-false.ensures some asked.2 (stop.part asked.1))
 
 pub returns-in_ok-put_from-in-Get-false : goal.returns-in_ok-put_from-in-Get-false
 returns-in_ok-put_from-in-Get-false g c =

@@ -31,16 +31,16 @@ pub returns-in_err-put_blocks : goal.returns-in_err-put_blocks
 returns-in_err-put_blocks g c =
     let low : c.loop-acked.acked < blocks_of c.args.transfer.now = subst (λ n. c.loop-acked.acked < n) c.blocks-in-loop-acked.ensures.count c.loop-acked-test.true in
     puts_err g.W.Write.contents c.args.writer.now c.put_blocks.new.writer c.from_residual.result c.args.capture.now c.put_blocks.new.capture _ c.from_residual.ensures.0 c.requires.clean c.in_err-put_blocks.ensures.puts.failed
-    (window_failed c.args.transfer.now g.W.Write.contents _ _ _ _ c.loop-acked.acked low c.window_end-last.result c.window_end-last.ensures c.loop-acked.invariant.windows _ (c.in_err-put_blocks.ensures.puts.part c.loop-acked.invariant.clean))
+    (window_failed c.args.transfer.now g.W.Write.contents _ _ _ _ c.loop-acked.acked low c.window_end-last.result c.window_end-last.ensures c.loop-acked.invariant.windows c.put_blocks.new.writer (c.in_err-put_blocks.ensures.puts.part c.loop-acked.invariant.clean))
 
-pub put_ack-requires-clause-few : goal.put_ack-requires-clause-few
-put_ack-requires-clause-few g c =
+pub put_ack-requires : goal.put_ack-requires
+put_ack-requires g c =
     let low : c.loop-acked.acked < blocks_of c.args.transfer.now = subst (λ n. c.loop-acked.acked < n) c.blocks-in-loop-acked.ensures.count c.loop-acked-test.true in
     let count = window_count_fits c.args.transfer.now g.W.Write.contents _ _ _ _ c.loop-acked.acked low c.window_end-last.result c.window_end-last.ensures c.loop-acked.invariant.windows in
     let few = c.requires.few in
     let put = blocks_counted g.W.Write.contents c.args.transfer.now _ _ _ _ c.loop-acked.acked (c.window_end-last.result - c.loop-acked.acked) c.in_ok-put_blocks.ensures.puts.2 in
     let fits : c.put_blocks.new.capture + 1 ≤ 2 ^ 40 = omega (arith, count, few, put) in
-    fits
+    record { few = fits }
 
 pub returns-in_err-put_ack : goal.returns-in_err-put_ack
 returns-in_err-put_ack g c =
@@ -49,7 +49,7 @@ returns-in_err-put_ack g c =
     let is : sent_by c.match-side.author (canonical (Message.Ack c.window_end-last.result)) ≡ normal_datagram c.args.transfer.now (Ack c.window_end-last.result) =
     ap (λ e. sent_by e (canonical (Message.Ack c.window_end-last.result))) author ∙ ack_datagram c.args.transfer.now c.window_end-last.result in
     puts_err g.W.Write.contents c.args.writer.now c.put_ack.new.writer c.from_residual-in_err-put_ack.result c.args.capture.now c.put_ack.new.capture _ c.from_residual-in_err-put_ack.ensures.0 c.requires.clean c.in_err-put_ack.ensures.failed
-    (ack_failed c.args.transfer.now g.W.Write.contents _ _ _ _ c.loop-acked.acked low c.window_end-last.result c.window_end-last.ensures c.loop-acked.invariant.windows _ _ c.in_ok-put_blocks.ensures.puts.2 _ _ is (c.in_err-put_ack.ensures.part c.in_ok-put_blocks.ensures.puts.1))
+    (ack_failed c.args.transfer.now g.W.Write.contents _ _ _ _ c.loop-acked.acked low c.window_end-last.result c.window_end-last.ensures c.loop-acked.invariant.windows _ _ c.in_ok-put_blocks.ensures.puts.2 c.put_ack.new.writer _ is (c.in_err-put_ack.ensures.part c.in_ok-put_blocks.ensures.puts.1))
 
 pub loop-acked-preserved : goal.loop-acked-preserved
 loop-acked-preserved g c =

@@ -15,7 +15,7 @@ returns-in_err-put_opening g c =
     let stop = c.in_err-put_opening.ensures in
     writes_err g.W.Write.contents c.args.writer.now c.put_opening.new.writer c.from_residual-in_err-put_opening.result _ c.from_residual-in_err-put_opening.ensures.0
     (stops_now g.W.Write.contents c.args.writer.now c.put_opening.new.writer _ begun.adds.0 stop.failed
-    (opening_fails c.args.transfer.now g.W.Write.contents _ _ _ begun.begun _ (stop.part begun.adds.1)))
+    (opening_fails c.args.transfer.now g.W.Write.contents _ _ _ begun.begun c.put_opening.new.writer (stop.part begun.adds.1)))
 
 pub put_windows-requires-clause-few : goal.put_windows-requires-clause-few
 put_windows-requires-clause-few g c =
@@ -32,7 +32,7 @@ returns-in_err-put_windows g c =
     let stop = c.in_err-put_windows.ensures in
     writes_err g.W.Write.contents c.args.writer.now c.put_windows.new.writer c.from_residual-in_err-put_windows.result _ c.from_residual-in_err-put_windows.ensures.0
     (stops_now g.W.Write.contents c.args.writer.now c.put_windows.new.writer _ begun.adds.0 stop.failed
-    (windows_fail c.args.transfer.now g.W.Write.contents _ _ _ begun.begun _ _ opened.2 _ (stop.part opened.1)))
+    (windows_fail c.args.transfer.now g.W.Write.contents _ _ _ begun.begun _ _ opened.2 c.put_windows.new.writer (stop.part opened.1)))
 
 pub returns : goal.returns
 returns g c =
@@ -41,4 +41,4 @@ returns g c =
     let put = c.in_ok-put_windows.ensures in
     let all = written c.args.transfer.now g.W.Write.contents _ _ _ begun.begun _ _ opened.2 _ _ put.2 in
     closed g.W.Write.contents c.args.writer.now c.put_windows.new.writer c.close.new.writer c.close.result _ _ begun.adds.0 put.1 c.close.ensures.writes (c.close.ensures.written _ normal_header (normal_datagrams c.args.transfer.now) all)
-    (close_fails c.args.transfer.now g.W.Write.contents _ _ _ begun.begun _ _ opened.2 _ _ put.2 _)
+    (close_fails c.args.transfer.now g.W.Write.contents _ _ _ begun.begun _ _ opened.2 _ _ put.2 c.close.new.writer)
