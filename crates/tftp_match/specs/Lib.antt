@@ -12,4 +12,4 @@ pub use declared.reading.Halt.{Halt}
 pub use declared.reading.Halt.TheVariants.{Ended, Fault, Refused}
 pub use declared.said.Apart.{Apart}
 pub use declared.said.Apart.TheVariants.{Stopped, WrongEnd}
-pub use declared.said.Matched.{Matched}
+pub use Rattle.tftp_pair_judge.specs.{Matched}

@@ -8,10 +8,9 @@ use Rattle.tftp_model.specs.{Meaning}
 use Rattle.tftp_judge.specs.{IsOfText, Verdict, Capture, Refused}
 use Rattle.tftp_judge.specs.declared.refusal.Refusal.TheVariants as refusal
 use Rattle.tftp_pair.specs.{Capture as Captured, IsPairVerdict}
-use Rattle.tftp_pair_judge.specs.{AreCarried, AreCountsOf, IsWhyWaiting}
+use Rattle.tftp_pair_judge.specs.{AreCarried, AreCountsOf, IsWhyWaiting, Matched}
 use Rattle.tftp_match.specs.Judged.{IsJudged}
 use Rattle.tftp_match.specs.Datagrams.{HasDatagrams, capture_of}
-use Rattle.tftp_match.specs.declared.said.Matched.{Matched}
 use Rattle.tftp_match.specs.declared.said.Apart.{Apart}
 use Rattle.tftp_match.specs.declared.said.Apart.TheVariants.{WrongEnd, Stopped}
 

@@ -10,5 +10,5 @@ mod rest;
 mod said;
 
 pub use pair::judge_pair;
-pub use said::{Apart, Matched, PairSaid};
-pub use tftp_pair_judge::Wait;
+pub use said::{Apart, PairSaid};
+pub use tftp_pair_judge::{Matched, Wait};

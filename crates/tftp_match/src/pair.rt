@@ -12,14 +12,14 @@ ghost use Rattle.tftp_match.specs.Said.{AreNumbersOf, IsPairSaid, IsWhy, SaysMat
 
 use crate::merging::merge;
 use crate::reading::{Reading, said_of};
-use crate::said::{Apart, Matched, PairSaid, together_of};
+use crate::said::{Apart, PairSaid, together_of};
 use std::alloc::Global;
 use std::io::Read;
 use tftp_blocks::RingDelivered;
 use tftp_capture::{CaptureReader, Datagram, LatchedReader};
-use tftp_judge::{Judge, Meaning, Refusal, Verdict, judge_text};
+use tftp_judge::{Judge, Meaning, Verdict, judge_text};
 use tftp_packet::End;
-use tftp_pair_judge::{PairJudge, PairVerdict};
+use tftp_pair_judge::PairJudge;
 
 /// What there is to say of two capture texts, the first of a client and the second of a server, by the runs of two ends (RFC
 /// 1350; RFC 2347; RFC 7440). Of each it says what there is to say of it alone, and of both how far one run has them
@@ -160,36 +160,14 @@ fn judge_begun<R: Read, S: Read>(
     let mut rest = pair.rest();
     client.read_rest(alloc, &mut rest, End::Client, client_reader, &mut datagram);
     server.read_rest(alloc, &mut rest, End::Server, server_reader, &mut datagram);
-    let (numbers, client_alone, server_alone) = parted(rest.finish(alloc));
-    let client_said = said_of(client.halt, client_alone);
-    let server_said = said_of(server.halt, server_alone);
+    let verdict = rest.finish(alloc);
+    let client_said = said_of(client.halt, verdict.client);
+    let server_said = said_of(server.halt, verdict.server);
+    let numbers = verdict.matched;
     let together = together_of(named, other_named, &client_said, &server_said, numbers);
     PairSaid {
         client: client_said,
         server: server_said,
         together,
     }
-}
-
-/// The numbers of a verdict, and what there is of each capture alone.
-fn parted(verdict: PairVerdict) -> (Matched, Result<Meaning, Refusal>, Result<Meaning, Refusal>)
-    ensures client { (result.0.client_lawful ≡ verdict.client_lawful) × (result.0.client_matched ≡ verdict.client_matched) }
-    ensures server { (result.0.server_lawful ≡ verdict.server_lawful) × (result.0.server_matched ≡ verdict.server_matched) }
-    ensures why { (result.0.client_why ≡ verdict.client_why) × (result.0.server_why ≡ verdict.server_why) }
-    ensures counts { (result.0.client_counts ≡ verdict.client_counts) × (result.0.server_counts ≡ verdict.server_counts) }
-    ensures carried { result.0.carried ≡ verdict.carried }
-    ensures alone { (result.1 ≡ verdict.client) × (result.2 ≡ verdict.server) }
-{
-    let numbers = Matched {
-        client_lawful: verdict.client_lawful,
-        server_lawful: verdict.server_lawful,
-        client_matched: verdict.client_matched,
-        server_matched: verdict.server_matched,
-        client_why: verdict.client_why,
-        server_why: verdict.server_why,
-        client_counts: verdict.client_counts,
-        server_counts: verdict.server_counts,
-        carried: verdict.carried,
-    };
-    (numbers, verdict.client, verdict.server)
 }

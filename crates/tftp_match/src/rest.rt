@@ -16,35 +16,6 @@ use tftp_packet::End;
 use tftp_pair_judge::PairRest;
 
 impl Reading {
-    /// Reads what is left of the text of an end whose last datagram waited.
-    fn read_out<R: Read>(
-        &mut self,
-        alloc: Global,
-        rest: &mut PairRest<RingDelivered>,
-        end: End,
-        reader: &mut LatchedReader<R>,
-        datagram: &mut Datagram,
-    )
-        requires goes { self.old.halt ≡ None }
-        requires open { self.old.capture.standing ≡ Standing.Open }
-        requires lines { (left_judge_at end rest.old).fed < self.old.capture.handed }
-        requires waited { is_some (left_at end rest.old).side.held ≡ true }
-        ensures runs { RestRuns end (seen (R.remaining reader.old.0) reader.old.1 self.old.halt self.old.capture) rest.old
-            (seen (R.remaining reader.new.0) reader.new.1 self.new.halt self.new.capture) rest.new }
-        ensures halts { (halt : HaltKind) × (self.new.halt ≡ Some halt) }
-        ensures other { left_at (other_end end) rest.new ≡ left_at (other_end end) rest.old }
-    {
-        while self.next(reader, datagram) {
-            match rest.feed(alloc, end, datagram) {
-                Ok(()) => {}
-                Err(_) => {
-                    self.halt = Some(Halt::Refused);
-                    return;
-                }
-            }
-        }
-    }
-
     /// Reads what is left of the text of an end, where its last datagram waited.
     pub fn read_rest<R: Read>(
         &mut self,
@@ -62,8 +33,17 @@ impl Reading {
         ensures halts { (halt : HaltKind) × (self.new.halt ≡ Some halt) }
         ensures other { left_at (other_end end) rest.new ≡ left_at (other_end end) rest.old }
     {
-        if self.halt.is_none() {
-            self.read_out(alloc, rest, end, reader, datagram);
+        if self.halt.is_some() {
+            return;
+        }
+        while self.next(reader, datagram) {
+            match rest.feed(alloc, end, datagram) {
+                Ok(()) => {}
+                Err(_) => {
+                    self.halt = Some(Halt::Refused);
+                    return;
+                }
+            }
         }
     }
 

@@ -6,5 +6,6 @@ pub use Merging.{AreMergedBut, IsAskedAgain, IsWaitFor, Waits, WasSent, with_hel
 pub use Kept.{AreSidesAfter, HasSame, IsPairAfter, IsSideAfter, Pair, Side, side_at}
 pub use Rest.{IsLeftAfter, IsRestAfter, Left, left_at}
 pub use Verdicts.{AreCarried, AreCountsOf, GoesNoFurther, IsReadOf, IsWhyWaiting}
+pub use declared.matched.Matched.{Matched}
 pub use declared.waiting.Wait.{Wait}
 pub use declared.waiting.Wait.TheVariants.{SentLater, Unsent}

@@ -3,11 +3,13 @@
 #![tactic(auto)]
 
 pub mod laws;
+mod matched;
 mod pair;
 mod rest;
 mod side;
 mod waiting;
 
+pub use matched::Matched;
 pub use pair::PairJudge;
 pub use rest::{PairRest, PairVerdict};
 pub use waiting::Wait;

@@ -11,6 +11,7 @@ ghost use Rattle.tftp_pair_judge.specs.Kept.{CountsOn, IsSideAfter};
 ghost use Rattle.tftp_pair_judge.specs.Rest.{IsLeftAfter, IsRestAfter, left_at};
 ghost use Rattle.tftp_pair_judge.specs.Verdicts.{AreCarried, AreCountsOf, IsReadOf, IsWhyWaiting};
 
+use crate::matched::Matched;
 use crate::side::Side;
 use crate::waiting::Wait;
 use std::alloc::Global;
@@ -101,32 +102,16 @@ impl<D: Delivered + Drop> Model for PairRest<D> {
     ghost view = { λ r. record { client = r.client; server = r.server } };
 }
 
-/// What there is to say of two captures: of each what there is of it alone, how many of its datagrams are lawful, and how
-/// many of those are merged with the other's. One run has both exactly if each is lawful and merged to its end.
+/// What there is to say of two captures: of each what there is of it alone, and how far they go together. One run has both
+/// exactly if each is lawful and matched to its end.
 #[derive(Debug, Drop)]
 pub struct PairVerdict {
     /// Of the client's capture alone.
     pub client: Result<Meaning, Refusal>,
     /// Of the server's capture alone.
     pub server: Result<Meaning, Refusal>,
-    /// How many of the client's datagrams are lawful, one after another from the first.
-    pub client_lawful: u64,
-    /// How many of the server's are.
-    pub server_lawful: u64,
-    /// How many of the client's datagrams some run has beside the server's, from the first.
-    pub client_matched: u64,
-    /// How many of the server's it has.
-    pub server_matched: u64,
-    /// Why the client's next datagram is not matched, where one that is lawful is left.
-    pub client_why: Option<Wait>,
-    /// Why the server's next datagram is not matched, where one that is lawful is left.
-    pub server_why: Option<Wait>,
-    /// How often each packet passed at the client, as far as its capture is lawful; None where memory was wanting to count it.
-    pub client_counts: Option<Counts>,
-    /// How often each passed at the server.
-    pub server_counts: Option<Counts>,
-    /// What the network lost and repeated of what passed as far as both are lawful; None where one of the two is not counted.
-    pub carried: Option<Carried>,
+    /// How far the two go together, as far as each is lawful.
+    pub matched: Matched,
 }
 
 impl<D: Delivered + Drop> PairRest<D> {
@@ -194,31 +179,31 @@ impl<D: Delivered + Drop> PairRest<D> {
             → IsRestAfter self client.header client_read server.header server_read
             → IsReadOf client client_read → IsReadOf server server_read
             → IsLawfulTo client (length client_read) → IsLawfulTo server (length server_read)
-            → IsPairVerdict client server result.client_lawful result.server_lawful result.client_matched result.server_matched }
+            → IsPairVerdict client server result.matched.client_lawful result.matched.server_lawful result.matched.client_matched result.matched.server_matched }
 
         // Why the first datagram of each that is not matched waits for the other capture, as far as that is lawful.
         ensures client_why { (client server : Capture) (client_read server_read : List DatagramParts)
             → IsRestAfter self client.header client_read server.header server_read
             → IsReadOf client client_read → IsReadOf server server_read
-            → IsWhyWaiting client result.client_lawful result.client_matched server result.server_lawful result.client_why }
+            → IsWhyWaiting client result.matched.client_lawful result.matched.client_matched server result.matched.server_lawful result.matched.client_why }
         ensures server_why { (client server : Capture) (client_read server_read : List DatagramParts)
             → IsRestAfter self client.header client_read server.header server_read
             → IsReadOf client client_read → IsReadOf server server_read
-            → IsWhyWaiting server result.server_lawful result.server_matched client result.client_lawful result.server_why }
+            → IsWhyWaiting server result.matched.server_lawful result.matched.server_matched client result.matched.client_lawful result.matched.server_why }
 
         // How often each packet passed as far as both are lawful, where memory sufficed to count it, and what the network lost and
         // repeated by that.
         ensures client_counted { (client server : Capture) (client_read server_read : List DatagramParts)
             → IsRestAfter self client.header client_read server.header server_read
-            → IsReadOf client client_read → AreCountsOf client result.client_lawful result.client_counts }
+            → IsReadOf client client_read → AreCountsOf client result.matched.client_lawful result.matched.client_counts }
         ensures server_counted { (client server : Capture) (client_read server_read : List DatagramParts)
             → IsRestAfter self client.header client_read server.header server_read
-            → IsReadOf server server_read → AreCountsOf server result.server_lawful result.server_counts }
-        ensures counts { result.client_counts ≡ self.client.side.counts × result.server_counts ≡ self.server.side.counts }
+            → IsReadOf server server_read → AreCountsOf server result.matched.server_lawful result.matched.server_counts }
+        ensures counts { result.matched.client_counts ≡ self.client.side.counts × result.matched.server_counts ≡ self.server.side.counts }
         ensures carried { (client server : Capture) (client_read server_read : List DatagramParts)
             → IsRestAfter self client.header client_read server.header server_read
             → IsReadOf client client_read → IsReadOf server server_read
-            → AreCarried client result.client_lawful result.client_counts server result.server_lawful result.server_counts result.carried }
+            → AreCarried client result.matched.client_lawful result.matched.client_counts server result.matched.server_lawful result.matched.server_counts result.matched.carried }
 
         ensures client { (h k : HeaderParts) (client server : List DatagramParts) → IsRestAfter self h client k server → self.client.side.judge.refused ≡ None
             → IsVerdict h (reverse client) result.client }
@@ -241,17 +226,19 @@ impl<D: Delivered + Drop> PairRest<D> {
         let (client_judge, client_counts) = client.side.into_parts();
         let (server_judge, server_counts) = server.side.into_parts();
         PairVerdict {
-            client_lawful,
-            server_lawful,
-            client_matched: client.merged,
-            server_matched: server.merged,
-            client_why,
-            server_why,
-            client_counts,
-            server_counts,
-            carried,
             client: client_judge.finish(alloc),
             server: server_judge.finish(alloc),
+            matched: Matched {
+                client_lawful,
+                server_lawful,
+                client_matched: client.merged,
+                server_matched: server.merged,
+                client_why,
+                server_why,
+                client_counts,
+                server_counts,
+                carried,
+            },
         }
     }
 }

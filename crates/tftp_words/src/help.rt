@@ -1,5 +1,6 @@
 //! What clap knows of the command line: its help, and what it says of words that ask for nothing.
 
+use crate::args;
 use clap::{Arg, ArgAction, Command, value_parser};
 use std::alloc::{AllocError, Global};
 
@@ -7,30 +8,16 @@ static ENDS: [&str; 2] = ["client", "server"];
 
 static POINTS: [&str; 3] = ["client", "server", "between"];
 
-/// The version that is told.
-const VERSION: &str = "0.2.0";
+/// The version that the programs on recordings tell.
+pub const VERSION: &str = "0.2.0";
+
+const JSON: &str = "A JSON object a line";
 
 const ABOUT: &str =
     "From a recording to its TFTP transfers, their capture texts and their verdicts";
 
 const AFTER: &str =
     "FILE is a recording, pcap or pcapng; - is standard input.\n`list` may be left out, and `check` may be written --check.\n\nStatus: 0; with check 1 where a transfer is not accepted; 2 where something could not be read or judged.";
-
-fn service<'a>(alloc: Global) -> Arg<'a> {
-    Arg::new(alloc, "service")
-        .long("service")
-        .value_name("PORT")
-        .action(ArgAction::Append)
-        .value_parser(value_parser!(u16).range(1..))
-        .help("A port to which requests go, beside 69; may be given several times")
-}
-
-fn json<'a>(alloc: Global) -> Arg<'a> {
-    Arg::new(alloc, "json")
-        .long("json")
-        .action(ArgAction::SetTrue)
-        .help("A JSON object a line")
-}
 
 fn file<'a>(alloc: Global) -> Arg<'a> {
     Arg::new(alloc, "file")
@@ -42,8 +29,8 @@ fn file<'a>(alloc: Global) -> Arg<'a> {
 fn list<'a>(alloc: Global) -> Result<Command<'a>, AllocError> {
     Command::new(alloc, "list")
         .about("The transfers, a line each")
-        .arg(service(alloc))?
-        .arg(json(alloc))?
+        .arg(args::service(alloc))?
+        .arg(args::json(alloc, JSON))?
         .arg(file(alloc))
 }
 
@@ -66,7 +53,7 @@ fn end<'a>(alloc: Global) -> Arg<'a> {
 fn text<'a>(alloc: Global) -> Result<Command<'a>, AllocError> {
     Command::new(alloc, "text")
         .about("The capture text of transfer N at an end")
-        .arg(service(alloc))?
+        .arg(args::service(alloc))?
         .arg(number(alloc))?
         .arg(end(alloc))?
         .arg(file(alloc))
@@ -75,7 +62,7 @@ fn text<'a>(alloc: Global) -> Result<Command<'a>, AllocError> {
 fn texts<'a>(alloc: Global) -> Result<Command<'a>, AllocError> {
     Command::new(alloc, "texts")
         .about("The capture texts of all transfers at an end, one after the other")
-        .arg(service(alloc))?
+        .arg(args::service(alloc))?
         .arg(end(alloc))?
         .arg(file(alloc))
 }
@@ -102,8 +89,8 @@ fn check<'a>(alloc: Global) -> Result<Command<'a>, AllocError> {
         .about("The verdict on each transfer")
         .alias("--check")?
         .arg(point(alloc))?
-        .arg(service(alloc))?
-        .arg(json(alloc))?
+        .arg(args::service(alloc))?
+        .arg(args::json(alloc, JSON))?
         .arg(files(alloc))
 }
 
@@ -114,8 +101,8 @@ fn plain<'a>(alloc: Global) -> Result<Command<'a>, AllocError> {
         .about(ABOUT)
         .after_help(AFTER)
         .args_conflicts_with_subcommands(true)
-        .arg(service(alloc))?
-        .arg(json(alloc))?
+        .arg(args::service(alloc))?
+        .arg(args::json(alloc, JSON))?
         .arg(file(alloc))
 }
 

@@ -1,6 +1,7 @@
 //! The words of `tftp-transfers`: what the program is asked for, and what there is to tell of words that ask for nothing.
 #![tactic(auto)]
 
+pub mod args;
 mod given;
 mod help;
 mod part;
@@ -8,6 +9,7 @@ mod point;
 mod request;
 mod words;
 
+pub use help::VERSION;
 pub use point::Point;
 pub use request::{CheckRequest, ListRequest, Request, TextRequest, TextsRequest};
 pub use words::{WordsFault, request_of};

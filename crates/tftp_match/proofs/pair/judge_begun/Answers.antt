@@ -1,9 +1,9 @@
-use Rattle.std.proofs.Common.{[], None, sym, ap, subst, ◌∙◌}
+use Rattle.std.proofs.Common.{[], None, sym, ap, subst}
 use Rattle.tftp_capture.specs.{header_of}
 use Rattle.tftp_hosts.specs.{Header}
 use Rattle.tftp_judge.specs.{Judge}
 use Rattle.tftp_pair_judge.specs.{IsPairAfter, Side, Left}
-use Rattle.tftp_match.specs.{AreSeenBoth, IsSeenAt, said_by, seen}
+use Rattle.tftp_match.specs.{AreSeenBoth, IsSeenAt, seen}
 use Rattle.tftp_match.proofs.Ending.{AreNumbersIn, both_said, finished}
 use Rattle.tftp_match.proofs.Steps.{was_halted}
 use Rattle.tftp_match.proofs.pair.judge_begun.Goals as goal
@@ -24,20 +24,18 @@ returns g c = λ before other_before begun other_begun.
     let (why, is) = c.read_rest.ensures.halts in
     let (other_why, other_is) = c.read_rest-2.ensures.halts in
     let r = c.read_rest-2.new.rest in
-    let v = c.finish.ensures in
+    let v = c.finish-verdict.ensures in
     let halted = was_halted before (g.R.Read.remaining c.read_rest.new.reader.0) c.read_rest.new.reader.1 c.read_rest.new.self.halt c.read_rest.new.self.capture r.client.side.judge.refused h read why is mine_now in
     let other_halted = was_halted other_before (g.S.Read.remaining c.read_rest-2.new.reader.0) c.read_rest-2.new.reader.1 c.read_rest-2.new.self.halt c.read_rest-2.new.self.capture r.server.side.judge.refused k other other_why other_is theirs_now in
-    let said = finished r.client.side.judge.refused h read c.finish.result.client (λ none. v.client h k read other rest none) (λ count none same. (v.client_joins h k read other count rest none same).2) v.client_refused in
-    let other_said = finished r.server.side.judge.refused k other c.finish.result.server (λ none. v.server h k read other rest none) (λ count none same. (v.server_joins h k read other count rest none same).2) v.server_refused in
-    let part = c.parted-numbers.ensures in
-    let numbers : AreNumbersIn r c.parted-numbers.result.0 = λ cl se cr sr after a b p q.
-    rw (part.client.0, part.client.1, part.server.0, part.server.1, part.why.0, part.why.1, part.counts.0, part.counts.1, part.carried)
+    let said = finished r.client.side.judge.refused h read c.finish-verdict.result.client (λ none. v.client h k read other rest none) (λ count none same. (v.client_joins h k read other count rest none same).2) v.client_refused in
+    let other_said = finished r.server.side.judge.refused k other c.finish-verdict.result.server (λ none. v.server h k read other rest none) (λ count none same. (v.server_joins h k read other count rest none same).2) v.server_refused in
+    let numbers : AreNumbersIn r c.finish-verdict.result.matched = λ cl se cr sr after a b p q.
     (v.numbers cl se cr sr after a b p q, (v.client_why cl se cr sr after a b, v.server_why cl se cr sr after a b), (v.client_counted cl se cr sr after a, v.server_counted cl se cr sr after b, v.carried cl se cr sr after a b)) in
     let named = ap (λ (x : Header). x.named) c.header.ensures in
     let other_named = ap (λ (x : Header). x.named) c.header-2.ensures in
-    let says = c.said_of-client_said.ensures why is ∙ ap (said_by why) part.alone.0 in
-    let other_says = c.said_of-server_said.ensures other_why other_is ∙ ap (said_by other_why) part.alone.1 in
+    let says = c.said_of-client_said.ensures why is in
+    let other_says = c.said_of-server_said.ensures other_why other_is in
     rw (says, other_says)
     (both_said before (g.R.Read.remaining c.read_rest.new.reader.0) other_before (g.S.Read.remaining c.read_rest-2.new.reader.0) c.read_rest.new.reader.1 c.read_rest-2.new.reader.1 c.args.client c.args.server _ _ _ _ begun other_begun
-    read other r why other_why halted other_halted c.finish.result.client c.finish.result.server said other_said c.parted-numbers.result.0 numbers rest
+    read other r why other_why halted other_halted c.finish-verdict.result.client c.finish-verdict.result.server said other_said c.finish-verdict.result.matched numbers rest
     c.together_of-together.result (rw (named, other_named, says, other_says) at c.together_of-together.ensures.ok) (rw (named, other_named, says, other_says) at c.together_of-together.ensures.err))

@@ -3,7 +3,7 @@ use Rattle.tftp_capture.specs.{Standing}
 use Rattle.tftp_model.specs.Roles.{other_end}
 use Rattle.tftp_pair_judge.specs.{left_at}
 use Rattle.tftp_match.specs.{RestRuns, left_judge_at, seen}
-use Rattle.tftp_match.proofs.reading.Reading.read_out.Given as goal
+use Rattle.tftp_match.proofs.reading.Reading.read_rest.Given as goal
 
 -- more is to be read
 abbrev pub invariant-loop-alloc : goal.invariant-loop-alloc

@@ -5,7 +5,7 @@ use Rattle.tftp_judge.specs.{Refuses}
 use Rattle.tftp_match.specs.{IsRestAt, left_judge_at}
 use Rattle.tftp_match.proofs.Sides.{own_of_rest, rest_grows, rest_says, rest_stays}
 use Rattle.tftp_match.proofs.Steps.{accepted_step, halted_step, refused_step}
-use Rattle.tftp_match.proofs.reading.Reading.read_out.Goals as goal
+use Rattle.tftp_match.proofs.reading.Reading.read_rest.Goals as goal
 
 pub returns-in-Err-clause-runs : goal.returns-in-Err-clause-runs
 returns-in-Err-clause-runs g c =
