@@ -80,8 +80,8 @@ module _ (mode : Mode) (part : List ℕ) where
 
 pub fault_one : (bytes : List ℕ) (fs gs : List FrameParts) (k l : FaultKind) → IsWrong k → IsWrong l → FailsAs bytes fs k → FailsAs bytes gs l → (fs ≡ gs) × (k ≡ l)
 fault_one bytes fs gs k l v w p q =
-    let none : BeginsNone p.mode p.part = λ a rest said. no_piece k p.mode p.count p.part a rest said v p.stops in
-    let never : BeginsNone q.mode q.part = λ a rest said. no_piece l q.mode q.count q.part a rest said w q.stops in
+    let none : BeginsNone p.mode p.part = λ a rest said. no_piece k p.mode p.count p.part a rest said v p.rest in
+    let never : BeginsNone q.mode q.part = λ a rest said. no_piece l q.mode q.count q.part a rest said w q.rest in
     let (mode, frames, part) = alike start p.stands.pieces q.stands.pieces p.mode q.mode fs gs p.part q.part p.stands.follows q.stands.follows none never (ap (λ x. x ++ p.part) (sym p.stands.are) ∙ sym p.are ∙ q.are ∙ ap (λ x. x ++ q.part) q.stands.are) in
-    let there = subst (λ (m : Mode). Stops k m p.count q.part) mode (subst (Stops k p.mode p.count) part p.stops) in
-    (frames, kind_one q.mode q.part k l p.count q.count v w there q.stops)
+    let there = subst (λ (m : Mode). Stops k m p.count q.part) mode (subst (Stops k p.mode p.count) part p.rest) in
+    (frames, kind_one q.mode q.part k l p.count q.count v w there q.rest)

@@ -290,5 +290,5 @@ fault_or_recording bytes fs gs kind wrong fails is =
     last rest more goes joined
   where
     last : (rest : List (List ℕ)) (more : List FrameParts) → Follows fails.mode rest is.mode more → flat_map (λ q. q) rest ≡ fails.part → ⊥
-    last [] more (same, none) joined = is.opened (ap (λ (m : Mode). m.layout) same ∙ part_some kind fails.mode fails.count fails.part wrong fails.stops (sym joined))
-    last (q ∷ qs) more (said, later, says, are, goes) joined = no_piece kind fails.mode fails.count fails.part q (flat_map (λ x. x) qs) said wrong fails.stops says joined
+    last [] more (same, none) joined = is.opened (ap (λ (m : Mode). m.layout) same ∙ part_some kind fails.mode fails.count fails.part wrong fails.rest (sym joined))
+    last (q ∷ qs) more (said, later, says, are, goes) joined = no_piece kind fails.mode fails.count fails.part q (flat_map (λ x. x) qs) said wrong fails.rest says joined

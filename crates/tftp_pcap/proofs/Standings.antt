@@ -61,7 +61,7 @@ module _ (state new : PiecesState) (before after : Option (List ℕ)) (piece : L
         taken = taken;
         ahead = ahead;
         consumed = rest_ahead before end taken ahead (subst (λ (k : Option (List ℕ)). Consumes before k taken) is direct);
-        tells = record { fails = record { good = []; part = taken; mode = state.mode; count = state.count; are = refl; stands = goes; stops = ends.0 }; number = refl };
+        tells = record { fails = record { good = []; part = taken; mode = state.mode; count = state.count; are = refl; stands = goes; rest = ends.0 }; number = refl };
         text = λ h. elim (text h) as (λ _. IsAtEnd end ⊎ (12 ≤ length taken)) [ inl e ↦ inl (end_rest end ahead (subst IsAtEnd is e)) | inr long ↦ inr (subst (λ (l : List ℕ). 12 ≤ length l) (sym (ends.1 (inl h))) long) ];
       }
 
@@ -81,7 +81,7 @@ refused_at_once r = record {
   taken = [];
   ahead = [];
   consumed = consumes_nothing r;
-  tells = record { fails = record { good = []; part = []; mode = start; count = 0; are = refl; stands = nothing; stops = inl no_size }; number = refl };
+  tells = record { fails = record { good = []; part = []; mode = start; count = 0; are = refl; stands = nothing; rest = inl no_size }; number = refl };
   text = λ h. absurd (no_recording h);
 }
 

@@ -108,8 +108,8 @@ module _ (bytes taken more piece : List ℕ) (frames : List FrameParts) (old new
   reach_short low room few places roomier further is wants = (
     taken ++ more,
     both,
-    record { good = bytes ++ taken; part = more; mode = old.mode; count = old.count; are = sym (append_assoc bytes taken more); stands = goes; wants = wants_more low room few places old.mode more roomier further (subst (WantsMemory room places old.mode) (sym is) wants) },
+    record { good = bytes ++ taken; part = more; mode = old.mode; count = old.count; are = sym (append_assoc bytes taken more); stands = goes; rest = wants_more low room few places old.mode more roomier further (subst (WantsMemory room places old.mode) (sym is) wants) },
   )
 
   pub reach_fault : (kind : FaultKind) → Stops kind old.mode old.count more → (all : List ℕ) × Consumes start end all × FailsAs (bytes ++ all) frames kind
-  reach_fault kind stops = (taken ++ more, both, record { good = bytes ++ taken; part = more; mode = old.mode; count = old.count; are = sym (append_assoc bytes taken more); stands = goes; stops = stops })
+  reach_fault kind stops = (taken ++ more, both, record { good = bytes ++ taken; part = more; mode = old.mode; count = old.count; are = sym (append_assoc bytes taken more); stands = goes; rest = stops })

@@ -11,26 +11,23 @@ use Rattle.tftp_pcap.specs.declared.fault.PcapFault.{PcapFault}
 use Rattle.tftp_pcap.specs.declared.standing.Standing.{Standing}
 use Rattle.tftp_pcap.specs.declared.standing.Standing.TheVariants.{Open, Over, Failed}
 
--- The bytes are whole pieces, which give these frames, and then some of which the fault tells.
-pub record FailsAs (bytes : List ℕ) (frames : List FrameParts) (kind : FaultKind) : Type 0 where
+-- The bytes are whole pieces, which give these frames, and then some of which this is so, by how it stands after the pieces.
+pub record EndsIn (P : Mode → ℕ → List ℕ → Type 0) (bytes : List ℕ) (frames : List FrameParts) : Type 0 where
   pub good : List ℕ
   pub part : List ℕ
   pub mode : Mode
   pub count : ℕ
   pub are : bytes ≡ good ++ part
   pub stands : Stands good mode count frames
-  pub stops : Stops kind mode count part
+  pub rest : P mode count part
 
--- The bytes are whole pieces, which give these frames, and then some of a piece for which memory is wanted, where there is
--- room for so many bytes of a piece and for so many interfaces.
-pub record RunsOut (room places : ℕ) (bytes : List ℕ) (frames : List FrameParts) : Type 0 where
-  pub good : List ℕ
-  pub part : List ℕ
-  pub mode : Mode
-  pub count : ℕ
-  pub are : bytes ≡ good ++ part
-  pub stands : Stands good mode count frames
-  pub wants : WantsMemory room places mode part
+-- then some of which the fault tells
+abbrev pub FailsAs : List ℕ → List FrameParts → FaultKind → Type 0
+FailsAs bytes frames kind = EndsIn (Stops kind) bytes frames
+
+-- then some of a piece for which memory is wanted, where there is room for so many bytes of a piece and for so many interfaces
+abbrev pub RunsOut : ℕ → ℕ → List ℕ → List FrameParts → Type 0
+RunsOut room places bytes frames = EndsIn (λ mode count part. WantsMemory room places mode part) bytes frames
 
 -- a fault of the recording, and not of its reader or of memory
 abbrev pub IsWrong : FaultKind → Type 0

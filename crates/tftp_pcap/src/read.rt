@@ -53,40 +53,6 @@ pub fn read_front<R: Read>(
     Ok(Some(size))
 }
 
-/// Reads the rest of a piece into what was read of it, and says what it says.
-fn hold_rest<R: Read>(
-    layout: Layout,
-    interfaces: &[Interface],
-    ahead: &mut Ahead,
-    reader: &mut LatchedReader<R>,
-    piece: &mut Vec<u8>,
-    size: usize,
-) -> Result<Found, FaultKind>
-    requires front { length piece.old.items ≡ front_of layout }
-    requires announced { Announces layout piece.old.items size }
-    requires sized { IsSize layout size }
-    requires held { IsSkipped layout piece.old.items → ⊥ }
-    ensures ends { (more : List ℕ) × Consumes (prepend_known ahead.old (R.remaining reader.old.0)) (prepend_known ahead.new (R.remaining reader.new.0)) more
-        × RestEnds (record { layout = layout; interfaces = interfaces.now }) result piece.new.items (piece.old.items ++ more) }
-    ensures within { IfOk result (λ found. LiesWithin found piece.new.items) }
-    ensures end { result ≡ Err FaultKind.Truncated → IsAtEnd (prepend_known ahead.new (R.remaining reader.new.0)) }
-    ensures read { result ≡ Err FaultKind.Read → reader.new.1 ≡ true }
-    ensures drained { result ≡ Err FaultKind.Read → ahead.new ≡ [] }
-    ensures tally { result ≢ Err FaultKind.Read → reader.new.1 ≡ reader.old.1 }
-    ensures memory { result ≡ Err FaultKind.Memory → IsLonger (vec_capacity piece.old) layout piece.new.items }
-    ensures roomy { vec_capacity piece.old ≤ vec_capacity piece.new }
-{
-    match gather(ahead, reader, piece, size) {
-        Ok(true) => {}
-        Ok(false) => return Err(FaultKind::Truncated),
-        Err(kind) => return Err(kind),
-    }
-    match said_by(layout, interfaces, piece) {
-        Some(found) => Ok(found),
-        None => Err(FaultKind::Bad),
-    }
-}
-
 /// Reads the rest of a piece, and says what it says: a block that is skipped is not held.
 pub fn read_rest<R: Read>(
     layout: Layout,
@@ -109,8 +75,16 @@ pub fn read_rest<R: Read>(
     ensures memory { result ≡ Err FaultKind.Memory → IsLonger (vec_capacity piece.old) layout piece.new.items }
     ensures roomy { vec_capacity piece.old ≤ vec_capacity piece.new }
 {
-    match skipped_in(layout, piece) {
-        Some(order) => skip_rest(order, ahead, reader, piece, size),
-        None => hold_rest(layout, interfaces, ahead, reader, piece, size),
+    if let Some(order) = skipped_in(layout, piece) {
+        return skip_rest(order, ahead, reader, piece, size);
+    }
+    match gather(ahead, reader, piece, size) {
+        Ok(true) => {}
+        Ok(false) => return Err(FaultKind::Truncated),
+        Err(kind) => return Err(kind),
+    }
+    match said_by(layout, interfaces, piece) {
+        Some(found) => Ok(found),
+        None => Err(FaultKind::Bad),
     }
 }

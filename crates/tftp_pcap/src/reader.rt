@@ -46,33 +46,12 @@ impl FrameReader {
         ensures tally { IfErr result (λ fault. (fault.kind ≡ FaultKind.Read → ⊥) → reader.new.1 ≡ reader.old.1) }
         ensures clean { OnOk result (reader.new.1 ≡ reader.old.1) }
     {
-        match Pieces::new(alloc) {
-            Ok(pieces) => FrameReader::begin_with(alloc, pieces, reader),
-            Err(_) => Err(PcapFault {
+        let Ok(mut pieces) = Pieces::new(alloc) else {
+            return Err(PcapFault {
                 kind: FaultKind::Memory,
                 frame: 1,
-            }),
-        }
-    }
-
-    /// Reads the header where nothing was read yet.
-    fn begin_with<R: Read>(
-        alloc: Global,
-        mut pieces: Pieces,
-        reader: &mut LatchedReader<R>,
-    ) -> Result<Self, PcapFault>
-        requires ahead { pieces.ahead ≡ [] }
-        requires mode { pieces.mode ≡ start }
-        requires count { pieces.count ≡ 0 }
-        ensures ok { IfOk result (λ begun. (taken : List ℕ) × Consumes (R.remaining reader.old.0) (prepend_known begun.pieces.ahead (R.remaining reader.new.0)) taken × StandsFor begun taken []) }
-        ensures opened { IfOk result (λ begun. begun.pieces.mode.layout ≢ Layout.Unopened) }
-        ensures open { IfOk result (λ begun. begun.standing ≡ Standing.Open) }
-        ensures err { IfErr result (λ fault. FailsToBegin (R.remaining reader.old.0) (R.remaining reader.new.0) fault) }
-        ensures cut { IfErr result (λ fault. fault.kind ≡ FaultKind.Truncated → IsAtEnd (R.remaining reader.new.0)) }
-        ensures read { IfErr result (λ fault. fault.kind ≡ FaultKind.Read → reader.new.1 ≡ true) }
-        ensures tally { IfErr result (λ fault. (fault.kind ≡ FaultKind.Read → ⊥) → reader.new.1 ≡ reader.old.1) }
-        ensures clean { OnOk result (reader.new.1 ≡ reader.old.1) }
-    {
+            });
+        };
         let mut piece = Vec::new(alloc);
         match pieces.step(reader, &mut piece) {
             Ok(Some(_)) => Ok(FrameReader {
