@@ -47,30 +47,12 @@ module _ (s : TapSides) (side : Side) (passed : List TapDatagram) (marks : Marks
   not_ahead : j ≤ marks.front → IsLateAck s side passed j → ⊥
   not_ahead low (k, one, high, never) = never (are.below k one (omega (arith, high, low)))
 
-  pub zero_found : j ≤ marks.front → j ≡ 0 → IsLateZero s side passed → FindsRule (LateBreaks s side passed (Message.Ack j)) (Some (rule.Block EndRule.AckZero))
-  zero_found low none late = (
-    (none, late),
-    λ other less b. elim (late_ack s side passed j other b) [ inl same ↦ absurd (not_ahead low same.1) | inr same ↦ omega (arith, subst (λ x. number_of x < 27) same.0 less) ],
-  )
-
   pub none_found : j ≤ marks.front → (j ≡ 0 → IsLateZero s side passed → ⊥) → FindsRule (LateBreaks s side passed (Message.Ack j)) None
   none_found low in_time = λ other b. elim (late_ack s side passed j other b) [ inl same ↦ not_ahead low same.1 | inr same ↦ in_time same.1 same.2 ]
 
 -- ---- a message that its end may send
 
 module _ (s : TapSides) (asked : RequestParts) (passed : List TapDatagram) (e : End) where
-  pub wrong_found : (m : Message) → IsWrongKind e asked.side m → FindsRule (MessageBreaks s asked passed e m) (Some rule.WrongKind)
-  wrong_found m wrong = (
-    inl (refl, wrong),
-    λ other low b. elim b [
-      | inl is ↦ omega (arith, subst (λ x. number_of x < 6) is.0 low)
-      | inr more ↦ elim more [
-        | inl is ↦ omega (arith, subst (λ x. number_of x < 6) is.0 low)
-        | inr rest ↦ elim rest [ inl is ↦ omega (arith, subst (λ x. number_of x < 6) is.0 low) | inr late ↦ let high = late_high s asked.side passed m other late in omega (arith, high, low) ]
-      ]
-    ],
-  )
-
   module _ (m : Message) (right : IsWrongKind e asked.side m → ⊥) where
     -- where it breaks none of two, it breaks what is late
     pub late_found : (IsOtherError s passed e m → ⊥) → (IsOtherRequest asked e m → ⊥) → (found : Option Rule) → FindsRule (LateBreaks s asked.side passed m) found → FindsRule (MessageBreaks s asked passed e m) found
@@ -94,18 +76,6 @@ module _ (s : TapSides) (asked : RequestParts) (passed : List TapDatagram) (e : 
         | inr more ↦ elim more [
           | inl same ↦ omega (arith, subst (λ x. number_of x < 7) same.0 low)
           | inr rest ↦ elim rest [ inl same ↦ omega (arith, subst (λ x. number_of x < 7) same.0 low) | inr late ↦ let high = late_high s asked.side passed m r late in omega (arith, high, low) ]
-        ]
-      ],
-    )
-
-    pub request_found : (IsOtherError s passed e m → ⊥) → IsOtherRequest asked e m → FindsRule (MessageBreaks s asked passed e m) (Some rule.RequestChanged)
-    request_found error is = (
-      inr (inr (inl (refl, is))),
-      λ r low b. elim b [
-        | inl is_wrong ↦ right is_wrong.1
-        | inr more ↦ elim more [
-          | inl is_other ↦ error is_other.1
-          | inr rest ↦ elim rest [ inl same ↦ omega (arith, subst (λ x. number_of x < 8) same.0 low) | inr late ↦ let high = late_high s asked.side passed m r late in omega (arith, high, low) ]
         ]
       ],
     )

@@ -16,10 +16,6 @@ use Rattle.tftp_tap_judge.proofs.StopsNoted.{IsErrorFrom, error_ends}
 code_is : (code other : ℕ) (text words : List ℕ) → Message.Error code text ≡ Message.Error other words → (code ≡ other) × (text ≡ words)
 code_is code other text words e = (cc, cc)
 
-ends_or_not : (b : Bool) → (b ≡ true) ⊎ (b ≡ false)
-ends_or_not true = inl refl
-ends_or_not false = inr refl
-
 module _ (s : TapSides) (passed : List TapDatagram) (d : TapDatagram) where
   -- a datagram that is no ERROR of this end
   pub stop_quiet : (e : End) (o : Option Stopped) → (tap_tests s).ends e d ≡ false → IsStop s e passed o → IsStop s e (d ∷ passed) o

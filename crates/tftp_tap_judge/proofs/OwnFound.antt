@@ -44,11 +44,7 @@ module _ (s : TapSides) (apart : AreApart s) (passed : List TapDatagram) (asked 
 
   other_request : (f : End) (n : Message) → d.source ≡ side_of s f → Spells d.payload n → IsOtherRequest asked f n → PassingBreaks s passed route d rule.RequestChanged
   other_request Client (Message.Request now) at t differs = (asked, now, first, at, t, differs)
-  other_request Client (Message.Oack options) at t is = absurd is
-  other_request Client (Message.Data k bytes) at t is = absurd is
-  other_request Client (Message.Ack j) at t is = absurd is
-  other_request Client (Message.Error code text) at t is = absurd is
-  other_request Server n at t is = absurd is
+  other_request _ _ at t is = absurd is
 
   own_of : (r : Rule) → MessageBreaks s asked passed e m r → OwnBreaks s passed route d r
   own_of r (inl (is, wrong)) = subst (OwnBreaks s passed route d) (sym is) (inl (asked, first, e, source, (m, says, wrong)))

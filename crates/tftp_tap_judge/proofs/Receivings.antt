@@ -1,15 +1,16 @@
 -- What the end that gets the file keeps, after one more datagram, and what it finds of it.
-use Rattle.std.proofs.Common.{◌≡◌, ◌⊎◌, inl, inr, ℕ, Bool, true, false, List, [], ◌∷◌, Err, refl, sym, subst, ap, ◌∙◌, ◌||◌, ◌&&◌, ◌==◌, map}
+use Rattle.std.proofs.Common.{◌≡◌, inl, inr, ℕ, Bool, true, false, List, [], ◌∷◌, Err, refl, sym, subst, ap, ◌∙◌, ◌||◌, ◌&&◌, ◌==◌, map}
 use Rattle.std.specs.List.{list_any}
-use Rattle.std.proofs.lemmas.Bool.{true≢false, eqb-true}
+use Rattle.std.proofs.lemmas.Bool.{true≢false, eqb-true, cases_Bool}
 use Rattle.tftp_packet.specs.{Side, End, Client, Server, opcode_of}
-use Rattle.tftp_hosts.specs.{Datagram, same_peer}
+use Rattle.tftp_hosts.specs.{Datagram}
 use Rattle.tftp_model.specs.Roles.{receiver_of}
 use Rattle.tftp_judge.specs.{NoneBreaks, Refuses, IsJudgeAfter, Judge, TakesMemory, Refusal}
 use Rattle.tftp_judge.specs.declared.refusal.Refusal.TheVariants as of_end
 use Rattle.tftp_tap.specs.{TapDatagram, TapSides, side_of, AreApart, is_left_out, same_end, asks_in, ends_in, tap_tests, header_at, kept_between, recorded_at}
-use Rattle.tftp_tap.proofs.KeptOf.{is_or_not, any_here, any_more, kept_in}
+use Rattle.tftp_tap.proofs.KeptOf.{any_here, any_more, kept_in}
 use Rattle.tftp_tap.proofs.TapTests.{source_is}
+use Rattle.tftp_tap.proofs.TapMade.{recorded_payload}
 use Rattle.tftp_law.proofs.Division.RouteTests.{same_is}
 use Rattle.tftp_tap_judge.specs.{IsReceiving, Receiving, kept_there, FindsTo, ReceiverBreaks, error_by_refusal}
 use Rattle.tftp_tap_judge.specs.declared.tap_pass_error.TapPassError.TheVariants as stop
@@ -59,7 +60,7 @@ left_out s side passed d r left is =
 pub kept_alone : (s : TapSides) (side : Side) (d : TapDatagram) → AreApart s → d.source ≡ s.client → asks_in d.payload ≡ true → kept_there s side (d ∷ []) ≡ d ∷ []
 kept_alone s side d apart source asks = kept_in (tap_tests s) (receiver_of side) d [] stays where
   quiet : ends_in d.payload ≡ false
-  quiet = elim (is_or_not (ends_in d.payload)) [
+  quiet = elim (cases_Bool (ends_in d.payload)) [
     | inr other ↦ other
     | inl is ↦ absurd (true≢false (sym asks ∙ ap (λ (n : ℕ). (n == 1) || (n == 2)) (eqb-true (opcode_of d.payload) 5 is)))
   ]
@@ -81,13 +82,6 @@ kept_first s side d judge apart source asks after =
       asked = subst (λ l. list_any (tap_tests s).asks l ≡ true) (sym now) (any_here (tap_tests s).asks d [] (rw (same_is d.source s.client source, asks) refl));
       answered = sym (ap (list_any (tap_tests s).answers) now ∙ rw (source_is s apart d Client Server source) refl);
     }
-
--- what is recorded of a datagram has its payload
-pub recorded_payload : (s : TapSides) (end : End) (d : TapDatagram) → (recorded_at s end d).payload ≡ d.payload
-recorded_payload s end d = by (is_or_not (same_peer d.source (side_of s end))) where
-  by : (same_peer d.source (side_of s end) ≡ true) ⊎ (same_peer d.source (side_of s end) ≡ false) → (recorded_at s end d).payload ≡ d.payload
-  by (inl is) = rw (is) refl
-  by (inr other) = rw (other) refl
 
 pub recorded_same : (s : TapSides) (end : End) (d : TapDatagram) (x : Datagram) → x ≡ recorded_at s end d → d.payload ≡ x.payload
 recorded_same s end d x is = sym (ap (λ (y : Datagram). y.payload) is ∙ recorded_payload s end d)

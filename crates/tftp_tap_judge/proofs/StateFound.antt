@@ -1,7 +1,7 @@
 -- What is found of a datagram between the ends by where it belongs, and what is kept of it.
 use Rattle.std.proofs.Common.{◌≡◌, ◌⊎◌, ◌<◌, ℕ, Bool, true, false, List, [], ◌∷◌, Option, Some, None, Result, Ok, Err, inl, inr, refl, sym, subst, ap, ◌∙◌, arith, ◌&&◌, ◌==◌, map, IfErr, IfOk, IsErrAnd}
 use Rattle.std.specs.List.{list_any}
-use Rattle.std.proofs.lemmas.Bool.{true≢false}
+use Rattle.std.proofs.lemmas.Bool.{true≢false, cases_Bool, and_parts}
 use Rattle.tftp_packet.specs.{Message, RequestParts, Spells, FirstFault, PacketFault, Client, Server}
 use Rattle.tftp_packet.proofs.NoFault.{no_fault}
 use Rattle.tftp_hosts.specs.{same_peer}
@@ -14,7 +14,7 @@ use Rattle.tftp_law.proofs.Division.Divided.{any_none}
 use Rattle.tftp_model.specs.Roles.{receiver_of}
 use Rattle.tftp_tap.specs.{TapDatagram, TapSides, AreApart, kept_of, asks_in, ends_in, has_gone, is_passing, tap_route, tap_tests, transfer_between, BreaksNoTapRule, FirstTapAsked, FirstTapBroken, IsTapRead, KeptBreaks, LateBroken, PassingBreaks, SidesBreak, TapBroken, TapPasses, header_at, kept_between, recorded_at, TapRoute}
 use Rattle.tftp_tap.specs.declared.route.TapRoute.TheVariants as route
-use Rattle.tftp_tap.proofs.KeptOf.{and_true, any_skip, is_or_not, kept_in}
+use Rattle.tftp_tap.proofs.KeptOf.{any_skip, kept_in}
 use Rattle.tftp_tap.proofs.TapTests.{source_is}
 use Rattle.tftp_tap_judge.specs.{IsKeptAtTap, IsTapTransfer, TapTransfer, BeginsAtTap, FindsAtTap, FindsTo, IsNoRequest, IsReadUnless, ReceiverBreaks, TransferBreaks, TapPassError, Breaks}
 use Rattle.tftp_tap_judge.specs.declared.tap_pass_error.TapPassError.TheVariants.{Memory}
@@ -99,10 +99,10 @@ module _ (s : TapSides) (earlier : List TapDatagram) (d : TapDatagram) (passing 
         low_bad r fault low is = let five : number_of r ≡ 5 = ap number_of is in omega (arith, low, five)
 
         at : tap_route s earlier d ≡ route.FromServer
-        at = by (is_or_not (same_peer d.destination s.client)) where
+        at = by (cases_Bool (same_peer d.destination s.client)) where
           by : (same_peer d.destination s.client ≡ true) ⊎ (same_peer d.destination s.client ≡ false) → tap_route s earlier d ≡ route.FromServer
           by (inl is) = rw (source_is s apart d Server Client source, source_is s apart d Server Server source, is) refl
-          by (inr other) = absurd (astray (is_or_not (has_gone d.destination d.source earlier)) (is_or_not (ends_in d.payload))) where
+          by (inr other) = absurd (astray (cases_Bool (has_gone d.destination d.source earlier)) (cases_Bool (ends_in d.payload))) where
             astray : (has_gone d.destination d.source earlier ≡ true) ⊎ (has_gone d.destination d.source earlier ≡ false) → (ends_in d.payload ≡ true) ⊎ (ends_in d.payload ≡ false) → ⊥
             astray (inl gone) (inl ends) = true≢false (sym passing ∙ rw (source_is s apart d Server Client source, source_is s apart d Server Server source, other, gone, ends) refl)
             astray (inl gone) (inr ends) = true≢false (sym passing ∙ rw (source_is s apart d Server Client source, source_is s apart d Server Server source, other, gone, ends) refl)
@@ -130,13 +130,13 @@ none_there s earlier d passing apart lawful asked first read none r b =
 -- where nothing of the transfer has passed, nothing has gone from the server to the client
 nothing_gone : (s : TapSides) → AreApart s → (earlier : List TapDatagram) → transfer_between s earlier ≡ [] → has_gone s.server s.client earlier ≡ false
 nothing_gone s apart [] none = refl
-nothing_gone s apart (x ∷ rest) none = by (nothing_gone s apart rest) (is_or_not (is_passing (tap_route s rest x))) (is_or_not (same_peer x.source s.server && same_peer x.destination s.client)) where
+nothing_gone s apart (x ∷ rest) none = by (nothing_gone s apart rest) (cases_Bool (is_passing (tap_route s rest x))) (cases_Bool (same_peer x.source s.server && same_peer x.destination s.client)) where
   by : (transfer_between s rest ≡ [] → has_gone s.server s.client rest ≡ false) → (is_passing (tap_route s rest x) ≡ true) ⊎ (is_passing (tap_route s rest x) ≡ false) → ((same_peer x.source s.server && same_peer x.destination s.client) ≡ true) ⊎ ((same_peer x.source s.server && same_peer x.destination s.client) ≡ false)
       → has_gone s.server s.client (x ∷ rest) ≡ false
   by before (inl on) there = let bad : x ∷ transfer_between s rest ≡ [] = sym (transfer_on s rest x on) ∙ none in absurd (cc)
   by before (inr off) (inr other) = any_skip (λ d. same_peer d.source s.server && same_peer d.destination s.client) x rest other ∙ before (sym (transfer_off s rest x off) ∙ none)
   by before (inr off) (inl there) =
-      let both = and_true (same_peer x.source s.server) (same_peer x.destination s.client) there in
+      let both = and_parts (same_peer x.source s.server) (same_peer x.destination s.client) there in
       let source = is_same x.source s.server both.0 in
       let on : is_passing (tap_route s rest x) ≡ true = rw (source_is s apart x Server Client source, source_is s apart x Server Server source, both.1) refl in
       absurd (true≢false (sym on ∙ off))
@@ -151,7 +151,7 @@ module _ (s : TapSides) (apart : AreApart s) (earlier : List TapDatagram) (d : T
   gone = nothing_gone s apart earlier none
 
   pub client_asks : asks_in d.payload ≡ true
-  client_asks = by (is_or_not (asks_in d.payload)) (is_or_not (same_peer d.destination s.server)) (is_or_not (has_gone d.destination d.source earlier)) (is_or_not (ends_in d.payload)) where
+  client_asks = by (cases_Bool (asks_in d.payload)) (cases_Bool (same_peer d.destination s.server)) (cases_Bool (has_gone d.destination d.source earlier)) (cases_Bool (ends_in d.payload)) where
     by : (asks_in d.payload ≡ true) ⊎ (asks_in d.payload ≡ false) → (same_peer d.destination s.server ≡ true) ⊎ (same_peer d.destination s.server ≡ false)
         → (has_gone d.destination d.source earlier ≡ true) ⊎ (has_gone d.destination d.source earlier ≡ false) → (ends_in d.payload ≡ true) ⊎ (ends_in d.payload ≡ false) → asks_in d.payload ≡ true
     by (inl asks) there back ends = asks
@@ -161,7 +161,7 @@ module _ (s : TapSides) (apart : AreApart s) (earlier : List TapDatagram) (d : T
     by (inr plain) (inr other) (inr new) ends = absurd (true≢false (sym passing ∙ rw (client, plain, other, new) refl))
 
   asked_there : same_peer d.destination s.asked ≡ true
-  asked_there = by (is_or_not (same_peer d.destination s.asked)) where
+  asked_there = by (cases_Bool (same_peer d.destination s.asked)) where
     by : (same_peer d.destination s.asked ≡ true) ⊎ (same_peer d.destination s.asked ≡ false) → same_peer d.destination s.asked ≡ true
     by (inl there) = there
     by (inr other) = absurd (true≢false (sym passing ∙ rw (client, client_asks, other) refl))
@@ -225,21 +225,6 @@ module _ (s : TapSides) (earlier : List TapDatagram) (d : TapDatagram) where
   aside : is_passing (tap_route s earlier d) ≡ false → (t : Option TapTransfer) → IsKeptAtTap s (transfer_between s earlier) t → IsKeptAtTap s (transfer_between s (d ∷ earlier)) t
   aside off t kept = subst (λ (l : List TapDatagram). IsKeptAtTap s l t) (sym (transfer_off s earlier d off)) kept
 
-  pub stray_found : tap_route s earlier d ≡ route.Stray → (t : Option TapTransfer) → IsKeptAtTap s (transfer_between s earlier) t → TapPasses s earlier d × IsKeptAtTap s (transfer_between s (d ∷ earlier)) t
-  stray_found at t kept = (
-    record {
-      read = subst (λ (r : TapRoute). IsTapRead r d) (sym at) tt;
-      lawful = λ r b. breaks r (subst (λ (x : TapRoute). SidesBreak x d r) at (of_route (ap is_passing at) r b));
-    },
-    aside (ap is_passing at) t kept,
-  )
-    where
-      breaks : (r : Rule) → SidesBreak route.Stray d r → ⊥
-      breaks rule.ForeignPort b = cc
-      breaks rule.WrongPort b = cc
-      breaks rule.StrayAnswer b = elim b [ inl bad ↦ absurd (cc) | inr other ↦ let bad = other.0 in absurd (cc) ]
-      breaks r b = absurd b
-
   pub answer_found : tap_route s earlier d ≡ route.StrayAnswer → (text : List ℕ) → Spells d.payload (Message.Error 5 text) → (t : Option TapTransfer) → IsKeptAtTap s (transfer_between s earlier) t
       → TapPasses s earlier d × IsKeptAtTap s (transfer_between s (d ∷ earlier)) t
   answer_found at text says t kept = (
@@ -255,44 +240,6 @@ module _ (s : TapSides) (earlier : List TapDatagram) (d : TapDatagram) where
       breaks rule.WrongPort b = cc
       breaks rule.StrayAnswer b = elim b [ inl bad ↦ absurd (cc) | inr other ↦ other.1 text says ]
       breaks r b = absurd b
-
-  pub foreign_found : tap_route s earlier d ≡ route.ForeignPort → FirstTapBroken s earlier d rule.ForeignPort
-  foreign_found at = record { breaks = inl at; first = λ r low b. breaks r low (subst (λ (x : TapRoute). SidesBreak x d r) at (of_route (ap is_passing at) r b)) } where
-    breaks : (r : Rule) → number_of r < 1 → SidesBreak route.ForeignPort d r → ⊥
-    breaks rule.ForeignPort low b = omega arith
-    breaks rule.WrongPort low b = omega arith
-    breaks rule.StrayAnswer low b = omega arith
-    breaks r low b = absurd b
-
-  pub wrong_found : tap_route s earlier d ≡ route.WrongPort → FirstTapBroken s earlier d rule.WrongPort
-  wrong_found at = record { breaks = inl at; first = λ r low b. breaks r low (subst (λ (x : TapRoute). SidesBreak x d r) at (of_route (ap is_passing at) r b)) } where
-    breaks : (r : Rule) → number_of r < 2 → SidesBreak route.WrongPort d r → ⊥
-    breaks rule.ForeignPort low b = cc
-    breaks rule.WrongPort low b = omega arith
-    breaks rule.StrayAnswer low b = omega arith
-    breaks r low b = absurd b
-
-  pub no_answer_found : tap_route s earlier d ≡ route.NoStrayAnswer → FirstTapBroken s earlier d rule.StrayAnswer
-  no_answer_found at = record { breaks = inl (inl at); first = λ r low b. breaks r low (subst (λ (x : TapRoute). SidesBreak x d r) at (of_route (ap is_passing at) r b)) } where
-    breaks : (r : Rule) → number_of r < 3 → SidesBreak route.NoStrayAnswer d r → ⊥
-    breaks rule.ForeignPort low b = cc
-    breaks rule.WrongPort low b = cc
-    breaks rule.StrayAnswer low b = omega arith
-    breaks r low b = absurd b
-
-  pub bad_answer_found : tap_route s earlier d ≡ route.StrayAnswer → ((text : List ℕ) → Spells d.payload (Message.Error 5 text) → ⊥) → FirstTapBroken s earlier d rule.StrayAnswer
-  bad_answer_found at says = record { breaks = inl (inr (at, says)); first = λ r low b. breaks r low (subst (λ (x : TapRoute). SidesBreak x d r) at (of_route (ap is_passing at) r b)) } where
-    breaks : (r : Rule) → number_of r < 3 → SidesBreak route.StrayAnswer d r → ⊥
-    breaks rule.ForeignPort low b = cc
-    breaks rule.WrongPort low b = cc
-    breaks rule.StrayAnswer low b = omega arith
-    breaks r low b = absurd b
-
-  -- and the way that it went
-  pub found_with : (One Other : Type 0) (result : Result (Unit {0}) TapPassError) → (One → Other) → FindsAtTap s earlier d One result → FindsAtTap s earlier d Other result
-  found_with One Other (Ok u) turn f = (f.0, turn f.1)
-  found_with One Other (Err (Breaks r)) turn f = f
-  found_with One Other (Err Memory) turn f = f
 
 -- ---- which end it comes from
 
@@ -310,7 +257,7 @@ Test b = (b ≡ true) ⊎ (b ≡ false)
 
 module _ (s : TapSides) (earlier : List TapDatagram) (d : TapDatagram) where
   pub source_client : is_from_client (tap_route s earlier d) ≡ true → d.source ≡ s.client
-  source_client on = by (is_or_not (same_peer d.source s.client)) (is_or_not (same_peer d.source s.server)) (is_or_not (same_peer d.destination s.client)) where
+  source_client on = by (cases_Bool (same_peer d.source s.client)) (cases_Bool (same_peer d.source s.server)) (cases_Bool (same_peer d.destination s.client)) where
     astray : is_from_client (tap_route s earlier d) ≡ true → same_peer d.source s.client ≡ false → same_peer d.source s.server ≡ true → same_peer d.destination s.client ≡ false
         → Test (has_gone d.destination d.source earlier) → Test (ends_in d.payload) → ⊥
     astray on client server to (inl gone) (inl ends) = true≢false (sym on ∙ rw (client, server, to, gone, ends) refl)
@@ -325,12 +272,12 @@ module _ (s : TapSides) (earlier : List TapDatagram) (d : TapDatagram) where
     by : Test (same_peer d.source s.client) → Test (same_peer d.source s.server) → Test (same_peer d.destination s.client) → d.source ≡ s.client
     by (inl client) server to = is_same d.source s.client client
     by (inr client) (inl server) (inl to) = absurd (true≢false (sym on ∙ rw (client, server, to) refl))
-    by (inr client) (inl server) (inr to) = absurd (astray on client server to (is_or_not (has_gone d.destination d.source earlier)) (is_or_not (ends_in d.payload)))
+    by (inr client) (inl server) (inr to) = absurd (astray on client server to (cases_Bool (has_gone d.destination d.source earlier)) (cases_Bool (ends_in d.payload)))
     by (inr client) (inr server) (inl to) = absurd (true≢false (sym on ∙ rw (client, server, to) refl))
-    by (inr client) (inr server) (inr to) = absurd (elsewhere client server to (is_or_not (same_peer d.destination s.server)) (is_or_not ((s.server.port == s.asked.port) && asks_in d.payload)))
+    by (inr client) (inr server) (inr to) = absurd (elsewhere client server to (cases_Bool (same_peer d.destination s.server)) (cases_Bool ((s.server.port == s.asked.port) && asks_in d.payload)))
 
   pub source_server : is_from_server (tap_route s earlier d) ≡ true → d.source ≡ s.server
-  source_server on = by (is_or_not (same_peer d.source s.server)) (is_or_not (same_peer d.source s.client)) where
+  source_server on = by (cases_Bool (same_peer d.source s.server)) (cases_Bool (same_peer d.source s.client)) where
     asking : same_peer d.source s.client ≡ true → asks_in d.payload ≡ true → Test (same_peer d.destination s.asked) → ⊥
     asking client asks (inl there) = true≢false (sym on ∙ rw (client, asks, there) refl)
     asking client asks (inr other) = true≢false (sym on ∙ rw (client, asks, other) refl)
@@ -349,13 +296,13 @@ module _ (s : TapSides) (earlier : List TapDatagram) (d : TapDatagram) where
     elsewhere client server (inr to) (inr other) asks = true≢false (sym on ∙ rw (client, server, to, other) refl)
 
     of_client : same_peer d.source s.client ≡ true → Test (asks_in d.payload) → ⊥
-    of_client client (inl asks) = asking client asks (is_or_not (same_peer d.destination s.asked))
-    of_client client (inr plain) = saying client plain (is_or_not (same_peer d.destination s.server)) (is_or_not (has_gone s.server s.client earlier)) (is_or_not (has_gone d.destination d.source earlier)) (is_or_not (ends_in d.payload))
+    of_client client (inl asks) = asking client asks (cases_Bool (same_peer d.destination s.asked))
+    of_client client (inr plain) = saying client plain (cases_Bool (same_peer d.destination s.server)) (cases_Bool (has_gone s.server s.client earlier)) (cases_Bool (has_gone d.destination d.source earlier)) (cases_Bool (ends_in d.payload))
 
     by : Test (same_peer d.source s.server) → Test (same_peer d.source s.client) → d.source ≡ s.server
     by (inl server) client = is_same d.source s.server server
-    by (inr server) (inl client) = absurd (of_client client (is_or_not (asks_in d.payload)))
-    by (inr server) (inr client) = absurd (elsewhere client server (is_or_not (same_peer d.destination s.client)) (is_or_not (same_peer d.destination s.server)) (is_or_not ((s.server.port == s.asked.port) && asks_in d.payload)))
+    by (inr server) (inl client) = absurd (of_client client (cases_Bool (asks_in d.payload)))
+    by (inr server) (inr client) = absurd (elsewhere client server (cases_Bool (same_peer d.destination s.client)) (cases_Bool (same_peer d.destination s.server)) (cases_Bool ((s.server.port == s.asked.port) && asks_in d.payload)))
 
 -- ---- where memory is wanting for the first request
 

@@ -2,10 +2,10 @@
 use Rattle.std.proofs.Common.{◌≡◌, ℕ, true, List, [], ◌∷◌, Contains, inr, refl, sym, subst, ap, ◌∙◌, map, reverse}
 use Rattle.std.proofs.lemmas.List.{reverse-reverse}
 use Rattle.std.specs.List.{list_any}
-use Rattle.tftp_packet.specs.{RequestParts, End, Side, Get, Put}
+use Rattle.tftp_packet.specs.{RequestParts, End}
 use Rattle.tftp_hosts.specs.{Datagram, Header}
 use Rattle.tftp_model.specs.{Meaning, blksize_of, request_of, block_count, Ack, Data, HasSent, HasTaken, IsView, IsOneSided}
-use Rattle.tftp_model.specs.Machines.{other_end, receiver_of, sender_of}
+use Rattle.tftp_model.specs.Machines.{receiver_of, sender_of}
 use Rattle.tftp_model.proofs.Members.{contains_none}
 use Rattle.tftp_model.proofs.OneSided.{view_one_sided}
 use Rattle.tftp_model.proofs.MadeRuns.{one_sided_view}
@@ -29,15 +29,9 @@ use Rattle.tftp_tap.proofs.TapRouted.{Carried, mains, transfer_is}
 use Rattle.tftp_tap.proofs.TapRun.{in_times, request_one, says_all, says_each}
 use Rattle.tftp_tap.proofs.TapRunsBreak.{kept_known}
 use Rattle.tftp_tap.proofs.Wholes.{blocks_passed}
+use Rattle.tftp_tap.proofs.AtReceiver.{not_sender}
+use Rattle.tftp_tap.proofs.InOrder.{other_of}
 use Rattle.tftp_tap_judge.proofs.OwnFound.{asked_there}
-
-sender_is : (side : Side) → sender_of side ≡ other_end (receiver_of side)
-sender_is Get = refl
-sender_is Put = refl
-
-ends_apart : (side : Side) → receiver_of side ≡ sender_of side → ⊥
-ends_apart Get is = cc
-ends_apart Put is = cc
 
 module _ (s : TapSides) (apart : AreApart s) (tapped : List TapDatagram) (asked : RequestParts) (first : FirstTapAsked s (transfer_between s tapped) asked) where
   abbrev captured : List Datagram
@@ -133,9 +127,9 @@ module _ (s : TapSides) (apart : AreApart s) (tapped : List TapDatagram) (asked 
               dressed = record { ids = p.0; division = placed s r ks; whole = sym kept ∙ sym (reverse-reverse (kept_between s m.side (map datagram_in cs))); main = refl; parts = p.1 };
             };
             complete = record {
-              took = λ is k low high. subst (λ v. HasTaken v (Data k)) view (at_took r (Data k) (kept_at r (map pass_in cs)) (subst (λ e. Contains (kept_at r (map pass_in cs)) (record { from = e; packet = Data k })) (sender_is m.side) (has_kept r (map pass_in cs) (sender_of m.side) (Data k) refl (blocks_passed m wire (map pass_in cs) may whole k low high))));
+              took = λ is k low high. subst (λ v. HasTaken v (Data k)) view (at_took r (Data k) (kept_at r (map pass_in cs)) (subst (λ e. Contains (kept_at r (map pass_in cs)) (record { from = e; packet = Data k })) (other_of m.side) (has_kept r (map pass_in cs) (sender_of m.side) (Data k) refl (blocks_passed m wire (map pass_in cs) may whole k low high))));
               acknowledged = λ is. subst (λ v. HasSent v (Ack last)) view (at_sent r (Ack last) (kept_at r (map pass_in cs)) (has_kept r (map pass_in cs) r (Ack last) refl whole));
-              was_told = λ is. absurd (ends_apart m.side is);
+              was_told = λ is. absurd (not_sender m.side is);
             };
           }
 

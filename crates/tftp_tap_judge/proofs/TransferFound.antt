@@ -1,6 +1,6 @@
 -- What is found of a datagram of a transfer between the ends, and what is kept of it.
-use Rattle.std.proofs.Common.{◌≡◌, ◌⊎◌, ℕ, true, false, List, [], ◌∷◌, Option, Some, None, Result, Ok, Err, inl, inr, refl, sym, subst, ap, ◌∙◌, arith, ◌↔◌, ◌&&◌, not, nat_lt, is_some, IfOk}
-use Rattle.std.proofs.lemmas.Bool.{true≢false, ltb-true, ltb-false}
+use Rattle.std.proofs.Common.{◌≡◌, ◌⊎◌, ℕ, true, false, List, [], ◌∷◌, Option, Some, None, Result, Ok, Err, inl, inr, refl, sym, subst, ap, ◌∙◌, arith, ◌↔◌, ◌&&◌, not, nat_lt, IfOk}
+use Rattle.std.proofs.lemmas.Bool.{true≢false, ltb-true, ltb-false, cases_Bool}
 use Rattle.tftp_packet.specs.{Message, RequestParts, Spells, FirstFault, meaning, Packet, PacketFault, End}
 use Rattle.tftp_judge.specs.{NoneBreaks}
 use Rattle.tftp_hosts.specs.{Datagram, Header}
@@ -11,10 +11,9 @@ use Rattle.tftp_law.specs.declared.rule.Rule.TheVariants as rule
 use Rattle.tftp_law.proofs.Division.RouteTests.{same_is}
 use Rattle.tftp_law.proofs.Spelled.{spelled_once}
 use Rattle.tftp_tap.specs.{TapDatagram, TapSides, side_of, AreApart, tap_tests, FirstTapAsked, header_at, is_of_ports, kept_between, recorded_at, TapRoute}
-use Rattle.tftp_tap.proofs.KeptOf.{is_or_not}
 use Rattle.tftp_tap.proofs.TapMade.{ports_off}
 use Rattle.tftp_tap.proofs.TapTests.{asks_says}
-use Rattle.tftp_tap_judge.specs.{FindsRule, IsOtherError, IsReadOf, OwnBreaks, IsErrorOf, IsFirstError, NoErrorAtTap, FindsTo, IsReadUnless, ReceiverBreaks, TransferBreaks, smaller_of, TapPassError, Breaks}
+use Rattle.tftp_tap_judge.specs.{FindsRule, IsOtherError, IsReadOf, OwnBreaks, IsErrorOf, NoErrorAtTap, FindsTo, IsReadUnless, ReceiverBreaks, TransferBreaks, smaller_of, TapPassError, Breaks}
 use Rattle.tftp_tap_judge.specs.declared.tap_pass_error.TapPassError.TheVariants.{Memory}
 use Rattle.tftp_tap_judge.proofs.OwnFound.{asked_same, other_error}
 
@@ -46,15 +45,15 @@ module _ (One There : Rule → Type 0) (After : Type 0) (split : (p r : Rule) �
       → FindsTo (λ r. One r ⊎ Content There r) After (smaller_of own found)
   found_both None (Ok u) stand none f = (both_none One (Content There) none (λ r c. f.0 r c.1), f.1)
   found_both None (Err Memory) stand none f = both_none One (Content There) none (λ r c. f r c.1)
-  found_both None (Err (Breaks other)) stand none f = elim (is_or_not (is_of_ports other)) [
+  found_both None (Err (Breaks other)) stand none f = elim (cases_Bool (is_of_ports other)) [
     | inl ports ↦ absurd (stand (both_none One (Content There) none (none_content other ports f.0)) other ports f.0)
     | inr content ↦ (inr (content, f.0), λ r low b. elim b [ inl x ↦ none r x | inr y ↦ f.1 r low y.1 ])
   ]
   found_both (Some own) (Ok u) stand o f = (inl o.0, λ r low b. elim b [ inl x ↦ o.1 r low x | inr y ↦ f.0 r y.1 ])
   found_both (Some own) (Err Memory) stand o f = (inl o.0, λ r low b. elim b [ inl x ↦ o.1 r low x | inr y ↦ f r y.1 ])
-  found_both (Some own) (Err (Breaks other)) stand o f = elim (is_or_not (is_of_ports other)) [
+  found_both (Some own) (Err (Breaks other)) stand o f = elim (cases_Bool (is_of_ports other)) [
     | inl ports ↦ rw (ports) (inl o.0, λ r low b. elim b [ inl x ↦ o.1 r low x | inr y ↦ none_content other ports f.0 r y ])
-    | inr content ↦ elim (is_or_not (nat_lt (number_of other) (number_of own))) [
+    | inr content ↦ elim (cases_Bool (nat_lt (number_of other) (number_of own))) [
       | inl lower ↦
           let less = ltb-true (number_of other) (number_of own) lower in
           rw (content, lower) (inr (content, f.0), λ r low b. elim b [ inl x ↦ o.1 r (omega (arith, less, low)) x | inr y ↦ f.1 r low y.1 ])
@@ -68,7 +67,7 @@ pub memory_smaller : (own : Option Rule) (found : Result (Unit {0}) TapPassError
 memory_smaller None found is = is
 memory_smaller (Some own) (Ok v) is = cc
 memory_smaller (Some own) (Err Memory) is = refl
-memory_smaller (Some own) (Err (Breaks other)) is = elim (is_or_not (not (is_of_ports other) && nat_lt (number_of other) (number_of own))) [ inl lower ↦ absurd (by_true lower) | inr upper ↦ absurd (by_false upper) ] where
+memory_smaller (Some own) (Err (Breaks other)) is = elim (cases_Bool (not (is_of_ports other) && nat_lt (number_of other) (number_of own))) [ inl lower ↦ absurd (by_true lower) | inr upper ↦ absurd (by_false upper) ] where
   by_true : (not (is_of_ports other) && nat_lt (number_of other) (number_of own)) ≡ true → ⊥
   by_true lower = let same = rw (lower) at is in cc
 
@@ -132,10 +131,6 @@ no_error_in s d m says other end code e = other code e.1 (spelled_once d.payload
 pub none_after : (s : TapSides) (passed : List TapDatagram) (d : TapDatagram) (m : Message) → Spells d.payload m → ((code : ℕ) (text : List ℕ) → m ≡ Message.Error code text → ⊥) → NoErrorAtTap s passed → NoErrorAtTap s (d ∷ passed)
 none_after s passed d m says other none = (no_error_in s d m says other, none)
 
-pub first_after : (s : TapSides) (passed : List TapDatagram) (d : TapDatagram) (first : Option (End × ℕ)) → is_some first ≡ true → IsFirstError s passed first → IsFirstError s (d ∷ passed) first
-first_after s passed d None some is = absurd (true≢false (sym some))
-first_after s passed d (Some first) some is = inl is
-
 pub request_no_error : (s : TapSides) (d : TapDatagram) (asked : RequestParts) → Spells d.payload (Message.Request asked) → NoErrorAtTap s (d ∷ [])
 request_no_error s d asked says = none_after s [] d (Message.Request asked) says (λ code text is. cc) tt
 
@@ -158,7 +153,7 @@ answer_read s passed route d own found (Ok p) is o = reads_always d.payload (sma
 answer_read s passed route d None found (Err fault) is none = absurd (none (rule.Malformed fault) (inl is))
 answer_read s passed route d (Some own) (Ok u) (Err fault) is o = tt
 answer_read s passed route d (Some own) (Err Memory) (Err fault) is o = tt
-answer_read s passed route d (Some own) (Err (Breaks other)) (Err fault) is o = elim (is_or_not (not (is_of_ports other) && nat_lt (number_of other) (number_of own))) [ inl lower ↦ rw (lower) tt | inr upper ↦ rw (upper) tt ]
+answer_read s passed route d (Some own) (Err (Breaks other)) (Err fault) is o = elim (cases_Bool (not (is_of_ports other) && nat_lt (number_of other) (number_of own))) [ inl lower ↦ rw (lower) tt | inr upper ↦ rw (upper) tt ]
 
 pub found_err : (Breaking : Rule → Type 0) (One Other : Type 0) (e : TapPassError) → FindsTo Breaking One (Err e) → FindsTo Breaking Other (Err e)
 found_err Breaking One Other (Breaks r) f = f
