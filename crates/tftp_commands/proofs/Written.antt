@@ -1,7 +1,7 @@
 -- What a writer was given, piece by piece.
-use Rattle.std.proofs.Common.{◌≡◌, ℕ, List, [], ◌++◌, Bool, true, false, true≢false, Option, Some, None, refl, sym, ap, ◌∙◌, subst, append-nil}
+use Rattle.std.proofs.Common.{◌≡◌, ℕ, List, [], ◌++◌, Bool, true, false, true≢false, Option, Some, None, Result, Ok, Err, refl, sym, ap, ◌∙◌, subst, append-nil}
 use Rattle.std.proofs.KnownBytes.{Appends-nil}
-use Rattle.tftp_capture.specs.{Added, Gathers, IsFresh, Sink, Stops, Wrote}
+use Rattle.tftp_capture.specs.{Added, Gathers, IsFresh, Sink, Stops, Writes, Wrote}
 use Rattle.tftp_capture.proofs.Gathering.{gathers_written, prefix_after}
 use Rattle.tftp_commands.specs.{IsWritten, Output, Prints, Status}
 use Rattle.tftp_commands.specs.declared.status.Status.TheVariants as status
@@ -34,6 +34,11 @@ module _ {W : Type 0} (contents : W → Option (List ℕ)) (s t : Sink W) where
     subst (λ b. IsWritten (contents s.inner) (contents t.inner) b (record { bytes = s.waits ++ bytes; status = said }) status.Fault) (sym p.failed) (p.part clean, refl),
     λ passed. absurd (true≢false (sym p.failed ∙ passed)),
   )
+
+  -- however a call ends that writes bytes where nothing waited, and of which the status is that of a fault
+  pub printed_fault : {E : Type 0} (r : Result (Unit {0}) E) (bytes : List ℕ) → IsFresh s → Writes contents s t r bytes → printing s t bytes status.Fault status.Fault
+  printed_fault (Ok x) bytes fresh p = subst (λ l. printing s t (l ++ bytes) status.Fault status.Fault) fresh.0 (printed bytes status.Fault p)
+  printed_fault (Err e) bytes fresh p = subst (λ l. printing s t (l ++ bytes) status.Fault status.Fault) fresh.0 (cut bytes status.Fault fresh.1 p)
 
   -- bytes were added, and then what waited was printed
   pub printed_after : (u : Sink W) (bytes : List ℕ) (said result : Status) → Added contents s t bytes → printing t u t.waits said result → printing s u (s.waits ++ bytes) said result

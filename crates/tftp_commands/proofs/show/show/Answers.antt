@@ -10,42 +10,42 @@ returns-in-Err g c =
 
 pub returns-in-Ok-false : goal.returns-in-Ok-false
 returns-in-Ok-false g c =
-    let inv = c.loop-capture.invariant in
+    let inv = c.loop-writer.invariant in
     let answered = rw c.in-Ok-false.field-0-test at c.in-Ok-false.ensures in
     shown_runs g.R.Read.remaining g.W.Write.contents c.args.reader.now c.next_into.new.reader c.args.writer.now c.finish-in-Ok-false.new.writer c.finish-in-Ok-false.result
-    (shown_whole _ _ _ _ _ _ c.loop-capture.capture c.next_into.new.self c.loop-capture.writer.waits c.loop-capture.number _ _ _ inv.shown inv.going answered.continues answered.standing
+    (shown_whole _ _ _ _ _ _ c.loop-writer.capture c.next_into.new.self c.loop-writer.writer.waits c.loop-writer.number _ _ _ inv.shown inv.going answered.continues answered.standing
     (answered.end inv.going refl) (other_side (λ h. h) answered.tally ∙ inv.reading) c.finish-in-Ok-false.ensures.0) c.finish-in-Ok-false.ensures.1
 
 pub returns-in-Err-next_into : goal.returns-in-Err-next_into
 returns-in-Err-next_into g c =
-    let inv = c.loop-capture.invariant in
+    let inv = c.loop-writer.invariant in
     let answered = c.in-Err-next_into.ensures in
     shown_runs g.R.Read.remaining g.W.Write.contents c.args.reader.now c.next_into.new.reader c.args.writer.now c.finish-in-Err-next_into.new.writer c.finish-in-Err-next_into.result
-    (shown_fault _ _ _ _ _ _ c.loop-capture.capture c.next_into.new.self c.loop-capture.writer.waits c.loop-capture.number _ _ _ c.in-Err-next_into.fault inv.shown inv.going answered.continues answered.standing
+    (shown_fault _ _ _ _ _ _ c.loop-writer.capture c.next_into.new.self c.loop-writer.writer.waits c.loop-writer.number _ _ _ c.in-Err-next_into.fault inv.shown inv.going answered.continues answered.standing
     (answered.cut inv.going) (answered.drained inv.going) answered.read (λ other. other_side other answered.tally ∙ inv.reading) c.finish-in-Err-next_into.ensures.0) c.finish-in-Err-next_into.ensures.1
 
 pub returns-then-is_err : goal.returns-then-is_err
 returns-then-is_err g c =
-    let inv = c.loop-capture.invariant in
+    let inv = c.loop-writer.invariant in
     let answered = rw c.in-Ok-true.field-0-test at c.in-Ok-true.ensures in
     let failed = sym c.is_err.ensures.value ∙ c.if-is_err.true in
     let put = c.show_datagram.ensures.adds in
-    let told = not_added g.W.Write.contents c.loop-capture.writer c.show_datagram.new.writer c.show_datagram.result _ failed put.2 in
+    let told = not_added g.W.Write.contents c.loop-writer.writer c.show_datagram.new.writer c.show_datagram.result _ failed put.2 in
     shown_runs g.R.Read.remaining g.W.Write.contents c.args.reader.now c.next_into.new.reader c.args.writer.now c.show_datagram.new.writer _
-    (cut_here _ _ _ _ _ _ c.loop-capture.capture c.next_into.new.self c.loop-capture.writer.waits c.loop-capture.number c.next_into.new.datagram put.0 _ _ inv.shown inv.going answered.continues answered.standing
+    (cut_here _ _ _ _ _ _ c.loop-writer.capture c.next_into.new.self c.loop-writer.writer.waits c.loop-writer.number c.next_into.new.datagram put.0 _ _ inv.shown inv.going answered.continues answered.standing
     (other_side (λ h. h) answered.tally ∙ inv.reading) told.failed put.1 (told.part inv.writing)) (λ passed. absurd (true≢false (sym told.failed ∙ passed)))
 
-pub loop-capture-preserved : goal.loop-capture-preserved
-loop-capture-preserved g c =
-    let inv = c.loop-capture.invariant in
+pub loop-writer-preserved : goal.loop-writer-preserved
+loop-writer-preserved g c =
+    let inv = c.loop-writer.invariant in
     let answered = rw c.in-Ok-true.field-0-test at c.in-Ok-true.ensures in
     let passed = sym c.is_err.ensures.value ∙ c.if-is_err.false in
     let put = c.show_datagram.ensures.adds in
-    let told = added g.W.Write.contents c.loop-capture.writer c.show_datagram.new.writer c.show_datagram.result _ passed put.2 in
+    let told = added g.W.Write.contents c.loop-writer.writer c.show_datagram.new.writer c.show_datagram.result _ passed put.2 in
     record {
       going = answered.standing;
       reading = other_side (λ h. h) answered.tally ∙ inv.reading;
       writing = told.1;
       few = omega (arith, inv.few, answered.rises refl);
-      shown = one_more _ _ _ _ _ _ c.loop-capture.capture c.next_into.new.self c.loop-capture.gathered c.show_datagram.new.writer.waits c.loop-capture.number c.next_into.new.datagram put.0 inv.shown inv.going answered.continues answered.standing put.1 told.2;
+      shown = one_more _ _ _ _ _ _ c.loop-writer.capture c.next_into.new.self c.loop-writer.writer.waits c.show_datagram.new.writer.waits c.loop-writer.number c.next_into.new.datagram put.0 inv.shown inv.going answered.continues answered.standing put.1 told.2;
     }

@@ -3,8 +3,8 @@ use Rattle.tftp_capture.specs.{Open}
 use Rattle.tftp_commands.proofs.Showing.{Showing}
 use Rattle.tftp_commands.proofs.show.show.Given as goal
 
-abbrev pub invariant-loop-capture : goal.invariant-loop-capture
-invariant-loop-capture g l = record {
+abbrev pub invariant-loop-writer : goal.invariant-loop-writer
+invariant-loop-writer g l = record {
   going : l.capture.standing ≡ Open;
   reading : l.reader.1 ≡ false;
   writing : l.writer.failed ≡ false;
@@ -12,5 +12,5 @@ invariant-loop-capture g l = record {
   shown : Showing (g.R.Read.remaining l.fn.reader.0) (g.R.Read.remaining l.reader.0) l.capture (g.W.Write.contents l.fn.writer.inner) (g.W.Write.contents l.writer.inner) l.writer.waits l.number;
 }
 
-abbrev pub decreases-loop-capture : goal.decreases-loop-capture
-decreases-loop-capture g l = 2 ^ 40 - l.capture.handed
+abbrev pub decreases-loop-writer : goal.decreases-loop-writer
+decreases-loop-writer g l = 2 ^ 40 - l.capture.handed
