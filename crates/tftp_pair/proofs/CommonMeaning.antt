@@ -15,13 +15,14 @@ use Rattle.tftp_law.proofs.FirstBroken.FirstRequests.{none_before}
 use Rattle.tftp_law.proofs.FirstBroken.FirstAnswered.{not_both}
 use Rattle.tftp_law.proofs.Accord.FirstReply.{sent_data, sent_zero, no_oack}
 use Rattle.tftp_law.proofs.Accord.HighestNumbers.{transfer_spelled}
-use Rattle.tftp_law.proofs.Soundness.MadeMeaning.{answer_cases, oack_spelled}
+use Rattle.tftp_law.proofs.Soundness.MadeMeaning.{answer_cases}
 use Rattle.tftp_law.proofs.Accord.Moments.{sent_moment}
 use Rattle.tftp_law.proofs.Spelled.{spelled_once}
+use Rattle.tftp_law.proofs.Soundness.Searches.{oack_from, zero_from}
 use Rattle.tftp_pair.specs.{AreMerged, MaySendEach, IsBrought, AreMergedBy}
 use Rattle.tftp_pair.proofs.Merged.{turned, to_client_went}
 use Rattle.tftp_pair.proofs.TwoViews.{view_each}
-use Rattle.tftp_pair.proofs.Counted.{client_took, server_took}
+use Rattle.tftp_pair.proofs.Counted.{server_took}
 use Rattle.tftp_pair.proofs.Spelt.{packet_is, spelt, deeds_merged}
 use Rattle.tftp_pair.proofs.Starting.{no_zero_sent}
 
@@ -108,33 +109,15 @@ here d ds x s = by d.dir refl where
 there : (d : Datagram) (ds : List Datagram) (x : Message) → HasPassed x ds → HasPassed x (d ∷ ds)
 there d ds x p = elim p [ inl q ↦ inl (inr q) | inr q ↦ inr (inr q) ]
 
-pub agrees_passed : (side : Side) (passed : List Datagram) (o : OptionMap) → FirstAnswer side passed (Agrees o) → HasPassed (Message.Oack o) passed
-agrees_passed side [] o first = absurd first
-agrees_passed side (d ∷ passed) o first = elim first [
-  | inl before ↦ there d passed (Message.Oack o) (agrees_passed side passed o before)
-  | inr now ↦ here d passed (Message.Oack o) (oack_spelled side d o now.1)
-]
-
 begins_block : (x : Message) → IsAnswer Get x Begins → (k : ℕ) × (bytes : List ℕ) × (x ≡ Message.Data k bytes)
 begins_block (Message.Data k bytes) is = (k, bytes, refl)
 begins_block _ is = absurd is
-
-begins_zero : (x : Message) → IsAnswer Put x Begins → x ≡ Message.Ack 0
-begins_zero (Message.Ack j) is = ap Message.Ack is
-begins_zero _ is = absurd is
 
 block_passed : (passed : List Datagram) → FirstAnswer Get passed Begins → (k : ℕ) × (bytes : List ℕ) × HasPassed (Message.Data k bytes) passed
 block_passed [] first = absurd first
 block_passed (d ∷ passed) first = elim first [
   | inl before ↦ let (k, bytes, p) = block_passed passed before in (k, bytes, there d passed (Message.Data k bytes) p)
   | inr now ↦ let (x, s, is) = now.1 in let (k, bytes, same) = begins_block x is in (k, bytes, here d passed (Message.Data k bytes) (subst (Spells d.payload) same s))
-]
-
-zero_passed : (passed : List Datagram) → FirstAnswer Put passed Begins → HasPassed (Message.Ack 0) passed
-zero_passed [] first = absurd first
-zero_passed (d ∷ passed) first = elim first [
-  | inl before ↦ there d passed (Message.Ack 0) (zero_passed passed before)
-  | inr now ↦ let (x, s, is) = now.1 in here d passed (Message.Ack 0) (subst (Spells d.payload) (begins_zero x is) s)
 ]
 
 no_zero : (dir : Dir) (passed : List Datagram) → NotAnswered Put passed → Passed dir (Message.Ack 0) passed → ⊥
@@ -160,9 +143,6 @@ module _ (hc hs : Header) (dc ds : Division) (at_client : hc.named ≡ Client) (
 
   views_merged : AreMerged (view_in dc) (view_in ds)
   views_merged = deeds_merged mc ms wc ws (view_in dc) (view_in ds) pc ps (spelt hc mc wc dc routed_client) (spelt hs ms ws ds routed_server) merged
-
-  carried_to_client : (p : MachinePacket) → HasTaken (view_in dc) p → HasSent (view_in ds) p
-  carried_to_client = client_took (view_in dc) (view_in ds) views_merged
 
   carried_to_server : (p : MachinePacket) → HasTaken (view_in ds) p → HasSent (view_in dc) p
   carried_to_server = server_took (view_in dc) (view_in ds) views_merged
@@ -238,7 +218,7 @@ module _ (hc hs : Header) (dc ds : Division) (at_client : hc.named ≡ Client) (
       record {
         fits = acc_server.fits;
         asked = λ asked first. acc_client.asked asked first ∙ same;
-        oacked = λ options answer. one_oack options (agrees_passed ms.side pc options answer);
+        oacked = λ options answer. one_oack options (oack_from ms.side pc options answer);
         plain = λ answer. read_plain get answer;
         blocks = read_blocks get;
       },
@@ -288,10 +268,10 @@ module _ (hc hs : Header) (dc ds : Division) (at_client : hc.named ≡ Client) (
     one_agreed : ms.side ≡ Put → (a : Answer) → FirstAnswer Put pc a → mc.agreed ≡ ms.agreed
     one_agreed put (Agrees o) first =
         let mine : mc.agreed ≡ o = acc_client.oacked o (subst (λ s. FirstAnswer s pc (Agrees o)) (sym (same_side ∙ put)) first) in
-        mine ∙ sym (one_oack o (agrees_passed Put pc o first))
+        mine ∙ sym (one_oack o (oack_from Put pc o first))
     one_agreed put Begins first =
         let plain : NothingAgreed mc = acc_client.plain (subst (λ s. FirstAnswer s pc Begins) (sym (same_side ∙ put)) first) in
-        elim (zero_passed pc first) [
+        elim (zero_from pc first) [
           | inl came ↦ plain ∙ sym (plain_both put plain (ack_out hs ms ws ds routed_server own_server 0 (to_client pc ps merged (Message.Ack 0) came)).1)
           | inr went ↦ absurd (not_server ((ack_out hc mc wc dc routed_client own_client 0 went).0 ∙ ap receiver_of (same_side ∙ put)))
         ]

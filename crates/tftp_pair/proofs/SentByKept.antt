@@ -12,10 +12,11 @@ use Rattle.tftp_law.proofs.Accord.Moments.{sent_moment, took_moment}
 use Rattle.tftp_law.proofs.Accord.PassedIsDone.{told_passed}
 use Rattle.tftp_law.proofs.Soundness.RulesDivide.{divides}
 use Rattle.tftp_law.proofs.Whole.TwoEnds.{some}
+use Rattle.tftp_law.proofs.Soundness.Searches.{oack_from}
 use Rattle.tftp_judge.specs.Kept.{Exchange}
 use Rattle.tftp_judge.specs.{Unanswered, Begun, Agreed, Transfer, ErrorText, IsErrorOf, IsExchange, IsTransferAfter, IsTransferOf, HasBlock, HasAgreed, AreFlags, HasSentBy}
 use Rattle.tftp_pair.proofs.Spelt.{packet_is}
-use Rattle.tftp_pair.proofs.CommonMeaning.{out_is, in_is, oack_out, request_out, agrees_passed}
+use Rattle.tftp_pair.proofs.CommonMeaning.{out_is, in_is, oack_out, request_out}
 
 -- ---- blocks
 
@@ -94,7 +95,7 @@ module _ (h : Header) (m : Meaning) (wire : List ℕ) (division : Division) (acc
   has_oack asked (Agreed options end) first exchange o =
       let mine : m.agreed ≡ options = acc.oacked options (subst (λ (r : RequestParts). FirstAnswer r.side ps (Agrees options)) (acc.asked asked first) exchange.answered) in (
         λ p. let out = oack_out h m wire division routed own o p in (out.0, sym out.1 ∙ mine),
-        λ both. elim (agrees_passed asked.side ps options exchange.answered) [
+        λ both. elim (oack_from asked.side ps options exchange.answered) [
           | inl came ↦ let apart : Server ≡ Client = sym both.0 ∙ oack_in_client options came in absurd (cc)
           | inr went ↦ subst (λ x. Passed Out (Message.Oack x) ps) (sym both.1) went
         ],
