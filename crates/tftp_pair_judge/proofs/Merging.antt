@@ -2,12 +2,15 @@
 use Rattle.std.proofs.Common.{◌≡◌, true, false, List, ◌∷◌, Option, Some, None, inl, inr, sym, subst, ap, ◌∙◌}
 use Rattle.tftp_hosts.specs.{In, Out, Datagram, Header}
 use Rattle.tftp_rules.specs.{route_of, is_of_transfer, transfer_of}
-use Rattle.tftp_law.proofs.FirstBroken.FirstAnswered.{main_none, main_some}
 use Rattle.tftp_pair.specs.{IsBrought, AreMergedBy}
 use Rattle.tftp_pair.proofs.Merged.{at_client, at_server, turned}
 use Rattle.tftp_pair_judge.specs.{WasSent, with_held, Waits, AreMergedBut, IsAskedAgain}
+use Rattle.tftp_judge.proofs.Accepting.{transfer_kept, transfer_same}
 
 -- ---- the two ends the other way round
+
+pub in_is_not_out : (d : Datagram) → d.dir ≡ In → d.dir ≡ Out → ⊥
+in_is_not_out d came went = let e : In ≡ Out = sym came ∙ went in absurd (cc)
 
 pub but_turned : (held other_held : Option Datagram) (h k : Header) (read other_read : List Datagram) → AreMergedBut held other_held h read k other_read → AreMergedBut other_held held k other_read h read
 but_turned held other_held h k read other_read but = record {
@@ -22,15 +25,6 @@ but_turned held other_held h k read other_read but = record {
 
 -- ---- one datagram more
 
-with_main : (h : Header) (earlier : List Datagram) (d : Datagram) → is_of_transfer (route_of h earlier d) ≡ true → transfer_of h (d ∷ earlier) ≡ d ∷ transfer_of h earlier
-with_main h earlier d is = main_some (is_of_transfer (route_of h earlier d)) d (transfer_of h earlier) is
-
-with_none : (h : Header) (earlier : List Datagram) (d : Datagram) → is_of_transfer (route_of h earlier d) ≡ false → transfer_of h (d ∷ earlier) ≡ transfer_of h earlier
-with_none h earlier d is = main_none (is_of_transfer (route_of h earlier d)) d (transfer_of h earlier) is
-
-in_is_not_out : (d : Datagram) → d.dir ≡ In → d.dir ≡ Out → ⊥
-in_is_not_out d came went = let e : In ≡ Out = sym came ∙ went in absurd (cc)
-
 -- what came in was not sent by it
 sent_but_in : (payload : List _) (d : Datagram) (passed : List Datagram) → d.dir ≡ In → WasSent payload (d ∷ passed) → WasSent payload passed
 sent_but_in payload d passed came sent = (sent.0, sent.1, elim sent.2 [ inl this ↦ absurd (in_is_not_out d came this.0) | inr p ↦ p ])
@@ -42,18 +36,18 @@ sent_more payload d passed sent = (sent.0, sent.1, inr sent.2)
 module _ (k : Header) (payload : List _) where
   pub sent_with_held : (held : Option Datagram) (part sent : List Datagram) → Waits k part held sent → WasSent payload (transfer_of k (with_held held part)) → WasSent payload (transfer_of k part)
   sent_with_held None part sent waits was = was
-  sent_with_held (Some d) part sent waits was = sent_but_in payload d (transfer_of k part) waits.1 (subst (WasSent payload) (with_main k part d waits.0) was)
+  sent_with_held (Some d) part sent waits was = sent_but_in payload d (transfer_of k part) waits.1 (subst (WasSent payload) (transfer_kept k part d waits.0) was)
 
   pub sent_without_held : (held : Option Datagram) (part sent : List Datagram) → Waits k part held sent → WasSent payload (transfer_of k part) → WasSent payload (transfer_of k (with_held held part))
   sent_without_held None part sent waits was = was
-  sent_without_held (Some d) part sent waits was = subst (WasSent payload) (sym (with_main k part d waits.0)) (sent_more payload d (transfer_of k part) was)
+  sent_without_held (Some d) part sent waits was = subst (WasSent payload) (sym (transfer_kept k part d waits.0)) (sent_more payload d (transfer_of k part) was)
 
 module _ (h k : Header) (read other_read : List Datagram) (d : Datagram) where
   -- a stray, or what answers one
   pub merges_stray : (other_held : Option Datagram) → AreMergedBut None other_held h read k other_read → is_of_transfer (route_of h read d) ≡ false → AreMergedBut None other_held h (d ∷ read) k other_read
   merges_stray other_held but is =
       let on : is_of_transfer (route_of h but.part d) ≡ false = subst (λ (ds : List Datagram). is_of_transfer (route_of h ds d) ≡ false) but.is is in
-      let same = with_none h but.part d on in
+      let same = transfer_same h but.part d on in
       record {
         part = d ∷ but.part;
         other_part = but.other_part;
@@ -86,7 +80,7 @@ module _ (h k : Header) (read other_read : List Datagram) (d : Datagram) where
       → WasSent d.payload (transfer_of k other_read) → AreMergedBut None other_held h (d ∷ read) k other_read
   merges_in other_held but is came sent =
       let on : is_of_transfer (route_of h but.part d) ≡ true = subst (λ (ds : List Datagram). is_of_transfer (route_of h ds d) ≡ true) but.is is in
-      let same = with_main h but.part d on in
+      let same = transfer_kept h but.part d on in
       let brought : WasSent d.payload (transfer_of k but.other_part) = sent_with_held k d.payload other_held but.other_part (transfer_of h but.part) but.other_waits (subst (λ (ds : List Datagram). WasSent d.payload (transfer_of k ds)) but.other_is sent) in
       record {
         part = d ∷ but.part;
@@ -112,7 +106,7 @@ module _ (h k : Header) (read other_read : List Datagram) (d : Datagram) where
       on = subst (λ (ds : List Datagram). is_of_transfer (route_of h ds d) ≡ true) but.is is
 
       same : transfer_of h (d ∷ but.part) ≡ d ∷ transfer_of h but.part
-      same = with_main h but.part d on
+      same = transfer_kept h but.part d on
 
       more : (part : List Datagram) → AreMergedBy (transfer_of h but.part) (transfer_of k part) → AreMergedBy (transfer_of h (d ∷ but.part)) (transfer_of k part)
       more part merged = subst (λ (ds : List Datagram). AreMergedBy ds (transfer_of k part)) (sym same) (at_client IsBrought d (transfer_of h but.part) (transfer_of k part) (λ came. absurd (in_is_not_out d came went)) merged)
@@ -135,7 +129,7 @@ module _ (h k : Header) (read other_read : List Datagram) (d : Datagram) where
         other_is = is_read;
         waits = tt;
         other_waits = tt;
-        merged = subst (λ (ds : List Datagram). AreMergedBy (transfer_of h (d ∷ but.part)) ds) (sym (with_main k part e waits.0))
+        merged = subst (λ (ds : List Datagram). AreMergedBy (transfer_of h (d ∷ but.part)) ds) (sym (transfer_kept k part e waits.0))
             (at_server IsBrought e (transfer_of h (d ∷ but.part)) (transfer_of k part) (λ _. asked_now) (more part merged));
       }
       by (Some e) (Some f) part is_read waits merged asked_now = record {

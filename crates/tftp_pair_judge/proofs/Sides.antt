@@ -1,6 +1,5 @@
 -- What is kept of one end stands for its datagrams.
-use Rattle.std.proofs.Common.{◌≡◌, ◌≤◌, ◌<◌, ◌+◌, ◌⊎◌, ◌↔◌, ◌||◌, ◌==◌, if◌then◌else◌, ℕ, suc, Bool, true, false, IsTrue, List, [], ◌∷◌, length, Option, Some, None, IfNone, IfSome, Result, Ok, Err, inl, inr, refl, sym, subst, ap, ◌∙◌, arith, IfErr, OnOk}
-use Rattle.std.proofs.lemmas.Bool.{eqb-true, eq-eqb}
+use Rattle.std.proofs.Common.{◌≡◌, ◌≤◌, ◌<◌, ◌+◌, ◌↔◌, if◌then◌else◌, ℕ, suc, Bool, true, false, IsTrue, List, [], ◌∷◌, length, Option, Some, None, IfNone, IfSome, Result, Ok, Err, inl, inr, refl, sym, subst, ap, ◌∙◌, arith, IfErr, OnOk}
 use Rattle.tftp_packet.specs.{Message, Spells}
 use Rattle.tftp_hosts.specs.{In, Out, Datagram, Header}
 use Rattle.tftp_law.proofs.Spelled.{spelled_once}
@@ -31,44 +30,12 @@ payload_sent s h read after payload m spells b is = (
 
 -- ---- the flags of ACKs
 
-or_true : (a : Bool) → (a || true) ≡ true
-or_true true = refl
-or_true false = refl
-
-or_cases : (a b : Bool) → (a || b) ≡ true → (a ≡ true) ⊎ (b ≡ true)
-or_cases true b is = inl refl
-or_cases false b is = inr is
-
-pub flag_of_ack : (old now : ℕ → Bool) (passed : List Datagram) (d : Datagram) (block : ℕ) → d.dir ≡ Out → Spells d.payload (Message.Ack block) → ((j : ℕ) → now j ≡ (old j || (j == block)))
-    → AreFlags old passed → AreFlags now (d ∷ passed)
-flag_of_ack old now passed d block out spells noted are j = (
-  λ set. elim (or_cases (old j) (j == block) (sym (noted j) ∙ set)) [
-    | inl was ↦ inr ((are j).0 was)
-    | inr same ↦ inl (out, subst (λ n. Spells d.payload (Message.Ack n)) (sym (eqb-true j block same)) spells)
-  ],
-  λ p. noted j ∙ elim p [
-    | inl this ↦ let is : j ≡ block = number (spelled_once d.payload (Message.Ack j) (Message.Ack block) this.1 spells) in ap (λ b. old j || b) (eq-eqb j block is) ∙ or_true (old j)
-    | inr p ↦ ap (λ b. b || (j == block)) ((are j).1 p)
-  ],
-) where
-  number : Message.Ack j ≡ Message.Ack block → j ≡ block
-  number e = cc
-
 -- a datagram that is no ACK that goes out
 pub flags_stay : (flags : ℕ → Bool) (passed : List Datagram) (d : Datagram) → ((j : ℕ) → d.dir ≡ Out → Spells d.payload (Message.Ack j) → ⊥) → AreFlags flags passed → AreFlags flags (d ∷ passed)
 flags_stay flags passed d other are j = (
   λ set. inr ((are j).0 set),
   λ p. elim p [ inl this ↦ absurd (other j this.0 this.1) | inr p ↦ (are j).1 p ],
 )
-
-pub in_is_not_out : (d : Datagram) → d.dir ≡ In → d.dir ≡ Out → ⊥
-in_is_not_out d came went = let e : In ≡ Out = sym came ∙ went in absurd (cc)
-
-pub flags_after_in : (flags : ℕ → Bool) (h : Header) (read : List Datagram) (d : Datagram) → d.dir ≡ In → AreFlags flags (transfer_of h read) → AreFlags flags (transfer_of h (d ∷ read))
-flags_after_in flags h read d came are = by (is_of_transfer (route_of h read d)) refl where
-  by : (b : Bool) → is_of_transfer (route_of h read d) ≡ b → AreFlags flags (transfer_of h (d ∷ read))
-  by true is = subst (AreFlags flags) (sym (main_some (is_of_transfer (route_of h read d)) d (transfer_of h read) is)) (flags_stay flags (transfer_of h read) d (λ j out spells. in_is_not_out d came out) are)
-  by false is = subst (AreFlags flags) (sym (main_none (is_of_transfer (route_of h read d)) d (transfer_of h read) is)) are
 
 pub flags_after_stray : (flags : ℕ → Bool) (h : Header) (read : List Datagram) (d : Datagram) → is_of_transfer (route_of h read d) ≡ false → AreFlags flags (transfer_of h read) → AreFlags flags (transfer_of h (d ∷ read))
 flags_after_stray flags h read d is are = subst (AreFlags flags) (sym (main_none (is_of_transfer (route_of h read d)) d (transfer_of h read) is)) are
@@ -127,19 +94,6 @@ same_side old new h read same after = record {
   counted = subst (λ (counts : Option Counted). AreCounted counts (transfer_of h read)) (sym same.2) after.counted;
 }
 
-pub refused_side : (old new : Side) (h : Header) (read : List Datagram) (r : Refusal) → new.judge.refused ≡ Some r → new.judge.state.transfer ≡ old.judge.state.transfer → new.judge.fed ≡ old.judge.fed → new.acks ≡ old.acks → new.counts ≡ old.counts
-    → IsSideAfter old h read → IsSideAfter new h read
-refused_side old new h read r refused transfer fed acks counts after = record {
-  goes_on = λ none. let e : Some r ≡ None = sym refused ∙ none in absurd (cc);
-  lawful = after.lawful;
-  short = after.short;
-  kept = subst (IsKept h read) (sym transfer) after.kept;
-  fed = fed ∙ after.fed;
-  few = after.few;
-  acks = subst (λ (ws : List ℕ). AreFlags (flags_of ws) (transfer_of h read)) (sym acks) after.acks;
-  counted = subst (λ (o : Option Counted). AreCounted o (transfer_of h read)) (sym counts) after.counted;
-}
-
 pub not_refused : {A : Type 0} → (refused : Option Refusal) (result : Result A Refusal) (answer : A) → ((r : Refusal) → refused ≡ Some r → result ≡ Err r) → result ≡ Ok answer → refused ≡ None
 not_refused None result answer good is = refl
 not_refused (Some r) result answer good is = let apart : Ok answer ≡ Err r = sym is ∙ good r refl in absurd (cc)
@@ -191,8 +145,3 @@ on_ok (Err e) P Q f is = is
 pub on_err : {A E : Type 0} → (result : Result A E) (P Q : E → Type 0) → ((e : E) → P e → Q e) → IfErr result P → IfErr result Q
 on_err (Ok x) P Q f is = is
 on_err (Err e) P Q f is = f e is
-
--- where nothing was refused before
-pub on_ok_going : {A : Type 0} → (refused : Option Refusal) (result : Result A Refusal) (P Q : Type 0) → ((r : Refusal) → refused ≡ Some r → result ≡ Err r) → (refused ≡ None → OnOk result P) → (P → Q) → OnOk result Q
-on_ok_going None result P Q bad good f = on_ok result P Q f (good refl)
-on_ok_going (Some r) result P Q bad good f = subst (λ x. OnOk x Q) (sym (bad r refl)) tt

@@ -1,6 +1,7 @@
 use Rattle.std.proofs.Common.{sym}
 use Rattle.tftp_capture.specs.{datagram_of}
-use Rattle.tftp_pair_judge.proofs.Sides.{flags_stay, in_is_not_out}
+use Rattle.tftp_pair_judge.proofs.Sides.{flags_stay}
+use Rattle.tftp_pair_judge.proofs.Merging.{in_is_not_out}
 use Rattle.tftp_pair_judge.proofs.side.Side.note_ack.Goals as goal
 
 pub returns-in-In-clause-acks : goal.returns-in-In-clause-acks
