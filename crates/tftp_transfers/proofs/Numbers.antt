@@ -123,8 +123,6 @@ module _ (bound : ℕ) where
   IsOneBelow (Some x) = x.number < bound
 
   serves_below : (o : Endpoint) (d : Recorded) (now : ℕ) (place : Place) → IsBelow bound place → AreServedBelow (serves o (record { datagram = d; moment = now; place = place }))
-  serves_below o d now (Opens x) below = tt
-  serves_below o d now (Repeats x) below = tt
   serves_below o d now (Talks x) below = by_test (goes o x.client d)
       (λ is. subst AreServedBelow (sym (ap (λ b. if b then Some (record { transfer = x; moment = now }) else None) is)) below)
       (λ off. subst AreServedBelow (sym (ap (λ b. if b then Some (record { transfer = x; moment = now }) else None) off)) tt)
@@ -179,7 +177,7 @@ module _ (bound : ℕ) where
 
 -- ---- a whole recording
 
-length_placed : (named : List ℕ) (recorded : List Recorded) → length (placed named recorded) ≡ length recorded
+pub length_placed : (named : List ℕ) (recorded : List Recorded) → length (placed named recorded) ≡ length recorded
 length_placed named [] = refl
 length_placed named (d ∷ recorded) = ap suc (length_placed named recorded)
 

@@ -1,8 +1,8 @@
 -- Who served whom, after one datagram more; and the other end of a datagram.
-use Rattle.std.proofs.Common.{◌≡◌, ◌≢◌, ◌≤◌, ◌⊎◌, ℕ, ◌+◌, Bool, true, false, List, [], ◌∷◌, Option, Some, None, cond, inl, inr, refl, sym, ap, subst, ◌∙◌, ◌||◌, nat_le, if◌then◌else◌}
+use Rattle.std.proofs.Common.{◌≡◌, ◌≢◌, ◌≤◌, ◌⊎◌, ℕ, ◌+◌, Bool, true, false, List, [], ◌∷◌, Option, Some, None, cond, inl, inr, refl, sym, ap, subst, ◌∙◌, nat_le, if◌then◌else◌}
 use Rattle.std.specs.BTreeMap.{get, BTreeMap}
 use Rattle.std.specs.Ordering.{is_eq}
-use Rattle.std.proofs.lemmas.Bool.{false≢true, and_from}
+use Rattle.std.proofs.lemmas.Bool.{false≢true, and_from, or_right, or_left}
 use Rattle.tftp_lines.specs.{Endpoint, Talks, Transfer, Line, Recorded, same_endpoint, endpoint_cmp, goes, is_between, Placed, latest_in, clock, silence, IsLineOf, seen_of, other_end}
 use Rattle.tftp_transfers.specs.{Served, newer, serves, last_served, served_within, served_by, IsServedKept, AreServed}
 use Rattle.tftp_lines.proofs.Endpoints.{same_itself, same_by_order, is_same}
@@ -20,14 +20,6 @@ pub served_elsewhere : (o : Endpoint) (d : Recorded) (x : Transfer) (now : ℕ) 
 served_elsewhere o d x now rest off = by_test (same_endpoint d.source o)
     (λ is. rw is (rw off refl))
     (λ not_it. rw not_it refl)
-
-or_right : (a b : Bool) → b ≡ true → (a || b) ≡ true
-or_right true b is = refl
-or_right false b is = is
-
-or_left : (a b : Bool) → a ≡ true → (a || b) ≡ true
-or_left true b is = refl
-or_left false b is = absurd (false≢true is)
 
 -- a datagram is between its client and the other end
 pub between_other : (c : Endpoint) (d : Recorded) → (c ≡ d.source) ⊎ (c ≡ d.target) → is_between c (other_end c (seen_of d)) d ≡ true
