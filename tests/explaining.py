@@ -225,7 +225,7 @@ RULES = (
         ),
         "Datagram 6 (line 9) acknowledged block 2.",
         "The window is 4 blocks (datagram 2, line 5), so block 6 is the last that may come.", "Block 7 is one too far.",
-        "RFC 1350, section 2 (lock step), and RFC 7440, section 3.",
+        "RFC 1350, section 2 (lock step), and RFC 7440, section 4.",
     ),
     refused(
         5, Rule.BLOCK_SKIPPED,

@@ -54,7 +54,7 @@ local RULES = {
     [21] = { name = "BlockLength", says = "each block but the last is whole, and the last is shorter, as long as an agreed size leaves it",
         whose = "RFC 1350, section 6, RFC 2348, and RFC 2349 for the size" },
     [22] = { name = "WindowOverrun", says = "no block is more than a window above the last one acknowledged",
-        whose = "RFC 1350, section 2 (lock step), and RFC 7440, section 3" },
+        whose = "RFC 1350, section 2 (lock step), and RFC 7440, section 4" },
     [23] = { name = "BlockSkipped", says = "a sender sends its blocks one after another",
         whose = "RFC 1350, section 5, and RFC 7440, section 4" },
     [24] = { name = "GoneBack", says = "in lock step a sender does not send an earlier block again",

@@ -124,7 +124,7 @@ class Rule(enum.Enum):
     )
     WINDOW_OVERRUN = (
         22, "WindowOverrun", "no block is more than a window above the last one acknowledged",
-        "RFC 1350, section 2 (lock step), and RFC 7440, section 3",
+        "RFC 1350, section 2 (lock step), and RFC 7440, section 4",
         "a sender that sends ahead without an agreed window (Go pin with SetAnticipate), or that takes a repeated ACK"
         " for the next one (atftp's write); or ACKs are missing in the capture",
     )
