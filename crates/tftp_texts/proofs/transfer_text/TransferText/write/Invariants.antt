@@ -10,7 +10,7 @@ use Rattle.tftp_texts.proofs.transfer_text.TransferText.write.Given as goal
 abbrev pub invariant-loop-noted : goal.invariant-loop-noted
 invariant-loop-noted g l = record {
   counted : l.capture ≤ l.noted-index;
-  written : (start : Sink g.W) (header : Header) (entries : List Entry) → HasWrittenHosts g.W.Write.contents start l.initial.writer l.initial.capture header entries
+  written : (start : Sink _) (header : Header) (entries : List Entry) → HasWrittenHosts g.W.Write.contents start l.initial.writer l.initial.capture header entries
       → (more : List Entry) × HasWrittenHosts g.W.Write.contents start l.writer l.capture header (entries ++ more) × All HasComment more
       × ((name : Naming) (placed : List Placed) → AreNotesAfter l.self name placed
       → said_in more ≡ capture_at l.end name l.self.transfer placed (take l.noted-index (reverse (filter (is_about l.self.transfer.number) placed))));
