@@ -1,10 +1,10 @@
 -- What is held until it is known who the server is, and is then given to its judge.
-use Rattle.std.proofs.Common.{◌≡◌, ◌≤◌, ℕ, suc, true, false, cond, List, [], ◌∷◌, ◌++◌, length, Option, Some, None, refl, sym, ap, ◌∙◌, subst, append_assoc, append-nil, arith, map, reverse, filter, Result, Ok, Err, OnOk}
+use Rattle.std.proofs.Common.{◌≡◌, ◌≤◌, ℕ, suc, true, false, cond, List, [], ◌∷◌, ◌++◌, length, Option, Some, None, refl, sym, ap, ◌∙◌, subst, append_assoc, append-nil, arith, map, reverse, filter, Result, Ok, Err, OnOk, Bool}
 use Rattle.std.specs.declared.alloc.AllocError.{AllocError}
 use Rattle.std.proofs.lemmas.List.{length-reverse, reverse-append, reverse-reverse}
-use Rattle.tftp_lines.specs.{Transfer, Placed}
-use Rattle.tftp_transfers.specs.{TransferEnds, AreEndsAfter, is_settled, answered_by, asked_of, is_about, is_at_server, went_on_with}
-use Rattle.tftp_transfers.proofs.OwnDatagrams.{about_none, answered_kept, asked_kept, filter_kept, seen_none, settled_kept, went_on_kept}
+use Rattle.tftp_lines.specs.{Transfer, Placed, is_of}
+use Rattle.tftp_transfers.specs.{TransferEnds, AreEndsAfter, is_settled, answered_by, asked_of, is_about, is_at_server, went_on_with, server_of}
+use Rattle.tftp_transfers.proofs.OwnDatagrams.{about_none, answered_kept, asked_kept, filter_kept, seen_none, settled_kept, went_on_kept, server_kept}
 use Rattle.tftp_views.specs.{Held, Naming, captured_at_server, server_header, HasJudged, AreHeld, IsFed, IsGoingOn, IsServerAfter, IsViewAfter, Server, View, ViewedBy}
 use Rattle.tftp_views.proofs.Feeding.{not_seen}
 use Rattle.tftp_views.proofs.Settling.{server_goes_on, settled_stays}
@@ -73,21 +73,24 @@ own_alone s name whole after =
 
 -- ---- one that is not of the transfer
 
-module _ (n : ℕ) (p : Placed) (older : List Placed) (off : is_about n p ≡ false) where
-  pub same_own : filter (is_about n) (p ∷ older) ≡ filter (is_about n) older
-  same_own = ap (λ b. cond b (p ∷ filter (is_about n) older) (filter (is_about n) older)) off
+module _ (n : ℕ) (own : Placed → Bool) (none : (q : Placed) → own q ≡ false → is_of n q ≡ false) (p : Placed) (older : List Placed) (off : own p ≡ false) where
+  pub same_own : filter own (p ∷ older) ≡ filter own older
+  same_own = ap (λ b. cond b (p ∷ filter own older) (filter own older)) off
 
   asked_too : asked_of n older ≡ asked_of n (p ∷ older)
-  asked_too = sym (asked_kept n (is_about n) (about_none n) older) ∙ ap (asked_of n) (sym same_own) ∙ asked_kept n (is_about n) (about_none n) (p ∷ older)
+  asked_too = sym (asked_kept n own none older) ∙ ap (asked_of n) (sym same_own) ∙ asked_kept n own none (p ∷ older)
 
   answered_too : answered_by n older ≡ answered_by n (p ∷ older)
-  answered_too = sym (answered_kept n (is_about n) (about_none n) older) ∙ ap (answered_by n) (sym same_own) ∙ answered_kept n (is_about n) (about_none n) (p ∷ older)
+  answered_too = sym (answered_kept n own none older) ∙ ap (answered_by n) (sym same_own) ∙ answered_kept n own none (p ∷ older)
 
   went_on_too : went_on_with n older ≡ went_on_with n (p ∷ older)
-  went_on_too = sym (went_on_kept n (is_about n) (about_none n) older) ∙ ap (went_on_with n) (sym same_own) ∙ went_on_kept n (is_about n) (about_none n) (p ∷ older)
+  went_on_too = sym (went_on_kept n own none older) ∙ ap (went_on_with n) (sym same_own) ∙ went_on_kept n own none (p ∷ older)
 
-  settled_too : is_settled n older ≡ is_settled n (p ∷ older)
-  settled_too = sym (settled_kept n (is_about n) (about_none n) older) ∙ ap (is_settled n) (sym same_own) ∙ settled_kept n (is_about n) (about_none n) (p ∷ older)
+  pub server_too : server_of n older ≡ server_of n (p ∷ older)
+  server_too = sym (server_kept n own none older) ∙ ap (server_of n) (sym same_own) ∙ server_kept n own none (p ∷ older)
+
+  pub settled_too : is_settled n older ≡ is_settled n (p ∷ older)
+  settled_too = sym (settled_kept n own none older) ∙ ap (is_settled n) (sym same_own) ∙ settled_kept n own none (p ∷ older)
 
   pub ends_too : (t : TransferEnds) → t.number ≡ n → AreEndsAfter t older → AreEndsAfter t (p ∷ older)
   ends_too t is after = record {
@@ -101,13 +104,13 @@ passes_by v name p older off = by v.judge where
   by : (o : Option Server) → ViewedBy o v name older → ViewedBy o v name (p ∷ older)
   by None waits = record {
     number = waits.number;
-    ends = ends_too v.transfer.number p older off v.ends waits.number waits.ends;
-    unsettled = sym (settled_too v.transfer.number p older off) ∙ waits.unsettled;
-    held = subst (λ (l : List Placed). AreHeld name v.held (reverse l)) (sym (same_own v.transfer.number p older off)) waits.held;
+    ends = ends_too v.transfer.number (is_about v.transfer.number) (about_none v.transfer.number) p older off v.ends waits.number waits.ends;
+    unsettled = sym (settled_too v.transfer.number (is_about v.transfer.number) (about_none v.transfer.number) p older off) ∙ waits.unsettled;
+    held = subst (λ (l : List Placed). AreHeld name v.held (reverse l)) (sym (same_own v.transfer.number (is_about v.transfer.number) (about_none v.transfer.number) p older off)) waits.held;
   }
   by (Some s) goes = record {
     transfer = goes.transfer;
-    settled = sym (settled_too v.transfer.number p older off) ∙ goes.settled;
+    settled = sym (settled_too v.transfer.number (is_about v.transfer.number) (about_none v.transfer.number) p older off) ∙ goes.settled;
     none = goes.none;
     after =
         let settled : is_settled s.transfer.number older ≡ true = ap (λ (x : Transfer). is_settled x.number older) goes.transfer ∙ goes.settled in

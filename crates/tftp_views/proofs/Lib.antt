@@ -1,5 +1,5 @@
 mod Judging
-mod Settling
+pub mod Settling
 pub mod Feeding
 pub mod Holding
 pub mod Passing

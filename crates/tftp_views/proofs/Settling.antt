@@ -1,11 +1,12 @@
 -- Who the ends are stays, once it is known.
-use Rattle.std.proofs.Common.{◌≡◌, ℕ, ◌&&◌, ◌||◌, ◌==◌, Bool, true, true≢false, List, [], ◌∷◌, ◌++◌, Option, Some, None, refl, sym, ap, subst, map, ◌∙◌, filter, is_some, option_map, if◌then◌else◌}
+use Rattle.std.proofs.Common.{◌≡◌, ℕ, ◌&&◌, Bool, true, true≢false, List, [], ◌∷◌, ◌++◌, Option, Some, None, refl, sym, ap, subst, map, ◌∙◌, filter, is_some, option_map, if◌then◌else◌}
 use Rattle.std.proofs.lemmas.Bool.{and_parts}
 use Rattle.std.proofs.lemmas.List.Elements.{filter-append, filter_agree}
 use Rattle.tftp_rules.specs.{first_of, or_this}
-use Rattle.tftp_lines.specs.{Endpoint, Place, Talks, Beside, Recorded, other_of, Placed, Transfer}
-use Rattle.tftp_transfers.specs.{answered_by, asked_of, comes, goes_on, has_host, has_port, is_at_server, is_end, is_server, opened_it, server_of, server_view, went_on_with, is_settled, AreEndsAfter, TransferEnds}
-use Rattle.tftp_hosts.specs.{In, Out, Datagram}
+use Rattle.tftp_lines.specs.{Endpoint, Place, Beside, Recorded, Placed, Transfer}
+use Rattle.tftp_transfers.specs.{answered_by, asked_of, comes, goes_on, is_at_server, is_end, opened_it, server_of, server_view, went_on_with, is_settled, AreEndsAfter, TransferEnds}
+use Rattle.tftp_transfers.proofs.OwnDatagrams.{at_server_same, server_same, settled_same}
+use Rattle.tftp_hosts.specs.{In, Out}
 use Rattle.tftp_views.specs.{Naming, captured, captured_at_server, server_capture, server_header, way_at_server, HasJudged, IsServerAfter, Server}
 
 first_stays : (test : Placed → Bool) (more placed : List Placed) (e : Placed) → first_of test placed ≡ Some e → first_of test (more ++ placed) ≡ Some e
@@ -18,10 +19,6 @@ told_stays end test more placed = by (first_of test placed) refl where
   by : (o : Option Placed) → first_of test placed ≡ o → is_some (option_map end (first_of test placed)) ≡ true → option_map end (first_of test (more ++ placed)) ≡ option_map end (first_of test placed)
   by None none told = absurd (true≢false (sym told ∙ ap (λ o. is_some (option_map end o)) none))
   by (Some e) is told = ap (option_map end) (first_stays test more placed e is ∙ sym is)
-
--- with whom the client went on is the server
-serves : (n : ℕ) (placed : List Placed) (s : Endpoint) → went_on_with n placed ≡ Some s → server_of n placed ≡ Some s
-serves n placed s is = rw is refl
 
 module _ (n : ℕ) (more placed : List Placed) (settled : is_settled n placed ≡ true) where
   told : ((is_some (asked_of n placed) && is_some (answered_by n placed)) ≡ true) × (is_some (went_on_with n placed) ≡ true)
@@ -39,38 +36,17 @@ module _ (n : ℕ) (more placed : List Placed) (settled : is_settled n placed �
   went_on : went_on_with n (more ++ placed) ≡ went_on_with n placed
   went_on = told_stays (λ p. p.datagram.target) (goes_on n) more placed told.1
 
-  server : server_of n (more ++ placed) ≡ server_of n placed
-  server = by (went_on_with n placed) refl where
-    by : (o : Option Endpoint) → went_on_with n placed ≡ o → server_of n (more ++ placed) ≡ server_of n placed
-    by None none = absurd (true≢false (sym told.1 ∙ ap is_some none))
-    by (Some s) is = serves n (more ++ placed) s (went_on ∙ is) ∙ sym (serves n placed s is)
-
-  is_server_stays : (o : Endpoint) → is_server n (more ++ placed) o ≡ is_server n placed o
-  is_server_stays o =
-      ap (λ s. has_port o s && (has_host o (asked_of n (more ++ placed)) || has_host o (answered_by n (more ++ placed)) || has_host o (went_on_with n (more ++ placed)))) server
-      ∙ ap (λ s. has_port o (server_of n placed) && (has_host o s || has_host o (answered_by n (more ++ placed)) || has_host o (went_on_with n (more ++ placed)))) asked
-      ∙ ap (λ s. has_port o (server_of n placed) && (has_host o (asked_of n placed) || has_host o s || has_host o (went_on_with n (more ++ placed)))) answered
-      ∙ ap (λ s. has_port o (server_of n placed) && (has_host o (asked_of n placed) || has_host o (answered_by n placed) || has_host o s)) went_on
-
-  at_place : (d : Recorded) (now : ℕ) (place : Place) → is_at_server n (more ++ placed) (record { datagram = d; moment = now; place = place }) ≡ is_at_server n placed (record { datagram = d; moment = now; place = place })
-  at_place d now (Talks x) = ap (λ b. (x.number == n) && b) (is_server_stays (other_of x.client d))
-  at_place d now (Beside x) = ap (λ s. (x.number == n) && (is_end d.source s || is_end d.target s)) server
-  at_place d now _ = refl
-
   pub at_server_stays : (p : Placed) → is_at_server n (more ++ placed) p ≡ is_at_server n placed p
-  at_server_stays p = at_place p.datagram p.moment p.place
+  at_server_stays = at_server_same n (more ++ placed) placed asked answered went_on
 
   pub view_stays : server_view n (more ++ placed) ≡ filter (is_at_server n (more ++ placed)) more ++ server_view n placed
   view_stays = filter-append (is_at_server n (more ++ placed)) more placed ∙ ap (λ l. filter (is_at_server n (more ++ placed)) more ++ l) (filter_agree (is_at_server n (more ++ placed)) (is_at_server n placed) at_server_stays placed)
 
   pub server_stays : server_of n (more ++ placed) ≡ server_of n placed
-  server_stays = server
+  server_stays = server_same n (more ++ placed) placed asked answered went_on
 
   pub settled_stays : is_settled n (more ++ placed) ≡ true
-  settled_stays = ap (λ o. is_some o && is_some (answered_by n (more ++ placed)) && is_some (went_on_with n (more ++ placed))) asked
-      ∙ ap (λ o. is_some (asked_of n placed) && is_some o && is_some (went_on_with n (more ++ placed))) answered
-      ∙ ap (λ o. is_some (asked_of n placed) && is_some (answered_by n placed) && is_some o) went_on
-      ∙ settled
+  settled_stays = settled_same n (more ++ placed) placed asked answered went_on ∙ settled
 
   pub ends_stay : (t : TransferEnds) → t.number ≡ n → AreEndsAfter t placed → AreEndsAfter t (more ++ placed)
   ends_stay t is after = record {
@@ -80,10 +56,6 @@ module _ (n : ℕ) (more placed : List Placed) (settled : is_settled n placed �
   }
 
 -- ---- the server's capture
-
-map_agree : (f g : Placed → Datagram) → ((p : Placed) → f p ≡ g p) → (ps : List Placed) → map f ps ≡ map g ps
-map_agree f g same [] = refl
-map_agree f g same (p ∷ ps) = ap (λ d. d ∷ map f ps) (same p) ∙ ap (λ l. g p ∷ l) (map_agree f g same ps)
 
 module _ (name : Naming) (x : Transfer) (more placed : List Placed) (settled : is_settled x.number placed ≡ true) where
   way_at : (d : Recorded) (now : ℕ) (place : Place) → way_at_server x (more ++ placed) (record { datagram = d; moment = now; place = place }) ≡ way_at_server x placed (record { datagram = d; moment = now; place = place })
@@ -95,7 +67,7 @@ module _ (name : Naming) (x : Transfer) (more placed : List Placed) (settled : i
 
   pub capture_stays : (part : List Placed) → server_capture name x placed part ≡ server_capture name x (more ++ placed) part
   capture_stays part =
-      sym (map_agree (captured_at_server name x (more ++ placed)) (captured_at_server name x placed) same_datagram (filter (is_at_server x.number placed) part))
+      sym (λ i. map (λ p. same_datagram p i) (filter (is_at_server x.number placed) part))
       ∙ ap (map (captured_at_server name x (more ++ placed))) (sym (filter_agree (is_at_server x.number (more ++ placed)) (is_at_server x.number placed) (at_server_stays x.number more placed settled) part))
 
 pub server_goes_on : (s : Server) (name : Naming) (more placed part : List Placed) → is_settled s.transfer.number placed ≡ true → IsServerAfter s name placed part → IsServerAfter s name (more ++ placed) part
