@@ -10,7 +10,7 @@ use Rattle.tftp_rules.specs.{route_of, is_of_transfer, transfer_of, Terms, NoRep
 use Rattle.tftp_model.specs.{eight_a_block}
 use Rattle.tftp_model.proofs.Worked.{eight_for_blksize}
 use Rattle.tftp_law.specs.{number_of, plain_terms, NotAnswered, OackBreaks, MessageBreaks, Broken, OneEnded, IsRefused, Rule}
-use Rattle.tftp_law.proofs.FirstBroken.OneMessage.{agreement_from, breaks_by, back}
+use Rattle.tftp_law.proofs.FirstBroken.OneMessage.{agreement_from, port_to, breaks_by, back}
 use Rattle.tftp_worked.specs.{at_client, asks_for_a, one_block_read, request, oack, by_eight, only_asked, asks_for_b, agrees_to_none, agrees_unasked, by_multicast, only_multicast_asked, agrees_to_multicast, by_foo, only_foo_asked, agrees_to_foo, only_512_asked, agrees_to_1024}
 use Rattle.tftp_worked.proofs.BlockNumbers.{from_18}
 use Rattle.tftp_worked.proofs.Spelled.{request_spelled, ack_spelled}
@@ -47,10 +47,15 @@ not_changed b = none_by_kind (breaks_by at_client (reverse one_block_read) asks_
   none_by_kind (inr (inl (is, goes))) = cc
   none_by_kind (inr (inr differs)) = differs refl
 
+below_eight : (rule : Rule) → number_of rule < 8 → Broken at_client (reverse one_block_read) asks_for_a rule → ⊥
+below_eight = none_under 8 at_client (plain.known []) plain.es plain_asks plain.spelled request_spelled refl refl refl
+
 none_before_late : (rule : Rule) → number_of rule < 9 → Broken at_client (reverse one_block_read) asks_for_a rule → ⊥
 none_before_late Rule.RequestChanged low b = not_changed b
-none_before_late (Rule.Block e) low b = let from = from_18 e in omega (arith, low, from)
-none_before_late rule low b = none_under 8 at_client (plain.known []) plain.es plain_asks plain.spelled request_spelled refl refl refl rule (omega arith) b
+none_before_late (Rule.Agreement broken) low b = omega (arith, low, agreement_from broken)
+none_before_late (Rule.Block e) low b = omega (arith, low, from_18 e)
+none_before_late (Rule.Port port) low b = below_eight (Rule.Port port) (omega (arith, port_to port)) b
+none_before_late rule low b = below_eight rule (omega arith) b
 
 pub late_request_refused : IsRefused at_client (reverse one_block_read) asks_for_a Rule.RequestAfterStart
 late_request_refused = record {

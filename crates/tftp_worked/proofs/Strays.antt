@@ -8,6 +8,7 @@ use Rattle.tftp_model.proofs.Worked.{two_bytes_is_view, two_bytes_complete, two_
 use Rattle.tftp_rules.specs.{PortRule}
 use Rattle.tftp_law.specs.{TransferIds, Shows, number_of, Broken, IsRefused, Rule}
 use Rattle.tftp_law.proofs.Spelled.{spelled_once}
+use Rattle.tftp_law.proofs.FirstBroken.OneMessage.{agreement_from}
 use Rattle.tftp_worked.specs.{at_client, at_server, server_host, asks_for_a, brings_hi, comes_astray, is_asked_for_a, sends_hi, is_told, error, only_is_asked, only_asked, before_answering, comes_from_elsewhere, acknowledges_stray, strays_to_server, server_answers_stray, read_with_a_stray_at_server, answers_by_error_4, after_a_stray_at_server, server_answers_by_error_4, read_from_first_port, comes_to_service}
 use Rattle.tftp_worked.proofs.BlockNumbers.{from_18}
 use Rattle.tftp_worked.proofs.Spelled.{request_spelled, hi_spelled, ack_spelled, unknown_id_spelled}
@@ -75,7 +76,8 @@ first_is_read = record {
 
 none_is_earlier : (rule : Rule) → number_of rule < 1 → Broken at_server (reverse only_is_asked) comes_to_service rule → ⊥
 none_is_earlier (Rule.Port PortRule.Foreign) low b = omega arith
-none_is_earlier (Rule.Block e) low b = let from = from_18 e in omega (arith, low, from)
+none_is_earlier (Rule.Agreement broken) low b = omega (arith, low, agreement_from broken)
+none_is_earlier (Rule.Block e) low b = omega (arith, low, from_18 e)
 none_is_earlier _ low b = omega arith
 
 pub other_port_refused : IsRefused at_server (reverse only_is_asked) comes_to_service (Rule.Port PortRule.Foreign)
