@@ -1,23 +1,20 @@
 -- What is held until it is known who the server is, and is then given to the judge of the sides.
-use Rattle.std.proofs.Common.{◌≡◌, ℕ, ◌≤◌, true, false, List, [], ◌∷◌, ◌++◌, length, Some, None, refl, sym, ap, ◌∙◌, subst, append_assoc, append-nil, arith, map, reverse, Option, Result, Ok, Err, OnOk}
+use Rattle.std.proofs.Common.{◌≡◌, ℕ, ◌≤◌, true, false, List, [], ◌∷◌, ◌++◌, length, Some, None, refl, sym, ap, ◌∙◌, subst, append_assoc, append-nil, map, reverse, Option}
 use Rattle.std.specs.List.{All}
-use Rattle.std.specs.declared.alloc.AllocError.{AllocError}
 use Rattle.std.proofs.lemmas.List.{length-map, length-reverse, map-append, reverse-append, reverse-reverse}
 use Rattle.std.proofs.lemmas.List.Elements.{All-append, All-from_recursion}
 use Rattle.tftp_tap.specs.{TapDatagram}
 use Rattle.tftp_tap_judge.specs.{passing_of, TapDatagram as Owned}
 use Rattle.tftp_parties.specs.{host_name}
 use Rattle.tftp_lines.specs.{Place, Transfer, Placed, is_of}
-use Rattle.tftp_transfers.specs.{is_settled, client_view}
+use Rattle.tftp_transfers.specs.{is_settled}
 use Rattle.tftp_views.specs.{Party, IsFed}
 use Rattle.tftp_between.specs.{are_apart, between_capture, is_to_itself, passed_of, sides_of, sides_with, AreHeld, Between, BetweenBy, HasPassed, IsBetweenAfter, IsGoingOn, IsWaiting, View, counted_by, given_to, passed_as}
 use Rattle.tftp_between.proofs.Feeding.{captured_too, passed_fed}
-use Rattle.tftp_between.proofs.Settling.{ends_too, same_own, server_too, settled_stays, settled_too, sides_stay}
+use Rattle.tftp_views.proofs.Settling.{settled_stays}
+use Rattle.tftp_views.proofs.Holding.{ends_too, same_own, server_too, settled_too}
+use Rattle.tftp_between.proofs.Settling.{itself, sides_stay}
 use Rattle.tftp_between.proofs.Sides.{to_itself}
-
-pub on_ok : {A B : Type 0} (r : Result (Unit {0}) AllocError) → (A → B) → OnOk r A → OnOk r B
-on_ok (Ok u) f a = f a
-on_ok (Err e) f a = tt
 
 -- ---- the oldest of those that are held are given first
 
@@ -64,19 +61,19 @@ held_short held d short is = All-append (λ (d : Owned). length d.payload ≤ 65
 pub passes_by : (v : View) (p : Placed) (older : List Placed) → is_of v.transfer.number p ≡ false → IsBetweenAfter v older → IsBetweenAfter v (p ∷ older)
 passes_by v p older off = by v.judge where
   same : between_capture v.transfer (p ∷ older) ≡ between_capture v.transfer older
-  same = ap (map (λ (q : Placed). passed_of q.datagram)) (same_own v.transfer.number p older off)
+  same = ap (map (λ (q : Placed). passed_of q.datagram)) (same_own v.transfer.number (is_of v.transfer.number) (itself v.transfer.number) p older off)
 
   by : (o : Option Between) → BetweenBy o v older → BetweenBy o v (p ∷ older)
   by None waits = record {
     number = waits.number;
-    ends = ends_too v.transfer.number p older off v.ends waits.number waits.ends;
-    unsettled = sym (settled_too v.transfer.number p older off) ∙ waits.unsettled;
+    ends = ends_too v.transfer.number (is_of v.transfer.number) (itself v.transfer.number) p older off v.ends waits.number waits.ends;
+    unsettled = sym (settled_too v.transfer.number (is_of v.transfer.number) (itself v.transfer.number) p older off) ∙ waits.unsettled;
     held = subst (AreHeld v.held) (sym same) waits.held;
   }
   by (Some b) goes = record {
-    settled = sym (settled_too v.transfer.number p older off) ∙ goes.settled;
+    settled = sym (settled_too v.transfer.number (is_of v.transfer.number) (itself v.transfer.number) p older off) ∙ goes.settled;
     none = goes.none;
-    sides = goes.sides ∙ ap (sides_with v.transfer) (server_too v.transfer.number p older off);
+    sides = goes.sides ∙ ap (sides_with v.transfer) (server_too v.transfer.number (is_of v.transfer.number) (itself v.transfer.number) p older off);
     passed = subst (HasPassed b) (sym same) goes.passed;
   }
 
@@ -95,14 +92,6 @@ goes_on_too old new v w p older of held same is goes passed = record {
 
 pub as_many : (v : View) (placed : List Placed) → IsWaiting v placed → length v.held ≡ length (between_capture v.transfer placed)
 as_many v placed waits = sym (length-map v.held passing_of) ∙ ap length waits.held ∙ length-reverse (between_capture v.transfer placed)
-
-pub held_own : (v : View) (placed : List Placed) → IsBetweenAfter v placed → length v.held ≤ length (client_view v.transfer.number placed)
-held_own v placed = by v.judge where
-  by : (o : Option Between) → BetweenBy o v placed → length v.held ≤ length (client_view v.transfer.number placed)
-  by None waits =
-      let same : length v.held ≡ length (client_view v.transfer.number placed) = as_many v placed waits ∙ length-map (client_view v.transfer.number placed) (λ (p : Placed). passed_of p.datagram) in
-      omega arith
-  by (Some b) goes = let none : length v.held ≡ 0 = ap length goes.none in omega arith
 
 -- ---- in the end
 

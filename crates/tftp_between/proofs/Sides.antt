@@ -1,8 +1,8 @@
 -- When the client is none of the other two sides.
-use Rattle.std.proofs.Common.{◌≡◌, ◌⊎◌, Bool, true, false, true≢false, List, refl, sym, ap, ◌∙◌, subst, inl, inr, ◌||◌, ◌==◌, not}
-use Rattle.std.proofs.lemmas.Bool.{and_from, eq-eqb}
+use Rattle.std.proofs.Common.{◌≡◌, ◌⊎◌, Bool, true, false, true≢false, List, refl, sym, ap, ◌∙◌, inl, inr, ◌||◌, ◌==◌, not}
+use Rattle.std.proofs.lemmas.Bool.{and_from, eq-eqb, or_parts, or_cases}
 use Rattle.tftp_hosts.specs.{same_peer}
-use Rattle.tftp_ends.proofs.NotedPeers.{is_same, same_itself}
+use Rattle.tftp_ends.proofs.NotedPeers.{is_same}
 use Rattle.tftp_parties.specs.{IsAddress}
 use Rattle.tftp_parties.proofs.Addresses.{called_one}
 use Rattle.tftp_tap.specs.{AreApart, PeerId, TapSides}
@@ -10,6 +10,7 @@ use Rattle.tftp_lines.specs.{Endpoint, Transfer, same_address, same_endpoint, Pl
 use Rattle.tftp_transfers.specs.{server_of}
 use Rattle.tftp_lines.proofs.Endpoints.{is_same as is_same_endpoint}
 use Rattle.tftp_between.specs.{are_apart, is_to_itself, peer_of, server_or_asked, sides_of}
+use Rattle.tftp_law.proofs.Division.RouteTests.{same_is}
 
 neither : (a b : Bool) → not (a || b) ≡ true → (a ≡ false) × (b ≡ false)
 neither false false e = (refl, refl)
@@ -21,11 +22,6 @@ one_of true b e = inl refl
 one_of false true e = inr refl
 one_of false false e = absurd (true≢false e)
 
-either : (a b : Bool) → (a || b) ≡ true → (a ≡ true) ⊎ (b ≡ true)
-either true b e = inl refl
-either false true e = inr refl
-either false false e = absurd (true≢false (sym e))
-
 first_is : (a b : Bool) → a ≡ true → not (a || b) ≡ false
 first_is true b e = refl
 first_is false b e = absurd (true≢false (sym e))
@@ -35,17 +31,6 @@ second_is true b e = refl
 second_is false true e = refl
 second_is false false e = absurd (true≢false (sym e))
 
-same_if : (one other : PeerId) → one ≡ other → same_peer one other ≡ true
-same_if one other same = subst (λ p. same_peer one p ≡ true) same (same_itself one)
-
-pub apart_by : (s : TapSides) → are_apart s ≡ true → AreApart s
-apart_by s apart =
-    let off = neither (same_peer s.client s.server) (same_peer s.client s.asked) apart in
-    record {
-      server = λ same. true≢false (sym (same_if s.client s.server same) ∙ off.0);
-      asked = λ same. true≢false (sym (same_if s.client s.asked same) ∙ off.1);
-    }
-
 pub not_apart : (s : TapSides) → are_apart s ≡ false → AreApart s → ⊥
 not_apart s off apart = by (one_of (same_peer s.client s.server) (same_peer s.client s.asked) off) where
   by : (same_peer s.client s.server ≡ true) ⊎ (same_peer s.client s.asked ≡ true) → ⊥
@@ -54,10 +39,10 @@ not_apart s off apart = by (one_of (same_peer s.client s.server) (same_peer s.cl
 
 -- the same endpoint has the same name
 named_same : (one other : Endpoint) → same_endpoint one other ≡ true → same_peer (peer_of one) (peer_of other) ≡ true
-named_same one other same = same_if (peer_of one) (peer_of other) (ap peer_of (is_same_endpoint one other same))
+named_same one other same = same_is (peer_of one) (peer_of other) (ap peer_of (is_same_endpoint one other same))
 
 pub to_itself : (x : Transfer) (whole : List Placed) → is_to_itself x whole ≡ true → are_apart (sides_of x whole) ≡ false
-to_itself x whole is = by (either (same_endpoint x.client server) (same_endpoint x.client x.asked) is) where
+to_itself x whole is = by (or_cases (same_endpoint x.client server) (same_endpoint x.client x.asked) is) where
   server : Endpoint
   server = server_or_asked x (server_of x.number whole)
 
@@ -74,11 +59,6 @@ same_named one other here there same =
     (eq-eqb one.port other.port (ap (λ (p : PeerId). p.port) same))
     ((called_one one.address other.address here there).1 (ap (λ (p : PeerId). p.host) same))
 
-none_of : (a b : Bool) → (a || b) ≡ false → (a ≡ false) × (b ≡ false)
-none_of false false e = (refl, refl)
-none_of false true e = absurd (true≢false e)
-none_of true b e = absurd (true≢false e)
-
 pub apart_from_both : (x : Transfer) (whole : List Placed) → IsAddress x.client.address → IsAddress x.asked.address → IsAddress (server_or_asked x (server_of x.number whole)).address
     → is_to_itself x whole ≡ false → AreApart (sides_of x whole)
 apart_from_both x whole client asked serves off = record {
@@ -90,7 +70,7 @@ apart_from_both x whole client asked serves off = record {
     server = server_or_asked x (server_of x.number whole)
 
     differ : (same_endpoint x.client server ≡ false) × (same_endpoint x.client x.asked ≡ false)
-    differ = none_of (same_endpoint x.client server) (same_endpoint x.client x.asked) off
+    differ = or_parts (same_endpoint x.client server) (same_endpoint x.client x.asked) off
 
 pub apart_only : (x : Transfer) (whole : List Placed) → AreApart (sides_of x whole) → is_to_itself x whole ≡ false
 apart_only x whole apart = by (is_to_itself x whole) refl where

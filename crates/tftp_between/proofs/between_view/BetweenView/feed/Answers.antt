@@ -3,7 +3,8 @@ use Rattle.tftp_tap.specs.{TapDatagram}
 use Rattle.tftp_lines.specs.{is_of}
 use Rattle.tftp_between.specs.{between_capture, HasPassed, IsBetweenAfter, IsGoingOn, View}
 use Rattle.tftp_between.proofs.Feeding.{passed_fed}
-use Rattle.tftp_between.proofs.Holding.{goes_on_too, is_going_on, on_ok, passes_by}
+use Rattle.tftp_between.proofs.Holding.{goes_on_too, is_going_on, passes_by}
+use Rattle.tftp_views.proofs.Holding.{on_ok}
 use Rattle.tftp_between.proofs.between_view.BetweenView.feed.Goals as goal
 
 pub returns-then-not-is_at_client-clause-after : goal.returns-then-not-is_at_client-clause-after
