@@ -1,4 +1,4 @@
-use Rattle.std.proofs.Common.{◌≡◌, ◌∷◌, ◌++◌, [], List, length, map, take, reverse, rules, arith, append_assoc, refl, sym, ap, ◌∙◌, subst, filter}
+use Rattle.std.proofs.Common.{◌≡◌, ◌∷◌, ◌++◌, [], List, length, map, take, reverse, arith, append_assoc, refl, sym, ap, ◌∙◌, subst, filter}
 use Rattle.std.proofs.lemmas.List.Elements.{All-append, All-cons}
 use Rattle.tftp_capture.specs.{commented_text, said_in, HasWrittenHosts}
 use Rattle.tftp_capture.specs.Commented.Entry.{Comment}

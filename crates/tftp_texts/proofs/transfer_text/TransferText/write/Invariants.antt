@@ -1,4 +1,4 @@
-use Rattle.std.proofs.Common.{◌≡◌, ◌≤◌, ◌++◌, ℕ, List, All, take, reverse, filter}
+use Rattle.std.proofs.Common.{◌≡◌, ◌≤◌, ◌++◌, List, All, take, reverse, filter}
 use Rattle.tftp_capture.specs.CaptureText.{Header}
 use Rattle.tftp_capture.specs.{Entry, said_in, HasWrittenHosts, Sink}
 use Rattle.tftp_lines.specs.{Placed}
