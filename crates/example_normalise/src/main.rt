@@ -3,7 +3,7 @@
 
 use std::io;
 use std::process::ExitCode;
-use tftp_capture::{LatchedReader, LineWriter};
+use tftp_streams::{LatchedReader, LineWriter};
 use tftp_normal::normalise;
 
 /// Ends with status 2, and tells why on standard error, where no normal text was written, or only a part of one.

@@ -3,7 +3,7 @@
 
 use std::process::ExitCode;
 use std::{env, io};
-use tftp_capture::{LatchedReader, LineWriter};
+use tftp_streams::{LatchedReader, LineWriter};
 use tftp_commands::run;
 
 /// Ends with status 2, and no output, where it can't get its words.

@@ -4,11 +4,9 @@ pub mod Canonical
 pub mod Commented
 pub mod Cuts
 pub mod Faults
-pub mod Gathering
 pub mod Headers
 pub mod Histories
 pub mod InTwo
-pub mod Lanes
 mod Named
 pub mod Nibbles
 pub mod Pairs

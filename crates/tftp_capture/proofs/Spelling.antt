@@ -5,10 +5,11 @@ use Rattle.std.proofs.Math.Seq.{take-add}
 use Rattle.std.proofs.lemmas.List.{map-append}
 use Rattle.std.proofs.lemmas.List.Concat.{flat_map-append}
 use Rattle.hex.specs.Hex.{encode_lower, encode_with, lower_digits}
-use Rattle.tftp_capture.specs.{Version, One, Two, datagram_line, dir_word, end_line, end_word, head_line, line_with_host, payload_text, service_line, text_of, total_line, whole_lines, Entry, comment_line, commented_text, entry_line, said_in, Gathers, HasWritten, HasWrittenHosts, Sink, header_text_in, host_field, line_naming}
+use Rattle.tftp_capture.specs.{Version, One, Two, datagram_line, dir_word, end_line, end_word, head_line, line_with_host, payload_text, service_line, text_of, total_line, whole_lines, Entry, comment_line, commented_text, entry_line, said_in, HasWritten, HasWrittenHosts, header_text_in, host_field, line_naming}
+use Rattle.tftp_streams.specs.{Gathers, Sink}
 use Rattle.tftp_capture.specs.CaptureText.{Datagram, Header}
 use Rattle.tftp_capture.specs.Commented.Entry.{Comment, Passed}
-use Rattle.tftp_capture.proofs.Gathering.{gathers_more, gathers_written}
+use Rattle.tftp_streams.proofs.Gathering.{gathers_more, gathers_written}
 use Rattle.tftp_capture.proofs.Skips.{whole_lines-push}
 
 three_lines : (head named service : List ℕ) → head ++ ((10 ∷ codes "end ") ++ (named ++ ((10 ∷ codes "service ") ++ (service ++ 10 ∷ [])))) ≡ whole_lines (head ∷ (codes "end " ++ named) ∷ (codes "service " ++ service) ∷ [])
@@ -35,11 +36,6 @@ datagram_pieces host d word local name space remote e f i h =
 pub payload_digits : (payload : List ℕ) → length payload ≢ 0 → payload_text payload ≡ encode_lower payload
 payload_digits [] some = absurd (some refl)
 payload_digits (b ∷ bs) some = refl
-
-pub encode-append : (xs ys : List ℕ) → encode_lower (xs ++ ys) ≡ encode_lower xs ++ encode_lower ys
-unfolding encode_with
-encode-append [] ys = refl
-encode-append (x ∷ xs) ys = ap (λ l. slice_index lower_digits (x / 16) ∷ slice_index lower_digits (x % 16) ∷ l) (encode-append xs ys)
 
 -- ---- one more datagram, and the whole text, whatever the lines of datagrams are
 
@@ -105,22 +101,3 @@ module _ {W : Type 0} (contents : W → Option (List ℕ)) (start before now : S
   pub hosts_written : (entries : List Entry) → HasWrittenHosts contents start before count header entries → Appends (contents before.inner) (contents now.inner) (before.waits ++ (total_line count ++ 10 ∷ []))
       → Appends (contents start.inner) (contents now.inner) (start.waits ++ commented_text header entries)
   hosts_written entries h a = whole_written entry_line _ _ _ _ _ Two header entries count (length (said_in entries)) h.text h.are a
-
--- the digits of one more piece, and of the bytes after it
-pub encode_more : (bytes : List ℕ) (done size : ℕ) → encode_lower (take (done + size) bytes) ≡ encode_lower (take done bytes) ++ encode_lower (take (done + size - done) (drop done bytes))
-encode_more bytes done size =
-    let e : done + size - done ≡ size = omega arith in
-    rw e (ap encode_lower (take-add done size bytes) ∙ encode-append (take done bytes) (take size (drop done bytes)))
-
--- the digits of the pieces so far, of one more, and of the bytes after it
-pub encode_rest : (bytes : List ℕ) (done size : ℕ)
-    → encode_lower bytes ≡ encode_lower (take done bytes) ++ (encode_lower (take (done + size - done) (drop done bytes)) ++ encode_lower (drop (done + size - done) (drop done bytes)))
-encode_rest bytes done size =
-    let rest = drop done bytes in
-    let n = done + size - done in
-    ap encode_lower (sym (take-append-drop done bytes)) ∙ encode-append (take done bytes) rest
-    ∙ ap (λ l. encode_lower (take done bytes) ++ l) (ap encode_lower (sym (take-append-drop n rest)) ∙ encode-append (take n rest) (drop n rest))
-
-pub encode-nil : encode_lower [] ≡ []
-unfolding encode_with
-encode-nil = refl

@@ -5,7 +5,6 @@ pub mod Fields
 pub mod History
 pub mod InTwo
 pub mod Lines
-pub mod Sinks
 pub mod Worked
 pub mod Written
 pub use CaptureText.{AreFields, Begins, BeginsWith, BodyFault, ByteFault, Due, FailsAt, HasFault, HasFields, HasPorts, IsCapture, IsLawful, IsOver, IsPort, LineFault, NamesNoHost, Numbered, Reading, Reads, Says, SaysDatagram, SaysDatagrams, SpellsPayload, SpellsPort, Stands, Unfinished, datagram_line, dir_word, end_line, end_word, head_line, line_with_host, longest, longest_line, numbered, payload_text, pieces, said, says_nothing, service_line, text_of, text_with_hosts, total_line, whole_lines}
@@ -15,13 +14,11 @@ pub use Fields.{BeginWithFields, BodyEnds, DatagramEnds, PayloadEnds, TotalEnds,
 pub use History.{Answers, Continues, FailsToBegin, FaultTells, GoesOn, HasService, IsAtTextEnd, IsReadFault, IsReadStanding, MemoryTells, ReaderState, SaysOneMore, StandingTells, StandsFor, WantTells, standing_after, with_answer}
 pub use InTwo.{in_version_two, is_way, line_in_two, lines_in_two, pieces_in_two}
 pub use Lines.{HasByteAt, HasNoEnd, HoldsLine, HoldsNoLine, IsPartOfLine, IsSilent, IsSkipped, LeavesEnd, LineEnds, LineState, ReachesLine, SupplyState, TextEnds, fault_at, line_at, most_ahead, most_of_line, unread}
-pub use Sinks.{Added, Adds, AppendsPrefix, Ends, Gathers, IsFresh, Sink, Stops, Writes, WritesPart, WritesWhole, Wrote}
 pub use Worked.{line, named_datagrams, named_text, worked_header, worked_text}
 pub use Written.{HasWritten, HasWrittenHosts, header_text, header_text_in, host_field, line_naming}
 pub use declared.fault.CaptureFault.{CaptureFault}
 pub use declared.fault.TextFault.{TextFault}
 pub use declared.fault.TextFault.TheVariants.{BadEnd, BadHeader, BadHex, BadHost, BadLine, BadPort, BadService, LineTooLong, PayloadTooLong, TextTooLong, TotalWrong, TrailingText, Truncated}
-pub use declared.fault.WriteFault.{WriteFault}
 pub use declared.standing.Standing.{Standing}
 pub use declared.standing.Standing.TheVariants.{Failed, Open, Over}
 pub use declared.stop.Stop.{Stop}

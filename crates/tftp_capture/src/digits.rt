@@ -1,16 +1,9 @@
-ghost use Rattle.std.specs.Prelude.{◌≡◌, ◌*◌, ◌≤◌, ◌⊎◌, false, true, length, take, Ok, Err, IsErr, IfErr, OnOk, MatchResult};
-ghost use Rattle.hex.specs.Hex.{decode_of, decode_sized, encode_lower};
+ghost use Rattle.std.specs.Prelude.{◌≡◌, ◌*◌, ◌⊎◌, false, true, length, Ok, Err, IsErr, IfErr, OnOk, MatchResult};
+ghost use Rattle.hex.specs.Hex.{decode_of, decode_sized};
 ghost use Rattle.hex.specs.declared.error.FromHexError.TheVariants.{OutOfMemory};
 ghost use Rattle.tftp_capture.specs.Digits.{IsNibble};
 
 use hex::FromHexError;
-use std::simd::prelude::*;
-
-/// The digits, in lower case.
-const DIGITS: [u8; 16] = *b"0123456789abcdef";
-
-/// How many bytes are encoded at once.
-const LANES: usize = 16;
 
 /// The value of a digit of either case, and 16 or more for every other byte.
 #[inline(always)]
@@ -64,58 +57,4 @@ pub fn decode(digits: &[u8], bytes: &mut Vec<u8>) -> Result<(), FromHexError>
 {
     bytes.resize(digits.len() / 2, 0)?;
     decode_to_slice(digits, bytes.as_mut_slice())
-}
-
-/// The two digits of each byte.
-#[inline(always)]
-fn digits_of(bytes: u8x16) -> u8x32
-    ensures { result ≡ encode_lower bytes }
-{
-    let table = u8x16::from_array(DIGITS);
-    let high = table.swizzle_dyn(bytes >> 4);
-    let low = table.swizzle_dyn(bytes & u8x16::splat(15));
-    high.shuffle(
-        low,
-        [
-            0, 16, 1, 17, 2, 18, 3, 19, 4, 20, 5, 21, 6, 22, 7, 23, 8, 24, 9, 25, 10, 26, 11, 27,
-            12, 28, 13, 29, 14, 30, 15, 31,
-        ],
-    )
-}
-
-/// Writes the digits of sixteen bytes at a time, while there are so many, and answers how many bytes those were.
-fn encode_blocks(bytes: &[u8], digits: &mut [u8]) -> usize
-    requires { length digits.old ≡ 2 * length bytes.now }
-    ensures within { result ≤ length bytes.now }
-    ensures written { take (2 * result) digits.new ≡ encode_lower (take result bytes.now) }
-    ensures len { length digits.new ≡ length digits.old }
-{
-    let mut done = 0;
-    while bytes.len() - done >= LANES {
-        let block = u8x16::from_slice(&bytes[done..]);
-        digits_of(block).copy_to_slice(&mut digits[2 * done..]);
-        done += LANES;
-    }
-    done
-}
-
-/// Writes the digits of one byte after another.
-fn encode_rest(bytes: &[u8], digits: &mut [u8])
-    requires { length digits.old ≡ 2 * length bytes.now }
-    ensures { digits.new ≡ encode_lower bytes.now }
-{
-    for i in 0..bytes.len() {
-        let byte = bytes[i];
-        digits[2 * i] = DIGITS[(byte / 16) as usize];
-        digits[2 * i + 1] = DIGITS[(byte % 16) as usize];
-    }
-}
-
-/// Writes each byte as two digits, in lower case.
-pub fn encode(bytes: &[u8], digits: &mut [u8])
-    requires { length digits.old ≡ 2 * length bytes.now }
-    ensures { digits.new ≡ encode_lower bytes.now }
-{
-    let done = encode_blocks(bytes, digits);
-    encode_rest(&bytes[done..], &mut digits[2 * done..]);
 }

@@ -58,8 +58,3 @@ pub enum CaptureFault {
     #[error("line {0}: no memory")]
     Memory(u64),
 }
-
-/// A write failed, or took no byte.
-#[derive(Clone, Copy, Debug, PartialEq, Eq, Error)]
-#[error("a write failed")]
-pub struct WriteFault;

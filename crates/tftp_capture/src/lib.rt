@@ -1,4 +1,4 @@
-//! The capture text read and written, readers that remember whether they have failed, and a writer of lines.
+//! The capture text read and written.
 #![tactic(auto)]
 
 mod ahead;
@@ -7,30 +7,25 @@ mod digits;
 mod fault;
 mod fields;
 mod host_writer;
-mod latched_reader;
 mod laws;
 mod line;
-mod line_writer;
 mod lines;
 mod reader;
 mod standing;
 mod stop;
 mod supply;
 mod version;
-mod whole;
 mod writer;
 
 pub use ahead::Ahead;
 pub use datagram::{Datagram, Header};
-pub use fault::{CaptureFault, TextFault, WriteFault};
+pub use fault::{CaptureFault, TextFault};
 pub use host_writer::HostCaptureWriter;
-pub use latched_reader::LatchedReader;
 pub use laws::{
     beginnings_agree, canonical_text_is_read, capture_has_its_beginnings, commented_text_is_read,
     fault_comes_after_beginnings, fault_stays, text_has_one_reading, version_two_says_the_same,
     worked_text_is_canonical, worked_text_is_in_version_two, worked_text_names_hosts,
     worked_text_with_hosts_is_canonical,
 };
-pub use line_writer::LineWriter;
 pub use reader::CaptureReader;
 pub use writer::CaptureWriter;

@@ -3,11 +3,11 @@ ghost use Rattle.std.specs.Io.KnownBytes.{prepend_known, Consumes, IsAtEnd};
 ghost use Rattle.tftp_capture.specs.Lines.{bytes_lying, line_at, most_ahead, most_of_line, LineEnds};
 
 use crate::fault::TextFault;
-use crate::latched_reader::LatchedReader;
 use crate::stop::Stop;
 use crate::supply::Supply;
 use memchr::memchr;
 use std::io::Read;
+use tftp_streams::LatchedReader;
 
 /// How many bytes stand before the first of that value, or before the end where there is none.
 #[inline]

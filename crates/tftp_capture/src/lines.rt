@@ -4,7 +4,6 @@ ghost use Rattle.tftp_capture.specs.Lines.{most_ahead, unread, HoldsLine, HoldsN
 ghost use Rattle.tftp_capture.specs.CaptureText.{longest_line, says_nothing};
 
 use crate::fault::TextFault;
-use crate::latched_reader::LatchedReader;
 use crate::line::{count_before, read_line};
 use crate::stop::Stop;
 use crate::supply::Supply;
@@ -12,6 +11,7 @@ use crate::version::Version;
 use std::alloc::{AllocError, Global};
 use std::io::Read;
 use std::marker::Model;
+use tftp_streams::LatchedReader;
 
 /// The most bytes of a text.
 const LONGEST_TEXT: u64 = 1 << 40;

@@ -8,7 +8,6 @@ ghost use Rattle.tftp_capture.specs.History.{Answers, Continues, FailsToBegin, G
 use crate::datagram::{Datagram, Header};
 use crate::fault::{CaptureFault, TextFault};
 use crate::fields::{body_line, end_of, service_of};
-use crate::latched_reader::LatchedReader;
 use crate::lines::Lines;
 use crate::standing::Standing;
 use crate::stop::Stop;
@@ -16,6 +15,7 @@ use crate::version::Version;
 use std::alloc::Global;
 use std::io::Read;
 use std::marker::Model;
+use tftp_streams::LatchedReader;
 
 /// A reader of a capture text: it holds one line of at most 131,070 bytes, in version 2 of 131,116, and at most
 /// 65,536 bytes read ahead.

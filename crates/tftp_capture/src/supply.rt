@@ -2,11 +2,11 @@ ghost use Rattle.std.specs.Prelude.{◌≡◌, ◌≢◌, ◌≤◌, ◌==◌, �
 ghost use Rattle.std.specs.Io.KnownBytes.{prepend_known, Consumes, Keeps, IsAtEnd};
 ghost use Rattle.tftp_capture.specs.Lines.{most_ahead, most_of_line};
 
-use crate::latched_reader::LatchedReader;
 use std::alloc::{AllocError, Global};
 use std::io;
 use std::io::Read;
 use std::marker::Model;
+use tftp_streams::LatchedReader;
 
 /// How many bytes are read at once.
 const AT_ONCE: usize = 65_536;

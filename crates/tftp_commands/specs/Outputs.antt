@@ -1,7 +1,8 @@
 -- What is printed, and the status that goes with it. Each line ends by LF.
 use Rattle.std.specs.Prelude.{◌≡◌, ℕ, ◌++◌, List, [], Bool, true, false, codes, decimal, Option}
 use Rattle.std.specs.Io.KnownBytes.{Appends}
-use Rattle.tftp_capture.specs.{CaptureFault, AppendsPrefix, Sink}
+use Rattle.tftp_capture.specs.{CaptureFault}
+use Rattle.tftp_streams.specs.{AppendsPrefix, Sink}
 use Rattle.tftp_capture.specs.declared.fault.CaptureFault.TheVariants.{Text, Read, Memory}
 use Rattle.tftp_commands.specs.declared.status.Status.{Status}
 use Rattle.tftp_commands.specs.declared.status.Status.TheVariants as status

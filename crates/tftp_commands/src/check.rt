@@ -1,5 +1,5 @@
 ghost use Rattle.std.specs.Prelude.{◌≡◌, false, Ok, Err};
-ghost use Rattle.tftp_capture.specs.{IsFresh};
+ghost use Rattle.tftp_streams.specs.{IsFresh};
 ghost use Rattle.tftp_commands.specs.Checked.{IsChecked, checked};
 ghost use Rattle.tftp_commands.specs.Outputs.{Prints};
 ghost use Rattle.tftp_commands.specs.Running.{Runs};
@@ -9,7 +9,7 @@ use crate::status::Status;
 use crate::verdicts::{put_accepted, put_verdict, status_of};
 use std::alloc::Global;
 use std::io::{Read, Write};
-use tftp_capture::{LatchedReader, LineWriter};
+use tftp_streams::{LatchedReader, LineWriter};
 use tftp_judge::{Meaning, Verdict, judge_text};
 
 /// Judges a capture text, and says in one line what it means, or why it is not accepted.

@@ -1,5 +1,5 @@
 ghost use Rattle.std.specs.Prelude.{◌≡◌, false, Ok};
-ghost use Rattle.tftp_capture.specs.{Adds, IsFresh};
+ghost use Rattle.tftp_streams.specs.{Adds, IsFresh};
 ghost use Rattle.tftp_commands.specs.Counted.{IsCounted, counted, counted_line};
 ghost use Rattle.tftp_commands.specs.Outputs.{Prints};
 ghost use Rattle.tftp_commands.specs.Running.{Runs};
@@ -10,7 +10,7 @@ use crate::status::Status;
 use itoa::Buffer;
 use std::alloc::Global;
 use std::io::{Read, Write};
-use tftp_capture::{LatchedReader, LineWriter, WriteFault};
+use tftp_streams::{LatchedReader, LineWriter, WriteFault};
 use tftp_judge::{Meaning, judge_text};
 use tftp_normal::normal_count;
 

@@ -1,5 +1,5 @@
 ghost use Rattle.std.specs.Prelude.{◌≡◌, false};
-ghost use Rattle.tftp_capture.specs.{IsFresh};
+ghost use Rattle.tftp_streams.specs.{IsFresh};
 ghost use Rattle.tftp_commands.specs.Extracted.{IsExtracted};
 ghost use Rattle.tftp_commands.specs.Running.{Runs};
 
@@ -7,7 +7,7 @@ use crate::status::Status;
 use crate::verdicts::status_of;
 use std::alloc::Global;
 use std::io::{Read, Write};
-use tftp_capture::{LatchedReader, LineWriter};
+use tftp_streams::{LatchedReader, LineWriter};
 use tftp_judge::OutFault;
 
 /// Writes the file of a capture text that is accepted, and nothing beside it; of a text that is not accepted nothing is

@@ -1,6 +1,7 @@
 ghost use Rattle.std.specs.Prelude.{◌≡◌, ◌++◌, ℕ, List, [], true, false, codes, decimal, OnOk};
 ghost use Rattle.tftp_packet.specs.{meaning};
-ghost use Rattle.tftp_capture.specs.{datagram_of, Adds, IsFresh};
+ghost use Rattle.tftp_capture.specs.{datagram_of};
+ghost use Rattle.tftp_streams.specs.{Adds, IsFresh};
 ghost use Rattle.tftp_commands.specs.Outputs.{Prints};
 ghost use Rattle.tftp_commands.specs.Running.{Runs};
 ghost use Rattle.tftp_commands.specs.Shown.{message_text, ending_of, last_line, status_of, IsDatagramLine, IsPayloadText, IsShown};
@@ -12,7 +13,8 @@ use crate::status::Status;
 use itoa::Buffer;
 use std::alloc::Global;
 use std::io::{Read, Write};
-use tftp_capture::{CaptureFault, CaptureReader, Datagram, LatchedReader, LineWriter, WriteFault};
+use tftp_capture::{CaptureFault, CaptureReader, Datagram};
+use tftp_streams::{LatchedReader, LineWriter, WriteFault};
 use tftp_packet::{Packet, read_packet};
 
 /// Shows the datagrams of a capture text, up to its end or its first fault, as they come: a line each, numbered from

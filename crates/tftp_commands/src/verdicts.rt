@@ -1,5 +1,5 @@
 ghost use Rattle.std.specs.Prelude.{◌≡◌, ◌++◌};
-ghost use Rattle.tftp_capture.specs.{Adds};
+ghost use Rattle.tftp_streams.specs.{Adds};
 ghost use Rattle.tftp_judge.specs.{Refusal};
 ghost use Rattle.tftp_commands.specs.Checked.{accepted_line, detail, refusal_line, verdict_line, verdict_status};
 
@@ -8,7 +8,7 @@ use crate::names::{by_name, mode_name, packet_fault_name, side_name};
 use crate::status::Status;
 use itoa::Buffer;
 use std::io::Write;
-use tftp_capture::{LineWriter, WriteFault};
+use tftp_streams::{LineWriter, WriteFault};
 use tftp_judge::{AbortedBy, Meaning, Refusal, Rule, Verdict};
 
 /// The status that goes with a text that is not accepted.

@@ -1,6 +1,6 @@
 use std::alloc::Global;
 use std::io;
-use tftp_capture::LatchedReader;
+use tftp_streams::LatchedReader;
 use tftp_fragments::Fragments;
 use tftp_pcap::{Direction, PcapFault};
 use tftp_recording::{Datagram, Event, Fate, LeftOut, RecordingReader};

@@ -10,7 +10,8 @@ use crate::verdict::Verdict;
 use std::alloc::Global;
 use std::io::Read;
 use tftp_blocks::RingDelivered;
-use tftp_capture::{CaptureReader, Datagram, LatchedReader};
+use tftp_capture::{CaptureReader, Datagram};
+use tftp_streams::LatchedReader;
 
 /// What a capture text means, or why it is not accepted, by the runs of two ends (RFC 1350; RFC 2347; RFC 7440): the first
 /// unlawful datagram on the lines before the text's first fault, else that fault, else what there is to say of its

@@ -9,7 +9,8 @@ use crate::reading::{Halt, Reading};
 use std::alloc::Global;
 use std::io::Read;
 use tftp_blocks::RingDelivered;
-use tftp_capture::{Datagram, LatchedReader};
+use tftp_capture::Datagram;
+use tftp_streams::LatchedReader;
 use tftp_packet::End;
 use tftp_pair_judge::PairJudge;
 

@@ -6,7 +6,8 @@ ghost use Rattle.tftp_match.specs.Reading.{GoesOnAt, IsGiven, IsHalted, said_by}
 ghost use Rattle.tftp_match.specs.declared.reading.Halt.{Halt as HaltKind};
 
 use std::io::Read;
-use tftp_capture::{CaptureFault, CaptureReader, Datagram, LatchedReader};
+use tftp_capture::{CaptureFault, CaptureReader, Datagram};
+use tftp_streams::LatchedReader;
 use tftp_judge::{Meaning, Refusal, Verdict};
 
 /// Why no more of a text is read.

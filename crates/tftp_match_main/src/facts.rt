@@ -3,7 +3,7 @@
 use crate::copies::{Copies, copies_in};
 use anyhow::{Result, bail};
 use std::alloc::Global;
-use tftp_capture::LineWriter;
+use tftp_streams::LineWriter;
 use tftp_commands::{Status, say_accepted, say_verdict};
 use tftp_counts::Carried;
 use tftp_judge::{Meaning, Refusal, Verdict};

@@ -3,7 +3,7 @@
 use crate::source::Whole;
 use std::alloc::Global;
 use std::io::Read;
-use tftp_capture::LatchedReader;
+use tftp_streams::LatchedReader;
 use tftp_match::{PairSaid, judge_pair};
 
 /// A capture text: one that is read while it is judged, or one in memory.

@@ -7,7 +7,8 @@ use crate::told::{Named, tell_apart, tell_several, told};
 use anyhow::{Result, bail};
 use std::alloc::Global;
 use std::io::Read;
-use tftp_capture::{CaptureReader, Datagram, LatchedReader, LineWriter};
+use tftp_capture::{CaptureReader, Datagram};
+use tftp_streams::{LatchedReader, LineWriter};
 use tftp_packet::End;
 use tftp_session::{Asked, Session, TextAt, TextFault, requests_of};
 

@@ -2,7 +2,8 @@
 use Rattle.std.specs.Prelude.{◌≡◌, ℕ, ◌+◌, false, List, length, map as each, Option, Result, Ok, Err}
 use Rattle.tftp_hosts.specs.{no_host, Dir, In, Out, Datagram}
 use Rattle.tftp_packet.specs.{End, Client, Server}
-use Rattle.tftp_capture.specs.{datagram_line, whole_lines, Gathers, Sink, Stops}
+use Rattle.tftp_capture.specs.{datagram_line, whole_lines}
+use Rattle.tftp_streams.specs.{Gathers, Sink, Stops}
 use Rattle.tftp_model.specs.{Meaning, MachinePacket}
 use Rattle.tftp_normal.specs.Normal.{normal_datagram}
 

@@ -1,6 +1,6 @@
 use std::alloc::AllocError;
 use std::convert::From;
-use tftp_capture::WriteFault;
+use tftp_streams::WriteFault;
 use tftp_judge::Verdict;
 use thiserror::Error;
 

@@ -14,7 +14,7 @@ use crate::transfer::{Transfer, window_size_of};
 use crate::writing::write_normal;
 use std::alloc::Global;
 use std::io::{Read, Write};
-use tftp_capture::{LatchedReader, LineWriter};
+use tftp_streams::{LatchedReader, LineWriter};
 use tftp_judge::{Meaning, MeaningParts, judge_text};
 use tftp_packet::Side;
 

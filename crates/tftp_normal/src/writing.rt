@@ -3,7 +3,7 @@
 ghost use Rattle.std.specs.Prelude.{◌≡◌, ◌≢◌, ◌+◌, ◌-◌, ◌*◌, ◌^◌, ◌≤◌, [], ◌∷◌, length, drop, true, false, Ok, OnOk};
 ghost use Rattle.std.specs.FinMap as map;
 ghost use Rattle.tftp_packet.specs.{Message, canonical, End};
-ghost use Rattle.tftp_capture.specs.{Writes};
+ghost use Rattle.tftp_streams.specs.{Writes};
 ghost use Rattle.tftp_model.specs.{Meaning, request_of, blksize_of, windowsize_of};
 ghost use Rattle.tftp_model.specs.Machines.{sender_of};
 ghost use Rattle.tftp_law.specs.{wire_of, blocks_of, CanBeWritten};
@@ -16,7 +16,8 @@ use crate::fault::NormalFault;
 use crate::transfer::Transfer;
 use std::alloc::Global;
 use std::io::Write;
-use tftp_capture::{CaptureWriter, Header, LineWriter, WriteFault};
+use tftp_capture::{CaptureWriter, Header};
+use tftp_streams::{LineWriter, WriteFault};
 use tftp_hosts::Dir;
 use tftp_packet::{End, Side};
 

@@ -3,7 +3,8 @@ ghost use Rattle.std.specs.Io.KnownBytes.{prepend_known, Consumes, IsAtEnd};
 
 use crate::fault::FaultKind;
 use std::io::Read;
-use tftp_capture::{Ahead, LatchedReader};
+use tftp_capture::Ahead;
+use tftp_streams::LatchedReader;
 
 /// Reads on into what was read of a piece until it has so many bytes; false where the recording ends before.
 pub fn gather<R: Read>(

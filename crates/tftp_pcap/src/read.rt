@@ -11,7 +11,8 @@ use crate::pieces::{said_by, skipped_in};
 use crate::sizes::{begins_as_one, front_of, size_of};
 use crate::skip::skip_rest;
 use std::io::Read;
-use tftp_capture::{Ahead, LatchedReader};
+use tftp_capture::Ahead;
+use tftp_streams::LatchedReader;
 
 /// What the end of the recording is within the first bytes of a piece: the end after the pieces before it, or a fault.
 fn ended(layout: Layout, piece: &[u8]) -> Result<Option<usize>, FaultKind>

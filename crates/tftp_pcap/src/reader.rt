@@ -12,7 +12,7 @@ use crate::step::Pieces;
 use std::alloc::Global;
 use std::io::Read;
 use std::marker::Model;
-use tftp_capture::LatchedReader;
+use tftp_streams::LatchedReader;
 
 /// A reader of a recording's frames, classic or of blocks: it holds at most 65,536 bytes read ahead and the interfaces of a
 /// section.

@@ -10,7 +10,8 @@ use crate::found::Found;
 use crate::gather::gather;
 use crate::numbers::Order;
 use std::io::Read;
-use tftp_capture::{Ahead, LatchedReader};
+use tftp_capture::Ahead;
+use tftp_streams::LatchedReader;
 
 /// Reads on over so many bytes, of which none is held; false where the recording ends before.
 fn skip<R: Read>(

@@ -12,7 +12,8 @@ use crate::read::{read_front, read_rest};
 use std::alloc::{AllocError, Global};
 use std::io::Read;
 use std::marker::Model;
-use tftp_capture::{Ahead, LatchedReader};
+use tftp_capture::Ahead;
+use tftp_streams::LatchedReader;
 
 /// The most records and blocks of a recording.
 const MOST_PIECES: u64 = 1 << 40;

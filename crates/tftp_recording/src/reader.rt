@@ -8,7 +8,7 @@ use crate::event::Event;
 use std::alloc::Global;
 use std::io::Read;
 use std::marker::Model;
-use tftp_capture::LatchedReader;
+use tftp_streams::LatchedReader;
 use tftp_copies::Recent;
 use tftp_fragments::Fragments;
 use tftp_pcap::{FaultKind, FrameReader, PcapFault};

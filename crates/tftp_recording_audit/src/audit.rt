@@ -20,7 +20,7 @@ use crate::next::{AuditFault, NextFrame};
 use std::alloc::{AllocError, Global};
 use std::io::Read;
 use tftp_blocks::Delivered;
-use tftp_capture::LatchedReader;
+use tftp_streams::LatchedReader;
 use tftp_lines::{Endpoint, spells_request};
 use tftp_parties::party_of;
 use tftp_recording::{Datagram, Event, Fate, RecordingReader};

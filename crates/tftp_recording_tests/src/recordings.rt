@@ -2,7 +2,7 @@
 
 use crate::fragments::let_go_any;
 use std::test::Fail;
-use tftp_capture::LatchedReader;
+use tftp_streams::LatchedReader;
 use tftp_pcap::{FaultKind, PcapFault};
 use tftp_recording::{Event, Fate, LeftOut, RecordingReader};
 use tftp_trials::comparing::is_so;

@@ -10,7 +10,7 @@ use std::collections::BTreeMap;
 use std::io::Read;
 use tftp_blame::{Passing, Span, Trail, about};
 use tftp_blocks::RingDelivered;
-use tftp_capture::LatchedReader;
+use tftp_streams::LatchedReader;
 use tftp_lines::{Place, Transfer};
 use tftp_parties::party_of;
 use tftp_pcap::{FaultKind, PcapFault};

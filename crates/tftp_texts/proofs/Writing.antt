@@ -3,7 +3,8 @@ use Rattle.std.proofs.Common.{◌≡◌, ℕ, Bool, true, false, cond, List, [],
 use Rattle.std.specs.Io.KnownBytes.{Appends}
 use Rattle.std.proofs.lemmas.List.Elements.{All-cons, All-nil}
 use Rattle.tftp_capture.specs.CaptureText.{Datagram, Header}
-use Rattle.tftp_capture.specs.{Entry, said_in, HasWrittenHosts, Sink, WriteFault, Writes, Wrote}
+use Rattle.tftp_capture.specs.{Entry, said_in, HasWrittenHosts}
+use Rattle.tftp_streams.specs.{Sink, WriteFault, Writes, Wrote}
 use Rattle.tftp_capture.specs.Commented.Entry.{Comment, Passed}
 use Rattle.tftp_hosts.specs.{Dir, In, Out}
 use Rattle.tftp_packet.specs.{End}

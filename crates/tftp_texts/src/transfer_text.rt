@@ -2,7 +2,8 @@
 
 ghost use Rattle.std.specs.Prelude.{◌≡◌, ◌+◌, ◌^◌, ◌<◌, ◌≤◌, ◌∷◌, ◌++◌, ℕ, List, [], All, Option, filter, length, IfSome, OnErr, OnOk, None, Ok, true, false};
 ghost use Rattle.tftp_capture.specs.CaptureText.{Header as HeaderParts};
-ghost use Rattle.tftp_capture.specs.{IsPort, Entry, said_in, HasWrittenHosts, Sink, Wrote};
+ghost use Rattle.tftp_capture.specs.{IsPort, Entry, said_in, HasWrittenHosts};
+ghost use Rattle.tftp_streams.specs.{Sink, Wrote};
 ghost use Rattle.tftp_hosts.specs.{In, Out};
 ghost use Rattle.tftp_transfers.specs.{AreEndsAfter, is_about, is_end, server_of};
 ghost use Rattle.tftp_lines.specs.{Placed};
@@ -15,7 +16,8 @@ use crate::noted::Noted;
 use std::alloc::{AllocError, Global};
 use std::io::Write;
 use std::marker::Model;
-use tftp_capture::{Header, HostCaptureWriter, LineWriter, WriteFault};
+use tftp_capture::{Header, HostCaptureWriter};
+use tftp_streams::{LineWriter, WriteFault};
 use tftp_hosts::Dir;
 use tftp_lines::{Endpoint, Place, Transfer};
 use tftp_packet::{Bytes, End};

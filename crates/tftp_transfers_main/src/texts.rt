@@ -4,7 +4,7 @@ use crate::checking::{tell_asked, tell_notes};
 use crate::reasoned::Reasoned;
 use anyhow::Result;
 use std::{fs, io};
-use tftp_capture::LineWriter;
+use tftp_streams::LineWriter;
 use tftp_packet::End;
 use tftp_recording_judge::Judging;
 use tftp_session::{Kept, Session, TextAt, TextFault, Wanted, read_whole};

@@ -2,7 +2,7 @@
 
 use std::alloc::{AllocError, Global};
 use tftp_blame::{Blamed, Doubted, Span, Trail, put_unseen};
-use tftp_capture::LineWriter;
+use tftp_streams::LineWriter;
 use tftp_commands::{say_accepted, say_verdict};
 use tftp_judge::{Meaning, Refusal, Rule, Verdict};
 use tftp_packet::End;

@@ -2,7 +2,8 @@
 
 use crate::writing::{Row, Written, write};
 use std::test::Fail;
-use tftp_capture::{Header, WriteFault};
+use tftp_capture::Header;
+use tftp_streams::WriteFault;
 use tftp_capture_tests::outcomes::gives;
 use tftp_hosts::Dir;
 use tftp_packet::End;

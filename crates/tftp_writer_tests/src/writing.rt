@@ -4,7 +4,8 @@ ghost use Rattle.std.specs.Prelude.{◌≡◌};
 
 use std::alloc::Global;
 use std::marker::Model;
-use tftp_capture::{CaptureWriter, Header, HostCaptureWriter, LineWriter, WriteFault};
+use tftp_capture::{CaptureWriter, Header, HostCaptureWriter};
+use tftp_streams::{LineWriter, WriteFault};
 use tftp_hosts::{Dir, Host};
 use tftp_trials::drip::DripWriter;
 

@@ -6,7 +6,7 @@ use std::io;
 use std::io::{Read, Write};
 use std::slice::Iter;
 use std::test::Fail;
-use tftp_capture::{LatchedReader, LineWriter};
+use tftp_streams::{LatchedReader, LineWriter};
 use tftp_commands::run;
 use tftp_trials::drip::DripReader;
 

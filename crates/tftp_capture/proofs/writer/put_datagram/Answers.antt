@@ -1,7 +1,7 @@
 use Rattle.std.proofs.Common.{◌≡◌, decimal, option_map, ◌∙◌, rules}
 use Rattle.tftp_hosts.specs.{no_host}
 use Rattle.tftp_capture.specs.{dir_word}
-use Rattle.tftp_capture.proofs.Gathering.{adds_err, line_added, stops_short}
+use Rattle.tftp_streams.proofs.Gathering.{adds_err, line_added, stops_short}
 use Rattle.tftp_capture.proofs.Spelling.{datagram_pieces}
 use Rattle.tftp_capture.proofs.writer.put_datagram.Goals as goal
 use Rattle.tftp_capture.proofs.writer.put_datagram.Goals.{in-In, in-Out}

@@ -1,6 +1,6 @@
 use Rattle.std.proofs.Common.{◌≢◌, [], ◌∷◌, ◌++◌, length, ap, sym, arith}
 use Rattle.std.proofs.lemmas.Bool.Decides.{nat_tests}
-use Rattle.tftp_capture.proofs.Gathering.{adds_err, line_added, stops_short}
+use Rattle.tftp_streams.proofs.Gathering.{adds_err, line_added, stops_short}
 use Rattle.tftp_capture.proofs.Spelling.{payload_digits}
 use Rattle.tftp_capture.proofs.writer.put_payload.Goals as goal
 
