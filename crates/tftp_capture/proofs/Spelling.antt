@@ -1,14 +1,14 @@
 -- The lines of a text, in the pieces that are written.
-use Rattle.std.proofs.Common.{◌≡◌, ◌≢◌, ℕ, ◌+◌, ◌-◌, ◌/◌, ◌%◌, slice_index, List, [], ◌∷◌, ◌++◌, length, map, take, drop, codes, decimal, Option, None, Some, refl, sym, ap, ◌∙◌, arith, append_assoc, append-nil, length-append, take-append-drop}
+use Rattle.std.proofs.Common.{◌≡◌, ◌≢◌, ℕ, ◌+◌, List, [], ◌∷◌, ◌++◌, length, map, codes, decimal, Option, None, Some, refl, sym, ap, ◌∙◌, arith, append_assoc, append-nil, length-append}
 use Rattle.std.specs.Io.KnownBytes.{Appends}
-use Rattle.std.proofs.Math.Seq.{take-add}
 use Rattle.std.proofs.lemmas.List.{map-append}
 use Rattle.std.proofs.lemmas.List.Concat.{flat_map-append}
-use Rattle.hex.specs.Hex.{encode_lower, encode_with, lower_digits}
+use Rattle.hex.specs.Hex.{encode_lower}
 use Rattle.tftp_capture.specs.{Version, One, Two, datagram_line, dir_word, end_line, end_word, head_line, line_with_host, payload_text, service_line, text_of, total_line, whole_lines, Entry, comment_line, commented_text, entry_line, said_in, HasWritten, HasWrittenHosts, header_text_in, host_field, line_naming}
 use Rattle.tftp_streams.specs.{Gathers, Sink}
 use Rattle.tftp_capture.specs.CaptureText.{Datagram, Header}
 use Rattle.tftp_capture.specs.Commented.Entry.{Comment, Passed}
+use Rattle.tftp_streams.proofs.Encoding.{encode-append}
 use Rattle.tftp_streams.proofs.Gathering.{gathers_more, gathers_written}
 use Rattle.tftp_capture.proofs.Skips.{whole_lines-push}
 
@@ -36,6 +36,11 @@ datagram_pieces host d word local name space remote e f i h =
 pub payload_digits : (payload : List ℕ) → length payload ≢ 0 → payload_text payload ≡ encode_lower payload
 payload_digits [] some = absurd (some refl)
 payload_digits (b ∷ bs) some = refl
+
+-- a payload in two parts, and the end of its line
+pub parts_digits : (head rest : List ℕ) → length (head ++ rest) ≢ 0 → encode_lower head ++ (encode_lower rest ++ 10 ∷ []) ≡ payload_text (head ++ rest) ++ 10 ∷ []
+parts_digits head rest some =
+    sym (append_assoc (encode_lower head) (encode_lower rest) (10 ∷ [])) ∙ ap (λ l. l ++ 10 ∷ []) (sym (encode-append head rest) ∙ sym (payload_digits (head ++ rest) some))
 
 -- ---- one more datagram, and the whole text, whatever the lines of datagrams are
 

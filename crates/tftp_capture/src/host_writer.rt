@@ -62,7 +62,7 @@ impl HostCaptureWriter {
             → HasWrittenHosts W.contents start writer.old self.old header entries
             → OnOk result (HasWrittenHosts W.contents start writer.new self.new header (entries ++ Passed (record { dir = dir; local = local; host = host.now; remote = remote; payload = payload.now }) ∷ [])) }
     {
-        put_datagram(writer, dir, local, Some(host), remote, payload)?;
+        put_datagram(writer, dir, local, Some(host), remote, payload, b"")?;
         self.count += 1;
         Ok(())
     }

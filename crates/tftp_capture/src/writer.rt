@@ -61,7 +61,31 @@ impl CaptureWriter {
             → HasWritten W.contents start writer.old self.old header datagrams
             → OnOk result (HasWritten W.contents start writer.new self.new header (datagrams ++ record { dir = dir; local = local; host = no_host; remote = remote; payload = payload.now } ∷ [])) }
     {
-        put_datagram(writer, dir, local, None, remote, payload)?;
+        self.put_parts(writer, dir, local, remote, payload, b"")
+    }
+
+    /// The same, with a payload that lies in two parts.
+    pub fn put_parts<W: Write>(
+        &mut self,
+        writer: &mut LineWriter<W>,
+        dir: Dir,
+        local: u16,
+        remote: u16,
+        head: &[u8],
+        rest: &[u8],
+    ) -> Result<(), WriteFault>
+        requires local { IsPort local }
+        requires remote { IsPort remote }
+        requires payload { length (head.now ++ rest.now) ≤ 65527 }
+        requires few { self.old < 2 ^ 40 }
+        ensures adds { Adds W.contents writer.old writer.new result
+            (datagram_line (record { dir = dir; local = local; host = no_host; remote = remote; payload = head.now ++ rest.now }) ++ 10 ∷ []) }
+        ensures counted { MatchResult result (λ _. self.new ≡ self.old + 1) (λ _. self.new ≡ self.old) }
+        ensures written { (start : Sink W) (header : HeaderParts) (datagrams : List Datagram)
+            → HasWritten W.contents start writer.old self.old header datagrams
+            → OnOk result (HasWritten W.contents start writer.new self.new header (datagrams ++ record { dir = dir; local = local; host = no_host; remote = remote; payload = head.now ++ rest.now } ∷ [])) }
+    {
+        put_datagram(writer, dir, local, None, remote, head, rest)?;
         self.count += 1;
         Ok(())
     }
@@ -101,17 +125,18 @@ pub fn put_header<W: Write>(
     ])
 }
 
-/// The line of a datagram, with its host where the text names it.
+/// The line of a datagram, with its host where the text names it; its payload lies in two parts.
 pub fn put_datagram<W: Write>(
     writer: &mut LineWriter<W>,
     dir: Dir,
     local: u16,
     host: Option<&Host>,
     remote: u16,
-    payload: &[u8],
+    head: &[u8],
+    rest: &[u8],
 ) -> Result<(), WriteFault>
     ensures adds { Adds W.contents writer.old writer.new result
-        (line_naming (option_map (λ h. h.now) host.entry) (record { dir = dir; local = local; host = no_host; remote = remote; payload = payload.now }) ++ 10 ∷ []) }
+        (line_naming (option_map (λ h. h.now) host.entry) (record { dir = dir; local = local; host = no_host; remote = remote; payload = head.now ++ rest.now }) ++ 10 ∷ []) }
 {
     let mut local_buffer = Buffer::new();
     let mut remote_buffer = Buffer::new();
@@ -123,7 +148,7 @@ pub fn put_datagram<W: Write>(
     };
     let (name, space) = host_field(host);
     writer.add_all(&[word, b" ", local, b" ", name, space, remote, b" "])?;
-    put_payload(writer, payload)
+    put_payload(writer, head, rest)
 }
 
 /// The host, and the space after it; two empty slices for none.
@@ -147,12 +172,17 @@ pub fn finish<W: Write>(writer: &mut LineWriter<W>, count: u64) -> Result<(), Wr
 }
 
 /// The last field of a datagram's line, and the line's end.
-fn put_payload<W: Write>(writer: &mut LineWriter<W>, payload: &[u8]) -> Result<(), WriteFault>
-    ensures adds { Adds W.contents writer.old writer.new result (payload_text payload.now ++ 10 ∷ []) }
+fn put_payload<W: Write>(
+    writer: &mut LineWriter<W>,
+    head: &[u8],
+    rest: &[u8],
+) -> Result<(), WriteFault>
+    ensures adds { Adds W.contents writer.old writer.new result (payload_text (head.now ++ rest.now) ++ 10 ∷ []) }
 {
-    if payload.is_empty() {
+    if head.len() + rest.len() == 0 {
         return writer.add(b"-\n");
     }
-    writer.add_hex(payload)?;
+    writer.add_hex(head)?;
+    writer.add_hex(rest)?;
     writer.add(b"\n")
 }

@@ -1,5 +1,5 @@
 -- A transfer that is to be written, by its parts in memory, and the DATA of its wire in turn (RFC 1350, section 2).
-use Rattle.std.specs.Prelude.{◌≡◌, ℕ, ◌-◌, ◌≤◌, List, length, take}
+use Rattle.std.specs.Prelude.{◌≡◌, ℕ, ◌≤◌, List, length, take, Option, Some, None, Bor}
 use Rattle.tftp_model.specs.{Meaning}
 use Rattle.tftp_law.specs.{meaning_from, blocks_of, CanBeWritten}
 use Rattle.tftp_judge.specs.{file_in, IsCanonical}
@@ -15,17 +15,25 @@ pub record IsToBeWritten (t : transfer.Inside) : Type 0 where
   pub counted : t.blocks ≡ blocks_of (meaning_in t)
   pub canonical : IsCanonical t.request.now.mode t.file.now
 
--- what contracts see of the DATA in turn: what is left of the wire, the size of a block, and the packet that was made last
+-- what contracts see of the DATA in turn: what is left of the wire, the size of a block, and the two parts of the packet
+-- that it went to last
 pub record DataState : Type 0 where
   pub left : List ℕ
   pub size : ℕ
-  pub packet : List ℕ
+  pub head : List ℕ
+  pub block : List ℕ
+
+-- a block lies in the file, or else at the front of the buffer
+abbrev pub block_of : Option (Bor (List ℕ)) → List ℕ → List ℕ
+block_of (Some block) buffered = block.now
+block_of None buffered = buffered
 
 abbrev pub state_of : packets.Inside → DataState
-state_of p = record { left = p.blocks; size = length p.buffer.items - 4; packet = take p.len p.buffer.items }
+state_of p = record { left = p.blocks; size = length p.buffer.items; head = p.head; block = block_of p.in_file (take p.len p.buffer.items) }
 
--- a packet goes into a datagram, with the opcode and the number of its block
+-- a block goes into a datagram, with the opcode and its number
 pub record HasRoom (p : packets.Inside) : Type 0 where
-  pub head : 4 ≤ length p.buffer.items
-  pub short : length p.buffer.items ≤ 65468
+  pub short : length p.buffer.items ≤ 65464
   pub within : p.len ≤ length p.buffer.items
+  pub few : length (block_of p.in_file (take p.len p.buffer.items)) ≤ 65464
+  pub head : length p.head ≡ 4

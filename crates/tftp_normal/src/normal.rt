@@ -14,9 +14,9 @@ use crate::transfer::{Transfer, window_size_of};
 use crate::writing::write_normal;
 use std::alloc::Global;
 use std::io::{Read, Write};
-use tftp_streams::{LatchedReader, LineWriter};
 use tftp_judge::{Meaning, MeaningParts, judge_text};
 use tftp_packet::Side;
+use tftp_streams::{LatchedReader, LineWriter};
 
 /// Writes the normal text of a meaning, and nothing else. It takes all memory that it needs before it writes, so with
 /// `Memory` nothing was written; it never answers `Verdict`.

@@ -40,7 +40,7 @@ impl<'a> Model for WireBlocks<'a> {
 }
 
 impl<'a> WireBlocks<'a> {
-    ghost use Rattle.std.specs.Prelude.{◌≡◌, ◌≤◌, [], ◌++◌, length, take, drop, IfNone};
+    ghost use Rattle.std.specs.Prelude.{◌≡◌, ◌≤◌, [], ◌++◌, length, take, drop, IfNone, IfSome};
     ghost use Rattle.tftp_law.specs.Fitting.{written_wire};
     ghost use Rattle.tftp_normal.specs.WireLeft.{bytes_of};
 
@@ -62,24 +62,23 @@ impl<'a> WireBlocks<'a> {
         WireBlocks::new(Mode::Octet, wire)
     }
 
-    /// Fills a block from its front with what comes next, as far as it goes, and tells how many bytes those are.
-    pub(crate) fn fill(&mut self, block: &mut [u8]) -> usize
-        ensures within { result ≤ length block.old }
-        ensures filled { take result block.new ≡ take (length block.old) self.old }
-        ensures rest { self.new ≡ drop (length block.old) self.old }
+    /// The next block where it lies in the file, of at most so many bytes, where bytes go over the wire as they are.
+    pub(crate) fn split_block(&mut self, most: usize) -> Option<&'a [u8]>
+        ensures some { IfSome result (λ block. (block.now ≡ take most self.old) × (self.new ≡ drop most self.old)) }
+        ensures none { IfNone result (self.new ≡ self.old) }
     {
         if self.mode == Mode::Netascii {
-            return self.fill_bytes(block);
+            return None;
         }
-        let size = block.len().min(self.file.len());
-        let (bytes, rest) = self.file.split_at(size);
-        block[..size].copy_from_slice(bytes);
+        let size = most.min(self.file.len());
+        let (block, rest) = self.file.split_at(size);
         self.file = rest;
-        size
+        Some(block)
     }
 
-    /// Fills a block by runs of bytes that go as they are, and between them byte by byte.
-    fn fill_bytes(&mut self, block: &mut [u8]) -> usize
+    /// Fills a block from its front with what comes next, as far as it goes, and tells how many bytes those are: by runs of
+    /// bytes that go as they are, and between them byte by byte.
+    pub(crate) fn fill(&mut self, block: &mut [u8]) -> usize
         ensures within { result ≤ length block.old }
         ensures filled { take result block.new ≡ take (length block.old) self.old }
         ensures rest { self.new ≡ drop (length block.old) self.old }

@@ -1,6 +1,6 @@
 //! The normal capture, written datagram by datagram.
 
-ghost use Rattle.std.specs.Prelude.{◌≡◌, ◌≢◌, ◌+◌, ◌-◌, ◌*◌, ◌^◌, ◌≤◌, [], ◌∷◌, length, drop, true, false, Ok, OnOk};
+ghost use Rattle.std.specs.Prelude.{◌≡◌, ◌≢◌, ◌+◌, ◌-◌, ◌*◌, ◌^◌, ◌≤◌, [], ◌∷◌, ◌++◌, length, drop, true, false, Ok, OnOk};
 ghost use Rattle.std.specs.FinMap as map;
 ghost use Rattle.tftp_packet.specs.{Message, canonical, End};
 ghost use Rattle.tftp_streams.specs.{Writes};
@@ -9,7 +9,7 @@ ghost use Rattle.tftp_model.specs.Machines.{sender_of};
 ghost use Rattle.tftp_law.specs.{wire_of, blocks_of, CanBeWritten};
 ghost use Rattle.tftp_normal.specs.Normal.{opening, blocks_after, windows_after, windows_of, normal_count, normal_text};
 ghost use Rattle.tftp_normal.specs.Normalised.{Normalises};
-ghost use Rattle.tftp_normal.specs.Writing.{asked_by, sent_by, datagrams_of, Puts};
+ghost use Rattle.tftp_normal.specs.Writing.{asked_by, dir_from, sent_by, datagrams_of, Puts};
 
 use crate::data_packets::DataPackets;
 use crate::fault::NormalFault;
@@ -17,9 +17,9 @@ use crate::transfer::Transfer;
 use std::alloc::Global;
 use std::io::Write;
 use tftp_capture::{CaptureWriter, Header};
-use tftp_streams::{LineWriter, WriteFault};
 use tftp_hosts::Dir;
 use tftp_packet::{End, Side};
+use tftp_streams::{LineWriter, WriteFault};
 
 /// The client's own port.
 const CLIENT_PORT: u16 = 50_000;
@@ -29,6 +29,16 @@ const SERVER_PORT: u16 = 50_001;
 
 /// The port at which a server is asked (RFC 1350, section 4).
 const SERVICE_PORT: u16 = 69;
+
+/// Which way a datagram of this end goes, at the client.
+fn dir_from(author: End) -> Dir
+    ensures { result ≡ dir_from author }
+{
+    match author {
+        End::Client => Dir::Out,
+        End::Server => Dir::In,
+    }
+}
 
 /// Puts a datagram between the two ends' own ports.
 fn put_from<W: Write>(
@@ -41,11 +51,29 @@ fn put_from<W: Write>(
     requires short { length payload.now ≤ 65527 }
     ensures { Puts W.contents writer.old writer.new result capture.old capture.new (sent_by author payload.now ∷ []) }
 {
-    let dir = match author {
-        End::Client => Dir::Out,
-        End::Server => Dir::In,
-    };
-    capture.put(writer, dir, CLIENT_PORT, SERVER_PORT, payload)
+    capture.put(writer, dir_from(author), CLIENT_PORT, SERVER_PORT, payload)
+}
+
+/// Puts a DATA packet between the two ends' own ports, with its block where it lies.
+fn put_data<W: Write>(
+    author: End,
+    head: &[u8],
+    block: &[u8],
+    capture: &mut CaptureWriter,
+    writer: &mut LineWriter<W>,
+) -> Result<(), WriteFault>
+    requires few { capture.old + 1 ≤ 2 ^ 40 }
+    requires short { length (head.now ++ block.now) ≤ 65527 }
+    ensures { Puts W.contents writer.old writer.new result capture.old capture.new (sent_by author (head.now ++ block.now) ∷ []) }
+{
+    capture.put_parts(
+        writer,
+        dir_from(author),
+        CLIENT_PORT,
+        SERVER_PORT,
+        head,
+        block,
+    )
 }
 
 /// Puts the acknowledgement of a block, or of block 0 (RFC 1350, section 5).
@@ -88,7 +116,7 @@ fn put_blocks<W: Write>(
     while block < last {
         block += 1;
         packets.fill(block);
-        put_from(author, packets.packet(), capture, writer)?;
+        put_data(author, packets.head(), packets.block(), capture, writer)?;
     }
     Ok(())
 }

@@ -6,10 +6,7 @@ use crate::latched_writer::LatchedWriter;
 use std::io::Write;
 
 /// Writes a slice by as many writes as it takes; an interrupted write is a fault too.
-pub fn write_whole<W: Write>(
-    writer: &mut LatchedWriter<W>,
-    bytes: &[u8],
-) -> Result<(), WriteFault>
+pub fn write_whole<W: Write>(writer: &mut LatchedWriter<W>, bytes: &[u8]) -> Result<(), WriteFault>
     requires going { writer.old.1 ≡ false }
     ensures writes { WritesWhole (W.contents writer.old.0) (W.contents writer.new.0) result bytes.now }
     ensures tally { writer.new.1 ≡ is_err result }

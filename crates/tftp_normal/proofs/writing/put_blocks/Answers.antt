@@ -1,4 +1,4 @@
-use Rattle.std.proofs.Common.{rules, ◌≡◌, ◌-◌, ◌<◌, ◌+◌, ap, ◌∙◌, arith}
+use Rattle.std.proofs.Common.{rules, ◌≡◌, ◌-◌, ◌<◌, ◌+◌, ◌++◌, ap, ◌∙◌, arith}
 use Rattle.tftp_packet.specs.{Message, canonical}
 use Rattle.tftp_model.specs.Machines.{sender_of}
 use Rattle.tftp_model.specs.{Data}
@@ -8,8 +8,8 @@ use Rattle.tftp_normal.proofs.BlocksPut.{data_datagram, next_packet, next_left, 
 use Rattle.tftp_normal.proofs.writing.put_blocks.Goals as goal
 use Rattle.tftp_normal.proofs.writing.put_blocks.Goals.{in-Get, in-Put}
 
-pub put_from-requires-clause-few : goal.put_from-requires-clause-few
-put_from-requires-clause-few g c =
+pub put_data-requires-clause-few : goal.put_data-requires-clause-few
+put_data-requires-clause-few g c =
     let m = c.args.transfer.now in
     let low : c.loop-block.block < c.args.last = c.loop-block-test.true in
     let count = putting_count g.W.Write.contents m _ _ _ _ _ _ (step_putting g.W.Write.contents m _ _ _ _ c.loop-block.block c.args.last _ low c.loop-block.invariant.putting) in
@@ -23,25 +23,25 @@ loop-block-preserved g c =
     let low : c.loop-block.block < c.args.last = c.loop-block-test.true in
     let author : c.match-side.author ≡ sender_of c.args.transfer.now.side = elim c.match-side.branch [ in-Get w ↦ search rules | in-Put w ↦ search rules ] in
     let bytes = next_packet m c.loop-block.block c.loop-block.packets.size c.loop-block.packets.left c.loop-block.invariant.size c.loop-block.invariant.left in
-    let payload = c.packet.ensures.packet ∙ c.fill.ensures.packet ∙ ap (λ l. canonical (Message.Data (c.loop-block.block + 1) l)) bytes in
-    let is : sent_by c.match-side.author c.packet.result.now ≡ normal_datagram c.args.transfer.now (Data (c.loop-block.block + 1)) =
-    ap (λ e. sent_by e c.packet.result.now) author ∙ ap (sent_by (sender_of c.args.transfer.now.side)) payload ∙ data_datagram m (c.loop-block.block + 1) in
+    let payload = ap (λ l. l ++ c.block.result.now) c.head.ensures ∙ ap (λ l. c.fill.new.self.head ++ l) c.block.ensures.block ∙ c.fill.ensures.packet ∙ ap (λ l. canonical (Message.Data (c.loop-block.block + 1) l)) bytes in
+    let is : sent_by c.match-side.author (c.head.result.now ++ c.block.result.now) ≡ normal_datagram c.args.transfer.now (Data (c.loop-block.block + 1)) =
+    ap (λ e. sent_by e (c.head.result.now ++ c.block.result.now)) author ∙ ap (sent_by (sender_of c.args.transfer.now.side)) payload ∙ data_datagram m (c.loop-block.block + 1) in
     record {
-      clean = c.in_ok-put_from.ensures.1;
+      clean = c.in_ok-put_data.ensures.1;
       order = omega (arith, low);
       size = c.fill.ensures.size ∙ c.loop-block.invariant.size;
       left = c.fill.ensures.left ∙ next_left m c.loop-block.block c.loop-block.packets.size c.loop-block.packets.left c.loop-block.invariant.size c.loop-block.invariant.left;
-      putting = step_put g.W.Write.contents m _ _ _ _ c.loop-block.block c.args.last _ low c.loop-block.invariant.putting _ _ _ is c.in_ok-put_from.ensures.2;
+      putting = step_put g.W.Write.contents m _ _ _ _ c.loop-block.block c.args.last _ low c.loop-block.invariant.putting _ _ _ is c.in_ok-put_data.ensures.2;
     }
 
-pub returns-in_err-put_from-clause-puts : goal.returns-in_err-put_from-clause-puts
-returns-in_err-put_from-clause-puts g c =
+pub returns-in_err-put_data-clause-puts : goal.returns-in_err-put_data-clause-puts
+returns-in_err-put_data-clause-puts g c =
     let m = c.args.transfer.now in
     let low : c.loop-block.block < c.args.last = c.loop-block-test.true in
     let author : c.match-side.author ≡ sender_of c.args.transfer.now.side = elim c.match-side.branch [ in-Get w ↦ search rules | in-Put w ↦ search rules ] in
     let bytes = next_packet m c.loop-block.block c.loop-block.packets.size c.loop-block.packets.left c.loop-block.invariant.size c.loop-block.invariant.left in
-    let payload = c.packet.ensures.packet ∙ c.fill.ensures.packet ∙ ap (λ l. canonical (Message.Data (c.loop-block.block + 1) l)) bytes in
-    let is : sent_by c.match-side.author c.packet.result.now ≡ normal_datagram c.args.transfer.now (Data (c.loop-block.block + 1)) =
-    ap (λ e. sent_by e c.packet.result.now) author ∙ ap (sent_by (sender_of c.args.transfer.now.side)) payload ∙ data_datagram m (c.loop-block.block + 1) in
-    puts_err g.W.Write.contents c.args.writer.now c.put_from.new.writer c.from_residual.result c.args.capture.now c.put_from.new.capture _ c.from_residual.ensures.0 c.requires.clean c.in_err-put_from.ensures.failed
-    (step_failed g.W.Write.contents m _ _ _ _ c.loop-block.block c.args.last _ low c.loop-block.invariant.putting c.put_from.new.writer _ is (c.in_err-put_from.ensures.part c.loop-block.invariant.clean))
+    let payload = ap (λ l. l ++ c.block.result.now) c.head.ensures ∙ ap (λ l. c.fill.new.self.head ++ l) c.block.ensures.block ∙ c.fill.ensures.packet ∙ ap (λ l. canonical (Message.Data (c.loop-block.block + 1) l)) bytes in
+    let is : sent_by c.match-side.author (c.head.result.now ++ c.block.result.now) ≡ normal_datagram c.args.transfer.now (Data (c.loop-block.block + 1)) =
+    ap (λ e. sent_by e (c.head.result.now ++ c.block.result.now)) author ∙ ap (sent_by (sender_of c.args.transfer.now.side)) payload ∙ data_datagram m (c.loop-block.block + 1) in
+    puts_err g.W.Write.contents c.args.writer.now c.put_data.new.writer c.from_residual.result c.args.capture.now c.put_data.new.capture _ c.from_residual.ensures.0 c.requires.clean c.in_err-put_data.ensures.failed
+    (step_failed g.W.Write.contents m _ _ _ _ c.loop-block.block c.args.last _ low c.loop-block.invariant.putting c.put_data.new.writer _ is (c.in_err-put_data.ensures.part c.loop-block.invariant.clean))

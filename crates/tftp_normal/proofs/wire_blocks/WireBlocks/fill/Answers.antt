@@ -3,7 +3,7 @@ use Rattle.std.proofs.lemmas.List.{drop-drop, take_more_set}
 use Rattle.std.proofs.lemmas.Slice.{take-put_mid_below, between-put_mid}
 use Rattle.tftp_normal.proofs.Taken.{take_next, drop_next, take_past, drop_past}
 use Rattle.tftp_normal.proofs.Runs.{filled_more}
-use Rattle.tftp_normal.proofs.wire_blocks.WireBlocks.fill_bytes.Goals as goal
+use Rattle.tftp_normal.proofs.wire_blocks.WireBlocks.fill.Goals as goal
 
 pub loop-filled-preserved : goal.loop-filled-preserved
 loop-filled-preserved c =

@@ -1,5 +1,5 @@
 use Rattle.std.proofs.Common.{◌≡◌, ◌≤◌, ◌-◌, length, take, drop}
-use Rattle.tftp_normal.proofs.wire_blocks.WireBlocks.fill_bytes.Given as goal
+use Rattle.tftp_normal.proofs.wire_blocks.WireBlocks.fill.Given as goal
 
 -- so many bytes have gone over
 abbrev pub invariant-loop-filled : goal.invariant-loop-filled

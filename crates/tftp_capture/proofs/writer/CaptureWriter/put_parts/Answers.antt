@@ -1,7 +1,7 @@
 use Rattle.std.proofs.Common.{◌+◌, ap}
 use Rattle.tftp_streams.proofs.Gathering.{adds_err}
 use Rattle.tftp_capture.proofs.Spelling.{datagram_written}
-use Rattle.tftp_capture.proofs.writer.CaptureWriter.put.Goals as goal
+use Rattle.tftp_capture.proofs.writer.CaptureWriter.put_parts.Goals as goal
 
 pub returns-in_err-put_datagram-clause-adds : goal.returns-in_err-put_datagram-clause-adds
 returns-in_err-put_datagram-clause-adds g c = adds_err g.W.Write.contents c.args.writer.now c.put_datagram.new.writer c.from_residual.result _ c.from_residual.ensures.0 c.in_err-put_datagram.ensures.adds
