@@ -1,24 +1,16 @@
 -- What was taken of a reader's bytes, and where its lines end.
-use Rattle.std.proofs.Common.{◌≡◌, ◌≢◌, ℕ, suc, ◌+◌, ◌-◌, ◌<◌, ◌≤◌, List, [], ◌∷◌, ◌++◌, length, take, drop, get_or, Option, None, Some, refl, sym, ap, ◌∙◌, arith, append_assoc, take-append-drop, length-take, length-take-le, get_or-take, drop-cons, take-take}
+use Rattle.std.proofs.Common.{◌≡◌, ◌≢◌, ℕ, suc, ◌+◌, ◌-◌, ◌<◌, ◌≤◌, List, [], ◌∷◌, ◌++◌, length, take, drop, get_or, Option, refl, sym, ap, ◌∙◌, arith, take-append-drop, length-take, length-take-le, get_or-take, drop-cons, take-take}
 use Rattle.std.specs.Io.KnownBytes.{prepend_known, Consumes, Keeps}
-use Rattle.std.proofs.KnownBytes.{Consumes-nil, Consumes-trans, Consumes-kept}
+use Rattle.std.proofs.KnownBytes.{Consumes-nil}
 use Rattle.std.proofs.Math.Seq.{take-length, take-add}
 use Rattle.std.proofs.lemmas.List.{take_at, take_more}
 use Rattle.std.proofs.lemmas.List.Elements.{All-append, All-take}
+use Rattle.tftp_streams.proofs.Taking.{taken_step}
 use Rattle.tftp_capture.specs.{line_at, HasNoEnd, HasByteAt}
-
-pub consumed : (known : Option (List ℕ)) (held : List ℕ) (n : ℕ) → Consumes (prepend_known held known) (prepend_known (drop n held) known) (take n held)
-consumed None held n = tt
-consumed (Some y) held n = ap (λ l. l ++ y) (sym (take-append-drop n held)) ∙ append_assoc (take n held) (drop n held) y
 
 pub nonempty : (xs : List ℕ) → length xs ≢ 0 → (byte : ℕ) × (more : List ℕ) × (xs ≡ byte ∷ more)
 nonempty [] h = absurd (h refl)
 nonempty (x ∷ xs) h = (x, xs, refl)
-
--- what was taken before, what was read ahead, and n bytes of it
-pub taken_step : (k0 k1 known : Option (List ℕ)) (line held : List ℕ) (n : ℕ) → Consumes k0 k1 line → Keeps k1 (prepend_known held known)
-    → Consumes k0 (prepend_known (drop n held) known) (line ++ take n held)
-taken_step k0 k1 known line held n p q = Consumes-trans _ _ _ _ _ (Consumes-kept _ _ _ _ p q) (consumed known held n)
 
 pub taken_all : (k0 k1 known : Option (List ℕ)) (line held : List ℕ) → Consumes k0 k1 line → Keeps k1 (prepend_known held known)
     → Consumes k0 (prepend_known (drop (length held) held) known) (line ++ held)

@@ -4,7 +4,8 @@ use Rattle.std.specs.Io.KnownBytes.{Consumes, IsAtEnd, prepend_known}
 use Rattle.std.proofs.lemmas.List.Elements.{All-nil}
 use Rattle.std.proofs.KnownBytes.{Consumes-trans}
 use Rattle.tftp_packet.specs.{End}
-use Rattle.tftp_capture.specs.{BadHeader, BadEnd, BadService, Truncated, CaptureFault, Version, One, Two, Stop, Due, IsPort, Says, Stands, end_line, head_line, longest, longest_line, service_line, whole_lines, FailsToBegin, FaultTells, HasService, IsAtTextEnd, IsReadFault, MemoryTells, LeavesEnd, LineEnds, LineState, most_ahead, ReachesLine, fault_at}
+use Rattle.tftp_capture.specs.{BadHeader, BadEnd, BadService, Truncated, CaptureFault, Version, One, Two, Stop, Due, IsPort, Says, Stands, end_line, head_line, longest, longest_line, service_line, whole_lines, FailsToBegin, FaultTells, HasService, IsAtTextEnd, IsReadFault, MemoryTells, LeavesEnd, LineEnds, LineState, ReachesLine, fault_at}
+use Rattle.tftp_streams.specs.{most_ahead}
 use Rattle.tftp_capture.specs.declared.fault.CaptureFault.TheVariants as faults
 use Rattle.tftp_capture.specs.declared.stop.Stop.TheVariants.{Text, Read, Memory}
 use Rattle.tftp_capture.specs.CaptureText.Due.{Head, EndLine, ServiceLine, Body}

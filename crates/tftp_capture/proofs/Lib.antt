@@ -17,7 +17,6 @@ pub mod Readings
 pub mod Skips
 pub mod Spelling
 pub mod Staying
-pub mod Supplies
 pub mod Texts
 pub mod TwoTexts
 pub mod Uniqueness

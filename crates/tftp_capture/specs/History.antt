@@ -11,7 +11,8 @@ use Rattle.tftp_capture.specs.declared.version.Version.{Version}
 use Rattle.std.specs.List.{slice_split}
 use Rattle.tftp_capture.specs.CaptureText.{Datagram, Header, Numbered, Due, Stands, Unfinished, IsCapture, IsOver, HasFault, said, head_line, end_line, service_line}
 use Rattle.tftp_capture.specs.CaptureText.Due.{Body}
-use Rattle.tftp_capture.specs.Lines.{LineState, most_ahead}
+use Rattle.tftp_capture.specs.Lines.{LineState}
+use Rattle.tftp_streams.specs.{most_ahead}
 use Rattle.tftp_capture.specs.Fields.{datagram_of}
 
 -- what contracts see of a reader: its header, its lines, how many datagrams it gave, the line of the last of them (or of

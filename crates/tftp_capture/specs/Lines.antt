@@ -10,14 +10,6 @@ use Rattle.tftp_capture.specs.declared.version.Version.{Version}
 use Rattle.tftp_capture.specs.declared.version.Version.TheVariants.{One}
 use Rattle.tftp_capture.specs.declared.stop.Stop.TheVariants.{Text, Read, Memory}
 
--- how many bytes are read at once, and ahead of their use, at most
-abbrev pub most_ahead : ℕ
-most_ahead = 65536
-
--- how many bytes a line of any version has at most
-abbrev pub most_of_line : ℕ
-most_of_line = 131116
-
 abbrev pub fault_at : Stop → ℕ → CaptureFault
 fault_at (Text fault) line = faults.Text line fault
 fault_at Read line = faults.Read line
@@ -70,11 +62,6 @@ LeavesEnd (Err (Text _)) room bytes ahead = Unit {0}
 LeavesEnd (Ok _) room bytes ahead = Unit {0}
 
 -- ---- lines, one after another
-
--- bytes read ahead, and whether the read that gave them gave as many as were asked for
-pub record SupplyState : Type 0 where
-  pub bytes : List ℕ
-  pub full : Bool
 
 -- what a source of lines holds: bytes read ahead, whether the last read gave as many as were asked for, the line last
 -- read, how many bytes and lines were read, and the version of the lines that follow

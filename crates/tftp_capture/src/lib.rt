@@ -1,7 +1,6 @@
 //! The capture text read and written.
 #![tactic(auto)]
 
-mod ahead;
 mod datagram;
 mod digits;
 mod fault;
@@ -13,11 +12,9 @@ mod lines;
 mod reader;
 mod standing;
 mod stop;
-mod supply;
 mod version;
 mod writer;
 
-pub use ahead::Ahead;
 pub use datagram::{Datagram, Header};
 pub use fault::{CaptureFault, TextFault};
 pub use host_writer::HostCaptureWriter;

@@ -1,13 +1,13 @@
 ghost use Rattle.std.specs.Prelude.{◌≡◌, ◌≢◌, ◌+◌, ◌<◌, ◌≤◌, ℕ, List, [], All, true, length, take, drop, slice_index, OnOk, OnErr};
 ghost use Rattle.std.specs.Io.KnownBytes.{prepend_known, Consumes, IsAtEnd};
-ghost use Rattle.tftp_capture.specs.Lines.{bytes_lying, line_at, most_ahead, most_of_line, LineEnds};
+ghost use Rattle.tftp_capture.specs.Lines.{bytes_lying, line_at, LineEnds};
+ghost use Rattle.tftp_streams.specs.{most_ahead, most_of_line};
 
 use crate::fault::TextFault;
 use crate::stop::Stop;
-use crate::supply::Supply;
 use memchr::memchr;
 use std::io::Read;
-use tftp_streams::LatchedReader;
+use tftp_streams::{LatchedReader, ReadBuffer};
 
 /// How many bytes stand before the first of that value, or before the end where there is none.
 #[inline]
@@ -25,7 +25,7 @@ pub fn count_before(bytes: &[u8], value: u8) -> usize
 /// Reads on until a line of at most `longest` bytes is held, at the beginning; the text may have `room` more bytes. The
 /// answer is how many bytes it has with its LF. After a fault nothing is held.
 pub fn read_line<R: Read>(
-    ahead: &mut Supply,
+    ahead: &mut ReadBuffer,
     reader: &mut LatchedReader<R>,
     longest: usize,
     room: u64,

@@ -1,17 +1,17 @@
 ghost use Rattle.std.specs.Prelude.{◌≡◌, ◌≢◌, ◌+◌, ◌-◌, ◌^◌, ◌≤◌, ◌⊎◌, ℕ, List, [], length, true, false, IfOk, OnOk, OnErr};
 ghost use Rattle.std.specs.Io.KnownBytes.{prepend_known, Consumes, IsAtEnd};
-ghost use Rattle.tftp_capture.specs.Lines.{most_ahead, unread, HoldsLine, HoldsNoLine, LeavesEnd, LineEnds, ReachesLine, TextEnds};
+ghost use Rattle.tftp_capture.specs.Lines.{unread, HoldsLine, HoldsNoLine, LeavesEnd, LineEnds, ReachesLine, TextEnds};
+ghost use Rattle.tftp_streams.specs.{most_ahead};
 ghost use Rattle.tftp_capture.specs.CaptureText.{longest_line, says_nothing};
 
 use crate::fault::TextFault;
 use crate::line::{count_before, read_line};
 use crate::stop::Stop;
-use crate::supply::Supply;
 use crate::version::Version;
 use std::alloc::{AllocError, Global};
 use std::io::Read;
 use std::marker::Model;
-use tftp_streams::LatchedReader;
+use tftp_streams::{LatchedReader, ReadBuffer};
 
 /// The most bytes of a text.
 const LONGEST_TEXT: u64 = 1 << 40;
@@ -20,7 +20,7 @@ const LONGEST_TEXT: u64 = 1 << 40;
 /// lies in what is held; `lies` is how many bytes it has with its LF, and 0 where none was read.
 #[derive(Drop)]
 pub struct Lines {
-    ahead: Supply,
+    ahead: ReadBuffer,
     lies: usize,
     taken: u64,
     count: u64,
@@ -30,7 +30,8 @@ pub struct Lines {
 impl Model for Lines {
     ghost use Rattle.std.specs.Prelude.{◌+◌, ◌^◌, ◌≤◌, length, drop};
     ghost use Rattle.tftp_capture.specs.CaptureText.{longest_line};
-    ghost use Rattle.tftp_capture.specs.Lines.{line_at, most_ahead, LineState};
+    ghost use Rattle.tftp_capture.specs.Lines.{line_at, LineState};
+    ghost use Rattle.tftp_streams.specs.{most_ahead};
 
     ghost Value = { LineState };
 
@@ -73,7 +74,7 @@ impl Lines {
     pub fn new(alloc: Global) -> Result<Self, AllocError>
         ensures { IfOk result (λ lines. lines ≡ unread) }
     {
-        let ahead = Supply::new(alloc)?;
+        let ahead = ReadBuffer::new(alloc)?;
         Ok(Lines {
             ahead,
             lies: 0,

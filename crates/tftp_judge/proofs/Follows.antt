@@ -3,7 +3,8 @@ use Rattle.std.proofs.Common.{◌≡◌, ℕ, ◌+◌, ◌≤◌, lit≤, ◌⊎
 use Rattle.std.specs.Io.KnownBytes.{Consumes, IsAtEnd, prepend_known}
 use Rattle.std.proofs.KnownBytes.{Consumes-trans}
 use Rattle.std.proofs.lemmas.List.{length-map, length-reverse, map-append, reverse-append, reverse-reverse}
-use Rattle.tftp_capture.specs.{Begins, IsCapture, Numbered, Stands, Version, datagram_of, most_ahead, Continues, GoesOn, IsAtTextEnd, IsReadFault, MemoryTells, ReaderState, StandingTells, StandsFor, WantTells, standing_after, with_answer, CaptureFault, Open, Over, Failed}
+use Rattle.tftp_capture.specs.{Begins, IsCapture, Numbered, Stands, Version, datagram_of, Continues, GoesOn, IsAtTextEnd, IsReadFault, MemoryTells, ReaderState, StandingTells, StandsFor, WantTells, standing_after, with_answer, CaptureFault, Open, Over, Failed}
+use Rattle.tftp_streams.specs.{most_ahead}
 use Rattle.tftp_capture.specs.CaptureText.Due.{Body}
 use Rattle.tftp_capture.specs.declared.datagram.Datagram.{Datagram as Owned}
 use Rattle.tftp_capture.proofs.Beginnings.{begins_more, capture_begins}

@@ -1,7 +1,8 @@
 -- What was found in the bytes of a reader.
 use Rattle.std.proofs.Common.{◌≡◌, ◌≤◌, ◌⊎◌, ℕ, inl, inr, Bool, true, false, true≢false, List, [], ◌∷◌, ◌++◌, length, Option, Some, None, Result, Err, refl, sym, ap, ◌∙◌, subst, arith, append_assoc, append-nil}
 use Rattle.std.specs.Io.KnownBytes.{Consumes, IsAtEnd, prepend_known}
-use Rattle.tftp_capture.specs.{Numbered, most_ahead, FailsToBegin, FaultTells, IsAtTextEnd, IsReadFault, MemoryTells, CaptureFault}
+use Rattle.tftp_capture.specs.{Numbered, FailsToBegin, FaultTells, IsAtTextEnd, IsReadFault, MemoryTells, CaptureFault}
+use Rattle.tftp_streams.specs.{most_ahead}
 use Rattle.tftp_capture.specs.declared.fault.CaptureFault.TheVariants.{Text, Read, Memory}
 use Rattle.tftp_capture.proofs.Headers.{at_end_rest}
 use Rattle.tftp_model.specs.{Meaning}

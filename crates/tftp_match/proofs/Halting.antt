@@ -3,7 +3,8 @@ use Rattle.std.proofs.Common.{◌≡◌, ◌≤◌, ◌⊎◌, inl, inr, ℕ, Bo
 use Rattle.std.specs.Io.KnownBytes.{Consumes, IsAtEnd, prepend_known}
 use Rattle.std.proofs.KnownBytes.{Consumes-trans}
 use Rattle.std.proofs.lemmas.List.{map-append, reverse-append, reverse-reverse}
-use Rattle.tftp_capture.specs.{Begins, HasFault, IsCapture, Numbered, datagram_of, most_ahead, Continues, GoesOn, IsAtTextEnd, IsReadFault, ReaderState, StandingTells, StandsFor, standing_after, with_answer, CaptureFault, TextFault, Open, Over, Failed, Stands}
+use Rattle.tftp_capture.specs.{Begins, HasFault, IsCapture, Numbered, datagram_of, Continues, GoesOn, IsAtTextEnd, IsReadFault, ReaderState, StandingTells, StandsFor, standing_after, with_answer, CaptureFault, TextFault, Open, Over, Failed, Stands}
+use Rattle.tftp_streams.specs.{most_ahead}
 use Rattle.tftp_capture.specs.declared.datagram.Datagram.{Datagram as Owned}
 use Rattle.tftp_capture.specs.declared.fault.CaptureFault.TheVariants.{Text, Read, Memory as NoMemory}
 use Rattle.tftp_capture.proofs.Beginnings.{begins_more, capture_begins}

@@ -3,24 +3,23 @@ ghost use Rattle.std.specs.Io.KnownBytes.{prepend_known, Consumes, IsAtEnd};
 
 use crate::fault::FaultKind;
 use std::io::Read;
-use tftp_capture::Ahead;
-use tftp_streams::LatchedReader;
+use tftp_streams::{LatchedReader, ReadBuffer};
 
 /// Reads on into what was read of a piece until it has so many bytes; false where the recording ends before.
 pub fn gather<R: Read>(
-    ahead: &mut Ahead,
+    ahead: &mut ReadBuffer,
     reader: &mut LatchedReader<R>,
     piece: &mut Vec<u8>,
     size: usize,
 ) -> Result<bool, FaultKind>
     requires { vec_len piece.old ≤ size }
-    ensures gathers { (bytes : List ℕ) × Consumes (prepend_known ahead.old (R.remaining reader.old.0)) (prepend_known ahead.new (R.remaining reader.new.0)) bytes × (piece.new.items ≡ piece.old.items ++ bytes) }
+    ensures gathers { (bytes : List ℕ) × Consumes (prepend_known ahead.old.bytes (R.remaining reader.old.0)) (prepend_known ahead.new.bytes (R.remaining reader.new.0)) bytes × (piece.new.items ≡ piece.old.items ++ bytes) }
     ensures whole { result ≡ Ok true → length piece.new.items ≡ size }
     ensures part { result ≢ Ok true → length piece.new.items < size }
-    ensures end { result ≡ Ok false → IsAtEnd (prepend_known ahead.new (R.remaining reader.new.0)) }
+    ensures end { result ≡ Ok false → IsAtEnd (prepend_known ahead.new.bytes (R.remaining reader.new.0)) }
     ensures kinds { IfErr result (λ kind. (kind ≡ FaultKind.Read) ⊎ (kind ≡ FaultKind.Memory)) }
     ensures read { result ≡ Err FaultKind.Read → reader.new.1 ≡ true }
-    ensures drained { result ≡ Err FaultKind.Read → ahead.new ≡ [] }
+    ensures drained { result ≡ Err FaultKind.Read → ahead.new.bytes ≡ [] }
     ensures tally { result ≢ Err FaultKind.Read → reader.new.1 ≡ reader.old.1 }
     ensures roomy { vec_capacity piece.old ≤ vec_capacity piece.new }
     ensures memory { result ≡ Err FaultKind.Memory → vec_capacity piece.old < size }

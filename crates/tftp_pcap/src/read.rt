@@ -11,8 +11,7 @@ use crate::pieces::{said_by, skipped_in};
 use crate::sizes::{begins_as_one, front_of, size_of};
 use crate::skip::skip_rest;
 use std::io::Read;
-use tftp_capture::Ahead;
-use tftp_streams::LatchedReader;
+use tftp_streams::{LatchedReader, ReadBuffer};
 
 /// What the end of the recording is within the first bytes of a piece: the end after the pieces before it, or a fault.
 fn ended(layout: Layout, piece: &[u8]) -> Result<Option<usize>, FaultKind>
@@ -32,17 +31,17 @@ fn ended(layout: Layout, piece: &[u8]) -> Result<Option<usize>, FaultKind>
 /// Reads the first bytes of the next piece, and says how many it has; none where the recording ends before it.
 pub fn read_front<R: Read>(
     layout: Layout,
-    ahead: &mut Ahead,
+    ahead: &mut ReadBuffer,
     reader: &mut LatchedReader<R>,
     piece: &mut Vec<u8>,
 ) -> Result<Option<usize>, FaultKind>
-    ensures taken { Consumes (prepend_known ahead.old (R.remaining reader.old.0)) (prepend_known ahead.new (R.remaining reader.new.0)) piece.new.items }
+    ensures taken { Consumes (prepend_known ahead.old.bytes (R.remaining reader.old.0)) (prepend_known ahead.new.bytes (R.remaining reader.new.0)) piece.new.items }
     ensures ends { FrontEnds layout result piece.new.items }
-    ensures end { (result ≡ Ok None) ⊎ (result ≡ Err FaultKind.Truncated) → IsAtEnd (prepend_known ahead.new (R.remaining reader.new.0)) }
+    ensures end { (result ≡ Ok None) ⊎ (result ≡ Err FaultKind.Truncated) → IsAtEnd (prepend_known ahead.new.bytes (R.remaining reader.new.0)) }
     ensures read { result ≡ Err FaultKind.Read → reader.new.1 ≡ true }
-    ensures drained { result ≡ Err FaultKind.Read → ahead.new ≡ [] }
+    ensures drained { result ≡ Err FaultKind.Read → ahead.new.bytes ≡ [] }
     ensures tally { result ≢ Err FaultKind.Read → reader.new.1 ≡ reader.old.1 }
-    ensures short { result ≡ Err FaultKind.NotARecording → IsAtEnd (prepend_known ahead.new (R.remaining reader.new.0)) ⊎ (12 ≤ length piece.new.items) }
+    ensures short { result ≡ Err FaultKind.NotARecording → IsAtEnd (prepend_known ahead.new.bytes (R.remaining reader.new.0)) ⊎ (12 ≤ length piece.new.items) }
     ensures memory { result ≡ Err FaultKind.Memory → IsLonger (vec_capacity piece.old) layout piece.new.items }
     ensures roomy { vec_capacity piece.old ≤ vec_capacity piece.new }
 {
@@ -58,7 +57,7 @@ pub fn read_front<R: Read>(
 pub fn read_rest<R: Read>(
     layout: Layout,
     interfaces: &[Interface],
-    ahead: &mut Ahead,
+    ahead: &mut ReadBuffer,
     reader: &mut LatchedReader<R>,
     piece: &mut Vec<u8>,
     size: usize,
@@ -66,12 +65,12 @@ pub fn read_rest<R: Read>(
     requires front { length piece.old.items ≡ front_of layout }
     requires announced { Announces layout piece.old.items size }
     requires sized { IsSize layout size }
-    ensures ends { (more : List ℕ) × Consumes (prepend_known ahead.old (R.remaining reader.old.0)) (prepend_known ahead.new (R.remaining reader.new.0)) more
+    ensures ends { (more : List ℕ) × Consumes (prepend_known ahead.old.bytes (R.remaining reader.old.0)) (prepend_known ahead.new.bytes (R.remaining reader.new.0)) more
         × RestEnds (record { layout = layout; interfaces = interfaces.now }) result piece.new.items (piece.old.items ++ more) }
     ensures within { IfOk result (λ found. LiesWithin found piece.new.items) }
-    ensures end { result ≡ Err FaultKind.Truncated → IsAtEnd (prepend_known ahead.new (R.remaining reader.new.0)) }
+    ensures end { result ≡ Err FaultKind.Truncated → IsAtEnd (prepend_known ahead.new.bytes (R.remaining reader.new.0)) }
     ensures read { result ≡ Err FaultKind.Read → reader.new.1 ≡ true }
-    ensures drained { result ≡ Err FaultKind.Read → ahead.new ≡ [] }
+    ensures drained { result ≡ Err FaultKind.Read → ahead.new.bytes ≡ [] }
     ensures tally { result ≢ Err FaultKind.Read → reader.new.1 ≡ reader.old.1 }
     ensures memory { result ≡ Err FaultKind.Memory → IsLonger (vec_capacity piece.old) layout piece.new.items }
     ensures roomy { vec_capacity piece.old ≤ vec_capacity piece.new }

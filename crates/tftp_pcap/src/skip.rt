@@ -10,20 +10,19 @@ use crate::found::Found;
 use crate::gather::gather;
 use crate::numbers::Order;
 use std::io::Read;
-use tftp_capture::Ahead;
-use tftp_streams::LatchedReader;
+use tftp_streams::{LatchedReader, ReadBuffer};
 
 /// Reads on over so many bytes, of which none is held; false where the recording ends before.
 fn skip<R: Read>(
-    ahead: &mut Ahead,
+    ahead: &mut ReadBuffer,
     reader: &mut LatchedReader<R>,
     count: usize,
 ) -> Result<bool, FaultKind>
-    ensures skips { (bytes : List ℕ) × Consumes (prepend_known ahead.old (R.remaining reader.old.0)) (prepend_known ahead.new (R.remaining reader.new.0)) bytes × SkipEnds result count bytes }
-    ensures end { result ≡ Ok false → IsAtEnd (prepend_known ahead.new (R.remaining reader.new.0)) }
+    ensures skips { (bytes : List ℕ) × Consumes (prepend_known ahead.old.bytes (R.remaining reader.old.0)) (prepend_known ahead.new.bytes (R.remaining reader.new.0)) bytes × SkipEnds result count bytes }
+    ensures end { result ≡ Ok false → IsAtEnd (prepend_known ahead.new.bytes (R.remaining reader.new.0)) }
     ensures kinds { IfErr result (λ kind. kind ≡ FaultKind.Read) }
     ensures read { result ≡ Err FaultKind.Read → reader.new.1 ≡ true }
-    ensures drained { result ≡ Err FaultKind.Read → ahead.new ≡ [] }
+    ensures drained { result ≡ Err FaultKind.Read → ahead.new.bytes ≡ [] }
     ensures tally { result ≢ Err FaultKind.Read → reader.new.1 ≡ reader.old.1 }
 {
     let mut left = count;
@@ -45,7 +44,7 @@ fn skip<R: Read>(
 /// Reads on to the end of a block, whose last four bytes take the place of the third four; false where the recording ends
 /// before.
 fn skip_to_end<R: Read>(
-    ahead: &mut Ahead,
+    ahead: &mut ReadBuffer,
     reader: &mut LatchedReader<R>,
     piece: &mut Vec<u8>,
     size: usize,
@@ -53,12 +52,12 @@ fn skip_to_end<R: Read>(
     requires front { length piece.old.items ≡ 12 }
     requires least { 12 ≤ size }
     requires words { size % 4 ≡ 0 }
-    ensures skips { (more : List ℕ) × Consumes (prepend_known ahead.old (R.remaining reader.old.0)) (prepend_known ahead.new (R.remaining reader.new.0)) more
+    ensures skips { (more : List ℕ) × Consumes (prepend_known ahead.old.bytes (R.remaining reader.old.0)) (prepend_known ahead.new.bytes (R.remaining reader.new.0)) more
         × EndReached result size (piece.old.items ++ more) piece.new.items }
-    ensures end { result ≡ Ok false → IsAtEnd (prepend_known ahead.new (R.remaining reader.new.0)) }
+    ensures end { result ≡ Ok false → IsAtEnd (prepend_known ahead.new.bytes (R.remaining reader.new.0)) }
     ensures kinds { IfErr result (λ kind. kind ≡ FaultKind.Read) }
     ensures read { result ≡ Err FaultKind.Read → reader.new.1 ≡ true }
-    ensures drained { result ≡ Err FaultKind.Read → ahead.new ≡ [] }
+    ensures drained { result ≡ Err FaultKind.Read → ahead.new.bytes ≡ [] }
     ensures tally { result ≢ Err FaultKind.Read → reader.new.1 ≡ reader.old.1 }
     ensures roomy { vec_capacity piece.old ≤ vec_capacity piece.new }
 {
@@ -75,7 +74,7 @@ fn skip_to_end<R: Read>(
 /// Reads the rest of a block that is skipped: its repeated length is looked at, and no more of it is held than was.
 pub fn skip_rest<R: Read>(
     order: Order,
-    ahead: &mut Ahead,
+    ahead: &mut ReadBuffer,
     reader: &mut LatchedReader<R>,
     piece: &mut Vec<u8>,
     size: usize,
@@ -84,12 +83,12 @@ pub fn skip_rest<R: Read>(
     requires announced { Announces (Layout.Blocks order) piece.old.items size }
     requires sized { IsSize (Layout.Blocks order) size }
     requires skipped { IsSkipped (Layout.Blocks order) piece.old.items }
-    ensures ends { (interfaces : List Interface) → (more : List ℕ) × Consumes (prepend_known ahead.old (R.remaining reader.old.0)) (prepend_known ahead.new (R.remaining reader.new.0)) more
+    ensures ends { (interfaces : List Interface) → (more : List ℕ) × Consumes (prepend_known ahead.old.bytes (R.remaining reader.old.0)) (prepend_known ahead.new.bytes (R.remaining reader.new.0)) more
         × RestEnds (record { layout = Layout.Blocks order; interfaces = interfaces }) result piece.new.items (piece.old.items ++ more) }
     ensures within { IfOk result (λ found. LiesWithin found piece.new.items) }
-    ensures end { result ≡ Err FaultKind.Truncated → IsAtEnd (prepend_known ahead.new (R.remaining reader.new.0)) }
+    ensures end { result ≡ Err FaultKind.Truncated → IsAtEnd (prepend_known ahead.new.bytes (R.remaining reader.new.0)) }
     ensures read { result ≡ Err FaultKind.Read → reader.new.1 ≡ true }
-    ensures drained { result ≡ Err FaultKind.Read → ahead.new ≡ [] }
+    ensures drained { result ≡ Err FaultKind.Read → ahead.new.bytes ≡ [] }
     ensures tally { result ≢ Err FaultKind.Read → reader.new.1 ≡ reader.old.1 }
     ensures memory { result ≢ Err FaultKind.Memory }
     ensures roomy { vec_capacity piece.old ≤ vec_capacity piece.new }

@@ -12,8 +12,7 @@ use crate::read::{read_front, read_rest};
 use std::alloc::{AllocError, Global};
 use std::io::Read;
 use std::marker::Model;
-use tftp_capture::Ahead;
-use tftp_streams::LatchedReader;
+use tftp_streams::{LatchedReader, ReadBuffer};
 
 /// The most records and blocks of a recording.
 const MOST_PIECES: u64 = 1 << 40;
@@ -21,7 +20,7 @@ const MOST_PIECES: u64 = 1 << 40;
 /// The pieces of a recording, one after another: at most 65,536 bytes are read ahead.
 #[derive(Drop)]
 pub struct Pieces {
-    ahead: Ahead,
+    ahead: ReadBuffer,
     layout: Layout,
     interfaces: Vec<Interface>,
     count: u64,
@@ -33,7 +32,7 @@ impl Model for Pieces {
 
     ghost Value = { PiecesState };
 
-    ghost view = { λ p. record { ahead = p.ahead; mode = record { layout = p.layout; interfaces = p.interfaces.items }; count = p.count; room = vec_capacity p.interfaces } };
+    ghost view = { λ p. record { ahead = p.ahead.bytes; mode = record { layout = p.layout; interfaces = p.interfaces.items }; count = p.count; room = vec_capacity p.interfaces } };
 
     ghost invariant = { λ p. p.count ≤ 2 ^ 40 };
 }
@@ -45,7 +44,7 @@ impl Pieces {
         ensures mode { IfOk result (λ pieces. pieces.mode ≡ start) }
         ensures count { IfOk result (λ pieces. pieces.count ≡ 0) }
     {
-        let ahead = Ahead::new(alloc)?;
+        let ahead = ReadBuffer::new(alloc)?;
         Ok(Pieces {
             ahead,
             layout: Layout::Unopened,

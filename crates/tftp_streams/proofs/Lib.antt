@@ -1,3 +1,5 @@
 pub mod Encoding
 pub mod Gathering
 pub mod Lanes
+pub mod ReadBehind
+pub mod Taking

@@ -1,4 +1,4 @@
-//! Readers that remember whether they have failed, and a writer of lines.
+//! Streams of bytes: readers that remember whether they have failed, what is read ahead, and a writer of lines.
 #![tactic(auto)]
 
 mod digits;
@@ -6,8 +6,10 @@ mod fault;
 mod latched_reader;
 mod latched_writer;
 mod line_writer;
+mod read_buffer;
 mod whole;
 
 pub use fault::WriteFault;
 pub use latched_reader::LatchedReader;
 pub use line_writer::LineWriter;
+pub use read_buffer::ReadBuffer;

@@ -1,6 +1,6 @@
 use Rattle.std.proofs.Common.{◌≡◌, ◌+◌, ◌-◌, ◌≤◌, ◌++◌, length, take, ap, ◌∙◌, arith, length-take-le}
-use Rattle.tftp_capture.proofs.Supplies.{take_put}
-use Rattle.tftp_capture.proofs.supply.read_behind.Goals as goal
+use Rattle.tftp_streams.proofs.ReadBehind.{take_put}
+use Rattle.tftp_streams.proofs.read_buffer.read_behind.Goals as goal
 
 pub returns-clause-more : goal.returns-clause-more
 returns-clause-more g c =

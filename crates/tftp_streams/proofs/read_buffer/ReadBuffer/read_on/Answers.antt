@@ -1,6 +1,6 @@
 use Rattle.std.proofs.Common.{◌≡◌, ◌-◌, [], length, take, drop, sym, ap, ◌∙◌, arith, append-nil}
 use Rattle.std.proofs.lemmas.List.{take_at}
-use Rattle.tftp_capture.proofs.supply.Supply.read_on.Goals as goal
+use Rattle.tftp_streams.proofs.read_buffer.ReadBuffer.read_on.Goals as goal
 
 pub returns-in-Err-clause-more : goal.returns-in-Err-clause-more
 returns-in-Err-clause-more g c =

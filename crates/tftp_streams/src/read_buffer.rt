@@ -1,12 +1,12 @@
 ghost use Rattle.std.specs.Prelude.{◌≡◌, ◌≢◌, ◌≤◌, ◌==◌, ◌+◌, ◌-◌, ◌++◌, ℕ, List, [], length, take, drop, true, false, IfOk, OnOk, OnErr};
 ghost use Rattle.std.specs.Io.KnownBytes.{prepend_known, Consumes, Keeps, IsAtEnd};
-ghost use Rattle.tftp_capture.specs.Lines.{most_ahead, most_of_line};
+ghost use Rattle.tftp_streams.specs.Buffers.{most_ahead, most_of_line};
 
+use crate::latched_reader::LatchedReader;
 use std::alloc::{AllocError, Global};
 use std::io;
 use std::io::Read;
 use std::marker::Model;
-use tftp_streams::LatchedReader;
 
 /// How many bytes are read at once.
 const AT_ONCE: usize = 65_536;
@@ -18,31 +18,31 @@ const ROOM: usize = 196_652;
 /// so but at its end; a pipe or a terminal gives what there is. They stand in memory that is asked for once, and not on the
 /// stack, where each move would copy them; where one more read finds no room behind them, they are moved to its front.
 #[derive(Drop)]
-pub struct Supply {
+pub struct ReadBuffer {
     buf: Vec<u8>,
     start: usize,
     end: usize,
     full: bool,
 }
 
-impl Model for Supply {
+impl Model for ReadBuffer {
     ghost use Rattle.std.specs.Prelude.{take, drop, vec_len, ◌≡◌, ◌≤◌};
-    ghost use Rattle.tftp_capture.specs.Lines.{SupplyState};
+    ghost use Rattle.tftp_streams.specs.Buffers.{BufferState};
 
-    ghost Value = { SupplyState };
+    ghost Value = { BufferState };
 
     ghost view = { λ s. record { bytes = drop s.start (take s.end s.buf.items); full = s.full } };
 
     ghost invariant = { λ s. (s.start ≤ s.end) × (s.end ≤ 196652) × (vec_len s.buf ≡ 196652) };
 }
 
-impl Supply {
+impl ReadBuffer {
     /// Nothing was read yet; it takes the memory for what will be.
     pub fn new(alloc: Global) -> Result<Self, AllocError>
-        ensures { IfOk result (λ supply. supply ≡ record { bytes = []; full = false }) }
+        ensures { IfOk result (λ buffer. buffer ≡ record { bytes = []; full = false }) }
     {
         let buf = vec![in alloc; 0; ROOM]?;
-        Ok(Supply {
+        Ok(ReadBuffer {
             buf,
             start: 0,
             end: 0,
