@@ -3,8 +3,8 @@
 
 use std::io;
 use std::process::ExitCode;
-use tftp_streams::{LatchedReader, LineWriter};
 use tftp_normal::normalise;
+use tftp_streams::{LatchedReader, LineWriter};
 
 /// Ends with status 2, and tells why on standard error, where no normal text was written, or only a part of one.
 fn main(rt: HostRuntime) -> ExitCode {

@@ -5,8 +5,8 @@
 use anyhow::Result;
 use std::io::Read;
 use std::process::ExitCode;
-use tftp_streams::LatchedReader;
 use tftp_recording::{Event, Fate, RecordingReader};
+use tftp_streams::LatchedReader;
 
 /// Ends with status 2, and tells why on standard error, where the recording was not read to its end.
 fn main(rt: HostRuntime) -> ExitCode {

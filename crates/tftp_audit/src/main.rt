@@ -3,8 +3,8 @@
 
 use std::process::ExitCode;
 use std::{env, io};
-use tftp_streams::{LatchedReader, LineWriter};
 use tftp_commands::run;
+use tftp_streams::{LatchedReader, LineWriter};
 
 /// Ends with status 2, and no output, where it can't get its words.
 fn main(rt: HostRuntime) -> ExitCode {

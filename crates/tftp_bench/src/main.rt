@@ -12,11 +12,11 @@ use std::io::{ErrorKind, Read, Write};
 use std::{env, io};
 use tftp_blocks::{MapDelivered, RingDelivered};
 use tftp_capture::{CaptureReader, CaptureWriter, Datagram, Header};
-use tftp_streams::{LatchedReader, LineWriter};
 use tftp_hosts::Dir;
 use tftp_netascii::{Decoder, encode};
 use tftp_packet::End;
 use tftp_recording::{Event, Fate, RecordingReader};
+use tftp_streams::{LatchedReader, LineWriter};
 
 /// The most bytes that are read at once.
 const PIECE: usize = 65_536;

@@ -9,8 +9,8 @@ use crate::status::Status;
 use crate::verdicts::{put_accepted, put_verdict, status_of};
 use std::alloc::Global;
 use std::io::{Read, Write};
-use tftp_streams::{LatchedReader, LineWriter};
 use tftp_judge::{Meaning, Verdict, judge_text};
+use tftp_streams::{LatchedReader, LineWriter};
 
 /// Judges a capture text, and says in one line what it means, or why it is not accepted.
 pub fn check<R: Read, W: Write>(

@@ -10,9 +10,9 @@ use crate::status::Status;
 use itoa::Buffer;
 use std::alloc::Global;
 use std::io::{Read, Write};
-use tftp_streams::{LatchedReader, LineWriter, WriteFault};
 use tftp_judge::{Meaning, judge_text};
 use tftp_normal::normal_count;
+use tftp_streams::{LatchedReader, LineWriter, WriteFault};
 
 /// Judges a capture text, and says in one line how many datagrams its normal capture has, or why it is not accepted.
 pub fn count<R: Read, W: Write>(

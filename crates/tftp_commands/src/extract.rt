@@ -7,8 +7,8 @@ use crate::status::Status;
 use crate::verdicts::status_of;
 use std::alloc::Global;
 use std::io::{Read, Write};
-use tftp_streams::{LatchedReader, LineWriter};
 use tftp_judge::OutFault;
+use tftp_streams::{LatchedReader, LineWriter};
 
 /// Writes the file of a capture text that is accepted, and nothing beside it; of a text that is not accepted nothing is
 /// written (RFC 1350, section 1). An empty file makes no write.

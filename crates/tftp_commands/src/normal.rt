@@ -7,8 +7,8 @@ use crate::status::Status;
 use crate::verdicts::status_of;
 use std::alloc::Global;
 use std::io::{Read, Write};
-use tftp_streams::{LatchedReader, LineWriter};
 use tftp_normal::{NormalFault, normalise};
+use tftp_streams::{LatchedReader, LineWriter};
 
 /// Writes the normal text of a capture text that is accepted, and nothing beside it; of a text that is not accepted
 /// nothing is written, and so where memory is wanting.

@@ -14,8 +14,8 @@ use itoa::Buffer;
 use std::alloc::Global;
 use std::io::{Read, Write};
 use tftp_capture::{CaptureFault, CaptureReader, Datagram};
-use tftp_streams::{LatchedReader, LineWriter, WriteFault};
 use tftp_packet::{Packet, read_packet};
+use tftp_streams::{LatchedReader, LineWriter, WriteFault};
 
 /// Shows the datagrams of a capture text, up to its end or its first fault, as they come: a line each, numbered from
 /// 1. Nothing is judged; at most one line of the text, 65,536 bytes read ahead and 16,384 bytes to be written are held.

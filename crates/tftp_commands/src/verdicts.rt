@@ -8,8 +8,8 @@ use crate::names::{by_name, mode_name, packet_fault_name, side_name};
 use crate::status::Status;
 use itoa::Buffer;
 use std::io::Write;
-use tftp_streams::{LineWriter, WriteFault};
 use tftp_judge::{AbortedBy, Meaning, Refusal, Rule, Verdict};
+use tftp_streams::{LineWriter, WriteFault};
 
 /// The status that goes with a text that is not accepted.
 pub fn status_of(verdict: Verdict) -> Status

@@ -1,8 +1,8 @@
 //! The commands, each once: what they say of many texts is tried on the built program.
 
 use std::test::Fail;
-use tftp_streams::{LatchedReader, LineWriter};
 use tftp_commands::run;
+use tftp_streams::{LatchedReader, LineWriter};
 use tftp_trials::drip::{DripReader, DripWriter};
 use tftp_trials::texts::READ;
 

@@ -1,9 +1,9 @@
 use std::alloc::Global;
 use std::io;
-use tftp_streams::LatchedReader;
 use tftp_fragments::Fragments;
 use tftp_pcap::{Direction, PcapFault};
 use tftp_recording::{Datagram, Event, Fate, LeftOut, RecordingReader};
+use tftp_streams::LatchedReader;
 
 /// Lists what a recording has; whether it is one to its end.
 pub fn list(rt: HostRuntime) -> io::Result<bool> {

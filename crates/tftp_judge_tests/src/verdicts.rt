@@ -5,10 +5,10 @@ use std::alloc::{AllocError, Global};
 use std::test::Fail;
 use tftp_blocks::Delivered;
 use tftp_capture::CaptureFault;
-use tftp_streams::LatchedReader;
 use tftp_capture_tests::reading::Reading;
 use tftp_judge::{AbortedBy, Meaning, Refusal, Rule, Verdict, judge_text};
 use tftp_packet::{Mode, Side};
+use tftp_streams::LatchedReader;
 use tftp_trials::comparing::is_so;
 use tftp_trials::drip::DripReader;
 

@@ -10,9 +10,9 @@ use std::alloc::Global;
 use std::io::Read;
 use tftp_blocks::RingDelivered;
 use tftp_capture::Datagram;
-use tftp_streams::LatchedReader;
 use tftp_packet::End;
 use tftp_pair_judge::PairJudge;
+use tftp_streams::LatchedReader;
 
 impl Reading {
     /// Reads the text of an end till its last datagram waits for the other end, or no more of it is read.

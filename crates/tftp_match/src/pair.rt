@@ -17,10 +17,10 @@ use std::alloc::Global;
 use std::io::Read;
 use tftp_blocks::RingDelivered;
 use tftp_capture::{CaptureReader, Datagram};
-use tftp_streams::LatchedReader;
 use tftp_judge::{Judge, Meaning, Verdict, judge_text};
 use tftp_packet::End;
 use tftp_pair_judge::PairJudge;
+use tftp_streams::LatchedReader;
 
 /// What there is to say of two capture texts, the first of a client and the second of a server, by the runs of two ends (RFC
 /// 1350; RFC 2347; RFC 7440). Of each it says what there is to say of it alone, and of both how far one run has them

@@ -7,8 +7,8 @@ ghost use Rattle.tftp_match.specs.declared.reading.Halt.{Halt as HaltKind};
 
 use std::io::Read;
 use tftp_capture::{CaptureFault, CaptureReader, Datagram};
-use tftp_streams::LatchedReader;
 use tftp_judge::{Meaning, Refusal, Verdict};
+use tftp_streams::LatchedReader;
 
 /// Why no more of a text is read.
 #[derive(Clone, Copy, Debug, PartialEq, Eq)]

@@ -11,10 +11,10 @@ use std::alloc::Global;
 use std::io::Read;
 use tftp_blocks::RingDelivered;
 use tftp_capture::Datagram;
-use tftp_streams::LatchedReader;
 use tftp_judge::Judge;
 use tftp_packet::End;
 use tftp_pair_judge::PairRest;
+use tftp_streams::LatchedReader;
 
 impl Reading {
     /// Reads what is left of the text of an end, where its last datagram waited.

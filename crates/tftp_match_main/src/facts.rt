@@ -3,11 +3,11 @@
 use crate::copies::{Copies, copies_in};
 use anyhow::{Result, bail};
 use std::alloc::Global;
-use tftp_streams::LineWriter;
 use tftp_commands::{Status, say_accepted, say_verdict};
 use tftp_counts::Carried;
 use tftp_judge::{Meaning, Refusal, Verdict};
 use tftp_match::{Apart, Matched, PairSaid, Wait};
+use tftp_streams::LineWriter;
 
 /// The first datagram of a capture that is not matched.
 #[derive(Clone, Copy, Debug, PartialEq, Eq)]

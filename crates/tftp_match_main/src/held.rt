@@ -3,8 +3,8 @@
 use crate::source::Whole;
 use std::alloc::Global;
 use std::io::Read;
-use tftp_streams::LatchedReader;
 use tftp_match::{PairSaid, judge_pair};
+use tftp_streams::LatchedReader;
 
 /// A capture text: one that is read while it is judged, or one in memory.
 #[derive(Drop)]

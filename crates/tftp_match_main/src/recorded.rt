@@ -8,9 +8,9 @@ use anyhow::{Result, bail};
 use std::alloc::Global;
 use std::io::Read;
 use tftp_capture::{CaptureReader, Datagram};
-use tftp_streams::{LatchedReader, LineWriter};
 use tftp_packet::End;
 use tftp_session::{Asked, Session, TextAt, TextFault, requests_of};
+use tftp_streams::{LatchedReader, LineWriter};
 
 /// A recording at an end.
 #[derive(Clone, Copy)]

@@ -8,10 +8,10 @@ use crate::event::Event;
 use std::alloc::Global;
 use std::io::Read;
 use std::marker::Model;
-use tftp_streams::LatchedReader;
 use tftp_copies::Recent;
 use tftp_fragments::Fragments;
 use tftp_pcap::{FaultKind, FrameReader, PcapFault};
+use tftp_streams::LatchedReader;
 
 /// A reader of what became of a recording's frames: it holds what a reader of frames does, the last 16 packets,
 /// and the fragments that wait for others of their packets, 64 MB at most.

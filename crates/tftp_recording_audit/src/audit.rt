@@ -20,11 +20,11 @@ use crate::next::{AuditFault, NextFrame};
 use std::alloc::{AllocError, Global};
 use std::io::Read;
 use tftp_blocks::Delivered;
-use tftp_streams::LatchedReader;
 use tftp_lines::{Endpoint, spells_request};
 use tftp_parties::party_of;
 use tftp_recording::{Datagram, Event, Fate, RecordingReader};
 use tftp_recording_judge::{Judging, RecordingJudge, Watched};
+use tftp_streams::LatchedReader;
 use tftp_transfers::{Attributed, AttributionFault};
 
 /// The judges of a recording's transfers, to be given what became of each of its frames, from the first to the last.

@@ -2,9 +2,9 @@
 
 use crate::fragments::let_go_any;
 use std::test::Fail;
-use tftp_streams::LatchedReader;
 use tftp_pcap::{FaultKind, PcapFault};
 use tftp_recording::{Event, Fate, LeftOut, RecordingReader};
+use tftp_streams::LatchedReader;
 use tftp_trials::comparing::is_so;
 use tftp_trials::drip::DripReader;
 

@@ -5,9 +5,9 @@ use crate::headed::{Headed, hint};
 use crate::session::Session;
 use std::alloc::{AllocError, Global};
 use std::io::Read;
-use tftp_streams::LatchedReader;
 use tftp_pcap::{FaultKind, PcapFault};
 use tftp_recording::{Event, RecordingReader};
+use tftp_streams::LatchedReader;
 
 /// A recording that is being read.
 #[derive(Drop)]

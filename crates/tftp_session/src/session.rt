@@ -10,13 +10,13 @@ use std::collections::BTreeMap;
 use std::io::Read;
 use tftp_blame::{Passing, Span, Trail, about};
 use tftp_blocks::RingDelivered;
-use tftp_streams::LatchedReader;
 use tftp_lines::{Place, Transfer};
 use tftp_parties::party_of;
 use tftp_pcap::{FaultKind, PcapFault};
 use tftp_recording::{Datagram, Event, Fate, RecordingReader};
 use tftp_recording_audit::{AuditFault, NextFrame, RecordingAudit};
 use tftp_recording_judge::{Judging, Watched};
+use tftp_streams::LatchedReader;
 use tftp_transfers::{Attributed, AttributionFault};
 
 /// What a recording has: its transfers by how many datagrams came before each, and what is to be told of it.

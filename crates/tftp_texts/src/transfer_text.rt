@@ -17,10 +17,10 @@ use std::alloc::{AllocError, Global};
 use std::io::Write;
 use std::marker::Model;
 use tftp_capture::{Header, HostCaptureWriter};
-use tftp_streams::{LineWriter, WriteFault};
 use tftp_hosts::Dir;
 use tftp_lines::{Endpoint, Place, Transfer};
 use tftp_packet::{Bytes, End};
+use tftp_streams::{LineWriter, WriteFault};
 use tftp_transfers::TransferEnds;
 use tftp_views::{Held, Party};
 

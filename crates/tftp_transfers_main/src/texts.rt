@@ -4,10 +4,10 @@ use crate::checking::{tell_asked, tell_notes};
 use crate::reasoned::Reasoned;
 use anyhow::Result;
 use std::{fs, io};
-use tftp_streams::LineWriter;
 use tftp_packet::End;
 use tftp_recording_judge::Judging;
 use tftp_session::{Kept, Session, TextAt, TextFault, Wanted, read_whole};
+use tftp_streams::LineWriter;
 use tftp_words::{TextRequest, TextsRequest};
 
 /// Writes the capture text of a transfer at an end, unless the recording is not whole.

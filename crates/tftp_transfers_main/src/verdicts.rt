@@ -2,13 +2,13 @@
 
 use std::alloc::{AllocError, Global};
 use tftp_blame::{Blamed, Doubted, Span, Trail, put_unseen};
-use tftp_streams::LineWriter;
 use tftp_commands::{say_accepted, say_verdict};
 use tftp_judge::{Meaning, Refusal, Rule, Verdict};
 use tftp_packet::End;
 use tftp_recording_judge::Verdicts;
 use tftp_rules::PortRule;
 use tftp_session::Ended;
+use tftp_streams::LineWriter;
 use tftp_tap_judge::TapRefusal;
 use tftp_verdict_rows::{Place, Point, Row, Rows, Said, rows_told};
 

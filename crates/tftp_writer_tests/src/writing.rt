@@ -5,8 +5,8 @@ ghost use Rattle.std.specs.Prelude.{◌≡◌};
 use std::alloc::Global;
 use std::marker::Model;
 use tftp_capture::{CaptureWriter, Header, HostCaptureWriter};
-use tftp_streams::{LineWriter, WriteFault};
 use tftp_hosts::{Dir, Host};
+use tftp_streams::{LineWriter, WriteFault};
 use tftp_trials::drip::DripWriter;
 
 /// A datagram by its direction, its port at the named end, the port at the other and its payload.

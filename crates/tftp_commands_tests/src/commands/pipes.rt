@@ -6,8 +6,8 @@ use std::io;
 use std::io::{Read, Write};
 use std::slice::Iter;
 use std::test::Fail;
-use tftp_streams::{LatchedReader, LineWriter};
 use tftp_commands::run;
+use tftp_streams::{LatchedReader, LineWriter};
 use tftp_trials::drip::DripReader;
 
 /// A piece of a text, and how many datagrams have come with it.
