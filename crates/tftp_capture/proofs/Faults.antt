@@ -1,7 +1,7 @@
 -- What is wrong with a text, by what was taken of it.
 use Rattle.std.proofs.Common.{◌≡◌, ℕ, ◌+◌, ◌-◌, ◌^◌, ◌<◌, ◌⊎◌, inl, inr, false, List, [], ◌∷◌, ◌++◌, length, Err, refl, sym, ap, ◌∙◌, arith, append_assoc, append-nil, length-append}
-use Rattle.tftp_capture.specs.{TextFault, BadHeader, BadEnd, BadService, LineTooLong, BadLine, BadPort, BadHost, BadHex, PayloadTooLong, TotalWrong, Truncated, TrailingText, TextTooLong, Version, Stop, BodyFault, ByteFault, Due, FailsAt, HasFault, IsOver, Numbered, Stands, Unfinished, longest, longest_line, says_nothing, FaultTells, MemoryTells, IsPartOfLine, LeavesEnd, LineEnds, TextEnds, fault_at}
-use Rattle.tftp_capture.specs.declared.stop.Stop.TheVariants.{Text, Read, Memory}
+use Rattle.tftp_capture.specs.{TextFault, BadHeader, BadEnd, BadService, LineTooLong, BadLine, BadPort, BadHost, BadHex, PayloadTooLong, TotalWrong, Truncated, TrailingText, TextTooLong, Version, LineError, BodyFault, ByteFault, Due, FailsAt, HasFault, IsOver, Numbered, Stands, Unfinished, longest, longest_line, says_nothing, FaultTells, MemoryTells, IsPartOfLine, LeavesEnd, LineEnds, TextEnds, fault_at}
+use Rattle.tftp_capture.specs.declared.line_error.LineError.TheVariants.{Text, Read, Memory}
 use Rattle.tftp_capture.specs.CaptureText.{Header}
 use Rattle.tftp_capture.specs.CaptureText.Due.{Body, Nothing}
 use Rattle.tftp_capture.proofs.Texts.{stands-part}
@@ -16,7 +16,7 @@ module _ (text : List ℕ) (lines : List (List ℕ)) (due : Due) (datagrams : Li
   fails bytes byte fault part wrong = record { lines = lines; rest = bytes; due = due; stands = stands-part text bytes lines due datagrams not_yet part stands; at_line = refl; wrong = wrong }
 
   -- reading stopped in a line
-  pub fault_in_line : (line bytes : List ℕ) (stop : Stop) → LineEnds {T = Unit {0}} (Err stop) line (longest due) (2 ^ 40 - length text) bytes → FaultTells (fault_at stop (length lines + 1)) (text ++ bytes) datagrams
+  pub fault_in_line : (line bytes : List ℕ) (error : LineError) → LineEnds {T = Unit {0}} (Err error) line (longest due) (2 ^ 40 - length text) bytes → FaultTells (fault_at error (length lines + 1)) (text ++ bytes) datagrams
   fault_in_line line bytes (Text LineTooLong) e =
       let at = e.1 in
       let part : IsPartOfLine at.front (longest due) (2 ^ 40 - length text) = record { no_end = at.no_end; narrow = omega (arith, at.sized); short = omega (arith, at.sized, e.3) } in
@@ -42,8 +42,8 @@ module _ (text : List ℕ) (lines : List (List ℕ)) (due : Due) (datagrams : Li
   fault_in_line line bytes (Text TrailingText) e = absurd e
 
   -- memory was refused in a line
-  pub memory_in_line : (line bytes ahead : List ℕ) (stop : Stop) → LineEnds {T = Unit {0}} (Err stop) line (longest due) (2 ^ 40 - length text) bytes → LeavesEnd {T = Unit {0}} (Err stop) (2 ^ 40 - length text) bytes ahead
-      → MemoryTells (fault_at stop (length lines + 1)) (text ++ bytes) ahead datagrams
+  pub memory_in_line : (line bytes ahead : List ℕ) (error : LineError) → LineEnds {T = Unit {0}} (Err error) line (longest due) (2 ^ 40 - length text) bytes → LeavesEnd {T = Unit {0}} (Err error) (2 ^ 40 - length text) bytes ahead
+      → MemoryTells (fault_at error (length lines + 1)) (text ++ bytes) ahead datagrams
   memory_in_line line bytes ahead (Text fault) e l = tt
   memory_in_line line bytes ahead Read e l = tt
   memory_in_line line bytes ahead Memory e l = inl (record {
@@ -86,8 +86,8 @@ body_fault version text line lines header datagrams stands part within said Trai
 body_fault version text line lines header datagrams stands part within said TextTooLong h = absurd h
 
 -- the text goes on after its total, or does not
-pub end_fault : (version : Version) (text bytes : List ℕ) (lines : List (List ℕ)) (header : Header) (datagrams : List Numbered) (stop : Stop) → Stands text lines [] (Nothing version header) datagrams
-    → TextEnds {T = Unit {0}} (Err stop) (length text) bytes → FaultTells (fault_at stop (length lines + 1)) (text ++ bytes) datagrams
+pub end_fault : (version : Version) (text bytes : List ℕ) (lines : List (List ℕ)) (header : Header) (datagrams : List Numbered) (error : LineError) → Stands text lines [] (Nothing version header) datagrams
+    → TextEnds {T = Unit {0}} (Err error) (length text) bytes → FaultTells (fault_at error (length lines + 1)) (text ++ bytes) datagrams
 end_fault version text bytes lines header datagrams (Text TrailingText) stands e =
     (text, e.1, e.0, ap (λ l. text ++ l) e.2, record { lines = lines; rest = []; due = Nothing version header; stands = stands; at_line = refl; wrong = (e.3, tt) })
 end_fault version text bytes lines header datagrams (Text TextTooLong) stands e =

@@ -4,10 +4,10 @@ use Rattle.std.specs.Io.KnownBytes.{Consumes, IsAtEnd, prepend_known}
 use Rattle.std.proofs.lemmas.List.Elements.{All-nil}
 use Rattle.std.proofs.KnownBytes.{Consumes-trans}
 use Rattle.tftp_packet.specs.{End}
-use Rattle.tftp_capture.specs.{BadHeader, BadEnd, BadService, Truncated, CaptureFault, Version, One, Two, Stop, Due, IsPort, Says, Stands, end_line, head_line, longest, longest_line, service_line, whole_lines, FailsToBegin, FaultTells, HasService, IsAtTextEnd, IsReadFault, MemoryTells, LeavesEnd, LineEnds, LineState, ReachesLine, fault_at}
+use Rattle.tftp_capture.specs.{BadHeader, BadEnd, BadService, Truncated, CaptureFault, Version, One, Two, LineError, Due, IsPort, Says, Stands, end_line, head_line, longest, longest_line, service_line, whole_lines, FailsToBegin, FaultTells, HasService, IsAtTextEnd, IsReadFault, MemoryTells, LeavesEnd, LineEnds, LineState, ReachesLine, fault_at}
 use Rattle.tftp_streams.specs.{most_ahead}
 use Rattle.tftp_capture.specs.declared.fault.CaptureFault.TheVariants as faults
-use Rattle.tftp_capture.specs.declared.stop.Stop.TheVariants.{Text, Read, Memory}
+use Rattle.tftp_capture.specs.declared.line_error.LineError.TheVariants.{Text, Read, Memory}
 use Rattle.tftp_capture.specs.CaptureText.Due.{Head, EndLine, ServiceLine, Body}
 use Rattle.tftp_capture.proofs.Texts.{IsSkippable, said-push, says-head, says-end, says-service, stands-line, stands-nothing}
 use Rattle.tftp_capture.proofs.Faults.{fault_in_line, fault_at_end, memory_in_line}
@@ -30,13 +30,13 @@ pub record Tells (k0 k1 : Option (List ℕ)) (ahead : List ℕ) (fault : Capture
   pub tells : FaultTells fault text []
   pub memory : MemoryTells fault text ahead []
 
-pub head_stop : (k0 k1 : Option (List ℕ)) (line bytes ahead : List ℕ) (stop : Stop) → Consumes k0 k1 bytes → LineEnds {T = Unit {0}} (Err stop) line 131070 (2 ^ 40 - 0) bytes → LeavesEnd {T = Unit {0}} (Err stop) (2 ^ 40 - 0) bytes ahead
-    → Tells k0 k1 ahead (fault_at stop 1)
-head_stop k0 k1 line bytes ahead stop consumed ends leaves = record {
+pub head_stop : (k0 k1 : Option (List ℕ)) (line bytes ahead : List ℕ) (error : LineError) → Consumes k0 k1 bytes → LineEnds {T = Unit {0}} (Err error) line 131070 (2 ^ 40 - 0) bytes → LeavesEnd {T = Unit {0}} (Err error) (2 ^ 40 - 0) bytes ahead
+    → Tells k0 k1 ahead (fault_at error 1)
+head_stop k0 k1 line bytes ahead error consumed ends leaves = record {
   text = bytes;
   consumed = consumed;
-  tells = fault_in_line [] [] Head [] (λ o. o) stands-nothing line bytes stop ends;
-  memory = memory_in_line [] [] Head [] (λ o. o) stands-nothing line bytes ahead stop ends leaves;
+  tells = fault_in_line [] [] Head [] (λ o. o) stands-nothing line bytes error ends;
+  memory = memory_in_line [] [] Head [] (λ o. o) stands-nothing line bytes ahead error ends leaves;
 }
 
 pub head_bad : (k0 k1 : Option (List ℕ)) (line bytes ahead : List ℕ) → Consumes k0 k1 bytes → LineEnds {T = Unit {0}} (Ok tt) line 131070 (2 ^ 40 - 0) bytes → ((version : Version) → line ≢ head_line version) → Tells k0 k1 ahead (faults.Text 1 BadHeader)
@@ -74,12 +74,12 @@ head_ok k0 r version state known bytes consumed ends is taken count e =
     subst (λ s. Begun k0 (prepend_known s.ahead r) s (EndLine version)) (sym e) (known_head k0 (prepend_known state.ahead r) version state bytes consumed ends is taken count)
 
 module _ (k0 k1 k2 : Option (List ℕ)) (old new : LineState) (due : Due) (skippable : IsSkippable due) (begun : Begun k0 k1 old due) where
-  pub said_stop : (stop : Stop) → ReachesLine {T = Unit {0}} (Err stop) old new k1 k2 → Tells k0 k2 new.ahead (fault_at stop (new.count + 1))
-  said_stop stop reach = record {
+  pub said_stop : (error : LineError) → ReachesLine {T = Unit {0}} (Err error) old new k1 k2 → Tells k0 k2 new.ahead (fault_at error (new.count + 1))
+  said_stop error reach = record {
     text = begun.text ++ (whole_lines reach.skipped ++ reach.bytes);
     consumed = Consumes-trans _ _ _ _ _ begun.consumed reach.consumed;
-    tells = stop_tells begun.text begun.lines due [] skippable begun.stands old new k1 k2 begun.byte_count begun.limit stop reach begun.line_count;
-    memory = stop_memory begun.text begun.lines due [] skippable begun.stands old new k1 k2 begun.byte_count begun.limit stop reach begun.line_count;
+    tells = stop_tells begun.text begun.lines due [] skippable begun.stands old new k1 k2 begun.byte_count begun.limit error reach begun.line_count;
+    memory = stop_memory begun.text begun.lines due [] skippable begun.stands old new k1 k2 begun.byte_count begun.limit error reach begun.line_count;
   }
 
   module _ (reach : ReachesLine {T = Unit {0}} (Ok tt) old new k1 k2) where
@@ -204,12 +204,12 @@ at_end_rest None ahead p = tt
 at_end_rest (Some y) [] p = p
 at_end_rest (Some y) (b ∷ bs) p = absurd (omega (arith, ap length p))
 
-pub at_text_end : (stop : Stop) (n : ℕ) → IsAtTextEnd (fault_at stop n) → stop ≡ Text Truncated
+pub at_text_end : (error : LineError) (n : ℕ) → IsAtTextEnd (fault_at error n) → error ≡ Text Truncated
 at_text_end (Text fault) n h = ap Text h
 at_text_end Read n h = absurd h
 at_text_end Memory n h = absurd h
 
-pub at_read : (stop : Stop) (n : ℕ) → IsReadFault (fault_at stop n) → stop ≡ Read
+pub at_read : (error : LineError) (n : ℕ) → IsReadFault (fault_at error n) → error ≡ Read
 at_read (Text fault) n h = absurd h
 at_read Read n h = refl
 at_read Memory n h = absurd h

@@ -2,8 +2,8 @@
 use Rattle.std.proofs.Common.{◌≡◌, ℕ, ◌+◌, ◌-◌, ◌^◌, ◌<◌, inr, List, [], ◌∷◌, ◌++◌, length, All, Option, None, Some, Result, Ok, Err, refl, sym, ap, ◌∙◌, subst, arith, append_assoc, append-nil, length-append}
 use Rattle.std.specs.Io.KnownBytes.{Consumes}
 use Rattle.std.proofs.KnownBytes.{Consumes-trans}
-use Rattle.tftp_capture.specs.{Stop, Due, Numbered, SaysDatagram, Stands, longest, longest_line, total_line, whole_lines, BodyEnds, datagram_of, Answers, FaultTells, GoesOn, MemoryTells, IsPartOfLine, IsSkipped, LineState, ReachesLine, TextEnds, fault_at}
-use Rattle.tftp_capture.specs.declared.stop.Stop.TheVariants.{Text, Read, Memory}
+use Rattle.tftp_capture.specs.{LineError, Due, Numbered, SaysDatagram, Stands, longest, longest_line, total_line, whole_lines, BodyEnds, datagram_of, Answers, FaultTells, GoesOn, MemoryTells, IsPartOfLine, IsSkipped, LineState, ReachesLine, TextEnds, fault_at}
+use Rattle.tftp_capture.specs.declared.line_error.LineError.TheVariants.{Text, Read, Memory}
 use Rattle.tftp_capture.specs.declared.datagram.Datagram.{Datagram as Owned}
 use Rattle.tftp_capture.specs.CaptureText.{Datagram, Header}
 use Rattle.tftp_capture.specs.CaptureText.Due.{Body, Nothing}
@@ -12,27 +12,27 @@ use Rattle.tftp_capture.proofs.Faults.{body_fault, end_fault, fault_in_line, mem
 
 module _ (text : List ℕ) (lines : List (List ℕ)) (due : Due) (datagrams : List Numbered) (skippable : IsSkippable due) (stands : Stands text lines [] due datagrams) (old new : LineState) (k0 k1 : Option (List ℕ)) (byte_count : old.taken ≡ length text) (limit : longest_line old.version ≡ longest due) where
   -- after the lines that say nothing
-  pub reached : (r : Result (Unit {0}) Stop) (reach : ReachesLine r old new k0 k1) → Stands (text ++ whole_lines reach.skipped) (lines ++ reach.skipped) [] due datagrams
+  pub reached : (r : Result (Unit {0}) LineError) (reach : ReachesLine r old new k0 k1) → Stands (text ++ whole_lines reach.skipped) (lines ++ reach.skipped) [] due datagrams
   reached r reach = stands-skips text lines reach.skipped due datagrams skippable (subst (λ n. All (IsSkipped n) reach.skipped) limit reach.nothing) (rw byte_count at reach.short) stands
 
-  pub room_is : (r : Result (Unit {0}) Stop) (reach : ReachesLine r old new k0 k1) → 2 ^ 40 - (old.taken + length (whole_lines reach.skipped)) ≡ 2 ^ 40 - length (text ++ whole_lines reach.skipped)
+  pub room_is : (r : Result (Unit {0}) LineError) (reach : ReachesLine r old new k0 k1) → 2 ^ 40 - (old.taken + length (whole_lines reach.skipped)) ≡ 2 ^ 40 - length (text ++ whole_lines reach.skipped)
   room_is r reach = ap (λ n. 2 ^ 40 - n) (ap (λ n. n + length (whole_lines reach.skipped)) byte_count ∙ sym (length-append text (whole_lines reach.skipped)))
 
   -- reading stopped before a line that says something
-  pub stop_tells : (stop : Stop) (reach : ReachesLine {T = Unit {0}} (Err stop) old new k0 k1) → old.count ≡ length lines
-      → FaultTells (fault_at stop (new.count + 1)) (text ++ (whole_lines reach.skipped ++ reach.bytes)) datagrams
-  stop_tells stop reach line_count =
+  pub stop_tells : (error : LineError) (reach : ReachesLine {T = Unit {0}} (Err error) old new k0 k1) → old.count ≡ length lines
+      → FaultTells (fault_at error (new.count + 1)) (text ++ (whole_lines reach.skipped ++ reach.bytes)) datagrams
+  stop_tells error reach line_count =
       let at : length (lines ++ reach.skipped) ≡ new.count = length-append lines reach.skipped ∙ ap (λ n. n + length reach.skipped) (sym line_count) ∙ sym reach.count_before in
-      let tells = fault_in_line (text ++ whole_lines reach.skipped) (lines ++ reach.skipped) due datagrams (not_over due skippable) (reached (Err stop) reach) new.line reach.bytes stop (rw (room_is (Err stop) reach, limit) at reach.ends) in
+      let tells = fault_in_line (text ++ whole_lines reach.skipped) (lines ++ reach.skipped) due datagrams (not_over due skippable) (reached (Err error) reach) new.line reach.bytes error (rw (room_is (Err error) reach, limit) at reach.ends) in
       rw (at, append_assoc text (whole_lines reach.skipped) reach.bytes) at tells
 
   -- memory was refused there
-  pub stop_memory : (stop : Stop) (reach : ReachesLine {T = Unit {0}} (Err stop) old new k0 k1) → old.count ≡ length lines
-      → MemoryTells (fault_at stop (new.count + 1)) (text ++ (whole_lines reach.skipped ++ reach.bytes)) new.ahead datagrams
-  stop_memory stop reach line_count =
+  pub stop_memory : (error : LineError) (reach : ReachesLine {T = Unit {0}} (Err error) old new k0 k1) → old.count ≡ length lines
+      → MemoryTells (fault_at error (new.count + 1)) (text ++ (whole_lines reach.skipped ++ reach.bytes)) new.ahead datagrams
+  stop_memory error reach line_count =
       let at : length (lines ++ reach.skipped) ≡ new.count = length-append lines reach.skipped ∙ ap (λ n. n + length reach.skipped) (sym line_count) ∙ sym reach.count_before in
-      let room = room_is (Err stop) reach in
-      let tells = memory_in_line (text ++ whole_lines reach.skipped) (lines ++ reach.skipped) due datagrams (not_over due skippable) (reached (Err stop) reach) new.line reach.bytes new.ahead stop (rw (room, limit) at reach.ends) (rw room at reach.leaves) in
+      let room = room_is (Err error) reach in
+      let tells = memory_in_line (text ++ whole_lines reach.skipped) (lines ++ reach.skipped) due datagrams (not_over due skippable) (reached (Err error) reach) new.line reach.bytes new.ahead error (rw (room, limit) at reach.ends) (rw room at reach.leaves) in
       rw (at, append_assoc text (whole_lines reach.skipped) reach.bytes) at tells
 
   module _ (reach : ReachesLine {T = Unit {0}} (Ok tt) old new k0 k1) (line_count : old.count ≡ length lines) where
@@ -52,12 +52,12 @@ module _ (text : List ℕ) (lines : List (List ℕ)) (due : Due) (datagrams : Li
     bytes_are = omega (arith, reach.taken, byte_count, length-append text (whole_lines reach.skipped ++ reach.bytes), length-append (whole_lines reach.skipped) reach.bytes)
 
 module _ (header : Header) (old new : LineState) (count : ℕ) (text : List ℕ) (datagrams : List Numbered) (k0 k1 : Option (List ℕ)) (goes : GoesOn header old count text datagrams) where
-  pub stop_answers : (stop : Stop) → ReachesLine {T = Unit {0}} (Err stop) old new k0 k1 → Answers k0 k1 (Err (fault_at stop (new.count + 1))) header new count text datagrams
-  stop_answers stop reach = record {
+  pub stop_answers : (error : LineError) → ReachesLine {T = Unit {0}} (Err error) old new k0 k1 → Answers k0 k1 (Err (fault_at error (new.count + 1))) header new count text datagrams
+  stop_answers error reach = record {
     taken = whole_lines reach.skipped ++ reach.bytes;
     consumed = reach.consumed;
-    tells = stop_tells text goes.lines (Body old.version header) datagrams tt goes.stands old new k0 k1 goes.byte_count refl stop reach goes.line_count;
-    memory = stop_memory text goes.lines (Body old.version header) datagrams tt goes.stands old new k0 k1 goes.byte_count refl stop reach goes.line_count;
+    tells = stop_tells text goes.lines (Body old.version header) datagrams tt goes.stands old new k0 k1 goes.byte_count refl error reach goes.line_count;
+    memory = stop_memory text goes.lines (Body old.version header) datagrams tt goes.stands old new k0 k1 goes.byte_count refl error reach goes.line_count;
   }
 
   module _ (reach : ReachesLine {T = Unit {0}} (Ok tt) old new k0 k1) where
@@ -120,27 +120,27 @@ module _ (header : Header) (old new : LineState) (count : ℕ) (text : List ℕ)
     }
 
     -- the text's end is looked for without memory
-    end_memory : (ahead bytes : List ℕ) (stop : Stop) → TextEnds {T = Unit {0}} (Err stop) new.taken bytes
-        → MemoryTells (fault_at stop (new.count + 1)) (text ++ ((whole_lines reach.skipped ++ reach.bytes) ++ bytes)) ahead datagrams
+    end_memory : (ahead bytes : List ℕ) (error : LineError) → TextEnds {T = Unit {0}} (Err error) new.taken bytes
+        → MemoryTells (fault_at error (new.count + 1)) (text ++ ((whole_lines reach.skipped ++ reach.bytes) ++ bytes)) ahead datagrams
     end_memory ahead bytes (Text fault) ends = tt
     end_memory ahead bytes Read ends = tt
     end_memory ahead bytes Memory ends = absurd ends
 
-    pub end_answers : (state : LineState) (k2 : Option (List ℕ)) (bytes : List ℕ) (stop : Stop) → new.line ≡ total_line count → Consumes k1 k2 bytes → TextEnds {T = Unit {0}} (Err stop) new.taken bytes
-        → Answers k0 k2 (Err (fault_at stop (new.count + 1))) header state count text datagrams
-    end_answers state k2 bytes stop is consumed ends =
+    pub end_answers : (state : LineState) (k2 : Option (List ℕ)) (bytes : List ℕ) (error : LineError) → new.line ≡ total_line count → Consumes k1 k2 bytes → TextEnds {T = Unit {0}} (Err error) new.taken bytes
+        → Answers k0 k2 (Err (fault_at error (new.count + 1))) header state count text datagrams
+    end_answers state k2 bytes error is consumed ends =
         let size = bytes_are text goes.lines (Body old.version header) datagrams tt goes.stands old new k0 k1 goes.byte_count refl reach goes.line_count in
         let number : length ((goes.lines ++ reach.skipped) ++ new.line ∷ []) ≡ new.count =
         length-append (goes.lines ++ reach.skipped) (new.line ∷ []) ∙ sym (number_is text goes.lines (Body old.version header) datagrams tt goes.stands old new k0 k1 goes.byte_count refl reach goes.line_count) in
-        let tells = end_fault old.version (text ++ (whole_lines reach.skipped ++ reach.bytes)) bytes ((goes.lines ++ reach.skipped) ++ new.line ∷ []) header datagrams stop (total_stands is) (rw size at ends) in
+        let tells = end_fault old.version (text ++ (whole_lines reach.skipped ++ reach.bytes)) bytes ((goes.lines ++ reach.skipped) ++ new.line ∷ []) header datagrams error (total_stands is) (rw size at ends) in
         record {
           taken = (whole_lines reach.skipped ++ reach.bytes) ++ bytes;
           consumed = Consumes-trans _ _ _ _ _ reach.consumed consumed;
           tells = rw (number, append_assoc text (whole_lines reach.skipped ++ reach.bytes) bytes) at tells;
-          memory = end_memory state.ahead bytes stop ends;
+          memory = end_memory state.ahead bytes error ends;
         }
 
-    content_tells : (stop : Stop) → BodyEnds new.version (Err stop) new.line count → FaultTells (fault_at stop new.count) (text ++ (whole_lines reach.skipped ++ reach.bytes)) datagrams
+    content_tells : (error : LineError) → BodyEnds new.version (Err error) new.line count → FaultTells (fault_at error new.count) (text ++ (whole_lines reach.skipped ++ reach.bytes)) datagrams
     content_tells (Text fault) ends =
         let before = reached text goes.lines (Body old.version header) datagrams tt goes.stands old new k0 k1 goes.byte_count refl (Ok tt) reach in
         let wrong = body_fault old.version (text ++ whole_lines reach.skipped) new.line (goes.lines ++ reach.skipped) header datagrams before
@@ -151,7 +151,7 @@ module _ (header : Header) (old new : LineState) (count : ℕ) (text : List ℕ)
     content_tells Read ends = absurd ends
     content_tells Memory ends = tt
 
-    content_memory : (stop : Stop) → BodyEnds new.version (Err stop) new.line count → MemoryTells (fault_at stop new.count) (text ++ (whole_lines reach.skipped ++ reach.bytes)) new.ahead datagrams
+    content_memory : (error : LineError) → BodyEnds new.version (Err error) new.line count → MemoryTells (fault_at error new.count) (text ++ (whole_lines reach.skipped ++ reach.bytes)) new.ahead datagrams
     content_memory (Text fault) ends = tt
     content_memory Read ends = tt
     content_memory Memory ends = inr (record {
@@ -163,10 +163,10 @@ module _ (header : Header) (old new : LineState) (count : ℕ) (text : List ℕ)
       at_line = lines_number;
     })
 
-    pub content_answers : (stop : Stop) → BodyEnds new.version (Err stop) new.line count → Answers k0 k1 (Err (fault_at stop new.count)) header new count text datagrams
-    content_answers stop ends = record {
+    pub content_answers : (error : LineError) → BodyEnds new.version (Err error) new.line count → Answers k0 k1 (Err (fault_at error new.count)) header new count text datagrams
+    content_answers error ends = record {
       taken = whole_lines reach.skipped ++ reach.bytes;
       consumed = reach.consumed;
-      tells = content_tells stop ends;
-      memory = content_memory stop ends;
+      tells = content_tells error ends;
+      memory = content_memory error ends;
     }

@@ -8,7 +8,7 @@ use Rattle.std.proofs.lemmas.List.Splits.{slice_split_none}
 use Rattle.std.proofs.lemmas.List.Sums.{AllPass-from_list_all, list_all-from_AllPass}
 use Rattle.hex.specs.Hex.{is_hex_digit}
 use Rattle.hex.proofs.HexLemmas.{decode_of-digits, decode_of-ok}
-use Rattle.tftp_capture.specs.{Stop, SpellsPayload, pieces, PayloadEnds, filled}
+use Rattle.tftp_capture.specs.{LineError, SpellsPayload, pieces, PayloadEnds, filled}
 
 is_digit : (c : ℕ) → is_ascii_hexdigit c ≡ true → is_hex_digit c ≡ true
 is_digit c h = grind (arith, nat_tests)
@@ -50,10 +50,10 @@ payload_whole digits payload (inl s) = rw s.0 refl
 payload_whole digits payload (inr s) = slice_split_none (λ b. b == 32) digits (All-weaker (λ c. is_hex_digit c ≡ true) (λ c. (c == 32) ≡ false) digit_no_space digits (decode_of-ok digits payload s.1).1)
 
 -- the same of digits by which a payload was filled
-pub filled_whole : (digits payload : List ℕ) (ended : Result (Unit {0}) Stop) → PayloadEnds (filled ended payload) digits → OnOk ended (pieces digits ≡ digits ∷ [])
+pub filled_whole : (digits payload : List ℕ) (ended : Result (Unit {0}) LineError) → PayloadEnds (filled ended payload) digits → OnOk ended (pieces digits ≡ digits ∷ [])
 filled_whole digits payload (Ok _) p = payload_whole digits payload p.0
 filled_whole digits payload (Err _) p = tt
 
-pub ok_whole : (digits : List ℕ) (ended : Result (Unit {0}) Stop) → OnOk ended (pieces digits ≡ digits ∷ []) → is_err ended ≡ false → pieces digits ≡ digits ∷ []
+pub ok_whole : (digits : List ℕ) (ended : Result (Unit {0}) LineError) → OnOk ended (pieces digits ≡ digits ∷ []) → is_err ended ≡ false → pieces digits ≡ digits ∷ []
 ok_whole digits (Ok _) p e = p
 ok_whole digits (Err _) p e = absurd (true≢false e)

@@ -3,8 +3,8 @@ use Rattle.std.proofs.Common.{◌≡◌, ◌≢◌, ℕ, ◌≤◌, ◌==◌, tr
 use Rattle.std.specs.List.{join_with_byte}
 use Rattle.std.proofs.lemmas.List.Splits.{length-slice_split, join_with_byte-slice_split}
 use Rattle.tftp_hosts.specs.{IsHost, Dir, In, Out}
-use Rattle.tftp_capture.specs.{BadHeader, BadEnd, BadService, LineTooLong, BadLine, BadPort, BadHost, BadHex, PayloadTooLong, TotalWrong, Truncated, TrailingText, TextTooLong, Stop, BeginWithFields, BodyEnds, DatagramEnds, PayloadEnds, TotalEnds, filled, dir_word, pieces, total_line, AreFields, BodyFault, HasFields, HasPorts, SpellsPort, Version, One, Two}
-use Rattle.tftp_capture.specs.declared.stop.Stop.TheVariants.{Text, Read, Memory}
+use Rattle.tftp_capture.specs.{BadHeader, BadEnd, BadService, LineTooLong, BadLine, BadPort, BadHost, BadHex, PayloadTooLong, TotalWrong, Truncated, TrailingText, TextTooLong, LineError, BeginWithFields, BodyEnds, DatagramEnds, PayloadEnds, TotalEnds, filled, dir_word, pieces, total_line, AreFields, BodyFault, HasFields, HasPorts, SpellsPort, Version, One, Two}
+use Rattle.tftp_capture.specs.declared.line_error.LineError.TheVariants.{Text, Read, Memory}
 
 pub some_piece : (xs : List ℕ) → 1 ≤ length (pieces xs)
 some_piece xs = omega (arith, length-slice_split (λ b. b == 32) xs)
@@ -95,7 +95,7 @@ too_many Two ps word local host remote a b rest p more w l h r d q = absurd (ome
 
 -- the last field spells no payload, or memory was refused for the one that it spells
 pub payload_stop : (version : Version) (count : ℕ) (line local host remote digits : List ℕ) (dir : Dir) (l r : ℕ) → AreFields version (pieces line) (dir_word dir) local host remote digits → SpellsPort local l → SpellsPort remote r → IsHost host
-    → (stop : Stop) → PayloadEnds (Err stop) digits → DatagramEnds version (Err stop) line count
+    → (error : LineError) → PayloadEnds (Err error) digits → DatagramEnds version (Err error) line count
 payload_stop version count line local host remote digits dir l r is sl sr sh (Text BadHex) p = (host, digits, has_ports version line local host remote digits dir l r is sl sr, sh, p)
 payload_stop version count line local host remote digits dir l r is sl sr sh (Text PayloadTooLong) p = (host, digits, p.0, has_ports version line local host remote digits dir l r is sl sr, sh, p.1, p.2)
 payload_stop version count line local host remote digits dir l r is sl sr sh Memory p = (
@@ -117,14 +117,14 @@ payload_stop version count line local host remote digits dir l r is sl sr sh (Te
 
 -- the datagram that was filled with the payload, or why there is none
 pub payload_ends : (version : Version) (count : ℕ) (line local host remote digits : List ℕ) (dir : Dir) (l r : ℕ) → AreFields version (pieces line) (dir_word dir) local host remote digits → SpellsPort local l → SpellsPort remote r → IsHost host
-    → (ended : Result (Unit {0}) Stop) (payload : List ℕ) → PayloadEnds (filled ended payload) digits
+    → (ended : Result (Unit {0}) LineError) (payload : List ℕ) → PayloadEnds (filled ended payload) digits
     → DatagramEnds version (filled ended (record { dir = dir; local_port = l; remote_host = host; remote_port = r; payload = payload })) line count
 payload_ends version count line local host remote digits dir l r is sl sr sh (Ok _) payload p =
     record { local = local; remote = remote; digits = digits; cut = is; local_port = sl; host = sh; remote_port = sr; payload = p.0; fits = p.1 }
-payload_ends version count line local host remote digits dir l r is sl sr sh (Err stop) payload p = payload_stop version count line local host remote digits dir l r is sl sr sh stop p
+payload_ends version count line local host remote digits dir l r is sl sr sh (Err error) payload p = payload_stop version count line local host remote digits dir l r is sl sr sh error p
 
 -- what is wrong with a line of the total is wrong with a line
-pub total_stop : (version : Version) (count : ℕ) (line : List ℕ) (stop : Stop) → TotalEnds version (Err stop) line count → BodyEnds version (Err stop) line count
+pub total_stop : (version : Version) (count : ℕ) (line : List ℕ) (error : LineError) → TotalEnds version (Err error) line count → BodyEnds version (Err error) line count
 total_stop version count line (Text fault) p = p
 total_stop version count line Read p = absurd p
 total_stop version count line Memory p = absurd p

@@ -2,8 +2,8 @@
 use Rattle.std.specs.Prelude.{◌≡◌, true, false, Bool, ℕ, ◌<◌, ◌≤◌, List, ◌∷◌, length, Option, Some, None, Result, Ok, Err}
 use Rattle.tftp_hosts.specs.{no_host}
 use Rattle.tftp_capture.specs.declared.fault.TextFault.TheVariants.{BadHex, PayloadTooLong}
-use Rattle.tftp_capture.specs.declared.stop.Stop.{Stop}
-use Rattle.tftp_capture.specs.declared.stop.Stop.TheVariants.{Text, Read, Memory}
+use Rattle.tftp_capture.specs.declared.line_error.LineError.{LineError}
+use Rattle.tftp_capture.specs.declared.line_error.LineError.TheVariants.{Text, Read, Memory}
 use Rattle.tftp_capture.specs.declared.datagram.Datagram.{Datagram as Owned}
 use Rattle.tftp_capture.specs.declared.datagram.Header.{Header as OwnedHeader}
 use Rattle.tftp_capture.specs.CaptureText.{Datagram, Header, BodyFault, SaysDatagram, SpellsPayload, total_line}
@@ -35,7 +35,7 @@ BeginWithFields One ps word local host remote rest = (ps ≡ word ∷ local ∷ 
 BeginWithFields Two ps word local host remote rest = ps ≡ word ∷ local ∷ host ∷ remote ∷ rest
 
 -- a payload, or why the digits spell none that a datagram can carry
-abbrev pub PayloadEnds : Result (List ℕ) Stop → List ℕ → Type 0
+abbrev pub PayloadEnds : Result (List ℕ) LineError → List ℕ → Type 0
 PayloadEnds (Ok payload) digits = SpellsPayload digits payload × (length payload ≤ 65527)
 PayloadEnds (Err (Text BadHex)) digits = (payload : List ℕ) → SpellsPayload digits payload → ⊥
 PayloadEnds (Err (Text PayloadTooLong)) digits = (payload : List ℕ) × SpellsPayload digits payload × (65527 < length payload)
@@ -44,21 +44,21 @@ PayloadEnds (Err Read) digits = ⊥
 PayloadEnds (Err Memory) digits = (payload : List ℕ) × SpellsPayload digits payload × (length payload ≤ 65527)
 
 -- what a line with a datagram's first word says, or what is wrong with it, after so many datagrams
-abbrev pub DatagramEnds : Version → Result Owned Stop → List ℕ → ℕ → Type 0
+abbrev pub DatagramEnds : Version → Result Owned LineError → List ℕ → ℕ → Type 0
 DatagramEnds version (Ok d) line count = SaysDatagram version line (datagram_of d)
 DatagramEnds version (Err (Text fault)) line count = BodyFault version count line fault
 DatagramEnds version (Err Read) line count = ⊥
 DatagramEnds version (Err Memory) line count = (d : Datagram) × SaysDatagram version line d
 
 -- the same of a line with the total's first word
-abbrev pub TotalEnds : Version → Result (Unit {0}) Stop → List ℕ → ℕ → Type 0
+abbrev pub TotalEnds : Version → Result (Unit {0}) LineError → List ℕ → ℕ → Type 0
 TotalEnds version (Ok _) line count = line ≡ total_line count
 TotalEnds version (Err (Text fault)) line count = BodyFault version count line fault
 TotalEnds version (Err Read) line count = ⊥
 TotalEnds version (Err Memory) line count = ⊥
 
 -- what a line says, or what is wrong with it, where a datagram or the total is due after so many datagrams
-abbrev pub BodyEnds : Version → Result (Option Owned) Stop → List ℕ → ℕ → Type 0
+abbrev pub BodyEnds : Version → Result (Option Owned) LineError → List ℕ → ℕ → Type 0
 BodyEnds version (Ok (Some d)) line count = SaysDatagram version line (datagram_of d)
 BodyEnds version (Ok None) line count = line ≡ total_line count
 BodyEnds version (Err (Text fault)) line count = BodyFault version count line fault

@@ -17,10 +17,10 @@ pub use Lines.{HasByteAt, HasNoEnd, HoldsLine, HoldsNoLine, IsPartOfLine, IsSile
 pub use Worked.{line, named_datagrams, named_text, worked_header, worked_text}
 pub use Written.{HasWritten, HasWrittenHosts, header_text, header_text_in, host_field, line_naming}
 pub use declared.fault.CaptureFault.{CaptureFault}
-pub use declared.fault.TextFault.{TextFault}
 pub use declared.fault.TextFault.TheVariants.{BadEnd, BadHeader, BadHex, BadHost, BadLine, BadPort, BadService, LineTooLong, PayloadTooLong, TextTooLong, TotalWrong, TrailingText, Truncated}
-pub use declared.standing.Standing.{Standing}
+pub use declared.fault.TextFault.{TextFault}
+pub use declared.line_error.LineError.{LineError}
 pub use declared.standing.Standing.TheVariants.{Failed, Open, Over}
-pub use declared.stop.Stop.{Stop}
-pub use declared.version.Version.{Version}
+pub use declared.standing.Standing.{Standing}
 pub use declared.version.Version.TheVariants.{One, Two}
+pub use declared.version.Version.{Version}

@@ -5,12 +5,12 @@ use Rattle.tftp_capture.specs.CaptureText.{longest_line, says_nothing, whole_lin
 use Rattle.tftp_capture.specs.declared.fault.TextFault.TheVariants.{LineTooLong, Truncated, TrailingText, TextTooLong}
 use Rattle.tftp_capture.specs.declared.fault.CaptureFault.{CaptureFault}
 use Rattle.tftp_capture.specs.declared.fault.CaptureFault.TheVariants as faults
-use Rattle.tftp_capture.specs.declared.stop.Stop.{Stop}
+use Rattle.tftp_capture.specs.declared.line_error.LineError.{LineError}
 use Rattle.tftp_capture.specs.declared.version.Version.{Version}
 use Rattle.tftp_capture.specs.declared.version.Version.TheVariants.{One}
-use Rattle.tftp_capture.specs.declared.stop.Stop.TheVariants.{Text, Read, Memory}
+use Rattle.tftp_capture.specs.declared.line_error.LineError.TheVariants.{Text, Read, Memory}
 
-abbrev pub fault_at : Stop → ℕ → CaptureFault
+abbrev pub fault_at : LineError → ℕ → CaptureFault
 fault_at (Text fault) line = faults.Text line fault
 fault_at Read line = faults.Read line
 fault_at Memory line = faults.Memory line
@@ -35,7 +35,7 @@ pub record IsPartOfLine (bytes : List ℕ) (longest room : ℕ) : Type 0 where
 
 -- What the bytes are that were taken to find the end of a line of at most `longest` bytes, where the text may have `room`
 -- more: the line and its LF; or, where there is no line, what came up to the byte that can't stand there, or up to the text's end.
-abbrev pub LineEnds : {T : Type 0} → Result T Stop → List ℕ → (longest room : ℕ) → List ℕ → Type 0
+abbrev pub LineEnds : {T : Type 0} → Result T LineError → List ℕ → (longest room : ℕ) → List ℕ → Type 0
 LineEnds (Ok _) line longest room bytes = (bytes ≡ line ++ 10 ∷ []) × IsPartOfLine line longest room × (length line < room)
 LineEnds (Err (Text LineTooLong)) line longest room bytes = (byte : ℕ) × HasByteAt bytes longest byte × (byte ≢ 10) × (longest < room)
 LineEnds (Err (Text TextTooLong)) line longest room bytes = (byte : ℕ) × HasByteAt bytes room byte × (room ≤ longest)
@@ -45,9 +45,9 @@ LineEnds (Err Memory) line longest room bytes = IsPartOfLine bytes longest room
 LineEnds (Err (Text _)) line longest room bytes = ⊥
 
 -- how many of the bytes read ahead are a line with its LF that lies there
-abbrev pub bytes_lying : Result ℕ Stop → ℕ
+abbrev pub bytes_lying : Result ℕ LineError → ℕ
 bytes_lying (Ok count) = count
-bytes_lying (Err stop) = 0
+bytes_lying (Err error) = 0
 
 -- the line that lies there so
 abbrev pub line_at : (lies : ℕ) (ahead : List ℕ) → List ℕ
@@ -55,7 +55,7 @@ line_at lies ahead = take (lies - 1) ahead
 
 -- Where memory was refused in a line, all of it that was read is taken: nothing is ahead, or its LF is, for which the
 -- text has room.
-abbrev pub LeavesEnd : {T : Type 0} → Result T Stop → ℕ → List ℕ → List ℕ → Type 0
+abbrev pub LeavesEnd : {T : Type 0} → Result T LineError → ℕ → List ℕ → List ℕ → Type 0
 LeavesEnd (Err Memory) room bytes ahead = (ahead ≡ []) ⊎ ((more : List ℕ) × (ahead ≡ 10 ∷ more) × (length bytes < room))
 LeavesEnd (Err Read) room bytes ahead = Unit {0}
 LeavesEnd (Err (Text _)) room bytes ahead = Unit {0}
@@ -107,7 +107,7 @@ pub record IsSkipped (longest : ℕ) (line : List ℕ) : Type 0 where
   pub narrow : length line ≤ longest
 
 -- lines that say nothing were taken, and then the bytes in which the next line that says something was looked for
-pub record ReachesLine {T : Type 0} (result : Result T Stop) (old new : LineState) (before after : Option (List ℕ)) : Type 0 where
+pub record ReachesLine {T : Type 0} (result : Result T LineError) (old new : LineState) (before after : Option (List ℕ)) : Type 0 where
   pub skipped : List (List ℕ)
   pub bytes : List ℕ
   pub nothing : All (IsSkipped (longest_line old.version)) skipped
@@ -122,7 +122,7 @@ pub record ReachesLine {T : Type 0} (result : Result T Stop) (old new : LineStat
   pub version : new.version ≡ old.version
 
 -- what the bytes are in which the end of the text was looked for
-abbrev pub TextEnds : {T : Type 0} → Result T Stop → ℕ → List ℕ → Type 0
+abbrev pub TextEnds : {T : Type 0} → Result T LineError → ℕ → List ℕ → Type 0
 TextEnds (Ok _) size bytes = bytes ≡ []
 TextEnds (Err (Text TrailingText)) size bytes = (byte : ℕ) × (more : List ℕ) × (bytes ≡ byte ∷ more) × (size < 2 ^ 40)
 TextEnds (Err (Text TextTooLong)) size bytes = (byte : ℕ) × (more : List ℕ) × (bytes ≡ byte ∷ more) × (size ≡ 2 ^ 40)

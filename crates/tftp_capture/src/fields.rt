@@ -9,7 +9,7 @@ use crate::datagram::Datagram;
 use crate::digits::decode;
 use crate::fault::TextFault;
 use crate::line::count_before;
-use crate::stop::Stop;
+use crate::line_error::LineError;
 use crate::version::Version;
 use hex::FromHexError;
 use itoa::Buffer;
@@ -109,20 +109,20 @@ fn are_digits(bytes: &[u8]) -> bool
 }
 
 /// What there is to say of digits for whose bytes memory was refused: they may spell no payload all the same.
-fn refused(digits: &[u8]) -> Stop
+fn refused(digits: &[u8]) -> LineError
     ensures { digits.now ≢ codes "-" → PayloadEnds (Err result) digits.now }
 {
     if digits.is_empty() || digits.len() % 2 == 1 || !are_digits(digits) {
-        return Stop::Text(TextFault::BadHex);
+        return LineError::Text(TextFault::BadHex);
     }
     if digits.len() / 2 > LONGEST_PAYLOAD {
-        return Stop::Text(TextFault::PayloadTooLong);
+        return LineError::Text(TextFault::PayloadTooLong);
     }
-    Stop::Memory
+    LineError::Memory
 }
 
 /// Fills a payload with the bytes that are spelled, in the memory that it has.
-fn fill_payload(digits: &[u8], payload: &mut Vec<u8>) -> Result<(), Stop>
+fn fill_payload(digits: &[u8], payload: &mut Vec<u8>) -> Result<(), LineError>
     ensures { PayloadEnds (filled result payload.new.items) digits.now }
 {
     if digits == b"-".as_slice() {
@@ -130,11 +130,13 @@ fn fill_payload(digits: &[u8], payload: &mut Vec<u8>) -> Result<(), Stop>
         return Ok(());
     }
     match decode(digits, payload) {
-        Ok(()) if payload.is_empty() => Err(Stop::Text(TextFault::BadHex)),
-        Ok(()) if payload.len() > LONGEST_PAYLOAD => Err(Stop::Text(TextFault::PayloadTooLong)),
+        Ok(()) if payload.is_empty() => Err(LineError::Text(TextFault::BadHex)),
+        Ok(()) if payload.len() > LONGEST_PAYLOAD => Err(LineError::Text(
+            TextFault::PayloadTooLong,
+        )),
         Ok(()) => Ok(()),
         Err(FromHexError::OutOfMemory) => Err(refused(digits)),
-        Err(_) => Err(Stop::Text(TextFault::BadHex)),
+        Err(_) => Err(LineError::Text(TextFault::BadHex)),
     }
 }
 
@@ -184,19 +186,19 @@ fn fill_host(field: &[u8], host: &mut Host) -> bool
 }
 
 /// Fills a datagram with what the fields spell. After a fault it is one of which nothing is said.
-fn fill_with(dir: Dir, fields: Fields<'_>, datagram: &mut Datagram) -> Result<(), Stop>
+fn fill_with(dir: Dir, fields: Fields<'_>, datagram: &mut Datagram) -> Result<(), LineError>
     ensures ends { (version : Version) (line : List ℕ) (count : ℕ) → AreFields version (pieces line) (dir_word dir) fields.entry.local.now fields.entry.host.now fields.entry.remote.now fields.entry.digits.now
         → DatagramEnds version (filled result datagram.new) line count }
     ensures whole { OnOk result (pieces fields.entry.digits.now ≡ fields.entry.digits.now ∷ []) }
 {
     let Some(local_port) = port(fields.local) else {
-        return Err(Stop::Text(TextFault::BadPort));
+        return Err(LineError::Text(TextFault::BadPort));
     };
     let Some(remote_port) = port(fields.remote) else {
-        return Err(Stop::Text(TextFault::BadPort));
+        return Err(LineError::Text(TextFault::BadPort));
     };
     if !fill_host(fields.host, &mut datagram.remote_host) {
-        return Err(Stop::Text(TextFault::BadHost));
+        return Err(LineError::Text(TextFault::BadHost));
     }
     datagram.dir = dir;
     datagram.local_port = local_port;
@@ -214,31 +216,31 @@ fn fill_datagram(
     dir: Dir,
     text: &[u8],
     datagram: &mut Datagram,
-) -> Result<(), Stop>
+) -> Result<(), LineError>
     ensures { (line : List ℕ) (count : ℕ) → pieces line ≡ dir_word dir ∷ pieces text.now → DatagramEnds version (filled result datagram.new) line count }
 {
     let Some(fields) = cut_fields(version, text) else {
-        return Err(Stop::Text(TextFault::BadLine));
+        return Err(LineError::Text(TextFault::BadLine));
     };
     let ended = fill_with(dir, fields, datagram);
     if ended.is_err() && cut(fields.digits).is_some() {
-        return Err(Stop::Text(TextFault::BadLine));
+        return Err(LineError::Text(TextFault::BadLine));
     }
     ended
 }
 
 /// Whether the number of a total line is the number of the datagrams.
-fn total(fields: &[u8], count: u64) -> Result<(), Stop>
+fn total(fields: &[u8], count: u64) -> Result<(), LineError>
     ensures { (version : Version) (line : List ℕ) → pieces line ≡ codes "total" ∷ pieces fields.now → TotalEnds version result line count }
 {
     if cut(fields).is_some() {
-        return Err(Stop::Text(TextFault::BadLine));
+        return Err(LineError::Text(TextFault::BadLine));
     }
     let mut buffer = Buffer::new();
     if buffer.format(count).as_bytes() == fields {
         Ok(())
     } else {
-        Err(Stop::Text(TextFault::TotalWrong))
+        Err(LineError::Text(TextFault::TotalWrong))
     }
 }
 
@@ -249,18 +251,18 @@ pub fn body_line(
     line: &[u8],
     count: u64,
     datagram: &mut Datagram,
-) -> Result<bool, Stop>
+) -> Result<bool, LineError>
     ensures { BodyEnds version (filled_if result datagram.new) line.now count }
 {
     let Some((word, fields)) = cut(line) else {
-        return Err(Stop::Text(TextFault::BadLine));
+        return Err(LineError::Text(TextFault::BadLine));
     };
     if let Some(dir) = dir_of(word) {
         fill_datagram(version, dir, fields, datagram)?;
         return Ok(true);
     }
     if word != b"total".as_slice() {
-        return Err(Stop::Text(TextFault::BadLine));
+        return Err(LineError::Text(TextFault::BadLine));
     }
     total(fields, count)?;
     Ok(false)

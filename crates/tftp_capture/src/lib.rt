@@ -8,10 +8,10 @@ mod fields;
 mod host_writer;
 mod laws;
 mod line;
+mod line_error;
 mod lines;
 mod reader;
 mod standing;
-mod stop;
 mod version;
 mod writer;
 

@@ -4,7 +4,7 @@ ghost use Rattle.tftp_capture.specs.Lines.{bytes_lying, line_at, LineEnds};
 ghost use Rattle.tftp_streams.specs.{most_ahead, most_of_line};
 
 use crate::fault::TextFault;
-use crate::stop::Stop;
+use crate::line_error::LineError;
 use memchr::memchr;
 use std::io::Read;
 use tftp_streams::{LatchedReader, ReadBuffer};
@@ -29,7 +29,7 @@ pub fn read_line<R: Read>(
     reader: &mut LatchedReader<R>,
     longest: usize,
     room: u64,
-) -> Result<usize, Stop>
+) -> Result<usize, LineError>
     requires narrow { longest ≤ most_of_line }
     requires near { length ahead.old.bytes ≤ most_ahead }
     ensures ends { (bytes : List ℕ) × Consumes (prepend_known ahead.old.bytes (R.remaining reader.old.0)) (prepend_known (drop (bytes_lying result) ahead.new.bytes) (R.remaining reader.new.0)) bytes
@@ -40,10 +40,10 @@ pub fn read_line<R: Read>(
     ensures narrow { bytes_lying result ≤ longest + 1 }
     ensures near { length ahead.new.bytes ≤ bytes_lying result + most_ahead }
     ensures drained { OnErr result (ahead.new.bytes ≡ []) }
-    ensures memory { result ≢ Err Stop.Memory }
-    ensures end { result ≡ Err (Stop.Text TextFault.Truncated) → IsAtEnd (prepend_known ahead.new.bytes (R.remaining reader.new.0)) }
-    ensures read { result ≡ Err Stop.Read → reader.new.1 ≡ true }
-    ensures tally { result ≢ Err Stop.Read → reader.new.1 ≡ reader.old.1 }
+    ensures memory { result ≢ Err LineError.Memory }
+    ensures end { result ≡ Err (LineError.Text TextFault.Truncated) → IsAtEnd (prepend_known ahead.new.bytes (R.remaining reader.new.0)) }
+    ensures read { result ≡ Err LineError.Read → reader.new.1 ≡ true }
+    ensures tally { result ≢ Err LineError.Read → reader.new.1 ≡ reader.old.1 }
 {
     let mut seen = 0;
     'reads: loop {
@@ -54,22 +54,22 @@ pub fn read_line<R: Read>(
         let over = room < count as u64 || whole && room == count as u64;
         if room <= longest as u64 && over {
             ahead.consume(all);
-            return Err(Stop::Text(TextFault::TextTooLong));
+            return Err(LineError::Text(TextFault::TextTooLong));
         }
         if count > longest {
             ahead.consume(all);
-            return Err(Stop::Text(TextFault::LineTooLong));
+            return Err(LineError::Text(TextFault::LineTooLong));
         }
         if whole {
             return Ok(count + 1);
         }
         if let Err(_) = ahead.read_on(reader) {
             ahead.consume(all);
-            return Err(Stop::Read);
+            return Err(LineError::Read);
         }
         if ahead.as_slice().len() == all {
             ahead.consume(all);
-            return Err(Stop::Text(TextFault::Truncated));
+            return Err(LineError::Text(TextFault::Truncated));
         }
         seen = all;
     }

@@ -6,7 +6,7 @@ ghost use Rattle.tftp_capture.specs.CaptureText.{longest_line, says_nothing};
 
 use crate::fault::TextFault;
 use crate::line::{count_before, read_line};
-use crate::stop::Stop;
+use crate::line_error::LineError;
 use crate::version::Version;
 use std::alloc::{AllocError, Global};
 use std::io::Read;
@@ -130,7 +130,7 @@ impl Lines {
     }
 
     /// Reads the next line.
-    pub fn next<R: Read>(&mut self, reader: &mut LatchedReader<R>) -> Result<(), Stop>
+    pub fn next<R: Read>(&mut self, reader: &mut LatchedReader<R>) -> Result<(), LineError>
         ensures ends { (bytes : List ℕ) × Consumes (prepend_known self.old.ahead (R.remaining reader.old.0)) (prepend_known self.new.ahead (R.remaining reader.new.0)) bytes
             × LineEnds result self.new.line (longest_line self.old.version) (2 ^ 40 - self.old.taken) bytes × LeavesEnd result (2 ^ 40 - self.old.taken) bytes self.new.ahead }
         ensures taken { OnOk result (self.new.taken ≡ self.old.taken + length self.new.line + 1) }
@@ -139,11 +139,11 @@ impl Lines {
         ensures version { self.new.version ≡ self.old.version }
         ensures short { self.new.taken ≤ 2 ^ 40 }
         ensures short_before { self.old.taken ≤ 2 ^ 40 }
-        ensures end { result ≡ Err (Stop.Text TextFault.Truncated) → IsAtEnd (prepend_known self.new.ahead (R.remaining reader.new.0)) }
-        ensures read { result ≡ Err Stop.Read → reader.new.1 ≡ true }
-        ensures drained { result ≡ Err Stop.Read → self.new.ahead ≡ [] }
+        ensures end { result ≡ Err (LineError.Text TextFault.Truncated) → IsAtEnd (prepend_known self.new.ahead (R.remaining reader.new.0)) }
+        ensures read { result ≡ Err LineError.Read → reader.new.1 ≡ true }
+        ensures drained { result ≡ Err LineError.Read → self.new.ahead ≡ [] }
         ensures near { length self.new.ahead ≤ most_ahead }
-        ensures tally { result ≢ Err Stop.Read → reader.new.1 ≡ reader.old.1 }
+        ensures tally { result ≢ Err LineError.Read → reader.new.1 ≡ reader.old.1 }
     {
         self.ahead.consume(self.lies);
         self.lies = 0;
@@ -156,13 +156,13 @@ impl Lines {
     }
 
     /// Reads on to the next line that says something.
-    pub fn next_said<R: Read>(&mut self, reader: &mut LatchedReader<R>) -> Result<(), Stop>
+    pub fn next_said<R: Read>(&mut self, reader: &mut LatchedReader<R>) -> Result<(), LineError>
         ensures reaches { ReachesLine result self.old self.new (prepend_known self.old.ahead (R.remaining reader.old.0)) (prepend_known self.new.ahead (R.remaining reader.new.0)) }
-        ensures end { result ≡ Err (Stop.Text TextFault.Truncated) → IsAtEnd (prepend_known self.new.ahead (R.remaining reader.new.0)) }
-        ensures read { result ≡ Err Stop.Read → reader.new.1 ≡ true }
-        ensures drained { result ≡ Err Stop.Read → self.new.ahead ≡ [] }
+        ensures end { result ≡ Err (LineError.Text TextFault.Truncated) → IsAtEnd (prepend_known self.new.ahead (R.remaining reader.new.0)) }
+        ensures read { result ≡ Err LineError.Read → reader.new.1 ≡ true }
+        ensures drained { result ≡ Err LineError.Read → self.new.ahead ≡ [] }
         ensures near { length self.new.ahead ≤ most_ahead }
-        ensures tally { result ≢ Err Stop.Read → reader.new.1 ≡ reader.old.1 }
+        ensures tally { result ≢ Err LineError.Read → reader.new.1 ≡ reader.old.1 }
     {
         'lines: loop {
             self.next(reader)?;
@@ -173,20 +173,20 @@ impl Lines {
     }
 
     /// Looks for the text's end after the line last read.
-    pub fn finish<R: Read>(&mut self, reader: &mut LatchedReader<R>) -> Result<(), Stop>
+    pub fn finish<R: Read>(&mut self, reader: &mut LatchedReader<R>) -> Result<(), LineError>
         ensures ends { (bytes : List ℕ) × Consumes (prepend_known self.old.ahead (R.remaining reader.old.0)) (prepend_known self.new.ahead (R.remaining reader.new.0)) bytes
             × TextEnds result self.old.taken bytes }
         ensures same { (self.new.taken ≡ self.old.taken) × (self.new.count ≡ self.old.count) }
         ensures end { OnOk result (IsAtEnd (prepend_known self.new.ahead (R.remaining reader.new.0))) }
-        ensures read { result ≡ Err Stop.Read → reader.new.1 ≡ true }
-        ensures drained { result ≡ Err Stop.Read → self.new.ahead ≡ [] }
+        ensures read { result ≡ Err LineError.Read → reader.new.1 ≡ true }
+        ensures drained { result ≡ Err LineError.Read → self.new.ahead ≡ [] }
         ensures near { length self.new.ahead ≤ most_ahead }
-        ensures tally { result ≢ Err Stop.Read → reader.new.1 ≡ reader.old.1 }
+        ensures tally { result ≢ Err LineError.Read → reader.new.1 ≡ reader.old.1 }
     {
         self.ahead.consume(self.lies);
         self.lies = 0;
         if self.ahead.fill(reader).is_err() {
-            return Err(Stop::Read);
+            return Err(LineError::Read);
         }
         let held = self.ahead.as_slice().len();
         if held == 0 {
@@ -194,8 +194,8 @@ impl Lines {
         }
         self.ahead.consume(held);
         if self.taken == LONGEST_TEXT {
-            return Err(Stop::Text(TextFault::TextTooLong));
+            return Err(LineError::Text(TextFault::TextTooLong));
         }
-        Err(Stop::Text(TextFault::TrailingText))
+        Err(LineError::Text(TextFault::TrailingText))
     }
 }

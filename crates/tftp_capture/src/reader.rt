@@ -9,9 +9,9 @@ ghost use Rattle.tftp_capture.specs.History.{Answers, Continues, FailsToBegin, G
 use crate::datagram::{Datagram, Header};
 use crate::fault::{CaptureFault, TextFault};
 use crate::fields::{body_line, end_of, service_of};
+use crate::line_error::LineError;
 use crate::lines::Lines;
 use crate::standing::Standing;
-use crate::stop::Stop;
 use crate::version::Version;
 use std::alloc::Global;
 use std::io::Read;
@@ -63,21 +63,21 @@ impl CaptureReader {
         let Ok(mut lines) = Lines::new(alloc) else {
             return Err(CaptureFault::Memory(1));
         };
-        if let Err(stop) = lines.next(reader) {
-            return Err(stop.at(1));
+        if let Err(error) = lines.next(reader) {
+            return Err(error.at(1));
         }
         let Some(version) = Version::of(lines.line()) else {
             return Err(CaptureFault::Text(1, TextFault::BadHeader));
         };
         lines.go_on_in(version);
-        if let Err(stop) = lines.next_said(reader) {
-            return Err(stop.at(lines.count() + 1));
+        if let Err(error) = lines.next_said(reader) {
+            return Err(error.at(lines.count() + 1));
         }
         let Some(named) = end_of(lines.line()) else {
             return Err(CaptureFault::Text(lines.count(), TextFault::BadEnd));
         };
-        if let Err(stop) = lines.next_said(reader) {
-            return Err(stop.at(lines.count() + 1));
+        if let Err(error) = lines.next_said(reader) {
+            return Err(error.at(lines.count() + 1));
         }
         let handed = lines.count();
         let Some(service) = service_of(lines.line()) else {
@@ -189,17 +189,17 @@ fn read_on<R: Read>(
     ensures few { lines.new.count ≤ 2 ^ 40 }
     ensures fits { result ≡ Ok true → length datagram.new.payload ≤ 65527 }
 {
-    if let Err(stop) = lines.next_said(reader) {
+    if let Err(error) = lines.next_said(reader) {
         let due = lines.count() + 1;
-        return Err(stop.at(due));
+        return Err(error.at(due));
     }
     let line = lines.count();
     match body_line(lines.version(), lines.line(), count, datagram) {
         Ok(true) => Ok(true),
         Ok(false) => match lines.finish(reader) {
             Ok(()) => Ok(false),
-            Err(stop) => Err(stop.at(line + 1)),
+            Err(error) => Err(error.at(line + 1)),
         },
-        Err(stop) => Err(stop.at(line)),
+        Err(error) => Err(error.at(line)),
     }
 }

@@ -5,7 +5,7 @@ use Rattle.tftp_capture.proofs.reader.read_on.Goals as goal
 
 pub returns-in-Err-clause-answers : goal.returns-in-Err-clause-answers
 returns-in-Err-clause-answers g c = λ header text datagrams goes.
-    rw (c.at.ensures, c.count-due.ensures.value) (stop_answers header c.args.lines.now c.next_said.new.self c.args.count text datagrams _ _ goes c.in-Err.stop c.in-Err.ensures.reaches)
+    rw (c.at.ensures, c.count-due.ensures.value) (stop_answers header c.args.lines.now c.next_said.new.self c.args.count text datagrams _ _ goes c.in-Err.error c.in-Err.ensures.reaches)
 
 pub returns-in-Ok-true-clause-answers : goal.returns-in-Ok-true-clause-answers
 returns-in-Ok-true-clause-answers g c = λ header text datagrams goes.
@@ -21,11 +21,11 @@ pub returns-in-Err-finish-clause-answers : goal.returns-in-Err-finish-clause-ans
 returns-in-Err-finish-clause-answers g c = λ header text datagrams goes.
     let is = rw (c.in-Ok-false.field-0-test, c.line.ensures.value) at c.in-Ok-false.ensures in
     rw (c.at-in-Err-finish.ensures, c.count-line.ensures.value)
-    (end_answers header c.args.lines.now c.next_said.new.self c.args.count text datagrams _ _ goes c.in_default.ensures.reaches c.finish.new.self _ _ c.in-Err-finish.stop is c.in-Err-finish.ensures.ends.1 c.in-Err-finish.ensures.ends.2)
+    (end_answers header c.args.lines.now c.next_said.new.self c.args.count text datagrams _ _ goes c.in_default.ensures.reaches c.finish.new.self _ _ c.in-Err-finish.error is c.in-Err-finish.ensures.ends.1 c.in-Err-finish.ensures.ends.2)
 
 pub returns-in-Err-body_line-clause-answers : goal.returns-in-Err-body_line-clause-answers
 returns-in-Err-body_line-clause-answers g c = λ header text datagrams goes.
-    let said : BodyEnds c.version.result (Err c.in-Err-body_line.stop) c.line.result.now c.args.count = c.in-Err-body_line.ensures in
-    let ends = subst (λ v. BodyEnds v (Err c.in-Err-body_line.stop) c.next_said.new.self.line c.args.count) c.version.ensures (rw c.line.ensures.value at said) in
+    let said : BodyEnds c.version.result (Err c.in-Err-body_line.error) c.line.result.now c.args.count = c.in-Err-body_line.ensures in
+    let ends = subst (λ v. BodyEnds v (Err c.in-Err-body_line.error) c.next_said.new.self.line c.args.count) c.version.ensures (rw c.line.ensures.value at said) in
     rw (c.at-in-Err-body_line.ensures, c.count-line.ensures.value)
-    (content_answers header c.args.lines.now c.next_said.new.self c.args.count text datagrams _ _ goes c.in_default.ensures.reaches c.in-Err-body_line.stop ends)
+    (content_answers header c.args.lines.now c.next_said.new.self c.args.count text datagrams _ _ goes c.in_default.ensures.reaches c.in-Err-body_line.error ends)

@@ -15,8 +15,8 @@ pub returns-in_err-add_hex-2 : goal.returns-in_err-add_hex-2
 returns-in_err-add_hex-2 g c =
     let some : length (c.args.head.now ++ c.args.rest.now) ≢ 0 = grind (arith, nat_tests, length-append c.args.head.now c.args.rest.now) in
     let are = append_assoc (encode_lower c.args.head.now) (encode_lower c.args.rest.now) (10 ∷ []) ∙ parts_digits c.args.head.now c.args.rest.now some in
-    let stop = stops_after g.W.Write.contents c.args.writer.now c.add_hex.new.self c.add_hex-2.new.self _ _ c.in_ok-add_hex.ensures.adds c.in_err-add_hex-2.ensures.adds in
-    record { adds = adds_err g.W.Write.contents c.args.writer.now c.add_hex-2.new.self c.from_residual-in_err-add_hex-2.result _ c.from_residual-in_err-add_hex-2.ensures.0 (stops_short g.W.Write.contents c.args.writer.now c.add_hex-2.new.self _ _ _ are stop) }
+    let error = stops_after g.W.Write.contents c.args.writer.now c.add_hex.new.self c.add_hex-2.new.self _ _ c.in_ok-add_hex.ensures.adds c.in_err-add_hex-2.ensures.adds in
+    record { adds = adds_err g.W.Write.contents c.args.writer.now c.add_hex-2.new.self c.from_residual-in_err-add_hex-2.result _ c.from_residual-in_err-add_hex-2.ensures.0 (stops_short g.W.Write.contents c.args.writer.now c.add_hex-2.new.self _ _ _ are error) }
 
 pub returns : goal.returns
 returns g c =

@@ -10,7 +10,7 @@ returns-in_default-clause-err g c = refused_at_once (g.R.Read.remaining c.args.r
 pub returns-in-Err-clause-err : goal.returns-in-Err-clause-err
 returns-in-Err-clause-err g c =
     let ends = rw c.in-Ok.ensures at c.in-Err.ensures.ends in
-    fails_to_begin (g.R.Read.remaining c.args.reader.now.0) (g.R.Read.remaining c.next.new.reader.0) c.next.new.self.ahead c.at.result c.next.ensures.near (λ h. c.in-Err.ensures.drained (ap Err (at_read c.in-Err.stop _ (rw c.at.ensures at h)))) (λ h. c.in-Err.ensures.end (ap Err (at_text_end c.in-Err.stop _ (rw c.at.ensures at h)))) (rw c.at.ensures (head_stop _ _ c.next.new.self.line _ c.next.new.self.ahead c.in-Err.stop ends.1 ends.2 ends.3))
+    fails_to_begin (g.R.Read.remaining c.args.reader.now.0) (g.R.Read.remaining c.next.new.reader.0) c.next.new.self.ahead c.at.result c.next.ensures.near (λ h. c.in-Err.ensures.drained (ap Err (at_read c.in-Err.error _ (rw c.at.ensures at h)))) (λ h. c.in-Err.ensures.end (ap Err (at_text_end c.in-Err.error _ (rw c.at.ensures at h)))) (rw c.at.ensures (head_stop _ _ c.next.new.self.line _ c.next.new.self.ahead c.in-Err.error ends.1 ends.2 ends.3))
 
 pub returns-in_default-of-clause-err : goal.returns-in_default-of-clause-err
 returns-in_default-of-clause-err g c =
@@ -26,8 +26,8 @@ returns-in-Err-next_said-clause-err g c =
     let taken = rw c.in-Ok.ensures at c.in_default-next.ensures.taken in
     let count = rw c.in-Ok.ensures at c.in_default-next.ensures.count in
     let head = head_ok _ (g.R.Read.remaining c.next.new.reader.0) c.in-Some.version c.next.new.self c.go_on_in.new.self ends.0 ends.1 ends.2 is taken count c.go_on_in.ensures in
-    fails_to_begin (g.R.Read.remaining c.args.reader.now.0) (g.R.Read.remaining c.next_said.new.reader.0) c.next_said.new.self.ahead c.at-in-Err-next_said.result c.next_said.ensures.near (λ h. c.in-Err-next_said.ensures.drained (ap Err (at_read c.in-Err-next_said.stop _ (rw c.at-in-Err-next_said.ensures at h)))) (λ h. c.in-Err-next_said.ensures.end (ap Err (at_text_end c.in-Err-next_said.stop _ (rw c.at-in-Err-next_said.ensures at h))))
-    (rw (c.at-in-Err-next_said.ensures, c.count.ensures.value) (said_stop _ _ _ c.go_on_in.new.self c.next_said.new.self (EndLine c.in-Some.version) tt head c.in-Err-next_said.stop c.in-Err-next_said.ensures.reaches))
+    fails_to_begin (g.R.Read.remaining c.args.reader.now.0) (g.R.Read.remaining c.next_said.new.reader.0) c.next_said.new.self.ahead c.at-in-Err-next_said.result c.next_said.ensures.near (λ h. c.in-Err-next_said.ensures.drained (ap Err (at_read c.in-Err-next_said.error _ (rw c.at-in-Err-next_said.ensures at h)))) (λ h. c.in-Err-next_said.ensures.end (ap Err (at_text_end c.in-Err-next_said.error _ (rw c.at-in-Err-next_said.ensures at h))))
+    (rw (c.at-in-Err-next_said.ensures, c.count.ensures.value) (said_stop _ _ _ c.go_on_in.new.self c.next_said.new.self (EndLine c.in-Some.version) tt head c.in-Err-next_said.error c.in-Err-next_said.ensures.reaches))
 
 pub returns-in_default-end_of-clause-err : goal.returns-in_default-end_of-clause-err
 returns-in_default-end_of-clause-err g c =
@@ -48,22 +48,22 @@ returns-in-Err-next_said-2-clause-err g c =
     let count = rw c.in-Ok.ensures at c.in_default-next.ensures.count in
     let head = head_ok _ (g.R.Read.remaining c.next.new.reader.0) c.in-Some.version c.next.new.self c.go_on_in.new.self ends.0 ends.1 ends.2 is taken count c.go_on_in.ensures in
     let named = end_ok _ _ _ c.in-Some.version c.go_on_in.new.self c.next_said.new.self c.in-Some-end_of.named head c.in_default-next_said.ensures.reaches (sym c.line-2.ensures.value ∙ c.in-Some-end_of.ensures) in
-    fails_to_begin (g.R.Read.remaining c.args.reader.now.0) (g.R.Read.remaining c.next_said-2.new.reader.0) c.next_said-2.new.self.ahead c.at-in-Err-next_said-2.result c.next_said-2.ensures.near (λ h. c.in-Err-next_said-2.ensures.drained (ap Err (at_read c.in-Err-next_said-2.stop _ (rw c.at-in-Err-next_said-2.ensures at h)))) (λ h. c.in-Err-next_said-2.ensures.end (ap Err (at_text_end c.in-Err-next_said-2.stop _ (rw c.at-in-Err-next_said-2.ensures at h))))
-    (rw (c.at-in-Err-next_said-2.ensures, c.count-in-Err-next_said-2.ensures.value) (said_stop _ _ _ c.next_said.new.self c.next_said-2.new.self (ServiceLine c.in-Some.version c.in-Some-end_of.named) tt named c.in-Err-next_said-2.stop c.in-Err-next_said-2.ensures.reaches))
+    fails_to_begin (g.R.Read.remaining c.args.reader.now.0) (g.R.Read.remaining c.next_said-2.new.reader.0) c.next_said-2.new.self.ahead c.at-in-Err-next_said-2.result c.next_said-2.ensures.near (λ h. c.in-Err-next_said-2.ensures.drained (ap Err (at_read c.in-Err-next_said-2.error _ (rw c.at-in-Err-next_said-2.ensures at h)))) (λ h. c.in-Err-next_said-2.ensures.end (ap Err (at_text_end c.in-Err-next_said-2.error _ (rw c.at-in-Err-next_said-2.ensures at h))))
+    (rw (c.at-in-Err-next_said-2.ensures, c.count-in-Err-next_said-2.ensures.value) (said_stop _ _ _ c.next_said.new.self c.next_said-2.new.self (ServiceLine c.in-Some.version c.in-Some-end_of.named) tt named c.in-Err-next_said-2.error c.in-Err-next_said-2.ensures.reaches))
 
 pub returns-in-Err-clause-end : goal.returns-in-Err-clause-end
 returns-in-Err-clause-end g c = λ h.
-    let stop = at_text_end c.in-Err.stop _ (rw c.at.ensures at h) in
+    let error = at_text_end c.in-Err.error _ (rw c.at.ensures at h) in
     at_end_rest _ c.next.new.self.ahead (c.in-Err.ensures.end (cc))
 
 pub returns-in-Err-next_said-clause-end : goal.returns-in-Err-next_said-clause-end
 returns-in-Err-next_said-clause-end g c = λ h.
-    let stop = at_text_end c.in-Err-next_said.stop _ (rw c.at-in-Err-next_said.ensures at h) in
+    let error = at_text_end c.in-Err-next_said.error _ (rw c.at-in-Err-next_said.ensures at h) in
     at_end_rest _ c.next_said.new.self.ahead (c.in-Err-next_said.ensures.end (cc))
 
 pub returns-in-Err-next_said-2-clause-end : goal.returns-in-Err-next_said-2-clause-end
 returns-in-Err-next_said-2-clause-end g c = λ h.
-    let stop = at_text_end c.in-Err-next_said-2.stop _ (rw c.at-in-Err-next_said-2.ensures at h) in
+    let error = at_text_end c.in-Err-next_said-2.error _ (rw c.at-in-Err-next_said-2.ensures at h) in
     at_end_rest _ c.next_said-2.new.self.ahead (c.in-Err-next_said-2.ensures.end (cc))
 
 pub returns-in_default-service_of-clause-err : goal.returns-in_default-service_of-clause-err

@@ -3,9 +3,9 @@ ghost use Rattle.tftp_capture.specs.Lines.{fault_at};
 
 use crate::fault::{CaptureFault, TextFault};
 
-/// Why reading stops, without the line.
+/// Why a line cannot be read, without its number.
 #[derive(Clone, Copy, Debug, PartialEq, Eq)]
-pub enum Stop {
+pub enum LineError {
     /// The text is wrong.
     Text(TextFault),
     /// A read failed.
@@ -14,15 +14,15 @@ pub enum Stop {
     Memory,
 }
 
-impl Stop {
+impl LineError {
     /// The fault at a line, counted from 1.
     pub fn at(self, line: u64) -> CaptureFault
         ensures { result ≡ fault_at self line }
     {
         match self {
-            Stop::Text(fault) => CaptureFault::Text(line, fault),
-            Stop::Read => CaptureFault::Read(line),
-            Stop::Memory => CaptureFault::Memory(line),
+            LineError::Text(fault) => CaptureFault::Text(line, fault),
+            LineError::Read => CaptureFault::Read(line),
+            LineError::Memory => CaptureFault::Memory(line),
         }
     }
 }
