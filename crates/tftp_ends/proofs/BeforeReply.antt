@@ -2,7 +2,7 @@
 use Rattle.std.proofs.Common.{◌≡◌, ◌↔◌, ℕ, List, length, inl, inr}
 use Rattle.tftp_packet.specs.{Message, Request, Data, Ack, Error, Oack, Get, Put}
 use Rattle.tftp_hosts.specs.{Datagram}
-use Rattle.tftp_rules.specs.{HasWrongLength, BlockBreaks, AckBreaks, EndBroken, AckZeroWaits, usable, EndRule, NotStarted, BlockZero, BeyondBlock65535, BlockLength, WindowOverrun, BlockSkipped, GoneBack, BlockChanged, AckAhead, AckZero, Reply, NoReply, Plain, Terms}
+use Rattle.tftp_rules.specs.{HasWrongLength, BlockBreaks, AckBreaks, EndBroken, AckZeroWaits, usable, EndRule, NotStarted, BlockLength, AckZero, Reply, NoReply, Plain, Terms}
 use Rattle.tftp_ends.specs.{replied}
 
 same : {A : Type 0} → A ↔ A
@@ -20,28 +20,13 @@ module _ (t : Terms) (passed : List Datagram) where
 
   block_alike : (k : ℕ) (bytes : List ℕ) → t.side ≡ Get → (rule : EndRule) → BlockBreaks (replied NoReply t) passed k bytes rule ↔ BlockBreaks (replied Plain t) passed k bytes rule
   block_alike k bytes get NotStarted = rw (get) same
-  block_alike k bytes get BlockZero = same
-  block_alike k bytes get BeyondBlock65535 = same
   block_alike k bytes get BlockLength = (length_as NoReply Plain k (length bytes), length_as Plain NoReply k (length bytes))
-  block_alike k bytes get WindowOverrun = same
-  block_alike k bytes get BlockSkipped = same
-  block_alike k bytes get GoneBack = same
-  block_alike k bytes get BlockChanged = same
-  block_alike k bytes get AckAhead = same
-  block_alike k bytes get AckZero = same
+  block_alike k bytes get _ = same
 
   ack_alike : (j : ℕ) → (AckZeroWaits t.side NoReply (usable passed) ↔ AckZeroWaits t.side Plain (usable passed)) → (rule : EndRule)
       → AckBreaks (replied NoReply t) passed j rule ↔ AckBreaks (replied Plain t) passed j rule
   ack_alike j waits AckZero = ((λ b. (b.0, waits.0 b.1)), (λ b. (b.0, waits.1 b.1)))
-  ack_alike j waits AckAhead = same
-  ack_alike j waits NotStarted = same
-  ack_alike j waits BlockZero = same
-  ack_alike j waits BeyondBlock65535 = same
-  ack_alike j waits BlockLength = same
-  ack_alike j waits WindowOverrun = same
-  ack_alike j waits BlockSkipped = same
-  ack_alike j waits GoneBack = same
-  ack_alike j waits BlockChanged = same
+  ack_alike j waits _ = same
 
   pub ack_put_alike : (j : ℕ) → t.side ≡ Put → (rule : EndRule) → AckBreaks (replied NoReply t) passed j rule ↔ AckBreaks (replied Plain t) passed j rule
   ack_put_alike j put rule = ack_alike j (rw (put) same) rule

@@ -1,13 +1,14 @@
 -- The rules of blocks and acknowledgements at a receiver, by the numbers that it keeps.
-use Rattle.std.proofs.Common.{◌≡◌, ◌≢◌, ◌↔◌, ℕ, ◌+◌, ◌<◌, ◌≤◌, List, Some, None, Err, inl, inr, refl, sym, subst, ◌∙◌, arith}
+use Rattle.std.proofs.Common.{◌≡◌, ◌≢◌, ◌↔◌, ℕ, ◌+◌, ◌<◌, ◌≤◌, List, Some, None, Err, inl, inr, sym, subst, ◌∙◌, arith}
 use Rattle.std.proofs.lemmas.Bool.{cases_lt}
 use Rattle.std.specs.FinMap as map
-use Rattle.tftp_packet.specs.{Data, Ack}
+use Rattle.tftp_packet.specs.{NoneBelow, Data, Ack}
 use Rattle.tftp_hosts.specs.{In, Out, Datagram}
-use Rattle.tftp_rules.specs.{Passed, HasPassed, IsFront, IsAckedAt, IsReachedAt, IsSender, EndBroken, FirstEndBroken, AckZeroWaits, usable, EndRule, BlockChanged, AckAhead, AckZero}
+use Rattle.tftp_rules.specs.{Passed, HasPassed, IsFront, IsAckedAt, IsReachedAt, IsSender, end_number, EndBroken, FirstEndBroken, AckZeroWaits, usable, EndRule, BlockChanged, AckAhead, AckZero}
 use Rattle.tftp_blocks.specs.{IsHighest, IsHeldFront}
-use Rattle.tftp_ends.specs.{Receiver, IsReceiverAfter, IsHeld, IsSoundReceiver, IsKnown, NoneBelow, CannotHold, IsFound, NoneBroken, Rejection}
-use Rattle.tftp_ends.proofs.FirstRules.{first_is, before_24, before_25, before_26, before_27, no_block_rule, no_ack_rule}
+use Rattle.tftp_ends.specs.{Receiver, IsReceiverAfter, IsHeld, IsSoundReceiver, IsKnown, CannotHold, IsFound, NoneBroken, Rejection}
+use Rattle.tftp_rules.proofs.EndRules.{none_more}
+use Rattle.tftp_ends.proofs.FirstRules.{before_26, no_block_rule, no_ack_rule}
 use Rattle.tftp_ends.proofs.Passing.{came_usable, usable_passed, greatest_one}
 use Rattle.tftp_ends.proofs.SenderRules.{one_part}
 use Rattle.tftp_ends.proofs.SoundStates.{held_from_one}
@@ -24,9 +25,6 @@ front_one passed x y a b =
 module _ (r : Receiver) (sound : IsSoundReceiver r) where
   pub no_sender : IsSender r.terms → ⊥
   no_sender sends = one_part r.terms.named r.terms.side sends sound.receives
-
-  pub acked_held : (k : ℕ) → 1 ≤ k → k ≤ r.usable_acked → IsHeld r.held k
-  acked_held k one most = let low = sound.usable in sound.taken k one (omega arith)
 
   held_one : (k : ℕ) → IsHeld r.held k → 1 ≤ k
   held_one = held_from_one r.terms r.held sound.sound
@@ -84,24 +82,24 @@ module _ (r : Receiver) (sound : IsSoundReceiver r) where
       no_ahead most b = let same = reached_one front b.0 is b.1 in let less = b.2 in omega arith
 
       pub ahead : front < j → FirstEndBroken r.terms passed (Ack j) AckAhead
-      ahead less = first_is r.terms passed (Ack j) AckAhead 26 refl (before_26 r.terms passed j) (front, reached_is front is, less)
+      ahead less = ((front, reached_is front is, less), before_26 r.terms passed j)
 
       pub zero_waits : j ≤ front → j ≡ 0 → AckZeroWaits r.terms.side r.terms.reply (usable passed) → FirstEndBroken r.terms passed (Ack j) AckZero
-      zero_waits most none waits = first_is r.terms passed (Ack j) AckZero 27 refl (before_27 r.terms passed j (no_ahead most)) (none, waits)
+      zero_waits most none waits = ((none, waits), none_more r.terms passed (Ack j) 26 (before_26 r.terms passed j) (no_ahead most))
 
       pub ack_lawful : j ≤ front → ((j ≡ 0) × AckZeroWaits r.terms.side r.terms.reply (usable passed) → ⊥) → (rule : EndRule) → EndBroken r.terms passed (Ack j) rule → ⊥
-      ack_lawful most not_zero = no_ack_rule r.terms passed j (no_ahead most) not_zero
+      ack_lawful most = no_ack_rule r.terms passed j (no_ahead most)
 
     pub known : IsKnown r.terms passed r.held r.zero r.usable_acked
     known = record { blocks = after.blocks; zero = after.zero; acked = acked_is; only = acked_one }
 
-    module _ (k : ℕ) (bytes : List ℕ) (before : NoneBelow r.terms passed (Data k bytes) 23) where
+    module _ (k : ℕ) (bytes : List ℕ) (before : NoneBelow end_number (EndBroken r.terms passed (Data k bytes)) 23) where
       -- a receiver skips no block and does not go back
-      not_back : NoneBelow r.terms passed (Data k bytes) 25
-      not_back = before_25 r.terms passed k bytes (before_24 r.terms passed k bytes before (λ b. no_sender b.0)) (λ b. no_sender b.0)
+      not_back : NoneBelow end_number (EndBroken r.terms passed (Data k bytes)) 25
+      not_back = none_more r.terms passed (Data k bytes) 24 (none_more r.terms passed (Data k bytes) 23 before (λ b. no_sender b.0)) (λ b. no_sender b.0)
 
       pub changed : ((other : List ℕ) × (map.get r.held k ≡ Some other) × (other ≢ bytes)) → FirstEndBroken r.terms passed (Data k bytes) BlockChanged
-      changed other = first_is r.terms passed (Data k bytes) BlockChanged 25 refl not_back (other.0, (after.blocks k other.0).1 other.1, other.2)
+      changed other = ((other.0, (after.blocks k other.0).1 other.1, other.2), not_back)
 
       pub nothing_broken : ((other : List ℕ) → map.get r.held k ≡ Some other → other ≡ bytes) → NoneBroken r.terms passed (Data k bytes)
       nothing_broken same = no_block_rule r.terms passed k bytes not_back (λ b. b.2 (same b.0 ((after.blocks k b.0).0 b.1)))

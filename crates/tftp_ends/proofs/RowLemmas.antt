@@ -3,7 +3,7 @@ use Rattle.std.proofs.Common.{◌≡◌, ◌≢◌, ℕ, zero, suc, Bool, true, 
 use Rattle.std.proofs.Math.ListN.{set, get_or}
 use Rattle.std.proofs.Math.ListN as listn
 use Rattle.std.proofs.lemmas.Bool.{cases_eq, cases_Bool}
-use Rattle.std.proofs.lemmas.List.{length-map, map-append, get_or_append_left, get_or_push, get_or-set_same, get_or-set_other, get_or-map, map-set, set-get_or, take_more}
+use Rattle.std.proofs.lemmas.List.{length-map, map-append, get_or_append_left, get_or-set_same, get_or-set_other, get_or-map, map-set, set-get_or, take_more}
 use Rattle.std.proofs.lemmas.List.Folds.{list_any-append}
 use Rattle.tftp_hosts.specs.{PeerId, same_peer}
 use Rattle.tftp_ends.specs.{is_noted, Linked, AreLinked, IsLatest, mark_of, peers_of, rows_of}
@@ -204,8 +204,3 @@ pushed latest links x linked =
           (same_front (map row links) (map row (links ++ x ∷ [])) (get_or (map row links) j 0) j (get_or (map (λ (l : Linked). l.before) links) j 0)
           (λ k low. same k (omega (arith, low, below))) (linked.befores j below)));
     }
-
-pub row_pushed : (links : List Linked) (x : Linked) (count : ℕ) → get_or (rows_of count (links ++ x ∷ [])) (length links) 0 ≡ mark_of x.peer % count
-row_pushed links x count =
-    ap (λ l. get_or l (length links) 0) (map-append (λ (l : Linked). mark_of l.peer % count) links (x ∷ []))
-    ∙ get_or_push (map (λ (l : Linked). mark_of l.peer % count) links) (mark_of x.peer % count) 0 (length links) (length-map links (λ (l : Linked). mark_of l.peer % count))

@@ -2,13 +2,14 @@
 use Rattle.std.proofs.Common.{◌≡◌, ◌≢◌, ◌↔◌, ◌⊎◌, ℕ, ◌+◌, ◌<◌, ◌≤◌, List, Some, None, Err, inl, inr, refl, sym, subst, ◌∙◌, arith}
 use Rattle.std.proofs.lemmas.Bool.{cases_eq}
 use Rattle.std.specs.FinMap as map
-use Rattle.tftp_packet.specs.{Data, Ack, Side, Get, Put, End, Client, Server}
+use Rattle.tftp_packet.specs.{NoneBelow, Data, Ack, Side, Get, Put, End, Client, Server}
 use Rattle.tftp_hosts.specs.{Dir, In, Out, Datagram}
 use Rattle.tftp_model.specs.Roles.{sender_of, receiver_of}
-use Rattle.tftp_rules.specs.{author_of, Passed, HasPassed, BlockPassed, IsTop, IsAckedAt, IsReachedAt, EndBroken, FirstEndBroken, AckZeroWaits, usable, EndRule, BlockSkipped, GoneBack, BlockChanged, AckAhead, AckZero}
+use Rattle.tftp_rules.specs.{author_of, Passed, HasPassed, BlockPassed, IsTop, IsAckedAt, IsReachedAt, end_number, EndBroken, FirstEndBroken, AckZeroWaits, usable, EndRule, BlockSkipped, GoneBack, BlockChanged, AckAhead, AckZero}
 use Rattle.tftp_blocks.specs.{IsHighest}
-use Rattle.tftp_ends.specs.{Sender, IsSenderAfter, IsHeld, IsSoundSender, IsKnown, NoneBelow, CannotHold, IsFound, NoneBroken, Rejection}
-use Rattle.tftp_ends.proofs.FirstRules.{first_is, before_24, before_25, before_26, before_27, no_block_rule, no_ack_rule}
+use Rattle.tftp_ends.specs.{Sender, IsSenderAfter, IsHeld, IsSoundSender, IsKnown, CannotHold, IsFound, NoneBroken, Rejection}
+use Rattle.tftp_rules.proofs.EndRules.{none_more}
+use Rattle.tftp_ends.proofs.FirstRules.{before_26, no_block_rule, no_ack_rule}
 use Rattle.tftp_ends.proofs.SoundStates.{held_from_one}
 use Rattle.tftp_ends.proofs.Passing.{came_usable, usable_passed, greatest_kept, greatest_one}
 
@@ -94,35 +95,35 @@ module _ (s : Sender) (sound : IsSoundSender s) where
     no_ahead j most b = let same = reached_one b.0 b.1 in let less = b.2 in omega arith
 
     pub ahead : (j : ℕ) → s.usable_top < j → FirstEndBroken s.terms passed (Ack j) AckAhead
-    ahead j less = first_is s.terms passed (Ack j) AckAhead 26 refl (before_26 s.terms passed j) (s.usable_top, inl (sound.sends, after.usable_top), less)
+    ahead j less = ((s.usable_top, inl (sound.sends, after.usable_top), less), before_26 s.terms passed j)
 
     pub zero_waits : (j : ℕ) → j ≤ s.usable_top → j ≡ 0 → AckZeroWaits s.terms.side s.terms.reply (usable passed) → FirstEndBroken s.terms passed (Ack j) AckZero
-    zero_waits j most none waits = first_is s.terms passed (Ack j) AckZero 27 refl (before_27 s.terms passed j (no_ahead j most)) (none, waits)
+    zero_waits j most none waits = ((none, waits), none_more s.terms passed (Ack j) 26 (before_26 s.terms passed j) (no_ahead j most))
 
     pub ack_lawful : (j : ℕ) → j ≤ s.usable_top → ((j ≡ 0) × AckZeroWaits s.terms.side s.terms.reply (usable passed) → ⊥) → (rule : EndRule) → EndBroken s.terms passed (Ack j) rule → ⊥
-    ack_lawful j most not_zero = no_ack_rule s.terms passed j (no_ahead j most) not_zero
+    ack_lawful j most = no_ack_rule s.terms passed j (no_ahead j most)
 
     pub known : IsKnown s.terms passed s.held s.zero s.answered
     known = record { blocks = after.blocks; zero = after.zero; acked = acked_is; only = acked_one }
 
-    module _ (k : ℕ) (bytes : List ℕ) (top : ℕ) (highest : IsHighest s.held top) (before : NoneBelow s.terms passed (Data k bytes) 23) where
+    module _ (k : ℕ) (bytes : List ℕ) (top : ℕ) (highest : IsHighest s.held top) (before : NoneBelow end_number (EndBroken s.terms passed (Data k bytes)) 23) where
       pub skipped : top + 1 < k → FirstEndBroken s.terms passed (Data k bytes) BlockSkipped
-      skipped far = first_is s.terms passed (Data k bytes) BlockSkipped 23 refl before (sound.sends, (top, top_is top highest, far))
+      skipped far = ((sound.sends, (top, top_is top highest, far)), before)
 
-      before_back : k ≤ top + 1 → NoneBelow s.terms passed (Data k bytes) 24
-      before_back near = before_24 s.terms passed k bytes before (λ b. let same = top_one top b.1.0 highest b.1.1 in let far = b.1.2 in omega arith)
+      before_back : k ≤ top + 1 → NoneBelow end_number (EndBroken s.terms passed (Data k bytes)) 24
+      before_back near = none_more s.terms passed (Data k bytes) 23 before (λ b. let same = top_one top b.1.0 highest b.1.1 in let far = b.1.2 in omega arith)
 
       pub gone_back : k ≤ top + 1 → s.terms.windowsize ≡ 1 → k < top → FirstEndBroken s.terms passed (Data k bytes) GoneBack
-      gone_back near one less = first_is s.terms passed (Data k bytes) GoneBack 24 refl (before_back near) (sound.sends, one, (top, top_is top highest, less))
+      gone_back near one less = ((sound.sends, one, (top, top_is top highest, less)), before_back near)
 
-      not_back : k ≤ top + 1 → (s.terms.windowsize ≢ 1) ⊎ (top ≤ k) → NoneBelow s.terms passed (Data k bytes) 25
-      not_back near either = before_25 s.terms passed k bytes (before_back near) (λ b. elim either [
+      not_back : k ≤ top + 1 → (s.terms.windowsize ≢ 1) ⊎ (top ≤ k) → NoneBelow end_number (EndBroken s.terms passed (Data k bytes)) 25
+      not_back near either = none_more s.terms passed (Data k bytes) 24 (before_back near) (λ b. elim either [
         | inl more ↦ more b.1
         | inr most ↦ let same = top_one top b.2.0 highest b.2.1 in let less = b.2.2 in omega arith
       ])
 
       pub changed : k ≤ top + 1 → (s.terms.windowsize ≢ 1) ⊎ (top ≤ k) → ((other : List ℕ) × (map.get s.held k ≡ Some other) × (other ≢ bytes)) → FirstEndBroken s.terms passed (Data k bytes) BlockChanged
-      changed near either other = first_is s.terms passed (Data k bytes) BlockChanged 25 refl (not_back near either) (other.0, (after.blocks k other.0).1 other.1, other.2)
+      changed near either other = ((other.0, (after.blocks k other.0).1 other.1, other.2), not_back near either)
 
       pub nothing_broken : k ≤ top + 1 → (s.terms.windowsize ≢ 1) ⊎ (top ≤ k) → ((other : List ℕ) → map.get s.held k ≡ Some other → other ≡ bytes) → NoneBroken s.terms passed (Data k bytes)
       nothing_broken near either same = no_block_rule s.terms passed k bytes (not_back near either) (λ b. b.2 (same b.0 ((after.blocks k b.0).0 b.1)))

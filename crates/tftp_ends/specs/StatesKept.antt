@@ -2,9 +2,9 @@
 use Rattle.std.specs.Prelude.{◌≡◌, ◌↔◌, ◌⊎◌, ℕ, ◌+◌, ◌/◌, ◌<◌, ◌≤◌, Bool, true, cond, nat_eq, List, length, Option, Some, None, refl}
 use Rattle.std.specs.Coded.{Coded, code_by, coded×, coded_ℕ, coded_bool, coded_list, coded_option}
 use Rattle.std.specs.FinMap as map
-use Rattle.tftp_packet.specs.{Message, Ack, side_code, Side, End, Client, Server}
+use Rattle.tftp_packet.specs.{Ack, side_code, Side, End, Client, Server}
 use Rattle.tftp_hosts.specs.{Datagram}
-use Rattle.tftp_rules.specs.{HasPassed, IsSender, IsReceiver, IsAckedAt, usable, end_number, EndBroken, EndRule, Reply, NoReply, Plain, Oacked, Terms}
+use Rattle.tftp_rules.specs.{HasPassed, IsSender, IsReceiver, IsAckedAt, usable, Reply, NoReply, Plain, Oacked, Terms}
 use Rattle.tftp_blocks.specs.{Held, IsHighest, IsHeldLast}
 use Rattle.tftp_ends.specs.States.{Sender, Receiver, AreBlocks, IsHeld, HasLengthBySize}
 
@@ -93,10 +93,6 @@ pub record IsKnown (t : Terms) (passed : List Datagram) (held : Held) (has_zero 
   pub zero : (has_zero ≡ true) ↔ HasPassed (Ack 0) (usable passed)
   pub acked : IsAckedAt t (usable passed) highest
   pub only : (other : ℕ) → IsAckedAt t (usable passed) other → other ≡ highest
-
--- no rule below number n is broken
-abbrev pub NoneBelow : Terms → List Datagram → Message → ℕ → Type 0
-NoneBelow t passed m n = (other : EndRule) → end_number other < n → EndBroken t passed m other → ⊥
 
 -- ---- codes
 

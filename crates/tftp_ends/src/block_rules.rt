@@ -2,13 +2,13 @@
 
 ghost use Rattle.std.specs.Prelude.{◌≡◌, ◌↔◌, ℕ, ◌≤◌, List, length, Some, IsTrue, true, false, MatchOption, OnOk, OnErr, IfErr};
 ghost use Rattle.std.specs.FinMap as map;
-ghost use Rattle.tftp_packet.specs.{Data, Ack};
+ghost use Rattle.tftp_packet.specs.{Data, Ack, NoneBelow};
 ghost use Rattle.tftp_hosts.specs.{Datagram};
 ghost use Rattle.tftp_blocks.specs.{IsHighest, IsOrderly, Takes, Placing, Places};
-ghost use Rattle.tftp_rules.specs.{HasPassed, HasWrongLength, BlocksWait, AckZeroWaits, FirstEndBroken};
+ghost use Rattle.tftp_rules.specs.{HasPassed, HasWrongLength, BlocksWait, AckZeroWaits, EndBroken, FirstEndBroken, end_number};
 ghost use Rattle.tftp_ends.specs.Rejections.{CannotHold};
 ghost use Rattle.tftp_ends.specs.States.{AreBlocks, HasLengthBySize, IsHeld};
-ghost use Rattle.tftp_ends.specs.StatesKept.{IsSound, IsShortTop, AreWhole, IsEnd, HasNoEnd, EndsElsewhere, EndsThere, HasRightLength, IsKnown, NoneBelow};
+ghost use Rattle.tftp_ends.specs.StatesKept.{IsSound, IsShortTop, AreWhole, IsEnd, HasNoEnd, EndsElsewhere, EndsThere, HasRightLength, IsKnown};
 
 use crate::rejection::Rejection;
 use std::alloc::Global;
@@ -157,7 +157,7 @@ pub(crate) fn may_open<D: Delivered>(
     requires orderly { IsOrderly terms.now.blksize (D.held store.now) }
     requires taken { (k : ℕ) → 1 ≤ k → k ≤ acked → IsHeld (D.held store.now) k }
     ensures lawful { (passed : List Datagram) (bytes : List ℕ) → IsKnown terms.now passed (D.held store.now) zero acked → length bytes ≡ len
-        → OnOk result (NoneBelow terms.now passed (Data number bytes) 23) }
+        → OnOk result (NoneBelow end_number (EndBroken terms.now passed (Data number bytes)) 23) }
     ensures first { (passed : List Datagram) (bytes : List ℕ) → IsKnown terms.now passed (D.held store.now) zero acked → length bytes ≡ len
         → IfErr result (FirstEndBroken terms.now passed (Data number bytes)) }
     ensures takes { OnOk result (Takes terms.now.blksize terms.now.windowsize (D.held store.now) number len) }

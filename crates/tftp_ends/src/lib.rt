@@ -18,3 +18,4 @@ pub use receiver_state::ReceiverState;
 pub use rejection::Rejection;
 pub use route::Route;
 pub use sender_state::SenderState;
+pub use strays::says_unknown_id;

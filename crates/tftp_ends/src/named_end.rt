@@ -18,9 +18,9 @@ use tftp_hosts::Dir;
 use tftp_packet::{End, Packet, Side};
 use tftp_rules::Terms;
 
-/// Which part the named end has.
+/// Which role the named end has.
 #[derive(Drop)]
-enum Part<D: Delivered> {
+enum Role<D: Delivered> {
     Sends(SenderState<D>),
     Receives(ReceiverState<D>),
 }
@@ -28,18 +28,18 @@ enum Part<D: Delivered> {
 /// The end where a capture is taken, from when the request is answered: the sender or the receiver.
 #[derive(Drop)]
 pub struct NamedEnd<D: Delivered> {
-    part: Part<D>,
+    role: Role<D>,
 }
 
 impl<D: Delivered> Model for NamedEnd<D> {
     ghost use Rattle.tftp_ends.specs.NamedEnds.{NamedEnd};
-    ghost use Rattle.tftp_ends.specs.Parts.{end_of, named_end_code};
+    ghost use Rattle.tftp_ends.specs.Roles.{end_of, named_end_code};
 
     ghost Value = { NamedEnd };
 
     ghost coded = { named_end_code };
 
-    ghost view = { λ e. end_of e.part };
+    ghost view = { λ e. end_of e.role };
 }
 
 impl<D: Delivered> NamedEnd<D> {
@@ -54,12 +54,12 @@ impl<D: Delivered> NamedEnd<D> {
         ensures terms { terms_of result ≡ terms }
         ensures before { (passed : List Datagram) → IsBeforeBlocks passed → has_stopped passed ≡ stopped → IsEndAfter result passed }
     {
-        let part = if terms.named == sender_of(terms.side) {
-            Part::Sends(SenderState::new(terms, store, stopped))
+        let role = if terms.named == sender_of(terms.side) {
+            Role::Sends(SenderState::new(terms, store, stopped))
         } else {
-            Part::Receives(ReceiverState::new(terms, store, stopped))
+            Role::Receives(ReceiverState::new(terms, store, stopped))
         };
-        NamedEnd { part }
+        NamedEnd { role }
     }
 
     /// Keeps a packet that passes this way, or tells the first rule that it breaks: a block or an ACK, since other packets
@@ -74,9 +74,9 @@ impl<D: Delivered> NamedEnd<D> {
         ensures err { OnErr result (self.new ≡ self.old) }
         ensures terms { terms_of self.new ≡ terms_of self.old }
     {
-        match &mut self.part {
-            Part::Sends(sender) => sender.pass(alloc, dir, packet),
-            Part::Receives(receiver) => receiver.pass(alloc, dir, packet),
+        match &mut self.role {
+            Role::Sends(sender) => sender.pass(alloc, dir, packet),
+            Role::Receives(receiver) => receiver.pass(alloc, dir, packet),
         }
     }
 
@@ -85,9 +85,9 @@ impl<D: Delivered> NamedEnd<D> {
         ensures done { (passed : List Datagram) → IsEndAfter self.now passed → (IsTrue result ↔ IsEndDone self.now passed) }
         ensures whole { (passed : List Datagram) → IsEndAfter self.now passed → result ≡ true → HoldsWire self.now passed }
     {
-        match &self.part {
-            Part::Sends(sender) => sender.done(),
-            Part::Receives(receiver) => receiver.done(),
+        match &self.role {
+            Role::Sends(sender) => sender.done(),
+            Role::Receives(receiver) => receiver.done(),
         }
     }
 
@@ -96,9 +96,9 @@ impl<D: Delivered> NamedEnd<D> {
     pub fn has_sent(&self, number: u16, bytes: &[u8]) -> bool
         ensures { IsTrue result ↔ HoldsBlock self.now number bytes.now }
     {
-        match &self.part {
-            Part::Sends(sender) => sender.has_sent(number, bytes),
-            Part::Receives(_) => false,
+        match &self.role {
+            Role::Sends(sender) => sender.has_sent(number, bytes),
+            Role::Receives(_) => false,
         }
     }
 
@@ -106,10 +106,10 @@ impl<D: Delivered> NamedEnd<D> {
     pub fn into_store(self) -> D
         ensures { D.held result ≡ held_of self }
     {
-        let NamedEnd { part } = self;
-        match part {
-            Part::Sends(sender) => sender.into_store(),
-            Part::Receives(receiver) => receiver.into_store(),
+        let NamedEnd { role } = self;
+        match role {
+            Role::Sends(sender) => sender.into_store(),
+            Role::Receives(receiver) => receiver.into_store(),
         }
     }
 }

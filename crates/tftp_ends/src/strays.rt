@@ -1,4 +1,5 @@
-ghost use Rattle.std.specs.Prelude.{◌≡◌, ◌||◌, [], false, OnOk, OnErr};
+ghost use Rattle.std.specs.Prelude.{◌≡◌, ◌↔◌, ◌||◌, ℕ, List, [], false, IsTrue, OnOk, OnErr};
+ghost use Rattle.tftp_packet.specs.{Message, Spells};
 ghost use Rattle.tftp_hosts.specs.{PeerId, same_peer};
 ghost use Rattle.tftp_ends.specs.Known.{is_noted};
 
@@ -7,6 +8,7 @@ use std::alloc::{AllocError, Global};
 use std::collections::BTreeSet;
 use std::marker::Model;
 use tftp_hosts::Peer;
+use tftp_packet::{Packet, read_packet};
 
 /// The peers that strays came from, each in a row that its hash leads to, or in a tree where that row is full.
 #[derive(Drop)]
@@ -69,5 +71,15 @@ impl Strays {
         }
         add(self.alloc, &mut self.latest, &mut self.links, peer, mark)?;
         Ok(())
+    }
+}
+
+/// Whether a payload is ERROR 5, "Unknown transfer ID", by which a stray may be answered (RFC 1350, sections 4 and 5).
+pub fn says_unknown_id(payload: &[u8]) -> bool
+    ensures { IsTrue result ↔ ((text : List ℕ) × Spells payload.now (Message.Error 5 text)) }
+{
+    match read_packet(payload) {
+        Ok(packet) => matches!(packet, Packet::Error { code: 5, .. }),
+        Err(_) => false,
     }
 }

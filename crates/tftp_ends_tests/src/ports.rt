@@ -1,7 +1,7 @@
 //! Where datagrams belong, by their ports and the other host, at both ends (RFC 1350, section 4).
 
 use std::test::Fail;
-use tftp_ends::{PortFault, Ports, Route};
+use tftp_ends::{PortFault, Ports, Route, says_unknown_id};
 use tftp_hosts::{Dir, Host};
 use tftp_packet::End;
 use tftp_rules::PortRule;
@@ -201,6 +201,22 @@ const ROWS: &[(End, u16, &[Row])] = &[
 fn datagrams_belong_where_their_ports_say(rt: HostRuntime) -> Result<(), Fail> {
     for (end, service, rows) in ROWS {
         answers(&rt, *end, *service, rows)?;
+    }
+    all_say_so()
+}
+
+/// Fails unless ERROR 5 alone says "Unknown transfer ID".
+fn all_say_so() -> Result<(), Fail> {
+    let rows: &[(&[u8], bool)] = &[
+        (b"\0\x05\0\x05\0", true),
+        (b"\0\x05\0\x04\0", false),
+        (b"\0\x05\0\x05", false),
+        (b"\0\x04\0\x05", false),
+    ];
+    for (payload, wanted) in rows {
+        if says_unknown_id(payload) != *wanted {
+            return Err(Fail::new("an ERROR says something else"));
+        }
     }
     Ok(())
 }

@@ -8,7 +8,8 @@ use Rattle.tftp_rules.specs.{Route, asks, first_of, or_this, begins_request, is_
 use Rattle.tftp_ends.specs.declared.route.Route.TheVariants as may
 use Rattle.tftp_ends.proofs.KeptSteps.{passing_is}
 use Rattle.tftp_law.specs.{OneEnded, Passes, number_of, Broken, FirstAsked, FirstBroken, Rule, MessageBreaks}
-use Rattle.tftp_law.proofs.FirstBroken.OneMessage.{agreement_from, end_from}
+use Rattle.tftp_rules.proofs.EndRules.{from_18}
+use Rattle.tftp_law.proofs.FirstBroken.OneMessage.{agreement_from}
 use Rattle.tftp_law.proofs.FirstBroken.FirstRequests.{before_is, asks_is, first_stays}
 use Rattle.tftp_law.proofs.FirstBroken.OneMessage.{first_by, lawful_by}
 use Rattle.tftp_judge.specs.{Finds, FindsOf, error_by_port, PassError, JudgeState, Transfer, HasKept, IsKept, IsTransferAfter}
@@ -37,7 +38,7 @@ low_rule : (r : Rule) → number_of r < 3 → (r ≡ Rule.Port PortRule.Foreign)
 low_rule (Rule.Port PortRule.Foreign) low = inl refl
 low_rule (Rule.Port PortRule.Wrong) low = inr refl
 low_rule (Rule.Agreement broken) low = absurd (omega (arith, low, agreement_from broken))
-low_rule (Rule.Block e) low = absurd (omega (arith, low, end_from e))
+low_rule (Rule.Block e) low = absurd (omega (arith, low, from_18 e))
 low_rule _ low = absurd (omega arith)
 
 module _ (h : Header) (earlier : List Datagram) (d : Datagram) where

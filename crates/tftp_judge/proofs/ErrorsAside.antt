@@ -5,9 +5,9 @@ use Rattle.tftp_hosts.specs.{Dir, In, Out, Datagram}
 use Rattle.tftp_rules.specs.{Passed}
 use Rattle.tftp_ends.specs.{has_stopped}
 use Rattle.tftp_ends.proofs.Passing.{another, stopped_out, stopped_with}
-use Rattle.tftp_law.specs.{IsErrorBy, AbortedBy}
+use Rattle.tftp_law.specs.{IsErrorBy, AbortedBy, IsFirstError}
 use Rattle.tftp_law.proofs.Spelled.{spelled_once}
-use Rattle.tftp_judge.specs.{ErrorText, Errors, IsErrorOf, IsFirstError, AreErrors}
+use Rattle.tftp_judge.specs.{ErrorText, Errors, IsErrorOf, AreErrors}
 
 module _ (d : Datagram) (passed : List Datagram) (m : Message) (spells : Spells d.payload m) (other : (code : ℕ) (text : List ℕ) → m ≡ Message.Error code text → ⊥) where
   back : (dir : Dir) (code : ℕ) (text : List ℕ) → Passed dir (Message.Error code text) (d ∷ passed) → Passed dir (Message.Error code text) passed
@@ -20,7 +20,7 @@ module _ (d : Datagram) (passed : List Datagram) (m : Message) (spells : Spells 
   no_error : (by : AbortedBy) (code : ℕ) → IsErrorBy d by code → ⊥
   no_error by code e = other code e.1 (spelled_once d.payload m (Message.Error code e.1) spells e.2)
 
-  first_aside : (o : Option (AbortedBy × ℕ)) → IsFirstError passed o → IsFirstError (d ∷ passed) o
+  first_aside : (o : Option (AbortedBy × ℕ)) → IsFirstError IsErrorBy passed o → IsFirstError IsErrorBy (d ∷ passed) o
   first_aside None none = (no_error, none)
   first_aside (Some error) first = inl first
 

@@ -6,10 +6,10 @@ use Rattle.tftp_hosts.specs.{Dir, In, Out, Datagram}
 use Rattle.tftp_rules.specs.{Passed}
 use Rattle.tftp_ends.specs.{Says}
 use Rattle.tftp_ends.proofs.Passing.{another_way, in_not_out, out_not_in, stopped_out, stopped_with}
-use Rattle.tftp_law.specs.{by_of, GoesOn, AbortedBy, Local, Peer}
+use Rattle.tftp_law.specs.{by_of, GoesOn, AbortedBy, Local, Peer, IsErrorBy, IsFirstError}
 use Rattle.tftp_law.proofs.Soundness.SameOrNot.{same_text}
 use Rattle.tftp_law.proofs.Spelled.{spelled_once}
-use Rattle.tftp_judge.specs.{ErrorText, Errors, IsErrorOf, IsFirstError, AreErrors}
+use Rattle.tftp_judge.specs.{ErrorText, Errors, IsErrorOf, AreErrors}
 
 -- where nothing is kept this is, and else what was kept
 abbrev pub KeepsFirst : {X : Type 0} → Option X → Option X → X → Type 0
@@ -60,9 +60,9 @@ module _ (passed : List Datagram) (d : Datagram) (dir : Dir) (code : ℕ) (text 
   error_other way other (Some error) new is same =
       subst (IsErrorOf way (d ∷ passed)) (sym same) (inr is.0, λ c t p. is.1 c t (another_way d dir way (Message.Error code text) (Message.Error c t) passed says other p))
 
-  first_noted : (old new : Option (AbortedBy × ℕ)) → IsFirstError passed old → KeepsFirst old new (by_of dir, code) → IsFirstError (d ∷ passed) new
-  first_noted None new none keeps = subst (IsFirstError (d ∷ passed)) (sym (keeps.0 refl)) (inr (none, (ap by_of says.0, text, says.1)))
-  first_noted (Some error) new first keeps = subst (IsFirstError (d ∷ passed)) (sym (keeps.1 error refl)) (inl first)
+  first_noted : (old new : Option (AbortedBy × ℕ)) → IsFirstError IsErrorBy passed old → KeepsFirst old new (by_of dir, code) → IsFirstError IsErrorBy (d ∷ passed) new
+  first_noted None new none keeps = subst (IsFirstError IsErrorBy (d ∷ passed)) (sym (keeps.0 refl)) (inr (none, (ap by_of says.0, text, says.1)))
+  first_noted (Some error) new first keeps = subst (IsFirstError IsErrorBy (d ∷ passed)) (sym (keeps.1 error refl)) (inl first)
 
 some_kept : {X : Type 0} (old new : Option X) (x : X) → KeepsFirst old new x → true ≡ is_some new
 some_kept None new x keeps = sym (ap is_some (keeps.0 refl))

@@ -123,13 +123,13 @@ module _ (h : Header) (asked : RequestParts) (passed : List Datagram) (m : Messa
   no_end none rule (e, is, u, at, b) = none e (same_terms e u at b)
 
   pub first_end : (e : EndRule) → FirstEndBroken t passed m e → IsFirstOf (TermsBreak h asked passed m) (Rule.Block e)
-  first_end e first = ((e, refl, t, known, first.broken), below)
+  first_end e first = ((e, refl, t, known, first.0), below)
     where
       below : (other : Rule) → number_of other < number_of (Rule.Block e) → TermsBreak h asked passed m other → ⊥
       below other low (f, is, u, at, b) =
           let here = number_is e in
           let there = ap number_of is ∙ number_is f in
-          first.first f (omega arith) (same_terms f u at b)
+          first.1 f (omega arith) (same_terms f u at b)
 
 -- ---- any message
 

@@ -1,5 +1,5 @@
 -- A capture has one verdict, by the runs of two ends.
-use Rattle.std.proofs.Common.{◌≡◌, ◌⊎◌, ℕ, ◌+◌, ◌-◌, List, [], ◌∷◌, ◌++◌, length, get_or, Result, Ok, Err, inl, inr, refl, sym, subst, ap, ◌∙◌, append_assoc, reverse}
+use Rattle.std.proofs.Common.{◌≡◌, ◌⊎◌, ℕ, ◌+◌, ◌-◌, List, [], ◌∷◌, ◌++◌, length, get_or, Result, Ok, Err, inl, inr, refl, sym, subst, ap, ◌∙◌, append_assoc, map, reverse}
 use Rattle.tftp_packet.specs.{PacketFault, Short}
 use Rattle.tftp_packet.proofs.FaultOrder.{first_fault_unique}
 use Rattle.tftp_hosts.specs.{Datagram, Header}
@@ -7,7 +7,7 @@ use Rattle.tftp_law.specs.{number_of, Broken, FirstBroken, AbortedBy, Rule, IsLa
 use Rattle.tftp_model.specs.{Meaning}
 use Rattle.tftp_judge.specs.{IsSaid, IsUnlawfulAt, IsVerdict, Refusal, Unlawful, Aborted, Incomplete, NormalTooLong}
 use Rattle.tftp_judge.specs.declared.refusal.Refusal.TheVariants.{Memory}
-use Rattle.tftp_rules.specs.{transfer_of, EndRule, PortRule}
+use Rattle.tftp_rules.specs.{end_rules, transfer_of, EndRule, PortRule}
 use Rattle.tftp_nego.specs.{AgreementRule}
 use Rattle.tftp_law.proofs.FirstBroken.FirstError.{one_first, none_first}
 use Rattle.tftp_law.proofs.Whole.Beginnings.{beginning_is_lawful}
@@ -36,17 +36,7 @@ in_order =
     ∷ Rule.Agreement AgreementRule.OptionValue
     ∷ Rule.OackChanged
     ∷ Rule.OackAfterStart
-    ∷ Rule.Block EndRule.NotStarted
-    ∷ Rule.Block EndRule.BlockZero
-    ∷ Rule.Block EndRule.BeyondBlock65535
-    ∷ Rule.Block EndRule.BlockLength
-    ∷ Rule.Block EndRule.WindowOverrun
-    ∷ Rule.Block EndRule.BlockSkipped
-    ∷ Rule.Block EndRule.GoneBack
-    ∷ Rule.Block EndRule.BlockChanged
-    ∷ Rule.Block EndRule.AckAhead
-    ∷ Rule.Block EndRule.AckZero
-    ∷ []
+    ∷ map Rule.Block end_rules
 
 abbrev rule_at : ℕ → Rule
 rule_at n = get_or in_order (n - 1) (Rule.Port PortRule.Foreign)

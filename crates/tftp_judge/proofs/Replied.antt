@@ -1,11 +1,12 @@
 -- The block or the ACK that answers a request without an OACK, and what comes once a request is answered.
-use Rattle.std.proofs.Common.{◌≡◌, ◌↔◌, ℕ, ◌≤◌, List, ◌∷◌, Err, inl, inr, refl, sym, subst, ap, ◌∙◌, arith}
+use Rattle.std.proofs.Common.{◌≡◌, ◌↔◌, ℕ, List, ◌∷◌, Err, inl, inr, refl, sym, subst, ap, ◌∙◌, arith}
 use Rattle.std.proofs.lemmas.Bool.{cases_lt}
 use Rattle.tftp_packet.specs.{Message, RequestParts, Side, Get, Put, End, Client, Server}
 use Rattle.tftp_hosts.specs.{Dir, In, Out, Datagram, Header}
 use Rattle.tftp_ends.specs.{NamedEnd, terms_of, IsEndAfter, IsOfItsAuthor, IsBeforeBlocks, IsBlockOrAck, Says, IsFound, NoneBroken, Rejection}
 use Rattle.tftp_model.specs.Roles.{sender_of, receiver_of}
-use Rattle.tftp_rules.specs.{author_of, BlocksWait, AckZeroWaits, AckBreaks, BlockPassed, EndBroken, FirstEndBroken, IsFront, IsReachedAt, IsTop, end_number, usable, EndRule, NoReply, Plain, Terms}
+use Rattle.tftp_rules.specs.{author_of, BlocksWait, AckZeroWaits, AckBreaks, BlockPassed, EndBroken, FirstEndBroken, IsFront, IsReachedAt, IsTop, usable, EndRule, NoReply, Plain, Terms}
+use Rattle.tftp_rules.proofs.EndRules.{from_18}
 use Rattle.tftp_ends.proofs.BeforeReply.{read_alike, ack_put_alike}
 use Rattle.tftp_ends.proofs.Passing.{none_greatest, usable_passed}
 use Rattle.tftp_law.specs.{AreTermsAfter, TermsBreak, Answer, Agrees, Begins, IsAnswer, IsWrongKind, NotAnswered, plain_terms, terms_after, Rule}
@@ -36,10 +37,6 @@ module _ (passed : List Datagram) (before : IsBeforeBlocks passed) where
 
 -- ---- the message that answers
 
-lowest : (e : EndRule) → 18 ≤ end_number e
-lowest EndRule.NotStarted = omega arith
-lowest _ = omega arith
-
 module _ (h : Header) (asked : RequestParts) (passed : List Datagram) (none : NotAnswered asked.side passed) (before : IsBeforeBlocks passed) where
   known : AreTermsAfter h asked passed (plain_terms h asked.side NoReply)
   known = inl (none, refl)
@@ -47,10 +44,10 @@ module _ (h : Header) (asked : RequestParts) (passed : List Datagram) (none : No
   -- a block of a write
   pub not_started : (m : Message) (side : Side) → asked.side ≡ side → WaitsForReply side m → IsFirstOf (TermsBreak h asked passed m) (Rule.Block EndRule.NotStarted)
   not_started (Message.Data k bytes) Put put waits =
-      first_end h asked passed (Message.Data k bytes) (plain_terms h asked.side NoReply) known EndRule.NotStarted (record {
-        broken = subst (λ (x : Side). BlocksWait x NoReply (usable passed)) (sym put) tt;
-        first = λ other low b. let high = lowest other in omega arith;
-      })
+      first_end h asked passed (Message.Data k bytes) (plain_terms h asked.side NoReply) known EndRule.NotStarted (
+        subst (λ (x : Side). BlocksWait x NoReply (usable passed)) (sym put) tt,
+        λ other low b. let high = from_18 other in omega arith,
+      )
   not_started _ Get e waits = absurd waits
   not_started _ Put e waits = absurd waits
 
@@ -69,10 +66,7 @@ module _ (h : Header) (asked : RequestParts) (passed : List Datagram) (none : No
   first_broken m is other t same e first =
       let now = subst (λ (u : Terms). FirstEndBroken u passed m e) same first in
       let both : IsAlike m = alike m asked.side refl is other in
-      first_end h asked passed m (plain_terms h asked.side NoReply) known e (record {
-        broken = (both e).1 now.broken;
-        first = λ low less b. now.first low less ((both low).0 b);
-      })
+      first_end h asked passed m (plain_terms h asked.side NoReply) known e ((both e).1 now.0, λ low less b. now.1 low less ((both low).0 b))
 
   module _ (m : Message) (is : IsBlockOrAck m) (other : WaitsForReply asked.side m → ⊥) (t : Terms) (same : t ≡ plain_terms h asked.side Plain) (lawful : NoneBroken t passed m) where
     lawful_before : (e : EndRule) → EndBroken (plain_terms h asked.side NoReply) passed m e → ⊥

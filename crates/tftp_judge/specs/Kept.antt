@@ -5,7 +5,7 @@ use Rattle.tftp_packet.specs.{OptionMap, Message, RequestParts, Spells, End}
 use Rattle.tftp_hosts.specs.{Dir, In, Out, Datagram, Header}
 use Rattle.tftp_ends.specs.{KnownIds, StandsFor, NamedEnd, terms_of, IsEndAfter, has_stopped, IsBeforeBlocks}
 use Rattle.tftp_rules.specs.{transfer_of, Passed}
-use Rattle.tftp_law.specs.{FirstError, NoErrorPassed, AckSent, BlockSent, OneEnded, Answer, Agrees, Begins, FirstAnswer, FirstAsked, NotAnswered, terms_after, AbortedBy}
+use Rattle.tftp_law.specs.{IsErrorBy, IsFirstError, AckSent, BlockSent, OneEnded, Answer, Agrees, Begins, FirstAnswer, FirstAsked, NotAnswered, terms_after, AbortedBy}
 use Rattle.tftp_judge.specs.declared.refusal.Refusal.{Refusal}
 
 -- ---- ERRORs
@@ -26,14 +26,10 @@ IsErrorOf dir passed (Some error) =
     Passed dir (Message.Error error.0 error.1) passed
     × ((code : ℕ) (text : List ℕ) → Passed dir (Message.Error code text) passed → (code ≡ error.0) × (text ≡ error.1))
 
-abbrev pub IsFirstError : List Datagram → Option (AbortedBy × ℕ) → Type 0
-IsFirstError passed None = NoErrorPassed passed
-IsFirstError passed (Some error) = FirstError passed error.0 error.1
-
 pub record AreErrors (errors : Errors) (passed : List Datagram) : Type 0 where
   pub sent : IsErrorOf Out passed errors.sent
   pub heard : IsErrorOf In passed errors.heard
-  pub first : IsFirstError passed errors.first
+  pub first : IsFirstError IsErrorBy passed errors.first
   pub stopped : has_stopped passed ≡ is_some errors.heard
 
 -- ---- the transfer

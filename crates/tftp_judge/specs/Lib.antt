@@ -12,7 +12,7 @@ pub mod Contents
 pub use Verdicts.{IsSaid, IsUnlawfulAt, IsVerdict, IsVerdictBy, IsVerdictByRules}
 pub use TextVerdict.{AllLawful, BeginsBy, EndsText, IsCaptureBy, IsFaultOf, IsLineOf, IsOfText, IsReadVerdict, IsTextVerdict, LawfulBefore, NoFaultBefore, SaysReadFailed, WantsMemory, WantsToJudge, WantsToRead, unnumbered}
 pub use Ending.{IsUnfinished}
-pub use Kept.{Agreed, AreBytesOf, AreErrors, Begun, ErrorText, Errors, HasBegun, HasKept, IsExchange, IsErrorOf, IsFirstError, IsJudgeAfter, IsKept, IsTransferAfter, IsTransferOf, Judge, JudgeState, Transfer, Unanswered}
+pub use Kept.{Agreed, AreBytesOf, AreErrors, Begun, ErrorText, Errors, HasBegun, HasKept, IsExchange, IsErrorOf, IsJudgeAfter, IsKept, IsTransferAfter, IsTransferOf, Judge, JudgeState, Transfer, Unanswered}
 pub use SentByKept.{AreFlags, HasAgreed, HasBlock, HasSentBy, HasSentIn, IsAgreedBy, flags_of}
 pub use Memory.{IsNew, TakesForJoin, TakesMemory}
 pub use KeptCode.{exchange_of}

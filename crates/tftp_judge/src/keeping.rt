@@ -3,7 +3,7 @@ ghost use Rattle.tftp_packet.specs.{Message, Spells, meaning, parts};
 ghost use Rattle.tftp_capture.specs.{datagram_of, header_of};
 ghost use Rattle.tftp_hosts.specs.{Datagram as DatagramParts, Header as HeaderParts};
 ghost use Rattle.tftp_ends.specs.{among_all};
-ghost use Rattle.tftp_rules.specs.{route_of, is_of_transfer, SaysUnknownId};
+ghost use Rattle.tftp_rules.specs.{route_of, is_of_transfer};
 ghost use Rattle.tftp_law.specs.{OneEnded};
 ghost use Rattle.tftp_judge.specs.Found.{FindsOf, error_by_port};
 ghost use Rattle.tftp_judge.specs.Kept.{HasKept, IsKept, IsTransferAfter, Transfer as TransferParts};
@@ -18,7 +18,7 @@ use std::alloc::Global;
 use std::marker::Model;
 use tftp_blocks::Delivered;
 use tftp_capture::{Datagram, Header};
-use tftp_ends::{PortFault, Ports, Route};
+use tftp_ends::{PortFault, Ports, Route, says_unknown_id};
 use tftp_hosts::Dir;
 use tftp_law::Rule;
 use tftp_packet::{Bytes, Packet, RequestView, opcode, own_request, read_packet};
@@ -242,15 +242,5 @@ fn error_of_port(fault: PortFault) -> PassError
     match fault {
         PortFault::Broken(rule) => PassError::Broken(Rule::Port(rule)),
         PortFault::Memory => PassError::Memory,
-    }
-}
-
-/// Whether a payload is ERROR 5, "Unknown transfer ID" (RFC 1350, section 5).
-fn says_unknown_id(payload: &[u8]) -> bool
-    ensures { (d : DatagramParts) → d.payload ≡ payload.now → (IsTrue result ↔ SaysUnknownId d) }
-{
-    match read_packet(payload) {
-        Ok(packet) => matches!(packet, Packet::Error { code: 5, .. }),
-        Err(_) => false,
     }
 }

@@ -23,6 +23,7 @@ pub use file::FileBytes;
 pub use judging::Judge;
 pub use kinds::is_wrong_kind;
 pub use meaning::{Meaning, MeaningParts};
+pub use pass_error::PassError;
 pub use refusal::Refusal;
 pub use sent_acks::SentAcks;
 pub use text::judge_text;

@@ -1,5 +1,5 @@
 -- Which ERROR ended a transfer (RFC 1350, section 7).
-use Rattle.std.specs.Prelude.{◌≡◌, ◌⊎◌, ℕ, List, [], ◌∷◌}
+use Rattle.std.specs.Prelude.{◌≡◌, ◌⊎◌, ℕ, List, [], ◌∷◌, Option, Some, None}
 use Rattle.tftp_packet.specs.{Message, Spells}
 use Rattle.tftp_hosts.specs.{Dir, In, Out, Datagram, Header}
 use Rattle.tftp_rules.specs.{transfer_of}
@@ -15,15 +15,26 @@ by_of In = Peer
 abbrev pub IsErrorBy : Datagram → AbortedBy → ℕ → Type 0
 IsErrorBy d by code = (by_of d.dir ≡ by) × (text : List ℕ) × Spells d.payload (Message.Error code text)
 
--- no datagram is an ERROR
-abbrev pub NoErrorPassed : List Datagram → Type 0
-NoErrorPassed [] = Unit {0}
-NoErrorPassed (d ∷ passed) = ((by : AbortedBy) (code : ℕ) → IsErrorBy d by code → ⊥) × NoErrorPassed passed
+-- no datagram is an ERROR, where this tells of which end it is and its code
+abbrev pub NoErrorBy : {D E : Type 0} → (D → E → ℕ → Type 0) → List D → Type 0
+NoErrorBy IsError [] = Unit {0}
+NoErrorBy IsError (d ∷ passed) = ((by : _) (code : ℕ) → IsError d by code → ⊥) × NoErrorBy IsError passed
 
 -- the oldest datagram that is an ERROR is one of this end with this code
+abbrev pub FirstErrorBy : {D E : Type 0} → (D → E → ℕ → Type 0) → List D → E → ℕ → Type 0
+FirstErrorBy IsError [] by code = ⊥
+FirstErrorBy IsError (d ∷ passed) by code = FirstErrorBy IsError passed by code ⊎ (NoErrorBy IsError passed × IsError d by code)
+
+-- the end and the code of the first ERROR, or that there is none
+abbrev pub IsFirstError : {D E : Type 0} → (D → E → ℕ → Type 0) → List D → Option (E × ℕ) → Type 0
+IsFirstError IsError passed None = NoErrorBy IsError passed
+IsFirstError IsError passed (Some first) = FirstErrorBy IsError passed first.0 first.1
+
+abbrev pub NoErrorPassed : List Datagram → Type 0
+NoErrorPassed passed = NoErrorBy IsErrorBy passed
+
 abbrev pub FirstError : List Datagram → AbortedBy → ℕ → Type 0
-FirstError [] by code = ⊥
-FirstError (d ∷ passed) by code = FirstError passed by code ⊎ (NoErrorPassed passed × IsErrorBy d by code)
+FirstError passed by code = FirstErrorBy IsErrorBy passed by code
 
 -- The transfer was ended so: the first ERROR among its datagrams, in or out, whatever else went or came after it.
 abbrev pub IsAborted : Header → List Datagram → AbortedBy → ℕ → Type 0

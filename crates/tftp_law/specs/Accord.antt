@@ -5,7 +5,7 @@ use Rattle.tftp_hosts.specs.{Datagram, Header}
 use Rattle.tftp_model.specs.{Meaning, request_of, blksize_of, block, block_count, MachinePacket, Req, Oack, Data, Ack, Error, Deed, Sent, Took, History}
 use Rattle.tftp_rules.specs.{Route, route_of, transfer_of, SaysUnknownId, HasPassed}
 use Rattle.tftp_law.specs.Fitting.{Fits}
-use Rattle.tftp_law.specs.Dress.{Part, Main, Stray, StrayAnswer, Division, datagrams_of, dir_of, packet_of, Saying, says_of}
+use Rattle.tftp_law.specs.Dress.{Label, Main, Stray, StrayAnswer, Division, datagrams_of, dir_of, packet_of, Saying, says_of}
 use Rattle.tftp_law.specs.Replies.{FirstAsked, Agrees, Begins, FirstAnswer}
 
 -- the meaning and the wire are those of the first request, of the first answer and of all blocks, as far as they passed
@@ -25,26 +25,26 @@ packet_route (Data k) = Route.Peer
 packet_route (Ack j) = Route.Peer
 packet_route (Error code text) = Route.Peer
 
--- the route that a part has
-abbrev pub part_route : Part → Route
-part_route (Main deed) = packet_route (packet_of deed)
-part_route Stray = Route.Stray
-part_route StrayAnswer = Route.StrayAnswer
+-- the route that a label has
+abbrev pub label_route : Label → Route
+label_route (Main deed) = packet_route (packet_of deed)
+label_route Stray = Route.Stray
+label_route StrayAnswer = Route.StrayAnswer
 
--- what a datagram says as this part
-abbrev pub SaysAsBy : Saying → Datagram → Part → Type 0
+-- what a datagram says as this label
+abbrev pub SaysAsBy : Saying → Datagram → Label → Type 0
 SaysAsBy says d (Main deed) = (d.dir ≡ dir_of deed) × says (packet_of deed) d.payload
 SaysAsBy says d Stray = Unit {0}
 SaysAsBy says d StrayAnswer = SaysUnknownId d
 
--- each datagram has the route of its part after those before it
+-- each datagram has the route of its label after those before it
 abbrev pub AreRoutedBy : Header → Saying → Division → Type 0
 AreRoutedBy h says [] = Unit {0}
 AreRoutedBy h says (p ∷ earlier) =
-    (route_of h (datagrams_of earlier) p.datagram ≡ part_route p.part) × SaysAsBy says p.datagram p.part × AreRoutedBy h says earlier
+    (route_of h (datagrams_of earlier) p.datagram ≡ label_route p.label) × SaysAsBy says p.datagram p.label × AreRoutedBy h says earlier
 
-abbrev pub SaysAs : Meaning → List ℕ → Datagram → Part → Type 0
-SaysAs m wire d part = SaysAsBy (says_of m wire) d part
+abbrev pub SaysAs : Meaning → List ℕ → Datagram → Label → Type 0
+SaysAs m wire d label = SaysAsBy (says_of m wire) d label
 
 abbrev pub AreRouted : Header → Meaning → List ℕ → Division → Type 0
 AreRouted h m wire division = AreRoutedBy h (says_of m wire) division

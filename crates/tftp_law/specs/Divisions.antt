@@ -5,7 +5,7 @@ use Rattle.tftp_packet.specs.{Message, RequestParts, Spells}
 use Rattle.tftp_hosts.specs.{Datagram, Header}
 use Rattle.tftp_model.specs.{MachinePacket, Req, Oack, Data, Ack, Error}
 use Rattle.tftp_rules.specs.{Route, route_of}
-use Rattle.tftp_law.specs.Dress.{Division, datagrams_of, view_in, TransferIds, Saying, HavePartsBy}
+use Rattle.tftp_law.specs.Dress.{Division, datagrams_of, view_in, TransferIds, Saying, HaveLabelsBy}
 use Rattle.tftp_law.specs.Accord.{Starts}
 use Rattle.tftp_law.specs.Rules.{Broken, number_of}
 use Rattle.tftp_law.specs.OneEnd.{IsRead}
@@ -40,4 +40,4 @@ pub record Divides (h : Header) (earlier : List Datagram) : Type 0 where
   pub whole : datagrams_of division ≡ earlier
   pub starts : Starts h.named (view_in division)
   pub ids : TransferIds
-  pub parts : HavePartsBy h says_some ids division
+  pub labels : HaveLabelsBy h says_some ids division

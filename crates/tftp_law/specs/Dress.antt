@@ -6,25 +6,25 @@ use Rattle.tftp_model.specs.{Meaning, MachinePacket, Req, Deed, Sent, Took, Hist
 use Rattle.tftp_law.specs.Sides.{server_port, from_server, BeginsAsRequest}
 
 -- What a datagram is to the transfer: what its end sent or took, a stray from elsewhere, or the answer to one.
-pub data Part : Type 0 where
-  Main : (deed : Deed) → Part
-  Stray : Part
-  StrayAnswer : Part
+pub data Label : Type 0 where
+  Main : (deed : Deed) → Label
+  Stray : Label
+  StrayAnswer : Label
 
-pub record Placed : Type 0 where
+pub record Labelled : Type 0 where
   pub datagram : Datagram
-  pub part : Part
+  pub label : Label
 
--- a capture's datagrams, each with its part, the newest first
+-- a capture's datagrams, each with its label, the newest first
 abbrev pub Division : Type 0
-Division = List Placed
+Division = List Labelled
 
 abbrev pub datagrams_of : Division → List Datagram
 datagrams_of division = map (λ p. p.datagram) division
 
-abbrev pub deed_in : Placed → Option Deed
-deed_in p = deed_as p.part where
-  deed_as : Part → Option Deed
+abbrev pub deed_in : Labelled → Option Deed
+deed_in p = deed_as p.label where
+  deed_as : Label → Option Deed
   deed_as (Main deed) = Some deed
   deed_as Stray = None
   deed_as StrayAnswer = None
@@ -58,8 +58,8 @@ abbrev pub packet_of : Deed → MachinePacket
 packet_of (Sent packet) = packet
 packet_of (Took packet) = packet
 
-abbrev pub IsMain : Part → Type 0
-IsMain part = (deed : Deed) × (part ≡ Main deed)
+abbrev pub IsMain : Label → Type 0
+IsMain label = (deed : Deed) × (label ≡ Main deed)
 
 -- A request goes to the service port, and a client sends all of them to one host. All else goes to or comes from where
 -- the server answers, and not before a datagram has come from there.
@@ -92,30 +92,30 @@ pub record ComesAstray (header : Header) (ids : TransferIds) (earlier : Division
   pub dir : d.dir ≡ In
   pub here : d.local ≡ ids.own
   pub elsewhere : peer_of d ≢ ids.peer
-  pub after : Any (λ p. IsMain p.part × (p.datagram.dir ≡ from_server header.named)) earlier
+  pub after : Any (λ p. IsMain p.label × (p.datagram.dir ≡ from_server header.named)) earlier
   pub no_request : header.named ≡ Server → ids.own ≡ header.service → BeginsAsRequest d.payload → ⊥
 
 -- A stray may be answered by ERROR 5, "Unknown transfer ID", to where it came from.
 pub record AnswersStray (header : Header) (ids : TransferIds) (earlier : Division) (d : Datagram) : Type 0 where
   pub dir : d.dir ≡ Out
   pub here : d.local ≡ ids.own
-  pub there : Any (λ p. (p.part ≡ Stray) × (peer_of p.datagram ≡ peer_of d)) earlier
+  pub there : Any (λ p. (p.label ≡ Stray) × (peer_of p.datagram ≡ peer_of d)) earlier
   pub spells : (text : List ℕ) × Spells d.payload (Message.Error 5 text)
 
-abbrev pub HasPartBy : Header → Saying → TransferIds → Division → Datagram → Part → Type 0
-HasPartBy header says ids earlier d (Main deed) = Carries header says ids earlier d deed
-HasPartBy header says ids earlier d Stray = ComesAstray header ids earlier d
-HasPartBy header says ids earlier d StrayAnswer = AnswersStray header ids earlier d
+abbrev pub HasLabelBy : Header → Saying → TransferIds → Division → Datagram → Label → Type 0
+HasLabelBy header says ids earlier d (Main deed) = Carries header says ids earlier d deed
+HasLabelBy header says ids earlier d Stray = ComesAstray header ids earlier d
+HasLabelBy header says ids earlier d StrayAnswer = AnswersStray header ids earlier d
 
-abbrev pub HavePartsBy : Header → Saying → TransferIds → Division → Type 0
-HavePartsBy header says ids [] = Unit {0}
-HavePartsBy header says ids (p ∷ earlier) = HasPartBy header says ids earlier p.datagram p.part × HavePartsBy header says ids earlier
+abbrev pub HaveLabelsBy : Header → Saying → TransferIds → Division → Type 0
+HaveLabelsBy header says ids [] = Unit {0}
+HaveLabelsBy header says ids (p ∷ earlier) = HasLabelBy header says ids earlier p.datagram p.label × HaveLabelsBy header says ids earlier
 
-abbrev pub HasPart : Header → Meaning → List ℕ → TransferIds → Division → Datagram → Part → Type 0
-HasPart header m wire ids earlier d part = HasPartBy header (says_of m wire) ids earlier d part
+abbrev pub HasLabel : Header → Meaning → List ℕ → TransferIds → Division → Datagram → Label → Type 0
+HasLabel header m wire ids earlier d label = HasLabelBy header (says_of m wire) ids earlier d label
 
-abbrev pub HaveParts : Header → Meaning → List ℕ → TransferIds → Division → Type 0
-HaveParts header m wire ids division = HavePartsBy header (says_of m wire) ids division
+abbrev pub HaveLabels : Header → Meaning → List ℕ → TransferIds → Division → Type 0
+HaveLabels header m wire ids division = HaveLabelsBy header (says_of m wire) ids division
 
 -- The datagrams, the oldest first, can be divided so that the main ones are the view.
 pub record IsDressed (header : Header) (m : Meaning) (wire : List ℕ) (view : History) (datagrams : List Datagram) : Type 0 where
@@ -123,4 +123,4 @@ pub record IsDressed (header : Header) (m : Meaning) (wire : List ℕ) (view : H
   pub division : Division
   pub whole : datagrams_of division ≡ reverse datagrams
   pub main : view_in division ≡ view
-  pub parts : HaveParts header m wire ids division
+  pub labels : HaveLabels header m wire ids division

@@ -3,35 +3,35 @@
 ghost use Rattle.std.specs.Prelude.{◌≡◌, ◌↔◌, ℕ, List, reverse};
 ghost use Rattle.tftp_hosts.specs.{Datagram, Header};
 ghost use Rattle.tftp_model.specs.{Meaning, IsOneSided};
-ghost use Rattle.tftp_law.specs.Dress.{TransferIds, Division, HaveParts, HavePartsBy, view_in};
+ghost use Rattle.tftp_law.specs.Dress.{TransferIds, Division, HaveLabels, HaveLabelsBy, view_in};
 ghost use Rattle.tftp_law.specs.Accord.{Accords, AreRouted, AreRoutedBy, Starts};
 ghost use Rattle.tftp_law.specs.Divisions.{says_some, FindPlaces, Divides};
 ghost use Rattle.tftp_law.specs.Law.{IsSeen, IsLawful, ShowsBy, Shows};
 ghost use Rattle.tftp_law.specs.OneEnd.{OneEnded, Meant};
 
-/// The parts of a division are its routes, and what has such routes has parts, where the view begins with the client's
-/// request and has no request of the server's. The view of such parts begins so, where it is one that one end might have.
-pub fn parts_are_routes()
+/// The labels of a division are its routes, and what has such routes has labels, where the view begins with the client's
+/// request and has no request of the server's. The view of such labels begins so, where it is one that one end might have.
+pub fn labels_are_routes()
     ensures routes { (h : Header) (m : Meaning) (wire : List ℕ) (ids : TransferIds) (division : Division)
-        → HaveParts h m wire ids division → Starts h.named (view_in division) → AreRouted h m wire division }
-    ensures parts { (h : Header) (m : Meaning) (wire : List ℕ) (division : Division) → AreRouted h m wire division
-        → Starts h.named (view_in division) → (ids : TransferIds) × HaveParts h m wire ids division }
+        → HaveLabels h m wire ids division → Starts h.named (view_in division) → AreRouted h m wire division }
+    ensures labels { (h : Header) (m : Meaning) (wire : List ℕ) (division : Division) → AreRouted h m wire division
+        → Starts h.named (view_in division) → (ids : TransferIds) × HaveLabels h m wire ids division }
     ensures starts { (h : Header) (m : Meaning) (wire : List ℕ) (ids : TransferIds) (division : Division)
-        → HaveParts h m wire ids division → IsOneSided m wire h.named (view_in division) → Starts h.named (view_in division) }
+        → HaveLabels h m wire ids division → IsOneSided m wire h.named (view_in division) → Starts h.named (view_in division) }
 {}
 
 /// A list divides, each main datagram spells a packet and the first of them is the client's request, exactly if no
-/// datagram breaks one of the first five rules, and no request has a route of the peer's. The division is one, its parts
+/// datagram breaks one of the first five rules, and no request has a route of the peer's. The division is one, its labels
 /// are the routes, and it is that of each run which shows the list, whatever the run means.
 pub fn a_list_divides_in_one_way()
     ensures divides { (h : Header) (earlier : List Datagram) → FindPlaces h earlier ↔ Divides h earlier }
-    ensures parts { (h : Header) (division : Division) → AreRoutedBy h says_some division → Starts h.named (view_in division)
-        → (ids : TransferIds) × HavePartsBy h says_some ids division }
+    ensures labels { (h : Header) (division : Division) → AreRoutedBy h says_some division → Starts h.named (view_in division)
+        → (ids : TransferIds) × HaveLabelsBy h says_some ids division }
     ensures routes { (h : Header) (earlier : List Datagram) (x : Divides h earlier) → AreRoutedBy h says_some x.division }
     ensures one { (h : Header) (earlier : List Datagram) (x y : Divides h earlier) → x.division ≡ y.division }
     ensures of_run { (h : Header) (m : Meaning) (wire : List ℕ) (ids : TransferIds) (division : Division)
-        → HaveParts h m wire ids division → IsOneSided m wire h.named (view_in division)
-        → HavePartsBy h says_some ids division × Starts h.named (view_in division) }
+        → HaveLabels h m wire ids division → IsOneSided m wire h.named (view_in division)
+        → HaveLabelsBy h says_some ids division × Starts h.named (view_in division) }
 {}
 
 /// What a run of two ends shows at the named end breaks no rule there, and is in accord with the run's meaning and wire.

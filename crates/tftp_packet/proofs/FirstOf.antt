@@ -31,6 +31,10 @@ module _ {X : Type 0} (number : X → ℕ) (Holds : X → Type 0) where
     unless_by zero n This before this = this (λ other low. before other (omega (arith, low)))
     unless_by (suc more) n This before this = λ none. unless_by more (n + 1) This (none_more n before none) (λ all. this (λ other low. all other (omega (arith, low))))
 
+    -- none of so many from the least number on holds, if each does not
+    pub none_unless : (least : ℕ) → ((x : X) → least ≤ number x) → (more : ℕ) → Unless more least (NoneBelow number Holds (least + more))
+    none_unless least most more = unless_by more least (NoneBelow number Holds (least + more)) (λ other low. let up = most other in absurd (omega arith)) (λ all. all)
+
     -- what holds is the first, unless one before it holds
     pub first_unless : (least : ℕ) → ((x : X) → least ≤ number x) → (x : X) → Holds x → Unless (number x - least) least (IsFirst number Holds x)
     first_unless least most x holds =

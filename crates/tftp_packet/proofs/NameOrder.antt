@@ -1,5 +1,5 @@
 -- Names in order: two are equal just where two side by side are.
-use Rattle.std.proofs.Common.{◌≡◌, inl, inr, ◌⊎◌, ◌↔◌, ℕ, zero, suc, ◌+◌, ◌<◌, ◌≤◌, Bool, true, false, cond, List, [], ◌∷◌, ◌++◌, length, get_or, take, set, refl, sym, ap, subst, ◌∙◌, true≢false, append_assoc, nat_cmp, is_lt, arith, bytes_eq, map as each, IsPermutation, Result, Ok, Err, is_ok, MatchBool}
+use Rattle.std.proofs.Common.{◌≡◌, inl, inr, ◌⊎◌, ◌↔◌, ℕ, zero, suc, ◌+◌, ◌<◌, ◌≤◌, Bool, true, false, cond, List, [], ◌∷◌, ◌++◌, length, get_or, refl, sym, ap, subst, ◌∙◌, true≢false, nat_cmp, is_lt, arith, bytes_eq, map as each, IsPermutation, Result, Ok, Err, is_ok, MatchBool}
 use Rattle.std.specs.List.{sum_by}
 use Rattle.std.specs.List.Sorted.{IsSortedBy, IsSearchInRange, IsBinarySearchResult}
 use Rattle.std.specs.Cmp.{tied_itself}
@@ -10,7 +10,6 @@ use Rattle.std.specs.declared.cmp.Ordering.TheVariants.{Less, Equal, Greater}
 use Rattle.std.specs.FinMap.{nat_cmp-IsAntisymmetric, slice_cmp-IsAntisymmetric}
 use Rattle.std.proofs.lemmas.Bool.{cases_Bool, cases_lt}
 use Rattle.std.proofs.lemmas.Cmp.{nat_list_cmp_total}
-use Rattle.std.proofs.lemmas.List.{map-append, take_more_set}
 use Rattle.std.proofs.lemmas.List.Sums.{sum_by-cons}
 use Rattle.std.proofs.lemmas.List.Sorted.{ranks_by, sorted_far, searchable_from_sorted, sum_by-IsPermutation, IsPermutation-sym}
 use Rattle.std.proofs.lemmas.Slice.Eq.{bytes_eq-Decides}
@@ -164,13 +163,3 @@ ended [] (y ∷ ys) end = search (arith)
 ended (x ∷ xs) [] end = search (arith)
 ended (x ∷ xs) (y ∷ ys) (inl e) = absurd (let f : ⊥ = cc in f)
 ended (x ∷ xs) (y ∷ ys) (inr e) = absurd (let f : ⊥ = cc in f)
-
--- ---- the names so far
-pub names_more : {X : Type 0} (key : X → List ℕ) (names : List X) (count : ℕ) (name : X) (all left more : List (List ℕ)) → count < length names
-    → each key (take count names) ++ left ≡ all → left ≡ key name ∷ more → each key (take (count + 1) (set names count name)) ++ more ≡ all
-names_more key names count name all left more room so_far next =
-    ap (λ l. each key l ++ more) (take_more_set names count name room)
-    ∙ ap (λ l. l ++ more) (map-append key (take count names) (name ∷ []))
-    ∙ append_assoc (each key (take count names)) (key name ∷ []) more
-    ∙ ap (λ l. each key (take count names) ++ l) (sym next)
-    ∙ so_far

@@ -100,10 +100,6 @@ module _ (bytes table key : List ℕ) (slot entry : ℕ) (free : IsFree table ke
         )
   ]
 
--- a name of another hash is not the one in the slot
-pub not_marked : (bytes table marks key : List ℕ) (t : ℕ) → AreMarked bytes table marks → get_or table t 0 ≢ 0 → get_or marks t 0 ≢ mark_of key → key_at bytes (get_or table t 0) ≢ key
-not_marked bytes table marks key t marked taken away same = away (marked t taken ∙ ap mark_of same)
-
 among_held : (bytes table key : List ℕ) (names : List (List ℕ)) → AllByRecursion (IsHeld bytes table) names → AnyOf (λ name. key ≡ name) names → IsHeld bytes table key
 among_held bytes table key [] all any = absurd any
 among_held bytes table key (name ∷ names) all (inl here) = subst (IsHeld bytes table) (sym here) all.0
@@ -119,9 +115,6 @@ pub all_zero : (n t : ℕ) → get_or {A = ℕ} (replicate n 0) t 0 ≡ 0
 all_zero zero t = refl
 all_zero (suc n) zero = refl
 all_zero (suc n) (suc t) = all_zero n t
-
-pub holds_none : (bytes table : List ℕ) → ((t : ℕ) → get_or table t 0 ≡ 0) → Holds bytes table bytes
-holds_none bytes table empty = record { names = []; all = refl; apart = λ two. two; held = tt; only = λ t. inl (empty t) }
 
 module _ (bytes table rest name text after : List ℕ) (holds : Holds bytes table rest) (next : pairs_of rest ≡ (name, text) ∷ pairs_of after) where
   keys_next : keys_of rest ≡ lower name ∷ keys_of after

@@ -10,9 +10,9 @@ use Rattle.std.specs.FinMap as map
 use Rattle.std.specs.FinMap.{find, is_sorted, put, get-from_sorted, entries-from_sorted, len-entries, empty_of_len, entries-insert, same_entries_map, from_entries_push, nat_cmp-IsAntisymmetric, slice_cmp-IsAntisymmetric}
 use Rattle.std.specs.FinMap.Entries.{is_sorted-put, by_order}
 use Rattle.std.proofs.lemmas.Bool.{cases_lt, lt-ltb, le-ltb}
-use Rattle.tftp_packet.specs.{OptionMap, OptionValue, lower, value_of, no_options, Pair, map_of, text_of, AreApart, SameName, Shown, shown, shown_entry, shown_entries, AreLower, AreInOrder, place, Entry}
+use Rattle.tftp_packet.specs.{OptionMap, OptionValue, lower, value_of, no_options, Pair, map_of, text_of, AreApart, SameName, Shown, shown_entry, shown_entries, AreLower, AreInOrder, place, Entry}
 use Rattle.tftp_packet.proofs.Values.{bytes_eq_no}
-use Rattle.tftp_packet.proofs.Maps.{bytes_eq_yes, ties, text_in_map, find_text, entry_of}
+use Rattle.tftp_packet.proofs.Maps.{text_in_map, find_text, entry_of}
 
 -- ---- one entry after another
 drop_at : {A B : Type 0} (f : A → B) (xs : List A) (i : ℕ) (x : A) → i < length xs → x ≡ get_or xs i x → drop i (each f xs) ≡ f x ∷ drop (suc i) (each f xs)
@@ -31,14 +31,6 @@ module _ (entries : List Entry) (i : ℕ) (x : Entry) (h : i < length entries) (
 
   next : drop (suc i) (shown_entries entries) ≡ drop (i + 1) (shown_entries entries)
   next = ap (λ n. drop n (shown_entries entries)) (sym (add-one i))
-
-  pub found_at : (key : List ℕ) → x.name ≡ key → Some (shown x.value) ≡ find (slice_cmp nat_cmp) key (drop i (shown_entries entries))
-  found_at key same = sym (ap (find (slice_cmp nat_cmp) key) here ∙ ap (λ b. cond b (Some (shown x.value)) (find (slice_cmp nat_cmp) key (drop (suc i) (shown_entries entries)))) (ties key x.name ∙ bytes_eq_yes x.name key same))
-
-  pub later_at : (key : List ℕ) → (x.name ≡ key → ⊥) → find (slice_cmp nat_cmp) key (drop i (shown_entries entries)) ≡ find (slice_cmp nat_cmp) key (drop (i + 1) (shown_entries entries))
-  later_at key other = ap (find (slice_cmp nat_cmp) key) here
-      ∙ ap (λ b. cond b (Some (shown x.value)) (find (slice_cmp nat_cmp) key (drop (suc i) (shown_entries entries)))) (ties key x.name ∙ bytes_eq_no x.name key other)
-      ∙ ap (find (slice_cmp nat_cmp) key) next
 
   pub place_here : (key : List ℕ) → is_lt (slice_cmp nat_cmp x.name key) ≡ false → place key (drop i (shown_entries entries)) ≡ 0
   place_here key over = ap (place key) here ∙ ap (λ b. cond b (suc (place key (drop (suc i) (shown_entries entries)))) 0) over

@@ -3,10 +3,7 @@ use Rattle.std.proofs.Common.{◌≡◌, ℕ, zero, suc, ◌+◌, ◌-◌, ◌*�
 use Rattle.std.proofs.Math.Nat.{suc-mul, mul-le-mul_right, div-mul-le_self, lt-div-mul-add}
 use Rattle.std.proofs.Math.Seq.{drop-append_seam}
 use Rattle.std.proofs.lemmas.List.{length-append, length-take, length-drop, take-append-le, drop-append-le, take_all}
-use Rattle.tftp_packet.specs.{Message}
-use Rattle.tftp_hosts.specs.{Datagram}
 use Rattle.tftp_model.specs.{block, block_count}
-use Rattle.tftp_rules.specs.{HasPassed, IsJoined}
 
 pub length_block : (b k : ℕ) (v : List ℕ) → length (block b v k) ≡ min b (length v - (k - 1) * b)
 length_block b k v = length-take b (drop ((k - 1) * b) v) ∙ ap (min b) (length-drop ((k - 1) * b) v)
@@ -27,10 +24,6 @@ block_kept b (suc j) n w bytes low below size =
     let room : b ≤ length (drop (j * b) w) = subst (λ i. b ≤ i) (sym (length-drop (j * b) w)) (omega arith) in
     ap (λ i. take b (drop (i * b) (w ++ bytes))) now ∙ ap (take b) (drop-append-le (j * b) w bytes inside) ∙ take-append-le b (drop (j * b) w) bytes room
     ∙ ap (λ i. take b (drop (i * b) w)) (sym now)
-
--- each block up to this one has passed
-abbrev pub Below : ℕ → List Datagram → List ℕ → ℕ → Type 0
-Below b passed w n = (k : ℕ) → 1 ≤ k → k < n → HasPassed (Message.Data k (block b w k)) passed
 
 pub size_more : (b n : ℕ) (w bytes : List ℕ) → 1 ≤ n → length w ≡ (n - 1) * b → length bytes ≡ b → length (w ++ bytes) ≡ (n + 1 - 1) * b
 size_more b zero w bytes some size whole = absurd (omega arith)
@@ -55,22 +48,4 @@ last_block b last v some count =
     let now : last - 1 ≡ length v / b = omega arith in
     let past : length v < length v / b * b + b = lt-div-mul-add some in
     let is : length (block b v last) ≡ min b (length v - length v / b * b) = length_block b last v ∙ ap (λ i. min b (length v - i * b)) now in
-    omega arith
-
--- so a block that is missing or of another length is none of its
-pub not_there : (b last k : ℕ) (passed : List Datagram) → ((bytes : List ℕ) → HasPassed (Message.Data k bytes) passed → ⊥) → 1 ≤ k → k ≤ last → (wire : List ℕ) → IsJoined b passed last wire → ⊥
-not_there b last k passed none low high wire joined = none (block b wire k) (joined.blocks k low high)
-
-pub not_whole : (b last k : ℕ) (passed : List Datagram) (bytes : List ℕ)
-    → ((n : ℕ) (one other : List ℕ) → HasPassed (Message.Data n one) passed → HasPassed (Message.Data n other) passed → one ≡ other)
-    → HasPassed (Message.Data k bytes) passed → (length bytes ≡ b → ⊥) → 1 ≤ k → k < last → (wire : List ℕ) → IsJoined b passed last wire → ⊥
-not_whole b last k passed bytes once has differs low below wire joined =
-    differs (ap length (once k bytes (block b wire k) has (joined.blocks k low (omega arith))) ∙ whole_block b last k wire joined.count low below)
-
-pub not_last : (b last : ℕ) (passed : List Datagram) (bytes : List ℕ) → 0 < b
-    → ((n : ℕ) (one other : List ℕ) → HasPassed (Message.Data n one) passed → HasPassed (Message.Data n other) passed → one ≡ other)
-    → HasPassed (Message.Data last bytes) passed → b ≤ length bytes → 1 ≤ last → (wire : List ℕ) → IsJoined b passed last wire → ⊥
-not_last b last passed bytes some once has long low wire joined =
-    let same = ap length (once last bytes (block b wire last) has (joined.blocks last low (omega arith))) in
-    let short = last_block b last wire some joined.count in
     omega arith

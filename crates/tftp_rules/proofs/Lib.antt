@@ -1,1 +1,2 @@
+pub mod EndRules
 pub mod Joined

@@ -2,7 +2,7 @@
 -- section 4). The list `passed` has the datagrams of the transfer that have passed at the named end, the newest first.
 use Rattle.std.specs.Prelude.{◌≡◌, ◌≢◌, ◌⊎◌, ℕ, ◌+◌, ◌/◌, ◌%◌, ◌<◌, ◌≤◌, List, [], ◌∷◌, length, Bool, Some, None, ◌&&◌, if◌then◌else◌}
 use Rattle.std.specs.List.{list_any}
-use Rattle.tftp_packet.specs.{Message, Data, Ack, Spells, Side, Get, Put}
+use Rattle.tftp_packet.specs.{IsFirst, Message, Data, Ack, Spells, Side, Get, Put}
 use Rattle.tftp_hosts.specs.{Dir, In, Out, Datagram}
 use Rattle.tftp_model.specs.Roles.{sender_of, receiver_of}
 use Rattle.tftp_rules.specs.Ports.{goes_out, comes_in, begins_error}
@@ -127,6 +127,14 @@ end_number BlockChanged = 25
 end_number AckAhead = 26
 end_number AckZero = 27
 
+-- these rules, in their order
+abbrev pub end_rules : List EndRule
+end_rules = NotStarted ∷ BlockZero ∷ BeyondBlock65535 ∷ BlockLength ∷ WindowOverrun ∷ BlockSkipped ∷ GoneBack ∷ BlockChanged ∷ AckAhead ∷ AckZero ∷ []
+
+-- how many rules there are: these, and 17 that stand before them
+abbrev pub rule_count : ℕ
+rule_count = 17 + length end_rules
+
 -- when block k with these bytes breaks each rule of blocks
 abbrev pub BlockBreaks : Terms → List Datagram → ℕ → List ℕ → EndRule → Type 0
 -- it comes before the request is answered, or the answer is taken (RFC 1350, section 4; RFC 2347)
@@ -159,7 +167,6 @@ EndBroken t passed (Data k bytes) rule = BlockBreaks t passed k bytes rule
 EndBroken t passed (Ack j) rule = AckBreaks t passed j rule
 EndBroken t passed _ rule = ⊥
 
--- the message breaks this rule, and none of these rules that stands before it
-pub record FirstEndBroken (t : Terms) (passed : List Datagram) (m : Message) (rule : EndRule) : Type 0 where
-  pub broken : EndBroken t passed m rule
-  pub first : (other : EndRule) → end_number other < end_number rule → EndBroken t passed m other → ⊥
+-- the first of these rules that the message breaks
+abbrev pub FirstEndBroken : Terms → List Datagram → Message → EndRule → Type 0
+FirstEndBroken t passed m rule = IsFirst end_number (EndBroken t passed m) rule

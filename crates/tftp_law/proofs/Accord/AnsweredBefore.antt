@@ -7,7 +7,7 @@ use Rattle.tftp_model.specs.{Meaning, NothingAgreed, SomethingAgreed, MachinePac
 use Rattle.tftp_model.proofs.Members.{contains_first, contains_later}
 use Rattle.tftp_model.proofs.Stops.{stopped, either, heard_all, heard_stopped, first_error}
 use Rattle.tftp_law.specs.Dress.{StrayAnswer}
-use Rattle.tftp_law.specs.{Part, Main, Stray, Placed, Division, view_in, TransferIds, Saying, says_of, Carries, HasPartBy, HavePartsBy, IsMain, AreRouted, Starts}
+use Rattle.tftp_law.specs.{Label, Main, Stray, Labelled, Division, view_in, TransferIds, Saying, says_of, Carries, HasLabelBy, HaveLabelsBy, IsMain, AreRouted, Starts}
 use Rattle.tftp_law.proofs.Division.Divided.{any_none, any_cases}
 use Rattle.tftp_law.proofs.Division.RouteTests.{IsTold}
 use Rattle.tftp_law.proofs.Division.Placing.{any_main_out}
@@ -19,50 +19,50 @@ module _ (service : ℕ) (says : Saying) (told : IsTold says) (ids : TransferIds
   abbrev at : Header
   at = record { named = Server; service = service }
 
-  abbrev MainOut : Placed → Type 0
-  MainOut p = IsMain p.part × (p.datagram.dir ≡ Out)
+  abbrev MainOut : Labelled → Type 0
+  MainOut p = IsMain p.label × (p.datagram.dir ≡ Out)
 
-  more_sent : (d : Datagram) (part : Part) (earlier : Division) → (q : MachinePacket) × HasSent (view_in earlier) q → (q : MachinePacket) × HasSent (view_in (record { datagram = d; part = part } ∷ earlier)) q
+  more_sent : (d : Datagram) (label : Label) (earlier : Division) → (q : MachinePacket) × HasSent (view_in earlier) q → (q : MachinePacket) × HasSent (view_in (record { datagram = d; label = label } ∷ earlier)) q
   more_sent d (Main deed) earlier (q, was) = (q, contains_later deed (view_in earlier) (Sent q) was)
   more_sent d Stray earlier some = some
   more_sent d StrayAnswer earlier some = some
 
-  now_sent : (d : Datagram) (part : Part) (earlier : Division) → HasPartBy at says ids earlier d part → IsMain part → d.dir ≡ Out → (q : MachinePacket) × HasSent (view_in (record { datagram = d; part = part } ∷ earlier)) q
+  now_sent : (d : Datagram) (label : Label) (earlier : Division) → HasLabelBy at says ids earlier d label → IsMain label → d.dir ≡ Out → (q : MachinePacket) × HasSent (view_in (record { datagram = d; label = label } ∷ earlier)) q
   now_sent d (Main (Sent q)) earlier p is way = (q, contains_first (Sent q) (view_in earlier))
   now_sent d (Main (Took q)) earlier p is way = let both : In ≡ Out = sym p.dir ∙ way in absurd (cc)
   now_sent d Stray earlier p (deed, is) way = absurd (cc)
   now_sent d StrayAnswer earlier p (deed, is) way = absurd (cc)
 
   -- a main datagram that went out is in the view
-  some_sent : (division : Division) → HavePartsBy at says ids division → Any MainOut division → (q : MachinePacket) × HasSent (view_in division) q
-  some_sent [] parts any = absurd (any_none MainOut any)
-  some_sent (p ∷ earlier) parts any = elim (any_cases MainOut p earlier any) [
-    | inl this ↦ now_sent p.datagram p.part earlier parts.0 this.0 this.1
-    | inr before ↦ more_sent p.datagram p.part earlier (some_sent earlier parts.1 before)
+  some_sent : (division : Division) → HaveLabelsBy at says ids division → Any MainOut division → (q : MachinePacket) × HasSent (view_in division) q
+  some_sent [] labels any = absurd (any_none MainOut any)
+  some_sent (p ∷ earlier) labels any = elim (any_cases MainOut p earlier any) [
+    | inl this ↦ now_sent p.datagram p.label earlier labels.0 this.0 this.1
+    | inr before ↦ more_sent p.datagram p.label earlier (some_sent earlier labels.1 before)
   ]
 
   -- an ERROR that came had something sent before it
-  sent_first : (d : Datagram) (earlier : Division) (code : ℕ) (text : List ℕ) → HavePartsBy at says ids earlier → Carries at says ids earlier d (Took (Error code text)) → (q : MachinePacket) × HasSent (view_in earlier) q
-  sent_first d earlier code text parts c = elim c.server.1 [
+  sent_first : (d : Datagram) (earlier : Division) (code : ℕ) (text : List ℕ) → HaveLabelsBy at says ids earlier → Carries at says ids earlier d (Took (Error code text)) → (q : MachinePacket) × HasSent (view_in earlier) q
+  sent_first d earlier code text labels c = elim c.server.1 [
     | inl way ↦ let both : In ≡ Out = sym c.dir ∙ way in absurd (cc)
-    | inr any ↦ some_sent earlier parts (any_main_out service says ids earlier parts any)
+    | inr any ↦ some_sent earlier labels (any_main_out service says ids earlier labels any)
   ]
 
   abbrev SomeHeard : History → Type 0
   SomeHeard v = (q : MachinePacket) × HasSent (heard v) q
 
-  heard_first : (division : Division) → HavePartsBy at says ids division → stopped (view_in division) ≡ true → SomeHeard (view_in division)
-  heard_first [] parts over = absurd (false≢true over)
-  heard_first (p ∷ earlier) parts over = by p.datagram p.part parts.0 over (heard_first earlier parts.1) where
-    by : (d : Datagram) (part : Part) → HasPartBy at says ids earlier d part → stopped (view_in (record { datagram = d; part = part } ∷ earlier)) ≡ true
-        → (stopped (view_in earlier) ≡ true → SomeHeard (view_in earlier)) → SomeHeard (view_in (record { datagram = d; part = part } ∷ earlier))
+  heard_first : (division : Division) → HaveLabelsBy at says ids division → stopped (view_in division) ≡ true → SomeHeard (view_in division)
+  heard_first [] labels over = absurd (false≢true over)
+  heard_first (p ∷ earlier) labels over = by p.datagram p.label labels.0 over (heard_first earlier labels.1) where
+    by : (d : Datagram) (label : Label) → HasLabelBy at says ids earlier d label → stopped (view_in (record { datagram = d; label = label } ∷ earlier)) ≡ true
+        → (stopped (view_in earlier) ≡ true → SomeHeard (view_in earlier)) → SomeHeard (view_in (record { datagram = d; label = label } ∷ earlier))
     by d Stray p over before = before over
     by d StrayAnswer p over before = before over
     by d (Main deed) p over before = subst (λ v. (q : MachinePacket) × HasSent v q) (sym (heard_stopped deed (view_in earlier) over)) (elim (either (view_in earlier)) [
       | inl stop ↦ before stop
       | inr going ↦
           let (code, text, is) = first_error deed (view_in earlier) over going in
-          subst (λ v. (q : MachinePacket) × HasSent v q) (sym (heard_all (view_in earlier) going)) (sent_first d earlier code text parts.1 (subst (Carries at says ids earlier d) is p))
+          subst (λ v. (q : MachinePacket) × HasSent v q) (sym (heard_all (view_in earlier) going)) (sent_first d earlier code text labels.1 (subst (Carries at says ids earlier d) is p))
     ])
 
 module _ (h : Header) (m : Meaning) (wire : List ℕ) (division : Division) (routed : AreRouted h m wire division) (own : IsOneSided m wire h.named (view_in division)) (starts : Starts h.named (view_in division)) where
@@ -72,7 +72,7 @@ module _ (h : Header) (m : Meaning) (wire : List ℕ) (division : Division) (rou
   some_heard : h.named ≡ Server → stopped view ≡ true → (q : MachinePacket) × HasSent (heard view) q
   some_heard server over =
       let p = parts_of h m wire division routed starts in
-      heard_first h.service (says_of m wire) (told_of m wire) p.0 division (subst (λ (x : Header). HavePartsBy x (says_of m wire) p.0 division) (named_is h Server server) p.1) over
+      heard_first h.service (says_of m wire) (told_of m wire) p.0 division (subst (λ (x : Header). HaveLabelsBy x (says_of m wire) p.0 division) (named_is h Server server) p.1) over
 
   server_own : h.named ≡ Server → IsOneSided m wire Server view
   server_own server = subst (λ e. IsOneSided m wire e view) server own

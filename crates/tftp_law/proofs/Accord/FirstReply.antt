@@ -9,7 +9,7 @@ use Rattle.std.proofs.Common.{false}
 use Rattle.tftp_model.proofs.Stops.{heard_done}
 use Rattle.tftp_model.proofs.Members.{contains_later, contains_cases, contains_none}
 use Rattle.tftp_law.specs.Dress.{StrayAnswer}
-use Rattle.tftp_law.specs.{Part, Main, Stray, Division, datagrams_of, view_in, packet_of, part_route, SaysAs, AreRouted, Answer, Agrees, Begins, IsAnswer, NotAnswered, FirstAnswer}
+use Rattle.tftp_law.specs.{Label, Main, Stray, Division, datagrams_of, view_in, packet_of, label_route, SaysAs, AreRouted, Answer, Agrees, Begins, IsAnswer, NotAnswered, FirstAnswer}
 use Rattle.tftp_law.proofs.Accord.PassedIsDone.{told_passed, with_main, with_stray}
 
 -- ---- what a view tells of the deeds before
@@ -173,8 +173,8 @@ module _ (h : Header) (m : Meaning) (wire : List ℕ) where
     main_reply (Sent (Error code text)) s all r = stays_none m.side d ps (message_of m wire (Error code text)) s (no_error m.side code text) r
     main_reply (Took (Error code text)) s all r = stays_none m.side d ps (message_of m wire (Error code text)) s (no_error m.side code text) r
 
-  reply_step : (d : Datagram) (part : Part) (earlier : Division) → AreRouted h m wire earlier → route_of h (datagrams_of earlier) d ≡ part_route part → SaysAs m wire d part
-      → IsOneSided m wire h.named (view_in (record { datagram = d; part = part } ∷ earlier)) → (IsOneSided m wire h.named (view_in earlier) → IsReply m.side (transfer_of h (datagrams_of earlier)))
+  reply_step : (d : Datagram) (label : Label) (earlier : Division) → AreRouted h m wire earlier → route_of h (datagrams_of earlier) d ≡ label_route label → SaysAs m wire d label
+      → IsOneSided m wire h.named (view_in (record { datagram = d; label = label } ∷ earlier)) → (IsOneSided m wire h.named (view_in earlier) → IsReply m.side (transfer_of h (datagrams_of earlier)))
       → IsReply m.side (transfer_of h (d ∷ datagrams_of earlier))
   reply_step d (Main (Sent p)) earlier routed is says all before = subst (IsReply m.side) (sym (with_main h m wire earlier d (Sent p) is)) (main_reply earlier routed all.1 d (Sent p) says.1 all (before all.1))
   reply_step d (Main (Took p)) earlier routed is says all before = subst (IsReply m.side) (sym (with_main h m wire earlier d (Took p) is)) (main_reply earlier routed all.1 d (Took p) says.1 all (before all.1))
@@ -188,4 +188,4 @@ module _ (h : Header) (m : Meaning) (wire : List ℕ) where
   -- nothing has answered; or something is agreed, and that was the first answer; or nothing is, and the first answer began the blocks
   pub reply_is : (division : Division) → AreRouted h m wire division → IsOneSided m wire h.named (view_in division) → IsReply m.side (transfer_of h (datagrams_of division))
   reply_is [] routed own = inl tt
-  reply_is (p ∷ earlier) routed own = reply_step p.datagram p.part earlier routed.2 routed.0 routed.1 own (reply_is earlier routed.2)
+  reply_is (p ∷ earlier) routed own = reply_step p.datagram p.label earlier routed.2 routed.0 routed.1 own (reply_is earlier routed.2)

@@ -4,14 +4,14 @@ use Rattle.tftp_packet.specs.{Message, Spells}
 use Rattle.tftp_hosts.specs.{Datagram, Header}
 use Rattle.tftp_model.specs.{Meaning, request_of, blksize_of, block_count, Req, Data, Deed, Sent, Took, History, MaySend, MayCome, IsOneSided}
 use Rattle.tftp_rules.specs.{Route, asks, first_of}
-use Rattle.tftp_law.specs.{Part, Main, Division, datagrams_of, packet_of, part_route, SaysAs, AreRouted}
+use Rattle.tftp_law.specs.{Label, Main, Division, datagrams_of, packet_of, label_route, SaysAs, AreRouted}
 use Rattle.tftp_law.proofs.FirstBroken.FirstRequests.{or_some, asks_route}
 use Rattle.tftp_law.proofs.Accord.Moments.{sent_moment, took_moment}
 
 -- ---- the first request
 
 module _ (h : Header) (m : Meaning) (wire : List ℕ) where
-  is_request : (part : Part) (d : Datagram) → part_route part ≡ Route.Request → SaysAs m wire d part → Spells d.payload (Message.Request (request_of m))
+  is_request : (label : Label) (d : Datagram) → label_route label ≡ Route.Request → SaysAs m wire d label → Spells d.payload (Message.Request (request_of m))
   is_request (Main (Sent Req)) d is says = says.1
   is_request (Main (Took Req)) d is says = says.1
   is_request _ d is says = absurd (cc)
@@ -21,7 +21,7 @@ module _ (h : Header) (m : Meaning) (wire : List ℕ) where
   request_spelled (p ∷ earlier) routed d is = elim (or_some (first_of (asks h) (datagrams_of earlier)) (asks h p.datagram) p.datagram d is) [
     | inl before ↦ request_spelled earlier routed.2 d before
     | inr now ↦ subst (λ (x : Datagram). Spells x.payload (Message.Request (request_of m))) now.2
-        (is_request p.part p.datagram (sym routed.0 ∙ asks_route h (datagrams_of earlier) p.datagram now.0 now.1) routed.1)
+        (is_request p.label p.datagram (sym routed.0 ∙ asks_route h (datagrams_of earlier) p.datagram now.0 now.1) routed.1)
   ]
 
   -- ---- the blocks of a history are numbered as those of the wire

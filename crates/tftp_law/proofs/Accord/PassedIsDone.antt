@@ -12,7 +12,7 @@ use Rattle.std.proofs.Common.{◌&&◌, ◌||◌, ◌==◌}
 use Rattle.tftp_model.proofs.Stops.{stopped, either, heard_all, heard_stopped, heard_more, heard_sent}
 use Rattle.tftp_model.proofs.Members.{contains_first, contains_later, contains_cases, contains_none}
 use Rattle.tftp_law.specs.Dress.{StrayAnswer}
-use Rattle.tftp_law.specs.{Part, Main, Stray, Division, datagrams_of, view_in, dir_of, packet_of, packet_route, part_route, SaysAs, AreRouted}
+use Rattle.tftp_law.specs.{Label, Main, Stray, Division, datagrams_of, view_in, dir_of, packet_of, packet_route, label_route, SaysAs, AreRouted}
 
 -- the view has a deed that went this way and said this
 abbrev pub Told : Meaning → List ℕ → History → Dir → Message → Type 0
@@ -55,7 +55,7 @@ main_route _ = refl
 
 module _ (h : Header) (m : Meaning) (wire : List ℕ) where
   -- the datagrams of the transfer, with one more
-  pub with_main : (earlier : Division) (d : Datagram) (deed : Deed) → route_of h (datagrams_of earlier) d ≡ part_route (Main deed)
+  pub with_main : (earlier : Division) (d : Datagram) (deed : Deed) → route_of h (datagrams_of earlier) d ≡ label_route (Main deed)
       → transfer_of h (d ∷ datagrams_of earlier) ≡ d ∷ transfer_of h (datagrams_of earlier)
   with_main earlier d deed is = kept_true (is_of_transfer (route_of h (datagrams_of earlier) d)) d (transfer_of h (datagrams_of earlier)) (ap is_of_transfer is ∙ main_route (packet_of deed))
 
@@ -65,9 +65,9 @@ module _ (h : Header) (m : Meaning) (wire : List ℕ) where
   later : (view : History) (deed : Deed) (dir : Dir) (x : Message) → Told m wire view dir x → Told m wire (deed ∷ view) dir x
   later view deed dir x (other, at, way, says) = (other, contains_later deed view other at, way, says)
 
-  passed_step : (d : Datagram) (part : Part) (earlier : Division) → route_of h (datagrams_of earlier) d ≡ part_route part → SaysAs m wire d part
+  passed_step : (d : Datagram) (label : Label) (earlier : Division) → route_of h (datagrams_of earlier) d ≡ label_route label → SaysAs m wire d label
       → ((dir : Dir) (x : Message) → Passed dir x (transfer_of h (datagrams_of earlier)) → Told m wire (view_in earlier) dir x)
-      → (dir : Dir) (x : Message) → Passed dir x (transfer_of h (d ∷ datagrams_of earlier)) → Told m wire (view_in (record { datagram = d; part = part } ∷ earlier)) dir x
+      → (dir : Dir) (x : Message) → Passed dir x (transfer_of h (d ∷ datagrams_of earlier)) → Told m wire (view_in (record { datagram = d; label = label } ∷ earlier)) dir x
   passed_step d (Main deed) earlier is says before dir x p = elim (subst (Passed dir x) (with_main earlier d deed is) p) [
     | inl now ↦ (deed, contains_first deed (view_in earlier), sym says.0 ∙ now.0, one_message d.payload (message_of m wire (packet_of deed)) x says.1.1 now.1.1)
     | inr past ↦ later (view_in earlier) deed dir x (before dir x past)
@@ -78,11 +78,11 @@ module _ (h : Header) (m : Meaning) (wire : List ℕ) where
   -- what has passed is a deed of the view
   pub passed_told : (division : Division) → AreRouted h m wire division → (dir : Dir) (x : Message) → Passed dir x (transfer_of h (datagrams_of division)) → Told m wire (view_in division) dir x
   passed_told [] routed dir x p = absurd p
-  passed_told (p ∷ earlier) routed dir x q = passed_step p.datagram p.part earlier routed.0 routed.1 (passed_told earlier routed.2) dir x q
+  passed_told (p ∷ earlier) routed dir x q = passed_step p.datagram p.label earlier routed.0 routed.1 (passed_told earlier routed.2) dir x q
 
-  told_step : (d : Datagram) (part : Part) (earlier : Division) → route_of h (datagrams_of earlier) d ≡ part_route part → SaysAs m wire d part
+  told_step : (d : Datagram) (label : Label) (earlier : Division) → route_of h (datagrams_of earlier) d ≡ label_route label → SaysAs m wire d label
       → ((deed : Deed) → Contains (view_in earlier) deed → Passed (dir_of deed) (message_of m wire (packet_of deed)) (transfer_of h (datagrams_of earlier)))
-      → (deed : Deed) → Contains (view_in (record { datagram = d; part = part } ∷ earlier)) deed → Passed (dir_of deed) (message_of m wire (packet_of deed)) (transfer_of h (d ∷ datagrams_of earlier))
+      → (deed : Deed) → Contains (view_in (record { datagram = d; label = label } ∷ earlier)) deed → Passed (dir_of deed) (message_of m wire (packet_of deed)) (transfer_of h (d ∷ datagrams_of earlier))
   told_step d (Main now) earlier is says before deed at = subst (Passed (dir_of deed) (message_of m wire (packet_of deed))) (sym (with_main earlier d now is))
       (elim (contains_cases now (view_in earlier) deed at) [
         | inl same ↦ inl (subst (λ x. (d.dir ≡ dir_of x) × Spells d.payload (message_of m wire (packet_of x))) same says)
@@ -94,7 +94,7 @@ module _ (h : Header) (m : Meaning) (wire : List ℕ) where
   -- and each deed of the view has passed
   pub told_passed : (division : Division) → AreRouted h m wire division → (deed : Deed) → Contains (view_in division) deed → Passed (dir_of deed) (message_of m wire (packet_of deed)) (transfer_of h (datagrams_of division))
   told_passed [] routed deed at = absurd (contains_none deed at)
-  told_passed (p ∷ earlier) routed deed at = told_step p.datagram p.part earlier routed.0 routed.1 (told_passed earlier routed.2) deed at
+  told_passed (p ∷ earlier) routed deed at = told_step p.datagram p.label earlier routed.0 routed.1 (told_passed earlier routed.2) deed at
 
   -- ---- what the other end can have used
 
@@ -115,9 +115,9 @@ module _ (h : Header) (m : Meaning) (wire : List ℕ) where
 
   brought : (division : Division) → AreRouted h m wire division → list_any brings_error (transfer_of h (datagrams_of division)) ≡ stopped (view_in division)
   brought [] routed = refl
-  brought (p ∷ earlier) routed = by p.datagram p.part routed.0 routed.1 (brought earlier routed.2) where
-    by : (d : Datagram) (part : Part) → route_of h (datagrams_of earlier) d ≡ part_route part → SaysAs m wire d part → list_any brings_error (transfer_of h (datagrams_of earlier)) ≡ stopped (view_in earlier)
-        → list_any brings_error (transfer_of h (d ∷ datagrams_of earlier)) ≡ stopped (view_in (record { datagram = d; part = part } ∷ earlier))
+  brought (p ∷ earlier) routed = by p.datagram p.label routed.0 routed.1 (brought earlier routed.2) where
+    by : (d : Datagram) (label : Label) → route_of h (datagrams_of earlier) d ≡ label_route label → SaysAs m wire d label → list_any brings_error (transfer_of h (datagrams_of earlier)) ≡ stopped (view_in earlier)
+        → list_any brings_error (transfer_of h (d ∷ datagrams_of earlier)) ≡ stopped (view_in (record { datagram = d; label = label } ∷ earlier))
     by d (Main deed) is says before = ap (list_any brings_error) (with_main earlier d deed is) ∙ both (brings_error d) (takes_error deed) (brings d deed says) before
       where
         both : (a b : Bool) → a ≡ b → {x y : Bool} → x ≡ y → (a || x) ≡ (b || y)
@@ -128,8 +128,8 @@ module _ (h : Header) (m : Meaning) (wire : List ℕ) where
   -- what this end had sent before an ERROR came is what had gone out before it
   pub used_passed : (division : Division) → AreRouted h m wire division → (q : MachinePacket) → HasSent (heard (view_in division)) q → Passed Out (message_of m wire q) (usable (transfer_of h (datagrams_of division)))
   used_passed [] routed q at = absurd (contains_none (Sent q) at)
-  used_passed (p ∷ earlier) routed q at = by p.datagram p.part routed.0 routed.1 at (brought earlier routed.2) (used_passed earlier routed.2 q) where
-    by : (d : Datagram) (part : Part) → route_of h (datagrams_of earlier) d ≡ part_route part → SaysAs m wire d part → HasSent (heard (view_in (record { datagram = d; part = part } ∷ earlier))) q
+  used_passed (p ∷ earlier) routed q at = by p.datagram p.label routed.0 routed.1 at (brought earlier routed.2) (used_passed earlier routed.2 q) where
+    by : (d : Datagram) (label : Label) → route_of h (datagrams_of earlier) d ≡ label_route label → SaysAs m wire d label → HasSent (heard (view_in (record { datagram = d; label = label } ∷ earlier))) q
         → list_any brings_error (transfer_of h (datagrams_of earlier)) ≡ stopped (view_in earlier)
         → (HasSent (heard (view_in earlier)) q → Passed Out (message_of m wire q) (usable (transfer_of h (datagrams_of earlier))))
         → Passed Out (message_of m wire q) (usable (transfer_of h (d ∷ datagrams_of earlier)))
@@ -148,14 +148,14 @@ module _ (h : Header) (m : Meaning) (wire : List ℕ) where
 
   pub passed_used : (division : Division) → AreRouted h m wire division → (x : Message) → Passed Out x (usable (transfer_of h (datagrams_of division))) → Told m wire (heard (view_in division)) Out x
   passed_used [] routed x p = absurd p
-  passed_used (p ∷ earlier) routed x at = by p.datagram p.part routed.0 routed.1 (brought earlier routed.2) (passed_used earlier routed.2 x) at where
+  passed_used (p ∷ earlier) routed x at = by p.datagram p.label routed.0 routed.1 (brought earlier routed.2) (passed_used earlier routed.2 x) at where
     more : (deed : Deed) → Told m wire (heard (view_in earlier)) Out x → Told m wire (heard (deed ∷ view_in earlier)) Out x
     more deed (other, was, way, says) = (other, heard_more deed (view_in earlier) other was, way, says)
 
-    by : (d : Datagram) (part : Part) → route_of h (datagrams_of earlier) d ≡ part_route part → SaysAs m wire d part
+    by : (d : Datagram) (label : Label) → route_of h (datagrams_of earlier) d ≡ label_route label → SaysAs m wire d label
         → list_any brings_error (transfer_of h (datagrams_of earlier)) ≡ stopped (view_in earlier)
         → (Passed Out x (usable (transfer_of h (datagrams_of earlier))) → Told m wire (heard (view_in earlier)) Out x)
-        → Passed Out x (usable (transfer_of h (d ∷ datagrams_of earlier))) → Told m wire (heard (view_in (record { datagram = d; part = part } ∷ earlier))) Out x
+        → Passed Out x (usable (transfer_of h (d ∷ datagrams_of earlier))) → Told m wire (heard (view_in (record { datagram = d; label = label } ∷ earlier))) Out x
     by d (Main (Took p)) is says same before at = elim (subst (Passed Out x) (ap usable (with_main earlier d (Took p) is) ∙ usable_now d (transfer_of h (datagrams_of earlier)) (rw (says.0) refl)) at) [
       | inl now ↦ let both : In ≡ Out = sym says.0 ∙ now.0 in absurd (cc)
       | inr past ↦ more (Took p) (before past)
@@ -229,9 +229,6 @@ module _ (h : Header) (m : Meaning) (wire : List ℕ) where
 
     pub taken_block : (k : ℕ) → HasTaken (view_in division) (Data k) → BlockPassed In k through
     taken_block k at = (block (blksize_of m) wire k, told_passed division routed (Took (Data k)) at)
-
-    pub sent_ack : (j : ℕ) → HasSent (view_in division) (Ack j) → Passed Out (Message.Ack j) through
-    sent_ack j at = told_passed division routed (Sent (Ack j)) at
 
     -- ---- two rules that no lawful deed breaks
 

@@ -14,8 +14,8 @@ pub run_keeps : (h : Header) (m : Meaning) (wire : List ℕ) (datagrams : List D
 run_keeps h m wire datagrams seen =
     let division = seen.dressed.division in
     let own : IsOneSided m wire h.named (view_in division) = subst (IsOneSided m wire h.named) (sym seen.dressed.main) (view_one_sided m wire h.named seen.view seen.run) in
-    let starts = starts_of h m wire seen.dressed.ids division seen.dressed.parts own in
-    let routes = routed h m wire seen.dressed.ids division seen.dressed.parts own in
+    let starts = starts_of h m wire seen.dressed.ids division seen.dressed.labels own in
+    let routes = routed h m wire seen.dressed.ids division seen.dressed.labels own in
     subst (λ ds. OneEnded h ds × Accords h m wire ds) seen.dressed.whole (ruled h m wire seen.fits division routes own starts, accords h m wire seen.fits division routes own)
 
 -- and where the run is complete the rules tell its meaning
@@ -25,7 +25,7 @@ shown_meant h m wire datagrams shows =
     let seen = shows.seen in
     let division = seen.dressed.division in
     let own : IsOneSided m wire h.named (view_in division) = subst (IsOneSided m wire h.named) (sym seen.dressed.main) (view_one_sided m wire h.named seen.view seen.run) in
-    let starts = starts_of h m wire seen.dressed.ids division seen.dressed.parts own in
-    let routes = routed h m wire seen.dressed.ids division seen.dressed.parts own in
+    let starts = starts_of h m wire seen.dressed.ids division seen.dressed.labels own in
+    let routes = routed h m wire seen.dressed.ids division seen.dressed.labels own in
     let complete = subst (IsComplete m wire h.named) (sym seen.dressed.main) shows.complete in
     subst (λ ds. Meant h ds m) seen.dressed.whole (meant h m wire seen.fits division routes own starts complete)

@@ -4,7 +4,7 @@ use Rattle.tftp_packet.specs.{Message, RequestParts, Spells, End, Client, Server
 use Rattle.tftp_hosts.specs.{Datagram, Header}
 use Rattle.tftp_model.specs.{Meaning, request_of, MachinePacket, Req, Oack, Data, Ack, Error, Deed, Sent, Took, History, message_of, IsOneSided}
 use Rattle.tftp_rules.specs.{Route, asks, first_of, route_of, is_of_transfer, transfer_of, SaysUnknownId, PortRule, PortBroken}
-use Rattle.tftp_law.specs.{Fits, says_of, Part, Main, Stray, Division, datagrams_of, view_in, dir_of, packet_of, request_at, Starts, Accords, packet_route, part_route, SaysAs, AreRouted, Agrees, Begins, Broken, MessageBreaks, Rule, IsRead, Passes, OneEnded}
+use Rattle.tftp_law.specs.{Fits, says_of, Label, Main, Stray, Division, datagrams_of, view_in, dir_of, packet_of, request_at, Starts, Accords, packet_route, label_route, SaysAs, AreRouted, Agrees, Begins, Broken, MessageBreaks, Rule, IsRead, Passes, OneEnded}
 use Rattle.tftp_law.proofs.Division.Unasked.{none_view}
 use Rattle.tftp_law.specs.Dress.{StrayAnswer}
 use Rattle.tftp_law.proofs.Spelled.{spelled_once}
@@ -84,9 +84,9 @@ module _ (h : Header) (m : Meaning) (wire : List ℕ) (fits : Fits m wire) where
   deed_own (Sent p) v all = all.1
   deed_own (Took p) v all = all.1
 
-  part_passes : (d : Datagram) (part : Part) (earlier : Division) → AreRouted h m wire earlier → route_of h (datagrams_of earlier) d ≡ part_route part → SaysAs m wire d part
-      → IsOneSided m wire h.named (view_in (record { datagram = d; part = part } ∷ earlier)) → Starts h.named (view_in (record { datagram = d; part = part } ∷ earlier)) → Passes h (datagrams_of earlier) d × IsOneSided m wire h.named (view_in earlier)
-  part_passes d (Main deed) earlier routed is says all starts =
+  label_passes : (d : Datagram) (label : Label) (earlier : Division) → AreRouted h m wire earlier → route_of h (datagrams_of earlier) d ≡ label_route label → SaysAs m wire d label
+      → IsOneSided m wire h.named (view_in (record { datagram = d; label = label } ∷ earlier)) → Starts h.named (view_in (record { datagram = d; label = label } ∷ earlier)) → Passes h (datagrams_of earlier) d × IsOneSided m wire h.named (view_in earlier)
+  label_passes d (Main deed) earlier routed is says all starts =
       let own = deed_own deed (view_in earlier) all in (
         record {
           read = subst (λ r. IsRead r d) (sym is) (main_read (packet_of deed) d says.1);
@@ -94,15 +94,15 @@ module _ (h : Header) (m : Meaning) (wire : List ℕ) (fits : Fits m wire) where
         },
         own,
       )
-  part_passes d Stray earlier routed is says all starts = (stray_passes h (datagrams_of earlier) d is, all)
-  part_passes d StrayAnswer earlier routed is says all starts = (answer_passes h (datagrams_of earlier) d is says, all)
+  label_passes d Stray earlier routed is says all starts = (stray_passes h (datagrams_of earlier) d is, all)
+  label_passes d StrayAnswer earlier routed is says all starts = (answer_passes h (datagrams_of earlier) d is says, all)
 
   -- every datagram of the division passes after those before it
   pub ruled : (division : Division) → AreRouted h m wire division → IsOneSided m wire h.named (view_in division) → Starts h.named (view_in division) → OneEnded h (datagrams_of division)
   ruled [] routed own starts = tt
   ruled (p ∷ earlier) routed own starts =
-      let (passes, before) = part_passes p.datagram p.part earlier routed.2 routed.0 routed.1 own starts in
-      (passes, ruled earlier routed.2 before (starts_before h.named p.datagram p.part earlier starts))
+      let (passes, before) = label_passes p.datagram p.label earlier routed.2 routed.0 routed.1 own starts in
+      (passes, ruled earlier routed.2 before (starts_before h.named p.datagram p.label earlier starts))
 
   abbrev through : Division → List Datagram
   through division = transfer_of h (datagrams_of division)

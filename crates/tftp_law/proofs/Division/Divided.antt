@@ -1,10 +1,10 @@
 -- What a division says of its datagrams, one at a time.
 use Rattle.std.proofs.Common.{◌≡◌, zero, suc, ◌⊎◌, List, [], ◌∷◌, Any, inl, inr, refl, sym, subst, arith}
 use Rattle.tftp_model.specs.{Deed}
-use Rattle.tftp_law.specs.{Main, Placed, Division, datagrams_of, view_in}
+use Rattle.tftp_law.specs.{Main, Labelled, Division, datagrams_of, view_in}
 use Rattle.tftp_hosts.specs.{Datagram}
 
-pub divided_more : (division : Division) (d : Datagram) (ds : List Datagram) → datagrams_of division ≡ d ∷ ds → (p : Placed) × (rest : Division) × (division ≡ p ∷ rest) × (p.datagram ≡ d) × (datagrams_of rest ≡ ds)
+pub divided_more : (division : Division) (d : Datagram) (ds : List Datagram) → datagrams_of division ≡ d ∷ ds → (p : Labelled) × (rest : Division) × (division ≡ p ∷ rest) × (p.datagram ≡ d) × (datagrams_of rest ≡ ds)
 divided_more [] d ds e = absurd (cc)
 divided_more (p ∷ rest) d ds e = (p, rest, refl, cc, cc)
 
@@ -13,8 +13,8 @@ divided_none [] e = refl
 divided_none (p ∷ rest) e = absurd (cc)
 
 -- a main datagram stands in the view
-pub view_main : (p : Placed) (deed : Deed) (rest : Division) → p.part ≡ Main deed → view_in (p ∷ rest) ≡ deed ∷ view_in rest
-view_main p deed rest e = subst (λ x. view_in (record { datagram = p.datagram; part = x } ∷ rest) ≡ deed ∷ view_in rest) (sym e) refl
+pub view_main : (p : Labelled) (deed : Deed) (rest : Division) → p.label ≡ Main deed → view_in (p ∷ rest) ≡ deed ∷ view_in rest
+view_main p deed rest e = subst (λ x. view_in (record { datagram = p.datagram; label = x } ∷ rest) ≡ deed ∷ view_in rest) (sym e) refl
 
 module _ {X : Type 0} where
   pub any_none : (P : X → Type 0) → Any P [] → ⊥

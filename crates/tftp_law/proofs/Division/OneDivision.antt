@@ -6,9 +6,10 @@ use Rattle.tftp_model.specs.{Meaning, MachinePacket, Req, Oack, Data, Ack, Deed,
 use Rattle.tftp_rules.specs.{Route, asks, first_of, route_of, is_of_transfer, PortRule}
 use Rattle.tftp_packet.proofs.NoFault.{no_fault}
 use Rattle.tftp_law.specs.Dress.{StrayAnswer}
-use Rattle.tftp_law.specs.{Part, Main, Stray, Division, datagrams_of, view_in, dir_of, packet_of, TransferIds, says_of, HasPartBy, HavePartsBy, HaveParts, packet_route, part_route, SaysAsBy, AreRoutedBy, request_at, request_back, Starts, packet_in, says_some, FindsPlace, FindPlaces, Divides, Broken, number_of, IsRead, Rule}
+use Rattle.tftp_law.specs.{Label, Main, Stray, Division, datagrams_of, view_in, dir_of, packet_of, TransferIds, says_of, HasLabelBy, HaveLabelsBy, HaveLabels, packet_route, label_route, SaysAsBy, AreRoutedBy, request_at, request_back, Starts, packet_in, says_some, FindsPlace, FindPlaces, Divides, Broken, number_of, IsRead, Rule}
 use Rattle.tftp_law.proofs.Spelled.{spelled_once}
-use Rattle.tftp_law.proofs.FirstBroken.OneMessage.{agreement_from, end_from}
+use Rattle.tftp_rules.proofs.EndRules.{from_18}
+use Rattle.tftp_law.proofs.FirstBroken.OneMessage.{agreement_from}
 use Rattle.tftp_law.proofs.FirstBroken.FirstRequests.{begins_asked, or_some, asks_route}
 use Rattle.tftp_law.proofs.Division.RouteTests.{two_ways, IsTold, request_begins}
 use Rattle.tftp_law.proofs.Division.Routed.{routed_by, starts_of}
@@ -58,16 +59,16 @@ deed_one (Sent p) (Sent q) way is = ap Sent is
 deed_one (Took p) (Took q) way is = ap Took is
 deed_one _ _ way is = absurd (cc)
 
-part_one : (d : Datagram) (a b : Part) → part_route a ≡ part_route b → SaysAsBy says_some d a → SaysAsBy says_some d b → a ≡ b
-part_one d (Main a) (Main b) e (way, s) (gone, t) = ap Main (deed_one a b (sym way ∙ gone) (packet_one d.payload (packet_of a) (packet_of b) s t))
-part_one d (Main a) Stray e s t = absurd (no_stray_route (packet_of a) e)
-part_one d (Main a) StrayAnswer e s t = absurd (no_answer_route (packet_of a) e)
-part_one d Stray (Main b) e s t = absurd (no_stray_route (packet_of b) (sym e))
-part_one d StrayAnswer (Main b) e s t = absurd (no_answer_route (packet_of b) (sym e))
-part_one d Stray Stray e s t = refl
-part_one d StrayAnswer StrayAnswer e s t = refl
-part_one d Stray StrayAnswer e s t = absurd (cc)
-part_one d StrayAnswer Stray e s t = absurd (cc)
+label_one : (d : Datagram) (a b : Label) → label_route a ≡ label_route b → SaysAsBy says_some d a → SaysAsBy says_some d b → a ≡ b
+label_one d (Main a) (Main b) e (way, s) (gone, t) = ap Main (deed_one a b (sym way ∙ gone) (packet_one d.payload (packet_of a) (packet_of b) s t))
+label_one d (Main a) Stray e s t = absurd (no_stray_route (packet_of a) e)
+label_one d (Main a) StrayAnswer e s t = absurd (no_answer_route (packet_of a) e)
+label_one d Stray (Main b) e s t = absurd (no_stray_route (packet_of b) (sym e))
+label_one d StrayAnswer (Main b) e s t = absurd (no_answer_route (packet_of b) (sym e))
+label_one d Stray Stray e s t = refl
+label_one d StrayAnswer StrayAnswer e s t = refl
+label_one d Stray StrayAnswer e s t = absurd (cc)
+label_one d StrayAnswer Stray e s t = absurd (cc)
 
 module _ (h : Header) where
   pub division_one : (a b : Division) → datagrams_of a ≡ datagrams_of b → AreRoutedBy h says_some a → AreRoutedBy h says_some b → a ≡ b
@@ -78,12 +79,12 @@ module _ (h : Header) where
       let head : p.datagram ≡ q.datagram = cc in
       let rest : datagrams_of a ≡ datagrams_of b = cc in
       let route : route_of h (datagrams_of a) p.datagram ≡ route_of h (datagrams_of b) q.datagram = λ i. route_of h (rest i) (head i) in
-      let part = part_one p.datagram p.part q.part (sym x.0 ∙ route ∙ y.0) x.1 (subst (λ d. SaysAsBy says_some d q.part) (sym head) y.1) in
+      let label = label_one p.datagram p.label q.label (sym x.0 ∙ route ∙ y.0) x.1 (subst (λ d. SaysAsBy says_some d q.label) (sym head) y.1) in
       let tail = division_one a b rest x.2 y.2 in
-      λ i. record { datagram = head i; part = part i } ∷ tail i
+      λ i. record { datagram = head i; label = label i } ∷ tail i
 
   pub divides_routed : (earlier : List Datagram) → (x : Divides h earlier) → AreRoutedBy h says_some x.division
-  divides_routed earlier x = routed_by h says_some told_some x.ids x.division x.parts x.starts
+  divides_routed earlier x = routed_by h says_some told_some x.ids x.division x.labels x.starts
 
   pub divides_one : (earlier : List Datagram) (x y : Divides h earlier) → x.division ≡ y.division
   divides_one earlier x y = division_one x.division y.division (x.whole ∙ sym y.whole) (divides_routed earlier x) (divides_routed earlier y)
@@ -96,20 +97,20 @@ module _ (h : Header) where
     starts : Starts h.named (view_in division)
     routed : AreRoutedBy h says_some division
 
-  no_deed : (d : Datagram) (part : Part) (earlier : Division) → view_in (one d part earlier) ≡ [] → view_in earlier ≡ []
+  no_deed : (d : Datagram) (label : Label) (earlier : Division) → view_in (one d label earlier) ≡ [] → view_in earlier ≡ []
   no_deed d (Main deed) earlier e = absurd (cc)
   no_deed d Stray earlier e = e
   no_deed d StrayAnswer earlier e = e
 
-  request_deed : (d : Datagram) (part : Part) (earlier : Division) → part_route part ≡ Route.Request → view_in (one d part earlier) ≡ [] → ⊥
+  request_deed : (d : Datagram) (label : Label) (earlier : Division) → label_route label ≡ Route.Request → view_in (one d label earlier) ≡ [] → ⊥
   request_deed d (Main deed) earlier is e = cc
   request_deed d _ earlier is e = cc
 
   asked_view : (division : Division) → AreRoutedBy h says_some division → (d : Datagram) → first_of (asks h) (datagrams_of division) ≡ Some d → view_in division ≡ [] → ⊥
   asked_view [] routed d is e = cc
   asked_view (p ∷ earlier) routed d is e = elim (or_some (first_of (asks h) (datagrams_of earlier)) (asks h p.datagram) p.datagram d is) [
-    | inl before ↦ asked_view earlier routed.2 d before (no_deed p.datagram p.part earlier e)
-    | inr now ↦ request_deed p.datagram p.part earlier (sym routed.0 ∙ asks_route h (datagrams_of earlier) p.datagram now.0 now.1) e
+    | inl before ↦ asked_view earlier routed.2 d before (no_deed p.datagram p.label earlier e)
+    | inr now ↦ request_deed p.datagram p.label earlier (sym routed.0 ∙ asks_route h (datagrams_of earlier) p.datagram now.0 now.1) e
   ]
 
   not_both_ways : (e : End) → request_at e ≡ request_back e → ⊥
@@ -137,7 +138,7 @@ module _ (h : Header) where
     ds = datagrams_of x
 
     abbrev More : Type 0
-    More = (part : Part) × Starts h.named (view_in (one d part x)) × (route_of h ds d ≡ part_route part) × SaysAsBy says_some d part
+    More = (label : Label) × Starts h.named (view_in (one d label x)) × (route_of h ds d ≡ label_route label) × SaysAsBy says_some d label
 
     add_request : (m : Message) → Spells d.payload m → route_of h ds d ≡ Route.Request → More
     add_request m s is =
@@ -187,18 +188,18 @@ module _ (h : Header) where
   placed_routed (d ∷ earlier) places =
       let x = placed_routed earlier places.1 in
       let place = subst (λ ds. FindsPlace h ds d) (sym x.whole) places.0 in
-      let (part, starts, route, says) = add x.division x.starts x.routed d place (route_of h (datagrams_of x.division) d) refl place.read in
-      record { division = one d part x.division; whole = ap (λ ds. d ∷ ds) x.whole; starts = starts; routed = (route, says, x.routed) }
+      let (label, starts, route, says) = add x.division x.starts x.routed d place (route_of h (datagrams_of x.division) d) refl place.read in
+      record { division = one d label x.division; whole = ap (λ ds. d ∷ ds) x.whole; starts = starts; routed = (route, says, x.routed) }
 
   pub placed_divides : (earlier : List Datagram) → FindPlaces h earlier → Divides h earlier
   placed_divides earlier places =
       let x = placed_routed earlier places in
       let p = parted h says_some x.division x.routed x.starts in
-      record { division = x.division; whole = x.whole; starts = x.starts; ids = p.0; parts = p.1 }
+      record { division = x.division; whole = x.whole; starts = x.starts; ids = p.0; labels = p.1 }
 
   -- ---- and what divides finds its places
 
-  read_of : (d : Datagram) (part : Part) → SaysAsBy says_some d part → IsRead (part_route part) d
+  read_of : (d : Datagram) (label : Label) → SaysAsBy says_some d label → IsRead (label_route label) d
   read_of d (Main deed) (way, (m, s, is)) = by (packet_of deed) where
     by : (p : MachinePacket) → IsRead (packet_route p) d
     by Req = (m, s)
@@ -206,7 +207,7 @@ module _ (h : Header) where
   read_of d Stray s = tt
   read_of d StrayAnswer s = s
 
-  peer_main : (d : Datagram) (part : Part) → SaysAsBy says_some d part → part_route part ≡ Route.Peer → (deed : Deed) × (part ≡ Main deed) × says_some (packet_of deed) d.payload
+  peer_main : (d : Datagram) (label : Label) → SaysAsBy says_some d label → label_route label ≡ Route.Peer → (deed : Deed) × (label ≡ Main deed) × says_some (packet_of deed) d.payload
   peer_main d (Main deed) s is = (deed, refl, s.1)
   peer_main d _ s is = absurd (cc)
 
@@ -219,37 +220,37 @@ module _ (h : Header) where
   peer_is_other : (deed : Deed) → packet_route (packet_of deed) ≡ Route.Peer → packet_of deed ≡ Req → ⊥
   peer_is_other deed is e = let both : Route.Request ≡ Route.Peer = sym (ap packet_route e) ∙ is in cc
 
-  first_main : (d : Datagram) (part : Part) (x : Division) → Starts h.named (view_in (one d part x)) → view_in x ≡ [] → part_route part ≡ Route.Peer → ⊥
+  first_main : (d : Datagram) (label : Label) (x : Division) → Starts h.named (view_in (one d label x)) → view_in x ≡ [] → label_route label ≡ Route.Peer → ⊥
   first_main d (Main deed) x starts empty is = peer_is_other deed is (ap packet_of (starts.0.first empty) ∙ front_asks h.named)
   first_main d _ x starts empty is = cc
 
-  place_of : (x : Division) (d : Datagram) (part : Part) → Starts h.named (view_in (one d part x)) → AreRoutedBy h says_some (one d part x) → FindsPlace h (datagrams_of x) d
-  place_of x d part starts routed = record {
+  place_of : (x : Division) (d : Datagram) (label : Label) → Starts h.named (view_in (one d label x)) → AreRoutedBy h says_some (one d label x) → FindsPlace h (datagrams_of x) d
+  place_of x d label starts routed = record {
     read = read;
     lawful = lawful;
-    not_back = λ is asked s. back asked s (peer_main d part routed.1 (sym routed.0 ∙ is)) (sym routed.0 ∙ is);
+    not_back = λ is asked s. back asked s (peer_main d label routed.1 (sym routed.0 ∙ is)) (sym routed.0 ∙ is);
   } where
     read : IsRead (route_of h (datagrams_of x) d) d
-    read = subst (λ r. IsRead r d) (sym routed.0) (read_of d part routed.1)
+    read = subst (λ r. IsRead r d) (sym routed.0) (read_of d label routed.1)
 
-    back : (asked : RequestParts) → Spells d.payload (Message.Request asked) → (deed : Deed) × (part ≡ Main deed) × says_some (packet_of deed) d.payload → part_route part ≡ Route.Peer → ⊥
+    back : (asked : RequestParts) → Spells d.payload (Message.Request asked) → (deed : Deed) × (label ≡ Main deed) × says_some (packet_of deed) d.payload → label_route label ≡ Route.Peer → ⊥
     back asked s (deed, is, (m, t, at)) peer =
         let both : Some Req ≡ Some (packet_of deed) = ap packet_in (spelled_once d.payload (Message.Request asked) m s t) ∙ at in
-        peer_is_other deed (ap part_route (sym is) ∙ peer) (cc)
+        peer_is_other deed (ap label_route (sym is) ∙ peer) (cc)
 
     lawful : (rule : Rule) → number_of rule ≤ 5 → Broken h (datagrams_of x) d rule → ⊥
     lawful (Rule.Port PortRule.Foreign) low b = subst (λ r. IsRead r d) b read
     lawful (Rule.Port PortRule.Wrong) low b = subst (λ r. IsRead r d) b read
     lawful (Rule.Port PortRule.BadAnswer) low b = elim b [ inl is ↦ subst (λ r. IsRead r d) is read | inr is ↦ is.1 (subst (λ r. IsRead r d) is.0 read) ]
-    lawful Rule.NoRequest low b = first_main d part x starts (none_view h says_some x routed.2 (starts_before h.named d part x starts) b.0) (sym routed.0 ∙ b.1)
+    lawful Rule.NoRequest low b = first_main d label x starts (none_view h says_some x routed.2 (starts_before h.named d label x starts) b.0) (sym routed.0 ∙ b.1)
     lawful (Rule.Malformed fault) low b = let (m, s) = spelled (route_of h (datagrams_of x) d) d b.0 read in no_fault d.payload m fault s.1 b.1.0
     lawful (Rule.Agreement broken) low b = omega (arith, low, agreement_from broken)
-    lawful (Rule.Block e) low b = omega (arith, low, end_from e)
+    lawful (Rule.Block e) low b = omega (arith, low, from_18 e)
     lawful _ low b = omega (arith, low)
 
   places_of : (x : Division) → Starts h.named (view_in x) → AreRoutedBy h says_some x → FindPlaces h (datagrams_of x)
   places_of [] starts routed = tt
-  places_of (p ∷ x) starts routed = (place_of x p.datagram p.part starts routed, places_of x (starts_before h.named p.datagram p.part x starts) routed.2)
+  places_of (p ∷ x) starts routed = (place_of x p.datagram p.label starts routed, places_of x (starts_before h.named p.datagram p.label x starts) routed.2)
 
   pub divides_placed : (earlier : List Datagram) → Divides h earlier → FindPlaces h earlier
   divides_placed earlier x = subst (FindPlaces h) x.whole (places_of x.division x.starts (divides_routed earlier x))
@@ -263,15 +264,15 @@ some_of m wire (Data k) payload s = (message_of m wire (Data k), s, refl)
 some_of m wire (Ack j) payload s = (message_of m wire (Ack j), s, refl)
 some_of m wire (Error code text) payload s = (message_of m wire (Error code text), s, refl)
 
-part_some : (h : Header) (m : Meaning) (wire : List ℕ) (ids : TransferIds) (earlier : Division) (d : Datagram) (part : Part) → HasPartBy h (says_of m wire) ids earlier d part → HasPartBy h says_some ids earlier d part
-part_some h m wire ids earlier d (Main deed) p = record { dir = p.dir; client = p.client; server = p.server; spells = some_of m wire (packet_of deed) d.payload p.spells }
-part_some h m wire ids earlier d Stray p = p
-part_some h m wire ids earlier d StrayAnswer p = p
+label_some : (h : Header) (m : Meaning) (wire : List ℕ) (ids : TransferIds) (earlier : Division) (d : Datagram) (label : Label) → HasLabelBy h (says_of m wire) ids earlier d label → HasLabelBy h says_some ids earlier d label
+label_some h m wire ids earlier d (Main deed) p = record { dir = p.dir; client = p.client; server = p.server; spells = some_of m wire (packet_of deed) d.payload p.spells }
+label_some h m wire ids earlier d Stray p = p
+label_some h m wire ids earlier d StrayAnswer p = p
 
-parts_some : (h : Header) (m : Meaning) (wire : List ℕ) (ids : TransferIds) (division : Division) → HaveParts h m wire ids division → HavePartsBy h says_some ids division
-parts_some h m wire ids [] parts = tt
-parts_some h m wire ids (p ∷ earlier) parts = (part_some h m wire ids earlier p.datagram p.part parts.0, parts_some h m wire ids earlier parts.1)
+labels_some : (h : Header) (m : Meaning) (wire : List ℕ) (ids : TransferIds) (division : Division) → HaveLabels h m wire ids division → HaveLabelsBy h says_some ids division
+labels_some h m wire ids [] labels = tt
+labels_some h m wire ids (p ∷ earlier) labels = (label_some h m wire ids earlier p.datagram p.label labels.0, labels_some h m wire ids earlier labels.1)
 
-pub run_divides : (h : Header) (m : Meaning) (wire : List ℕ) (ids : TransferIds) (division : Division) → HaveParts h m wire ids division → IsOneSided m wire h.named (view_in division)
-    → HavePartsBy h says_some ids division × Starts h.named (view_in division)
-run_divides h m wire ids division parts own = (parts_some h m wire ids division parts, starts_of h m wire ids division parts own)
+pub run_divides : (h : Header) (m : Meaning) (wire : List ℕ) (ids : TransferIds) (division : Division) → HaveLabels h m wire ids division → IsOneSided m wire h.named (view_in division)
+    → HaveLabelsBy h says_some ids division × Starts h.named (view_in division)
+run_divides h m wire ids division labels own = (labels_some h m wire ids division labels, starts_of h m wire ids division labels own)

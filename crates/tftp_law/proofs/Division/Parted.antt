@@ -1,13 +1,13 @@
--- At either end a list has parts by its routes, where the oldest deed is the client's request.
+-- At either end a list has labels by its routes, where the oldest deed is the client's request.
 use Rattle.std.proofs.Common.{◌≡◌, ℕ, Bool, List, [], Option, Some, None, option_map, refl, sym, subst, ◌&&◌}
 use Rattle.tftp_packet.specs.{End, Client, Server}
 use Rattle.tftp_hosts.specs.{Datagram, Header, PeerId, peer_of, same_peer}
 use Rattle.tftp_model.specs.{Meaning}
 use Rattle.tftp_rules.specs.{goes_out, comes_in, asks, first_of}
-use Rattle.tftp_law.specs.{Division, datagrams_of, view_in, TransferIds, Saying, HavePartsBy, HaveParts, says_of, AreRoutedBy, AreRouted, Starts}
+use Rattle.tftp_law.specs.{Division, datagrams_of, view_in, TransferIds, Saying, HaveLabelsBy, HaveLabels, says_of, AreRoutedBy, AreRouted, Starts}
 use Rattle.tftp_law.proofs.Division.Routed.{named_is}
-use Rattle.tftp_law.proofs.Division.ClientParts.{ClientIds, parted_at_client}
-use Rattle.tftp_law.proofs.Division.ServerParts.{ServerIds, parted_at_server}
+use Rattle.tftp_law.proofs.Division.ClientLabels.{ClientIds, parted_at_client}
+use Rattle.tftp_law.proofs.Division.ServerLabels.{ServerIds, parted_at_server}
 
 -- ---- the ids of a list, and any where they are unknown
 
@@ -68,18 +68,18 @@ module _ (service : ℕ) (says : Saying) (division : Division) where
   }
 
 -- whatever says the packets
-pub parted : (h : Header) (says : Saying) (division : Division) → AreRoutedBy h says division → Starts h.named (view_in division) → (ids : TransferIds) × HavePartsBy h says ids division
+pub parted : (h : Header) (says : Saying) (division : Division) → AreRoutedBy h says division → Starts h.named (view_in division) → (ids : TransferIds) × HaveLabelsBy h says ids division
 parted h says division routed starts = by h.named refl where
-  by : (e : End) → h.named ≡ e → (ids : TransferIds) × HavePartsBy h says ids division
-  by Client is = subst (λ (x : Header). (ids : TransferIds) × HavePartsBy x says ids division) (sym (named_is h Client is)) (
+  by : (e : End) → h.named ≡ e → (ids : TransferIds) × HaveLabelsBy h says ids division
+  by Client is = subst (λ (x : Header). (ids : TransferIds) × HaveLabelsBy x says ids division) (sym (named_is h Client is)) (
     client_ids h.service says division,
     parted_at_client h.service says (client_ids h.service says division) division (subst (λ (x : Header). AreRoutedBy x says division) (named_is h Client is) routed) (subst (λ x. Starts x (view_in division)) is starts) (client_ids_are h.service says division),
   )
-  by Server is = subst (λ (x : Header). (ids : TransferIds) × HavePartsBy x says ids division) (sym (named_is h Server is)) (
+  by Server is = subst (λ (x : Header). (ids : TransferIds) × HaveLabelsBy x says ids division) (sym (named_is h Server is)) (
     server_ids h.service says division,
     parted_at_server h.service says (server_ids h.service says division) division (subst (λ (x : Header). AreRoutedBy x says division) (named_is h Server is) routed) (subst (λ x. Starts x (view_in division)) is starts) (server_ids_are h.service says division),
   )
 
 -- as a meaning says them
-pub parts_of : (h : Header) (m : Meaning) (wire : List ℕ) (division : Division) → AreRouted h m wire division → Starts h.named (view_in division) → (ids : TransferIds) × HaveParts h m wire ids division
+pub parts_of : (h : Header) (m : Meaning) (wire : List ℕ) (division : Division) → AreRouted h m wire division → Starts h.named (view_in division) → (ids : TransferIds) × HaveLabels h m wire ids division
 parts_of h m wire division routed starts = parted h (says_of m wire) division routed starts

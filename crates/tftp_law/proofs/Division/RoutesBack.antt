@@ -4,7 +4,7 @@ use Rattle.std.proofs.lemmas.Bool.{false≢true, true≢false, and_parts, eqb-tr
 use Rattle.tftp_packet.specs.{End, Client, Server, opcode_of}
 use Rattle.tftp_hosts.specs.{Dir, In, Out, Datagram, Header, PeerId, peer_of, same_peer}
 use Rattle.tftp_rules.specs.{Route, goes_out, comes_in, begins_request, begins_error, is_from_client, port_of_server, asks, first_of, or_this, has_come_from, route_out, route_at_client, route_to_service, route_at_server, route_after, route_of}
-use Rattle.tftp_law.specs.{Placed, Division, datagrams_of, dir_of, BeginsAsRequest, request_at}
+use Rattle.tftp_law.specs.{Labelled, Division, datagrams_of, dir_of, BeginsAsRequest, request_at}
 use Rattle.tftp_law.proofs.FirstBroken.FirstRequests.{asks_is, or_some, before_is}
 use Rattle.tftp_law.proofs.Division.RouteTests.{out_true, in_false, out_false, two_ways, is_same, apart_is}
 use Rattle.tftp_law.proofs.Division.Divided.{any_first, any_later}
@@ -32,7 +32,7 @@ came_dir d t = by d.dir refl where
 pub this_one : (test : Datagram → Bool) (d : Datagram) (ds : List Datagram) → first_of test ds ≡ None → test d ≡ true → first_of test (d ∷ ds) ≡ Some d
 this_one test d ds none t = ap (λ o. or_this o (test d) d) none ∙ ap (λ b. or_this None b d) t
 
-pub first_any : (test : Datagram → Bool) (P : Placed → Type 0) → ((p : Placed) → test p.datagram ≡ true → P p) → (division : Division) (x : Datagram) → first_of test (datagrams_of division) ≡ Some x → Any P division
+pub first_any : (test : Datagram → Bool) (P : Labelled → Type 0) → ((p : Labelled) → test p.datagram ≡ true → P p) → (division : Division) (x : Datagram) → first_of test (datagrams_of division) ≡ Some x → Any P division
 first_any test P holds [] x e = absurd (cc)
 first_any test P holds (p ∷ earlier) x e = elim (or_some (first_of test (datagrams_of earlier)) (test p.datagram) p.datagram x e) [
   | inl before ↦ any_later P p earlier (first_any test P holds earlier x before)
@@ -152,9 +152,6 @@ before_rest true false r q w p is = w is
 before_rest false c r q w p is = p is
 
 module _ (h : Header) (ds : List Datagram) (d : Datagram) where
-  at_client : Datagram → Route
-  at_client first = route_at_client first.local (peer_of first) (option_map peer_of (first_of comes_in ds)) ds d
-
   pub c_request : (own : ℕ) (asked : PeerId) (o : Option PeerId) → route_at_client own asked o ds d ≡ Route.Request → (d.local ≡ own) × (peer_of d ≡ asked) × (goes_out d ≡ true) × (begins_request d ≡ true)
   c_request own asked None is =
       let a = client_request (d.local == own) (goes_out d) (begins_request d) (same_peer (peer_of d) asked) Route.WrongPort Route.Peer (λ e. cc) (λ e. cc) is in

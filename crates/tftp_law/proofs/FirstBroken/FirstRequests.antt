@@ -124,11 +124,3 @@ module _ (h : Header) where
   asked_once ds a b (d, is, s) (e, at, t) =
       let same : d ≡ e = some_same d e (sym is ∙ at) in
       request_same a b (spelled_once d.payload (Message.Request a) (Message.Request b) s (subst (λ (y : Datagram). Spells y.payload (Message.Request b)) (sym same) t))
-
-  -- where nothing was asked for, no request came
-  by_first : (o : Option Datagram) (ds : List Datagram) → first_of (asks h) ds ≡ o → OneEnded h ds → ((asked : RequestParts) → FirstAsked h ds asked → ⊥) → o ≡ None
-  by_first None ds is one none = refl
-  by_first (Some d) ds is one none = let (asked, s) = first_asks ds d is one in absurd (none asked (d, is, s))
-
-  pub none_asked : (ds : List Datagram) → OneEnded h ds → ((asked : RequestParts) → FirstAsked h ds asked → ⊥) → first_of (asks h) ds ≡ None
-  none_asked ds one none = by_first (first_of (asks h) ds) ds refl one none

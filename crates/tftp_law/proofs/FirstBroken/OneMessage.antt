@@ -5,16 +5,13 @@ use Rattle.tftp_packet.specs.{OptionMap, Message, RequestParts, Spells}
 use Rattle.tftp_packet.proofs.NoFault.{no_fault}
 use Rattle.tftp_hosts.specs.{Dir, Datagram, Header}
 use Rattle.tftp_rules.specs.{Route, asks, first_of, route_of, is_of_transfer, transfer_of, PortRule, PortBroken, EndBroken, Terms, EndRule}
+use Rattle.tftp_rules.proofs.EndRules.{from_18}
 use Rattle.tftp_nego.specs.{AgreementRule}
 use Rattle.tftp_law.specs.{number_of, FirstBroken, FirstAsked, Broken, MessageBroken, AreTermsAfter, RequestBreaks, OackBreaks, TermsBreak, KindBreaks, MessageBreaks, Rule}
 use Rattle.tftp_law.proofs.Spelled.{spelled_once}
 use Rattle.tftp_law.proofs.FirstBroken.FirstRequests.{asked_once}
 
 -- ---- the numbers of a message's rules
-
-pub end_from : (e : EndRule) → 18 ≤ number_of (Rule.Block e)
-end_from EndRule.NotStarted = omega arith
-end_from _ = omega arith
 
 pub agreement_from : (broken : AgreementRule) → 11 ≤ number_of (Rule.Agreement broken)
 agreement_from AgreementRule.OackEmpty = omega arith
@@ -39,7 +36,7 @@ module _ (h : Header) (asked : RequestParts) (passed : List Datagram) (dir : Dir
   oack_from oack rule b = absurd b.1
 
   terms_from : (m : Message) (rule : Rule) → TermsBreak h asked passed m rule → 8 ≤ number_of rule
-  terms_from m rule (e, is, t, at, b) = let high = end_from e in let same = ap number_of is in omega arith
+  terms_from m rule (e, is, t, at, b) = let high = from_18 e in let same = ap number_of is in omega arith
 
   -- the rules of one kind stand behind that of ERRORs
   pub kind_from : (m : Message) (rule : Rule) → KindBreaks h asked passed dir m rule → 8 ≤ number_of rule

@@ -6,7 +6,7 @@ use Rattle.tftp_model.specs.{Meaning, Req, Deed, Sent, Took, History, HasSent, H
 use Rattle.tftp_rules.specs.{Route, asks, first_of, route_of, is_of_transfer, transfer_of, HasPassed}
 use Rattle.tftp_model.proofs.Members.{contains_first, contains_later}
 use Rattle.tftp_law.specs.Dress.{StrayAnswer}
-use Rattle.tftp_law.specs.{Part, Main, Stray, Division, datagrams_of, view_in, Accords, part_route, AreRouted, Answer, Agrees, Begins, FirstAnswer}
+use Rattle.tftp_law.specs.{Label, Main, Stray, Division, datagrams_of, view_in, Accords, label_route, AreRouted, Answer, Agrees, Begins, FirstAnswer}
 use Rattle.tftp_law.proofs.FirstBroken.FirstRequests.{or_some, asks_route, first_stays}
 
 -- ---- the request is in the view
@@ -18,12 +18,12 @@ module _ (h : Header) (m : Meaning) (wire : List ℕ) where
   more_request : (deed : Deed) (v : History) → HasRequest v → HasRequest (deed ∷ v)
   more_request deed v has = elim has [ inl x ↦ inl (contains_later deed v (Sent Req) x) | inr x ↦ inr (contains_later deed v (Took Req) x) ]
 
-  grown : (d : Datagram) (part : Part) (earlier : Division) → HasRequest (view_in earlier) → HasRequest (view_in (record { datagram = d; part = part } ∷ earlier))
+  grown : (d : Datagram) (label : Label) (earlier : Division) → HasRequest (view_in earlier) → HasRequest (view_in (record { datagram = d; label = label } ∷ earlier))
   grown d (Main deed) earlier has = more_request deed (view_in earlier) has
   grown d Stray earlier has = has
   grown d StrayAnswer earlier has = has
 
-  now_there : (d : Datagram) (part : Part) (earlier : Division) → part_route part ≡ Route.Request → HasRequest (view_in (record { datagram = d; part = part } ∷ earlier))
+  now_there : (d : Datagram) (label : Label) (earlier : Division) → label_route label ≡ Route.Request → HasRequest (view_in (record { datagram = d; label = label } ∷ earlier))
   now_there d (Main (Sent Req)) earlier is = inl (contains_first (Sent Req) (view_in earlier))
   now_there d (Main (Took Req)) earlier is = inr (contains_first (Took Req) (view_in earlier))
   now_there d _ earlier is = absurd (cc)
@@ -31,8 +31,8 @@ module _ (h : Header) (m : Meaning) (wire : List ℕ) where
   pub requested : (division : Division) → AreRouted h m wire division → (d : Datagram) → first_of (asks h) (datagrams_of division) ≡ Some d → HasRequest (view_in division)
   requested [] routed d is = absurd (cc)
   requested (p ∷ earlier) routed d is = elim (or_some (first_of (asks h) (datagrams_of earlier)) (asks h p.datagram) p.datagram d is) [
-    | inl before ↦ grown p.datagram p.part earlier (requested earlier routed.2 d before)
-    | inr now ↦ now_there p.datagram p.part earlier (sym routed.0 ∙ asks_route h (datagrams_of earlier) p.datagram now.0 now.1)
+    | inl before ↦ grown p.datagram p.label earlier (requested earlier routed.2 d before)
+    | inr now ↦ now_there p.datagram p.label earlier (sym routed.0 ∙ asks_route h (datagrams_of earlier) p.datagram now.0 now.1)
   ]
 
   -- ---- accord with the list before

@@ -122,9 +122,6 @@ module _ {h : Header} {m : Meaning} {wire : List ℕ} {division : Division} {d :
 
   -- ---- terms that are known
 
-  t0 : Terms
-  t0 = plain_terms h m.side NoReply
-
   pub pick : (t : Terms) × AreTermsAfter h (request_of m) through t
   pick = elim (reply_now h m wire next.acc.fits division next.routed next.own) [
     | inl none ↦ (plain_terms h m.side NoReply, inl (none, refl))

@@ -3,7 +3,7 @@ use Rattle.std.proofs.Common.{◌≡◌, ℕ, List, inl, inr, refl, sym, subst, 
 use Rattle.std.proofs.lemmas.Bool.{cases_eq}
 use Rattle.tftp_packet.specs.{OptionMap, Message, RequestParts, Spells, Side, Get, Put, Server}
 use Rattle.tftp_hosts.specs.{Dir, In, Out, Datagram, Header}
-use Rattle.tftp_model.specs.{Meaning, request_of, SomethingAgreed, Req, Oack, Ack, Error, Sent, Took, History, MaySendReq, MaySendOack, MaySendError, heard, MayComeOack, MayComeError}
+use Rattle.tftp_model.specs.{Meaning, request_of, SomethingAgreed, Req, Oack, Ack, Error, Sent, Took, History, MaySendReq, MaySendOack, MaySendError, MayComeOack, MayComeError}
 use Rattle.tftp_rules.specs.{transfer_of, Passed, usable}
 use Rattle.tftp_nego.specs.{AgreementRule}
 use Rattle.tftp_law.proofs.Soundness.SameOrNot.{same_request, same_options, same_text}
@@ -26,9 +26,6 @@ module _ {h : Header} {m : Meaning} {wire : List ℕ} {division : Division} {d :
   -- what the other end can have used
   abbrev used : List Datagram
   used = usable through
-
-  abbrev past : History
-  past = heard view
 
   -- ---- OACKs; two maps of options are the same or not
 

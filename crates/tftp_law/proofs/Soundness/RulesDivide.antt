@@ -10,7 +10,7 @@ use Rattle.tftp_model.proofs.Members.{contains_none}
 use Rattle.tftp_law.proofs.Division.Opening.{none_back}
 use Rattle.tftp_law.proofs.Division.Unasked.{none_view}
 use Rattle.tftp_law.specs.Dress.{StrayAnswer}
-use Rattle.tftp_law.specs.{says_of, Part, Main, Stray, Division, datagrams_of, view_in, Accords, part_route, SaysAs, AreRouted, request_at, Starts, FirstAsked, Rule, IsRead, Passes, OneEnded}
+use Rattle.tftp_law.specs.{says_of, Label, Main, Stray, Division, datagrams_of, view_in, Accords, label_route, SaysAs, AreRouted, request_at, Starts, FirstAsked, Rule, IsRead, Passes, OneEnded}
 use Rattle.tftp_law.proofs.FirstBroken.FirstRequests.{begins_asked, asks_is, first_spells}
 use Rattle.tftp_law.proofs.Accord.FirstSpelled.{request_spelled}
 use Rattle.tftp_law.proofs.Soundness.NextDatagram.{Next}
@@ -144,14 +144,14 @@ module _ (h : Header) (m : Meaning) (wire : List ℕ) where
     abbrev ds : List Datagram
     ds = datagrams_of division
 
-    -- its part, and what follows of it
+    -- its label, and what follows of it
     abbrev Placing : Type 0
-    Placing = (part : Part) × (route_of h ds d ≡ part_route part) × SaysAs m wire d part × IsOneSided m wire h.named (view_in (record { datagram = d; part = part } ∷ division))
+    Placing = (label : Label) × (route_of h ds d ≡ label_route label) × SaysAs m wire d label × IsOneSided m wire h.named (view_in (record { datagram = d; label = label } ∷ division))
 
     -- and the view starts with the request
     abbrev Started : Type 0
-    Started = (part : Part) × (route_of h ds d ≡ part_route part) × SaysAs m wire d part × IsOneSided m wire h.named (view_in (record { datagram = d; part = part } ∷ division))
-        × Starts h.named (view_in (record { datagram = d; part = part } ∷ division))
+    Started = (label : Label) × (route_of h ds d ≡ label_route label) × SaysAs m wire d label × IsOneSided m wire h.named (view_in (record { datagram = d; label = label } ∷ division))
+        × Starts h.named (view_in (record { datagram = d; label = label } ∷ division))
 
     stands : (deed : Deed) → (view_in division ≡ [] → deed ≡ request_at h.named) → IsOneSided m wire h.named (deed ∷ view_in division) → Starts h.named (deed ∷ view_in division)
     stands deed is all = (record { first = is; not_back = λ e. none_back m wire h.named (view_in division) (subst (λ x. IsOneSided m wire h.named (x ∷ view_in division)) e all) }, starts)
@@ -294,8 +294,8 @@ module _ (h : Header) (m : Meaning) (wire : List ℕ) where
       → (d : Datagram) → OneEnded h (d ∷ earlier) → Accords h m wire (d ∷ earlier) → Divides (d ∷ earlier)
   one_more division routed own starts earlier same d lawful acc =
       let all : OneEnded h (d ∷ datagrams_of division) = subst (λ ds. OneEnded h (d ∷ ds)) (sym same) lawful in
-      let (part, route, says, more, start) = placed division routed own starts all.1 d all.0 (subst (λ ds. Accords h m wire (d ∷ ds)) (sym same) acc) (route_of h (datagrams_of division) d) refl all.0.read in
-      (record { datagram = d; part = part } ∷ division, ap (λ ds. d ∷ ds) same, (route, says, routed), more, start)
+      let (label, route, says, more, start) = placed division routed own starts all.1 d all.0 (subst (λ ds. Accords h m wire (d ∷ ds)) (sym same) acc) (route_of h (datagrams_of division) d) refl all.0.read in
+      (record { datagram = d; label = label } ∷ division, ap (λ ds. d ∷ ds) same, (route, says, routed), more, start)
 
   pub divides : (earlier : List Datagram) → OneEnded h earlier → Accords h m wire earlier → Divides earlier
   divides [] lawful acc = ([], refl, tt, tt, tt)

@@ -4,7 +4,7 @@ use Rattle.std.proofs.lemmas.Bool.{cases_lt}
 use Rattle.std.proofs.lemmas.List.{reverse-append}
 use Rattle.tftp_model.specs.{Meaning, Deed, History, IsView, two_bytes}
 use Rattle.tftp_model.proofs.Moments.{earlier_view}
-use Rattle.tftp_law.specs.{Part, Main, Stray, Placed, Division, datagrams_of, view_in, HaveParts, IsLawful, Shows, IsLawfulUpTo}
+use Rattle.tftp_law.specs.{Label, Main, Stray, Labelled, Division, datagrams_of, view_in, HaveLabels, IsLawful, Shows, IsLawfulUpTo}
 use Rattle.tftp_law.specs.Dress.{StrayAnswer}
 use Rattle.tftp_law.proofs.Division.Divided.{divided_more}
 use Rattle.tftp_law.proofs.Whole.NothingAgreed.{two_bytes_fit}
@@ -18,18 +18,18 @@ empty_is_lawful header = (
     fits = two_bytes_fit;
     view = [];
     run = ([], tt, refl);
-    dressed = record { ids = record { own = 0; peer = record { host = []; port = 0 }; asked = [] }; division = []; whole = refl; main = refl; parts = tt };
+    dressed = record { ids = record { own = 0; peer = record { host = []; port = 0 }; asked = [] }; division = []; whole = refl; main = refl; labels = tt };
   },
 )
 
 -- the newest datagram is in the view, or the view has no more than the others
-view_parts : (d : Datagram) (part : Part) (rest : Division) (view : History) → view_in (record { datagram = d; part = part } ∷ rest) ≡ view → ((last : Deed) × (view ≡ last ∷ view_in rest)) ⊎ (view ≡ view_in rest)
-view_parts d (Main deed) rest view is = inl (deed, sym is)
-view_parts d Stray rest view is = inr (sym is)
-view_parts d StrayAnswer rest view is = inr (sym is)
+view_labels : (d : Datagram) (label : Label) (rest : Division) (view : History) → view_in (record { datagram = d; label = label } ∷ rest) ≡ view → ((last : Deed) × (view ≡ last ∷ view_in rest)) ⊎ (view ≡ view_in rest)
+view_labels d (Main deed) rest view is = inl (deed, sym is)
+view_labels d Stray rest view is = inr (sym is)
+view_labels d StrayAnswer rest view is = inr (sym is)
 
-begin_view : (header : Header) (m : Meaning) (wire : List ℕ) (p : Placed) (rest : Division) (view : History) → view_in (p ∷ rest) ≡ view → IsView m wire header.named view → IsView m wire header.named (view_in rest)
-begin_view header m wire p rest view is run = elim (view_parts p.datagram p.part rest view is) [
+begin_view : (header : Header) (m : Meaning) (wire : List ℕ) (p : Labelled) (rest : Division) (view : History) → view_in (p ∷ rest) ≡ view → IsView m wire header.named view → IsView m wire header.named (view_in rest)
+begin_view header m wire p rest view is run = elim (view_labels p.datagram p.label rest view is) [
   | inl more ↦ earlier_view m wire header.named more.0 (view_in rest) (subst (IsView m wire header.named) more.1 run)
   | inr same ↦ subst (IsView m wire header.named) same run
 ]
@@ -39,14 +39,14 @@ without_last header datagrams d (m, wire, seen) =
     let dress = seen.dressed in
     let whole : datagrams_of dress.division ≡ d ∷ reverse datagrams = dress.whole ∙ reverse-append datagrams (d ∷ []) in
     let (p, rest, is, last, more) = divided_more dress.division d (reverse datagrams) whole in
-    let have : HaveParts header m wire dress.ids (p ∷ rest) = subst (HaveParts header m wire dress.ids) is dress.parts in (
+    let have : HaveLabels header m wire dress.ids (p ∷ rest) = subst (HaveLabels header m wire dress.ids) is dress.labels in (
       m,
       wire,
       record {
         fits = seen.fits;
         view = view_in rest;
         run = begin_view header m wire p rest seen.view (sym (ap view_in is) ∙ dress.main) seen.run;
-        dressed = record { ids = dress.ids; division = rest; whole = more; main = refl; parts = have.1 };
+        dressed = record { ids = dress.ids; division = rest; whole = more; main = refl; labels = have.1 };
       },
     )
 

@@ -36,7 +36,7 @@ seen_by h m wire datagrams acc x =
       fits = acc.fits;
       view = view_in x.division;
       run = one_sided_view m wire h.named (view_in x.division) x.own;
-      dressed = record { ids = p.0; division = x.division; whole = x.same; main = refl; parts = p.1 };
+      dressed = record { ids = p.0; division = x.division; whole = x.same; main = refl; labels = p.1 };
     }
 
 -- from the rules to a run: a division is made, and the other end is made up
@@ -61,7 +61,7 @@ divides_by_rules h earlier lawful =
     let x = divided h m wire earlier lawful acc in
     let p = parts_of h m wire x.division x.routed x.starts in
     let run = run_divides h m wire p.0 x.division p.1 x.own in
-    record { division = x.division; whole = x.same; starts = run.1; ids = p.0; parts = run.0 }
+    record { division = x.division; whole = x.same; starts = run.1; ids = p.0; labels = run.0 }
 
 -- from a whole run to what the rules mean
 pub meant_by : (h : Header) (m : Meaning) (wire : List ℕ) (ds : List Datagram) → ShowsBy h m wire ds → Meant h (reverse ds) m

@@ -12,7 +12,7 @@ use Rattle.tftp_model.proofs.Defaults.{default_blksize}
 use Rattle.tftp_model.proofs.Members.{contains_first, contains_later, contains_cases, contains_none}
 use Rattle.tftp_model.proofs.OneSided.{view_one_sided}
 use Rattle.tftp_law.specs.Dress.{StrayAnswer}
-use Rattle.tftp_law.specs.{Part, Main, Stray, Division, TransferIds, view_in, datagrams_of, packet_of, HasPart, HaveParts, Fits, ReadsAs, written_wire, IsWritable, Shows, wire_of, HasPayload, CanBeWritten}
+use Rattle.tftp_law.specs.{Label, Main, Stray, Division, TransferIds, view_in, datagrams_of, packet_of, HasLabel, HaveLabels, Fits, ReadsAs, written_wire, IsWritable, Shows, wire_of, HasPayload, CanBeWritten}
 use Rattle.tftp_packet.proofs.CanonicalLaws.{spells_again, shortest as canonical_shortest}
 use Rattle.tftp_netascii.proofs.CanonicalLemmas.{Reads-canonical}
 use Rattle.tftp_nego.proofs.Numbers.{map_in_range, blksize_range}
@@ -29,9 +29,9 @@ module _ (h : Header) (m : Meaning) (wire : List ℕ) (ids : TransferIds) where
   spelled_later : (d : Datagram) (ds : List Datagram) (p : MachinePacket) → Spelled ds p → Spelled (d ∷ ds) p
   spelled_later d ds p (x, at, s) = (x, contains_later d ds x at, s)
 
-  carried_one : (d : Datagram) (part : Part) (earlier : Division) → HasPart h m wire ids earlier d part
+  carried_one : (d : Datagram) (label : Label) (earlier : Division) → HasLabel h m wire ids earlier d label
       → ((deed : Deed) → Contains (view_in earlier) deed → Spelled (datagrams_of earlier) (packet_of deed))
-      → (deed : Deed) → Contains (view_in (record { datagram = d; part = part } ∷ earlier)) deed → Spelled (d ∷ datagrams_of earlier) (packet_of deed)
+      → (deed : Deed) → Contains (view_in (record { datagram = d; label = label } ∷ earlier)) deed → Spelled (d ∷ datagrams_of earlier) (packet_of deed)
   carried_one d (Main done) earlier has rest deed at = elim (contains_cases done (view_in earlier) deed at) [
     | inl same ↦ (d, contains_first d (datagrams_of earlier), subst (λ x. Spells d.payload (message_of m wire (packet_of x))) same has.spells)
     | inr before ↦ spelled_later d (datagrams_of earlier) (packet_of deed) (rest deed before)
@@ -39,14 +39,14 @@ module _ (h : Header) (m : Meaning) (wire : List ℕ) (ids : TransferIds) where
   carried_one d Stray earlier has rest deed at = spelled_later d (datagrams_of earlier) (packet_of deed) (rest deed at)
   carried_one d StrayAnswer earlier has rest deed at = spelled_later d (datagrams_of earlier) (packet_of deed) (rest deed at)
 
-  carried : (division : Division) → HaveParts h m wire ids division → (deed : Deed) → Contains (view_in division) deed → Spelled (datagrams_of division) (packet_of deed)
-  carried [] parts deed at = absurd (contains_none deed at)
-  carried (p ∷ earlier) parts deed at = carried_one p.datagram p.part earlier parts.0 (carried earlier parts.1) deed at
+  carried : (division : Division) → HaveLabels h m wire ids division → (deed : Deed) → Contains (view_in division) deed → Spelled (datagrams_of division) (packet_of deed)
+  carried [] labels deed at = absurd (contains_none deed at)
+  carried (p ∷ earlier) labels deed at = carried_one p.datagram p.label earlier labels.0 (carried earlier labels.1) deed at
 
-  pub passed_spelled : (division : Division) → HaveParts h m wire ids division → (p : MachinePacket) → HasPassed (view_in division) p → Spelled (datagrams_of division) p
-  passed_spelled division parts p passed = elim passed [
-    | inl sent ↦ carried division parts (Sent p) sent
-    | inr took ↦ carried division parts (Took p) took
+  pub passed_spelled : (division : Division) → HaveLabels h m wire ids division → (p : MachinePacket) → HasPassed (view_in division) p → Spelled (datagrams_of division) p
+  passed_spelled division labels p passed = elim passed [
+    | inl sent ↦ carried division labels (Sent p) sent
+    | inr took ↦ carried division labels (Took p) took
   ]
 
 -- with something agreed the OACK has passed, and the request always
@@ -108,7 +108,7 @@ can_be_written h m datagrams short shows =
     let (asked, answer) = opened m shows.wire h.named seen.view own first_block in
     let spelled : (p : MachinePacket) → HasPassed seen.view p → Spelled h m shows.wire dressed.ids (reverse datagrams) p = λ p passed.
     subst (λ ds. Spelled h m shows.wire dressed.ids ds p) dressed.whole
-    (passed_spelled h m shows.wire dressed.ids dressed.division dressed.parts p (subst (λ v. HasPassed v p) (sym dressed.main) passed)) in
+    (passed_spelled h m shows.wire dressed.ids dressed.division dressed.labels p (subst (λ v. HasPassed v p) (sym dressed.main) passed)) in
     let large : 1 ≤ blksize_of m = elim answer [
       | inl none ↦ let is = default_blksize m none in omega (arith, is)
       | inr passed ↦

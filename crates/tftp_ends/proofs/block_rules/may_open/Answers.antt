@@ -1,43 +1,38 @@
-use Rattle.std.proofs.Common.{refl, sym, subst, arith}
+use Rattle.std.proofs.Common.{sym, subst, arith}
 use Rattle.tftp_packet.specs.{Data}
 use Rattle.tftp_rules.specs.{HasWrongLength, usable, BlockLength, WindowOverrun}
-use Rattle.tftp_ends.proofs.FirstRules.{first_is, before_19, before_20, before_21, before_22, before_23, refute}
+use Rattle.tftp_rules.proofs.EndRules.{none_of, first_end}
+use Rattle.tftp_ends.proofs.FirstRules.{refute}
 use Rattle.tftp_ends.proofs.EndLengths.{right_not_wrong}
 use Rattle.tftp_ends.proofs.SoundStates.{takes_it}
 use Rattle.tftp_ends.proofs.block_rules.may_open.Goals as goal
 
 pub returns-then-has_wrong_length-clause-first : goal.returns-then-has_wrong_length-clause-first
 returns-then-has_wrong_length-clause-first g c = λ passed bytes known long.
-    first_is _ passed (Data c.args.number bytes) BlockLength 21 refl
-    (before_21 _ passed c.args.number bytes
-    (before_20 _ passed c.args.number bytes
-    (before_19 _ passed c.args.number bytes (refute _ c.if-blocks_wait.false (c.blocks_wait.ensures (usable passed) known.zero)))
-    c.if-number-eq0.false)
-    (λ b. refute _ c.if-is_beyond.false c.is_beyond.ensures (b.0, rw (sym long) b.1)))
+    first_end _ passed (Data c.args.number bytes) BlockLength
     (subst (HasWrongLength c.args.terms.now passed c.args.number) (sym long) (c.has_wrong_length.ensures.wrong c.if-has_wrong_length.true passed known.blocks))
+    (refute _ c.if-blocks_wait.false (c.blocks_wait.ensures (usable passed) known.zero))
+    c.if-number-eq0.false
+    (λ b. refute _ c.if-is_beyond.false c.is_beyond.ensures (b.0, rw (sym long) b.1))
 
 pub returns-then-from-clause-first : goal.returns-then-from-clause-first
 returns-then-from-clause-first g c = λ passed bytes known long.
     let far = c.if-from.true in
-    first_is _ passed (Data c.args.number bytes) WindowOverrun 22 refl
-    (before_22 _ passed c.args.number bytes (before_21 _ passed c.args.number bytes
-    (before_20 _ passed c.args.number bytes
-    (before_19 _ passed c.args.number bytes (refute _ c.if-blocks_wait.false (c.blocks_wait.ensures (usable passed) known.zero)))
-    c.if-number-eq0.false)
-    (λ b. refute _ c.if-is_beyond.false c.is_beyond.ensures (b.0, rw (sym long) b.1)))
-    (right_not_wrong _ _ passed c.args.number bytes c.args.len known.blocks c.requires.sound long c.if-number-eq0.false (c.has_wrong_length.ensures.right c.if-has_wrong_length.false)))
+    first_end _ passed (Data c.args.number bytes) WindowOverrun
     (c.args.acked, known.acked, (let x = c.from.ensures in let y = c.from-2.ensures in let z = c.from-3.ensures in omega arith))
+    (refute _ c.if-blocks_wait.false (c.blocks_wait.ensures (usable passed) known.zero))
+    c.if-number-eq0.false
+    (λ b. refute _ c.if-is_beyond.false c.is_beyond.ensures (b.0, rw (sym long) b.1))
+    (right_not_wrong _ _ passed c.args.number bytes c.args.len known.blocks c.requires.sound long c.if-number-eq0.false (c.has_wrong_length.ensures.right c.if-has_wrong_length.false))
 
 pub returns-clause-lawful : goal.returns-clause-lawful
 returns-clause-lawful g c = λ passed bytes known long.
     let near = c.if-from.false in
-    before_23 _ passed c.args.number bytes
-    (before_22 _ passed c.args.number bytes (before_21 _ passed c.args.number bytes
-    (before_20 _ passed c.args.number bytes
-    (before_19 _ passed c.args.number bytes (refute _ c.if-blocks_wait.false (c.blocks_wait.ensures (usable passed) known.zero)))
-    c.if-number-eq0.false)
-    (λ b. refute _ c.if-is_beyond.false c.is_beyond.ensures (b.0, rw (sym long) b.1)))
-    (right_not_wrong _ _ passed c.args.number bytes c.args.len known.blocks c.requires.sound long c.if-number-eq0.false (c.has_wrong_length.ensures.right c.if-has_wrong_length.false)))
+    none_of _ passed (Data c.args.number bytes) 5
+    (refute _ c.if-blocks_wait.false (c.blocks_wait.ensures (usable passed) known.zero))
+    c.if-number-eq0.false
+    (λ b. refute _ c.if-is_beyond.false c.is_beyond.ensures (b.0, rw (sym long) b.1))
+    (right_not_wrong _ _ passed c.args.number bytes c.args.len known.blocks c.requires.sound long c.if-number-eq0.false (c.has_wrong_length.ensures.right c.if-has_wrong_length.false))
     (λ b. let same = known.only b.0 b.1 in let over = b.2 in let x = c.from.ensures in let y = c.from-2.ensures in let z = c.from-3.ensures in omega arith)
 
 pub returns-clause-takes : goal.returns-clause-takes

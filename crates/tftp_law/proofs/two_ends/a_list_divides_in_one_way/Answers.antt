@@ -6,7 +6,7 @@ use Rattle.tftp_law.proofs.two_ends.a_list_divides_in_one_way.Goals as goal
 pub returns : goal.returns
 returns c = record {
   divides = λ h earlier. (placed_divides h earlier, divides_placed h earlier);
-  parts = λ h division routed starts. parted h says_some division routed starts;
+  labels = λ h division routed starts. parted h says_some division routed starts;
   routes = divides_routed;
   one = divides_one;
   of_run = run_divides;

@@ -11,7 +11,7 @@ use Rattle.tftp_ends.proofs.receiver_state.ReceiverState.pass_data.Goals as goal
 pub returns-in_err-may_open-clause-found : goal.returns-in_err-may_open-clause-found
 returns-in_err-may_open-clause-found g c = λ passed.
     subst (λ r. IsReceiverAfter r passed → IsFound r.terms passed (Data c.args.number c.args.bytes.now) c.from_residual.result) c.self.view_is
-    (λ after. found_broken _ passed _ _ c.from_residual.result (err_from_is_err_and c.from_residual.result c.from_residual.ensures.1)
+    (λ after. found_broken c.self.inside.terms passed (Data c.args.number c.args.bytes.now) _ c.from_residual.result (err_from_is_err_and c.from_residual.result c.from_residual.ensures.1)
     (c.in_err-may_open.ensures.first passed c.args.bytes.now (known _ c.self.invariant.0 passed after) refl))
 
 pub returns-in_err-hold_block-clause-found : goal.returns-in_err-hold_block-clause-found

@@ -1,4 +1,5 @@
 use Rattle.std.proofs.Common.{rules, Err, ◌≡◌, sym, subst, ap, ◌∙◌}
+use Rattle.std.proofs.lemmas.Result.{err_from_is_err_and}
 use Rattle.tftp_packet.specs.{Data, Packet, Spells, meaning}
 use Rattle.tftp_hosts.specs.{In, Out}
 use Rattle.tftp_ends.specs.{IsAside, IsFound, IsOfItsAuthor}
@@ -8,7 +9,8 @@ use Rattle.tftp_ends.proofs.sender_state.SenderState.pass.Goals as goal
 
 pub returns-in_err-pass_data-in-Data-clause-found : goal.returns-in_err-pass_data-in-Data-clause-found
 returns-in_err-pass_data-in-Data-clause-found g c = λ passed after.
-    let same : Err c.in_err-pass_data-in-Data.field-0.0 ≡ c.from_residual.result = search rules in
+    let is = err_from_is_err_and c.from_residual.result c.from_residual.ensures.1 in
+    let same : Err c.in_err-pass_data-in-Data.field-0.0 ≡ c.from_residual.result = sym (is.1 ∙ ap Err is.2) in
     subst (λ (p : Packet). IsFound c.args.self.now.terms passed (meaning p) c.from_residual.result) (sym c.in-Data.is)
     (subst (IsFound c.args.self.now.terms passed (Data c.in-Data.block c.in-Data.bytes.now)) same (c.in_err-pass_data-in-Data.ensures.found passed after))
 

@@ -1,6 +1,6 @@
-use Rattle.std.proofs.Common.{◌≡◌, true, List, ◌∷◌, Err, inl, inr, refl, sym, subst, ap, ◌∙◌}
+use Rattle.std.proofs.Common.{◌≡◌, ◌↔◌, ℕ, true, List, ◌∷◌, Err, inl, inr, refl, sym, subst, ap, ◌∙◌}
 use Rattle.std.proofs.lemmas.Bool.{false≢true}
-use Rattle.tftp_packet.specs.{opcode_of}
+use Rattle.tftp_packet.specs.{Message, Spells, opcode_of}
 use Rattle.tftp_capture.specs.{datagram_of, header_of}
 use Rattle.tftp_hosts.specs.{Datagram, Header}
 use Rattle.tftp_ends.specs.{KnownIds, StandsFor, HasNumbers, among_all}
@@ -40,7 +40,7 @@ returns-after-says_unknown_id-clause-finds g c h earlier lawful has =
     let d = datagram_of c.args.datagram.now in
     let at = known g (goal.at.returns-after-says_unknown_id-clause-finds g c).After-opcode h earlier has in
     let by_ports = routed g (goal.at.returns-after-says_unknown_id-clause-finds g c).In-Ok h earlier at.ports (numbers g (goal.at.returns-after-says_unknown_id-clause-finds g c).After-opcode) in
-    let says = c.says_unknown_id.ensures d (sym c.as_slice-payload.ensures) in
+    let says = subst (λ (payload : List ℕ). (c.says_unknown_id.result ≡ true) ↔ ((text : List ℕ) × Spells payload (Message.Error 5 text))) c.as_slice-payload.ensures c.says_unknown_id.ensures in
     elim c.if-says_unknown_id.branch [
       | then-says_unknown_id w ↦ rw w.result-is
           (stray_found h earlier d _ c.in-Ok.route by_ports (ap (λ r. is_of_transfer (among_all r)) c.in-StrayAnswer.is) (λ _. says.0 w.if-says_unknown_id.true) at.header at.kept)

@@ -1,4 +1,4 @@
--- At the client a list has parts by its routes.
+-- At the client a list has labels by its routes.
 use Rattle.std.proofs.Common.{◌≡◌, ◌⊎◌, ℕ, true, List, [], ◌∷◌, Option, Some, option_map, Any, inl, inr, refl, sym, ap, ◌∙◌, ◌&&◌, ◌==◌}
 use Rattle.std.proofs.lemmas.Bool.{and_parts, eqb-true}
 use Rattle.tftp_packet.specs.{Client}
@@ -6,7 +6,7 @@ use Rattle.tftp_hosts.specs.{In, Out, Datagram, Header, PeerId, peer_of}
 use Rattle.tftp_model.specs.{Req, Oack, Data, Ack, Deed, Sent, Took, Error}
 use Rattle.tftp_rules.specs.{Route, goes_out, comes_in, begins_request, asks, first_of, route_at_client, route_of}
 use Rattle.tftp_law.specs.Dress.{StrayAnswer}
-use Rattle.tftp_law.specs.{Part, Main, Stray, Division, datagrams_of, view_in, dir_of, packet_of, TransferIds, Saying, Carries, ComesAstray, AnswersStray, HasPartBy, HavePartsBy, packet_route, part_route, SaysAsBy, AreRoutedBy, Stands, Starts}
+use Rattle.tftp_law.specs.{Label, Main, Stray, Division, datagrams_of, view_in, dir_of, packet_of, TransferIds, Saying, Carries, ComesAstray, AnswersStray, HasLabelBy, HaveLabelsBy, packet_route, label_route, SaysAsBy, AreRoutedBy, Stands, Starts}
 use Rattle.tftp_law.proofs.FirstBroken.FirstRequests.{asks_is, first_stays, first_passes}
 use Rattle.tftp_law.proofs.Division.RouteTests.{in_true, two_ways}
 use Rattle.tftp_law.proofs.Division.RoutesBack.{dir_out, dir_in, came_dir, this_one, first_any, map_some, map_none, c_request, c_peer, c_stray, c_answer, no_stray_before}
@@ -36,26 +36,26 @@ module _ (service : ℕ) (says : Saying) (ids : TransferIds) where
   asked_there : (d : Datagram) → asks ch d ≡ true → d.remote ≡ service
   asked_there d t = eqb-true d.remote service (and_parts (goes_out d && begins_request d) (d.remote == service) t).1
 
-  c_main_in : (d : Datagram) (part : Part) (earlier : Division) → HasPartBy ch says ids earlier d part → d.dir ≡ In → Any MainIn (one d part earlier)
-  c_main_in d (Main deed) earlier p way = any_first MainIn (record { datagram = d; part = Main deed }) earlier ((deed, refl), way)
-  c_main_in d Stray earlier p way = any_later MainIn (record { datagram = d; part = Stray }) earlier p.after
+  c_main_in : (d : Datagram) (label : Label) (earlier : Division) → HasLabelBy ch says ids earlier d label → d.dir ≡ In → Any MainIn (one d label earlier)
+  c_main_in d (Main deed) earlier p way = any_first MainIn (record { datagram = d; label = Main deed }) earlier ((deed, refl), way)
+  c_main_in d Stray earlier p way = any_later MainIn (record { datagram = d; label = Stray }) earlier p.after
   c_main_in d StrayAnswer earlier p way = let e : Out ≡ In = sym p.dir ∙ way in absurd (cc)
 
-  c_any_main : (division : Division) → HavePartsBy ch says ids division → Any CameIn division → Any MainIn division
-  c_any_main [] parts any = absurd (any_none CameIn any)
-  c_any_main (p ∷ earlier) parts any = elim (any_cases CameIn p earlier any) [
-    | inl way ↦ c_main_in p.datagram p.part earlier parts.0 way
-    | inr before ↦ any_later MainIn p earlier (c_any_main earlier parts.1 before)
+  c_any_main : (division : Division) → HaveLabelsBy ch says ids division → Any CameIn division → Any MainIn division
+  c_any_main [] labels any = absurd (any_none CameIn any)
+  c_any_main (p ∷ earlier) labels any = elim (any_cases CameIn p earlier any) [
+    | inl way ↦ c_main_in p.datagram p.label earlier labels.0 way
+    | inr before ↦ any_later MainIn p earlier (c_any_main earlier labels.1 before)
   ]
 
-  c_came : (d : Datagram) (part : Part) (earlier : Division) → HasPartBy ch says ids earlier d part → Starts Client (view_in (one d part earlier)) → d.dir ≡ In → (peer_of d ≡ ids.peer → ⊥) → part ≡ Stray
+  c_came : (d : Datagram) (label : Label) (earlier : Division) → HasLabelBy ch says ids earlier d label → Starts Client (view_in (one d label earlier)) → d.dir ≡ In → (peer_of d ≡ ids.peer → ⊥) → label ≡ Stray
   c_came d Stray earlier p starts way apart = refl
   c_came d StrayAnswer earlier p starts way apart = let e : Out ≡ In = sym p.dir ∙ way in absurd (cc)
   c_came d (Main (Sent q)) earlier p starts way apart = let e : Out ≡ In = sym p.dir ∙ way in absurd (cc)
   c_came d (Main (Took Req)) earlier p starts way apart = absurd (starts.0.not_back refl)
   c_came d _ earlier p starts way apart = absurd (apart p.server.0)
 
-  module _ (earlier : Division) (parts : HavePartsBy ch says ids earlier) (routed : AreRoutedBy ch says earlier) (starts : Starts Client (view_in earlier)) (d : Datagram) (are : ClientIds (d ∷ datagrams_of earlier)) where
+  module _ (earlier : Division) (labels : HaveLabelsBy ch says ids earlier) (routed : AreRoutedBy ch says earlier) (starts : Starts Client (view_in earlier)) (d : Datagram) (are : ClientIds (d ∷ datagrams_of earlier)) where
     abbrev es : List Datagram
     es = datagrams_of earlier
 
@@ -118,7 +118,7 @@ module _ (service : ℕ) (says : Saying) (ids : TransferIds) where
       | inr some ↦
           let (own, out, p, at, apart) = c_stray ch es d some.0.local (peer_of some.0) server (c_after some.0 Route.Stray some.1 is) in
           let b = c_server p at in
-          record { dir = dir_in d out; here = c_own some.0 some.1 own; elsewhere = λ e. apart (e ∙ sym b.0); after = c_any_main earlier parts b.1; no_request = λ e. absurd (cc) }
+          record { dir = dir_in d out; here = c_own some.0 some.1 own; elsewhere = λ e. apart (e ∙ sym b.0); after = c_any_main earlier labels b.1; no_request = λ e. absurd (cc) }
     ]
 
     c_back_answer : SaysAsBy says d StrayAnswer → route_of ch es d ≡ Route.StrayAnswer → AnswersStray ch ids earlier d
@@ -127,18 +127,18 @@ module _ (service : ℕ) (says : Saying) (ids : TransferIds) where
       | inr some ↦
           let (p, at, (own, out, apart, noted)) = c_answer ch es d some.0.local (peer_of some.0) server (c_after some.0 Route.StrayAnswer some.1 is) in
           let b = c_server p at in
-          record { dir = dir_out d out; here = c_own some.0 some.1 own; there = stray_from ch says ids c_came earlier parts starts (peer_of d) (λ e. apart (e ∙ sym b.0)) noted; spells = s }
+          record { dir = dir_out d out; here = c_own some.0 some.1 own; there = stray_from ch says ids c_came earlier labels starts (peer_of d) (λ e. apart (e ∙ sym b.0)) noted; spells = s }
     ]
 
-    c_back : (part : Part) → SaysAsBy says d part → Starts Client (view_in (one d part earlier)) → route_of ch es d ≡ part_route part → HasPartBy ch says ids earlier d part
+    c_back : (label : Label) → SaysAsBy says d label → Starts Client (view_in (one d label earlier)) → route_of ch es d ≡ label_route label → HasLabelBy ch says ids earlier d label
     c_back (Main deed) s all is = c_back_main deed s.0 s.1 all.0 is
     c_back Stray s all is = c_back_stray is
     c_back StrayAnswer s all is = c_back_answer s is
 
-  -- each datagram has the part of its route
-  pub parted_at_client : (division : Division) → AreRoutedBy ch says division → Starts Client (view_in division) → ClientIds (datagrams_of division) → HavePartsBy ch says ids division
+  -- each datagram has the label of its route
+  pub parted_at_client : (division : Division) → AreRoutedBy ch says division → Starts Client (view_in division) → ClientIds (datagrams_of division) → HaveLabelsBy ch says ids division
   parted_at_client [] routed starts are = tt
   parted_at_client (p ∷ earlier) routed starts are =
-      let before = starts_before Client p.datagram p.part earlier starts in
-      let parts = parted_at_client earlier routed.2 before (client_ids_before p.datagram (datagrams_of earlier) are) in
-      (c_back earlier parts routed.2 before p.datagram are p.part routed.1 starts routed.0, parts)
+      let before = starts_before Client p.datagram p.label earlier starts in
+      let labels = parted_at_client earlier routed.2 before (client_ids_before p.datagram (datagrams_of earlier) are) in
+      (c_back earlier labels routed.2 before p.datagram are p.label routed.1 starts routed.0, labels)

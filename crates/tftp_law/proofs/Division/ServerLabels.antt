@@ -1,4 +1,4 @@
--- At the server a list has parts by its routes.
+-- At the server a list has labels by its routes.
 use Rattle.std.proofs.Common.{◌≡◌, ◌⊎◌, ℕ, Bool, List, [], ◌∷◌, Option, Some, option_map, Any, inl, inr, refl, sym, ◌∙◌, ◌&&◌, ◌==◌}
 use Rattle.std.proofs.lemmas.Bool.{false≢true, and_from, and_parts, eqb-true, eq-eqb}
 use Rattle.tftp_packet.specs.{Server}
@@ -6,7 +6,7 @@ use Rattle.tftp_hosts.specs.{In, Out, Datagram, Header, peer_of, same_peer}
 use Rattle.tftp_model.specs.{Req, Oack, Data, Ack, Deed, Sent, Took, Error}
 use Rattle.tftp_rules.specs.{Route, goes_out, comes_in, begins_request, asks, first_of, route_at_server, route_of}
 use Rattle.tftp_law.specs.Dress.{StrayAnswer}
-use Rattle.tftp_law.specs.{Part, Main, Stray, Division, datagrams_of, view_in, dir_of, packet_of, TransferIds, Saying, Carries, ComesAstray, AnswersStray, HasPartBy, HavePartsBy, packet_route, part_route, SaysAsBy, AreRoutedBy, Stands, Starts}
+use Rattle.tftp_law.specs.{Label, Main, Stray, Division, datagrams_of, view_in, dir_of, packet_of, TransferIds, Saying, Carries, ComesAstray, AnswersStray, HasLabelBy, HaveLabelsBy, packet_route, label_route, SaysAsBy, AreRoutedBy, Stands, Starts}
 use Rattle.tftp_law.proofs.FirstBroken.FirstRequests.{asks_is, first_stays}
 use Rattle.tftp_law.proofs.Division.RouteTests.{two_ways, same_is}
 use Rattle.tftp_law.proofs.Division.RoutesBack.{dir_out, dir_in, this_one, first_any, map_some, map_none, begins_byte, s_request, s_peer, s_stray, s_answer, no_stray_before}
@@ -33,12 +33,12 @@ module _ (service : ℕ) (says : Saying) (ids : TransferIds) where
     own = λ first x e t. are.own first x (first_stays (asks sh) d first ds e) (first_stays (to_client first) d x ds t);
   }
 
-  s_came : (d : Datagram) (part : Part) (earlier : Division) → HasPartBy sh says ids earlier d part → Starts Server (view_in (one d part earlier)) → d.dir ≡ In → (peer_of d ≡ ids.peer → ⊥) → part ≡ Stray
+  s_came : (d : Datagram) (label : Label) (earlier : Division) → HasLabelBy sh says ids earlier d label → Starts Server (view_in (one d label earlier)) → d.dir ≡ In → (peer_of d ≡ ids.peer → ⊥) → label ≡ Stray
   s_came d Stray earlier p starts way apart = refl
   s_came d StrayAnswer earlier p starts way apart = let e : Out ≡ In = sym p.dir ∙ way in absurd (cc)
   s_came d (Main deed) earlier p starts way apart = absurd (apart p.client)
 
-  module _ (earlier : Division) (parts : HavePartsBy sh says ids earlier) (routed : AreRoutedBy sh says earlier) (starts : Starts Server (view_in earlier)) (d : Datagram) (are : ServerIds (d ∷ datagrams_of earlier)) where
+  module _ (earlier : Division) (labels : HaveLabelsBy sh says ids earlier) (routed : AreRoutedBy sh says earlier) (starts : Starts Server (view_in earlier)) (d : Datagram) (are : ServerIds (d ∷ datagrams_of earlier)) where
     abbrev fs : List Datagram
     fs = datagrams_of earlier
 
@@ -111,7 +111,7 @@ module _ (service : ℕ) (says : Saying) (ids : TransferIds) where
             dir = dir_in d out;
             here = local ∙ b.0;
             elsewhere = λ e. apart (e ∙ sym (s_ids.peer some.0 some.1));
-            after = any_main_out service says ids earlier parts b.1;
+            after = any_main_out service says ids earlier labels b.1;
             no_request = λ at_server same begins. false≢true (sym no_request ∙ and_from _ _ (begins_byte d begins) (eq-eqb d.local service (local ∙ b.0 ∙ same)));
           }
     ]
@@ -125,20 +125,20 @@ module _ (service : ℕ) (says : Saying) (ids : TransferIds) where
           record {
             dir = dir_out d out;
             here = local ∙ b.0;
-            there = stray_from sh says ids s_came earlier parts starts (peer_of d) (λ e. apart (e ∙ sym (s_ids.peer some.0 some.1))) noted;
+            there = stray_from sh says ids s_came earlier labels starts (peer_of d) (λ e. apart (e ∙ sym (s_ids.peer some.0 some.1))) noted;
             spells = s;
           }
     ]
 
-    s_back : (part : Part) → SaysAsBy says d part → Starts Server (view_in (one d part earlier)) → route_of sh fs d ≡ part_route part → HasPartBy sh says ids earlier d part
+    s_back : (label : Label) → SaysAsBy says d label → Starts Server (view_in (one d label earlier)) → route_of sh fs d ≡ label_route label → HasLabelBy sh says ids earlier d label
     s_back (Main deed) s all is = s_back_main deed s.0 s.1 all.0 is
     s_back Stray s all is = s_back_stray is
     s_back StrayAnswer s all is = s_back_answer s is
 
-  -- each datagram has the part of its route
-  pub parted_at_server : (division : Division) → AreRoutedBy sh says division → Starts Server (view_in division) → ServerIds (datagrams_of division) → HavePartsBy sh says ids division
+  -- each datagram has the label of its route
+  pub parted_at_server : (division : Division) → AreRoutedBy sh says division → Starts Server (view_in division) → ServerIds (datagrams_of division) → HaveLabelsBy sh says ids division
   parted_at_server [] routed starts are = tt
   parted_at_server (p ∷ earlier) routed starts are =
-      let before = starts_before Server p.datagram p.part earlier starts in
-      let parts = parted_at_server earlier routed.2 before (server_ids_before p.datagram (datagrams_of earlier) are) in
-      (s_back earlier parts routed.2 before p.datagram are p.part routed.1 starts routed.0, parts)
+      let before = starts_before Server p.datagram p.label earlier starts in
+      let labels = parted_at_server earlier routed.2 before (server_ids_before p.datagram (datagrams_of earlier) are) in
+      (s_back earlier labels routed.2 before p.datagram are p.label routed.1 starts routed.0, labels)
