@@ -49,10 +49,41 @@ pub trait Delivered: Sized {
         ensures block_size { block_size result ≡ blksize }
         ensures window { window result ≡ windowsize };
 
+    /// How many bytes a block has that is not the last.
+    fn block_size(&self) -> u16
+        ensures { result ≡ block_size self.now };
+
+    /// How far above the front a block may be.
+    fn window(&self) -> u16
+        ensures { result ≡ window self.now };
+
     /// Whether a block of this length may be held. A block shorter than the others is the last one (RFC 1350,
     /// section 2), and none lies more than a window above the front (RFC 7440, section 4).
     fn takes(&self, number: u16, len: usize) -> bool
-        ensures { (result ≡ true) ↔ Takes (block_size self.now) (window self.now) (held self.now) number len };
+        ensures { (result ≡ true) ↔ Takes (block_size self.now) (window self.now) (held self.now) number len }
+    {
+        let size = self.block_size() as usize;
+        if number == 0 || len > size {
+            return false;
+        }
+        if number as u32 > self.front() as u32 + self.window() as u32 {
+            return false;
+        }
+        let whole = len == size;
+        let highest = self.highest();
+        match self.block(highest) {
+            Some(bytes) => {
+                if bytes.len() < size {
+                    if number < highest {
+                        return whole;
+                    }
+                    return number == highest && !whole;
+                }
+            }
+            None => {}
+        }
+        whole || number > highest
+    }
 
     /// Holds a block.
     fn put(&mut self, alloc: Global, number: u16, bytes: &[u8]) -> Result<PutOutcome, AllocError>

@@ -5,7 +5,6 @@ mod delivered;
 pub mod laws;
 mod map_delivered;
 mod ring_delivered;
-mod taking;
 mod waiting;
 
 pub use delivered::{Delivered, PutOutcome};

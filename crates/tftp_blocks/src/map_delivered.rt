@@ -5,7 +5,6 @@ ghost use Rattle.tftp_blocks.specs.Store.{IsHeldFront, IsJoin};
 ghost use Rattle.tftp_blocks.specs.Kept.{held_in};
 
 use crate::delivered::{Delivered, PutOutcome};
-use crate::taking::may_take;
 use std::alloc::{AllocError, Global};
 use std::collections::BTreeMap;
 use std::marker::Model;
@@ -56,17 +55,12 @@ impl Delivered for MapDelivered {
         }
     }
 
-    fn takes(&self, number: u16, len: usize) -> bool {
-        let highest = self.highest();
-        may_take(
-            self.block_size,
-            self.window,
-            self.front(),
-            highest,
-            self.block(highest),
-            number,
-            len,
-        )
+    fn block_size(&self) -> u16 {
+        self.block_size
+    }
+
+    fn window(&self) -> u16 {
+        self.window
     }
 
     fn put(&mut self, alloc: Global, number: u16, bytes: &[u8]) -> Result<PutOutcome, AllocError> {

@@ -3,7 +3,6 @@ ghost use Rattle.std.specs.Vec.{vec_capacity};
 ghost use Rattle.tftp_blocks.specs.Ring.{cut, leading, filled, IsRow};
 
 use crate::delivered::{Delivered, PutOutcome};
-use crate::taking::may_take;
 use crate::waiting::Waiting;
 use std::alloc::{AllocError, Global};
 use std::marker::Model;
@@ -74,17 +73,12 @@ impl Delivered for RingDelivered {
         }
     }
 
-    fn takes(&self, number: u16, len: usize) -> bool {
-        let highest = self.highest();
-        may_take(
-            self.block_size,
-            self.window,
-            self.front(),
-            highest,
-            self.block(highest),
-            number,
-            len,
-        )
+    fn block_size(&self) -> u16 {
+        self.block_size
+    }
+
+    fn window(&self) -> u16 {
+        self.window
     }
 
     fn put(&mut self, alloc: Global, number: u16, bytes: &[u8]) -> Result<PutOutcome, AllocError> {

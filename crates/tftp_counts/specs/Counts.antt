@@ -35,39 +35,51 @@ sent packet passed = times goes_out packet passed
 abbrev pub taken : ℕ → List Datagram → ℕ
 taken packet passed = times comes_in packet passed
 
+-- by how much the one is above the other, where it is, at all numbers below this one together
+abbrev pub surplus_below : ℕ → (ℕ → ℕ) → (ℕ → ℕ) → ℕ
+surplus_below zero more less = 0
+surplus_below (suc packet) more less = surplus_below packet more less + (more packet - less packet)
+
 -- by how many copies more, of each packet with a lower number, the one list has sent than the other has taken
 abbrev pub lost_below : ℕ → List Datagram → List Datagram → ℕ
-lost_below zero from to = 0
-lost_below (suc packet) from to = lost_below packet from to + (sent packet from - taken packet to)
+lost_below above from to = surplus_below above (λ packet. sent packet from) (λ packet. taken packet to)
 
 -- by how many copies more the other has taken than the one has sent
 abbrev pub repeated_below : ℕ → List Datagram → List Datagram → ℕ
-repeated_below zero from to = 0
-repeated_below (suc packet) from to = repeated_below packet from to + (taken packet to - sent packet from)
+repeated_below above from to = surplus_below above (λ packet. taken packet to) (λ packet. sent packet from)
+
+-- by so many copies, of all packets together, the one count is above the other
+abbrev pub IsSurplus : (ℕ → ℕ) → (ℕ → ℕ) → ℕ → Type 0
+IsSurplus more less count = (above : ℕ) → above ≡ packets → count ≡ surplus_below above more less
+
+-- The answer is that number, or none where that is 2^64 or more.
+abbrev pub Answers : (ℕ → Type 0) → Option ℕ → Type 0
+Answers Is None = (count : ℕ) → Is count → 2 ^ 64 ≤ count
+Answers Is (Some count) = Is count
 
 -- At least so many copies of what the one end sent did not come to the other.
 abbrev pub AreLost : List Datagram → List Datagram → ℕ → Type 0
-AreLost from to count = (above : ℕ) → above ≡ packets → count ≡ lost_below above from to
+AreLost from to = IsSurplus (λ packet. sent packet from) (λ packet. taken packet to)
 
 -- At least so many copies of what the one end sent were made on the way to the other.
 abbrev pub AreRepeated : List Datagram → List Datagram → ℕ → Type 0
-AreRepeated from to count = (above : ℕ) → above ≡ packets → count ≡ repeated_below above from to
+AreRepeated from to = IsSurplus (λ packet. taken packet to) (λ packet. sent packet from)
 
--- Both ways: of what either end sent at least so many copies did not come to the other.
-pub record AreLostBetween (one other : List Datagram) (count : ℕ) : Type 0 where
+-- So many copies both ways, by what is said of one way.
+pub record AreBothWays (Are : List Datagram → List Datagram → ℕ → Type 0) (one other : List Datagram) (count : ℕ) : Type 0 where
   pub there : ℕ
   pub back : ℕ
-  pub lost_there : AreLost one other there
-  pub lost_back : AreLost other one back
+  pub are_there : Are one other there
+  pub are_back : Are other one back
   pub sum : count ≡ there + back
 
--- both ways: of what either end sent at least so many copies were made on the way
-pub record AreRepeatedBetween (one other : List Datagram) (count : ℕ) : Type 0 where
-  pub there : ℕ
-  pub back : ℕ
-  pub repeated_there : AreRepeated one other there
-  pub repeated_back : AreRepeated other one back
-  pub sum : count ≡ there + back
+-- Of what either end sent at least so many copies did not come to the other.
+abbrev pub AreLostBetween : List Datagram → List Datagram → ℕ → Type 0
+AreLostBetween = AreBothWays AreLost
+
+-- Of what either end sent at least so many copies were made on the way.
+abbrev pub AreRepeatedBetween : List Datagram → List Datagram → ℕ → Type 0
+AreRepeatedBetween = AreBothWays AreRepeated
 
 -- More copies were lost, or made, than fit 64 bits.
 abbrev pub AreTooMany : List Datagram → List Datagram → Type 0

@@ -1,6 +1,6 @@
 ghost use Rattle.std.specs.Prelude.{◌≡◌, ◌<◌, List, [], ◌∷◌, Some, IfNone, slice_index_or};
 ghost use Rattle.tftp_hosts.specs.{Datagram};
-ghost use Rattle.tftp_counts.specs.Counts.{AreCounted, Counted, IsCountOf, TakesRoom, counts_of, number_of, packet_of as packet_number, sent, taken};
+ghost use Rattle.tftp_counts.specs.Counts.{Answers, AreCounted, AreLost, AreRepeated, Counted, IsCountOf, TakesRoom, counts_of, number_of, packet_of as packet_number, sent, taken};
 
 use crate::packets::CountedPacket;
 use crate::table::Table;
@@ -50,20 +50,18 @@ impl Counts {
         self.taken.at(packet.number())
     }
 
-    /// How many copies of the packet with a number went out.
-    #[inline]
-    pub(crate) fn sent_of(&self, packet: usize) -> u64
-        ensures { result ≡ slice_index_or self.now.0 packet 0 }
+    /// At least how many copies of what went out here did not come in at the other end. None where they are 2^64 or more.
+    pub(crate) fn lost(&self, to: &Counts) -> Option<u64>
+        ensures { (sender receiver : List Datagram) → IsCountOf self.now sender → IsCountOf to.now receiver → Answers (AreLost sender receiver) result }
     {
-        self.sent.at(packet)
+        self.sent.surplus(&to.taken)
     }
 
-    /// How many copies of it came in.
-    #[inline]
-    pub(crate) fn taken_of(&self, packet: usize) -> u64
-        ensures { result ≡ slice_index_or self.now.1 packet 0 }
+    /// At least how many copies of it were made on the way to the other end. None where they are 2^64 or more.
+    pub(crate) fn repeated(&self, to: &Counts) -> Option<u64>
+        ensures { (sender receiver : List Datagram) → IsCountOf self.now sender → IsCountOf to.now receiver → Answers (AreRepeated sender receiver) result }
     {
-        self.taken.at(packet)
+        to.taken.surplus(&self.sent)
     }
 
     /// Counts a datagram of the transfer, the next one that passes. None where nothing was counted any more, memory is

@@ -1,8 +1,11 @@
 ghost use Rattle.std.specs.Prelude.{◌≡◌, ◌+◌, ◌<◌, ◌≤◌, ◌==◌, ℕ, [], if◌then◌else◌, length, slice_index_or, IfErr, IfNone, OnOk, OnSome};
-ghost use Rattle.tftp_counts.specs.Counts.{TakesRoom};
+ghost use Rattle.tftp_counts.specs.Counts.{Answers, IsSurplus, TakesRoom};
 
 use std::alloc::{AllocError, Global};
 use std::marker::Model;
+
+/// How many numbers of packets there are: four for each block (RFC 1350, section 5).
+const PACKETS: usize = 262_144;
 
 /// How often each packet passed, by its number.
 #[derive(Debug, Drop)]
@@ -37,6 +40,18 @@ impl Table {
             Some(count) => *count,
             None => 0,
         }
+    }
+
+    /// By how much this is above another, of all packets together. None where that is 2^64 or more.
+    pub fn surplus(&self, other: &Table) -> Option<u64>
+        ensures { Answers (IsSurplus (λ packet. slice_index_or self.now packet 0) (λ packet. slice_index_or other.now packet 0)) result }
+    {
+        let mut count: u64 = 0;
+        for packet in 0..PACKETS {
+            let surplus = self.at(packet).saturating_sub(other.at(packet));
+            count = count.checked_add(surplus)?;
+        }
+        Some(count)
     }
 
     /// Counts a packet once more. None where memory is wanting, or where it passed 2^64 times; then the table is of no use.

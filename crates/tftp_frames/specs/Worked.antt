@@ -78,15 +78,9 @@ ipv4_packet direction bytes = record {
 }
 
 abbrev pub ipv4_part : Packet
-ipv4_part = record {
-  direction = Unknown;
-  source = host 7;
-  target = host 1;
-  protocol = 17;
-  identification = Some 7;
+ipv4_part = record (ipv4_packet Unknown ipv4_fragment) {
   fragment = Some (record { id = 7; place = 1480; more = true });
   content = 104 ∷ 101 ∷ 108 ∷ 108 ∷ 111 ∷ 49 ∷ 50 ∷ 51 ∷ [];
-  packet = ipv4_fragment;
 }
 
 abbrev pub ipv6_packet : Packet
@@ -102,12 +96,7 @@ ipv6_packet = record {
 }
 
 abbrev pub ipv6_part : Packet
-ipv6_part = record {
-  direction = Unknown;
-  source = host_of_ipv6 7;
-  target = host_of_ipv6 1;
-  protocol = 17;
-  identification = None;
+ipv6_part = record ipv6_packet {
   fragment = Some (record { id = 16909060; place = 1448; more = true });
   content = 104 ∷ 101 ∷ 108 ∷ 108 ∷ 111 ∷ 49 ∷ 50 ∷ 51 ∷ [];
   packet = ipv6_fragment;

@@ -86,27 +86,15 @@ fn ipv6_at(bytes: &[u8], place: usize) -> IpAddr
     ))
 }
 
-/// The host that sent a packet.
+/// The host that sent a packet, and the one to which it went.
 #[inline]
-fn source(network: Network, bytes: &[u8]) -> IpAddr
+fn hosts(network: Network, bytes: &[u8]) -> (IpAddr, IpAddr)
     requires { HasHeader network bytes.now }
-    ensures { result ≡ source_of network bytes.now }
+    ensures { result ≡ (source_of network bytes.now, target_of network bytes.now) }
 {
     match network {
-        Network::Ipv4 => ipv4_at(bytes, 12),
-        Network::Ipv6 => ipv6_at(bytes, 8),
-    }
-}
-
-/// The host to which a packet went.
-#[inline]
-fn target(network: Network, bytes: &[u8]) -> IpAddr
-    requires { HasHeader network bytes.now }
-    ensures { result ≡ target_of network bytes.now }
-{
-    match network {
-        Network::Ipv4 => ipv4_at(bytes, 16),
-        Network::Ipv6 => ipv6_at(bytes, 24),
+        Network::Ipv4 => (ipv4_at(bytes, 12), ipv4_at(bytes, 16)),
+        Network::Ipv6 => (ipv6_at(bytes, 8), ipv6_at(bytes, 24)),
     }
 }
 
@@ -119,7 +107,7 @@ pub fn hosts_of(network: Network, bytes: &[u8]) -> Option<(IpAddr, IpAddr)>
     if !has_header(network, bytes) {
         return None;
     }
-    Some((source(network, bytes), target(network, bytes)))
+    Some(hosts(network, bytes))
 }
 
 /// The identification in a packet's header.
@@ -230,10 +218,11 @@ pub fn read_ip(
         return Err(FrameFault::Protocol);
     }
     check_length(network, bytes)?;
+    let (source, target) = hosts(network, bytes);
     Ok(IpPacket {
         direction,
-        source: source(network, bytes),
-        target: target(network, bytes),
+        source,
+        target,
         protocol: upper.protocol,
         identification: identification(network, bytes),
         fragment: upper.fragment,

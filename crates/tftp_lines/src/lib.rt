@@ -11,5 +11,5 @@ mod place;
 pub use doubts::Doubts;
 pub use endpoint::{Address, Endpoint};
 pub use kind::{Kind, Seen, other_end, spells_request};
-pub use line::{Line, SILENCE, Talk};
+pub use line::{Line, Talk, is_recent};
 pub use place::{Place, Transfer};

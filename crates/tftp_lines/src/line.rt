@@ -17,7 +17,14 @@ use std::alloc::{AllocError, Global};
 use std::collections::BTreeMap;
 
 /// The silence that ends a line, in nanoseconds: 300 s.
-pub const SILENCE: u64 = 300_000_000_000;
+const SILENCE: u64 = 300_000_000_000;
+
+/// Whether a moment lies in the last 300 s.
+pub fn is_recent(moment: u64, now: u64) -> bool
+    ensures { result ≡ nat_le now (moment + silence) }
+{
+    now <= moment.saturating_add(SILENCE)
+}
 
 /// Of a client with another endpoint.
 #[derive(Clone, Copy)]
@@ -50,13 +57,6 @@ pub struct Line {
 }
 
 impl Line {
-    /// Whether it has not been silent until now.
-    pub fn is_live(&self, now: u64) -> bool
-        ensures { (line : List Placed) → IsLineOf self.now line → result ≡ nat_le now (self.now.moment + silence) }
-    {
-        now <= self.moment.saturating_add(SILENCE)
-    }
-
     /// Where a request of its client belongs.
     pub fn place_asked(&self, number: u64, target: Endpoint, payload: &[u8]) -> Place
         ensures { (line : List Placed) (d : Recorded) → IsLineOf self.now line → d.source ≡ self.now.latest.client

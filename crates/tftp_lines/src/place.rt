@@ -1,7 +1,7 @@
 //! Where a datagram of a recording belongs.
 
 ghost use Rattle.std.specs.Prelude.{◌≡◌};
-ghost use Rattle.tftp_lines.specs.Places.{transfer_of};
+ghost use Rattle.tftp_lines.specs.Places.{Placed, is_of, transfer_of};
 ghost use Rattle.tftp_lines.specs.Recording.{Recorded, other_of};
 
 use crate::endpoint::Endpoint;
@@ -57,6 +57,16 @@ impl Place {
             Place::Repeats(transfer) => Some(*transfer),
             Place::Talks(transfer) => Some(*transfer),
             _ => None,
+        }
+    }
+
+    /// Whether the datagram is of the transfer with this number at its client.
+    pub fn is_of(&self, number: u64) -> bool
+        ensures { (p : Placed) → self.now ≡ p.place → result ≡ is_of number p }
+    {
+        match self.transfer() {
+            None => false,
+            Some(transfer) => transfer.number == number,
         }
     }
 }

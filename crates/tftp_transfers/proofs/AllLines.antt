@@ -51,10 +51,10 @@ pub on_ok_both : {X E P Q R : Type 0} (r : Result X E) → (P → Q → R) → O
 on_ok_both (Ok x) f one other = f one other
 on_ok_both (Err e) f one other = tt
 
--- without a line that has been silent
-pub lines_less : (lines new : BTreeMap Endpoint Line) (older : List Placed) (k : Endpoint) → ((c : Endpoint) → get endpoint_cmp new c ≡ cond (is_eq (endpoint_cmp k c)) None (get endpoint_cmp lines c))
-    → live (clock older) (line k older) ≡ [] → AreLinesOf lines older → AreLinesOf new older
-lines_less lines new older k updates silent stands = λ c. by_test (same_endpoint k c)
-    (λ is. subst (λ e. IsLineKept e older (get endpoint_cmp new e)) (is_same k c is)
-    (subst (IsLineKept k older) (sym (updates k ∙ ap (λ b. cond b None (get endpoint_cmp lines k)) (same_by_order k k ∙ same_itself k))) silent))
-    (λ off. subst (IsLineKept c older) (sym (updates c ∙ ap (λ b. cond b None (get endpoint_cmp lines c)) (same_by_order k c ∙ off))) (stands c))
+-- with a line as it was
+pub lines_back : (lines new : BTreeMap Endpoint Line) (older : List Placed) (k : Endpoint) (l : Line) → get endpoint_cmp lines k ≡ Some l
+    → ((c : Endpoint) → get endpoint_cmp new c ≡ cond (is_eq (endpoint_cmp k c)) (Some l) (get endpoint_cmp lines c)) → AreLinesOf lines older → AreLinesOf new older
+lines_back lines new older k l at updates stands = λ c. by_test (same_endpoint k c)
+    (λ is. subst (IsLineKept c older) (sym (updates c ∙ ap (λ b. cond b (Some l) (get endpoint_cmp lines c)) (same_by_order k c ∙ is)))
+    (subst (IsLineKept c older) (subst (λ e. get endpoint_cmp lines e ≡ Some l) (is_same k c is) at) (stands c)))
+    (λ off. subst (IsLineKept c older) (sym (updates c ∙ ap (λ b. cond b (Some l) (get endpoint_cmp lines c)) (same_by_order k c ∙ off))) (stands c))

@@ -5,7 +5,7 @@ use Rattle.std.specs.Ordering.{is_eq}
 use Rattle.std.proofs.lemmas.Bool.{false≢true, and_from, or_right, or_left}
 use Rattle.tftp_lines.specs.{Endpoint, Talks, Transfer, Line, Recorded, same_endpoint, endpoint_cmp, goes, is_between, Placed, latest_in, clock, silence, IsLineOf, seen_of, other_end}
 use Rattle.tftp_transfers.specs.{Served, newer, serves, last_served, served_within, served_by, IsServedKept, AreServed}
-use Rattle.tftp_lines.proofs.Endpoints.{same_itself, same_by_order, is_same}
+use Rattle.tftp_lines.proofs.Endpoints.{same_itself, same_by_order}
 use Rattle.tftp_lines.proofs.Silences.{still_false}
 use Rattle.tftp_lines.proofs.Lines.{by_test}
 
@@ -70,11 +70,3 @@ served_more served new p older k s later last updates stands = λ o. by_test (sa
     (last o ∙ ap (λ b. cond b (Some s) (last_served o older)) is))
     (λ off. subst (IsServedKept o (p ∷ older)) (sym (updates o ∙ ap (λ b. cond b (Some s) (get endpoint_cmp served o)) (same_by_order k o ∙ off)))
     (kept_on o p older (get endpoint_cmp served o) (last o ∙ ap (λ b. cond b (Some s) (last_served o older)) off) later (stands o)))
-
--- without one that served nobody in the last 300 s
-pub served_less : (served new : BTreeMap Endpoint Served) (older : List Placed) (k : Endpoint) → ((o : Endpoint) → get endpoint_cmp new o ≡ cond (is_eq (endpoint_cmp k o)) None (get endpoint_cmp served o))
-    → served_by k (clock older) older ≡ None → AreServed served older → AreServed new older
-served_less served new older k updates old stands = λ o. by_test (same_endpoint k o)
-    (λ is. subst (λ e. IsServedKept e older (get endpoint_cmp new e)) (is_same k o is)
-    (subst (IsServedKept k older) (sym (updates k ∙ ap (λ b. cond b None (get endpoint_cmp served k)) (same_by_order k k ∙ same_itself k))) old))
-    (λ off. subst (IsServedKept o older) (sym (updates o ∙ ap (λ b. cond b None (get endpoint_cmp served o)) (same_by_order k o ∙ off))) (stands o))

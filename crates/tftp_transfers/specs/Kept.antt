@@ -1,9 +1,9 @@
 -- What one pass keeps of the datagrams before: of each client's line, and of each endpoint that served.
-use Rattle.std.specs.Prelude.{◌≡◌, ℕ, Bool, true, false, List, length, Option, Some, None}
+use Rattle.std.specs.Prelude.{◌≡◌, ◌⊎◌, ◌+◌, ℕ, Bool, true, false, List, length, Option, Some, None, IsSomeAnd, nat_le}
 use Rattle.std.specs.BTreeMap.{get, BTreeMap}
 use Rattle.std.specs.List.{list_any}
 use Rattle.std.specs.Ordering.{nat_cmp, is_eq}
-use Rattle.tftp_lines.specs.{Endpoint, Place, Opens, Repeats, Beside, Nowhere, Recorded, endpoint_cmp, Placed, clock, AreLinesOf, goes_over, is_late, is_disordered, is_asked_again}
+use Rattle.tftp_lines.specs.{Endpoint, Place, Opens, Repeats, Beside, Nowhere, Recorded, endpoint_cmp, Placed, clock, silence, AreLinesOf, goes_over, is_late, is_disordered, is_asked_again}
 use Rattle.tftp_transfers.specs.declared.attribution.Attribution.{Attribution}
 use Rattle.tftp_transfers.specs.declared.attribution.Served.{Served}
 use Rattle.tftp_transfers.specs.declared.doubted.TransferDoubts.{TransferDoubts}
@@ -24,6 +24,11 @@ IsServedKept o older (Some s) = last_served o older ≡ Some s
 -- who served whom
 abbrev pub AreServed : BTreeMap Endpoint Served → List Placed → Type 0
 AreServed served older = (o : Endpoint) → IsServedKept o older (get endpoint_cmp served o)
+
+-- What is kept of an endpoint stays, or it is let go: its newest datagram is older than 300 s.
+abbrev pub Forgets : {V : Type 0} → (V → ℕ) → ℕ → BTreeMap Endpoint V → BTreeMap Endpoint V → Type 0
+Forgets moment now kept left = (o : Endpoint) → (get endpoint_cmp left o ≡ get endpoint_cmp kept o)
+    ⊎ ((get endpoint_cmp left o ≡ None) × IsSomeAnd (get endpoint_cmp kept o) (λ v. nat_le now (moment v + silence) ≡ false))
 
 -- It stands for these datagrams of a recording; the ports were named.
 pub record IsAfter (a : Attribution) (named : List ℕ) (older : List Placed) : Type 0 where

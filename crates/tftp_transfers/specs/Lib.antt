@@ -6,7 +6,7 @@ pub mod Fair
 pub mod Worked
 pub mod Settled
 pub use Places.{and_then, asks, at_client, beside, beside_by, either, is_nowhere, is_service, last_served, newer, or_talks, place_of, placed, served_at, served_by, served_within, serves}
-pub use Kept.{AreEndsAfter, AreServed, AreServices, IsAfter, IsDoubtedAfter, IsRecorded, IsServedKept}
+pub use Kept.{AreEndsAfter, AreServed, AreServices, Forgets, IsAfter, IsDoubtedAfter, IsRecorded, IsServedKept}
 pub use Views.{answered_by, asked_of, client_view, comes, goes_on, has_host, has_port, is_about, is_at_server, is_end, is_server, opened_it, server_of, server_view, went_on_with}
 pub use Doubts.{is_answered_apart, is_beside, is_it, some_of}
 pub use Worked.{ack_of, asked_twice, client, data_of, read_of, service}

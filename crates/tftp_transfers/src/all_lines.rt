@@ -1,14 +1,13 @@
-//! The lines of all clients, with one datagram more. Where none is kept of a client, only `begin` notes anything; and after
+//! The lines of all clients, with one datagram more. Where none is kept of a client, only `open` notes anything; and after
 //! want of memory they may stand for no datagrams any more.
 
-ghost use Rattle.std.specs.Prelude.{◌≡◌, ◌≢◌, ◌≤◌, ◌∷◌, ℕ, List, [], true, Some, IfSome, is_some, OnOk};
-ghost use Rattle.std.specs.BTreeMap.{get};
-ghost use Rattle.tftp_lines.specs.{Recorded, is_between, endpoint_cmp, Placed, live, line, clock, place_asked, AreLinesOf, IsRequestOf, seen_of, place_of_talk, Place, Transfer};
+ghost use Rattle.std.specs.Prelude.{◌≡◌, ◌≢◌, ◌≤◌, ◌∷◌, ℕ, List, [], true, Some, OnOk};
+ghost use Rattle.tftp_lines.specs.{Recorded, is_between, Placed, live, line, clock, place_asked, AreLinesOf, IsRequestOf, seen_of, place_of_talk, Place, Transfer};
 
+use crate::letting_go::Dated;
 use std::alloc::{AllocError, Global};
 use std::collections::BTreeMap;
-use std::ops::Bound;
-use tftp_lines::{Endpoint, Line, Seen, Transfer};
+use tftp_lines::{Endpoint, Line, Seen, Transfer, is_recent};
 
 /// What is kept of each client's line, by the client's endpoint.
 pub(crate) type Lines = BTreeMap<Endpoint, Line>;
@@ -50,8 +49,8 @@ pub(crate) fn repeat(
     }
 }
 
-/// Notes a request that opens this transfer, where its client's line has not been silent.
-pub(crate) fn reopen(
+/// Notes a request that opens this transfer. Where its client's line has been silent or none is kept, a line begins.
+pub(crate) fn open(
     lines: &mut Lines,
     alloc: Global,
     transfer: Transfer,
@@ -60,62 +59,24 @@ pub(crate) fn reopen(
     now: u64,
 ) -> Result<(), AllocError>
     ensures { (older : List Placed) (d : Recorded) → AreLinesOf lines.old older → clock older ≤ now → IsRequestOf transfer payload.now time d
-        → live now (line transfer.client older) ≢ []
         → OnOk result (AreLinesOf lines.new (record { datagram = d; moment = now; place = Place.Opens transfer } ∷ older)) }
 {
     match lines.get_mut(&transfer.client) {
-        Some(line) => line.open(alloc, transfer, payload, time, now),
-        None => Ok(()),
+        Some(line) if is_recent(line.moment, now) => {
+            line.open(alloc, transfer, payload, time, now)
+        }
+        _ => {
+            let line = Line::begun(alloc, transfer, payload, time, now)?;
+            lines.insert(transfer.client, line)?;
+            Ok(())
+        }
     }
 }
 
-/// Notes a request that opens this transfer, where its client's line has been silent or none is kept: a line begins.
-pub(crate) fn begin(
-    lines: &mut Lines,
-    alloc: Global,
-    transfer: Transfer,
-    payload: &[u8],
-    time: u64,
-    now: u64,
-) -> Result<(), AllocError>
-    ensures { (older : List Placed) (d : Recorded) → AreLinesOf lines.old older → clock older ≤ now → IsRequestOf transfer payload.now time d
-        → live now (line transfer.client older) ≡ []
-        → OnOk result (AreLinesOf lines.new (record { datagram = d; moment = now; place = Place.Opens transfer } ∷ older)) }
-{
-    let line = Line::begun(alloc, transfer, payload, time, now)?;
-    lines.insert(transfer.client, line)?;
-    Ok(())
-}
+impl Dated for Line {
+    ghost moment = { λ line. line.moment };
 
-/// The client after this one of which a line is kept, or else the first.
-pub(crate) fn next_line(lines: &Lines, client: Endpoint) -> Option<Endpoint>
-    ensures { IfSome result (λ next. is_some (get endpoint_cmp lines.now next) ≡ true) }
-{
-    let mut later = lines.range((Bound::Excluded(client), Bound::Unbounded));
-    match later.next() {
-        Some((next, _)) => Some(*next),
-        None => match lines.first_key_value() {
-            Some((first, _)) => Some(*first),
-            None => None,
-        },
-    }
-}
-
-/// Lets a client's line go, if it has been silent for more than 300 s.
-pub(crate) fn let_line_go(lines: &mut Lines, client: Endpoint, now: u64)
-    ensures { (older : List Placed) → AreLinesOf lines.old older → clock older ≡ now → AreLinesOf lines.new older }
-{
-    if is_silent(lines, &client, now) {
-        lines.remove(&client);
-    }
-}
-
-/// Whether a client's line is kept that has been silent for more than 300 s.
-fn is_silent(lines: &Lines, client: &Endpoint, now: u64) -> bool
-    ensures { (older : List Placed) → AreLinesOf lines.now older → clock older ≡ now → result ≡ true → live (clock older) (line client.now older) ≡ [] }
-{
-    match lines.get(client) {
-        Some(line) => !line.is_live(now),
-        None => false,
+    fn moment(&self) -> u64 {
+        self.moment
     }
 }

@@ -7,13 +7,13 @@ ghost use Rattle.tftp_transfers.specs.Places.{is_service, asks, either, at_clien
 ghost use Rattle.tftp_transfers.specs.Kept.{IsAfter, AreServed, AreServices, IsRecorded, is_asked, takes_memory};
 ghost use Rattle.tftp_transfers.specs.declared.attribution.AttributionFault.{AttributionFault};
 
-use crate::all_lines::{begin, let_line_go, next_line, note, reopen, repeat};
+use crate::all_lines::{note, open, repeat};
+use crate::letting_go::{Dated, let_some_go};
 use std::alloc::{AllocError, Global};
 use std::collections::{BTreeMap, BTreeSet};
 use std::convert::From;
-use std::ops::Bound;
 use tftp_lines::{
-    Address, Doubts, Endpoint, Kind, Line, Place, SILENCE, Seen, Transfer, other_end,
+    Address, Doubts, Endpoint, Kind, Line, Place, Seen, Transfer, is_recent, other_end,
 };
 
 /// Why a datagram got no place.
@@ -51,12 +51,11 @@ pub(crate) struct Served {
     pub moment: u64,
 }
 
-impl Served {
-    /// Whether that was in the last 300 s.
-    fn is_recent(&self, now: u64) -> bool
-        ensures { result ≡ nat_le now (self.now.moment + silence) }
-    {
-        now <= self.moment.saturating_add(SILENCE)
+impl Dated for Served {
+    ghost moment = { λ served. served.moment };
+
+    fn moment(&self) -> u64 {
+        self.moment
     }
 }
 
@@ -168,52 +167,9 @@ impl Attribution {
     fn let_go(&mut self, lines: usize, served: usize)
         ensures { (named : List ℕ) (older : List Placed) → IsAfter self.old named older → IsAfter self.new named older }
     {
-        self.let_lines_go(lines);
-        self.let_some_served_go(served);
-    }
-
-    fn let_lines_go(&mut self, before: usize)
-        ensures { (named : List ℕ) (older : List Placed) → IsAfter self.old named older → IsAfter self.new named older }
-    {
-        if self.lines.len() > before {
-            self.let_line_go();
-            self.let_line_go();
-        }
-    }
-
-    fn let_some_served_go(&mut self, before: usize)
-        ensures { (named : List ℕ) (older : List Placed) → IsAfter self.old named older → IsAfter self.new named older }
-    {
-        if self.served.len() > before {
-            self.let_served_go();
-            self.let_served_go();
-        }
-    }
-
-    /// Looks at one line more.
-    fn let_line_go(&mut self)
-        ensures { (named : List ℕ) (older : List Placed) → IsAfter self.old named older → IsAfter self.new named older }
-    {
-        match next_line(&self.lines, self.looked_at.line) {
-            None => {}
-            Some(client) => {
-                self.looked_at.line = client;
-                let_line_go(&mut self.lines, client, self.clock);
-            }
-        }
-    }
-
-    /// Looks at one endpoint more that served.
-    fn let_served_go(&mut self)
-        ensures { (named : List ℕ) (older : List Placed) → IsAfter self.old named older → IsAfter self.new named older }
-    {
-        match next_served(&self.served, self.looked_at.served) {
-            None => {}
-            Some(other) => {
-                self.looked_at.served = other;
-                let_served_go(&mut self.served, other, self.clock);
-            }
-        }
+        let (line, other) = (&mut self.looked_at.line, &mut self.looked_at.served);
+        let_some_go(&mut self.lines, lines, line, self.clock);
+        let_some_go(&mut self.served, served, other, self.clock);
     }
 
     /// Keeps a datagram that belongs there.
@@ -252,7 +208,13 @@ impl Attribution {
             (λ l. (l.now.latest.client ≡ client.now) × IsLineOf l.now (live now (line client.now older))) }
     {
         match self.lines.get(client) {
-            Some(line) => { if line.is_live(now) { Some(line) } else { None } }
+            Some(line) => {
+                if is_recent(line.moment, now) {
+                    Some(line)
+                } else {
+                    None
+                }
+            }
             None => None,
         }
     }
@@ -336,7 +298,7 @@ impl Attribution {
     {
         match self.served.get(other) {
             Some(served) => {
-                if served.is_recent(now) {
+                if is_recent(served.moment, now) {
                     Some(served.transfer)
                 } else {
                     None
@@ -380,7 +342,10 @@ impl Attribution {
         ensures { (named : List ℕ) (older : List Placed) → IsAfter self.now named older
             → MatchBool result (live (max time (clock older)) (line client.now older) ≡ []) (live (max time (clock older)) (line client.now older) ≢ []) }
     {
-        self.is_silent(client, time.max(self.clock))
+        match self.line(client, time.max(self.clock)) {
+            Some(_) => false,
+            None => true,
+        }
     }
 
     /// What a datagram makes doubtful that belongs there.
@@ -395,17 +360,6 @@ impl Attribution {
                 None => Doubts::none(),
                 Some(line) => line.doubts(place, seen, payload),
             },
-        }
-    }
-
-    /// Whether a client's line has been silent until now, or there is none.
-    fn is_silent(&self, client: &Endpoint, now: u64) -> bool
-        ensures { (named : List ℕ) (older : List Placed) → IsAfter self.now named older → clock older ≤ now
-            → MatchBool result (live now (line client.now older) ≡ []) (live now (line client.now older) ≢ []) }
-    {
-        match self.line(client, now) {
-            Some(_) => false,
-            None => true,
         }
     }
 
@@ -426,11 +380,7 @@ impl Attribution {
     {
         match place {
             Place::Opens(transfer) => {
-                if self.is_silent(&transfer.client, now) {
-                    begin(&mut self.lines, alloc, *transfer, payload, seen.time, now)
-                } else {
-                    reopen(&mut self.lines, alloc, *transfer, payload, seen.time, now)
-                }
+                open(&mut self.lines, alloc, *transfer, payload, seen.time, now)
             }
             Place::Repeats(transfer) => repeat(&mut self.lines, transfer.client, seen.time, now),
             Place::Talks(transfer) => {
@@ -481,39 +431,6 @@ fn keep_served(
         Place::Apart(_) => Ok(()),
         Place::Beside(_) => Ok(()),
         Place::Nowhere => Ok(()),
-    }
-}
-
-/// The endpoint after this one that served, or else the first.
-fn next_served(served: &BTreeMap<Endpoint, Served>, other: Endpoint) -> Option<Endpoint>
-    ensures { IfSome result (λ next. is_some (get endpoint_cmp served.now next) ≡ true) }
-{
-    let mut later = served.range((Bound::Excluded(other), Bound::Unbounded));
-    match later.next() {
-        Some((next, _)) => Some(*next),
-        None => match served.first_key_value() {
-            Some((first, _)) => Some(*first),
-            None => None,
-        },
-    }
-}
-
-/// Lets an endpoint go, unless it served in the last 300 s.
-fn let_served_go(served: &mut BTreeMap<Endpoint, Served>, other: Endpoint, now: u64)
-    ensures { (older : List Placed) → AreServed served.old older → clock older ≡ now → AreServed served.new older }
-{
-    if is_old(served, &other, now) {
-        served.remove(&other);
-    }
-}
-
-/// Whether an endpoint is kept that served nobody in the last 300 s.
-fn is_old(served: &BTreeMap<Endpoint, Served>, other: &Endpoint, now: u64) -> bool
-    ensures { (older : List Placed) → AreServed served.now older → clock older ≡ now → result ≡ true → served_by other.now (clock older) older ≡ None }
-{
-    match served.get(other) {
-        Some(last) => !last.is_recent(now),
-        None => false,
     }
 }
 

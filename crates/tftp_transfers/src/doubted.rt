@@ -1,7 +1,7 @@
 //! The doubts of one transfer, of all its datagrams.
 
 ghost use Rattle.std.specs.Prelude.{◌≡◌, ◌∷◌, ℕ, List, []};
-ghost use Rattle.tftp_lines.specs.{Placed, is_of, doubts_of, goes_over, is_late, is_disordered, is_asked_again};
+ghost use Rattle.tftp_lines.specs.{Placed, doubts_of, goes_over, is_late, is_disordered, is_asked_again};
 ghost use Rattle.tftp_transfers.specs.Doubts.{is_answered_apart, is_doubted, some_of};
 ghost use Rattle.tftp_transfers.specs.Kept.{IsDoubtedAfter};
 
@@ -41,7 +41,7 @@ impl TransferDoubts {
         ensures number { self.new.number ≡ self.old.number }
     {
         let doubts = &found.doubts;
-        if self.is_of(found) {
+        if found.place.is_of(self.number) {
             self.goes_over = doubts.goes_over || self.goes_over;
             self.is_late = doubts.is_late || self.is_late;
             self.is_disordered = doubts.is_disordered || self.is_disordered;
@@ -49,15 +49,6 @@ impl TransferDoubts {
         }
         if doubts.may_be_answer_of == Some(self.number) {
             self.is_answered_apart = true;
-        }
-    }
-
-    fn is_of(&self, found: &Attributed) -> bool
-        ensures { (p : Placed) → found.now.place ≡ p.place → result ≡ is_of self.now.number p }
-    {
-        match found.place.transfer() {
-            None => false,
-            Some(transfer) => transfer.number == self.number,
         }
     }
 

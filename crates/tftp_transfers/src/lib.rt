@@ -5,6 +5,7 @@ mod all_lines;
 mod attribution;
 mod doubted;
 pub mod laws;
+mod letting_go;
 mod views;
 
 pub use attribution::{Attributed, Attribution, AttributionFault};

@@ -120,10 +120,7 @@ impl TransferEnds {
     pub fn is_at_client(&self, place: &Place) -> bool
         ensures { (p : Placed) → place.now ≡ p.place → result ≡ is_of self.now.number p }
     {
-        match place.transfer() {
-            None => false,
-            Some(transfer) => transfer.number == self.number,
-        }
+        place.is_of(self.number)
     }
 
     /// Whether a datagram that belongs there is of the server's view, once all datagrams are noted.

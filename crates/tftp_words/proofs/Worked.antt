@@ -1,6 +1,5 @@
 -- Worked command lines.
 use Rattle.std.proofs.Common.{rules, ◌≡◌, inl, inr, [], ◌∷◌, codes, false, true, Some, refl, get_or, ap, arith}
-use Rattle.tftp_packet.specs.declared.kinds.End.TheVariants as end
 use Rattle.tftp_words.specs.declared.point.Point.TheVariants as point
 use Rattle.tftp_words.specs.{Service, Json, At, Plain, IsPort, IsPlain, Done, First, Rest, Listed, Judged, IsRequest}
 

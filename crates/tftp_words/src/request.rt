@@ -96,83 +96,46 @@ fn command_of(word: &str) -> Option<(Command, usize)>
     }
 }
 
-fn list_of<'a>(given: Given<'a>) -> Result<Request<'a>, ReadFault>
-    ensures ok { (ps : _) → Holds given.entry ps → IfOk result (λ r. Calls Command.List (asked r) × Argues (asked r) ps) }
-    ensures only { (ps a : _) → Holds given.entry ps → Calls Command.List a → Argues a ps → IsOkAnd result (λ r. asked r ≡ a) }
+/// What a command asks for with what its arguments give.
+fn request_by<'a>(command: Command, given: Given<'a>) -> Result<Request<'a>, ReadFault>
+    ensures ok { (ps : _) → Holds given.entry ps → IfOk result (λ r. Calls command (asked r) × Argues (asked r) ps) }
+    ensures only { (ps a : _) → Holds given.entry ps → Calls command a → Argues a ps → IsOkAnd result (λ r. asked r ≡ a) }
 {
-    let Given {
-        services,
-        json,
-        end,
-        plain,
-    } = given;
-    match (end, plain.as_slice()) {
-        (None, [file]) => Ok(Request::List(ListRequest {
+    let (services, plain) = (given.services, given.plain);
+    match command {
+        Command::List => match (given.end, plain.as_slice()) {
+            (None, [file]) => Ok(Request::List(ListRequest {
+                services,
+                json: given.json,
+                file: *file,
+            })),
+            _ => Err(ReadFault::Unknown),
+        },
+        Command::Text => match (given.json, given.end, plain.as_slice()) {
+            (false, None, [number, end, file]) => Ok(Request::Text(TextRequest {
+                number: transfer_of(*number).ok_or(ReadFault::Unknown)?,
+                end: end_of(*end).ok_or(ReadFault::Unknown)?,
+                services,
+                file: *file,
+            })),
+            _ => Err(ReadFault::Unknown),
+        },
+        Command::Texts => match (given.json, given.end, plain.as_slice()) {
+            (false, None, [at, file]) => Ok(Request::Texts(TextsRequest {
+                end: end_of(*at).ok_or(ReadFault::Unknown)?,
+                services,
+                file: *file,
+            })),
+            _ => Err(ReadFault::Unknown),
+        },
+        Command::Check if plain.is_empty() => Err(ReadFault::Unknown),
+        Command::Check => Ok(Request::Check(CheckRequest {
+            end: given.end,
             services,
-            json,
-            file: *file,
+            json: given.json,
+            files: plain,
         })),
-        _ => Err(ReadFault::Unknown),
     }
-}
-
-fn text_of<'a>(given: Given<'a>) -> Result<Request<'a>, ReadFault>
-    ensures ok { (ps : _) → Holds given.entry ps → IfOk result (λ r. Calls Command.Text (asked r) × Argues (asked r) ps) }
-    ensures only { (ps a : _) → Holds given.entry ps → Calls Command.Text a → Argues a ps → IsOkAnd result (λ r. asked r ≡ a) }
-{
-    let Given {
-        services,
-        json,
-        end,
-        plain,
-    } = given;
-    if json || end.is_some() {
-        return Err(ReadFault::Unknown);
-    }
-    match plain.as_slice() {
-        [number, end, file] => Ok(Request::Text(TextRequest {
-            number: transfer_of(*number).ok_or(ReadFault::Unknown)?,
-            end: end_of(*end).ok_or(ReadFault::Unknown)?,
-            services,
-            file: *file,
-        })),
-        _ => Err(ReadFault::Unknown),
-    }
-}
-
-fn texts_of<'a>(given: Given<'a>) -> Result<Request<'a>, ReadFault>
-    ensures ok { (ps : _) → Holds given.entry ps → IfOk result (λ r. Calls Command.Texts (asked r) × Argues (asked r) ps) }
-    ensures only { (ps a : _) → Holds given.entry ps → Calls Command.Texts a → Argues a ps → IsOkAnd result (λ r. asked r ≡ a) }
-{
-    let Given {
-        services,
-        json,
-        end,
-        plain,
-    } = given;
-    match (json, end, plain.as_slice()) {
-        (false, None, [at, file]) => Ok(Request::Texts(TextsRequest {
-            end: end_of(*at).ok_or(ReadFault::Unknown)?,
-            services,
-            file: *file,
-        })),
-        _ => Err(ReadFault::Unknown),
-    }
-}
-
-fn check_of<'a>(given: Given<'a>) -> Result<Request<'a>, ReadFault>
-    ensures ok { (ps : _) → Holds given.entry ps → IfOk result (λ r. Calls Command.Check (asked r) × Argues (asked r) ps) }
-    ensures only { (ps a : _) → Holds given.entry ps → Calls Command.Check a → Argues a ps → IsOkAnd result (λ r. asked r ≡ a) }
-{
-    if given.plain.is_empty() {
-        return Err(ReadFault::Unknown);
-    }
-    Ok(Request::Check(CheckRequest {
-        end: given.end,
-        services: given.services,
-        json: given.json,
-        files: given.plain,
-    }))
 }
 
 /// The request that the words make, the first of which is the program's name.
@@ -187,10 +150,5 @@ pub fn requested<'a, S: AsStr>(alloc: Global, words: &'a [S]) -> Result<Request<
         return Err(ReadFault::Unknown);
     };
     let given = given_of(alloc, words.split_at(count).1)?;
-    match command {
-        Command::List => list_of(given),
-        Command::Text => text_of(given),
-        Command::Texts => texts_of(given),
-        Command::Check => check_of(given),
-    }
+    request_by(command, given)
 }

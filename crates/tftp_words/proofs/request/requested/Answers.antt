@@ -1,8 +1,7 @@
 use Rattle.std.proofs.Common.{map, inl, inr, sym, ap, ◌∙◌, ◌≡◌, drop, subst}
 use Rattle.std.proofs.lemmas.List.{drop-map, length-map}
 use Rattle.std.proofs.lemmas.Result.{IfOk-weaker}
-use Rattle.tftp_words.specs.{Say, asked, Calls, Names}
-use Rattle.tftp_words.specs.declared.request.Command.TheVariants as command
+use Rattle.tftp_words.specs.{Say, asked}
 use Rattle.tftp_words.proofs.Asking.{asks, the_arguments, told, command_in, count_fits}
 use Rattle.tftp_words.proofs.request.requested.Goals as goal
 
@@ -14,42 +13,21 @@ returns-in_default-command_of-clause-only g c = λ a request.
 pub split_at-requires : goal.split_at-requires
 split_at-requires g c = rw (← length-map c.args.words.now g.S.AsStr.text) (count_fits c.in-Some.word.now _ _ _ (sym c.in-Some.ensures) c.in-Some-command_of.ensures)
 
-pub returns-in-List-clause-ok : goal.returns-in-List-clause-ok
-returns-in-List-clause-ok g c =
+pub returns-clause-ok : goal.returns-clause-ok
+returns-clause-ok g c =
     let after : map g.S.AsStr.text c.split_at.result.1.now ≡ drop c.in-Some-command_of.count (map g.S.AsStr.text c.args.words.now) = ap (map g.S.AsStr.text) c.split_at.ensures.back ∙ sym (drop-map g.S.AsStr.text c.in-Some-command_of.count c.args.words.now) in
     let said = c.in_ok-given.ensures.ok in
-    IfOk-weaker c.list_of.result _ _
-    (λ r made. asks (asked r) c.in-Some.word.now (map g.S.AsStr.text c.args.words.now) command.List c.in-Some-command_of.count (sym c.in-Some.ensures)
-    (subst (λ d. Names c.in-Some.word.now d c.in-Some-command_of.count) c.in-List.is c.in-Some-command_of.ensures) made.0
+    IfOk-weaker c.request_by.result _ _
+    (λ r made. asks (asked r) c.in-Some.word.now (map g.S.AsStr.text c.args.words.now) c.in-Some-command_of.command c.in-Some-command_of.count (sym c.in-Some.ensures) c.in-Some-command_of.ensures made.0
     (said.0, subst (λ l. Say l said.0) after said.1, made.1))
-    (c.list_of.ensures.ok said.0 said.2)
+    (c.request_by.ensures.ok said.0 said.2)
 
-pub returns-in-Texts-clause-ok : goal.returns-in-Texts-clause-ok
-returns-in-Texts-clause-ok g c =
-    let after : map g.S.AsStr.text c.split_at.result.1.now ≡ drop c.in-Some-command_of.count (map g.S.AsStr.text c.args.words.now) = ap (map g.S.AsStr.text) c.split_at.ensures.back ∙ sym (drop-map g.S.AsStr.text c.in-Some-command_of.count c.args.words.now) in
-    let said = c.in_ok-given.ensures.ok in
-    IfOk-weaker c.texts_of.result _ _
-    (λ r made. asks (asked r) c.in-Some.word.now (map g.S.AsStr.text c.args.words.now) command.Texts c.in-Some-command_of.count (sym c.in-Some.ensures)
-    (subst (λ d. Names c.in-Some.word.now d c.in-Some-command_of.count) c.in-Texts.is c.in-Some-command_of.ensures) made.0
-    (said.0, subst (λ l. Say l said.0) after said.1, made.1))
-    (c.texts_of.ensures.ok said.0 said.2)
-
-pub returns-in-Check-clause-ok : goal.returns-in-Check-clause-ok
-returns-in-Check-clause-ok g c =
-    let after : map g.S.AsStr.text c.split_at.result.1.now ≡ drop c.in-Some-command_of.count (map g.S.AsStr.text c.args.words.now) = ap (map g.S.AsStr.text) c.split_at.ensures.back ∙ sym (drop-map g.S.AsStr.text c.in-Some-command_of.count c.args.words.now) in
-    let said = c.in_ok-given.ensures.ok in
-    IfOk-weaker c.check_of.result _ _
-    (λ r made. asks (asked r) c.in-Some.word.now (map g.S.AsStr.text c.args.words.now) command.Check c.in-Some-command_of.count (sym c.in-Some.ensures)
-    (subst (λ d. Names c.in-Some.word.now d c.in-Some-command_of.count) c.in-Check.is c.in-Some-command_of.ensures) made.0
-    (said.0, subst (λ l. Say l said.0) after said.1, made.1))
-    (c.check_of.ensures.ok said.0 said.2)
-
-pub returns-in-Check-clause-only : goal.returns-in-Check-clause-only
-returns-in-Check-clause-only g c = λ a request.
+pub returns-clause-only : goal.returns-clause-only
+returns-clause-only g c = λ a request.
     let after : map g.S.AsStr.text c.split_at.result.1.now ≡ drop c.in-Some-command_of.count (map g.S.AsStr.text c.args.words.now) = ap (map g.S.AsStr.text) c.split_at.ensures.back ∙ sym (drop-map g.S.AsStr.text c.in-Some-command_of.count c.args.words.now) in
     let known = the_arguments a c.in-Some.word.now (map g.S.AsStr.text c.args.words.now) c.in-Some-command_of.command c.in-Some-command_of.count request (sym c.in-Some.ensures) c.in-Some-command_of.ensures in
     let holds = c.in_ok-given.ensures.only known.1 (subst (λ l. Say l known.1) (sym after) known.2) known.3 in
     elim holds [
-      | inl h ↦ inl (c.check_of.ensures.only known.1 a h (subst (λ d. Calls d a) c.in-Check.is known.0) known.4)
+      | inl h ↦ inl (c.request_by.ensures.only known.1 a h known.0 known.4)
       | inr e ↦ cc
     ]

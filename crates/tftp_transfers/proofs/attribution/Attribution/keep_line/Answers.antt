@@ -5,17 +5,11 @@ use Rattle.tftp_transfers.proofs.Ends.{IsWhere, placed_where}
 use Rattle.tftp_transfers.proofs.Serving.{between_other}
 use Rattle.tftp_transfers.proofs.attribution.Attribution.keep_line.Goals as goal
 
-pub returns-then-is_silent-clause-lines : goal.returns-then-is_silent-clause-lines
-returns-then-is_silent-clause-lines c named older d after later seen same placed =
+pub returns-in-Opens-clause-lines : goal.returns-in-Opens-clause-lines
+returns-in-Opens-clause-lines c named older d after later seen same placed =
     let ends = (subst (IsWhere older c.args.now d) (sym placed) (placed_where named older c.args.now d)).opens c.in-Opens.transfer c.in-Opens.is in
-    subst (λ q. OnOk c.begin.result (AreLinesOf c.begin.new.lines (record { datagram = d; moment = c.args.now; place = q } ∷ older))) (sym c.in-Opens.is)
-    (c.begin.ensures older d after.lines later (record { source = sym ends.0; target = sym ends.1; same = same; passed = sym (ap (λ s. s.time) seen) }) (c.if-is_silent.ensures named older after later))
-
-pub returns-else-is_silent-clause-lines : goal.returns-else-is_silent-clause-lines
-returns-else-is_silent-clause-lines c named older d after later seen same placed =
-    let ends = (subst (IsWhere older c.args.now d) (sym placed) (placed_where named older c.args.now d)).opens c.in-Opens.transfer c.in-Opens.is in
-    subst (λ q. OnOk c.reopen.result (AreLinesOf c.reopen.new.lines (record { datagram = d; moment = c.args.now; place = q } ∷ older))) (sym c.in-Opens.is)
-    (c.reopen.ensures older d after.lines later (record { source = sym ends.0; target = sym ends.1; same = same; passed = sym (ap (λ s. s.time) seen) }) (c.if-is_silent.ensures named older after later))
+    subst (λ q. OnOk c.open.result (AreLinesOf c.open.new.lines (record { datagram = d; moment = c.args.now; place = q } ∷ older))) (sym c.in-Opens.is)
+    (c.open.ensures older d after.lines later (record { source = sym ends.0; target = sym ends.1; same = same; passed = sym (ap (λ s. s.time) seen) }))
 
 pub returns-in-Repeats-clause-lines : goal.returns-in-Repeats-clause-lines
 returns-in-Repeats-clause-lines c named older d after later seen same placed =

@@ -1,4 +1,14 @@
+use Rattle.std.proofs.Common.{subst}
+use Rattle.tftp_transfers.specs.{Forgets}
+use Rattle.tftp_transfers.proofs.Forgetting.{lines_left, served_left}
 use Rattle.tftp_transfers.proofs.attribution.Attribution.let_go.Goals as goal
 
 pub returns : goal.returns
-returns c named older after = c.let_some_served_go.ensures named older (c.let_lines_go.ensures named older after)
+returns c named older after = record {
+  failed = after.failed;
+  count = after.count;
+  clock = after.clock;
+  services = after.services;
+  lines = lines_left older c.args.self.now.lines c.let_some_go.new.kept (subst (λ now. Forgets (λ l. l.moment) now c.args.self.now.lines c.let_some_go.new.kept) after.clock c.let_some_go.ensures) after.lines;
+  served = served_left older c.args.self.now.served c.let_some_go-2.new.kept (subst (λ now. Forgets (λ s. s.moment) now c.args.self.now.served c.let_some_go-2.new.kept) after.clock c.let_some_go-2.ensures) after.served;
+}

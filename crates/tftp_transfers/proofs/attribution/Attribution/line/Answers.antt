@@ -3,16 +3,16 @@ use Rattle.tftp_lines.specs.{line, clock, IsLineOf, IsLineKept}
 use Rattle.tftp_lines.proofs.Silences.{live_kept, live_lost, live_later}
 use Rattle.tftp_transfers.proofs.attribution.Attribution.line.Goals as goal
 
-pub returns-then-is_live : goal.returns-then-is_live
-returns-then-is_live c named older after later =
+pub returns-then-is_recent : goal.returns-then-is_recent
+returns-then-is_recent c named older after later =
     let kept = subst (IsLineKept c.args.client.now older) (sym c.in-Some.ensures.value) (after.lines c.args.client.now) in
-    let live = live_kept c.in-Some.line.now c.args.now (line c.args.client.now older) kept.1 (sym (c.is_live.ensures (line c.args.client.now older) kept.1) ∙ c.if-is_live.true) in
+    let live = live_kept c.in-Some.line.now c.args.now (line c.args.client.now older) kept.1 (sym c.is_recent.ensures ∙ c.if-is_recent.true) in
     (kept.0, subst (IsLineOf c.in-Some.line.now) (sym live) kept.1)
 
-pub returns-else-is_live : goal.returns-else-is_live
-returns-else-is_live c named older after later =
+pub returns-else-is_recent : goal.returns-else-is_recent
+returns-else-is_recent c named older after later =
     let kept = subst (IsLineKept c.args.client.now older) (sym c.in-Some.ensures.value) (after.lines c.args.client.now) in
-    live_lost c.in-Some.line.now c.args.now (line c.args.client.now older) kept.1 (sym (c.is_live.ensures (line c.args.client.now older) kept.1) ∙ c.if-is_live.false)
+    live_lost c.in-Some.line.now c.args.now (line c.args.client.now older) kept.1 (sym c.is_recent.ensures ∙ c.if-is_recent.false)
 
 pub returns-in-None : goal.returns-in-None
 returns-in-None c named older after later =

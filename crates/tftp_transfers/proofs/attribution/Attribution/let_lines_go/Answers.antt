@@ -1,4 +1,0 @@
-use Rattle.tftp_transfers.proofs.attribution.Attribution.let_lines_go.Goals as goal
-
-pub returns-then-len-before : goal.returns-then-len-before
-returns-then-len-before c named older after = c.let_line_go-then-len-before.ensures named older (c.let_line_go.ensures named older after)

@@ -1,8 +1,0 @@
-use Rattle.std.proofs.Common.{rules, ◌≡◌, None, ap, sym, ◌∙◌, map}
-use Rattle.tftp_words.proofs.Asking.{no_number}
-use Rattle.tftp_words.proofs.request.text_of.Goals as goal
-
-pub returns-in_err-ok_or-in-len3-clause-only : goal.returns-in_err-ok_or-in-len3-clause-only
-returns-in_err-ok_or-in-len3-clause-only c = λ ps a h calls argues.
-    let none : c.transfer_of.result ≡ None = search rules in
-    absurd (no_number c.as_slice.result.now _ ps a (h.3 ∙ ap (map (λ w. w.now)) (sym c.as_slice.ensures.value)) calls argues (rw none at c.transfer_of.ensures))
