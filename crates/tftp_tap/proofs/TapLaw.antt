@@ -8,7 +8,7 @@ use Rattle.tftp_rules.specs.{first_of}
 use Rattle.tftp_law.specs.{says_of, says_some}
 use Rattle.tftp_law.proofs.Soundness.MadeMeaning.{some_accord}
 use Rattle.tftp_law.proofs.FirstBroken.FirstRequests.{begins_asked}
-use Rattle.tftp_tap.specs.{MayPassEach, TapDatagram, TapSides, AreApart, TapPart, Main, TapDivision, tapped_of, passed_of, HasTapPart, HaveTapParts, IsLawfulBetween, asks_in, tap_tests, header_at, FirstTapAsked, BreaksNoTapRule}
+use Rattle.tftp_tap.specs.{MayPassEach, TapDatagram, TapSides, AreApart, TapLabel, Main, TapDivision, tapped_of, passed_of, HasTapLabel, HaveTapLabels, IsLawfulBetween, asks_in, tap_tests, header_at, FirstTapAsked, BreaksNoTapRule}
 use Rattle.tftp_tap.specs.TapDress.{Stray, StrayAnswer}
 use Rattle.tftp_tap.proofs.Replays.{tap_view_is}
 use Rattle.tftp_tap.proofs.TapRouted.{Carried, add_main, mains}
@@ -20,11 +20,11 @@ use Rattle.tftp_tap.proofs.TapRunsBreak.{runs_break_none}
 
 module _ (s : TapSides) (m : Meaning) (wire : List ℕ) where
   -- a division whose main datagrams say what the meaning says is one of it
-  pub said_parts : (division : TapDivision) → HaveTapParts s says_some division → Each (λ c. says_of m wire c.pass.packet c.datagram.payload) (mains division) → HaveTapParts s (says_of m wire) division
-  said_parts [] parts says = tt
-  said_parts (p ∷ division) parts says = by p.part parts.0 says (said_parts division parts.1) where
-    by : (part : TapPart) → HasTapPart s says_some division p.datagram part → Each (λ c. says_of m wire c.pass.packet c.datagram.payload) (add_main p.datagram part (mains division))
-        → (Each (λ c. says_of m wire c.pass.packet c.datagram.payload) (mains division) → HaveTapParts s (says_of m wire) division) → HasTapPart s (says_of m wire) division p.datagram part × HaveTapParts s (says_of m wire) division
+  pub said_labels : (division : TapDivision) → HaveTapLabels s says_some division → Each (λ c. says_of m wire c.pass.packet c.datagram.payload) (mains division) → HaveTapLabels s (says_of m wire) division
+  said_labels [] labels says = tt
+  said_labels (p ∷ division) labels says = by p.label labels.0 says (said_labels division labels.1) where
+    by : (label : TapLabel) → HasTapLabel s says_some division p.datagram label → Each (λ c. says_of m wire c.pass.packet c.datagram.payload) (add_main p.datagram label (mains division))
+        → (Each (λ c. says_of m wire c.pass.packet c.datagram.payload) (mains division) → HaveTapLabels s (says_of m wire) division) → HasTapLabel s (says_of m wire) division p.datagram label × HaveTapLabels s (says_of m wire) division
     by (Main x) c says rest = (record { source = c.source; goes = c.goes; spells = says.0 }, rest says.1)
     by Stray c says rest = (c, rest says)
     by StrayAnswer c says rest = (c, rest says)
@@ -40,21 +40,21 @@ module _ (s : TapSides) (apart : AreApart s) where
       let asked = begins_asked found.0.payload is.spells.0 spelled begins in
       (asked.0, (found.0, found.1, subst (Spells found.0.payload) {y = Message.Request asked.0} asked.1 spelled))
 
-  seen_by : (asked : RequestParts) (tapped : List TapDatagram) (division : TapDivision) → tapped_of division ≡ tapped → HaveTapParts s says_some division → Made s apart asked (mains division) → IsLawfulBetween s tapped
-  seen_by asked tapped division whole parts x = (
+  seen_by : (asked : RequestParts) (tapped : List TapDatagram) (division : TapDivision) → tapped_of division ≡ tapped → HaveTapLabels s says_some division → Made s apart asked (mains division) → IsLawfulBetween s tapped
+  seen_by asked tapped division whole labels x = (
     x.m,
     x.wire,
     record {
       fits = x.fits;
       passed = passed_of division;
       view = (tap_view_is x.m x.wire (passed_of division)).1 (subst (MayPassEach x.m x.wire) (sym (passed_is division)) x.may);
-      dressed = record { division = division; whole = whole; main = refl; parts = said_parts s x.m x.wire division parts x.says };
+      dressed = record { division = division; whole = whole; main = refl; labels = said_labels s x.m x.wire division labels x.says };
     },
   )
 
   -- before the first request any meaning will do
-  seen_none : (tapped : List TapDatagram) (division : TapDivision) → tapped_of division ≡ tapped → HaveTapParts s says_some division → mains division ≡ [] → IsLawfulBetween s tapped
-  seen_none tapped division whole parts none =
+  seen_none : (tapped : List TapDatagram) (division : TapDivision) → tapped_of division ≡ tapped → HaveTapLabels s says_some division → mains division ≡ [] → IsLawfulBetween s tapped
+  seen_none tapped division whole labels none =
       let (m, wire, acc) = some_accord (header_at s Get) [] tt in
       let passed : passed_of division ≡ [] = passed_is division ∙ ap (map pass_in) none in (
         m,
@@ -63,20 +63,20 @@ module _ (s : TapSides) (apart : AreApart s) where
           fits = acc.fits;
           passed = passed_of division;
           view = (tap_view_is m wire (passed_of division)).1 (subst (MayPassEach m wire) (sym passed) tt);
-          dressed = record { division = division; whole = whole; main = refl; parts = said_parts s m wire division parts (subst (Each (λ c. says_of m wire c.pass.packet c.datagram.payload)) (sym none) tt) };
+          dressed = record { division = division; whole = whole; main = refl; labels = said_labels s m wire division labels (subst (Each (λ c. says_of m wire c.pass.packet c.datagram.payload)) (sym none) tt) };
         },
       )
 
   pub rules_run : (tapped : List TapDatagram) → BreaksNoTapRule s tapped → IsLawfulBetween s tapped
   rules_run tapped passes =
       let x = parted s apart tapped passes in
-      let each = mains_carried s says_some x.division x.parts in
-      let lawful = mains_lawful s apart x.division x.parts (subst (BreaksNoTapRule s) (sym x.whole) passes) in
+      let each = mains_carried s says_some x.division x.labels in
+      let lawful = mains_lawful s apart x.division x.labels (subst (BreaksNoTapRule s) (sym x.whole) passes) in
       elim (cases_Bool (list_any pair_tests.asks (mains x.division))) [
-        | inr none ↦ seen_none tapped x.division x.whole x.parts (none_asked s apart (mains x.division) lawful each none)
+        | inr none ↦ seen_none tapped x.division x.whole x.labels (none_asked s apart (mains x.division) lawful each none)
         | inl some ↦
             let asked = first_request (mains x.division) each some in
-            seen_by asked.0 tapped x.division x.whole x.parts (made s apart asked.0 (mains x.division) each lawful asked.1 some)
+            seen_by asked.0 tapped x.division x.whole x.labels (made s apart asked.0 (mains x.division) each lawful asked.1 some)
       ]
 
   pub rules_are_runs : (tapped : List TapDatagram) → IsLawfulBetween s tapped ↔ BreaksNoTapRule s tapped

@@ -11,10 +11,10 @@ use Rattle.tftp_law.specs.declared.rule.Rule.TheVariants as rule
 use Rattle.tftp_law.proofs.FirstBroken.FirstRequests.{some_same, or_none, first_stays}
 use Rattle.tftp_law.proofs.Soundness.SameOrNot.{same_request}
 use Rattle.tftp_law.proofs.Division.Divided.{any_none, any_cases}
-use Rattle.tftp_tap.specs.{Pass, TapDatagram, TapSides, side_of, AreApart, same_end, TapPart, Main, TapPlaced, TapDivision, tapped_of, IsMainFrom, CarriesPass, HasTapPart, HaveTapParts, tap_tests, tap_route, is_passing, transfer_between, FirstTapAsked, PassingBreaks, LateBroken, KeptBreaks, TapPasses, BreaksNoTapRule}
+use Rattle.tftp_tap.specs.{Pass, TapDatagram, TapSides, side_of, AreApart, same_end, TapLabel, Main, TapLabelled, TapDivision, tapped_of, IsMainFrom, CarriesPass, HasTapLabel, HaveTapLabels, tap_tests, tap_route, is_passing, transfer_between, FirstTapAsked, PassingBreaks, LateBroken, KeptBreaks, TapPasses, BreaksNoTapRule}
 use Rattle.tftp_tap.specs.TapDress.{Stray, StrayAnswer}
 use Rattle.tftp_tap.proofs.KeptOf.{any_here, any_skip, any_more}
-use Rattle.tftp_tap.proofs.TapPlacing.{has_part}
+use Rattle.tftp_tap.proofs.TapPlacing.{has_label}
 use Rattle.tftp_tap.proofs.TapRouted.{Carried, add_main, mains, pass_route, route_is, transfer_is, passing_is}
 use Rattle.tftp_tap.proofs.TapRecorded.{Each, asks_same, IsCarried, pair_tests, datagram_in, datagrams_each}
 
@@ -23,14 +23,14 @@ use Rattle.tftp_tap.proofs.TapRecorded.{Each, asks_same, IsCarried, pair_tests, 
 pub record Parted (s : TapSides) (tapped : List TapDatagram) : Type 0 where
   pub division : TapDivision
   pub whole : tapped_of division ≡ tapped
-  pub parts : HaveTapParts s says_some division
+  pub labels : HaveTapLabels s says_some division
 
 pub parted : (s : TapSides) → AreApart s → (tapped : List TapDatagram) → BreaksNoTapRule s tapped → Parted s tapped
-parted s apart [] passes = record { division = []; whole = refl; parts = tt }
+parted s apart [] passes = record { division = []; whole = refl; labels = tt }
 parted s apart (d ∷ earlier) passes =
     let before = parted s apart earlier passes.1 in
-    let now = has_part s apart before.division before.parts d (subst (λ l. TapPasses s l d) (sym before.whole) passes.0) in
-    record { division = record { datagram = d; part = now.0 } ∷ before.division; whole = ap (λ l. d ∷ l) before.whole; parts = (now.1, before.parts) }
+    let now = has_label s apart before.division before.labels d (subst (λ l. TapPasses s l d) (sym before.whole) passes.0) in
+    record { division = record { datagram = d; label = now.0 } ∷ before.division; whole = ap (λ l. d ∷ l) before.whole; labels = (now.1, before.labels) }
 
 -- ---- what a main datagram keeps to
 
@@ -45,20 +45,20 @@ AreLawful s [] = Unit {0}
 AreLawful s (c ∷ cs) = Lawful s c cs × AreLawful s cs
 
 module _ (s : TapSides) (apart : AreApart s) where
-  main_answers : (division : TapDivision) → Any (λ p. IsMainFrom Server p.part) division → list_any pair_tests.answers (mains division) ≡ true
-  main_answers [] any = absurd (any_none (λ (p : TapPlaced). IsMainFrom Server p.part) any)
-  main_answers (p ∷ division) any = elim (any_cases (λ (q : TapPlaced). IsMainFrom Server q.part) p division any) [
-    | inl (packet, now) ↦ subst (λ part. list_any pair_tests.answers (add_main p.datagram part (mains division)) ≡ true) (sym now) (any_here pair_tests.answers (record { datagram = p.datagram; pass = record { from = Server; packet = packet } }) (mains division) refl)
-    | inr before ↦ by p.part (main_answers division before)
+  main_answers : (division : TapDivision) → Any (λ p. IsMainFrom Server p.label) division → list_any pair_tests.answers (mains division) ≡ true
+  main_answers [] any = absurd (any_none (λ (p : TapLabelled). IsMainFrom Server p.label) any)
+  main_answers (p ∷ division) any = elim (any_cases (λ (q : TapLabelled). IsMainFrom Server q.label) p division any) [
+    | inl (packet, now) ↦ subst (λ label. list_any pair_tests.answers (add_main p.datagram label (mains division)) ≡ true) (sym now) (any_here pair_tests.answers (record { datagram = p.datagram; pass = record { from = Server; packet = packet } }) (mains division) refl)
+    | inr before ↦ by p.label (main_answers division before)
   ]
     where
-      by : (part : TapPart) → list_any pair_tests.answers (mains division) ≡ true → list_any pair_tests.answers (add_main p.datagram part (mains division)) ≡ true
+      by : (label : TapLabel) → list_any pair_tests.answers (mains division) ≡ true → list_any pair_tests.answers (add_main p.datagram label (mains division)) ≡ true
       by (Main x) some = any_more pair_tests.answers (record { datagram = p.datagram; pass = x }) (mains division) some
       by Stray some = some
       by StrayAnswer some = some
 
-  main_lawful : (division : TapDivision) → HaveTapParts s says_some division → (d : TapDatagram) (x : Pass) → CarriesPass s says_some division d x → TapPasses s (tapped_of division) d → Lawful s (record { datagram = d; pass = x }) (mains division)
-  main_lawful division parts d x c passes = record {
+  main_lawful : (division : TapDivision) → HaveTapLabels s says_some division → (d : TapDatagram) (x : Pass) → CarriesPass s says_some division d x → TapPasses s (tapped_of division) d → Lawful s (record { datagram = d; pass = x }) (mains division)
+  main_lawful division labels d x c passes = record {
     answered = answered x.from x.packet c;
     passing = λ broken b. broken_none broken (inl (subst (λ l. PassingBreaks s l (tap_route s (tapped_of division) d) d broken) (sym transfer) (subst (λ route. PassingBreaks s (map datagram_in (mains division)) route d broken) (sym route) b)));
     late = λ broken b. broken_none broken (inr (inl (subst (λ l. LateBroken s l d broken) (sym transfer) b)));
@@ -66,10 +66,10 @@ module _ (s : TapSides) (apart : AreApart s) where
   }
     where
       transfer : transfer_between s (tapped_of division) ≡ map datagram_in (mains division)
-      transfer = transfer_is s apart division parts
+      transfer = transfer_is s apart division labels
 
       route : tap_route s (tapped_of division) d ≡ pass_route x.from x.packet
-      route = route_is s apart division parts d (Main x) c
+      route = route_is s apart division labels d (Main x) c
 
       broken_none : (broken : Rule) → PassingBreaks s (transfer_between s (tapped_of division)) (tap_route s (tapped_of division) d) d broken
           ⊎ (LateBroken s (transfer_between s (tapped_of division)) d broken ⊎ KeptBreaks s (transfer_between s (tapped_of division)) d broken) → ⊥
@@ -80,11 +80,11 @@ module _ (s : TapSides) (apart : AreApart s) where
       answered Server p c same other = absurd (cc)
       answered Client _ c same other = main_answers division c.goes.1
 
-  pub mains_lawful : (division : TapDivision) → HaveTapParts s says_some division → BreaksNoTapRule s (tapped_of division) → AreLawful s (mains division)
-  mains_lawful [] parts passes = tt
-  mains_lawful (p ∷ division) parts passes = by p.part parts.0 (mains_lawful division parts.1 passes.1) where
-    by : (part : TapPart) → HasTapPart s says_some division p.datagram part → AreLawful s (mains division) → AreLawful s (add_main p.datagram part (mains division))
-    by (Main x) c before = (main_lawful division parts.1 p.datagram x c passes.0, before)
+  pub mains_lawful : (division : TapDivision) → HaveTapLabels s says_some division → BreaksNoTapRule s (tapped_of division) → AreLawful s (mains division)
+  mains_lawful [] labels passes = tt
+  mains_lawful (p ∷ division) labels passes = by p.label labels.0 (mains_lawful division labels.1 passes.1) where
+    by : (label : TapLabel) → HasTapLabel s says_some division p.datagram label → AreLawful s (mains division) → AreLawful s (add_main p.datagram label (mains division))
+    by (Main x) c before = (main_lawful division labels.1 p.datagram x c passes.0, before)
     by Stray c before = before
     by StrayAnswer c before = before
 

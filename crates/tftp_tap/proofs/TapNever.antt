@@ -204,9 +204,9 @@ never_first s earlier d broken apart passes first of = elim first.breaks [
     by passing k =
         let x = parted s apart earlier passes in
         let cs = mains x.division in
-        let each = mains_carried s says_some x.division x.parts in
-        let lawful = mains_lawful s apart x.division x.parts (subst (BreaksNoTapRule s) (sym x.whole) passes) in
-        let same : transfer_between s earlier ≡ map datagram_in cs = ap (transfer_between s) (sym x.whole) ∙ transfer_is s apart x.division x.parts in
+        let each = mains_carried s says_some x.division x.labels in
+        let lawful = mains_lawful s apart x.division x.labels (subst (BreaksNoTapRule s) (sym x.whole) passes) in
+        let same : transfer_between s earlier ≡ map datagram_in cs = ap (transfer_between s) (sym x.whole) ∙ transfer_is s apart x.division x.labels in
         let asked_first = subst (λ l. FirstTapAsked s l k.asked) same k.first in
         let stays = subst (λ l. is_left_out (tap_tests s) (receiver_of k.asked.side) d (kept_of (tap_tests s) (receiver_of k.asked.side) l) ≡ false) same k.stays in
         let not_wrong : (e : End) → d.source ≡ side_of s e → (n : Message) → Spells d.payload n → IsWrongKind e k.asked.side n → ⊥

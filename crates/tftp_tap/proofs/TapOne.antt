@@ -8,30 +8,30 @@ use Rattle.tftp_rules.specs.{first_of}
 use Rattle.tftp_model.proofs.Members.{contains_cases, contains_none}
 use Rattle.tftp_law.specs.{says_of, says_some, number_of, Rule}
 use Rattle.tftp_law.proofs.Division.RouteTests.{is_same}
-use Rattle.tftp_tap.specs.{Tapped, AreCarried, IsSeenAtTap, ShowsAtTap, TapDatagram, TapSides, side_of, AreApart, TapPart, Main, TapDivision, tapped_of, passed_of, GoesThere, HasTapPart, HaveTapParts, IsSeenBetween, ShowsBetween, IsLawfulBetween, is_request, asks_in, ends_in, FirstTapBroken, BreaksNoTapRule, IsTapRefused, goes_on_to, told_server}
+use Rattle.tftp_tap.specs.{Tapped, AreCarried, IsSeenAtTap, ShowsAtTap, TapDatagram, TapSides, side_of, AreApart, TapLabel, Main, TapDivision, tapped_of, passed_of, GoesThere, HasTapLabel, HaveTapLabels, IsSeenBetween, ShowsBetween, IsLawfulBetween, is_request, asks_in, ends_in, FirstTapBroken, BreaksNoTapRule, IsTapRefused, goes_on_to, told_server}
 use Rattle.tftp_tap.specs.TapDress.{Stray, StrayAnswer}
 use Rattle.tftp_tap.proofs.OneTap.{shown_one}
-use Rattle.tftp_tap.proofs.OneTapDivision.{parts_some, one_division}
+use Rattle.tftp_tap.proofs.OneTapDivision.{labels_some, one_division}
 use Rattle.tftp_tap.proofs.TapTests.{asks_some, ends_some, ends_says}
 use Rattle.tftp_tap.proofs.TapBefore.{first_holds}
 
 -- ---- one transfer
 
-abbrev carried_by : TapDatagram → TapPart → List Tapped → List Tapped
+abbrev carried_by : TapDatagram → TapLabel → List Tapped → List Tapped
 carried_by d (Main x) rest = record { from = x.from; payload = d.payload } ∷ rest
 carried_by d Stray rest = rest
 carried_by d StrayAnswer rest = rest
 
 abbrev carried_of : TapDivision → List Tapped
 carried_of [] = []
-carried_of (p ∷ division) = carried_by p.datagram p.part (carried_of division)
+carried_of (p ∷ division) = carried_by p.datagram p.label (carried_of division)
 
 module _ (s : TapSides) (m : Meaning) (wire : List ℕ) where
-  are_carried : (division : TapDivision) → HaveTapParts s (says_of m wire) division → AreCarried m wire (passed_of division) (carried_of division)
-  are_carried [] parts = tt
-  are_carried (p ∷ division) parts = by p.part parts.0 (are_carried division parts.1) where
-    by : (part : TapPart) → HasTapPart s (says_of m wire) division p.datagram part → AreCarried m wire (passed_of division) (carried_of division)
-        → AreCarried m wire (passed_of (record { datagram = p.datagram; part = part } ∷ division)) (carried_by p.datagram part (carried_of division))
+  are_carried : (division : TapDivision) → HaveTapLabels s (says_of m wire) division → AreCarried m wire (passed_of division) (carried_of division)
+  are_carried [] labels = tt
+  are_carried (p ∷ division) labels = by p.label labels.0 (are_carried division labels.1) where
+    by : (label : TapLabel) → HasTapLabel s (says_of m wire) division p.datagram label → AreCarried m wire (passed_of division) (carried_of division)
+        → AreCarried m wire (passed_of (record { datagram = p.datagram; label = label } ∷ division)) (carried_by p.datagram label (carried_of division))
     by (Main x) c before = (refl, c.spells, before)
     by Stray c before = before
     by StrayAnswer c before = before
@@ -41,7 +41,7 @@ module _ (s : TapSides) (m : Meaning) (wire : List ℕ) where
     fits = x.fits;
     passed = x.passed;
     view = x.view;
-    carried = subst (λ l. AreCarried m wire l (carried_of x.dressed.division)) x.dressed.main (are_carried x.dressed.division x.dressed.parts);
+    carried = subst (λ l. AreCarried m wire l (carried_of x.dressed.division)) x.dressed.main (are_carried x.dressed.division x.dressed.labels);
   }
 
   shows_as : (tapped : List TapDatagram) (x : ShowsBetween s m wire tapped) → ShowsAtTap m wire (carried_of x.seen.dressed.division)
@@ -50,7 +50,7 @@ module _ (s : TapSides) (m : Meaning) (wire : List ℕ) where
 
 pub shows_one : (s : TapSides) (m n : Meaning) (wire other : List ℕ) (tapped : List TapDatagram) → AreApart s → ShowsBetween s m wire tapped → ShowsBetween s n other tapped → (m ≡ n) × (wire ≡ other)
 shows_one s m n wire other tapped apart one two =
-    let same = one_division s apart two.seen.dressed.division one.seen.dressed.division (parts_some s n other two.seen.dressed.division two.seen.dressed.parts) (parts_some s m wire one.seen.dressed.division one.seen.dressed.parts)
+    let same = one_division s apart two.seen.dressed.division one.seen.dressed.division (labels_some s n other two.seen.dressed.division two.seen.dressed.labels) (labels_some s m wire one.seen.dressed.division one.seen.dressed.labels)
     (two.seen.dressed.whole ∙ sym one.seen.dressed.whole) in
     shown_one m n wire other (carried_of one.seen.dressed.division) (shows_as s m wire tapped one) (subst (λ d. ShowsAtTap n other (carried_of d)) same (shows_as s n other tapped two))
 
@@ -67,7 +67,7 @@ refused_not_lawful s earlier d broken refused passes = passes.0.lawful broken re
 
 -- ---- the server
 
-goes_server : (s : TapSides) (m : Meaning) (wire : List ℕ) (division : TapDivision) (d : TapDatagram) (part : TapPart) → AreApart s → HasTapPart s (says_of m wire) division d part → HasTapPart s says_some division d part
+goes_server : (s : TapSides) (m : Meaning) (wire : List ℕ) (division : TapDivision) (d : TapDatagram) (label : TapLabel) → AreApart s → HasTapLabel s (says_of m wire) division d label → HasTapLabel s says_some division d label
     → d.source ≡ s.client → asks_in d.payload ≡ false → ends_in d.payload ≡ false → d.destination ≡ s.server
 goes_server s m wire division d (Main x) apart c known source plain quiet = by x.from x.packet c.source c.goes (sym (asks_some d.payload x.packet known.spells) ∙ plain) (sym (ends_some d.payload x.packet known.spells) ∙ quiet) where
   by : (e : End) (p : MachinePacket) → d.source ≡ side_of s e → GoesThere s division d e p → is_request p ≡ false → is_error p ≡ false → d.destination ≡ s.server
@@ -78,16 +78,16 @@ goes_server s m wire division d (Main x) apart c known source plain quiet = by x
 goes_server s m wire division d Stray apart c known source plain quiet = absurd (c.elsewhere Client source)
 goes_server s m wire division d StrayAnswer apart c known source plain quiet = absurd (true≢false (sym (ends_says d.payload (Message.Error 5 c.spells.0) c.spells.1) ∙ quiet))
 
-pub all_go : (s : TapSides) (m : Meaning) (wire : List ℕ) (division : TapDivision) → AreApart s → HaveTapParts s (says_of m wire) division → (d : TapDatagram) → Contains (tapped_of division) d
+pub all_go : (s : TapSides) (m : Meaning) (wire : List ℕ) (division : TapDivision) → AreApart s → HaveTapLabels s (says_of m wire) division → (d : TapDatagram) → Contains (tapped_of division) d
     → goes_on_to s d ≡ true → d.destination ≡ s.server
-all_go s m wire [] apart parts d at goes = absurd (contains_none d at)
-all_go s m wire (p ∷ division) apart parts d at goes = elim (contains_cases p.datagram (tapped_of division) d at) [
-  | inr before ↦ all_go s m wire division apart parts.1 d before goes
+all_go s m wire [] apart labels d at goes = absurd (contains_none d at)
+all_go s m wire (p ∷ division) apart labels d at goes = elim (contains_cases p.datagram (tapped_of division) d at) [
+  | inr before ↦ all_go s m wire division apart labels.1 d before goes
   | inl now ↦
       let mine : goes_on_to s p.datagram ≡ true = ap (goes_on_to s) now ∙ goes in
       let both = and_parts (same_peer p.datagram.source s.client) (not (asks_in p.datagram.payload || ends_in p.datagram.payload)) mine in
       let neither = or_parts (asks_in p.datagram.payload) (ends_in p.datagram.payload) (not_true (asks_in p.datagram.payload || ends_in p.datagram.payload) both.1) in
-      sym (ap (λ (x : TapDatagram). x.destination) now) ∙ goes_server s m wire division p.datagram p.part apart parts.0 (parts_some s m wire (p ∷ division) parts).0 (is_same p.datagram.source s.client both.0) neither.0 neither.1
+      sym (ap (λ (x : TapDatagram). x.destination) now) ∙ goes_server s m wire division p.datagram p.label apart labels.0 (labels_some s m wire (p ∷ division) labels).0 (is_same p.datagram.source s.client both.0) neither.0 neither.1
 ]
   where
     not_true : (b : Bool) → not b ≡ true → b ≡ false
@@ -97,7 +97,7 @@ all_go s m wire (p ∷ division) apart parts d at goes = elim (contains_cases p.
 pub server_told : (s : TapSides) (tapped : List TapDatagram) (d : TapDatagram) → AreApart s → IsLawfulBetween s tapped → first_of (goes_on_to s) tapped ≡ Some d → told_server s tapped ≡ Some s.server
 server_told s tapped d apart (m, wire, seen) first =
     let there = first_holds (goes_on_to s) tapped d first in
-    let goes = all_go s m wire seen.dressed.division apart seen.dressed.parts d (subst (λ l. Contains l d) (sym seen.dressed.whole) there.1) there.0 in
+    let goes = all_go s m wire seen.dressed.division apart seen.dressed.labels d (subst (λ l. Contains l d) (sym seen.dressed.whole) there.1) there.0 in
     told first ∙ ap Some goes
   where
     told : first_of (goes_on_to s) tapped ≡ Some d → told_server s tapped ≡ Some d.destination

@@ -6,11 +6,11 @@ use Rattle.tftp_packet.specs.{End, Client, Server}
 use Rattle.tftp_hosts.specs.{In, Out, Datagram, Header, peer_of, same_peer}
 use Rattle.tftp_model.specs.Machines.{other_end}
 use Rattle.tftp_model.specs.{MachinePacket, Req, Oack, Data, Ack, Error}
-use Rattle.tftp_law.specs.{from_server, Main, Placed, Division, datagrams_of, view_in, TransferIds, Saying, GoesToServer, Carries, HavePartsBy, AreRoutedBy, Stands, Starts, request_at, request_back, says_some}
+use Rattle.tftp_law.specs.{from_server, Main, Labelled, Division, datagrams_of, view_in, TransferIds, Saying, GoesToServer, Carries, HaveLabelsBy, AreRoutedBy, Stands, Starts, request_at, request_back, says_some}
 use Rattle.tftp_law.proofs.Division.RouteTests.{same_is, IsTold}
 use Rattle.tftp_law.proofs.Division.Routed.{routed_by}
 use Rattle.tftp_law.proofs.Division.Divided.{any_first, any_later}
-use Rattle.tftp_tap.specs.{Pass, deed_at, as_at, TapDatagram, TapSides, side_of, AreApart, Tests, is_left_out, kept_of, same_end, pass_tests, TapPart, TapDivision, passed_of, GoesThere, CarriesPass, HasTapPart, HaveTapParts, tap_tests, recorded_at}
+use Rattle.tftp_tap.specs.{Pass, deed_at, as_at, TapDatagram, TapSides, side_of, AreApart, Tests, is_left_out, kept_of, same_end, pass_tests, TapLabel, TapDivision, passed_of, GoesThere, CarriesPass, HasTapLabel, HaveTapLabels, tap_tests, recorded_at}
 use Rattle.tftp_tap.specs.TapDress as tap
 use Rattle.tftp_tap.proofs.KeptOf.{kept_out, kept_in, any_skip}
 use Rattle.tftp_tap.proofs.TapTests.{source_is, asks_some, ends_some}
@@ -104,8 +104,8 @@ passes_each (c ∷ cs) = (record { asks = refl; answers = refl; ends = λ e. ref
 
 pub passed_is : (division : TapDivision) → passed_of division ≡ map pass_in (mains division)
 passed_is [] = refl
-passed_is (p ∷ division) = by p.part (passed_is division) where
-  by : (x : TapPart) → passed_of division ≡ map pass_in (mains division) → passed_of (record { datagram = p.datagram; part = x } ∷ division) ≡ map pass_in (add_main p.datagram x (mains division))
+passed_is (p ∷ division) = by p.label (passed_is division) where
+  by : (x : TapLabel) → passed_of division ≡ map pass_in (mains division) → passed_of (record { datagram = p.datagram; label = x } ∷ division) ≡ map pass_in (add_main p.datagram x (mains division))
   by (tap.Main x) before = ap (λ l. x ∷ l) before
   by tap.Stray before = before
   by tap.StrayAnswer before = before
@@ -118,10 +118,10 @@ module _ (s : TapSides) (says : Saying) where
     by Server p goes = goes
     by Client _ goes = goes.0
 
-  pub mains_carried : (division : TapDivision) → HaveTapParts s says division → Each (IsCarried s says) (mains division)
-  mains_carried [] parts = tt
-  mains_carried (p ∷ division) parts = by p.part parts.0 (mains_carried division parts.1) where
-    by : (x : TapPart) → HasTapPart s says division p.datagram x → Each (IsCarried s says) (mains division) → Each (IsCarried s says) (add_main p.datagram x (mains division))
+  pub mains_carried : (division : TapDivision) → HaveTapLabels s says division → Each (IsCarried s says) (mains division)
+  mains_carried [] labels = tt
+  mains_carried (p ∷ division) labels = by p.label labels.0 (mains_carried division labels.1) where
+    by : (x : TapLabel) → HasTapLabel s says division p.datagram x → Each (IsCarried s says) (mains division) → Each (IsCarried s says) (add_main p.datagram x (mains division))
     by (tap.Main x) c before = (carried_is division p.datagram x c, before)
     by tap.Stray c before = before
     by tap.StrayAnswer c before = before
@@ -154,8 +154,8 @@ header_of_end s r = record { named = r; service = s.asked.port }
 abbrev pub ids_at : TapSides → End → TransferIds
 ids_at s r = record { own = (side_of s r).port; peer = side_of s (other_end r); asked = s.asked.host }
 
-abbrev pub place : TapSides → End → Carried → Placed
-place s r c = record { datagram = recorded_at s r c.datagram; part = Main (deed_at r c.pass.from c.pass.packet) }
+abbrev pub place : TapSides → End → Carried → Labelled
+place s r c = record { datagram = recorded_at s r c.datagram; label = Main (deed_at r c.pass.from c.pass.packet) }
 
 abbrev pub placed : TapSides → End → List Carried → Division
 placed s r ks = map (place s r) ks
@@ -196,20 +196,20 @@ module _ (s : TapSides) (apart : AreApart s) where
     by Client Server source answers = ap (λ (d : Datagram). d.dir) (in_is Client c.datagram source)
     by Server Server source answers = ap (λ (d : Datagram). d.dir) (out_is Server c.datagram source)
 
-  any_from : (r : End) (says : Saying) (ks : List Carried) → Each (IsCarried s says) ks → list_any pair_tests.answers ks ≡ true → Any (λ (p : Placed). p.datagram.dir ≡ from_server r) (placed s r ks)
+  any_from : (r : End) (says : Saying) (ks : List Carried) → Each (IsCarried s says) ks → list_any pair_tests.answers ks ≡ true → Any (λ (p : Labelled). p.datagram.dir ≡ from_server r) (placed s r ks)
   any_from r says [] each some = absurd (true≢false (sym some))
   any_from r says (k ∷ ks) each some = elim (cases_Bool (pair_tests.answers k)) [
-    | inl now ↦ any_first (λ (p : Placed). p.datagram.dir ≡ from_server r) (place s r k) (placed s r ks) (from_dir r k says each.0 now)
-    | inr other ↦ any_later (λ (p : Placed). p.datagram.dir ≡ from_server r) (place s r k) (placed s r ks) (any_from r says ks each.1 (sym (any_skip pair_tests.answers k ks other) ∙ some))
+    | inl now ↦ any_first (λ (p : Labelled). p.datagram.dir ≡ from_server r) (place s r k) (placed s r ks) (from_dir r k says each.0 now)
+    | inr other ↦ any_later (λ (p : Labelled). p.datagram.dir ≡ from_server r) (place s r k) (placed s r ks) (any_from r says ks each.1 (sym (any_skip pair_tests.answers k ks other) ∙ some))
   ]
 
   module _ (says : Saying) where
-    to_server : (r : End) (e : Division) (d : TapDatagram) (p : MachinePacket) → (p ≡ Req → ⊥) → goes_to s Client p d → d.source ≡ s.client → Any (λ (q : Placed). q.datagram.dir ≡ from_server r) e
+    to_server : (r : End) (e : Division) (d : TapDatagram) (p : MachinePacket) → (p ≡ Req → ⊥) → goes_to s Client p d → d.source ≡ s.client → Any (λ (q : Labelled). q.datagram.dir ≡ from_server r) e
         → GoesToServer (header_of_end s r) (ids_at s r) e (recorded_at s r d) p
     to_server Client e d Req other goes source any = absurd (other refl)
     to_server Server e d Req other goes source any = absurd (other refl)
-    to_server Client e d _ other goes source any = subst (λ x. (peer_of x ≡ s.server) × ((x.dir ≡ In) ⊎ Any (λ (q : Placed). q.datagram.dir ≡ In) e)) (sym (out_is Client d source)) (goes, inr any)
-    to_server Server e d _ other goes source any = subst (λ x. (x.local ≡ s.server.port) × ((x.dir ≡ Out) ⊎ Any (λ (q : Placed). q.datagram.dir ≡ Out) e)) (sym (in_is Server d source)) (ap (λ x. x.port) goes, inr any)
+    to_server Client e d _ other goes source any = subst (λ x. (peer_of x ≡ s.server) × ((x.dir ≡ In) ⊎ Any (λ (q : Labelled). q.datagram.dir ≡ In) e)) (sym (out_is Client d source)) (goes, inr any)
+    to_server Server e d _ other goes source any = subst (λ x. (x.local ≡ s.server.port) × ((x.dir ≡ Out) ⊎ Any (λ (q : Labelled). q.datagram.dir ≡ Out) e)) (sym (in_is Server d source)) (ap (λ x. x.port) goes, inr any)
 
     asking : (r : End) (e : Division) (d : TapDatagram) → d.destination ≡ s.asked → d.source ≡ s.client → GoesToServer (header_of_end s r) (ids_at s r) e (recorded_at s r d) Req
     asking Client e d goes source = subst (λ x. (x.remote ≡ s.asked.port) × (Client ≡ Client → x.host ≡ s.asked.host)) (sym (out_is Client d source)) (ap (λ x. x.port) goes, λ same. ap (λ x. x.host) goes)
@@ -217,8 +217,8 @@ module _ (s : TapSides) (apart : AreApart s) where
 
     back : (r : End) (e : Division) (d : TapDatagram) (p : MachinePacket) → (p ≡ Req → ⊥) → d.source ≡ s.server → GoesToServer (header_of_end s r) (ids_at s r) e (recorded_at s r d) p
     back r e d Req other source = absurd (other refl)
-    back Client e d _ other source = subst (λ x. (peer_of x ≡ s.server) × ((x.dir ≡ In) ⊎ Any (λ (q : Placed). q.datagram.dir ≡ In) e)) (sym (in_is Client d source)) (source, inl refl)
-    back Server e d _ other source = subst (λ x. (x.local ≡ s.server.port) × ((x.dir ≡ Out) ⊎ Any (λ (q : Placed). q.datagram.dir ≡ Out) e)) (sym (out_is Server d source)) (ap (λ x. x.port) source, inl refl)
+    back Client e d _ other source = subst (λ x. (peer_of x ≡ s.server) × ((x.dir ≡ In) ⊎ Any (λ (q : Labelled). q.datagram.dir ≡ In) e)) (sym (in_is Client d source)) (source, inl refl)
+    back Server e d _ other source = subst (λ x. (x.local ≡ s.server.port) × ((x.dir ≡ Out) ⊎ Any (λ (q : Labelled). q.datagram.dir ≡ Out) e)) (sym (out_is Server d source)) (ap (λ x. x.port) source, inl refl)
 
     is_req_or : (p : MachinePacket) → (p ≡ Req) ⊎ (p ≡ Req → ⊥)
     is_req_or Req = inl refl
@@ -261,9 +261,9 @@ module _ (s : TapSides) (apart : AreApart s) where
         spells = subst (λ (d : Datagram). says p d.payload) (sym (out_is Server k.datagram source)) spells;
       }
 
-    pub placed_parts : (r : End) (ks : List Carried) → Each (IsCarried s says) ks → AreKnown ks → HavePartsBy (header_of_end s r) says (ids_at s r) (placed s r ks)
-    placed_parts r [] each known = tt
-    placed_parts r (k ∷ ks) each known = (carries r k ks each.0 each.1 known.0, placed_parts r ks each.1 known.1)
+    pub placed_labels : (r : End) (ks : List Carried) → Each (IsCarried s says) ks → AreKnown ks → HaveLabelsBy (header_of_end s r) says (ids_at s r) (placed s r ks)
+    placed_labels r [] each known = tt
+    placed_labels r (k ∷ ks) each known = (carries r k ks each.0 each.1 known.0, placed_labels r ks each.1 known.1)
 
   placed_stands : (r : End) (k : Carried) (ks : List Carried) → Known k ks → Stands r (view_in (placed s r ks)) (deed_at r k.pass.from k.pass.packet)
   placed_stands r k ks known = record { first = first ks k.pass.from k.pass.packet known.server known.client; not_back = not_back r k.pass.from k.pass.packet known.server } where
@@ -292,4 +292,4 @@ module _ (s : TapSides) (apart : AreApart s) where
   placed_starts r (k ∷ ks) known = (placed_stands r k ks known.0, placed_starts r ks known.1)
 
   pub placed_routes : (says : Saying) → IsTold says → (r : End) (ks : List Carried) → Each (IsCarried s says) ks → AreKnown ks → AreRoutedBy (header_of_end s r) says (placed s r ks)
-  placed_routes says told r ks each known = routed_by (header_of_end s r) says told (ids_at s r) (placed s r ks) (placed_parts says r ks each known) (placed_starts r ks known)
+  placed_routes says told r ks each known = routed_by (header_of_end s r) says told (ids_at s r) (placed s r ks) (placed_labels says r ks each known) (placed_starts r ks known)

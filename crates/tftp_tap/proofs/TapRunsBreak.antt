@@ -14,13 +14,13 @@ use Rattle.tftp_law.proofs.Spelled.{spelled_once}
 use Rattle.tftp_law.proofs.Division.Divided.{any_none, any_cases}
 use Rattle.tftp_law.proofs.Division.Routed.{told_of}
 use Rattle.tftp_law.proofs.Completeness.RunsPass.{ruled}
-use Rattle.tftp_tap.specs.{Pass, as_at, MayPass, MayPassEach, TapDatagram, TapSides, side_of, AreApart, is_left_out, kept_of, before_error, pass_tests, kept_at, IsAnsweredInTime, IsInTime, TapPart, Main, TapPlaced, TapDivision, tapped_of, passed_of, IsSeenBetween, HasTapPart, HaveTapParts, tap_tests, tap_route, is_passing, transfer_between, recorded_at, header_at, kept_between, FirstTapAsked, Says, HasKind, IsBlock, IsSomeBlock, IsOack, IsReply, SidesBreak, OtherError, IsLateAck, IsLateZero, IsLateBlock, LateBreaks, LateBroken, PassingBreaks, KeptBreaks, IsTapRead, TapPasses, BreaksNoTapRule, TapRoute}
+use Rattle.tftp_tap.specs.{Pass, as_at, MayPass, MayPassEach, TapDatagram, TapSides, side_of, AreApart, is_left_out, kept_of, before_error, pass_tests, kept_at, IsAnsweredInTime, IsInTime, TapLabel, Main, TapLabelled, TapDivision, tapped_of, passed_of, IsSeenBetween, HasTapLabel, HaveTapLabels, tap_tests, tap_route, is_passing, transfer_between, recorded_at, header_at, kept_between, FirstTapAsked, Says, HasKind, IsBlock, IsSomeBlock, IsOack, IsReply, SidesBreak, OtherError, IsLateAck, IsLateZero, IsLateBlock, LateBreaks, LateBroken, PassingBreaks, KeptBreaks, IsTapRead, TapPasses, BreaksNoTapRule, TapRoute}
 use Rattle.tftp_tap.specs.TapDress.{Stray, StrayAnswer}
 use Rattle.tftp_tap.proofs.Replays.{tap_view_is}
 use Rattle.tftp_tap.proofs.Passed.{sent_passed, at_took}
 use Rattle.tftp_tap.proofs.OneTap.{Has, begun}
 use Rattle.tftp_tap.proofs.Ordered.{ack_asked, client_reads}
-use Rattle.tftp_tap.proofs.OneTapDivision.{parts_some, some_of}
+use Rattle.tftp_tap.proofs.OneTapDivision.{labels_some, some_of}
 use Rattle.tftp_tap.proofs.KeptOf.{any_of, before_there, kept_out, kept_in}
 use Rattle.tftp_tap.proofs.TapKept.{sent_before, kept_may, kept_one_sided}
 use Rattle.tftp_tap.proofs.TapBack.{in_time}
@@ -396,31 +396,31 @@ module _ (s : TapSides) (apart : AreApart s) (m : Meaning) (wire : List ℕ) (fi
       answer_breaks broken b = b
 
   module _ where
-    part_passes : (earlier : TapDivision) → HaveTapParts s (says_of m wire) earlier → MayPassEach m wire (passed_of earlier) → (d : TapDatagram) (part : TapPart) → HasTapPart s (says_of m wire) earlier d part
-        → HasTapPart s says_some earlier d part → MayPassEach m wire (passed_of (record { datagram = d; part = part } ∷ earlier)) → TapPasses s (tapped_of earlier) d
-    part_passes earlier parts may d (Main x) has known all =
-        let carried = mains_carried s (says_of m wire) earlier parts in
+    label_passes : (earlier : TapDivision) → HaveTapLabels s (says_of m wire) earlier → MayPassEach m wire (passed_of earlier) → (d : TapDatagram) (label : TapLabel) → HasTapLabel s (says_of m wire) earlier d label
+        → HasTapLabel s says_some earlier d label → MayPassEach m wire (passed_of (record { datagram = d; label = label } ∷ earlier)) → TapPasses s (tapped_of earlier) d
+    label_passes earlier labels may d (Main x) has known all =
+        let carried = mains_carried s (says_of m wire) earlier labels in
         main_passes (mains earlier) carried (subst (MayPassEach m wire) (passed_is earlier) may) (record { datagram = d; pass = x }) (carried_is s (says_of m wire) earlier d x has)
-        (subst (λ l. MayPass m wire l x.from x.packet) (passed_is earlier) all.0) (tapped_of earlier) (transfer_is s apart earlier (parts_some s m wire earlier parts)) (route_is s apart earlier (parts_some s m wire earlier parts) d (Main x) known)
-    part_passes earlier parts may d Stray has known all = stray_passes (tapped_of earlier) d (route_is s apart earlier (parts_some s m wire earlier parts) d Stray known)
-    part_passes earlier parts may d StrayAnswer has known all = answer_passes (tapped_of earlier) d (route_is s apart earlier (parts_some s m wire earlier parts) d StrayAnswer known) has.spells.0 has.spells.1
+        (subst (λ l. MayPass m wire l x.from x.packet) (passed_is earlier) all.0) (tapped_of earlier) (transfer_is s apart earlier (labels_some s m wire earlier labels)) (route_is s apart earlier (labels_some s m wire earlier labels) d (Main x) known)
+    label_passes earlier labels may d Stray has known all = stray_passes (tapped_of earlier) d (route_is s apart earlier (labels_some s m wire earlier labels) d Stray known)
+    label_passes earlier labels may d StrayAnswer has known all = answer_passes (tapped_of earlier) d (route_is s apart earlier (labels_some s m wire earlier labels) d StrayAnswer known) has.spells.0 has.spells.1
 
-  may_rest : (p : TapPlaced) (earlier : TapDivision) → MayPassEach m wire (passed_of (p ∷ earlier)) → MayPassEach m wire (passed_of earlier)
-  may_rest p earlier may = by p.part may where
-    by : (part : TapPart) → MayPassEach m wire (passed_of (record { datagram = p.datagram; part = part } ∷ earlier)) → MayPassEach m wire (passed_of earlier)
+  may_rest : (p : TapLabelled) (earlier : TapDivision) → MayPassEach m wire (passed_of (p ∷ earlier)) → MayPassEach m wire (passed_of earlier)
+  may_rest p earlier may = by p.label may where
+    by : (label : TapLabel) → MayPassEach m wire (passed_of (record { datagram = p.datagram; label = label } ∷ earlier)) → MayPassEach m wire (passed_of earlier)
     by (Main x) may = may.1
     by Stray may = may
     by StrayAnswer may = may
 
-  pub division_passes : (division : TapDivision) → HaveTapParts s (says_of m wire) division → MayPassEach m wire (passed_of division) → BreaksNoTapRule s (tapped_of division)
-  division_passes [] parts may = tt
-  division_passes (p ∷ earlier) parts may = (
-    part_passes earlier parts.1 (may_rest p earlier may) p.datagram p.part parts.0 (parts_some s m wire (p ∷ earlier) parts).0 may,
-    division_passes earlier parts.1 (may_rest p earlier may),
+  pub division_passes : (division : TapDivision) → HaveTapLabels s (says_of m wire) division → MayPassEach m wire (passed_of division) → BreaksNoTapRule s (tapped_of division)
+  division_passes [] labels may = tt
+  division_passes (p ∷ earlier) labels may = (
+    label_passes earlier labels.1 (may_rest p earlier may) p.datagram p.label labels.0 (labels_some s m wire (p ∷ earlier) labels).0 may,
+    division_passes earlier labels.1 (may_rest p earlier may),
   )
 
 pub runs_break_none : (s : TapSides) (m : Meaning) (wire : List ℕ) (tapped : List TapDatagram) → AreApart s → IsSeenBetween s m wire tapped → BreaksNoTapRule s tapped
 runs_break_none s m wire tapped apart seen =
     let may = (tap_view_is m wire seen.passed).0 seen.view in
     subst (BreaksNoTapRule s) seen.dressed.whole
-    (division_passes s apart m wire seen.fits seen.dressed.division seen.dressed.parts (subst (MayPassEach m wire) (sym seen.dressed.main) may))
+    (division_passes s apart m wire seen.fits seen.dressed.division seen.dressed.labels (subst (MayPassEach m wire) (sym seen.dressed.main) may))

@@ -11,7 +11,7 @@ use Rattle.tftp_model.proofs.Computed.{IsPlan, run_is}
 use Rattle.tftp_law.specs.{says_of, BeginsAsRequest}
 use Rattle.tftp_law.proofs.Whole.NothingAgreed.{two_bytes_fit}
 use Rattle.tftp_law.proofs.Division.Divided.{any_first, any_later}
-use Rattle.tftp_tap.specs.{as_at, tapped_at, IsTapView, PeerId, side_of, AreApart, Main, TapPlaced, TapDivision, IsMainFrom, HaveTapParts, IsSeenBetween, ShowsBetween, client_side, other_side, worked_sides, hi_passes, stray_passes, answer_passes, ack_passes, read_between, block_passes_late, both_pass_late, block_passes_early, ack_of_nothing, BreaksNoTapRule}
+use Rattle.tftp_tap.specs.{as_at, tapped_at, IsTapView, PeerId, side_of, AreApart, Main, TapLabelled, TapDivision, IsMainFrom, HaveTapLabels, IsSeenBetween, ShowsBetween, client_side, other_side, worked_sides, hi_passes, stray_passes, answer_passes, ack_passes, read_between, block_passes_late, both_pass_late, block_passes_early, ack_of_nothing, BreaksNoTapRule}
 use Rattle.tftp_tap.specs.TapDress.{Stray, StrayAnswer}
 use Rattle.tftp_tap.specs.WorkedTap.{request_passes}
 use Rattle.tftp_tap.proofs.Beside.{view_is_tapped}
@@ -134,15 +134,15 @@ unknown_id_spelled = ((omega arith, (omega arith, (omega arith, (omega arith, (o
 
 abbrev begun : TapDivision
 begun =
-    record { datagram = hi_passes; part = Main (record { from = Server; packet = Data 1 }) }
-    ∷ record { datagram = request_passes; part = Main (record { from = Client; packet = Req }) }
+    record { datagram = hi_passes; label = Main (record { from = Server; packet = Data 1 }) }
+    ∷ record { datagram = request_passes; label = Main (record { from = Client; packet = Req }) }
     ∷ []
 
 abbrev strayed : TapDivision
-strayed = record { datagram = answer_passes; part = StrayAnswer } ∷ record { datagram = stray_passes; part = Stray } ∷ begun
+strayed = record { datagram = answer_passes; label = StrayAnswer } ∷ record { datagram = stray_passes; label = Stray } ∷ begun
 
 abbrev divided : TapDivision
-divided = record { datagram = ack_passes; part = Main (record { from = Client; packet = Ack 1 }) } ∷ strayed
+divided = record { datagram = ack_passes; label = Main (record { from = Client; packet = Ack 1 }) } ∷ strayed
 
 pub sides_apart : AreApart worked_sides
 sides_apart = record {
@@ -159,17 +159,17 @@ begins_none : BeginsAsRequest (255 ∷ []) → ⊥
 begins_none (rest, inl is) = absurd (cc)
 begins_none (rest, inr is) = absurd (cc)
 
-has_answered : Any (λ (p : TapPlaced). IsMainFrom Server p.part) strayed
-has_answered = any_later (λ (p : TapPlaced). IsMainFrom Server p.part) (record { datagram = answer_passes; part = StrayAnswer }) (record { datagram = stray_passes; part = Stray } ∷ begun)
-    (any_later (λ (p : TapPlaced). IsMainFrom Server p.part) (record { datagram = stray_passes; part = Stray }) begun
-    (any_first (λ (p : TapPlaced). IsMainFrom Server p.part) (record { datagram = hi_passes; part = Main (record { from = Server; packet = Data 1 }) })
-    (record { datagram = request_passes; part = Main (record { from = Client; packet = Req }) } ∷ []) (Data 1, refl)))
+has_answered : Any (λ (p : TapLabelled). IsMainFrom Server p.label) strayed
+has_answered = any_later (λ (p : TapLabelled). IsMainFrom Server p.label) (record { datagram = answer_passes; label = StrayAnswer }) (record { datagram = stray_passes; label = Stray } ∷ begun)
+    (any_later (λ (p : TapLabelled). IsMainFrom Server p.label) (record { datagram = stray_passes; label = Stray }) begun
+    (any_first (λ (p : TapLabelled). IsMainFrom Server p.label) (record { datagram = hi_passes; label = Main (record { from = Server; packet = Data 1 }) })
+    (record { datagram = request_passes; label = Main (record { from = Client; packet = Req }) } ∷ []) (Data 1, refl)))
 
-has_strayed : Any (λ (p : TapPlaced). (p.part ≡ Stray) × (p.datagram.source ≡ other_side) × (p.datagram.destination ≡ client_side)) (record { datagram = stray_passes; part = Stray } ∷ begun)
-has_strayed = any_first (λ (p : TapPlaced). (p.part ≡ Stray) × (p.datagram.source ≡ other_side) × (p.datagram.destination ≡ client_side)) (record { datagram = stray_passes; part = Stray }) begun (refl, refl, refl)
+has_strayed : Any (λ (p : TapLabelled). (p.label ≡ Stray) × (p.datagram.source ≡ other_side) × (p.datagram.destination ≡ client_side)) (record { datagram = stray_passes; label = Stray } ∷ begun)
+has_strayed = any_first (λ (p : TapLabelled). (p.label ≡ Stray) × (p.datagram.source ≡ other_side) × (p.datagram.destination ≡ client_side)) (record { datagram = stray_passes; label = Stray }) begun (refl, refl, refl)
 
-parts : HaveTapParts worked_sides (says_of two_bytes two_bytes.file) divided
-parts = (
+labels : HaveTapLabels worked_sides (says_of two_bytes two_bytes.file) divided
+labels = (
   record { source = refl; goes = (refl, has_answered); spells = ack_spelled },
   (
     record { own = (Client, refl); there = has_strayed; spells = ([], unknown_id_spelled) },
@@ -188,7 +188,7 @@ seen = record {
   fits = two_bytes_fit;
   passed = tapped_at Client two_bytes_view;
   view = view_is_tapped two_bytes two_bytes.file Client two_bytes_view two_bytes_is_view;
-  dressed = record { division = divided; whole = refl; main = refl; parts = parts };
+  dressed = record { division = divided; whole = refl; main = refl; labels = labels };
 }
 
 pub read_shown : ShowsBetween worked_sides two_bytes two_bytes.file read_between
