@@ -1,5 +1,5 @@
 -- The blocks of a window that are put one after another.
-use Rattle.std.proofs.Common.{◌≡◌, ℕ, suc, ◌+◌, ◌-◌, ◌*◌, ◌<◌, List, [], ◌∷◌, ◌++◌, length, length-append, take, drop, Option, refl, sym, subst, ap, ◌∙◌, arith, suc-mul, zero-mul, drop-drop}
+use Rattle.std.proofs.Common.{◌≡◌, ℕ, suc, ◌+◌, ◌-◌, ◌*◌, ◌<◌, List, [], ◌∷◌, length, length-append, take, drop, Option, refl, sym, subst, ap, ◌∙◌, arith, suc-mul, zero-mul, drop-drop}
 use Rattle.std.proofs.lemmas.List.{length-map}
 use Rattle.tftp_packet.specs.{Message, canonical, End, Client, Server}
 use Rattle.tftp_streams.specs.{Sink, WritesPart}

@@ -1,5 +1,5 @@
 -- The datagrams that open a transfer, put one after another.
-use Rattle.std.proofs.Common.{◌≡◌, ◌≢◌, ℕ, zero, suc, ◌-◌, List, [], ◌∷◌, ◌++◌, Option, refl, sym, subst, ap, ◌∙◌, arith, false}
+use Rattle.std.proofs.Common.{◌≡◌, ◌≢◌, ℕ, zero, suc, ◌-◌, List, [], ◌∷◌, Option, refl, sym, subst, ap, ◌∙◌, arith}
 use Rattle.std.specs.FinMap as map
 use Rattle.tftp_packet.specs.{Message, canonical, Side, Get, Put, Client, Server}
 use Rattle.tftp_streams.specs.{Sink, Stops, WritesPart}

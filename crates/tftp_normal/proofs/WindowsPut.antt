@@ -1,5 +1,5 @@
 -- The windows that are put one after another.
-use Rattle.std.proofs.Common.{◌≡◌, ℕ, zero, suc, ◌+◌, ◌-◌, ◌*◌, ◌<◌, ◌≤◌, min, false, List, [], ◌∷◌, ◌++◌, length, length-append, Option, sym, subst, arith, suc-mul, zero-mul}
+use Rattle.std.proofs.Common.{◌≡◌, ℕ, zero, suc, ◌+◌, ◌-◌, ◌*◌, ◌<◌, ◌≤◌, min, List, [], ◌∷◌, ◌++◌, length, length-append, Option, sym, subst, arith, suc-mul, zero-mul}
 use Rattle.std.proofs.lemmas.List.{map-append}
 use Rattle.tftp_streams.specs.{Sink, WritesPart}
 use Rattle.tftp_hosts.specs.{Datagram}

@@ -1,5 +1,5 @@
 -- A transfer that is to be written, by its parts in memory, and the DATA of its wire in turn (RFC 1350, section 2).
-use Rattle.std.specs.Prelude.{◌≡◌, ℕ, ◌≤◌, List, length, take, Option, Some, None, Bor}
+use Rattle.std.specs.Prelude.{◌≡◌, ℕ, ◌≤◌, List, length, take, Option, Some, None, option_map}
 use Rattle.tftp_model.specs.{Meaning}
 use Rattle.tftp_law.specs.{meaning_from, blocks_of, CanBeWritten}
 use Rattle.tftp_judge.specs.{file_in, IsCanonical}
@@ -24,16 +24,19 @@ pub record DataState : Type 0 where
   pub block : List ℕ
 
 -- a block lies in the file, or else at the front of the buffer
-abbrev pub block_of : Option (Bor (List ℕ)) → List ℕ → List ℕ
-block_of (Some block) buffered = block.now
-block_of None buffered = buffered
+abbrev pub block_or : Option (List ℕ) → List ℕ → List ℕ
+block_or (Some block) buffered = block
+block_or None buffered = buffered
+
+abbrev pub block_of : packets.Inside → List ℕ
+block_of p = block_or (option_map (λ b. b.now) p.in_file) (take p.len p.buffer.items)
 
 abbrev pub state_of : packets.Inside → DataState
-state_of p = record { left = p.blocks; size = length p.buffer.items; head = p.head; block = block_of p.in_file (take p.len p.buffer.items) }
+state_of p = record { left = p.blocks; size = length p.buffer.items; head = p.head; block = block_of p }
 
 -- a block goes into a datagram, with the opcode and its number
 pub record HasRoom (p : packets.Inside) : Type 0 where
   pub short : length p.buffer.items ≤ 65464
   pub within : p.len ≤ length p.buffer.items
-  pub few : length (block_of p.in_file (take p.len p.buffer.items)) ≤ 65464
+  pub few : length (block_of p) ≤ 65464
   pub head : length p.head ≡ 4

@@ -65,7 +65,8 @@ impl<'a> DataPackets<'a> {
 
     /// The opcode and the number of the block that it went to last.
     pub(crate) fn head(&self) -> &[u8]
-        ensures { result.now ≡ self.now.head }
+        ensures head { result.now ≡ self.now.head }
+        ensures size { length result.now ≡ 4 }
     {
         &self.head
     }

@@ -1,4 +1,4 @@
-use Rattle.std.proofs.Common.{rules, ◌≡◌, ◌-◌, ◌<◌, ◌+◌, ◌++◌, ap, ◌∙◌, arith}
+use Rattle.std.proofs.Common.{rules, ◌≡◌, ◌-◌, ◌<◌, ◌+◌, ◌++◌, ap, ◌∙◌, arith, length-append}
 use Rattle.tftp_packet.specs.{Message, canonical}
 use Rattle.tftp_model.specs.Machines.{sender_of}
 use Rattle.tftp_model.specs.{Data}
@@ -17,13 +17,16 @@ put_data-requires-clause-few g c =
     let few = c.requires.few in
     omega (arith, count, all, few)
 
+pub put_data-requires-clause-short : goal.put_data-requires-clause-short
+put_data-requires-clause-short g c = omega (arith, length-append c.head.result.now c.block.result.now, c.head.ensures.size, c.block.ensures.short)
+
 pub loop-block-preserved : goal.loop-block-preserved
 loop-block-preserved g c =
     let m = c.args.transfer.now in
     let low : c.loop-block.block < c.args.last = c.loop-block-test.true in
     let author : c.match-side.author ≡ sender_of c.args.transfer.now.side = elim c.match-side.branch [ in-Get w ↦ search rules | in-Put w ↦ search rules ] in
     let bytes = next_packet m c.loop-block.block c.loop-block.packets.size c.loop-block.packets.left c.loop-block.invariant.size c.loop-block.invariant.left in
-    let payload = ap (λ l. l ++ c.block.result.now) c.head.ensures ∙ ap (λ l. c.fill.new.self.head ++ l) c.block.ensures.block ∙ c.fill.ensures.packet ∙ ap (λ l. canonical (Message.Data (c.loop-block.block + 1) l)) bytes in
+    let payload = ap (λ l. l ++ c.block.result.now) c.head.ensures.head ∙ ap (λ l. c.fill.new.self.head ++ l) c.block.ensures.block ∙ c.fill.ensures.packet ∙ ap (λ l. canonical (Message.Data (c.loop-block.block + 1) l)) bytes in
     let is : sent_by c.match-side.author (c.head.result.now ++ c.block.result.now) ≡ normal_datagram c.args.transfer.now (Data (c.loop-block.block + 1)) =
     ap (λ e. sent_by e (c.head.result.now ++ c.block.result.now)) author ∙ ap (sent_by (sender_of c.args.transfer.now.side)) payload ∙ data_datagram m (c.loop-block.block + 1) in
     record {
@@ -40,7 +43,7 @@ returns-in_err-put_data-clause-puts g c =
     let low : c.loop-block.block < c.args.last = c.loop-block-test.true in
     let author : c.match-side.author ≡ sender_of c.args.transfer.now.side = elim c.match-side.branch [ in-Get w ↦ search rules | in-Put w ↦ search rules ] in
     let bytes = next_packet m c.loop-block.block c.loop-block.packets.size c.loop-block.packets.left c.loop-block.invariant.size c.loop-block.invariant.left in
-    let payload = ap (λ l. l ++ c.block.result.now) c.head.ensures ∙ ap (λ l. c.fill.new.self.head ++ l) c.block.ensures.block ∙ c.fill.ensures.packet ∙ ap (λ l. canonical (Message.Data (c.loop-block.block + 1) l)) bytes in
+    let payload = ap (λ l. l ++ c.block.result.now) c.head.ensures.head ∙ ap (λ l. c.fill.new.self.head ++ l) c.block.ensures.block ∙ c.fill.ensures.packet ∙ ap (λ l. canonical (Message.Data (c.loop-block.block + 1) l)) bytes in
     let is : sent_by c.match-side.author (c.head.result.now ++ c.block.result.now) ≡ normal_datagram c.args.transfer.now (Data (c.loop-block.block + 1)) =
     ap (λ e. sent_by e (c.head.result.now ++ c.block.result.now)) author ∙ ap (sent_by (sender_of c.args.transfer.now.side)) payload ∙ data_datagram m (c.loop-block.block + 1) in
     puts_err g.W.Write.contents c.args.writer.now c.put_data.new.writer c.from_residual.result c.args.capture.now c.put_data.new.capture _ c.from_residual.ensures.0 c.requires.clean c.in_err-put_data.ensures.failed

@@ -5,10 +5,10 @@ use Rattle.tftp_pcap.proofs.gather.gather.Goals as goal
 
 pub reads-preserved : goal.reads-preserved
 reads-preserved g c =
-    let held = c.fill.new.self in
+    let held = c.fill.new.self.bytes in
     let count = c.min-count.result in
     let bytes = c.reads.invariant.taken.0 in
-    let grew : c.extend_from_slice.new.self.items ≡ c.reads.piece.items ++ take count held = rw (← c.as_slice-held.ensures.value) (grind (arith, common_steps)) in
+    let grew : c.extend_from_slice.new.self.items ≡ c.reads.piece.items ++ take count held = rw (← c.as_slice-held.ensures) (grind (arith, common_steps)) in
     record {
       tally = grind (arith, common_steps);
       few = grind (arith, common_steps);

@@ -7,7 +7,7 @@ invariant-reads g l = record {
   tally : l.reader.1 ≡ l.fn.reader.1;
   few : vec_len l.piece ≤ l.size;
   roomy : vec_capacity l.fn.piece ≤ vec_capacity l.piece;
-  taken : (bytes : List ℕ) × Consumes (prepend_known l.fn.ahead (g.R.Read.remaining l.fn.reader.0)) (prepend_known l.ahead (g.R.Read.remaining l.reader.0)) bytes × (l.piece.items ≡ l.fn.piece.items ++ bytes);
+  taken : (bytes : List ℕ) × Consumes (prepend_known l.fn.ahead.bytes (g.R.Read.remaining l.fn.reader.0)) (prepend_known l.ahead.bytes (g.R.Read.remaining l.reader.0)) bytes × (l.piece.items ≡ l.fn.piece.items ++ bytes);
 }
 
 abbrev pub decreases-reads : goal.decreases-reads

@@ -5,7 +5,7 @@ use Rattle.tftp_pcap.proofs.skip.skip.Goals as goal
 
 pub reads-preserved : goal.reads-preserved
 reads-preserved g c =
-    let held = c.fill.new.self in
+    let held = c.fill.new.self.bytes in
     let some = c.min-some.result in
     let bytes = c.reads.invariant.taken.0 in
     record {
