@@ -1,4 +1,4 @@
--- The packets of the normal capture, one after another, as parts of a dressed one-sided history.
+-- The packets of the normal capture, one after another, as labels of a dressed one-sided history.
 use Rattle.std.proofs.Common.{◌≡◌, ℕ, zero, suc, ◌+◌, ◌-◌, ◌*◌, ◌/◌, ◌%◌, ◌<◌, ◌≤◌, ◌⊎◌, true, false, min, List, [], ◌∷◌, ◌++◌, drop, Contains, inl, inr, refl, sym, subst, ap, ◌∙◌, arith, suc-mul, zero-mul, Any}
 use Rattle.std.proofs.lemmas.Bool.{cases_lt}
 use Rattle.tftp_packet.specs.{Spells, canonical, Side, Get, Put, End, Client, Server}
@@ -8,7 +8,7 @@ use Rattle.tftp_model.specs.Roles.{sender_of, receiver_of}
 use Rattle.tftp_model.proofs.HistoryTests.{all_sent, is_no_error, none_sent}
 use Rattle.tftp_model.proofs.Stops.{stopped, heard_all}
 use Rattle.tftp_model.proofs.Members.{contains_first, contains_later, contains_cases}
-use Rattle.tftp_law.specs.{Placed, Main, TransferIds, Division, view_in, dir_of, packet_of, HaveParts, wire_of, blocks_of, CanBeWritten}
+use Rattle.tftp_law.specs.{Labelled, Main, TransferIds, Division, view_in, dir_of, packet_of, HaveLabels, wire_of, blocks_of, CanBeWritten}
 use Rattle.tftp_law.proofs.Written.EachOf.{all_take, all_drop}
 use Rattle.tftp_normal.specs.{blocks_after, windows_after, author, deed_of_client, client_deed, normal_remote, normal_header}
 
@@ -26,10 +26,10 @@ ready_later Put m d h r = elim r [ inl x ↦ inl (x.0, contains_later d h (Took 
 abbrev pub HasAnswer : Division → Type 0
 HasAnswer division = Any (λ p. p.datagram.dir ≡ In) division
 
-pub answer_first : (p : Placed) (division : Division) → p.datagram.dir ≡ In → HasAnswer (p ∷ division)
+pub answer_first : (p : Labelled) (division : Division) → p.datagram.dir ≡ In → HasAnswer (p ∷ division)
 answer_first p division is = (0, p, omega arith, refl, is)
 
-pub answer_later : (p : Placed) (division : Division) → HasAnswer division → HasAnswer (p ∷ division)
+pub answer_later : (p : Labelled) (division : Division) → HasAnswer division → HasAnswer (p ∷ division)
 answer_later p division (k, x, low, at, is) = (suc k, x, omega (arith, low), at, is)
 
 -- no ERROR was sent or taken
@@ -37,10 +37,10 @@ abbrev IsPlain : History → Type 0
 IsPlain v = (all_sent is_no_error v ≡ true) × (stopped v ≡ false)
 
 -- a place for a packet at the client, when the side is known
-abbrev pub place : Meaning → Side → MachinePacket → Placed
+abbrev pub place : Meaning → Side → MachinePacket → Labelled
 place m side p = record {
   datagram = record { dir = dir_of (client_deed side p); local = 50000; host = no_host; remote = normal_remote p; payload = canonical (message_of m (wire_of m) p) };
-  part = Main (client_deed side p);
+  label = Main (client_deed side p);
 }
 
 -- the packets of a list, one after another
@@ -55,7 +55,7 @@ after_both m side earlier (p ∷ ps) qs = after_both m side (place m side p ∷ 
 -- blocks 1 to k have passed, and block a was acknowledged last
 pub record Going (m : Meaning) (side : Side) (a k : ℕ) (division : Division) : Type 0 where
   pub own : IsOneSided m (wire_of m) Client (view_in division)
-  pub parts : HaveParts normal_header m (wire_of m) ids division
+  pub labels : HaveLabels normal_header m (wire_of m) ids division
   pub started : Ready side m (view_in division)
   pub no_error : all_sent is_no_error (view_in division) ≡ true
   pub going : stopped (view_in division) ≡ false
@@ -157,17 +157,17 @@ module _ (m : Meaning) (can : CanBeWritten m) where
       order zero passed = inl refl
       order (suc j) passed = let at : suc j ≡ suc j + 1 - 1 = omega arith in inr (subst (λ i. HasSent (view_in division) (Data i)) at (passed (suc j) (omega arith) (omega arith)))
 
-  block_parts : (side : Side) (a k : ℕ) (division : Division) → Going m side a k division → k + 1 ≤ n
-      → HaveParts normal_header m wire ids (place m side (Data (k + 1)) ∷ division)
-  block_parts Get a k division g high = (record { dir = refl; client = refl; server = (refl, inl refl); spells = data_spells (k + 1) high }, g.parts)
-  block_parts Put a k division g high = (
+  block_labels : (side : Side) (a k : ℕ) (division : Division) → Going m side a k division → k + 1 ≤ n
+      → HaveLabels normal_header m wire ids (place m side (Data (k + 1)) ∷ division)
+  block_labels Get a k division g high = (record { dir = refl; client = refl; server = (refl, inl refl); spells = data_spells (k + 1) high }, g.labels)
+  block_labels Put a k division g high = (
     record {
       dir = refl;
       client = refl;
       server = (refl, inr (elim g.answered [ inl none ↦ (let other : Put ≡ Get = none.0 in absurd (cc)) | inr some ↦ some ]));
       spells = data_spells (k + 1) high;
     },
-    g.parts,
+    g.labels,
   )
 
   -- once a block has passed, or on a write, the server has answered
@@ -185,7 +185,7 @@ module _ (m : Meaning) (can : CanBeWritten m) where
       → Going m side a (k + 1) (place m side (Data (k + 1)) ∷ division)
   block_step side is a k division g low high near = record {
     own = block_own side is a k division g low high near;
-    parts = block_parts side a k division g high;
+    labels = block_labels side a k division g high;
     started = ready_later side m (client_deed side (Data (k + 1))) (view_in division) g.started;
     no_error = (block_plain side a k division g).0;
     going = (block_plain side a k division g).1;
@@ -228,16 +228,16 @@ module _ (m : Meaning) (can : CanBeWritten m) where
     g.own,
   )
 
-  ack_parts : (side : Side) (a k : ℕ) (division : Division) → Going m side a k division → 1 ≤ k → k ≤ n
-      → HaveParts normal_header m wire ids (place m side (Ack k) ∷ division)
-  ack_parts Get a k division g some low = (record { dir = refl; client = refl; server = (refl, inr (has_answer Get a k division g (inr some))); spells = ack_spells k low }, g.parts)
-  ack_parts Put a k division g some low = (record { dir = refl; client = refl; server = (refl, inl refl); spells = ack_spells k low }, g.parts)
+  ack_labels : (side : Side) (a k : ℕ) (division : Division) → Going m side a k division → 1 ≤ k → k ≤ n
+      → HaveLabels normal_header m wire ids (place m side (Ack k) ∷ division)
+  ack_labels Get a k division g some low = (record { dir = refl; client = refl; server = (refl, inr (has_answer Get a k division g (inr some))); spells = ack_spells k low }, g.labels)
+  ack_labels Put a k division g some low = (record { dir = refl; client = refl; server = (refl, inl refl); spells = ack_spells k low }, g.labels)
 
   ack_step : (side : Side) → m.side ≡ side → (a k : ℕ) (division : Division) → Going m side a k division → 1 ≤ k → k ≤ n
       → Going m side k k (place m side (Ack k) ∷ division)
   ack_step side is a k division g some low = record {
     own = ack_own side is a k division g some;
-    parts = ack_parts side a k division g some low;
+    labels = ack_labels side a k division g some low;
     started = ready_later side m (client_deed side (Ack k)) (view_in division) g.started;
     no_error = (ack_plain side a k division g).0;
     going = (ack_plain side a k division g).1;

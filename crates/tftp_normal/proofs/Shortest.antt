@@ -12,7 +12,7 @@ use Rattle.tftp_model.specs.{Meaning, NothingAgreed, blksize_of, windowsize_of, 
 use Rattle.tftp_model.proofs.Members.{contains_first, contains_later, contains_cases, contains_none}
 use Rattle.tftp_model.proofs.OneSided.{view_one_sided}
 use Rattle.tftp_law.specs.Dress.{StrayAnswer}
-use Rattle.tftp_law.specs.{Part, Main, Stray, Division, view_in, packet_of, ShowsBy, wire_of}
+use Rattle.tftp_law.specs.{Label, Main, Stray, Division, view_in, packet_of, ShowsBy, wire_of}
 use Rattle.tftp_normal.specs.{window_count, opening_count, normal_count}
 use Rattle.tftp_normal.proofs.Counted.{at_least}
 use Rattle.tftp_law.proofs.Written.Passed.{each_block, last_ack, first, some_block}
@@ -25,14 +25,14 @@ contains_map f x (y ∷ xs) at = elim (contains_cases y xs x at) [
   | inr later ↦ contains_later (f y) (each f xs) (f x) (contains_map f x xs later)
 ]
 
-view_one : (datagram : Datagram) (part : Part) (division : Division) → length (view_in division) ≤ length division → length (view_in (record { datagram = datagram; part = part } ∷ division)) ≤ suc (length division)
+view_one : (datagram : Datagram) (label : Label) (division : Division) → length (view_in division) ≤ length division → length (view_in (record { datagram = datagram; label = label } ∷ division)) ≤ suc (length division)
 view_one datagram (Main deed) division rest = omega (arith, rest)
 view_one datagram Stray division rest = omega (arith, rest)
 view_one datagram StrayAnswer division rest = omega (arith, rest)
 
 view_length : (division : Division) → length (view_in division) ≤ length division
 view_length [] = omega arith
-view_length (p ∷ division) = view_one p.datagram p.part division (view_length division)
+view_length (p ∷ division) = view_one p.datagram p.label division (view_length division)
 
 -- the windows that hold n blocks
 pub windows_hold : (n w : ℕ) → 1 ≤ w → (n ≤ window_count w n * w) × (window_count w n * w < n + w)

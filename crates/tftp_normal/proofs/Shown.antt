@@ -30,7 +30,7 @@ module _ (m : Meaning) (can : CanBeWritten m) where
   opened : (side : Side) → m.side ≡ side → (agreed : ℕ) → finite.len m.agreed ≡ agreed → Going m side 0 0 (after m side [] (opening_on side agreed))
   opened Get is zero none = record {
     own = (asks, tt);
-    parts = (record { dir = refl; client = refl; server = (refl, λ _. refl); spells = can.request.0 }, tt);
+    labels = (record { dir = refl; client = refl; server = (refl, λ _. refl); spells = can.request.0 }, tt);
     started = inl (nothing none, contains_first (Sent Req) []);
     no_error = refl;
     going = refl;
@@ -49,7 +49,7 @@ module _ (m : Meaning) (can : CanBeWritten m) where
       },
       (record { client = refl; agreed = something more some; asked = contains_first (Sent Req) [] }, (asks, tt)),
     );
-    parts = (
+    labels = (
       record { dir = refl; client = refl; server = (refl, inr (answer_first (place m Get Oack) (place m Get Req ∷ []) refl)); spells = ack_spells m can 0 (omega arith) },
       (
         record { dir = refl; client = refl; server = (refl, inl refl); spells = (can.oack (something more some)).0 },
@@ -79,7 +79,7 @@ module _ (m : Meaning) (can : CanBeWritten m) where
       },
       (asks, tt),
     );
-    parts = (
+    labels = (
       record { dir = refl; client = refl; server = (refl, inl refl); spells = ack_spells m can 0 (omega arith) },
       (record { dir = refl; client = refl; server = (refl, λ _. refl); spells = can.request.0 }, tt),
     );
@@ -96,7 +96,7 @@ module _ (m : Meaning) (can : CanBeWritten m) where
   }
   opened Put is (suc more) some = record {
     own = (record { client = refl; agreed = something more some; asked = contains_first (Sent Req) [] }, (asks, tt));
-    parts = (
+    labels = (
       record { dir = refl; client = refl; server = (refl, inl refl); spells = (can.oack (something more some)).0 },
       (record { dir = refl; client = refl; server = (refl, λ _. refl); spells = can.request.0 }, tt),
     );
@@ -152,7 +152,7 @@ module _ (m : Meaning) (can : CanBeWritten m) where
         division = division;
         whole = turned [] (normal_packets m) ∙ append-nil (reverse (normal_datagrams m));
         main = refl;
-        parts = gone.parts;
+        labels = gone.labels;
       };
     };
     complete = complete m.side refl gone;

@@ -16,7 +16,7 @@ use Rattle.tftp_hosts.specs.{Datagram, Header}
 seen_spelt : (h : Header) (m : Meaning) (wire : List ℕ) (ds : List Datagram) (s : IsSeen h m wire ds) → AreSpelt m wire s.view (transfer_of h (reverse ds))
 seen_spelt h m wire ds s =
     let own = subst (IsOneSided m wire h.named) (sym s.dressed.main) (view_one_sided m wire h.named s.view s.run) in
-    let all = spelt h m wire s.dressed.division (routed h m wire s.dressed.ids s.dressed.division s.dressed.parts own) in
+    let all = spelt h m wire s.dressed.division (routed h m wire s.dressed.ids s.dressed.division s.dressed.labels own) in
     subst (λ v. AreSpelt m wire v (transfer_of h (reverse ds))) s.dressed.main
     (subst (λ x. AreSpelt m wire (view_in s.dressed.division) (transfer_of h x)) s.dressed.whole all)
 

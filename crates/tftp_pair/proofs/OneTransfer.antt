@@ -15,7 +15,7 @@ use Rattle.tftp_hosts.specs.{Datagram, Header}
 seen_meant : (h : Header) (m : Meaning) (wire : List ℕ) (ds : List Datagram) → IsSeen h m wire ds → IsEnded h (reverse ds) → Meant h (reverse ds) m
 seen_meant h m wire ds s ended =
     let own = subst (IsOneSided m wire h.named) (sym s.dressed.main) (view_one_sided m wire h.named s.view s.run) in
-    let routes = routed h m wire s.dressed.ids s.dressed.division s.dressed.parts own in
+    let routes = routed h m wire s.dressed.ids s.dressed.division s.dressed.labels own in
     let acc = (rules h m wire ds s).1 in
     let complete = completed h m wire s.dressed.division routes own (subst (Accords h m wire) (sym s.dressed.whole) acc) (subst (IsEnded h) (sym s.dressed.whole) ended) in
     meant_by h m wire ds (record { seen = s; complete = subst (IsComplete m wire h.named) s.dressed.main complete })

@@ -14,9 +14,9 @@ pub kept_lawful : (s : TapSides) → AreApart s → (tapped : List TapDatagram) 
 kept_lawful s apart tapped passes asked first =
     let x = parted s apart tapped passes in
     let cs : List Carried = mains x.division in
-    let each = mains_carried s says_some x.division x.parts in
-    let lawful = mains_lawful s apart x.division x.parts (subst (BreaksNoTapRule s) (sym x.whole) passes) in
-    let same : transfer_between s tapped ≡ map datagram_in cs = ap (transfer_between s) (sym x.whole) ∙ transfer_is s apart x.division x.parts in
+    let each = mains_carried s says_some x.division x.labels in
+    let lawful = mains_lawful s apart x.division x.labels (subst (BreaksNoTapRule s) (sym x.whole) passes) in
+    let same : transfer_between s tapped ≡ map datagram_in cs = ap (transfer_between s) (sym x.whole) ∙ transfer_is s apart x.division x.labels in
     let first_in : FirstTapAsked s (map datagram_in cs) asked = subst (λ (l : List TapDatagram). FirstTapAsked s l asked) same first in
     let r = receiver_of asked.side in
     let kept : kept_of (tap_tests s) r (map datagram_in cs) ≡ map datagram_in (kept_of pair_tests r cs) = kept_map datagram_in pair_tests (tap_tests s) r cs (datagrams_each s apart cs each) in

@@ -5,22 +5,22 @@ use Rattle.std.proofs.lemmas.Bool.{true≢false, eqb-true, cases_Bool}
 use Rattle.tftp_packet.specs.{Side, End, Client, Server, opcode_of}
 use Rattle.tftp_hosts.specs.{Datagram}
 use Rattle.tftp_model.specs.Roles.{receiver_of}
-use Rattle.tftp_judge.specs.{NoneBreaks, Refuses, IsJudgeAfter, Judge, TakesMemory, Refusal}
+use Rattle.tftp_judge.specs.{NoneBreaks, Refuses, IsJudgeAfter, Judge, TakesMemory, Refusal, Finds}
 use Rattle.tftp_judge.specs.declared.refusal.Refusal.TheVariants as of_end
 use Rattle.tftp_tap.specs.{TapDatagram, TapSides, side_of, AreApart, is_left_out, same_end, asks_in, ends_in, tap_tests, header_at, kept_between, recorded_at}
 use Rattle.tftp_tap.proofs.KeptOf.{any_here, any_more, kept_in}
 use Rattle.tftp_tap.proofs.TapTests.{source_is}
 use Rattle.tftp_tap.proofs.TapMade.{recorded_payload}
 use Rattle.tftp_law.proofs.Division.RouteTests.{same_is}
-use Rattle.tftp_tap_judge.specs.{IsReceiving, Receiving, kept_there, FindsTo, ReceiverBreaks, error_by_refusal}
-use Rattle.tftp_tap_judge.specs.declared.tap_pass_error.TapPassError.TheVariants as stop
+use Rattle.tftp_tap_judge.specs.{IsReceiving, Receiving, kept_there, ReceiverBreaks, error_by_refusal}
+use Rattle.tftp_judge.specs.declared.pass_error.PassError.TheVariants as stop
 
 module _ (s : TapSides) (side : Side) (passed : List TapDatagram) (d : TapDatagram) (stays : is_left_out (tap_tests s) (receiver_of side) d (kept_there s side passed) ≡ false) where
   abbrev now : Datagram
   now = recorded_at s (receiver_of side) d
 
   -- what the judge there refuses
-  pub refused_found : (refusal : Refusal) → Refuses (header_at s side) (kept_between s side passed) now refusal → (After : Type 0) → FindsTo (ReceiverBreaks s side passed d) After (Err (error_by_refusal refusal))
+  pub refused_found : (refusal : Refusal) → Refuses (header_at s side) (kept_between s side passed) now refusal → (After : Type 0) → Finds (ReceiverBreaks s side passed d) After (Err (error_by_refusal refusal))
   refused_found (of_end.Unlawful index rule) r After = ((stays, r.1.0), λ other low b. r.1.1 other low b.1)
   refused_found (of_end.Memory count) r After = λ rule b. r.1.lawful rule b.1
   refused_found _ r After = absurd r

@@ -6,7 +6,7 @@ use Rattle.tftp_packet.specs.{Message, RequestParts, Spells, FirstFault, PacketF
 use Rattle.tftp_packet.proofs.NoFault.{no_fault}
 use Rattle.tftp_hosts.specs.{same_peer}
 use Rattle.tftp_rules.specs.{first_of, PortRule}
-use Rattle.tftp_judge.specs.{NoneBreaks}
+use Rattle.tftp_judge.specs.{NoneBreaks, Finds, PassError}
 use Rattle.tftp_law.specs.{OneEnded, Passes, number_of, Rule}
 use Rattle.tftp_law.specs.declared.rule.Rule.TheVariants as rule
 use Rattle.tftp_law.proofs.Division.RouteTests.{is_same, same_is}
@@ -16,8 +16,8 @@ use Rattle.tftp_tap.specs.{TapDatagram, TapSides, AreApart, kept_of, asks_in, en
 use Rattle.tftp_tap.specs.declared.route.TapRoute.TheVariants as route
 use Rattle.tftp_tap.proofs.KeptOf.{any_skip, kept_in}
 use Rattle.tftp_tap.proofs.TapTests.{source_is}
-use Rattle.tftp_tap_judge.specs.{IsKeptAtTap, IsTapTransfer, TapTransfer, BeginsAtTap, FindsAtTap, FindsTo, IsNoRequest, IsReadUnless, ReceiverBreaks, TransferBreaks, TapPassError, Breaks}
-use Rattle.tftp_tap_judge.specs.declared.tap_pass_error.TapPassError.TheVariants.{Memory}
+use Rattle.tftp_tap_judge.specs.{IsKeptAtTap, IsTapTransfer, TapTransfer, BeginsAtTap, FindsAtTap, IsNoRequest, IsReadUnless, ReceiverBreaks, TransferBreaks}
+use Rattle.tftp_judge.specs.declared.pass_error.PassError.TheVariants.{Broken as Breaks, Memory}
 use Rattle.tftp_tap_judge.proofs.KeptLawful.{kept_lawful}
 use Rattle.tftp_tap_judge.proofs.Receivings.{kept_alone}
 use Rattle.tftp_tap_judge.proofs.TransferFound.{asked_first, asked_stays}
@@ -53,7 +53,7 @@ module _ (s : TapSides) (earlier : List TapDatagram) (d : TapDatagram) (passing 
   of_tap r (inr (p, inr (inl b))) = inl (inr b)
   of_tap r (inr (p, inr (inr b))) = inr b
 
-  pub message_found : (After : Type 0) (result : Result (Unit {0}) TapPassError) → FindsTo (TransferBreaks s passed (tap_route s earlier d) d) After result → IsReadUnless result d.payload → FindsAtTap s earlier d After result
+  pub message_found : (After : Type 0) (result : Result (Unit {0}) PassError) → Finds (TransferBreaks s passed (tap_route s earlier d) d) After result → IsReadUnless result d.payload → FindsAtTap s earlier d After result
   message_found After (Ok u) f read = (record { read = read_passing d (tap_route s earlier d) passing read.0 read.1; lawful = λ r b. f.0 r (of_tap r b) }, f.1)
   message_found After (Err (Breaks broken)) f read = record { breaks = to_tap broken f.0; first = λ r low b. f.1 r low (of_tap r b) }
   message_found After (Err Memory) f read = record { read = read_passing d (tap_route s earlier d) passing read.0 read.1; lawful = λ r b. f r (of_tap r b) }
@@ -204,7 +204,7 @@ module _ (s : TapSides) (apart : AreApart s) (earlier : List TapDatagram) (d : T
       let alone = subst (λ (l : List TapDatagram). OneEnded (header_at s asked.side) (map (recorded_at s (receiver_of asked.side)) l)) (kept_alone s asked.side d apart source client_asks) ended in
       alone.0
 
-  pub begun_found : BreaksNoTapRule s earlier → (stop : TapPassError) → IsNoRequest d.payload stop → BeginsAtTap s earlier d (Err stop)
+  pub begun_found : BreaksNoTapRule s earlier → (stop : PassError) → IsNoRequest d.payload stop → BeginsAtTap s earlier d (Err stop)
   begun_found lawful (Breaks (rule.Malformed fault)) is = client_bad fault is
   begun_found lawful (Breaks rule.NoRequest) is = absurd (true≢false (sym client_asks ∙ is))
   begun_found lawful Memory is = client_passes is.0 is.1
@@ -214,7 +214,7 @@ module _ (s : TapSides) (apart : AreApart s) (earlier : List TapDatagram) (d : T
 
 module _ (s : TapSides) (earlier : List TapDatagram) (d : TapDatagram) where
   -- one of the transfer
-  pub main_found : is_passing (tap_route s earlier d) ≡ true → (t : Option TapTransfer) (result : Result (Unit {0}) TapPassError) → FindsAtTap s earlier d (IsKeptAtTap s (d ∷ transfer_between s earlier) t) result
+  pub main_found : is_passing (tap_route s earlier d) ≡ true → (t : Option TapTransfer) (result : Result (Unit {0}) PassError) → FindsAtTap s earlier d (IsKeptAtTap s (d ∷ transfer_between s earlier) t) result
       → FindsAtTap s earlier d (IsKeptAtTap s (transfer_between s (d ∷ earlier)) t) result
   main_found passing t result f = subst (λ (l : List TapDatagram). FindsAtTap s earlier d (IsKeptAtTap s l t) result) (sym (transfer_on s earlier d passing)) f
 
@@ -306,11 +306,11 @@ module _ (s : TapSides) (earlier : List TapDatagram) (d : TapDatagram) where
 
 -- ---- where memory is wanting for the first request
 
-pub wants_memory : {X : Type 0} (payload : List ℕ) (asked : RequestParts) → Spells payload (Message.Request asked) → (r : Result X TapPassError) → IsErrAnd r (λ stop. stop ≡ Memory) → IfErr r (λ stop. IsNoRequest payload stop)
+pub wants_memory : {X : Type 0} (payload : List ℕ) (asked : RequestParts) → Spells payload (Message.Request asked) → (r : Result X PassError) → IsErrAnd r (λ stop. stop ≡ Memory) → IfErr r (λ stop. IsNoRequest payload stop)
 wants_memory payload asked says (Ok x) is = tt
 wants_memory payload asked says (Err e) is = subst (IsNoRequest payload) (sym is) (asked, says)
 
-pub begun_with : (s : TapSides) (earlier : List TapDatagram) (d : TapDatagram) (result : Result TapTransfer TapPassError) → TapPasses s earlier d → IfOk result (λ t. IsTapTransfer t s (d ∷ [])) → IfErr result (λ stop. stop ≡ Memory)
+pub begun_with : (s : TapSides) (earlier : List TapDatagram) (d : TapDatagram) (result : Result TapTransfer PassError) → TapPasses s earlier d → IfOk result (λ t. IsTapTransfer t s (d ∷ [])) → IfErr result (λ stop. stop ≡ Memory)
     → BeginsAtTap s earlier d result
 begun_with s earlier d (Ok t) passes ok err = (passes, ok)
 begun_with s earlier d (Err (Breaks r)) passes ok err = cc

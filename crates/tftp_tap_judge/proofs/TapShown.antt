@@ -16,12 +16,12 @@ use Rattle.tftp_law.proofs.Division.Routed.{routed_by, told_of}
 use Rattle.tftp_tap.specs.{Pass, as_at, MayPassEach, IsWholeAtTap, TapDatagram, TapSides, AreApart, ShowsBetween, passed_of, kept_of, pass_tests, kept_at, tap_tests, transfer_between, BreaksNoTapRule, FirstTapAsked, header_at, kept_between, recorded_at}
 use Rattle.tftp_tap.proofs.Replays.{tap_view_is}
 use Rattle.tftp_tap.proofs.Passed.{sent_passed, at_sent, at_took}
-use Rattle.tftp_tap.proofs.OneTapDivision.{parts_some}
+use Rattle.tftp_tap.proofs.OneTapDivision.{labels_some}
 use Rattle.tftp_tap.proofs.KeptOf.{kept_there}
 use Rattle.tftp_tap.proofs.TapKept.{has_kept, kept_one_sided}
 use Rattle.tftp_tap.proofs.TapBack.{kept_tells}
 use Rattle.tftp_tap.proofs.TapBefore.{first_asked_is}
-use Rattle.tftp_tap.proofs.TapLaw.{said_parts}
+use Rattle.tftp_tap.proofs.TapLaw.{said_labels}
 use Rattle.tftp_tap.proofs.TapLawful.{asks_is, mains_lawful, parted, rights}
 use Rattle.tftp_tap.proofs.TapMade.{known_kept, told_some}
 use Rattle.tftp_tap.proofs.TapRecorded.{Each, IsCarried, datagram_in, datagrams_each, kept_each, kept_map, mains_carried, pair_tests, pass_in, passed_is, passes_each, placed, placed_datagrams, placed_routes, placed_starts, placed_view}
@@ -46,9 +46,9 @@ module _ (s : TapSides) (apart : AreApart s) (tapped : List TapDatagram) (asked 
       let x = parted s apart tapped passes in
       let cs : List Carried = mains x.division in
       let ks : List Carried = kept_of pair_tests r cs in
-      let each = mains_carried s says_some x.division x.parts in
-      let lawful = mains_lawful s apart x.division x.parts (subst (BreaksNoTapRule s) (sym x.whole) passes) in
-      let same : transfer_between s tapped ≡ map datagram_in cs = ap (transfer_between s) (sym x.whole) ∙ transfer_is s apart x.division x.parts in
+      let each = mains_carried s says_some x.division x.labels in
+      let lawful = mains_lawful s apart x.division x.labels (subst (BreaksNoTapRule s) (sym x.whole) passes) in
+      let same : transfer_between s tapped ≡ map datagram_in cs = ap (transfer_between s) (sym x.whole) ∙ transfer_is s apart x.division x.labels in
       let first_in : FirstTapAsked s (map datagram_in cs) asked = subst (λ (l : List TapDatagram). FirstTapAsked s l asked) same first in
       let some : list_any pair_tests.asks cs ≡ true = sym (asks_is s apart cs each) ∙ asked_there s (map datagram_in cs) asked first_in in
       let right = rights s apart asked cs lawful each (inr first_in) in
@@ -57,10 +57,10 @@ module _ (s : TapSides) (apart : AreApart s) (tapped : List TapDatagram) (asked 
       = ap (λ (l : List TapDatagram). map (recorded_at s r) (kept_of (tap_tests s) r l)) same ∙ ap (map (recorded_at s r)) (kept_map datagram_in pair_tests (tap_tests s) r cs (datagrams_each s apart cs each)) ∙ sym (placed_datagrams s r ks) in
       let d = shown.seen.dressed in
       let own : IsOneSided m wire r (view_in d.division) = view_one_sided m wire r (view_in d.division) (subst (IsView m wire r) (sym d.main) shown.seen.run) in
-      let run = run_divides h m wire d.ids d.division d.parts own in
+      let run = run_divides h m wire d.ids d.division d.labels own in
       let one : d.division ≡ placed s r ks = division_one h d.division (placed s r ks) (d.whole ∙ reverse-reverse captured ∙ kept) (routed_by h says_some told_some d.ids d.division run.0 run.1)
       (placed_routes s apart says_some told_some r ks (kept_each (IsCarried s says_some) pair_tests r cs each) known) in
-      let says = says_each s apart asked m wire r ks (subst (AreRouted h m wire) one (routed_by h (says_of m wire) (told_of m wire) d.ids d.division d.parts run.1)) in
+      let says = says_each s apart asked m wire r ks (subst (AreRouted h m wire) one (routed_by h (says_of m wire) (told_of m wire) d.ids d.division d.labels run.1)) in
       let request : asked ≡ request_of m = request_one s apart asked m wire r cs right some says in
       let side : asked.side ≡ m.side = ap (λ (q : RequestParts). q.side) request in
       let view : view_in (placed s r ks) ≡ as_at r (map pass_in ks) = placed_view s r ks in
@@ -78,7 +78,7 @@ module _ (s : TapSides) (apart : AreApart s) (tapped : List TapDatagram) (asked 
           fits = shown.seen.fits;
           passed = passed_of x.division;
           view = (tap_view_is m wire (passed_of x.division)).1 (subst (MayPassEach m wire) (sym (passed_is x.division)) may);
-          dressed = record { division = x.division; whole = x.whole; main = refl; parts = said_parts s m wire x.division x.parts (says_all s apart asked m wire r cs request each right says) };
+          dressed = record { division = x.division; whole = x.whole; main = refl; labels = said_labels s m wire x.division x.labels (says_all s apart asked m wire r cs request each right says) };
         };
         whole = subst (λ (l : List Pass). IsWholeAtTap m wire l) (sym (passed_is x.division)) (subst (λ e. Contains (map pass_in cs) (record { from = e; packet = Ack (block_count (blksize_of m) wire) })) (ap receiver_of side) there);
       }
@@ -92,10 +92,10 @@ module _ (s : TapSides) (apart : AreApart s) (tapped : List TapDatagram) (asked 
   shown_at_end m wire shown =
       let seen = shown.seen in
       let division = seen.dressed.division in
-      let parts = seen.dressed.parts in
+      let labels = seen.dressed.labels in
       let cs : List Carried = mains division in
-      let each = mains_carried s (says_of m wire) division parts in
-      let some = parts_some s m wire division parts in
+      let each = mains_carried s (says_of m wire) division labels in
+      let some = labels_some s m wire division labels in
       let same : transfer_between s tapped ≡ map datagram_in cs = ap (transfer_between s) (sym seen.dressed.whole) ∙ transfer_is s apart division some in
       let first_in : FirstTapAsked s (map datagram_in cs) asked = subst (λ (l : List TapDatagram). FirstTapAsked s l asked) same first in
       let side : asked.side ≡ m.side = ap (λ (q : RequestParts). q.side) (first_asked_is s m wire cs each asked first_in) in
@@ -124,7 +124,7 @@ module _ (s : TapSides) (apart : AreApart s) (tapped : List TapDatagram) (asked 
               fits = shown.seen.fits;
               view = view_in (placed s r ks);
               run = one_sided_view m wire r (view_in (placed s r ks)) own;
-              dressed = record { ids = p.0; division = placed s r ks; whole = sym kept ∙ sym (reverse-reverse (kept_between s m.side (map datagram_in cs))); main = refl; parts = p.1 };
+              dressed = record { ids = p.0; division = placed s r ks; whole = sym kept ∙ sym (reverse-reverse (kept_between s m.side (map datagram_in cs))); main = refl; labels = p.1 };
             };
             complete = record {
               took = λ is k low high. subst (λ v. HasTaken v (Data k)) view (at_took r (Data k) (kept_at r (map pass_in cs)) (subst (λ e. Contains (kept_at r (map pass_in cs)) (record { from = e; packet = Data k })) (other_of m.side) (has_kept r (map pass_in cs) (sender_of m.side) (Data k) refl (blocks_passed m wire (map pass_in cs) may whole k low high))));
@@ -137,7 +137,7 @@ module _ (s : TapSides) (apart : AreApart s) (tapped : List TapDatagram) (asked 
 pub never_shown : (s : TapSides) → AreApart s → (tapped : List TapDatagram) → transfer_between s tapped ≡ [] → (m : Meaning) (wire : List ℕ) → ShowsBetween s m wire tapped → ⊥
 never_shown s apart tapped none m wire shown =
     let division = shown.seen.dressed.division in
-    let same : map datagram_in (mains division) ≡ [] = sym (transfer_is s apart division (parts_some s m wire division shown.seen.dressed.parts)) ∙ ap (transfer_between s) shown.seen.dressed.whole ∙ none in
+    let same : map datagram_in (mains division) ≡ [] = sym (transfer_is s apart division (labels_some s m wire division shown.seen.dressed.labels)) ∙ ap (transfer_between s) shown.seen.dressed.whole ∙ none in
     let nothing : mains division ≡ [] = by (mains division) same in
     contains_none (record { from = receiver_of m.side; packet = Ack (block_count (blksize_of m) wire) })
     (subst (λ (l : List Pass). IsWholeAtTap m wire l) (sym shown.seen.dressed.main ∙ passed_is division ∙ ap (map pass_in) nothing) shown.whole)

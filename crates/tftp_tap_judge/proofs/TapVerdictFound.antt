@@ -6,12 +6,12 @@ use Rattle.tftp_hosts.specs.{Datagram, Header}
 use Rattle.tftp_model.specs.{Meaning}
 use Rattle.tftp_judge.specs.{IsUnlawfulAt, IsVerdict, Refusal}
 use Rattle.tftp_judge.specs.declared.refusal.Refusal.TheVariants as of_end
-use Rattle.tftp_law.specs.{IsLawful, IsEnded, OneEnded, Rule}
+use Rattle.tftp_law.specs.{IsLawful, IsEnded, IsFirstError, OneEnded, Rule}
 use Rattle.tftp_law.proofs.Whole.Beginnings.{beginning_is_lawful}
 use Rattle.tftp_law.proofs.Whole.TwoEnds.{lawful}
 use Rattle.tftp_tap.specs.{TapDatagram, TapSides, AreApart, IsLawfulBetween, transfer_between, BreaksNoTapRule, FirstTapAsked, header_at, kept_between}
 use Rattle.tftp_tap.proofs.TapLaw.{rules_run}
-use Rattle.tftp_tap_judge.specs.{IsFirstError, IsTapVerdict, NoneShown, said_at_tap, unfinished_by}
+use Rattle.tftp_tap_judge.specs.{IsErrorAtTap, IsTapVerdict, NoneShown, said_at_tap, unfinished_by}
 use Rattle.tftp_tap_judge.proofs.KeptLawful.{kept_lawful}
 use Rattle.tftp_tap_judge.proofs.TapShown.{never_shown, shown_at_end, shown_between}
 
@@ -21,7 +21,7 @@ never_unlawful h datagrams index rule is at =
     at.unlawful (beginning_is_lawful h (at.before ++ at.datagram ∷ []) at.rest (subst (IsLawful h) (at.split ∙ sym (append_assoc at.before (at.datagram ∷ []) at.rest)) is))
 
 module _ (s : TapSides) (apart : AreApart s) (tapped : List TapDatagram) (passes : BreaksNoTapRule s tapped) (asked : RequestParts) (first : FirstTapAsked s (transfer_between s tapped) asked)
-    (error : Option (End × ℕ)) (is_first : IsFirstError s (transfer_between s tapped) error) (count : ℕ) (counts : count ≡ length tapped) where
+    (error : Option (End × ℕ)) (is_first : IsFirstError (IsErrorAtTap s) (transfer_between s tapped) error) (count : ℕ) (counts : count ≡ length tapped) where
   between : IsLawfulBetween s tapped
   between = rules_run s apart tapped passes
 
@@ -29,7 +29,7 @@ module _ (s : TapSides) (apart : AreApart s) (tapped : List TapDatagram) (passes
   lawful_there = (lawful (header_at s asked.side) (reverse (kept_between s asked.side (transfer_between s tapped)))).1
       (subst (OneEnded (header_at s asked.side)) (sym (reverse-reverse (kept_between s asked.side (transfer_between s tapped)))) (kept_lawful s apart tapped passes asked first))
 
-  unfinished : NoneShown s tapped → (o : Option (End × ℕ)) → IsFirstError s (transfer_between s tapped) o → IsTapVerdict s tapped (Err (unfinished_by o count))
+  unfinished : NoneShown s tapped → (o : Option (End × ℕ)) → IsFirstError (IsErrorAtTap s) (transfer_between s tapped) o → IsTapVerdict s tapped (Err (unfinished_by o count))
   unfinished none None is = (between, none, is, counts)
   unfinished none (Some x) is = (between, none, is)
 
@@ -50,6 +50,6 @@ pub nothing_said : (s : TapSides) → AreApart s → (tapped : List TapDatagram)
 nothing_said s apart tapped passes none count counts = (
   rules_run s apart tapped passes,
   λ m shown. never_shown s apart tapped none m shown.0 shown.1,
-  subst (λ (l : List TapDatagram). IsFirstError s l None) (sym none) tt,
+  subst (λ (l : List TapDatagram). IsFirstError (IsErrorAtTap s) l None) (sym none) tt,
   counts,
 )

@@ -2,19 +2,19 @@
 use Rattle.std.proofs.Common.{◌≡◌, ◌⊎◌, ℕ, true, false, List, [], ◌∷◌, Option, Some, None, Result, Ok, Err, inl, inr, refl, sym, subst, ap, ◌∙◌, arith, ◌↔◌, ◌&&◌, not, nat_lt, IfOk}
 use Rattle.std.proofs.lemmas.Bool.{true≢false, ltb-true, ltb-false, cases_Bool}
 use Rattle.tftp_packet.specs.{Message, RequestParts, Spells, FirstFault, meaning, Packet, PacketFault, End}
-use Rattle.tftp_judge.specs.{NoneBreaks}
+use Rattle.tftp_judge.specs.{NoneBreaks, Finds, PassError}
 use Rattle.tftp_hosts.specs.{Datagram, Header}
 use Rattle.tftp_rules.specs.{is_of_transfer, or_this, route_of, PortRule}
 use Rattle.tftp_model.specs.Roles.{receiver_of}
-use Rattle.tftp_law.specs.{Broken, number_of, Rule}
+use Rattle.tftp_law.specs.{Broken, NoErrorBy, number_of, Rule}
 use Rattle.tftp_law.specs.declared.rule.Rule.TheVariants as rule
 use Rattle.tftp_law.proofs.Division.RouteTests.{same_is}
 use Rattle.tftp_law.proofs.Spelled.{spelled_once}
 use Rattle.tftp_tap.specs.{TapDatagram, TapSides, side_of, AreApart, tap_tests, FirstTapAsked, header_at, is_of_ports, kept_between, recorded_at, TapRoute}
 use Rattle.tftp_tap.proofs.TapMade.{ports_off}
 use Rattle.tftp_tap.proofs.TapTests.{asks_says}
-use Rattle.tftp_tap_judge.specs.{FindsRule, IsOtherError, IsReadOf, OwnBreaks, IsErrorOf, NoErrorAtTap, FindsTo, IsReadUnless, ReceiverBreaks, TransferBreaks, smaller_of, TapPassError, Breaks}
-use Rattle.tftp_tap_judge.specs.declared.tap_pass_error.TapPassError.TheVariants.{Memory}
+use Rattle.tftp_tap_judge.specs.{FindsRule, IsOtherError, IsReadOf, OwnBreaks, IsErrorAtTap, IsReadUnless, ReceiverBreaks, TransferBreaks, smaller_of}
+use Rattle.tftp_judge.specs.declared.pass_error.PassError.TheVariants.{Broken as Breaks, Memory}
 use Rattle.tftp_tap_judge.proofs.OwnFound.{asked_same, other_error}
 
 -- what breaks another rule than one of ports at an end is of the transfer there
@@ -39,8 +39,8 @@ module _ (One There : Rule → Type 0) (After : Type 0) (split : (p r : Rule) �
   none_content : (p : Rule) → is_of_ports p ≡ true → There p → NoneBreaks (Content There)
   none_content p ports there r c = split p r ports there c.0 c.1
 
-  pub found_both : (own : Option Rule) (found : Result (Unit {0}) TapPassError) → (NoneBreaks (λ r. One r ⊎ Content There r) → (p : Rule) → is_of_ports p ≡ true → There p → ⊥) → FindsRule One own → FindsTo There After found
-      → FindsTo (λ r. One r ⊎ Content There r) After (smaller_of own found)
+  pub found_both : (own : Option Rule) (found : Result (Unit {0}) PassError) → (NoneBreaks (λ r. One r ⊎ Content There r) → (p : Rule) → is_of_ports p ≡ true → There p → ⊥) → FindsRule One own → Finds There After found
+      → Finds (λ r. One r ⊎ Content There r) After (smaller_of own found)
   found_both None (Ok u) stand none f = (both_none One (Content There) none (λ r c. f.0 r c.1), f.1)
   found_both None (Err Memory) stand none f = both_none One (Content There) none (λ r c. f r c.1)
   found_both None (Err (Breaks other)) stand none f = elim (cases_Bool (is_of_ports other)) [
@@ -61,7 +61,7 @@ module _ (One There : Rule → Type 0) (After : Type 0) (split : (p r : Rule) �
     ]
   ]
 
-pub memory_smaller : (own : Option Rule) (found : Result (Unit {0}) TapPassError) → smaller_of own found ≡ Err Memory → found ≡ Err Memory
+pub memory_smaller : (own : Option Rule) (found : Result (Unit {0}) PassError) → smaller_of own found ≡ Err Memory → found ≡ Err Memory
 memory_smaller None found is = is
 memory_smaller (Some own) (Ok v) is = cc
 memory_smaller (Some own) (Err Memory) is = refl
@@ -73,7 +73,7 @@ memory_smaller (Some own) (Err (Breaks other)) is = elim (cases_Bool (not (is_of
   by_false upper = let same = rw (upper) at is in cc
 
 -- the same of rules that are broken together
-pub found_map : (One Other : Rule → Type 0) (After : Type 0) → ((r : Rule) → One r → Other r) → ((r : Rule) → Other r → One r) → (found : Result (Unit {0}) TapPassError) → FindsTo One After found → FindsTo Other After found
+pub found_map : (One Other : Rule → Type 0) (After : Type 0) → ((r : Rule) → One r → Other r) → ((r : Rule) → Other r → One r) → (found : Result (Unit {0}) PassError) → Finds One After found → Finds Other After found
 found_map One Other After to back (Ok u) f = (λ r b. f.0 r (back r b), f.1)
 found_map One Other After to back (Err (Breaks other)) f = (to other f.0, λ r low b. f.1 r low (back r b))
 found_map One Other After to back (Err Memory) f = λ r b. f r (back r b)
@@ -97,8 +97,8 @@ module _ (s : TapSides) (passed : List TapDatagram) (asked : RequestParts) (firs
       let now = recorded_at s (receiver_of asked.side) d in
       true≢false (sym (content_on h kept now r content other.1) ∙ ports_off h kept now p ports there.1)
 
-  pub transfer_found : (After : Type 0) (own : Option Rule) (found : Result (Unit {0}) TapPassError) → (NoneBreaks (TransferBreaks s passed route d) → (p : Rule) → ReceiverBreaks s asked.side passed d p → ⊥)
-      → FindsRule (OwnBreaks s passed route d) own → FindsTo (ReceiverBreaks s asked.side passed d) After found → FindsTo (TransferBreaks s passed route d) After (smaller_of own found)
+  pub transfer_found : (After : Type 0) (own : Option Rule) (found : Result (Unit {0}) PassError) → (NoneBreaks (TransferBreaks s passed route d) → (p : Rule) → ReceiverBreaks s asked.side passed d p → ⊥)
+      → FindsRule (OwnBreaks s passed route d) own → Finds (ReceiverBreaks s asked.side passed d) After found → Finds (TransferBreaks s passed route d) After (smaller_of own found)
   transfer_found After own found stand o f = found_map (λ r. OwnBreaks s passed route d r ⊎ Content (ReceiverBreaks s asked.side passed d) r) (TransferBreaks s passed route d) After to_transfer of_transfer (smaller_of own found)
       (found_both (OwnBreaks s passed route d) (ReceiverBreaks s asked.side passed d) After split own found (λ none p ports. stand (λ r b. none r (of_transfer r b)) p) o f)
 
@@ -123,13 +123,13 @@ asked_first s d asked source says = (d, rw (same_is d.source s.client source, as
 
 -- ---- the first ERROR
 
-no_error_in : (s : TapSides) (d : TapDatagram) (m : Message) → Spells d.payload m → ((code : ℕ) (text : List ℕ) → m ≡ Message.Error code text → ⊥) → (end : End) (code : ℕ) → IsErrorOf s d end code → ⊥
+no_error_in : (s : TapSides) (d : TapDatagram) (m : Message) → Spells d.payload m → ((code : ℕ) (text : List ℕ) → m ≡ Message.Error code text → ⊥) → (end : End) (code : ℕ) → IsErrorAtTap s d end code → ⊥
 no_error_in s d m says other end code e = other code e.1 (spelled_once d.payload m (Message.Error code e.1) says e.2)
 
-pub none_after : (s : TapSides) (passed : List TapDatagram) (d : TapDatagram) (m : Message) → Spells d.payload m → ((code : ℕ) (text : List ℕ) → m ≡ Message.Error code text → ⊥) → NoErrorAtTap s passed → NoErrorAtTap s (d ∷ passed)
+pub none_after : (s : TapSides) (passed : List TapDatagram) (d : TapDatagram) (m : Message) → Spells d.payload m → ((code : ℕ) (text : List ℕ) → m ≡ Message.Error code text → ⊥) → NoErrorBy (IsErrorAtTap s) passed → NoErrorBy (IsErrorAtTap s) (d ∷ passed)
 none_after s passed d m says other none = (no_error_in s d m says other, none)
 
-pub request_no_error : (s : TapSides) (d : TapDatagram) (asked : RequestParts) → Spells d.payload (Message.Request asked) → NoErrorAtTap s (d ∷ [])
+pub request_no_error : (s : TapSides) (d : TapDatagram) (asked : RequestParts) → Spells d.payload (Message.Request asked) → NoErrorBy (IsErrorAtTap s) (d ∷ [])
 request_no_error s d asked says = none_after s [] d (Message.Request asked) says (λ code text is. cc) tt
 
 -- ---- one step
@@ -140,12 +140,12 @@ read_of payload (Ok p) found fault = found
 read_of payload (Err f) found fault = (fault f).0 refl
 
 -- the answer, and that what breaks no rule can be read
-reads_always : (payload : List ℕ) (found : Result (Unit {0}) TapPassError) → (m : Message) × Spells payload m → IsReadUnless found payload
+reads_always : (payload : List ℕ) (found : Result (Unit {0}) PassError) → (m : Message) × Spells payload m → IsReadUnless found payload
 reads_always payload (Ok u) read = read
 reads_always payload (Err Memory) read = read
 reads_always payload (Err (Breaks r)) read = tt
 
-pub answer_read : (s : TapSides) (passed : List TapDatagram) (route : TapRoute) (d : TapDatagram) (own : Option Rule) (found : Result (Unit {0}) TapPassError) (read : Result Packet PacketFault)
+pub answer_read : (s : TapSides) (passed : List TapDatagram) (route : TapRoute) (d : TapDatagram) (own : Option Rule) (found : Result (Unit {0}) PassError) (read : Result Packet PacketFault)
     → IsReadOf d.payload read → FindsRule (OwnBreaks s passed route d) own → IsReadUnless (smaller_of own found) d.payload
 answer_read s passed route d own found (Ok p) is o = reads_always d.payload (smaller_of own found) (meaning p, is)
 answer_read s passed route d None found (Err fault) is none = absurd (none (rule.Malformed fault) (inl is))
@@ -153,6 +153,6 @@ answer_read s passed route d (Some own) (Ok u) (Err fault) is o = tt
 answer_read s passed route d (Some own) (Err Memory) (Err fault) is o = tt
 answer_read s passed route d (Some own) (Err (Breaks other)) (Err fault) is o = elim (cases_Bool (not (is_of_ports other) && nat_lt (number_of other) (number_of own))) [ inl lower ↦ rw (lower) tt | inr upper ↦ rw (upper) tt ]
 
-pub found_err : (Breaking : Rule → Type 0) (One Other : Type 0) (e : TapPassError) → FindsTo Breaking One (Err e) → FindsTo Breaking Other (Err e)
+pub found_err : (Breaking : Rule → Type 0) (One Other : Type 0) (e : PassError) → Finds Breaking One (Err e) → Finds Breaking Other (Err e)
 found_err Breaking One Other (Breaks r) f = f
 found_err Breaking One Other Memory f = f

@@ -1,9 +1,10 @@
 -- What the judge at a tap keeps of the datagrams that it has accepted, and for which datagrams that stands. The lists `earlier`
 -- and `passed` have the datagrams that have passed and those of the transfer, the newest first.
-use Rattle.std.specs.Prelude.{◌≡◌, ◌⊎◌, ◌<◌, ◌≤◌, ◌^◌, ℕ, Bool, true, List, [], ◌∷◌, length, Option, Some, None}
+use Rattle.std.specs.Prelude.{◌≡◌, ◌<◌, ◌≤◌, ◌^◌, ℕ, Bool, true, List, [], length, Option, Some, None}
 use Rattle.std.specs.List.{list_any}
 use Rattle.tftp_packet.specs.{Message, RequestParts, Spells, Side, End}
 use Rattle.tftp_model.specs.Roles.{receiver_of}
+use Rattle.tftp_law.specs.{IsFirstError}
 use Rattle.tftp_judge.specs.{IsJudgeAfter, Judge}
 use Rattle.tftp_tap.specs.{TapDatagram, TapSides, side_of, AreApart, kept_of, KnownWays, StandsForTap, tap_tests, transfer_between, BreaksNoTapRule, FirstTapAsked, header_at, kept_between}
 use Rattle.tftp_tap_judge.specs.TapSeen.{AreNotes, Notes}
@@ -29,22 +30,8 @@ pub record IsReceiving (r : Receiving) (s : TapSides) (side : Side) (passed : Li
 -- ---- the transfer from its first request on
 
 -- the datagram is an ERROR of this end with this code
-abbrev pub IsErrorOf : TapSides → TapDatagram → End → ℕ → Type 0
-IsErrorOf s d end code = (d.source ≡ side_of s end) × (text : List ℕ) × Spells d.payload (Message.Error code text)
-
--- no datagram is an ERROR of an end
-abbrev pub NoErrorAtTap : TapSides → List TapDatagram → Type 0
-NoErrorAtTap s [] = Unit {0}
-NoErrorAtTap s (d ∷ passed) = ((end : End) (code : ℕ) → IsErrorOf s d end code → ⊥) × NoErrorAtTap s passed
-
--- the oldest datagram that is an ERROR is one of this end with this code
-abbrev pub FirstErrorAtTap : TapSides → List TapDatagram → End → ℕ → Type 0
-FirstErrorAtTap s [] end code = ⊥
-FirstErrorAtTap s (d ∷ passed) end code = FirstErrorAtTap s passed end code ⊎ (NoErrorAtTap s passed × IsErrorOf s d end code)
-
-abbrev pub IsFirstError : TapSides → List TapDatagram → Option (End × ℕ) → Type 0
-IsFirstError s passed None = NoErrorAtTap s passed
-IsFirstError s passed (Some first) = FirstErrorAtTap s passed first.0 first.1
+abbrev pub IsErrorAtTap : TapSides → TapDatagram → End → ℕ → Type 0
+IsErrorAtTap s d end code = (d.source ≡ side_of s end) × (text : List ℕ) × Spells d.payload (Message.Error code text)
 
 pub record TapTransfer : Type 0 where
   pub asked : RequestParts  -- the first request
@@ -57,7 +44,7 @@ pub record IsTapTransfer (t : TapTransfer) (s : TapSides) (passed : List TapData
   pub asked : FirstTapAsked s passed t.asked
   pub receiving : IsReceiving t.receiving s t.asked.side passed
   pub notes : AreNotes t.notes s passed
-  pub first_error : IsFirstError s passed t.first_error
+  pub first_error : IsFirstError (IsErrorAtTap s) passed t.first_error
 
 -- ---- the judge
 

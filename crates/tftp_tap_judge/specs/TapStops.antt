@@ -16,22 +16,16 @@ use Rattle.tftp_tap_judge.specs.TapSeen.{IsNew}
 use Rattle.tftp_tap_judge.specs.declared.datagram.TapDatagram.{TapDatagram as Owned}
 use Rattle.tftp_tap_judge.specs.declared.refusal.TapRefusal.{TapRefusal}
 use Rattle.tftp_tap_judge.specs.declared.refusal.TapRefusal.TheVariants.{Unlawful, Memory as WantsMemory}
-use Rattle.tftp_tap_judge.specs.declared.tap_pass_error.TapPassError.{TapPassError}
-use Rattle.tftp_tap_judge.specs.declared.tap_pass_error.TapPassError.TheVariants.{Breaks, Memory}
+use Rattle.tftp_judge.specs.declared.pass_error.PassError.{PassError}
+use Rattle.tftp_judge.specs.declared.pass_error.PassError.TheVariants.{Broken as Breaks, Memory}
 
 -- the datagram that a value in memory is
 abbrev pub passing_of : Owned → TapDatagram
 passing_of d = record { source = d.source; destination = d.destination; payload = d.payload }
 
--- No rule is broken, and then this holds; or the first that is; or memory is wanting, where none is broken.
-abbrev pub FindsTo : (Rule → Type 0) → Type 0 → Result (Unit {0}) TapPassError → Type 0
-FindsTo Breaking After (Ok _) = NoneBreaks Breaking × After
-FindsTo Breaking After (Err (Breaks rule)) = IsFirstOf Breaking rule
-FindsTo Breaking After (Err Memory) = NoneBreaks Breaking
-
 -- Of the first rules of two kinds the one that is tried first, where either is broken. A rule of ports at the end that gets the
 -- file stands back: between the ends those are told by the two sides alone.
-abbrev pub smaller_of : Option Rule → Result (Unit {0}) TapPassError → Result (Unit {0}) TapPassError
+abbrev pub smaller_of : Option Rule → Result (Unit {0}) PassError → Result (Unit {0}) PassError
 smaller_of None found = found
 smaller_of (Some own) (Err (Breaks other)) = if not (is_of_ports other) && nat_lt (number_of other) (number_of own) then Err (Breaks other) else Err (Breaks own)
 smaller_of (Some own) _ = Err (Breaks own)
@@ -51,32 +45,32 @@ abbrev pub TransferBreaks : TapSides → List TapDatagram → TapRoute → TapDa
 TransferBreaks s passed route d broken = OwnBreaks s passed route d broken ⊎ KeptBreaks s passed d broken
 
 -- it can be read, unless it breaks a rule
-abbrev pub IsReadUnless : Result (Unit {0}) TapPassError → List ℕ → Type 0
+abbrev pub IsReadUnless : Result (Unit {0}) PassError → List ℕ → Type 0
 IsReadUnless (Ok _) payload = (m : Message) × Spells payload m
 IsReadUnless (Err (Breaks rule)) payload = Unit {0}
 IsReadUnless (Err Memory) payload = (m : Message) × Spells payload m
 
 -- the same of any datagram after those that have passed
-abbrev pub FindsAtTap : TapSides → List TapDatagram → TapDatagram → Type 0 → Result (Unit {0}) TapPassError → Type 0
+abbrev pub FindsAtTap : TapSides → List TapDatagram → TapDatagram → Type 0 → Result (Unit {0}) PassError → Type 0
 FindsAtTap s earlier d After (Ok _) = TapPasses s earlier d × After
 FindsAtTap s earlier d After (Err (Breaks rule)) = FirstTapBroken s earlier d rule
 FindsAtTap s earlier d After (Err Memory) = TapPasses s earlier d
 
 -- the same where the datagram begins a transfer
-abbrev pub BeginsAtTap : TapSides → List TapDatagram → TapDatagram → Result TapTransfer TapPassError → Type 0
+abbrev pub BeginsAtTap : TapSides → List TapDatagram → TapDatagram → Result TapTransfer PassError → Type 0
 BeginsAtTap s earlier d (Ok transfer) = TapPasses s earlier d × IsTapTransfer transfer s (d ∷ [])
 BeginsAtTap s earlier d (Err (Breaks rule)) = FirstTapBroken s earlier d rule
 BeginsAtTap s earlier d (Err Memory) = TapPasses s earlier d
 
 -- why a payload asks for nothing, or memory is wanting for what it asks for
-abbrev pub IsNoRequest : List ℕ → TapPassError → Type 0
+abbrev pub IsNoRequest : List ℕ → PassError → Type 0
 IsNoRequest payload (Breaks (rule.Malformed fault)) = FirstFault payload fault
 IsNoRequest payload (Breaks rule.NoRequest) = asks_in payload ≡ false
 IsNoRequest payload (Breaks _) = ⊥
 IsNoRequest payload Memory = (asked : RequestParts) × Spells payload (Message.Request asked)
 
 -- what the judge at an end refuses for, as a reason to stop
-abbrev pub error_by_refusal : Refusal → TapPassError
+abbrev pub error_by_refusal : Refusal → PassError
 error_by_refusal (of_end.Unlawful index rule) = Breaks rule
 error_by_refusal _ = Memory
 

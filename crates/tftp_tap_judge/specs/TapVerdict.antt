@@ -5,9 +5,9 @@ use Rattle.tftp_packet.specs.{RequestParts, End}
 use Rattle.tftp_model.specs.{Meaning}
 use Rattle.tftp_judge.specs.{Refusal}
 use Rattle.tftp_judge.specs.declared.refusal.Refusal.TheVariants as of_end
-use Rattle.tftp_law.specs.{IsWritable, IsEnded}
+use Rattle.tftp_law.specs.{FirstErrorBy, IsWritable, IsEnded, NoErrorBy}
 use Rattle.tftp_tap.specs.{TapDatagram, TapSides, IsLawfulBetween, ShowsBetween, transfer_between, FirstTapAsked, header_at, kept_between}
-use Rattle.tftp_tap_judge.specs.TapKept.{FirstErrorAtTap, NoErrorAtTap}
+use Rattle.tftp_tap_judge.specs.TapKept.{IsErrorAtTap}
 use Rattle.tftp_tap_judge.specs.declared.refusal.TapRefusal.{TapRefusal}
 use Rattle.tftp_tap_judge.specs.declared.refusal.TapRefusal.TheVariants.{Unlawful, Aborted, Incomplete, NormalTooLong, Memory}
 
@@ -27,8 +27,8 @@ IsWholeThere s tapped =
 abbrev pub IsTapVerdict : TapSides → List TapDatagram → Result Meaning TapRefusal → Type 0
 IsTapVerdict s tapped (Ok m) = IsLawfulBetween s tapped × IsShown s tapped m × IsWritable m
 IsTapVerdict s tapped (Err (Unlawful index rule)) = ⊥
-IsTapVerdict s tapped (Err (Aborted end code)) = IsLawfulBetween s tapped × NoneShown s tapped × FirstErrorAtTap s (transfer_between s tapped) end code
-IsTapVerdict s tapped (Err (Incomplete count)) = IsLawfulBetween s tapped × NoneShown s tapped × NoErrorAtTap s (transfer_between s tapped) × (count ≡ length tapped)
+IsTapVerdict s tapped (Err (Aborted end code)) = IsLawfulBetween s tapped × NoneShown s tapped × FirstErrorBy (IsErrorAtTap s) (transfer_between s tapped) end code
+IsTapVerdict s tapped (Err (Incomplete count)) = IsLawfulBetween s tapped × NoneShown s tapped × NoErrorBy (IsErrorAtTap s) (transfer_between s tapped) × (count ≡ length tapped)
 IsTapVerdict s tapped (Err NormalTooLong) = IsLawfulBetween s tapped × ((m : Meaning) × IsShown s tapped m) × ((m : Meaning) → IsShown s tapped m → IsWritable m → ⊥)
 IsTapVerdict s tapped (Err (Memory count)) = IsLawfulBetween s tapped × IsWholeThere s tapped × (count ≡ length tapped)
 

@@ -8,11 +8,10 @@ ghost use Rattle.tftp_tap_judge.specs.declared.refusal.TapRefusal.{TapRefusal as
 use crate::datagram::TapDatagram;
 use crate::keeping::TapState;
 use crate::refusal::TapRefusal;
-use crate::tap_pass_error::TapPassError;
 use std::alloc::Global;
 use std::marker::Model;
 use tftp_blocks::Delivered;
-use tftp_judge::Meaning;
+use tftp_judge::{Meaning, PassError};
 use tftp_tap::Sides;
 
 /// The judge of a capture that was taken at a point between the ends, datagram by datagram (RFC 1350; RFC 2347; RFC 7440). It is
@@ -81,8 +80,8 @@ impl<D: Delivered + Drop> TapJudge<D> {
         }
         if let Err(stop) = self.state.pass(alloc, datagram) {
             let refusal = match stop {
-                TapPassError::Breaks(rule) => TapRefusal::Unlawful(self.fed + 1, rule),
-                TapPassError::Memory => TapRefusal::Memory(self.fed),
+                PassError::Broken(rule) => TapRefusal::Unlawful(self.fed + 1, rule),
+                PassError::Memory => TapRefusal::Memory(self.fed),
             };
             self.refused = Some(refusal);
             return Err(refusal);

@@ -4,17 +4,18 @@ ghost use Rattle.tftp_tap.specs.{TapDatagram as Passing, TapSides, side_of, AreA
 ghost use Rattle.tftp_tap_judge.specs.TapKept.{FedWithin, HasKeptAtTap, IsFewFed, IsKeptAtTap};
 ghost use Rattle.tftp_tap_judge.specs.TapSeen.{AreNotes};
 ghost use Rattle.tftp_tap_judge.specs.TapStops.{BeginsAtTap, FindsAtTap, IsNoRequest, IsRecorded, TakesMemoryAtTap, passing_of};
-ghost use Rattle.tftp_tap_judge.specs.declared.tap_pass_error.TapPassError.{TapPassError as TapPassErrorKind};
+ghost use Rattle.tftp_judge.specs.declared.pass_error.PassError.{PassError as PassErrorKind};
 
 use crate::datagram::TapDatagram;
 use crate::notes::TapNotes;
-use crate::tap_pass_error::TapPassError;
 use crate::transfer::{TapTransfer, receiver_of_file};
 use std::alloc::Global;
 use std::marker::Model;
 use tftp_blocks::Delivered;
 use tftp_capture::Datagram;
+use tftp_ends::says_unknown_id;
 use tftp_hosts::{Dir, Peer};
+use tftp_judge::PassError;
 use tftp_law::Rule;
 use tftp_packet::{End, Packet, Request, opcode, own_request, read_packet};
 use tftp_rules::PortRule;
@@ -54,13 +55,13 @@ impl<D: Delivered + Drop> TapState<D> {
     }
 
     /// What is found of a datagram after those that have passed; where it passes it is kept.
-    pub fn pass(&mut self, alloc: Global, datagram: TapDatagram) -> Result<(), TapPassError>
+    pub fn pass(&mut self, alloc: Global, datagram: TapDatagram) -> Result<(), PassError>
         requires few { IsFewFed self.old.transfer }
         requires short { length datagram.payload ≤ 65527 }
         ensures finds { (s : TapSides) (earlier : List Passing) → AreApart s → BreaksNoTapRule s earlier → HasKeptAtTap self.old s earlier
             → FindsAtTap s earlier (passing_of datagram) (HasKeptAtTap self.new s (passing_of datagram ∷ earlier)) result }
         ensures memory { (s : TapSides) (earlier : List Passing) → AreApart s → BreaksNoTapRule s earlier → HasKeptAtTap self.old s earlier
-            → result ≡ Err TapPassErrorKind.Memory → TakesMemoryAtTap s earlier (passing_of datagram) }
+            → result ≡ Err PassErrorKind.Memory → TakesMemoryAtTap s earlier (passing_of datagram) }
         ensures fed { (n : ℕ) → FedWithin self.old.transfer n → OnOk result (FedWithin self.new.transfer (n + 1)) }
     {
         let source = datagram.source;
@@ -78,7 +79,7 @@ impl<D: Delivered + Drop> TapState<D> {
         alloc: Global,
         route: TapRoute,
         datagram: TapDatagram,
-    ) -> Result<(), TapPassError>
+    ) -> Result<(), PassError>
         requires few { IsFewFed self.old.transfer }
         requires short { length datagram.payload ≤ 65527 }
         ensures finds { (s : TapSides) (earlier : List Passing) → AreApart s → BreaksNoTapRule s earlier
@@ -86,7 +87,7 @@ impl<D: Delivered + Drop> TapState<D> {
             → FindsAtTap s earlier (passing_of datagram) (IsKeptAtTap s (transfer_between s (passing_of datagram ∷ earlier)) self.new.transfer) result }
         ensures memory { (s : TapSides) (earlier : List Passing) → AreApart s → BreaksNoTapRule s earlier
             → IsKeptAtTap s (transfer_between s earlier) self.old.transfer → route ≡ tap_route s earlier (passing_of datagram)
-            → result ≡ Err TapPassErrorKind.Memory → TakesMemoryAtTap s earlier (passing_of datagram) }
+            → result ≡ Err PassErrorKind.Memory → TakesMemoryAtTap s earlier (passing_of datagram) }
         ensures ports { self.new.ports ≡ self.old.ports }
         ensures fed { (n : ℕ) → FedWithin self.old.transfer n → OnOk result (FedWithin self.new.transfer (n + 1)) }
     {
@@ -100,12 +101,12 @@ impl<D: Delivered + Drop> TapState<D> {
                 if says_unknown_id(datagram.payload.as_slice()) {
                     Ok(())
                 } else {
-                    Err(TapPassError::Breaks(Rule::Port(PortRule::BadAnswer)))
+                    Err(PassError::Broken(Rule::Port(PortRule::BadAnswer)))
                 }
             }
-            TapRoute::ForeignPort => Err(TapPassError::Breaks(Rule::Port(PortRule::Foreign))),
-            TapRoute::WrongPort => Err(TapPassError::Breaks(Rule::Port(PortRule::Wrong))),
-            TapRoute::NoStrayAnswer => Err(TapPassError::Breaks(Rule::Port(PortRule::BadAnswer))),
+            TapRoute::ForeignPort => Err(PassError::Broken(Rule::Port(PortRule::Foreign))),
+            TapRoute::WrongPort => Err(PassError::Broken(Rule::Port(PortRule::Wrong))),
+            TapRoute::NoStrayAnswer => Err(PassError::Broken(Rule::Port(PortRule::BadAnswer))),
         }
     }
 
@@ -115,7 +116,7 @@ impl<D: Delivered + Drop> TapState<D> {
         alloc: Global,
         from: End,
         datagram: TapDatagram,
-    ) -> Result<(), TapPassError>
+    ) -> Result<(), PassError>
         requires few { IsFewFed self.old.transfer }
         requires short { length datagram.payload ≤ 65527 }
         ensures finds { (s : TapSides) (earlier : List Passing) → AreApart s → BreaksNoTapRule s earlier
@@ -123,7 +124,7 @@ impl<D: Delivered + Drop> TapState<D> {
             → is_passing (tap_route s earlier (passing_of datagram)) ≡ true
             → FindsAtTap s earlier (passing_of datagram) (IsKeptAtTap s (passing_of datagram ∷ transfer_between s earlier) self.new.transfer) result }
         ensures memory { (s : TapSides) (earlier : List Passing) → AreApart s → IsKeptAtTap s (transfer_between s earlier) self.old.transfer
-            → datagram.source ≡ side_of s from → result ≡ Err TapPassErrorKind.Memory → TakesMemoryAtTap s earlier (passing_of datagram) }
+            → datagram.source ≡ side_of s from → result ≡ Err PassErrorKind.Memory → TakesMemoryAtTap s earlier (passing_of datagram) }
         ensures ports { self.new.ports ≡ self.old.ports }
         ensures fed { (n : ℕ) → FedWithin self.old.transfer n → OnOk result (FedWithin self.new.transfer (n + 1)) }
     {
@@ -152,7 +153,7 @@ fn begun<D: Delivered + Drop>(
     alloc: Global,
     from: End,
     datagram: TapDatagram,
-) -> Result<TapTransfer<D>, TapPassError>
+) -> Result<TapTransfer<D>, PassError>
     requires short { length datagram.payload ≤ 65527 }
     ensures finds { (s : TapSides) (earlier : List Passing) → AreApart s → BreaksNoTapRule s earlier → transfer_between s earlier ≡ []
         → datagram.source ≡ side_of s from → is_passing (tap_route s earlier (passing_of datagram)) ≡ true
@@ -160,7 +161,7 @@ fn begun<D: Delivered + Drop>(
     ensures fed { IfOk result (λ transfer. transfer.receiving.judge.fed ≡ 1) }
 {
     if from == End::Server {
-        return Err(TapPassError::Breaks(Rule::NoRequest));
+        return Err(PassError::Broken(Rule::NoRequest));
     }
     let service = port_of(datagram.destination);
     let (asked, notes) = first_request(alloc, datagram.payload.as_slice())?;
@@ -169,17 +170,17 @@ fn begun<D: Delivered + Drop>(
 }
 
 /// What a payload of the client asks for, as the first of a transfer, and what is noted of it (RFC 1350, section 5).
-fn first_request(alloc: Global, payload: &[u8]) -> Result<(Request, TapNotes), TapPassError>
+fn first_request(alloc: Global, payload: &[u8]) -> Result<(Request, TapNotes), PassError>
     ensures found { IfOk result (λ first. Spells payload.now (Message.Request first.0)
         × ((s : TapSides) (d : Passing) → AreApart s → d.source ≡ s.client → d.payload ≡ payload.now → AreNotes first.1 s (d ∷ []))) }
     ensures breaks { IfErr result (λ stop. IsNoRequest payload.now stop) }
 {
     let packet = match read_packet(payload) {
         Ok(packet) => packet,
-        Err(fault) => return Err(TapPassError::Breaks(Rule::Malformed(fault))),
+        Err(fault) => return Err(PassError::Broken(Rule::Malformed(fault))),
     };
     let Packet::Request(asked) = &packet else {
-        return Err(TapPassError::Breaks(Rule::NoRequest));
+        return Err(PassError::Broken(Rule::NoRequest));
     };
     let asked = own_request(alloc, asked)?;
     let mut notes = TapNotes::new(alloc);
@@ -219,15 +220,5 @@ fn recorded(receiver: End, from: End, datagram: TapDatagram) -> Datagram
             remote_port: source.port,
             payload,
         }
-    }
-}
-
-/// Whether a payload is ERROR 5, "Unknown transfer ID" (RFC 1350, section 5).
-fn says_unknown_id(payload: &[u8]) -> bool
-    ensures { IsTrue result ↔ ((text : List ℕ) × Spells payload.now (Message.Error 5 text)) }
-{
-    match read_packet(payload) {
-        Ok(packet) => matches!(packet, Packet::Error { code: 5, .. }),
-        Err(_) => false,
     }
 }

@@ -7,10 +7,10 @@ mod judging;
 mod keeping;
 pub mod laws;
 mod notes;
+mod pass_error;
 mod receiving;
 mod refusal;
 mod seen;
-mod tap_pass_error;
 mod transfer;
 
 pub use datagram::TapDatagram;

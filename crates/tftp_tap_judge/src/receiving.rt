@@ -1,19 +1,19 @@
 ghost use Rattle.std.specs.Prelude.{◌≡◌, ◌+◌, ◌^◌, ◌<◌, ◌≤◌, List, [], ◌∷◌, length, reverse, true, IfErr, IfOk, OnOk, Err};
 ghost use Rattle.tftp_packet.specs.{opcode_of, Server, Side as Way};
 ghost use Rattle.tftp_model.specs.Roles.{receiver_of};
-ghost use Rattle.tftp_judge.specs.{TakesMemory, IsVerdict};
+ghost use Rattle.tftp_judge.specs.{Finds, TakesMemory, IsVerdict};
 ghost use Rattle.tftp_law.specs.{Passes};
 ghost use Rattle.tftp_tap.specs.{TapDatagram, TapSides, side_of, AreApart, is_left_out, same_end, asks_in, tap_tests, header_at, kept_between, recorded_at};
 ghost use Rattle.tftp_tap_judge.specs.TapKept.{IsReceiving, kept_there};
-ghost use Rattle.tftp_tap_judge.specs.TapStops.{FindsTo, IsRecorded, ReceiverBreaks};
-ghost use Rattle.tftp_tap_judge.specs.declared.tap_pass_error.TapPassError.{TapPassError as TapPassErrorKind};
+ghost use Rattle.tftp_tap_judge.specs.TapStops.{IsRecorded, ReceiverBreaks};
+ghost use Rattle.tftp_judge.specs.declared.pass_error.PassError.{PassError as PassErrorKind};
 
-use crate::tap_pass_error::{TapPassError, error_of};
+use crate::pass_error::error_of;
 use std::alloc::Global;
 use std::marker::Model;
 use tftp_blocks::Delivered;
 use tftp_capture::{Datagram, Header};
-use tftp_judge::{Judge, Meaning, Refusal};
+use tftp_judge::{Judge, Meaning, PassError, Refusal};
 use tftp_packet::{End, opcode};
 
 /// What the end that gets the file would make of a transfer, had it sent what passed from it and taken what passed towards it.
@@ -46,14 +46,14 @@ impl<D: Delivered + Drop> Receiving<D> {
         end: End,
         service: u16,
         request: &Datagram,
-    ) -> Result<Self, TapPassError>
+    ) -> Result<Self, PassError>
         requires short { length request.now.payload ≤ 65527 }
         ensures ok { (s : TapSides) (side : Way) (d : TapDatagram) → AreApart s → end ≡ receiver_of side → service ≡ s.asked.port
             → d.source ≡ s.client → asks_in d.payload ≡ true → IsRecorded s end d request.now
             → Passes (header_at s side) [] (recorded_at s end d) → IfOk result (λ receiving. IsReceiving receiving s side (d ∷ [])) }
         ensures err { (s : TapSides) (side : Way) (d : TapDatagram) → end ≡ receiver_of side → service ≡ s.asked.port
             → IsRecorded s end d request.now → Passes (header_at s side) [] (recorded_at s end d)
-            → IfErr result (λ stop. stop ≡ TapPassErrorKind.Memory) }
+            → IfErr result (λ stop. stop ≡ PassErrorKind.Memory) }
         ensures fed { IfOk result (λ receiving. receiving.judge.fed ≡ 1) }
     {
         let mut judge = Judge::new(
@@ -82,19 +82,14 @@ impl<D: Delivered + Drop> Receiving<D> {
     }
 
     /// What this end would find of the next datagram, which comes from an end of the transfer; nothing of one that is left out.
-    pub fn pass(
-        &mut self,
-        alloc: Global,
-        from: End,
-        datagram: &Datagram,
-    ) -> Result<(), TapPassError>
+    pub fn pass(&mut self, alloc: Global, from: End, datagram: &Datagram) -> Result<(), PassError>
         requires few { self.old.judge.fed < 2 ^ 40 }
         requires short { length datagram.now.payload ≤ 65527 }
         ensures finds { (s : TapSides) (side : Way) (passed : List TapDatagram) (d : TapDatagram) → AreApart s → IsReceiving self.old s side passed
             → d.source ≡ side_of s from → IsRecorded s (receiver_of side) d datagram.now
-            → FindsTo (ReceiverBreaks s side passed d) (IsReceiving self.new s side (d ∷ passed)) result }
+            → Finds (ReceiverBreaks s side passed d) (IsReceiving self.new s side (d ∷ passed)) result }
         ensures memory { (s : TapSides) (side : Way) (passed : List TapDatagram) (d : TapDatagram) → IsReceiving self.old s side passed
-            → IsRecorded s (receiver_of side) d datagram.now → result ≡ Err TapPassErrorKind.Memory
+            → IsRecorded s (receiver_of side) d datagram.now → result ≡ Err PassErrorKind.Memory
             → TakesMemory (header_at s side) (kept_between s side passed) (recorded_at s (receiver_of side) d) }
         ensures fed { OnOk result (self.new.judge.fed ≤ self.old.judge.fed + 1) }
     {

@@ -1,23 +1,24 @@
 ghost use Rattle.std.specs.Prelude.{◌≡◌, ◌+◌, ◌^◌, ◌<◌, ◌≤◌, List, [], ◌∷◌, length, true, IfErr, IfOk, OnOk, Err};
 ghost use Rattle.tftp_packet.specs.{Message, meaning, Spells};
 ghost use Rattle.tftp_model.specs.Roles.{receiver_of};
-ghost use Rattle.tftp_law.specs.{Passes};
+ghost use Rattle.tftp_judge.specs.{Finds};
+ghost use Rattle.tftp_law.specs.{Passes, IsFirstError};
 ghost use Rattle.tftp_tap.specs.{TapDatagram, TapSides, side_of, AreApart, is_passing, tap_route, transfer_between, BreaksNoTapRule, header_at, recorded_at};
-ghost use Rattle.tftp_tap_judge.specs.TapKept.{IsFirstError, IsTapTransfer};
+ghost use Rattle.tftp_tap_judge.specs.TapKept.{IsErrorAtTap, IsTapTransfer};
 ghost use Rattle.tftp_tap_judge.specs.TapSeen.{AreNotes};
-ghost use Rattle.tftp_tap_judge.specs.TapStops.{FindsTo, IsReadUnless, IsRecorded, TakesInTransfer, TransferBreaks};
+ghost use Rattle.tftp_tap_judge.specs.TapStops.{IsReadUnless, IsRecorded, TakesInTransfer, TransferBreaks};
 ghost use Rattle.tftp_tap_judge.specs.TapVerdict.{IsTapVerdict, said_at_tap, unfinished_by};
-ghost use Rattle.tftp_tap_judge.specs.declared.tap_pass_error.TapPassError.{TapPassError as TapPassErrorKind};
+ghost use Rattle.tftp_judge.specs.declared.pass_error.PassError.{PassError as PassErrorKind};
 
 use crate::notes::TapNotes;
+use crate::pass_error::first_of;
 use crate::receiving::Receiving;
 use crate::refusal::TapRefusal;
-use crate::tap_pass_error::{TapPassError, first_of};
 use std::alloc::Global;
 use std::marker::Model;
 use tftp_blocks::Delivered;
 use tftp_capture::Datagram;
-use tftp_judge::{Meaning, Refusal};
+use tftp_judge::{Meaning, PassError, Refusal};
 use tftp_law::Rule;
 use tftp_packet::{End, Packet, Request, Side, read_packet};
 
@@ -57,13 +58,13 @@ impl<D: Delivered + Drop> TapTransfer<D> {
         notes: TapNotes,
         service: u16,
         request: &Datagram,
-    ) -> Result<Self, TapPassError>
+    ) -> Result<Self, PassError>
         requires short { length request.now.payload ≤ 65527 }
         ensures ok { (s : TapSides) (d : TapDatagram) → AreApart s → service ≡ s.asked.port → d.source ≡ s.client
             → Spells d.payload (Message.Request asked) → AreNotes notes s (d ∷ []) → IsRecorded s (receiver_of asked.side) d request.now
             → Passes (header_at s asked.side) [] (recorded_at s (receiver_of asked.side) d) → IfOk result (λ transfer. IsTapTransfer transfer s (d ∷ [])) }
         ensures err { (s : TapSides) (d : TapDatagram) → service ≡ s.asked.port → IsRecorded s (receiver_of asked.side) d request.now
-            → Passes (header_at s asked.side) [] (recorded_at s (receiver_of asked.side) d) → IfErr result (λ stop. stop ≡ TapPassErrorKind.Memory) }
+            → Passes (header_at s asked.side) [] (recorded_at s (receiver_of asked.side) d) → IfErr result (λ stop. stop ≡ PassErrorKind.Memory) }
         ensures fed { IfOk result (λ transfer. transfer.receiving.judge.fed ≡ 1) }
     {
         let receiving = Receiving::begin(alloc, receiver_of_file(asked.side()), service, request)?;
@@ -85,20 +86,15 @@ impl<D: Delivered + Drop> TapTransfer<D> {
 
     /// What the next datagram breaks, which comes from this end of the transfer; where it breaks no rule it is kept. The datagram is
     /// as the end that gets the file would have recorded it.
-    pub fn pass(
-        &mut self,
-        alloc: Global,
-        from: End,
-        datagram: &Datagram,
-    ) -> Result<(), TapPassError>
+    pub fn pass(&mut self, alloc: Global, from: End, datagram: &Datagram) -> Result<(), PassError>
         requires few { self.old.receiving.judge.fed < 2 ^ 40 }
         requires short { length datagram.now.payload ≤ 65527 }
         ensures finds { (s : TapSides) (earlier : List TapDatagram) (d : TapDatagram) → AreApart s → BreaksNoTapRule s earlier
             → IsTapTransfer self.old s (transfer_between s earlier) → d.source ≡ side_of s from → is_passing (tap_route s earlier d) ≡ true
             → IsRecorded s (receiver_of self.old.asked.side) d datagram.now
-            → FindsTo (TransferBreaks s (transfer_between s earlier) (tap_route s earlier d) d) (IsTapTransfer self.new s (d ∷ transfer_between s earlier)) result }
+            → Finds (TransferBreaks s (transfer_between s earlier) (tap_route s earlier d) d) (IsTapTransfer self.new s (d ∷ transfer_between s earlier)) result }
         ensures memory { (s : TapSides) (passed : List TapDatagram) (d : TapDatagram) → IsTapTransfer self.old s passed
-            → d.source ≡ side_of s from → IsRecorded s (receiver_of self.old.asked.side) d datagram.now → result ≡ Err TapPassErrorKind.Memory
+            → d.source ≡ side_of s from → IsRecorded s (receiver_of self.old.asked.side) d datagram.now → result ≡ Err PassErrorKind.Memory
             → TakesInTransfer s passed d }
         ensures read { (s : TapSides) (passed : List TapDatagram) (d : TapDatagram) → AreApart s → IsTapTransfer self.old s passed
             → d.source ≡ side_of s from → IsRecorded s (receiver_of self.old.asked.side) d datagram.now → IsReadUnless result d.payload }
@@ -113,7 +109,7 @@ impl<D: Delivered + Drop> TapTransfer<D> {
                 keep_first_error(&mut self.first_error, from, packet);
                 Ok(())
             }
-            Err(fault) => Err(TapPassError::Breaks(Rule::Malformed(*fault))),
+            Err(fault) => Err(PassError::Broken(Rule::Malformed(*fault))),
         }
     }
 
@@ -143,8 +139,8 @@ pub fn receiver_of_file(side: Side) -> End
 
 /// Keeps whose ERROR this is and its code, where it is the first one.
 fn keep_first_error(first: &mut Option<(End, u16)>, from: End, packet: &Packet<'_>)
-    ensures { (s : TapSides) (passed : List TapDatagram) (d : TapDatagram) → AreApart s → IsFirstError s passed first.old
-        → d.source ≡ side_of s from → Spells d.payload (meaning packet.now) → IsFirstError s (d ∷ passed) first.new }
+    ensures { (s : TapSides) (passed : List TapDatagram) (d : TapDatagram) → AreApart s → IsFirstError (IsErrorAtTap s) passed first.old
+        → d.source ≡ side_of s from → Spells d.payload (meaning packet.now) → IsFirstError (IsErrorAtTap s) (d ∷ passed) first.new }
 {
     if first.is_some() {
         return;

@@ -2,11 +2,11 @@ use Rattle.std.proofs.Common.{◌≡◌, ◌∷◌, true, Err, sym, subst, ap, �
 use Rattle.tftp_packet.specs.{opcode_of, Server}
 use Rattle.tftp_hosts.specs.{Datagram}
 use Rattle.tftp_model.specs.Roles.{receiver_of}
-use Rattle.tftp_judge.specs.{Refuses, IsJudgeAfter}
+use Rattle.tftp_judge.specs.{Refuses, IsJudgeAfter, Finds, PassError}
 use Rattle.tftp_law.specs.{Passes}
 use Rattle.tftp_tap.specs.{same_end, header_at, kept_between}
-use Rattle.tftp_tap_judge.specs.{IsReceiving, Receiving, FindsTo, ReceiverBreaks, TapPassError}
-use Rattle.tftp_tap_judge.specs.declared.tap_pass_error.TapPassError.TheVariants as stop
+use Rattle.tftp_tap_judge.specs.{IsReceiving, Receiving, ReceiverBreaks}
+use Rattle.tftp_judge.specs.declared.pass_error.PassError.TheVariants as stop
 use Rattle.tftp_tap_judge.proofs.Receivings.{kept_more, left_out, refused_found, refused_takes, recorded_same, said_client, said_server}
 use Rattle.tftp_tap_judge.proofs.receiving.Receiving.pass.Goals as goal
 
@@ -22,7 +22,7 @@ returns-in-Err-clause-finds g c = λ s side passed d apart is source recorded.
     let opcode = ap opcode_of (recorded_same s (receiver_of side) d _ recorded ∙ sym c.as_slice.ensures) ∙ sym c.opcode.ensures in
     let stays = c.leaves_out.ensures s side passed d apart is source opcode ∙ c.if-leaves_out.false in
     let refuses = subst (λ (x : Datagram). Refuses (header_at s side) (kept_between s side passed) x c.in-Err.refusal) recorded (c.in-Err.ensures.refuses (header_at s side) (kept_between s side passed) was.judge) in
-    subst (λ (x : TapPassError). FindsTo (ReceiverBreaks s side passed d) (Unit {0}) (Err x)) (sym c.error_of.ensures) (refused_found s side passed d stays c.in-Err.refusal refuses (Unit {0}))
+    subst (λ (x : PassError). Finds (ReceiverBreaks s side passed d) (Unit {0}) (Err x)) (sym c.error_of.ensures) (refused_found s side passed d stays c.in-Err.refusal refuses (Unit {0}))
 
 pub returns-in-Err-clause-memory : goal.returns-in-Err-clause-memory
 returns-in-Err-clause-memory g c = λ s side passed d is recorded memory.

@@ -3,8 +3,9 @@ use Rattle.std.proofs.lemmas.Result.{err_from_is_err_and}
 use Rattle.tftp_packet.specs.{RequestParts, meaning}
 use Rattle.tftp_model.specs.Roles.{receiver_of}
 use Rattle.tftp_tap.specs.{TapDatagram, TapSides, AreApart, side_of, is_passing, tap_route, transfer_between, BreaksNoTapRule, Request}
-use Rattle.tftp_tap_judge.specs.{IsReadOf, IsReceiving, IsTapTransfer, TapTransfer, FindsTo, IsReadUnless, IsRecorded, TransferBreaks, TapPassError}
-use Rattle.tftp_tap_judge.specs.declared.tap_pass_error.TapPassError.TheVariants.{Memory}
+use Rattle.tftp_judge.specs.{Finds, PassError}
+use Rattle.tftp_tap_judge.specs.{IsReadOf, IsReceiving, IsTapTransfer, TapTransfer, IsReadUnless, IsRecorded, TransferBreaks}
+use Rattle.tftp_judge.specs.declared.pass_error.PassError.TheVariants.{Memory}
 use Rattle.tftp_tap_judge.proofs.StateFound.{none_there}
 use Rattle.tftp_tap_judge.proofs.Receivings.{recorded_same}
 use Rattle.tftp_tap_judge.proofs.TransferFound.{answer_read, asked_stays, found_err, memory_smaller, no_fault_in, no_other_error, read_of, reads_in, transfer_found}
@@ -29,13 +30,13 @@ read_is g c s d recorded = subst (λ (l : List _). IsReadOf l c.read_packet-read
 -- what is found of both
 found : (g : Over) (c : After-first_of g) (s : TapSides) (earlier : List TapDatagram) (d : TapDatagram) → AreApart s → BreaksNoTapRule s earlier → IsTapTransfer c.args.self.now s (transfer_between s earlier) → d.source ≡ side_of s c.args.from
     → is_passing (tap_route s earlier d) ≡ true → IsRecorded s (receiver_of c.args.self.now.asked.side) d c.args.datagram.now
-    → FindsTo (TransferBreaks s (transfer_between s earlier) (tap_route s earlier d) d) (IsReceiving c.pass.new.self s c.self.inside.asked.side (d ∷ transfer_between s earlier)) c.first_of.result
+    → Finds (TransferBreaks s (transfer_between s earlier) (tap_route s earlier d) d) (IsReceiving c.pass.new.self s c.self.inside.asked.side (d ∷ transfer_between s earlier)) c.first_of.result
 found g c s earlier d apart lawful is source passing recorded =
     let passed = transfer_between s earlier in
     let route = tap_route s earlier d in
     let was = known g c s passed is in
     let read = read_is g c s d recorded in
-    subst (FindsTo (TransferBreaks s passed route d) (IsReceiving c.pass.new.self s c.self.inside.asked.side (d ∷ passed))) (sym c.first_of.ensures)
+    subst (Finds (TransferBreaks s passed route d) (IsReceiving c.pass.new.self s c.self.inside.asked.side (d ∷ passed))) (sym c.first_of.ensures)
     (transfer_found s passed c.self.inside.asked was.asked route d (IsReceiving c.pass.new.self s c.self.inside.asked.side (d ∷ passed)) c.breaks-own.result c.pass.result
     (λ none. none_there s earlier d passing apart lawful c.self.inside.asked was.asked (reads_in s passed c.self.inside.asked was.asked route d none c.read_packet-read.result read) none)
     (c.breaks-own.ensures s passed route d was.notes apart was.asked source read)
@@ -49,9 +50,9 @@ returns-in_err-first_of-clause-finds g c = λ s earlier d apart lawful is source
     let was : c.first_of.result ≡ Err c.in_err-first_of.field-0.0 = search rules in
     let same : Err c.in_err-first_of.field-0.0 ≡ c.from_residual.result = search rules in
     let after : Type 0 = IsTapTransfer (record { asked = c.self.inside.asked; receiving = c.pass.new.self; notes = c.self.inside.notes; first_error = c.self.inside.first_error }) s (d ∷ passed) in
-    subst (FindsTo (TransferBreaks s passed route d) after) same
+    subst (Finds (TransferBreaks s passed route d) after) same
     (found_err (TransferBreaks s passed route d) (IsReceiving c.pass.new.self s c.self.inside.asked.side (d ∷ passed)) after c.in_err-first_of.field-0.0
-    (subst (FindsTo (TransferBreaks s passed route d) (IsReceiving c.pass.new.self s c.self.inside.asked.side (d ∷ passed))) was (found g at s earlier d apart lawful is source passing recorded)))
+    (subst (Finds (TransferBreaks s passed route d) (IsReceiving c.pass.new.self s c.self.inside.asked.side (d ∷ passed))) was (found g at s earlier d apart lawful is source passing recorded)))
 
 pub returns-in_err-first_of-clause-memory : goal.returns-in_err-first_of-clause-memory
 returns-in_err-first_of-clause-memory g c = λ s passed d is source recorded memory.
@@ -72,7 +73,7 @@ returns-in_err-first_of-clause-read g c = λ s passed d apart is source recorded
     let was : c.first_of.result ≡ Err c.in_err-first_of.field-0.0 = search rules in
     let same : Err c.in_err-first_of.field-0.0 ≡ c.from_residual.result = search rules in
     let read = read_is g at s d recorded in
-    subst (λ (r : Result (Unit {0}) TapPassError). IsReadUnless r d.payload) (sym c.first_of.ensures ∙ was ∙ same)
+    subst (λ (r : Result (Unit {0}) PassError). IsReadUnless r d.payload) (sym c.first_of.ensures ∙ was ∙ same)
     (answer_read s passed Request d c.breaks-own.result c.pass.result c.read_packet-read.result read (c.breaks-own.ensures s passed Request d kept.notes apart kept.asked source read))
 
 pub returns-in_err-note-in-Ok-clause-finds : goal.returns-in_err-note-in-Ok-clause-finds
@@ -83,7 +84,7 @@ returns-in_err-note-in-Ok-clause-finds g c = λ s earlier d apart lawful is sour
     let was : c.first_of.result ≡ Ok c.in_ok-first_of.field-0 = search rules in
     let p = err_from_is_err_and c.from_residual-in_err-note-in-Ok.result c.from_residual-in_err-note-in-Ok.ensures.1 in
     let same : Err Memory ≡ c.from_residual-in_err-note-in-Ok.result = sym (p.1 ∙ ap Err p.2) in
-    subst (FindsTo (TransferBreaks s passed route d) _) same (subst (FindsTo (TransferBreaks s passed route d) (IsReceiving c.pass.new.self s c.self.inside.asked.side (d ∷ passed))) was (found g at s earlier d apart lawful is source passing recorded)).0
+    subst (Finds (TransferBreaks s passed route d) _) same (subst (Finds (TransferBreaks s passed route d) (IsReceiving c.pass.new.self s c.self.inside.asked.side (d ∷ passed))) was (found g at s earlier d apart lawful is source passing recorded)).0
 
 pub returns-in_err-note-in-Ok-clause-memory : goal.returns-in_err-note-in-Ok-clause-memory
 returns-in_err-note-in-Ok-clause-memory g c = λ s passed d is source recorded memory.
@@ -95,7 +96,7 @@ pub returns-in_err-note-in-Ok-clause-read : goal.returns-in_err-note-in-Ok-claus
 returns-in_err-note-in-Ok-clause-read g c = λ s passed d apart is source recorded.
     let at = (goal.at.returns-in_err-note-in-Ok-clause-read g c).After-first_of in
     let p = err_from_is_err_and c.from_residual-in_err-note-in-Ok.result c.from_residual-in_err-note-in-Ok.ensures.1 in
-    subst (λ (r : Result (Unit {0}) TapPassError). IsReadUnless r d.payload) (sym (p.1 ∙ ap Err p.2)) (meaning c.in-Ok.packet, subst (IsReadOf d.payload) c.in-Ok.is (read_is g at s d recorded))
+    subst (λ (r : Result (Unit {0}) PassError). IsReadUnless r d.payload) (sym (p.1 ∙ ap Err p.2)) (meaning c.in-Ok.packet, subst (IsReadOf d.payload) c.in-Ok.is (read_is g at s d recorded))
 
 pub returns-in_ok-note-in-Ok-clause-finds : goal.returns-in_ok-note-in-Ok-clause-finds
 returns-in_ok-note-in-Ok-clause-finds g c = λ s earlier d apart lawful is source passing recorded.
@@ -104,7 +105,7 @@ returns-in_ok-note-in-Ok-clause-finds g c = λ s earlier d apart lawful is sourc
     let at = (goal.at.returns-in_ok-note-in-Ok-clause-finds g c).After-first_of in
     let kept = known g at s passed is in
     let was : c.first_of.result ≡ Ok c.in_ok-first_of.field-0 = search rules in
-    let told = subst (FindsTo (TransferBreaks s passed route d) (IsReceiving c.pass.new.self s c.self.inside.asked.side (d ∷ passed))) was (found g at s earlier d apart lawful is source passing recorded) in
+    let told = subst (Finds (TransferBreaks s passed route d) (IsReceiving c.pass.new.self s c.self.inside.asked.side (d ∷ passed))) was (found g at s earlier d apart lawful is source passing recorded) in
     let spelled = subst (IsReadOf d.payload) c.in-Ok.is (read_is g at s d recorded) in (
       told.0,
       record {
@@ -127,5 +128,5 @@ returns-in-Err-clause-finds g c = λ s earlier d apart lawful is source passing 
     let at = (goal.at.returns-in-Err-clause-finds g c).After-first_of in
     let kept = known g at s passed is in
     let was : c.first_of.result ≡ Ok c.in_ok-first_of.field-0 = search rules in
-    let told = subst (FindsTo (TransferBreaks s passed route d) (IsReceiving c.pass.new.self s c.self.inside.asked.side (d ∷ passed))) was (found g at s earlier d apart lawful is source passing recorded) in
+    let told = subst (Finds (TransferBreaks s passed route d) (IsReceiving c.pass.new.self s c.self.inside.asked.side (d ∷ passed))) was (found g at s earlier d apart lawful is source passing recorded) in
     absurd (no_fault_in s passed c.self.inside.asked kept.asked route d told.0 c.in-Err.fault (subst (IsReadOf d.payload) c.in-Err.is (read_is g at s d recorded)))
