@@ -6,12 +6,12 @@ use Rattle.tftp_capture.specs.CaptureText.{Datagram, Header}
 use Rattle.tftp_capture.specs.{Entry, said_in, HasWrittenHosts}
 use Rattle.tftp_streams.specs.{Sink, WriteFault, Writes, Wrote}
 use Rattle.tftp_capture.specs.Commented.Entry.{Comment, Passed}
-use Rattle.tftp_hosts.specs.{Dir, In, Out}
+use Rattle.tftp_hosts.specs.{Dir}
 use Rattle.tftp_packet.specs.{End}
 use Rattle.tftp_lines.specs.{Place, Transfer, Placed}
 use Rattle.tftp_transfers.specs.{AreEndsAfter, is_about}
-use Rattle.tftp_views.specs.{Naming, captured, IsFed, Party}
-use Rattle.tftp_views.proofs.Feeding.{came_in, went_out}
+use Rattle.tftp_views.specs.{Naming, captured, captured_as, IsFed, Party}
+use Rattle.tftp_views.proofs.Feeding.{fed_as}
 use Rattle.tftp_texts.specs.{AreNotesAfter, Notes, Noted, HasComment, IsComment, capture_at, captured_at, is_seen, way_at}
 
 pub on_written : {A B : Type 0} (r : Result (Unit {0}) WriteFault) → (A → B) → OnOk r A → OnOk r B
@@ -48,13 +48,8 @@ module _ (end : End) (name : Naming) (x : Transfer) (whole : List Placed) (p : P
   seen is = ap (λ (b : Bool). map (captured_at end name x whole) (cond b (p ∷ []) [])) is
 
   module _ (place : Place) (source target : Party) (payload : List ℕ) (fed : IsFed name p place source target payload) (is : is_seen end x.number whole p ≡ true) where
-    pub sent : way_at end x whole p ≡ Out
-        → record { dir = Out; local = source.end.port; host = target.host; remote = target.end.port; payload = payload } ∷ [] ≡ capture_at end name x whole (p ∷ [])
-    sent way = sym (seen is ∙ ap (λ (w : Dir). captured name w p.datagram ∷ []) way ∙ ap (λ (d : Datagram). d ∷ []) (went_out name p place source target payload fed))
-
-    pub got : way_at end x whole p ≡ In
-        → record { dir = In; local = target.end.port; host = source.host; remote = source.end.port; payload = payload } ∷ [] ≡ capture_at end name x whole (p ∷ [])
-    got way = sym (seen is ∙ ap (λ (w : Dir). captured name w p.datagram ∷ []) way ∙ ap (λ (d : Datagram). d ∷ []) (came_in name p place source target payload fed))
+    pub shown : (way : Dir) → way ≡ way_at end x whole p → captured_as way source target payload ∷ [] ≡ capture_at end name x whole (p ∷ [])
+    shown way is_way = sym (seen is ∙ ap (λ (w : Dir). captured name w p.datagram ∷ []) (sym is_way) ∙ ap (λ (d : Datagram). d ∷ []) (fed_as name p place source target payload fed way))
 
 -- these are what a datagram that was fed as this note has in the end's capture
 abbrev pub ShowsNote : End → Notes → Noted → List Datagram → Type 0

@@ -1,15 +1,14 @@
 //! The datagrams of one transfer, kept for its capture text.
 
-ghost use Rattle.std.specs.Prelude.{◌≡◌, ◌+◌, ◌^◌, ◌<◌, ◌≤◌, ◌∷◌, ◌++◌, ℕ, List, [], All, Option, filter, length, IfSome, OnErr, OnOk, None, Ok, true, false};
+ghost use Rattle.std.specs.Prelude.{◌≡◌, ◌+◌, ◌^◌, ◌<◌, ◌≤◌, ◌∷◌, ◌++◌, ℕ, List, [], All, Option, length, IfSome, OnErr, OnOk, None, Ok, true, false};
 ghost use Rattle.tftp_capture.specs.CaptureText.{Header as HeaderParts};
 ghost use Rattle.tftp_capture.specs.{IsPort, Entry, said_in, HasWrittenHosts};
 ghost use Rattle.tftp_streams.specs.{Sink, Wrote};
-ghost use Rattle.tftp_hosts.specs.{In, Out};
-ghost use Rattle.tftp_transfers.specs.{AreEndsAfter, is_about, is_end, server_of};
+ghost use Rattle.tftp_transfers.specs.{AreEndsAfter, is_about};
 ghost use Rattle.tftp_lines.specs.{Placed};
 ghost use Rattle.tftp_views.specs.{Naming, IsFed};
 ghost use Rattle.tftp_texts.specs.Kept.{AreNotesAfter, CanBeWritten};
-ghost use Rattle.tftp_texts.specs.Views.{HasComment, IsTextOf, capture_at, captured_at, header_at, is_seen, way_at};
+ghost use Rattle.tftp_texts.specs.Views.{HasComment, IsTextOf, capture_at, header_at, is_seen, way_at};
 
 use crate::comment::Comment;
 use crate::noted::Noted;
@@ -22,7 +21,7 @@ use tftp_lines::{Endpoint, Place, Transfer};
 use tftp_packet::{Bytes, End};
 use tftp_streams::{LineWriter, WriteFault};
 use tftp_transfers::TransferEnds;
-use tftp_views::{Held, Party};
+use tftp_views::{Held, Party, sides, way_at_client, way_at_server};
 
 /// The most datagrams that are kept.
 const MOST: usize = 1 << 40;
@@ -95,28 +94,6 @@ impl TransferText {
         if !self.ends.is_about(place) {
             return Ok(());
         }
-        self.keep(alloc, place, source, target, payload, comment)
-    }
-
-    /// Keeps one of the transfer's datagrams.
-    fn keep(
-        &mut self,
-        alloc: Global,
-        place: &Place,
-        source: &Party,
-        target: &Party,
-        payload: &[u8],
-        comment: Comment,
-    ) -> Result<(), AllocError>
-        requires source { IsPort source.now.end.port }
-        requires target { IsPort target.now.end.port }
-        requires short { length payload.now ≤ 65527 }
-        ensures after { (name : Naming) (p : Placed) (older : List Placed) → AreNotesAfter self.old name older
-            → IsFed name p place.now source.now target.now payload.now → is_about self.old.transfer.number p ≡ true
-            → OnOk result (AreNotesAfter self.new name (p ∷ older)) }
-        ensures same { OnErr result (self.new ≡ self.old) }
-        ensures transfer { self.new.transfer ≡ self.old.transfer }
-    {
         if self.noted.len() >= MOST {
             return Err(AllocError);
         }
@@ -183,13 +160,9 @@ impl TransferText {
         }
         capture.comment(writer, noted.comment.words())?;
         let payload = noted.held.payload.as_slice();
-        if self.goes_out(end, place, source.end) {
-            let (local, remote) = (source.end.port, target.end.port);
-            capture.put(writer, Dir::Out, local, &target.host, remote, payload)
-        } else {
-            let (local, remote) = (target.end.port, source.end.port);
-            capture.put(writer, Dir::In, local, &source.host, remote, payload)
-        }
+        let dir = self.way(end, place, source.end);
+        let (local, remote) = sides(dir, source, target);
+        capture.put(writer, dir, local, &remote.host, remote.end.port, payload)
     }
 
     /// Whether a datagram that belongs there is in the end's view.
@@ -203,42 +176,14 @@ impl TransferText {
         }
     }
 
-    /// Whether the end sent it.
-    fn goes_out(&self, end: End, place: &Place, source: Endpoint) -> bool
-        ensures yes { (placed : List Placed) (p : Placed) → AreEndsAfter self.now.ends placed → self.now.ends.number ≡ self.now.transfer.number
-            → place.now ≡ p.place → p.datagram.source ≡ source → result ≡ true → way_at end self.now.transfer placed p ≡ Out }
-        ensures no { (placed : List Placed) (p : Placed) → AreEndsAfter self.now.ends placed → self.now.ends.number ≡ self.now.transfer.number
-            → place.now ≡ p.place → p.datagram.source ≡ source → result ≡ false → way_at end self.now.transfer placed p ≡ In }
+    /// Which way a datagram that belongs there passed the end.
+    fn way(&self, end: End, place: &Place, source: Endpoint) -> Dir
+        ensures { (placed : List Placed) (p : Placed) → AreEndsAfter self.now.ends placed → self.now.ends.number ≡ self.now.transfer.number
+            → place.now ≡ p.place → p.datagram.source ≡ source → result ≡ way_at end self.now.transfer placed p }
     {
         match end {
-            End::Client => source == self.transfer.client,
-            End::Server => self.server_sent(place, source),
-        }
-    }
-
-    /// Whether the server sent it: of a talk what the client did not, of what passed beside what came from there.
-    fn server_sent(&self, place: &Place, source: Endpoint) -> bool
-        ensures yes { (placed : List Placed) (p : Placed) → AreEndsAfter self.now.ends placed → self.now.ends.number ≡ self.now.transfer.number
-            → place.now ≡ p.place → p.datagram.source ≡ source → result ≡ true → way_at End.Server self.now.transfer placed p ≡ Out }
-        ensures no { (placed : List Placed) (p : Placed) → AreEndsAfter self.now.ends placed → self.now.ends.number ≡ self.now.transfer.number
-            → place.now ≡ p.place → p.datagram.source ≡ source → result ≡ false → way_at End.Server self.now.transfer placed p ≡ In }
-    {
-        match place {
-            Place::Talks(_) => source != self.transfer.client,
-            Place::Beside(_) => self.is_server(source),
-            Place::Opens(_) => false,
-            Place::Repeats(_) => false,
-            Place::Apart(_) => false,
-            Place::Nowhere => false,
-        }
-    }
-
-    fn is_server(&self, end: Endpoint) -> bool
-        ensures { (placed : List Placed) → AreEndsAfter self.now.ends placed → result ≡ is_end end (server_of self.now.ends.number placed) }
-    {
-        match self.ends.server() {
-            None => false,
-            Some(server) => end == server,
+            End::Client => way_at_client(&self.transfer, source),
+            End::Server => way_at_server(&self.transfer, &self.ends, place, source),
         }
     }
 }

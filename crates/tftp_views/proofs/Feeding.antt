@@ -1,11 +1,26 @@
 -- What is fed is captured as it passed.
-use Rattle.std.proofs.Common.{◌≡◌, ℕ, Bool, true, false, cond, List, ◌∷◌, refl, sym, ap, ◌∙◌, map, filter}
-use Rattle.tftp_capture.specs.{datagram_of}
-use Rattle.tftp_capture.specs.declared.datagram.Datagram.{Datagram as Owned}
-use Rattle.tftp_hosts.specs.{Dir, In, Out}
-use Rattle.tftp_lines.specs.{Place, Transfer, Placed}
+use Rattle.std.proofs.Common.{◌≡◌, ℕ, true, false, cond, List, ◌∷◌, sym, ap, ◌∙◌, subst, map, filter}
+use Rattle.tftp_hosts.specs.{Datagram, Dir, In, Out}
+use Rattle.tftp_lines.specs.{Place, Transfer, Placed, is_of}
 use Rattle.tftp_transfers.specs.{is_at_server}
-use Rattle.tftp_views.specs.{Party, Naming, captured, captured_at_server, server_capture, way_at_server, IsFed}
+use Rattle.tftp_views.specs.{Party, Naming, captured, captured_as, captured_at_client, captured_at_server, client_capture, client_header, server_capture, server_header, way_at_client, way_at_server, HasJudged, Client, IsClientAfter, IsFed, IsServerAfter, OneEnd, Server}
+
+module _ (name : Naming) (x : Transfer) (whole : List Placed) (p : Placed) (part : List Placed) where
+  seen_too : is_at_server x.number whole p ≡ true → server_capture name x whole (p ∷ part) ≡ captured_at_server name x whole p ∷ server_capture name x whole part
+  seen_too is = ap (λ b. map (captured_at_server name x whole) (cond b (p ∷ filter (is_at_server x.number whole) part) (filter (is_at_server x.number whole) part))) is
+
+  not_seen : is_at_server x.number whole p ≡ false → server_capture name x whole (p ∷ part) ≡ server_capture name x whole part
+  not_seen off = ap (λ b. map (captured_at_server name x whole) (cond b (p ∷ filter (is_at_server x.number whole) part) (filter (is_at_server x.number whole) part))) off
+
+-- one that the server did not see
+pub server_apart : (s : Server) (name : Naming) (whole : List Placed) (p : Placed) (part : List Placed) → is_at_server s.transfer.number whole p ≡ false → IsServerAfter s name whole part → IsServerAfter s name whole (p ∷ part)
+server_apart s name whole p part off after = record {
+  number = after.number;
+  ends = after.ends;
+  judged = subst (HasJudged s.end.judge (server_header s.transfer)) (sym (not_seen name s.transfer whole p part off)) after.judged;
+}
+
+-- ---- one that an end saw
 
 module _ (name : Naming) (p : Placed) (place : Place) (source target : Party) (payload : List ℕ) (fed : IsFed name p place source target payload) where
   from_host : name p.datagram.source.address ≡ source.host
@@ -14,32 +29,27 @@ module _ (name : Naming) (p : Placed) (place : Place) (source target : Party) (p
   to_host : name p.datagram.target.address ≡ target.host
   to_host = ap (λ e. name e.address) fed.to ∙ sym fed.to_host
 
-  pub went_out : captured name Out p.datagram ≡ record { dir = Out; local = source.end.port; host = target.host; remote = target.end.port; payload = payload }
-  went_out =
-      ap (λ (l : ℕ). record { dir = Out; local = l; host = name p.datagram.target.address; remote = p.datagram.target.port; payload = p.datagram.payload }) (ap (λ e. e.port) fed.from)
-      ∙ ap (λ (h : List ℕ). record { dir = Out; local = source.end.port; host = h; remote = p.datagram.target.port; payload = p.datagram.payload }) to_host
-      ∙ ap (λ (r : ℕ). record { dir = Out; local = source.end.port; host = target.host; remote = r; payload = p.datagram.payload }) (ap (λ e. e.port) fed.to)
-      ∙ ap (λ (bytes : List ℕ). record { dir = Out; local = source.end.port; host = target.host; remote = target.end.port; payload = bytes }) fed.carries
+  pub fed_as : (way : Dir) → captured name way p.datagram ≡ captured_as way source target payload
+  fed_as Out = λ i. record { dir = Out; local = (fed.from i).port; host = to_host i; remote = (fed.to i).port; payload = fed.carries i }
+  fed_as In = λ i. record { dir = In; local = (fed.to i).port; host = from_host i; remote = (fed.from i).port; payload = fed.carries i }
 
-  pub came_in : captured name In p.datagram ≡ record { dir = In; local = target.end.port; host = source.host; remote = source.end.port; payload = payload }
-  came_in =
-      ap (λ (l : ℕ). record { dir = In; local = l; host = name p.datagram.source.address; remote = p.datagram.source.port; payload = p.datagram.payload }) (ap (λ e. e.port) fed.to)
-      ∙ ap (λ (h : List ℕ). record { dir = In; local = target.end.port; host = h; remote = p.datagram.source.port; payload = p.datagram.payload }) from_host
-      ∙ ap (λ (r : ℕ). record { dir = In; local = target.end.port; host = source.host; remote = r; payload = p.datagram.payload }) (ap (λ e. e.port) fed.from)
-      ∙ ap (λ (bytes : List ℕ). record { dir = In; local = target.end.port; host = source.host; remote = source.end.port; payload = bytes }) fed.carries
+  -- the client's judge was given it
+  pub client_given : (c : Client) (end : OneEnd) (older : List Placed) (way : Dir) → is_of c.transfer.number p ≡ true → way ≡ way_at_client c.transfer p
+      → HasJudged end.judge (client_header c.transfer) (captured_as way source target payload ∷ client_capture name c.transfer older) → IsClientAfter (record c { end = end }) name (p ∷ older)
+  client_given c end older way is is_way judged =
+      subst (HasJudged end.judge (client_header c.transfer))
+      (sym (ap (λ b. map (captured_at_client name c.transfer) (cond b (p ∷ filter (is_of c.transfer.number) older) (filter (is_of c.transfer.number) older))) is
+      ∙ ap (λ (w : Dir). captured name w p.datagram ∷ client_capture name c.transfer older) (sym is_way)
+      ∙ ap (λ (d : Datagram). d ∷ client_capture name c.transfer older) (fed_as way))) judged
 
-  -- by the way that the server's judge tells
-  pub passed_as : (x : Transfer) (whole : List Placed) (d : Owned) (out : Bool)
-      → (out ≡ true → way_at_server x whole p ≡ Out) → (out ≡ false → way_at_server x whole p ≡ In)
-      → (out ≡ true → datagram_of d ≡ record { dir = Out; local = source.end.port; host = target.host; remote = target.end.port; payload = payload })
-      → (out ≡ false → datagram_of d ≡ record { dir = In; local = target.end.port; host = source.host; remote = source.end.port; payload = payload })
-      → captured_at_server name x whole p ≡ datagram_of d
-  passed_as x whole d true out_way in_way out_as in_as = ap (λ (way : Dir). captured name way p.datagram) (out_way refl) ∙ went_out ∙ sym (out_as refl)
-  passed_as x whole d false out_way in_way out_as in_as = ap (λ (way : Dir). captured name way p.datagram) (in_way refl) ∙ came_in ∙ sym (in_as refl)
-
-module _ (name : Naming) (x : Transfer) (whole : List Placed) (p : Placed) (part : List Placed) where
-  pub seen_too : is_at_server x.number whole p ≡ true → server_capture name x whole (p ∷ part) ≡ captured_at_server name x whole p ∷ server_capture name x whole part
-  seen_too is = ap (λ b. map (captured_at_server name x whole) (cond b (p ∷ filter (is_at_server x.number whole) part) (filter (is_at_server x.number whole) part))) is
-
-  pub not_seen : is_at_server x.number whole p ≡ false → server_capture name x whole (p ∷ part) ≡ server_capture name x whole part
-  not_seen off = ap (λ b. map (captured_at_server name x whole) (cond b (p ∷ filter (is_at_server x.number whole) part) (filter (is_at_server x.number whole) part))) off
+  -- and the server's
+  pub server_given : (s : Server) (end : OneEnd) (whole part : List Placed) (way : Dir) → IsServerAfter s name whole part → is_at_server s.transfer.number whole p ≡ true → way ≡ way_at_server s.transfer whole p
+      → HasJudged end.judge (server_header s.transfer) (captured_as way source target payload ∷ server_capture name s.transfer whole part) → IsServerAfter (record s { end = end }) name whole (p ∷ part)
+  server_given s end whole part way after is is_way judged = record {
+    number = after.number;
+    ends = after.ends;
+    judged = subst (HasJudged end.judge (server_header s.transfer))
+        (sym (seen_too name s.transfer whole p part is
+        ∙ ap (λ (w : Dir). captured name w p.datagram ∷ server_capture name s.transfer whole part) (sym is_way)
+        ∙ ap (λ (d : Datagram). d ∷ server_capture name s.transfer whole part) (fed_as way))) judged;
+  }

@@ -6,7 +6,7 @@ use Rattle.tftp_lines.specs.{Transfer, Placed, is_of}
 use Rattle.tftp_transfers.specs.{TransferEnds, AreEndsAfter, is_settled, answered_by, asked_of, is_about, is_at_server, went_on_with, server_of}
 use Rattle.tftp_transfers.proofs.OwnDatagrams.{about_none, answered_kept, asked_kept, filter_kept, seen_none, settled_kept, went_on_kept, server_kept}
 use Rattle.tftp_views.specs.{Held, Naming, captured_at_server, server_header, HasJudged, AreHeld, IsFed, IsGoingOn, IsServerAfter, IsViewAfter, Server, View, ViewedBy}
-use Rattle.tftp_views.proofs.Feeding.{not_seen}
+use Rattle.tftp_views.proofs.Feeding.{server_apart}
 use Rattle.tftp_views.proofs.Settling.{server_goes_on, settled_stays}
 
 pub on_ok : {A B : Type 0} (r : Result (Unit {0}) AllocError) → (A → B) → OnOk r A → OnOk r B
@@ -114,13 +114,8 @@ passes_by v name p older off = by v.judge where
     none = goes.none;
     after =
         let settled : is_settled s.transfer.number older ≡ true = ap (λ (x : Transfer). is_settled x.number older) goes.transfer ∙ goes.settled in
-        let on : IsServerAfter s name (p ∷ older) older = server_goes_on s name (p ∷ []) older older settled goes.after in
         let off_here : is_about s.transfer.number p ≡ false = ap (λ (x : Transfer). is_about x.number p) goes.transfer ∙ off in
-        record {
-          number = on.number;
-          ends = on.ends;
-          judged = subst (HasJudged s.end.judge (server_header s.transfer)) (sym (not_seen name s.transfer (p ∷ older) p older (seen_none s.transfer.number (p ∷ older) p off_here))) on.judged;
-        };
+        server_apart s name (p ∷ older) p older (seen_none s.transfer.number (p ∷ older) p off_here) (server_goes_on s name (p ∷ []) older older settled goes.after);
   }
 
 -- ---- the judge goes on

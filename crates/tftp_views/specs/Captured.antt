@@ -4,6 +4,7 @@ use Rattle.tftp_hosts.specs.{Dir, In, Out, Datagram, Header}
 use Rattle.tftp_packet.specs.{Client, Server}
 use Rattle.tftp_lines.specs.{Address, Place, Talks, Beside, Transfer, Recorded, same_endpoint, Placed}
 use Rattle.tftp_transfers.specs.{client_view, is_at_server, is_end, server_of}
+use Rattle.tftp_views.specs.declared.party.Party.{Party}
 
 abbrev pub Naming : Type 0
 Naming = Address → List ℕ
@@ -12,6 +13,11 @@ Naming = Address → List ℕ
 abbrev pub captured : Naming → Dir → Recorded → Datagram
 captured name Out d = record { dir = Out; local = d.source.port; host = name d.target.address; remote = d.target.port; payload = d.payload }
 captured name In d = record { dir = In; local = d.target.port; host = name d.source.address; remote = d.source.port; payload = d.payload }
+
+-- the same of one as it is fed, with the names of its hosts
+abbrev pub captured_as : Dir → Party → Party → List ℕ → Datagram
+captured_as Out source target payload = record { dir = Out; local = source.end.port; host = target.host; remote = target.end.port; payload = payload }
+captured_as In source target payload = record { dir = In; local = target.end.port; host = source.host; remote = source.end.port; payload = payload }
 
 -- what the client sent goes out there
 abbrev pub way_at_client : Transfer → Placed → Dir

@@ -4,21 +4,20 @@ ghost use Rattle.std.specs.Prelude.{◌≡◌, ◌+◌, ◌^◌, ◌<◌, ◌≤
 ghost use Rattle.tftp_rules.specs.{transfer_of};
 ghost use Rattle.tftp_judge.specs.{TakesForJoin, Refusal as RefusalKind};
 ghost use Rattle.tftp_law.specs.{IsEnded};
-ghost use Rattle.tftp_hosts.specs.{In, Out};
 ghost use Rattle.tftp_lines.specs.{Placed, is_of};
-ghost use Rattle.tftp_views.specs.Captured.{Naming, client_capture, client_header, way_at_client};
+ghost use Rattle.tftp_views.specs.Captured.{Naming, client_capture, client_header};
 ghost use Rattle.tftp_views.specs.Judged.{IsJudgedWith};
 ghost use Rattle.tftp_views.specs.Kept.{IsClientAfter, IsFed};
 
 use crate::end_judge::EndJudge;
 use crate::party::Party;
+use crate::ways::way_at_client;
 use std::alloc::{AllocError, Global};
 use std::marker::Model;
 use tftp_blocks::Delivered;
 use tftp_capture::Header;
-use tftp_hosts::Dir;
 use tftp_judge::{Meaning, Refusal};
-use tftp_lines::{Endpoint, Place, Transfer};
+use tftp_lines::{Place, Transfer};
 use tftp_packet::End;
 
 /// The judge of a transfer at its client (RFC 1350, section 2): it picks the client's view out of a recording.
@@ -84,23 +83,8 @@ impl<D: Delivered + Drop> ClientJudge<D> {
         if !self.is_at_client(place) {
             return Ok(());
         }
-        if self.goes_out(source.end) {
-            let (local, remote) = (source.end.port, target.end.port);
-            self.judge
-                .put(alloc, Dir::Out, local, &target.host, remote, payload)
-        } else {
-            let (local, remote) = (target.end.port, source.end.port);
-            self.judge
-                .put(alloc, Dir::In, local, &source.host, remote, payload)
-        }
-    }
-
-    /// Whether the client sent it.
-    fn goes_out(&self, source: Endpoint) -> bool
-        ensures yes { (p : Placed) → p.datagram.source ≡ source → result ≡ true → way_at_client self.now.transfer p ≡ Out }
-        ensures no { (p : Placed) → p.datagram.source ≡ source → result ≡ false → way_at_client self.now.transfer p ≡ In }
-    {
-        source == self.transfer.client
+        let dir = way_at_client(&self.transfer, source.end);
+        self.judge.put(alloc, dir, source, target, payload)
     }
 
     fn is_at_client(&self, place: &Place) -> bool

@@ -6,13 +6,16 @@ ghost use Rattle.tftp_hosts.specs.{Datagram as DatagramParts, Header as HeaderPa
 ghost use Rattle.tftp_rules.specs.{transfer_of};
 ghost use Rattle.tftp_judge.specs.{TakesForJoin, Refusal as RefusalKind};
 ghost use Rattle.tftp_law.specs.{IsEnded};
+ghost use Rattle.tftp_views.specs.Captured.{captured_as};
 ghost use Rattle.tftp_views.specs.Judged.{HasJudged, IsJudgedWith};
 
+use crate::party::Party;
+use crate::ways::captured;
 use std::alloc::{AllocError, Global};
 use std::marker::Model;
 use tftp_blocks::Delivered;
 use tftp_capture::{Datagram, Header};
-use tftp_hosts::{Dir, Host};
+use tftp_hosts::Dir;
 use tftp_judge::{Judge, Meaning, Refusal};
 use tftp_packet::Bytes;
 
@@ -50,21 +53,20 @@ impl<D: Delivered + Drop> EndJudge<D> {
         }
     }
 
-    /// Gives it the next datagram; a refusal it keeps. Memory for the payload is wanted only of one that is longer than the
+    /// Gives it the next datagram, which passed its end this way; a refusal it keeps. Memory for the payload is wanted only of one that is longer than the
     /// one before it, and then it was not given it.
     pub fn put(
         &mut self,
         alloc: Global,
         dir: Dir,
-        local: u16,
-        host: &Host,
-        remote: u16,
+        source: &Party,
+        target: &Party,
         payload: &[u8],
     ) -> Result<(), AllocError>
         requires few { self.old.judge.fed < 2 ^ 40 }
         requires short { length payload.now ≤ 65527 }
         ensures judged { (h : HeaderParts) (given : List DatagramParts) → HasJudged self.old.judge h given
-            → OnOk result (HasJudged self.new.judge h (record { dir = dir; local = local; host = host.now; remote = remote; payload = payload.now } ∷ given)) }
+            → OnOk result (HasJudged self.new.judge h (captured_as dir source.now target.now payload.now ∷ given)) }
         ensures room { OnOk result (self.new.room ≡ length payload.now) }
         ensures longer { OnErr result (self.old.room < length payload.now) }
         ensures same { OnErr result (self.new ≡ self.old) }
@@ -76,14 +78,7 @@ impl<D: Delivered + Drop> EndJudge<D> {
             self.datagram.payload = Bytes::of(bytes);
             return Err(error);
         }
-        let datagram = Datagram {
-            dir,
-            local_port: local,
-            remote_host: *host,
-            remote_port: remote,
-            payload: Bytes::of(bytes),
-        };
-        self.give(alloc, datagram);
+        self.give(alloc, captured(dir, source, target, Bytes::of(bytes)));
         Ok(())
     }
 

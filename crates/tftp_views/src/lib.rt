@@ -8,6 +8,7 @@ pub mod laws;
 mod party;
 mod server;
 mod server_view;
+mod ways;
 
 pub use client::ClientJudge;
 pub use end_judge::EndJudge;
@@ -15,3 +16,4 @@ pub use held::Held;
 pub use party::Party;
 pub use server::ServerJudge;
 pub use server_view::ServerView;
+pub use ways::{sides, way_at_client, way_at_server};

@@ -4,24 +4,22 @@ ghost use Rattle.std.specs.Prelude.{◌≡◌, ◌+◌, ◌^◌, ◌<◌, ◌≤
 ghost use Rattle.tftp_rules.specs.{transfer_of};
 ghost use Rattle.tftp_judge.specs.{TakesForJoin, Refusal as RefusalKind};
 ghost use Rattle.tftp_law.specs.{IsEnded};
-ghost use Rattle.tftp_capture.specs.{datagram_of};
-ghost use Rattle.tftp_hosts.specs.{In, Out};
-ghost use Rattle.tftp_transfers.specs.{AreEndsAfter, is_settled, is_at_server, is_end, server_of};
+ghost use Rattle.tftp_transfers.specs.{AreEndsAfter, is_settled, is_at_server};
 ghost use Rattle.tftp_lines.specs.{Placed};
-ghost use Rattle.tftp_views.specs.Captured.{Naming, server_capture, server_header, way_at_server};
+ghost use Rattle.tftp_views.specs.Captured.{Naming, server_capture, server_header};
 ghost use Rattle.tftp_views.specs.Judged.{IsJudgedWith};
 ghost use Rattle.tftp_views.specs.Kept.{IsFed, IsServerAfter};
 
 use crate::end_judge::EndJudge;
 use crate::held::Held;
 use crate::party::Party;
+use crate::ways::{captured, way_at_server};
 use std::alloc::{AllocError, Global};
 use std::marker::Model;
 use tftp_blocks::Delivered;
-use tftp_capture::{Datagram, Header};
-use tftp_hosts::Dir;
+use tftp_capture::Header;
 use tftp_judge::{Meaning, Refusal};
-use tftp_lines::{Endpoint, Place, Transfer};
+use tftp_lines::{Place, Transfer};
 use tftp_packet::End;
 use tftp_transfers::TransferEnds;
 
@@ -66,9 +64,9 @@ impl<D: Delivered + Drop> ServerJudge<D> {
         }
     }
 
-    /// Takes the next datagram of the recording, from its first on, of this transfer or of another, which belongs there.
-    /// Memory is wanted only of one whose payload is longer than that of the one before it, and then it was not taken. A
-    /// refusal is kept.
+    /// Takes the next datagram of the recording, from its first on, of this transfer or of another, which belongs there; or, as
+    /// the recording comes, where it is known who the server is. Memory is wanted only of one whose payload is longer than that
+    /// of the one before it, and then it was not taken. A refusal is kept.
     pub fn feed(
         &mut self,
         alloc: Global,
@@ -81,6 +79,11 @@ impl<D: Delivered + Drop> ServerJudge<D> {
         requires short { length payload.now ≤ 65527 }
         ensures after { (name : Naming) (whole : List Placed) (p : Placed) (part : List Placed) → IsServerAfter self.old name whole part
             → IsFed name p place.now source.now target.now payload.now → OnOk result (IsServerAfter self.new name whole (p ∷ part)) }
+        ensures goes_on { (name : Naming) (p : Placed) (older : List Placed) → IsServerAfter self.old name older older
+            → is_settled self.old.transfer.number older ≡ true → IsFed name p place.now source.now target.now payload.now
+            → OnOk result (IsServerAfter self.new name (p ∷ older) (p ∷ older)) }
+        ensures settled { (p : Placed) (older : List Placed) → is_settled self.old.transfer.number older ≡ true
+            → is_settled self.new.transfer.number (p ∷ older) ≡ true }
         ensures others { (name : Naming) (whole : List Placed) (p : Placed) (part : List Placed) → IsServerAfter self.old name whole part
             → IsFed name p place.now source.now target.now payload.now → is_at_server self.old.transfer.number whole p ≡ false
             → (result ≡ Ok tt) × (self.new ≡ self.old) }
@@ -93,41 +96,8 @@ impl<D: Delivered + Drop> ServerJudge<D> {
         if !self.ends.is_at_server(place, source.end, target.end) {
             return Ok(());
         }
-        if self.goes_out(place, source.end) {
-            let (local, remote) = (source.end.port, target.end.port);
-            self.judge
-                .put(alloc, Dir::Out, local, &target.host, remote, payload)
-        } else {
-            let (local, remote) = (target.end.port, source.end.port);
-            self.judge
-                .put(alloc, Dir::In, local, &source.host, remote, payload)
-        }
-    }
-
-    /// Takes the next datagram as the recording comes, where it is known who the server is, whatever comes. Memory is
-    /// wanted as by `feed`.
-    pub fn go_on(
-        &mut self,
-        alloc: Global,
-        place: &Place,
-        source: &Party,
-        target: &Party,
-        payload: &[u8],
-    ) -> Result<(), AllocError>
-        requires few { self.old.end.judge.fed < 2 ^ 40 }
-        requires short { length payload.now ≤ 65527 }
-        ensures after { (name : Naming) (p : Placed) (older : List Placed) → IsServerAfter self.old name older older
-            → is_settled self.old.transfer.number older ≡ true → IsFed name p place.now source.now target.now payload.now
-            → OnOk result (IsServerAfter self.new name (p ∷ older) (p ∷ older)) }
-        ensures settled { (p : Placed) (older : List Placed) → is_settled self.old.transfer.number older ≡ true
-            → is_settled self.new.transfer.number (p ∷ older) ≡ true }
-        ensures longer { OnErr result (self.old.end.room < length payload.now) }
-        ensures same { OnErr result (self.new ≡ self.old) }
-        ensures counts { self.new.end.judge.fed ≤ self.old.end.judge.fed + 1 }
-        ensures for_good { (refusal : RefusalKind) → self.old.end.judge.refused ≡ Some refusal → self.new.end.judge ≡ self.old.end.judge }
-        ensures transfer { self.new.transfer ≡ self.old.transfer }
-    {
-        self.feed(alloc, place, source, target, payload)
+        let dir = way_at_server(&self.transfer, &self.ends, place, source.end);
+        self.judge.put(alloc, dir, source, target, payload)
     }
 
     /// The same as `feed`, of one that was held, whose memory it takes over.
@@ -145,31 +115,15 @@ impl<D: Delivered + Drop> ServerJudge<D> {
         {
             return;
         }
-        let goes_out = self.goes_out(&held.place, held.source.end);
-        self.judge.give(alloc, passed(goes_out, held));
-    }
-
-    /// Whether the server sent what belongs there.
-    fn goes_out(&self, place: &Place, source: Endpoint) -> bool
-        ensures yes { (name : Naming) (whole : List Placed) (p : Placed) (part : List Placed) → IsServerAfter self.now name whole part
-            → place.now ≡ p.place → p.datagram.source ≡ source → result ≡ true → way_at_server self.now.transfer whole p ≡ Out }
-        ensures no { (name : Naming) (whole : List Placed) (p : Placed) (part : List Placed) → IsServerAfter self.now name whole part
-            → place.now ≡ p.place → p.datagram.source ≡ source → result ≡ false → way_at_server self.now.transfer whole p ≡ In }
-    {
-        match place {
-            Place::Talks(_) => source != self.transfer.client,
-            Place::Beside(_) => self.is_server(source),
-            _ => false,
-        }
-    }
-
-    fn is_server(&self, end: Endpoint) -> bool
-        ensures { (whole : List Placed) → AreEndsAfter self.now.ends whole → result ≡ is_end end (server_of self.now.ends.number whole) }
-    {
-        match self.ends.server() {
-            None => false,
-            Some(server) => end == server,
-        }
+        let dir = way_at_server(&self.transfer, &self.ends, &held.place, held.source.end);
+        let Held {
+            source,
+            target,
+            payload,
+            ..
+        } = held;
+        self.judge
+            .give(alloc, captured(dir, &source, &target, payload));
     }
 
     /// How many datagrams of the server's view were accepted.
@@ -199,30 +153,5 @@ impl<D: Delivered + Drop> ServerJudge<D> {
     {
         let ServerJudge { judge, .. } = self;
         judge.finish(alloc)
-    }
-}
-
-/// A datagram as the capture of its end has it.
-fn passed(goes_out: bool, held: Held) -> Datagram
-    ensures yes { goes_out ≡ true → datagram_of result ≡ record { dir = Out; local = held.source.end.port; host = held.target.host; remote = held.target.end.port; payload = held.payload } }
-    ensures no { goes_out ≡ false → datagram_of result ≡ record { dir = In; local = held.target.end.port; host = held.source.host; remote = held.source.end.port; payload = held.payload } }
-{
-    let Held {
-        source,
-        target,
-        payload,
-        ..
-    } = held;
-    let (local, remote) = if goes_out {
-        (source.end.port, target)
-    } else {
-        (target.end.port, source)
-    };
-    Datagram {
-        dir: if goes_out { Dir::Out } else { Dir::In },
-        local_port: local,
-        remote_host: remote.host,
-        remote_port: remote.end.port,
-        payload,
     }
 }

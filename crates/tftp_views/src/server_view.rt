@@ -89,7 +89,7 @@ impl<D: Delivered + Drop> ServerView<D> {
             return Ok(());
         }
         if let Some(judge) = &mut self.judge {
-            return judge.go_on(alloc, place, source, target, payload);
+            return judge.feed(alloc, place, source, target, payload);
         }
         self.wait(alloc, place, source, target, payload)
     }

@@ -16,8 +16,8 @@ returns-then-not-is_about-clause-after g c name p older after fed =
 pub returns-in-Some-clause-after : goal.returns-in-Some-clause-after
 returns-in-Some-clause-after g c name p older after fed =
     let v : View = record { transfer = c.self.inside.transfer; ends = c.self.inside.ends; held = c.self.inside.held.items; judge = c.self.inside.judge } in
-    let w : View = record { transfer = c.self.inside.transfer; ends = c.self.inside.ends; held = c.self.inside.held.items; judge = Some c.go_on.new.self } in
+    let w : View = record { transfer = c.self.inside.transfer; ends = c.self.inside.ends; held = c.self.inside.held.items; judge = Some c.feed.new.self } in
     let goes : IsGoingOn c.in-Some.judge v name older = subst (λ (o : Option Server). ViewedBy o v name older) c.in-Some.is (subst (λ (v : View). IsViewAfter v name older) (sym c.self.view_is) after) in
     let settled : is_settled c.in-Some.judge.transfer.number older ≡ true = ap (λ (x : Transfer). is_settled x.number older) goes.transfer ∙ goes.settled in
-    on_ok c.go_on.result (λ next. goes_on_too c.in-Some.judge c.go_on.new.self v w name p older refl refl c.go_on.ensures.transfer goes next)
-    (c.go_on.ensures.after name p older goes.after settled fed)
+    on_ok c.feed.result (λ next. goes_on_too c.in-Some.judge c.feed.new.self v w name p older refl refl c.feed.ensures.transfer goes next)
+    (c.feed.ensures.goes_on name p older goes.after settled fed)
