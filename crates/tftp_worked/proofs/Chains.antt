@@ -10,7 +10,7 @@ use Rattle.tftp_worked.proofs.Payloads.{Spelled, datagrams, AllSpelled, spells_i
 use Rattle.tftp_law.proofs.FirstBroken.Answering.{answer_of}
 use Rattle.tftp_law.proofs.FirstBroken.OneMessage.{end_breaks, back}
 use Rattle.tftp_worked.proofs.Passing.{kept_if, main_of, first_asked, asked_by, asked_is, asked_back, first_answer, or_now, unanswered_is, answered_is, terms_of, terms_from, terms_by, terms_are, terms_back}
-use Rattle.tftp_worked.proofs.RuleTests.{not_oack, keeps_below}
+use Rattle.tftp_worked.proofs.RuleTests.{not_oack, past_all, keeps_below}
 use Rattle.tftp_worked.proofs.Kept.{passes_by, passes_is, none_below, no_oack, FirstOack, OtherOack, OackKeeps, not_answered}
 
 -- what is known of the transfer, if it is these terms
@@ -22,7 +22,7 @@ pub one_more : (h : Header) (t : Option Terms) (es : List Spelled) (e : Spelled)
     → passes_by h t es e ≡ true → OneEnded h (datagrams es) → OneEnded h (datagrams (e ∷ es))
 one_more h t es e s here is other test before =
     let known = known_by h es s t is in
-    (passes_is h t es e s here known (no_oack h es e s here t known 28 other) test, before)
+    (passes_is h t es e s here known (no_oack h es e s here t known past_all other) test, before)
 
 -- the rules below n that a datagram breaks which is no OACK: none
 pub none_under : (n : ℕ) (h : Header) (t : Option Terms) (es : List Spelled) (e : Spelled) → AllSpelled es → Spells e.0.payload e.1 → t ≡ terms_of h es → not_oack e.1 ≡ true
@@ -67,11 +67,11 @@ first_oack_keeps h es e s here t known n asked oack is none says fine = record {
 
 -- the first OACK passes, where its options are fine
 pub first_oack : (h : Header) (t : Option Terms) (es : List Spelled) (e : Spelled) (asked : RequestParts) (oack : OptionMap) → AllSpelled es → Spells e.0.payload e.1 → t ≡ terms_of h es
-    → asked_by (first_asked h es) ≡ Some (Message.Request asked) → first_answer asked.side (main_of h es) ≡ None → e.1 ≡ Message.Oack oack → OackFine asked oack 28
+    → asked_by (first_asked h es) ≡ Some (Message.Request asked) → first_answer asked.side (main_of h es) ≡ None → e.1 ≡ Message.Oack oack → OackFine asked oack past_all
     → passes_by h t es e ≡ true → OneEnded h (datagrams es) → OneEnded h (datagrams (e ∷ es))
 first_oack h t es e asked oack s here is request none says fine test before =
     let known = known_by h es s t is in
-    (passes_is h t es e s here known (first_oack_keeps h es e s here t known 28 asked oack request none says fine) test, before)
+    (passes_is h t es e s here known (first_oack_keeps h es e s here t known past_all asked oack request none says fine) test, before)
 
 -- ---- once the request is answered
 

@@ -1,4 +1,4 @@
--- Datagrams with their parts dress a view, by computation.
+-- Datagrams with their labels dress a view, by computation.
 use Rattle.std.proofs.Common.{◌≡◌, ℕ, ◌==◌, ◌&&◌, ◌||◌, not, Bool, true, false, ◌⊎◌, List, [], ◌∷◌, ◌++◌, Any, map as each, reverse, inl, inr, refl, sym, subst, ap, ◌∙◌}
 use Rattle.std.proofs.lemmas.Bool.{and_parts, or_cases, eqb-true, eq-eqb, false≢true}
 use Rattle.std.proofs.lemmas.Slice.Eq.{bytes_eq-Decides}
@@ -9,7 +9,7 @@ use Rattle.tftp_hosts.specs.{Dir, In, Out, Datagram, Header, PeerId, peer_of, sa
 use Rattle.tftp_model.specs.{Meaning, blksize_of, request_of, block, MachinePacket, Req, Oack, Data, Ack, Error, Deed, message_of, History}
 use Rattle.tftp_rules.specs.{SaysUnknownId}
 use Rattle.tftp_model.proofs.HistoryTests.{same_end}
-use Rattle.tftp_law.specs.{server_port, from_server, BeginsAsRequest, Part, Main, Stray, Placed, Division, datagrams_of, view_in, TransferIds, HasClientId, HasServerId, GoesToServer, dir_of, packet_of, IsMain, HasPart, HaveParts, IsDressed}
+use Rattle.tftp_law.specs.{server_port, from_server, BeginsAsRequest, Label, Main, Stray, Labelled, Division, datagrams_of, view_in, TransferIds, HasClientId, HasServerId, GoesToServer, dir_of, packet_of, IsMain, HasLabel, HaveLabels, IsDressed}
 use Rattle.tftp_law.specs.Dress.{StrayAnswer}
 use Rattle.tftp_law.proofs.Division.Divided.{any_first, any_later}
 use Rattle.tftp_law.proofs.Division.RouteTests.{apart_is, is_same}
@@ -21,14 +21,14 @@ use Rattle.tftp_worked.proofs.Meant.{deed_for}
 abbrev pub Carried : Type 0
 Carried = Datagram × Deed
 
-abbrev pub main : Carried → Placed
-main c = record { datagram = c.0; part = Main c.1 }
+abbrev pub main : Carried → Labelled
+main c = record { datagram = c.0; label = Main c.1 }
 
-abbrev pub strays : Datagram → Placed
-strays d = record { datagram = d; part = Stray }
+abbrev pub strays : Datagram → Labelled
+strays d = record { datagram = d; label = Stray }
 
-abbrev pub answers_stray : Datagram → Placed
-answers_stray d = record { datagram = d; part = StrayAnswer }
+abbrev pub answers_stray : Datagram → Labelled
+answers_stray d = record { datagram = d; label = StrayAnswer }
 
 abbrev pub division_of : List Carried → Division
 division_of cs = each main cs
@@ -51,23 +51,23 @@ abbrev pub came : Dir → Division → Bool
 came dir [] = false
 came dir (p ∷ ps) = same_dir p.datagram.dir dir || came dir ps
 
-abbrev pub is_main : Part → Bool
+abbrev pub is_main : Label → Bool
 is_main (Main deed) = true
 is_main _ = false
 
-abbrev pub is_stray : Part → Bool
+abbrev pub is_stray : Label → Bool
 is_stray Stray = true
 is_stray _ = false
 
 abbrev pub main_came : Dir → Division → Bool
 main_came dir [] = false
-main_came dir (p ∷ ps) = (is_main p.part && same_dir p.datagram.dir dir) || main_came dir ps
+main_came dir (p ∷ ps) = (is_main p.label && same_dir p.datagram.dir dir) || main_came dir ps
 
 abbrev pub strayed_from : PeerId → Division → Bool
 strayed_from peer [] = false
-strayed_from peer (p ∷ ps) = (is_stray p.part && same_peer (peer_of p.datagram) peer) || strayed_from peer ps
+strayed_from peer (p ∷ ps) = (is_stray p.label && same_peer (peer_of p.datagram) peer) || strayed_from peer ps
 
--- ---- the part of a datagram
+-- ---- the label of a datagram
 
 abbrev pub goes_to_server : Header → TransferIds → Division → Datagram → MachinePacket → Bool
 goes_to_server header ids earlier d Req = (server_port header.named d == header.service) && asks_host header.named ids d
@@ -77,17 +77,17 @@ goes_to_server header ids earlier d _ = has_server_id header.named ids d && (sam
 abbrev pub no_other_asks : Header → TransferIds → Bool
 no_other_asks header ids = not (same_end header.named Server) || not (ids.own == header.service)
 
-abbrev pub is_part : Header → TransferIds → Division → Datagram → Part → Bool
-is_part header ids earlier d (Main deed) =
+abbrev pub is_label : Header → TransferIds → Division → Datagram → Label → Bool
+is_label header ids earlier d (Main deed) =
     same_dir d.dir (dir_of deed) && (has_client_id header.named ids d && goes_to_server header ids earlier d (packet_of deed))
-is_part header ids earlier d Stray =
+is_label header ids earlier d Stray =
     same_dir d.dir In
     && ((d.local == ids.own) && (not (same_peer (peer_of d) ids.peer) && (main_came (from_server header.named) earlier && no_other_asks header ids)))
-is_part header ids earlier d StrayAnswer = same_dir d.dir Out && ((d.local == ids.own) && strayed_from (peer_of d) earlier)
+is_label header ids earlier d StrayAnswer = same_dir d.dir Out && ((d.local == ids.own) && strayed_from (peer_of d) earlier)
 
-abbrev pub are_parts : Header → TransferIds → Division → Bool
-are_parts header ids [] = true
-are_parts header ids (p ∷ earlier) = is_part header ids earlier p.datagram p.part && are_parts header ids earlier
+abbrev pub are_labels : Header → TransferIds → Division → Bool
+are_labels header ids [] = true
+are_labels header ids (p ∷ earlier) = is_label header ids earlier p.datagram p.label && are_labels header ids earlier
 
 -- what a packet says, in blocks of b bytes
 abbrev pub says : ℕ → Meaning → List ℕ → MachinePacket → Message
@@ -97,15 +97,15 @@ says b m wire (Data k) = Message.Data k (block b wire k)
 says b m wire (Ack j) = Message.Ack j
 says b m wire (Error code text) = Message.Error code text
 
--- what a datagram spells as its part
-abbrev pub SpellsAs : ℕ → Meaning → List ℕ → Datagram → Part → Type 0
+-- what a datagram spells as its label
+abbrev pub SpellsAs : ℕ → Meaning → List ℕ → Datagram → Label → Type 0
 SpellsAs b m wire d (Main deed) = Spells d.payload (says b m wire (packet_of deed))
 SpellsAs b m wire d Stray = Unit {0}
 SpellsAs b m wire d StrayAnswer = SaysUnknownId d
 
 abbrev pub AllSpellAs : ℕ → Meaning → List ℕ → Division → Type 0
 AllSpellAs b m wire [] = Unit {0}
-AllSpellAs b m wire (p ∷ ps) = SpellsAs b m wire p.datagram p.part × AllSpellAs b m wire ps
+AllSpellAs b m wire (p ∷ ps) = SpellsAs b m wire p.datagram p.label × AllSpellAs b m wire ps
 
 -- ---- what the tests tell
 
@@ -125,43 +125,43 @@ asks_is : (e : End) (ids : TransferIds) (d : Datagram) → asks_host e ids d ≡
 asks_is Client ids d t e = (bytes_eq-Decides d.host ids.asked).0 t
 asks_is Server ids d t e = absurd (cc)
 
-any_came : (dir : Dir) (ps : Division) → came dir ps ≡ true → Any (λ (p : Placed). p.datagram.dir ≡ dir) ps
+any_came : (dir : Dir) (ps : Division) → came dir ps ≡ true → Any (λ (p : Labelled). p.datagram.dir ≡ dir) ps
 any_came dir [] e = absurd (false≢true e)
 any_came dir (p ∷ ps) e = elim (or_cases (same_dir p.datagram.dir dir) (came dir ps) e) [
-  | inl here ↦ any_first (λ (q : Placed). q.datagram.dir ≡ dir) p ps (dir_is p.datagram.dir dir here)
-  | inr more ↦ any_later (λ (q : Placed). q.datagram.dir ≡ dir) p ps (any_came dir ps more)
+  | inl here ↦ any_first (λ (q : Labelled). q.datagram.dir ≡ dir) p ps (dir_is p.datagram.dir dir here)
+  | inr more ↦ any_later (λ (q : Labelled). q.datagram.dir ≡ dir) p ps (any_came dir ps more)
 ]
 
-main_is : (part : Part) → is_main part ≡ true → IsMain part
+main_is : (label : Label) → is_main label ≡ true → IsMain label
 main_is (Main deed) e = (deed, refl)
 main_is _ e = absurd (false≢true e)
 
-stray_is : (part : Part) → is_stray part ≡ true → part ≡ Stray
+stray_is : (label : Label) → is_stray label ≡ true → label ≡ Stray
 stray_is Stray e = refl
 stray_is _ e = absurd (false≢true e)
 
-any_main : (dir : Dir) (ps : Division) → main_came dir ps ≡ true → Any (λ (p : Placed). IsMain p.part × (p.datagram.dir ≡ dir)) ps
+any_main : (dir : Dir) (ps : Division) → main_came dir ps ≡ true → Any (λ (p : Labelled). IsMain p.label × (p.datagram.dir ≡ dir)) ps
 any_main dir [] e = absurd (false≢true e)
-any_main dir (p ∷ ps) e = elim (or_cases (is_main p.part && same_dir p.datagram.dir dir) (main_came dir ps) e) [
+any_main dir (p ∷ ps) e = elim (or_cases (is_main p.label && same_dir p.datagram.dir dir) (main_came dir ps) e) [
   | inl here ↦
-      let parts = and_parts (is_main p.part) (same_dir p.datagram.dir dir) here in
-      any_first (λ (q : Placed). IsMain q.part × (q.datagram.dir ≡ dir)) p ps (main_is p.part parts.0, dir_is p.datagram.dir dir parts.1)
-  | inr more ↦ any_later (λ (q : Placed). IsMain q.part × (q.datagram.dir ≡ dir)) p ps (any_main dir ps more)
+      let parts = and_parts (is_main p.label) (same_dir p.datagram.dir dir) here in
+      any_first (λ (q : Labelled). IsMain q.label × (q.datagram.dir ≡ dir)) p ps (main_is p.label parts.0, dir_is p.datagram.dir dir parts.1)
+  | inr more ↦ any_later (λ (q : Labelled). IsMain q.label × (q.datagram.dir ≡ dir)) p ps (any_main dir ps more)
 ]
 
-any_stray : (peer : PeerId) (ps : Division) → strayed_from peer ps ≡ true → Any (λ (p : Placed). (p.part ≡ Stray) × (peer_of p.datagram ≡ peer)) ps
+any_stray : (peer : PeerId) (ps : Division) → strayed_from peer ps ≡ true → Any (λ (p : Labelled). (p.label ≡ Stray) × (peer_of p.datagram ≡ peer)) ps
 any_stray peer [] e = absurd (false≢true e)
-any_stray peer (p ∷ ps) e = elim (or_cases (is_stray p.part && same_peer (peer_of p.datagram) peer) (strayed_from peer ps) e) [
+any_stray peer (p ∷ ps) e = elim (or_cases (is_stray p.label && same_peer (peer_of p.datagram) peer) (strayed_from peer ps) e) [
   | inl here ↦
-      let parts = and_parts (is_stray p.part) (same_peer (peer_of p.datagram) peer) here in
-      any_first (λ (q : Placed). (q.part ≡ Stray) × (peer_of q.datagram ≡ peer)) p ps (stray_is p.part parts.0, is_same (peer_of p.datagram) peer parts.1)
-  | inr more ↦ any_later (λ (q : Placed). (q.part ≡ Stray) × (peer_of q.datagram ≡ peer)) p ps (any_stray peer ps more)
+      let parts = and_parts (is_stray p.label) (same_peer (peer_of p.datagram) peer) here in
+      any_first (λ (q : Labelled). (q.label ≡ Stray) × (peer_of q.datagram ≡ peer)) p ps (stray_is p.label parts.0, is_same (peer_of p.datagram) peer parts.1)
+  | inr more ↦ any_later (λ (q : Labelled). (q.label ≡ Stray) × (peer_of q.datagram ≡ peer)) p ps (any_stray peer ps more)
 ]
 
 -- what is no request
 other_goes : (header : Header) (ids : TransferIds) (earlier : Division) (d : Datagram)
     → (has_server_id header.named ids d && (same_dir d.dir (from_server header.named) || came (from_server header.named) earlier)) ≡ true
-    → HasServerId header.named ids d × ((d.dir ≡ from_server header.named) ⊎ Any (λ (p : Placed). p.datagram.dir ≡ from_server header.named) earlier)
+    → HasServerId header.named ids d × ((d.dir ≡ from_server header.named) ⊎ Any (λ (p : Labelled). p.datagram.dir ≡ from_server header.named) earlier)
 other_goes header ids earlier d e =
     let parts = and_parts (has_server_id header.named ids d) (same_dir d.dir (from_server header.named) || came (from_server header.named) earlier) e in (
       server_is header.named ids d parts.0,
@@ -188,9 +188,9 @@ none_else_asks header ids d e named own asks = elim (or_cases (not (same_end hea
   | inr elsewhere ↦ false≢true (sym (not_is (ids.own == header.service) elsewhere) ∙ eq-eqb ids.own header.service own)
 ]
 
-part_is : (header : Header) (m : Meaning) (wire : List ℕ) (ids : TransferIds) (earlier : Division) (d : Datagram) (part : Part) → is_part header ids earlier d part ≡ true → SpellsAs (blksize_of m) m wire d part
-    → HasPart header m wire ids earlier d part
-part_is header m wire ids earlier d (Main deed) e s =
+label_is : (header : Header) (m : Meaning) (wire : List ℕ) (ids : TransferIds) (earlier : Division) (d : Datagram) (label : Label) → is_label header ids earlier d label ≡ true → SpellsAs (blksize_of m) m wire d label
+    → HasLabel header m wire ids earlier d label
+label_is header m wire ids earlier d (Main deed) e s =
     let a = and_parts (same_dir d.dir (dir_of deed)) (has_client_id header.named ids d && goes_to_server header ids earlier d (packet_of deed)) e in
     let b = and_parts (has_client_id header.named ids d) (goes_to_server header ids earlier d (packet_of deed)) a.1 in
     record {
@@ -199,7 +199,7 @@ part_is header m wire ids earlier d (Main deed) e s =
       server = goes_is header ids earlier d (packet_of deed) b.1;
       spells = subst (Spells d.payload) (says_it m wire (packet_of deed)) s;
     }
-part_is header m wire ids earlier d Stray e s =
+label_is header m wire ids earlier d Stray e s =
     let a = and_parts (same_dir d.dir In) ((d.local == ids.own) && (not (same_peer (peer_of d) ids.peer) && (main_came (from_server header.named) earlier && no_other_asks header ids))) e in
     let b = and_parts (d.local == ids.own) (not (same_peer (peer_of d) ids.peer) && (main_came (from_server header.named) earlier && no_other_asks header ids)) a.1 in
     let c = and_parts (not (same_peer (peer_of d) ids.peer)) (main_came (from_server header.named) earlier && no_other_asks header ids) b.1 in
@@ -211,7 +211,7 @@ part_is header m wire ids earlier d Stray e s =
       after = any_main (from_server header.named) earlier f.0;
       no_request = none_else_asks header ids d f.1;
     }
-part_is header m wire ids earlier d StrayAnswer e s =
+label_is header m wire ids earlier d StrayAnswer e s =
     let a = and_parts (same_dir d.dir Out) ((d.local == ids.own) && strayed_from (peer_of d) earlier) e in
     let b = and_parts (d.local == ids.own) (strayed_from (peer_of d) earlier) a.1 in
     record {
@@ -221,23 +221,23 @@ part_is header m wire ids earlier d StrayAnswer e s =
       spells = s;
     }
 
-parts_are : (header : Header) (m : Meaning) (wire : List ℕ) (ids : TransferIds) (ps : Division) → are_parts header ids ps ≡ true → AllSpellAs (blksize_of m) m wire ps → HaveParts header m wire ids ps
-parts_are header m wire ids [] e s = tt
-parts_are header m wire ids (p ∷ ps) e s =
-    let a = and_parts (is_part header ids ps p.datagram p.part) (are_parts header ids ps) e in
-    (part_is header m wire ids ps p.datagram p.part a.0 s.0, parts_are header m wire ids ps a.1 s.1)
+labels_are : (header : Header) (m : Meaning) (wire : List ℕ) (ids : TransferIds) (ps : Division) → are_labels header ids ps ≡ true → AllSpellAs (blksize_of m) m wire ps → HaveLabels header m wire ids ps
+labels_are header m wire ids [] e s = tt
+labels_are header m wire ids (p ∷ ps) e s =
+    let a = and_parts (is_label header ids ps p.datagram p.label) (are_labels header ids ps) e in
+    (label_is header m wire ids ps p.datagram p.label a.0 s.0, labels_are header m wire ids ps a.1 s.1)
 
 -- ---- and so they dress it
 
 pub dressed_as : (header : Header) (m : Meaning) (wire : List ℕ) (b : ℕ) (ids : TransferIds) (division : Division) (view : History) (datagrams : List Datagram)
-    → blksize_of m ≡ b → are_parts header ids division ≡ true → AllSpellAs b m wire division → datagrams_of division ≡ reverse datagrams → view_in division ≡ view
+    → blksize_of m ≡ b → are_labels header ids division ≡ true → AllSpellAs b m wire division → datagrams_of division ≡ reverse datagrams → view_in division ≡ view
     → IsDressed header m wire view datagrams
 dressed_as header m wire b ids division view datagrams size e s whole main_is = record {
   ids = ids;
   division = division;
   whole = whole;
   main = main_is;
-  parts = parts_are header m wire ids division e (subst (λ n. AllSpellAs n m wire division) (sym size) s);
+  labels = labels_are header m wire ids division e (subst (λ n. AllSpellAs n m wire division) (sym size) s);
 }
 
 -- ---- and where all are main ones, that spell something
@@ -260,8 +260,8 @@ spell_more b m wire (e ∷ news) base t s =
     (spelled_it e.0.payload message parts.0, spell_more b m wire news base parts.1 s)
 
 pub dressed_by : (header : Header) (m : Meaning) (wire : List ℕ) (b : ℕ) (ids : TransferIds) (news base : List Spelled) (view : History) (datagrams : List Datagram) → blksize_of m ≡ b
-    → (are_parts header ids (as_main (news ++ base)) && all_say b m wire news) ≡ true → AllSpellAs b m wire (as_main base) → datagrams_of (as_main (news ++ base)) ≡ reverse datagrams → view_in (as_main (news ++ base)) ≡ view
+    → (are_labels header ids (as_main (news ++ base)) && all_say b m wire news) ≡ true → AllSpellAs b m wire (as_main base) → datagrams_of (as_main (news ++ base)) ≡ reverse datagrams → view_in (as_main (news ++ base)) ≡ view
     → IsDressed header m wire view datagrams
 dressed_by header m wire b ids news base view datagrams size test s =
-    let parts = and_parts (are_parts header ids (as_main (news ++ base))) (all_say b m wire news) test in
+    let parts = and_parts (are_labels header ids (as_main (news ++ base))) (all_say b m wire news) test in
     dressed_as header m wire b ids (as_main (news ++ base)) view datagrams size parts.0 (spell_more b m wire news base parts.1 s)

@@ -10,7 +10,7 @@ use Rattle.tftp_model.proofs.WorkedErrors.{read_refused_is_view, read_given_up_i
 use Rattle.tftp_model.proofs.Computed.{run_is, complete_is, all_is}
 use Rattle.tftp_model.proofs.OneSided.{view_one_sided}
 use Rattle.tftp_law.specs.Dress.{StrayAnswer}
-use Rattle.tftp_law.specs.{Part, Main, Stray, Placed, IsMain, TransferIds, HasPart, HaveParts, IsDressed, IsLawful, Shows}
+use Rattle.tftp_law.specs.{Label, Main, Stray, Labelled, IsMain, TransferIds, HasLabel, HaveLabels, IsDressed, IsLawful, Shows}
 use Rattle.tftp_law.proofs.Division.Divided.{divided_more, divided_none, any_none, any_cases}
 use Rattle.tftp_law.proofs.Spelled.{spelled_once}
 use Rattle.tftp_law.proofs.Whole.NothingAgreed.{two_bytes_fit}
@@ -141,7 +141,7 @@ another = forbidden ∷ not_found ∷ plain_asks ∷ []
 pub another_is_unlawful : IsLawful at_client (read_refused ++ says_forbidden ∷ []) → ⊥
 another_is_unlawful (m, wire, seen) =
     let dress = seen.dressed in
-    let meant = client_meant m wire dress.ids (forbidden ∷ []) not_found plain_asks dress.division dress.whole dress.parts (not_found_spelled, (request_spelled, tt)) refl in
+    let meant = client_meant m wire dress.ids (forbidden ∷ []) not_found plain_asks dress.division dress.whole dress.labels (not_found_spelled, (request_spelled, tt)) refl in
     let same = (one_sided_as m wire seen.view (deeds_for another) seen.run (sym dress.main ∙ meant.0)).0.same 1 (codes "File not found") (contains_first (Took refuses) (Sent Req ∷ [])) in
     let one : 1 ≡ 2 = same.0 in
     omega (arith, one)
@@ -152,7 +152,7 @@ goes_on = plain_ack ∷ full ∷ plain_hi ∷ plain_asks ∷ []
 pub ack_is_unlawful : IsLawful at_client (read_given_up ++ acknowledges_hi ∷ []) → ⊥
 ack_is_unlawful (m, wire, seen) =
     let dress = seen.dressed in
-    let meant = client_meant m wire dress.ids (plain_ack ∷ full ∷ []) plain_hi plain_asks dress.division dress.whole dress.parts plain_begun.spelled refl in
+    let meant = client_meant m wire dress.ids (plain_ack ∷ full ∷ []) plain_hi plain_asks dress.division dress.whole dress.labels plain_begun.spelled refl in
     (one_sided_as m wire seen.view (deeds_for goes_on) seen.run (sym dress.main ∙ meant.0)).0.no_error 3 [] (contains_first (Sent (Error 3 [])) (Took (Data 1) ∷ Sent Req ∷ []))
 
 abbrev in_lock_step : List Spelled
@@ -181,28 +181,28 @@ late_is_out m wire one lock_step =
 pub late_is_unlawful : IsLawful at_client (before_late_answer ++ late_answer ∷ []) → ⊥
 late_is_unlawful (m, wire, seen) =
     let dress = seen.dressed in
-    let meant = client_meant m wire dress.ids late_all (comes (oack by_eight), Message.Oack eight_a_block) (asks (request 1 by_eight), Message.Request (asks_for Get eight_a_block)) dress.division dress.whole dress.parts read_by_eight.spelled refl in
+    let meant = client_meant m wire dress.ids late_all (comes (oack by_eight), Message.Oack eight_a_block) (asks (request 1 by_eight), Message.Request (asks_for Get eight_a_block)) dress.division dress.whole dress.labels read_by_eight.spelled refl in
     let agreed : m.agreed ≡ eight_a_block = same_oack m.agreed eight_a_block meant.1.1.1.1.1.1.0 in
     late_is_out m wire (one_sided_as m wire seen.view (deeds_for late) seen.run (sym dress.main ∙ meant.0)) (ap (λ o. option_or 1 o (codes "windowsize")) agreed ∙ one_at_a_time)
 
 -- ---- at a server that has not answered
 
-not_yet : (q : Placed) → q.datagram.dir ≡ In → (In ≡ Out) ⊎ Any (λ (p : Placed). p.datagram.dir ≡ Out) (q ∷ []) → ⊥
+not_yet : (q : Labelled) → q.datagram.dir ≡ In → (In ≡ Out) ⊎ Any (λ (p : Labelled). p.datagram.dir ≡ Out) (q ∷ []) → ⊥
 not_yet q way (inl e) = absurd (cc)
-not_yet q way (inr any) = elim (any_cases (λ (p : Placed). p.datagram.dir ≡ Out) q [] any) [
+not_yet q way (inr any) = elim (any_cases (λ (p : Labelled). p.datagram.dir ≡ Out) q [] any) [
   | inl first ↦ let e : In ≡ Out = sym way ∙ first in absurd (cc)
-  | inr none ↦ any_none (λ (p : Placed). p.datagram.dir ≡ Out) none
+  | inr none ↦ any_none (λ (p : Labelled). p.datagram.dir ≡ Out) none
 ]
 
-no_part : (m : Meaning) (wire : List ℕ) (ids : TransferIds) (q : Placed) (part : Part) → q.datagram.dir ≡ In → HasPart at_service m wire ids (q ∷ []) stops_unanswered part → ⊥
-no_part m wire ids q (Main (Took Req)) way h = let e = spelled_once stops_unanswered.payload (Message.Request (request_of m)) (Message.Error 0 []) h.spells stop_spelled in absurd (cc)
-no_part m wire ids q (Main (Sent p)) way h = let e = h.dir in absurd (cc)
-no_part m wire ids q Stray way h = elim (any_cases (λ (p : Placed). IsMain p.part × (p.datagram.dir ≡ Out)) q [] h.after) [
+no_label : (m : Meaning) (wire : List ℕ) (ids : TransferIds) (q : Labelled) (label : Label) → q.datagram.dir ≡ In → HasLabel at_service m wire ids (q ∷ []) stops_unanswered label → ⊥
+no_label m wire ids q (Main (Took Req)) way h = let e = spelled_once stops_unanswered.payload (Message.Request (request_of m)) (Message.Error 0 []) h.spells stop_spelled in absurd (cc)
+no_label m wire ids q (Main (Sent p)) way h = let e = h.dir in absurd (cc)
+no_label m wire ids q Stray way h = elim (any_cases (λ (p : Labelled). IsMain p.label × (p.datagram.dir ≡ Out)) q [] h.after) [
   | inl first ↦ let e : In ≡ Out = sym way ∙ first.1 in absurd (cc)
-  | inr none ↦ any_none (λ (p : Placed). IsMain p.part × (p.datagram.dir ≡ Out)) none
+  | inr none ↦ any_none (λ (p : Labelled). IsMain p.label × (p.datagram.dir ≡ Out)) none
 ]
-no_part m wire ids q StrayAnswer way h = let e = h.dir in absurd (cc)
-no_part m wire ids q _ way h = not_yet q way h.server.1
+no_label m wire ids q StrayAnswer way h = let e = h.dir in absurd (cc)
+no_label m wire ids q _ way h = not_yet q way h.server.1
 
 pub unanswered_is_unlawful : IsLawful at_service (only_offered ++ stops_unanswered ∷ []) → ⊥
 unanswered_is_unlawful (m, wire, seen) =
@@ -211,6 +211,6 @@ unanswered_is_unlawful (m, wire, seen) =
     let (p, rest, is, last, more) = divided_more dress.division stops_unanswered (offer ∷ []) dress.whole in
     let (q, none, then_is, first, no_more) = divided_more rest offer [] more in
     let one : rest ≡ q ∷ [] = then_is ∙ ap (λ r. q ∷ r) (divided_none none no_more) in
-    let parts : HaveParts at_service m wire dress.ids (p ∷ rest) = subst (HaveParts at_service m wire dress.ids) is dress.parts in
-    let two : HaveParts at_service m wire dress.ids (p ∷ q ∷ []) = subst (λ r. HaveParts at_service m wire dress.ids (p ∷ r)) one parts in
-    no_part m wire dress.ids q p.part (ap (λ d. d.dir) first) (subst (λ d. HasPart at_service m wire dress.ids (q ∷ []) d p.part) last two.0)
+    let labels : HaveLabels at_service m wire dress.ids (p ∷ rest) = subst (HaveLabels at_service m wire dress.ids) is dress.labels in
+    let two : HaveLabels at_service m wire dress.ids (p ∷ q ∷ []) = subst (λ r. HaveLabels at_service m wire dress.ids (p ∷ r)) one labels in
+    no_label m wire dress.ids q p.label (ap (λ d. d.dir) first) (subst (λ d. HasLabel at_service m wire dress.ids (q ∷ []) d p.label) last two.0)

@@ -8,14 +8,15 @@ use Rattle.tftp_packet.specs.{OptionMap, Message, RequestParts, Spells, Side, Ge
 use Rattle.tftp_hosts.specs.{Dir, In, Out, Datagram, Header}
 use Rattle.tftp_packet.proofs.NoFault.{no_fault}
 use Rattle.tftp_model.specs.Roles.{sender_of}
-use Rattle.tftp_rules.specs.{author_of, Route, asks, first_of, route_of, is_of_transfer, transfer_of, SaysUnknownId, Passed, HasPassed, BlockPassed, IsTop, IsHigh, IsLast, LastIsUnknown, IsNotLengthOf, HasWrongLength, BlocksWait, AckZeroWaits, IsSender, IsAckedAt, IsReachedAt, BlockBreaks, AckBreaks, EndBroken, usable, Terms, EndRule, PortRule}
+use Rattle.tftp_rules.specs.{author_of, Route, asks, first_of, route_of, is_of_transfer, transfer_of, SaysUnknownId, Passed, HasPassed, BlockPassed, IsTop, IsHigh, IsLast, LastIsUnknown, IsNotLengthOf, HasWrongLength, BlocksWait, AckZeroWaits, IsSender, IsAckedAt, IsReachedAt, BlockBreaks, AckBreaks, EndBroken, usable, Terms, end_rules, rule_count, EndRule, PortRule}
+use Rattle.tftp_rules.proofs.EndRules.{each_end}
 use Rattle.tftp_nego.specs.{Holds, NegoFault, AgreementRule, agreement_number, number}
 use Rattle.tftp_law.specs.{number_of, FirstAsked, Agrees, Begins, NotAnswered, FirstAnswer, AreTerms, IsError, IsWrongKind, GoesOn, BlockSent, ClientWentOn, TermsBreak, KindBreaks, MessageBreaks, MessageBroken, Broken, Rule, IsRead, Passes}
 use Rattle.tftp_law.proofs.Spelled.{spelled_once}
 use Rattle.tftp_worked.proofs.Payloads.{Spelled, datagrams, AllSpelled, all_from}
 use Rattle.tftp_worked.proofs.Passing.{same_dir, as_block, holds, block_is, passed_as, main_of, main_is, main_spelled, used_of, all_used, used_is, every, some, every_is, some_is, first_asked, first_is, asked_by, asked_is, first_answer, answered_is}
 use Rattle.tftp_worked.proofs.KeptUsable.{unless, is_end, started, within, not_ahead, zero_may}
-use Rattle.tftp_worked.proofs.RuleTests.{is_unknown_id, not_foreign, not_wrong, not_peer, answers_well, is_readable, not_error, same_stop, may_precede, is_that, not_request, not_oack, right_kind, kind_is_right, not_asked, not_begun, no_plain_answer, went_on, sent_no_block, is_sender, may_be_zero, size_fits, fits_last, fits_short, fits_size, is_some, is_short, is_below, may_be_last, length_fits, is_next, not_above, not_changed, block_keeps, ack_keeps, end_keeps, is_main, keeps, tested, end_rules, keeps_below}
+use Rattle.tftp_worked.proofs.RuleTests.{is_unknown_id, not_foreign, not_wrong, not_peer, answers_well, is_readable, not_error, same_stop, may_precede, is_that, not_request, not_oack, right_kind, kind_is_right, not_asked, not_begun, no_plain_answer, went_on, sent_no_block, is_sender, may_be_zero, size_fits, fits_last, fits_short, fits_size, is_some, is_short, is_below, may_be_last, length_fits, is_next, not_above, not_changed, block_keeps, ack_keeps, end_keeps, is_main, keeps, tested, past_all, keeps_below}
 
 unknown_is : (d : Datagram) (m : Message) → Spells d.payload m → is_unknown_id m ≡ true → SaysUnknownId d
 unknown_is d (Message.Error code text) s t = (text, subst (λ c. Spells d.payload (Message.Error c text)) (eqb-true code 5 t) s)
@@ -81,7 +82,7 @@ not_last t last k long e wrong = elim (or_cases (nat_lt k last && long == t.blks
       ]
 ]
 
-agreement_few : (broken : AgreementRule) → agreement_number broken < 28
+agreement_few : (broken : AgreementRule) → agreement_number broken ≤ rule_count
 agreement_few AgreementRule.OackEmpty = omega arith
 agreement_few _ = omega arith
 
@@ -355,18 +356,18 @@ module _ (h : Header) (es : List Spelled) (e : Spelled) (s : AllSpelled es) (her
 
     -- below n, or any where there are no more than those below n
     abbrev IsEarly : ℕ → ℕ → Type 0
-    IsEarly n k = (k < n) ⊎ (28 ≤ n)
+    IsEarly n k = (k < n) ⊎ (past_all ≤ n)
 
-    early : (n k : ℕ) → k < 28 → IsEarly n k → k < n
+    early : (n k : ℕ) → k ≤ rule_count → IsEarly n k → k < n
     early n k few (inl low) = low
     early n k few (inr all) = omega arith
 
-    kept_early : (n k : ℕ) (test : Bool) → ((nat_le n k && nat_le n 27) || test) ≡ true → IsEarly n k → test ≡ true
-    kept_early n k test is low = elim (or_cases (nat_le n k && nat_le n 27) test is) [
+    kept_early : (n k : ℕ) (test : Bool) → ((nat_le n k && nat_le n rule_count) || test) ≡ true → IsEarly n k → test ≡ true
+    kept_early n k test is low = elim (or_cases (nat_le n k && nat_le n rule_count) test is) [
       | inl high ↦
-          let parts = and_parts (nat_le n k) (nat_le n 27) high in
+          let parts = and_parts (nat_le n k) (nat_le n rule_count) high in
           let most = leb-true n k parts.0 in
-          let few = leb-true n 27 parts.1 in
+          let few = leb-true n rule_count parts.1 in
           elim low [ inl below ↦ absurd (omega arith) | inr all ↦ absurd (omega arith) ]
       | inr k ↦ k
     ]
@@ -375,9 +376,9 @@ module _ (h : Header) (es : List Spelled) (e : Spelled) (s : AllSpelled es) (her
     pub none_early : (n : ℕ) → OackKeeps n → keeps_below n h t es e ≡ true → (rule : Rule) → IsEarly n (number_of rule) → Broken h (datagrams es) e.0 rule → ⊥
     none_early n o is =
         let end_test = λ (r : EndRule). not (is_main h es e) || end_keeps t (main_of h es) e.1 r in
-        let parts = and_parts (list_all (λ r. (nat_le n (number_of r) && nat_le n 27) || keeps h t es e r) tested) (list_all (λ r. (nat_le n (number_of (Rule.Block r)) && nat_le n 27) || end_test r) end_rules) is in
-        by (all_from (λ r. (nat_le n (number_of r) && nat_le n 27) || keeps h t es e r) (λ r. IsEarly n (number_of r) → keeps h t es e r ≡ true) (λ r. kept_early n (number_of r) (keeps h t es e r)) tested parts.0)
-        (all_from (λ r. (nat_le n (number_of (Rule.Block r)) && nat_le n 27) || end_test r) (λ r. IsEarly n (number_of (Rule.Block r)) → end_test r ≡ true) (λ r. kept_early n (number_of (Rule.Block r)) (end_test r)) end_rules parts.1)
+        let parts = and_parts (list_all (λ r. (nat_le n (number_of r) && nat_le n rule_count) || keeps h t es e r) tested) (list_all (λ r. (nat_le n (number_of (Rule.Block r)) && nat_le n rule_count) || end_test r) end_rules) is in
+        by (all_from (λ r. (nat_le n (number_of r) && nat_le n rule_count) || keeps h t es e r) (λ r. IsEarly n (number_of r) → keeps h t es e r ≡ true) (λ r. kept_early n (number_of r) (keeps h t es e r)) tested parts.0)
+        (all_from (λ r. (nat_le n (number_of (Rule.Block r)) && nat_le n rule_count) || end_test r) (λ r. IsEarly n (number_of (Rule.Block r)) → end_test r ≡ true) (λ r. kept_early n (number_of (Rule.Block r)) (end_test r)) end_rules parts.1)
       where
         -- by what it says
         said : AllByRecursion (λ r. IsEarly n (number_of r) → keeps h t es e r ≡ true) tested
@@ -385,22 +386,13 @@ module _ (h : Header) (es : List Spelled) (e : Spelled) (s : AllSpelled es) (her
             → (rule : Rule) → IsEarly n (number_of rule) → MessageBroken h (datagrams es) e.0 rule → ⊥
         said k l rule low b = of_message b.message (spelled_once e.0.payload e.1 b.message here b.says.spells) rule low b.breaks where
           ends : (f : EndRule) → IsEarly n (number_of (Rule.Block f)) → (not (is_main h es e) || end_keeps t (main_of h es) e.1 f) ≡ true
-          ends EndRule.NotStarted below = l.0 below
-          ends EndRule.BlockZero below = l.1.0 below
-          ends EndRule.BeyondBlock65535 below = l.1.1.0 below
-          ends EndRule.BlockLength below = l.1.1.1.0 below
-          ends EndRule.WindowOverrun below = l.1.1.1.1.0 below
-          ends EndRule.BlockSkipped below = l.1.1.1.1.1.0 below
-          ends EndRule.GoneBack below = l.1.1.1.1.1.1.0 below
-          ends EndRule.BlockChanged below = l.1.1.1.1.1.1.1.0 below
-          ends EndRule.AckAhead below = l.1.1.1.1.1.1.1.1.0 below
-          ends EndRule.AckZero below = l.1.1.1.1.1.1.1.1.1.0 below
+          ends = each_end (λ f. IsEarly n (number_of (Rule.Block f)) → (not (is_main h es e) || end_keeps t (main_of h es) e.1 f) ≡ true) l
 
           of_end : (m : Message) → e.1 ≡ m → (r : Rule) → IsEarly n (number_of r) → TermsBreak h b.asked passed m r → ⊥
           of_end m says r below (f, is, u, after, broken) =
               end_kept f b.says.routed (ends f (subst (λ x. IsEarly n (number_of x)) is below)) u (b.asked, b.first, after) (subst (λ x. EndBroken u passed x f) (sym says) broken)
 
-          of_first : (oack : OptionMap) → e.1 ≡ Message.Oack oack → (fault : NegoFault) → number fault < 28 → IsEarly n (number fault) → NotAnswered b.asked.side passed × Holds fault b.asked oack → ⊥
+          of_first : (oack : OptionMap) → e.1 ≡ Message.Oack oack → (fault : NegoFault) → number fault ≤ rule_count → IsEarly n (number fault) → NotAnswered b.asked.side passed × Holds fault b.asked oack → ⊥
           of_first oack says fault few below is = o.first fault (early n (number fault) few below) (record { asked = b.asked; first = b.first; oack = oack; says = says; unanswered = is.0; wrong = is.1 })
 
           of_kind : (m : Message) → e.1 ≡ m → (r : Rule) → IsEarly n (number_of r) → KindBreaks h b.asked passed e.0.dir m r → ⊥
@@ -449,15 +441,15 @@ read_is _ d m s t = absurd (false≢true t)
 
 -- the datagram passes
 abbrev pub passes_by : Header → Option Terms → List Spelled → Spelled → Bool
-passes_by h t es e = is_readable (route_of h (datagrams es) e.0) e.1 && keeps_below 28 h t es e
+passes_by h t es e = is_readable (route_of h (datagrams es) e.0) e.1 && keeps_below past_all h t es e
 
 pub passes_is : (h : Header) (t : Option Terms) (es : List Spelled) (e : Spelled) (s : AllSpelled es) (here : Spells e.0.payload e.1)
-    (known : (u : Terms) → AreTerms h (datagrams es) u → t ≡ Some u) → OackKeeps h es e s here t known 28 → passes_by h t es e ≡ true → Passes h (datagrams es) e.0
+    (known : (u : Terms) → AreTerms h (datagrams es) u → t ≡ Some u) → OackKeeps h es e s here t known past_all → passes_by h t es e ≡ true → Passes h (datagrams es) e.0
 passes_is h t es e s here known o is =
-    let parts = and_parts (is_readable (route_of h (datagrams es) e.0) e.1) (keeps_below 28 h t es e) is in
+    let parts = and_parts (is_readable (route_of h (datagrams es) e.0) e.1) (keeps_below past_all h t es e) is in
     record {
       read = read_is (route_of h (datagrams es) e.0) e.0 e.1 here parts.0;
-      lawful = λ rule. none_early h es e s here t known 28 o parts.1 rule (inr (omega arith));
+      lawful = λ rule. none_early h es e s here t known past_all o parts.1 rule (inr (omega arith));
     }
 
 -- what is no OACK breaks none of their rules

@@ -1,4 +1,3 @@
-mod BlockNumbers
 mod Spelled
 mod Read
 mod ReadRuns

@@ -8,7 +8,7 @@ use Rattle.tftp_rules.specs.{route_of, is_of_transfer}
 use Rattle.tftp_law.specs.{number_of, Broken, IsRefused, Rule}
 use Rattle.tftp_law.proofs.FirstBroken.OneMessage.{agreement_from, port_off}
 use Rattle.tftp_worked.specs.{at_client, read_without_its_ack, acknowledges_too_long, asks_for_mail}
-use Rattle.tftp_worked.proofs.BlockNumbers.{from_18}
+use Rattle.tftp_rules.proofs.EndRules.{from_18}
 use Rattle.tftp_worked.proofs.Bases.{plain_begun}
 
 module _ (h : Header) (earlier : List Datagram) (d : Datagram) (routed : is_of_transfer (route_of h earlier d) ≡ true) (asked : Broken h earlier d Rule.NoRequest → ⊥) where

@@ -12,7 +12,7 @@ use Rattle.tftp_model.proofs.Worked.{eight_for_blksize}
 use Rattle.tftp_law.specs.{number_of, plain_terms, NotAnswered, OackBreaks, MessageBreaks, Broken, OneEnded, IsRefused, Rule}
 use Rattle.tftp_law.proofs.FirstBroken.OneMessage.{agreement_from, port_to, breaks_by, back}
 use Rattle.tftp_worked.specs.{at_client, asks_for_a, one_block_read, request, oack, by_eight, only_asked, asks_for_b, agrees_to_none, agrees_unasked, by_multicast, only_multicast_asked, agrees_to_multicast, by_foo, only_foo_asked, agrees_to_foo, only_512_asked, agrees_to_1024}
-use Rattle.tftp_worked.proofs.BlockNumbers.{from_18}
+use Rattle.tftp_rules.proofs.EndRules.{from_18}
 use Rattle.tftp_worked.proofs.Spelled.{request_spelled, ack_spelled}
 use Rattle.tftp_worked.proofs.Payloads.{Spelled, request_spells, request_for_spells, oack_spells, eight_is}
 use Rattle.tftp_worked.proofs.Passing.{asked_by, asked_back, asked_there, first_answer, first_asked, main_of, terms_of, unanswered_there}

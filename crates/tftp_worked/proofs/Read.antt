@@ -3,7 +3,7 @@ use Rattle.std.proofs.Common.{◌≡◌, ◌&&◌, ℕ, true, List, [], ◌∷�
 use Rattle.tftp_packet.specs.{Message}
 use Rattle.tftp_hosts.specs.{In, Out, peer_of}
 use Rattle.tftp_model.specs.{Meaning, request_of, blksize_of, block, Sent, Took, Req, Data, History, two_bytes}
-use Rattle.tftp_law.specs.{Division, datagrams_of, view_in, TransferIds, HaveParts}
+use Rattle.tftp_law.specs.{Division, datagrams_of, view_in, TransferIds, HaveLabels}
 use Rattle.tftp_law.proofs.FirstBroken.FirstRequests.{request_same}
 use Rattle.tftp_worked.specs.{at_client, brings_hi, asks_for_a}
 use Rattle.tftp_worked.proofs.Spelled.{request_spelled, hi_spelled}
@@ -30,16 +30,16 @@ followed_by m wire view division newer main is meant = record {
   is = sym main ∙ is;
 }
 
-pub begun : (m : Meaning) (wire : List ℕ) (ids : TransferIds) (view : History) (division : Division) → datagrams_of division ≡ brings_hi ∷ asks_for_a ∷ [] → view_in division ≡ view → HaveParts at_client m wire ids division
+pub begun : (m : Meaning) (wire : List ℕ) (ids : TransferIds) (view : History) (division : Division) → datagrams_of division ≡ brings_hi ∷ asks_for_a ∷ [] → view_in division ≡ view → HaveLabels at_client m wire ids division
     → Followed m wire (Took (Data 1) ∷ Sent Req ∷ []) view
-begun m wire ids view division whole main parts =
-    let meant = client_meant m wire ids [] plain_hi plain_asks division whole parts (hi_spelled, (request_spelled, tt)) refl in
+begun m wire ids view division whole main labels =
+    let meant = client_meant m wire ids [] plain_hi plain_asks division whole labels (hi_spelled, (request_spelled, tt)) refl in
     followed_by m wire view division [] main meant.0 meant.1
 
 -- with one datagram more
-pub followed : (m : Meaning) (wire : List ℕ) (ids : TransferIds) (last : Spelled) (view : History) (division : Division) → datagrams_of division ≡ last.0 ∷ brings_hi ∷ asks_for_a ∷ [] → view_in division ≡ view → HaveParts at_client m wire ids division
+pub followed : (m : Meaning) (wire : List ℕ) (ids : TransferIds) (last : Spelled) (view : History) (division : Division) → datagrams_of division ≡ last.0 ∷ brings_hi ∷ asks_for_a ∷ [] → view_in division ≡ view → HaveLabels at_client m wire ids division
     → (all_spell (last ∷ []) && (same_dir Out Out && (same_dir In In && (not_request plain_hi.1 && all_near (peer_of brings_hi) (last ∷ plain_hi ∷ plain_asks ∷ []))))) ≡ true
     → Followed m wire (deed_for last.0.dir last.1 ∷ Took (Data 1) ∷ Sent Req ∷ []) view
-followed m wire ids last view division whole main parts test =
-    let meant = client_meant m wire ids (last ∷ []) plain_hi plain_asks division whole parts (hi_spelled, (request_spelled, tt)) test in
+followed m wire ids last view division whole main labels test =
+    let meant = client_meant m wire ids (last ∷ []) plain_hi plain_asks division whole labels (hi_spelled, (request_spelled, tt)) test in
     followed_by m wire view division (last ∷ []) main meant.0 meant.1.1

@@ -12,7 +12,7 @@ use Rattle.tftp_worked.specs.{at_client, server_host, acknowledges_hi, brings_mo
 use Rattle.tftp_law.proofs.Whole.NothingAgreed.{two_bytes_fit}
 use Rattle.tftp_worked.proofs.Spelled.{request_spelled}
 use Rattle.tftp_worked.proofs.Payloads.{Spelled}
-use Rattle.tftp_worked.proofs.Dressed.{are_parts, all_say, as_main, dressed_by}
+use Rattle.tftp_worked.proofs.Dressed.{are_labels, all_say, as_main, dressed_by}
 use Rattle.tftp_worked.proofs.Shown.{shown_by}
 use Rattle.tftp_worked.proofs.Bases.{plain_asks, plain_hi}
 use Rattle.tftp_worked.proofs.Read.{Followed, begun, followed}
@@ -22,7 +22,7 @@ abbrev pub ids : TransferIds
 ids = record { own = 40000; peer = record { host = server_host; port = 41000 }; asked = server_host }
 
 -- a read of the two bytes whose request is answered from there
-pub read_dressed : (news : List Spelled) (view : History) (ds : List Datagram) → (are_parts at_client ids (as_main (news ++ plain_asks ∷ [])) && all_say 512 two_bytes two_bytes.file news) ≡ true
+pub read_dressed : (news : List Spelled) (view : History) (ds : List Datagram) → (are_labels at_client ids (as_main (news ++ plain_asks ∷ [])) && all_say 512 two_bytes two_bytes.file news) ≡ true
     → datagrams_of (as_main (news ++ plain_asks ∷ [])) ≡ reverse ds → view_in (as_main (news ++ plain_asks ∷ [])) ≡ view → IsDressed at_client two_bytes two_bytes.file view ds
 read_dressed news view ds test = dressed_by at_client two_bytes two_bytes.file 512 ids news (plain_asks ∷ []) view ds (default_blksize two_bytes refl) test (request_spelled, tt)
 
@@ -66,7 +66,7 @@ none_agreed_after m wire view deed differs run f =
 pub only_two_bytes : (m : Meaning) (wire : List ℕ) → IsSeen at_client m wire one_block_read → m ≡ two_bytes
 only_two_bytes m wire seen =
     let dress = seen.dressed in
-    let f = followed m wire dress.ids (acknowledges_hi, Message.Ack 1) seen.view dress.division dress.whole dress.main dress.parts refl in
+    let f = followed m wire dress.ids (acknowledges_hi, Message.Ack 1) seen.view dress.division dress.whole dress.main dress.labels refl in
     let none = none_agreed_after m wire seen.view (Sent (Ack 1)) (λ e. omega (arith, ack_of e)) seen.run f in
     meaning_is m f.request none (sym (file_is_wire m wire f.request seen.fits) ∙ wire_is_hi m wire none f.hi)
   where
@@ -86,7 +86,7 @@ pub begin_shows_nothing : (m : Meaning) (wire : List ℕ) → ShowsBy at_client 
 begin_shows_nothing m wire shown =
     let seen = shown.seen in
     let dress = seen.dressed in
-    let b = begun m wire dress.ids seen.view dress.division dress.whole dress.main dress.parts in
+    let b = begun m wire dress.ids seen.view dress.division dress.whole dress.main dress.labels in
     let receiver : Client ≡ receiver_of m.side = ap receiver_of (sym (side_is_get m b.request)) in
     let n = block_count (blksize_of m) wire in
     no_ack_in n (subst (λ v. HasSent v (Ack n)) b.is (shown.complete.acknowledged receiver))
@@ -97,7 +97,7 @@ one_block_of m wire none is = ap (λ b. block_count b wire) (default_blksize m n
 pub past_is_unlawful : IsLawful at_client read_past_its_end → ⊥
 past_is_unlawful (m, wire, seen) =
     let dress = seen.dressed in
-    let f = followed m wire dress.ids (brings_more, Message.Data 2 (codes "ii")) seen.view dress.division dress.whole dress.main dress.parts refl in
+    let f = followed m wire dress.ids (brings_more, Message.Data 2 (codes "ii")) seen.view dress.division dress.whole dress.main dress.labels refl in
     let none = none_agreed_after m wire seen.view (Took (Data 2)) (λ e. cc) seen.run f in
     let taken = subst (λ v. HasTaken v (Data 2)) (sym f.is) (contains_first (Took (Data 2)) (Took (Data 1) ∷ Sent Req ∷ [])) in
     let two : 2 ≤ block_count (blksize_of m) wire = taken_in_wire m wire seen.view 2 seen.run taken in

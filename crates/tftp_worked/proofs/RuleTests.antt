@@ -5,7 +5,7 @@ use Rattle.std.specs.List.{list_all}
 use Rattle.tftp_packet.specs.{Message, Side, Get, Put, End, Client, Server}
 use Rattle.tftp_hosts.specs.{Dir, In, Out, Header}
 use Rattle.tftp_model.specs.Roles.{sender_of, receiver_of}
-use Rattle.tftp_rules.specs.{author_of, Route, route_of, is_of_transfer, Reply, NoReply, Plain, Oacked, Terms, EndRule, NotStarted, BlockZero, BeyondBlock65535, BlockLength, WindowOverrun, BlockSkipped, GoneBack, BlockChanged, AckAhead, AckZero, PortRule}
+use Rattle.tftp_rules.specs.{author_of, Route, route_of, is_of_transfer, Reply, NoReply, Plain, Oacked, Terms, end_rules, rule_count, EndRule, PortRule}
 use Rattle.tftp_law.specs.{Answer, Begins, number_of, Rule}
 use Rattle.tftp_worked.proofs.Payloads.{Spelled, datagrams}
 use Rattle.tftp_worked.proofs.Passing.{same_dir, as_block, as_ack, holds, main_of, used_of, every, some, first_asked, asked_by, first_answer}
@@ -228,15 +228,16 @@ keeps h t es e Rule.ReplyChanged = not (is_main h es e) || (not_oack e.1 || no_p
 keeps h t es e Rule.OackAfterStart = not (is_main h es e) || (not_oack e.1 || every sent_no_block (main_of h es))
 keeps h t es e _ = true
 
--- the rules of which `keeps` tells more, and those of blocks and acknowledgements
+-- the rules of which `keeps` tells more
 abbrev pub tested : List Rule
 tested = Rule.Port PortRule.Foreign ∷ Rule.Port PortRule.Wrong ∷ Rule.Port PortRule.BadAnswer ∷ Rule.NoRequest ∷ Rule.WrongKind ∷ Rule.AfterError ∷ Rule.RequestChanged ∷ Rule.RequestAfterStart ∷ Rule.ReplyChanged ∷ Rule.OackAfterStart ∷ []
 
-abbrev pub end_rules : List EndRule
-end_rules = NotStarted ∷ BlockZero ∷ BeyondBlock65535 ∷ BlockLength ∷ WindowOverrun ∷ BlockSkipped ∷ GoneBack ∷ BlockChanged ∷ AckAhead ∷ AckZero ∷ []
+-- the number behind the last rule
+abbrev pub past_all : ℕ
+past_all = rule_count + 1
 
--- each rule below n is kept; there are 27
+-- each rule below n is kept
 abbrev pub keeps_below : ℕ → Header → Option Terms → List Spelled → Spelled → Bool
 keeps_below n h t es e =
-    list_all (λ rule. (nat_le n (number_of rule) && nat_le n 27) || keeps h t es e rule) tested
-    && list_all (λ rule. (nat_le n (number_of (Rule.Block rule)) && nat_le n 27) || (not (is_main h es e) || end_keeps t (main_of h es) e.1 rule)) end_rules
+    list_all (λ rule. (nat_le n (number_of rule) && nat_le n rule_count) || keeps h t es e rule) tested
+    && list_all (λ rule. (nat_le n (number_of (Rule.Block rule)) && nat_le n rule_count) || (not (is_main h es e) || end_keeps t (main_of h es) e.1 rule)) end_rules

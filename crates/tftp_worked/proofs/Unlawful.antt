@@ -50,7 +50,7 @@ overrun_run m wire steps run get four is =
 pub overrun_is_unlawful : IsLawful at_client (before_overrun ++ block_seven ∷ []) → ⊥
 overrun_is_unlawful (m, wire, seen) =
     let dress = seen.dressed in
-    let meant = client_meant m wire dress.ids overrun_news (comes (oack by_four), Message.Oack eight_by_four) (asks (request 1 by_four), Message.Request (asks_for Get eight_by_four)) dress.division dress.whole dress.parts read_by_four.spelled refl in
+    let meant = client_meant m wire dress.ids overrun_news (comes (oack by_four), Message.Oack eight_by_four) (asks (request 1 by_four), Message.Request (asks_for Get eight_by_four)) dress.division dress.whole dress.labels read_by_four.spelled refl in
     let says = meant.1.1.1.1.1.1.1 in
     let agreed : m.agreed ≡ eight_by_four = same_oack m.agreed eight_by_four says.0 in
     let side : m.side ≡ Get = same_side (request_of m) (asks_for Get eight_by_four) says.1.0 in
@@ -87,6 +87,6 @@ skips_run m wire steps run put is =
 pub skip_is_unlawful : IsLawful at_client (before_skip ++ block_two ∷ []) → ⊥
 skip_is_unlawful (m, wire, seen) =
     let dress = seen.dressed in
-    let meant = client_meant m wire dress.ids (went 2 twos ∷ []) (comes (oack by_two), Message.Oack eight_by_two) (asks (request 2 by_two), Message.Request (asks_for Put eight_by_two)) dress.division dress.whole dress.parts write_by_two.spelled refl in
+    let meant = client_meant m wire dress.ids (went 2 twos ∷ []) (comes (oack by_two), Message.Oack eight_by_two) (asks (request 2 by_two), Message.Request (asks_for Put eight_by_two)) dress.division dress.whole dress.labels write_by_two.spelled refl in
     let side : m.side ≡ Put = same_side (request_of m) (asks_for Put eight_by_two) meant.1.1.1.0 in
     skips_run m wire seen.run.0 seen.run.1 side (seen.run.2 ∙ sym dress.main ∙ meant.0)
