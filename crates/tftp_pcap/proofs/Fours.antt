@@ -2,10 +2,6 @@
 use Rattle.std.proofs.Common.{◌≡◌, ℕ, ◌*◌, List, [], ◌∷◌, ◌++◌, length, refl, sym, ap, ◌∙◌, arith}
 use Rattle.tftp_pcap.specs.{four, Spells, Order}
 
--- four bytes more in front
-pub spells_more : (order : Order) (a b c d n : ℕ) (rest ns : List ℕ) → n ≡ four order a b c d → Spells order rest ns → Spells order (a ∷ b ∷ c ∷ d ∷ rest) (n ∷ ns)
-spells_more order a b c d n rest ns is spelled = (a, b, c, d, rest, refl, is, spelled)
-
 pub spells_length : (order : Order) (s ns : List ℕ) → Spells order s ns → length s ≡ 4 * length ns
 spells_length order s [] e = ap length e
 spells_length order s (n ∷ ns) (a, b, c, d, rest, are, is, more) = omega (arith, ap length are, spells_length order rest ns more)

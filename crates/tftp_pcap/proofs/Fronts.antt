@@ -1,18 +1,8 @@
 -- What the first bytes of a piece announce stays, whatever follows them.
-use Rattle.std.proofs.Common.{◌≡◌, inl, inr, ℕ, ◌<◌, ◌≤◌, List, [], ◌∷◌, ◌++◌, length, length-append, sym, ap, ◌∙◌, subst, lit<, arith, Option}
-use Rattle.std.specs.Io.KnownBytes.{Consumes}
-use Rattle.std.proofs.KnownBytes.{Consumes-trans}
+use Rattle.std.proofs.Common.{◌≡◌, inl, inr, ℕ, ◌<◌, ◌≤◌, List, ◌∷◌, ◌++◌, length, length-append, sym, ap, ◌∙◌, subst, lit<, arith}
 use Rattle.tftp_pcap.specs.{number_at, Announces, AnnouncesSection, BeginsAsOne, IsSize, front_of, IsLonger, IsPart, IsShort, IsCut, IsSkipped, IsWhole, Layout, Unopened}
 use Rattle.tftp_pcap.specs.declared.layout.Layout.TheVariants.{Classic, Blocks}
 use Rattle.tftp_pcap.proofs.Announced.{order_one, magic_other}
-
-pub announces_front : (layout : Layout) (p b : List ℕ) (n : ℕ) → front_of layout ≤ length p → Announces layout (p ++ b) n → Announces layout p n
-announces_front Unopened (b0 ∷ b1 ∷ b2 ∷ b3 ∷ b4 ∷ b5 ∷ b6 ∷ b7 ∷ b8 ∷ b9 ∷ b10 ∷ b11 ∷ u) b n enough (long, a) = (enough, a)
-announces_front (Classic classic) (b0 ∷ b1 ∷ b2 ∷ b3 ∷ b4 ∷ b5 ∷ b6 ∷ b7 ∷ b8 ∷ b9 ∷ b10 ∷ b11 ∷ b12 ∷ b13 ∷ b14 ∷ b15 ∷ u) b n enough (long, a) = (enough, a)
-announces_front (Blocks order) (b0 ∷ b1 ∷ b2 ∷ b3 ∷ b4 ∷ b5 ∷ b6 ∷ b7 ∷ b8 ∷ b9 ∷ b10 ∷ b11 ∷ u) b n enough (long, a) = (enough, a)
-announces_front Unopened _ b n enough a = absurd (omega arith)
-announces_front (Classic classic) _ b n enough a = absurd (omega arith)
-announces_front (Blocks order) _ b n enough a = absurd (omega arith)
 
 pub announces_more : (layout : Layout) (p b : List ℕ) (n : ℕ) → Announces layout p n → Announces layout (p ++ b) n
 announces_more Unopened (b0 ∷ b1 ∷ b2 ∷ b3 ∷ b4 ∷ b5 ∷ b6 ∷ b7 ∷ b8 ∷ b9 ∷ b10 ∷ b11 ∷ u) b n (long, a) = (omega (arith, length-append u b), a)
@@ -67,12 +57,6 @@ short_part layout p short n a = absurd (omega (arith, short, announces_enough la
 pub short_is_part : (layout : Layout) (p : List ℕ) → IsShort layout p → IsPart layout p
 short_is_part layout p (inl short) = short_part layout p short
 short_is_part layout p (inr (size, announced, sized, short)) = λ n a. omega (arith, short, announces_one layout p size n announced a)
-
--- all that was read is the piece
-pub taken_two : (old first second : List ℕ) (k0 k1 k2 : Option (List ℕ)) → old ≡ [] → ((bytes : List ℕ) × Consumes k0 k1 bytes × (first ≡ old ++ bytes)) → ((bytes : List ℕ) × Consumes k1 k2 bytes × (second ≡ first ++ bytes)) → Consumes k0 k2 second
-taken_two old first second k0 k1 k2 none (a, one, is) (b, two, are) =
-    let same : second ≡ a ++ b = are ∙ ap (λ l. l ++ b) (is ∙ ap (λ l. l ++ a) none) in
-    subst (Consumes k0 k2) (sym same) (Consumes-trans k0 k1 k2 a b one two)
 
 module _ (layout : Layout) (first second bytes : List ℕ) (size : ℕ) (are : second ≡ first ++ bytes) (announced : Announces layout first size) where
   grown : Announces layout second size

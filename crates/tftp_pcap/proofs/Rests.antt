@@ -1,5 +1,5 @@
 -- The rest of a piece, after its first bytes.
-use Rattle.std.proofs.Common.{◌≡◌, ◌≢◌, inl, inr, ℕ, ◌+◌, ◌-◌, ◌<◌, ◌≤◌, List, [], ◌++◌, length, length-append, take, drop, refl, sym, ap, ◌∙◌, append_assoc, append-nil, arith, ◌⊎◌, Bool, true, false, Result, Ok, Err}
+use Rattle.std.proofs.Common.{◌≡◌, ◌≢◌, inl, inr, ℕ, ◌+◌, ◌-◌, ◌<◌, ◌≤◌, List, ◌++◌, length, length-append, take, drop, refl, sym, ap, ◌∙◌, append_assoc, arith, ◌⊎◌, Bool, true, false, Result, Ok, Err}
 use Rattle.std.proofs.lemmas.Grind.{common_steps}
 use Rattle.tftp_pcap.specs.{number_at, section_type, Announces, IsSize, Mode, Said, Says, front_of, EndReached, IsSkipped, IsWhole, RestEnds, Order, Interface, FaultKind, Truncated, Bad, Read, Memory}
 use Rattle.tftp_pcap.specs.declared.layout.Layout.TheVariants.{Blocks}
@@ -69,13 +69,6 @@ module _ (order : Order) (interfaces : List Interface) (first more piece : List 
 
 -- ---- the end of such a block
 
-pub end_at_once : (first : List ℕ) (size : ℕ) → length first ≡ 12 → size ≡ 12 → EndReached (Ok true) size (first ++ []) first
-end_at_once first size front is = (
-  ap length (append-nil first) ∙ front ∙ sym is,
-  front,
-  (λ i. drop (let e : 8 ≡ size - 4 = omega (arith, is) in e i) (sym (append-nil first) i)),
-)
-
 module _ (first bytes last : List ℕ) (size : ℕ) (front : length first ≡ 12) (large : 16 ≤ size) (passed : length bytes ≡ size - 16) where
   long : length (first ++ (bytes ++ last)) ≡ size - 4 + length last
   long = omega (arith, front, large, passed, length-append first (bytes ++ last), length-append bytes last)
@@ -99,6 +92,3 @@ module _ (first bytes last : List ℕ) (size : ℕ) (front : length first ≡ 12
       )
   end_reached (Ok false) piece are at_end part = short piece are (part (λ e. let x : ⊥ = cc in x))
   end_reached (Err kind) piece are at_end part = short piece are (part (λ e. let x : ⊥ = cc in x))
-
-pub end_not_reached : (first bytes : List ℕ) (size : ℕ) → length first ≡ 12 → 16 ≤ size → length bytes < size - 16 → length (first ++ bytes) < size
-end_not_reached first bytes size front large short = omega (arith, front, large, short, length-append first bytes)
