@@ -5,7 +5,7 @@ use Rattle.tftp_packet.specs.{Message, RequestParts, Spells, FirstFault, Side, E
 use Rattle.tftp_capture.specs.declared.datagram.Datagram.{Datagram as OwnedDatagram}
 use Rattle.tftp_capture.specs.{datagram_of}
 use Rattle.tftp_model.specs.Roles.{receiver_of}
-use Rattle.tftp_judge.specs.{NoneBreaks, IsFirstOf, TakesMemory, Refusal}
+use Rattle.tftp_judge.specs.{TakesMemory, Refusal}
 use Rattle.tftp_judge.specs.declared.refusal.Refusal.TheVariants as of_end
 use Rattle.tftp_law.specs.{Broken, number_of, Rule}
 use Rattle.tftp_law.specs.declared.rule.Rule.TheVariants as rule
