@@ -55,14 +55,21 @@ impl Writing {
         }
     }
 
-    /// Writes a datagram of whole ports and at most 65,527 bytes.
+    /// Writes a datagram of whole ports and at most 65,527 bytes: the first one, and from then on each other one, by the two
+    /// halves of its payload.
     fn put(&mut self, (dir, local, remote, payload): &Row<'_>) -> Result<(), WriteFault> {
         let is_datagram = *local != 0 && *remote != 0 && payload.len() <= 65_527;
         if !is_datagram || self.puts == 255 {
             return Err(WriteFault);
         }
-        self.capture
-            .put(&mut self.writer, *dir, *local, *remote, *payload)?;
+        if self.puts % 2 == 0 {
+            let (head, rest) = payload.split_at(payload.len() / 2);
+            self.capture
+                .put_parts(&mut self.writer, *dir, *local, *remote, head, rest)?;
+        } else {
+            self.capture
+                .put(&mut self.writer, *dir, *local, *remote, *payload)?;
+        }
         self.puts += 1;
         Ok(())
     }
