@@ -4,11 +4,11 @@
 use std::io;
 use std::process::ExitCode;
 use tftp_normal::normalise;
-use tftp_streams::{LatchedReader, LineWriter};
+use tftp_streams::{Latched, LineWriter};
 
 /// Ends with status 2, and tells why on standard error, where no normal text was written, or only a part of one.
 fn main(rt: HostRuntime) -> ExitCode {
-    let mut reader = LatchedReader::new(rt.reader());
+    let mut reader = Latched::new(rt.reader());
     let mut writer = LineWriter::new(rt.alloc(), io::writer(&rt));
     match normalise(rt.alloc(), &mut reader, &mut writer) {
         Ok(()) => ExitCode::SUCCESS,

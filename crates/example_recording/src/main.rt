@@ -6,7 +6,7 @@ use anyhow::Result;
 use std::io::Read;
 use std::process::ExitCode;
 use tftp_recording::{Event, Fate, RecordingReader};
-use tftp_streams::LatchedReader;
+use tftp_streams::Latched;
 
 /// Ends with status 2, and tells why on standard error, where the recording was not read to its end.
 fn main(rt: HostRuntime) -> ExitCode {
@@ -22,7 +22,7 @@ fn main(rt: HostRuntime) -> ExitCode {
 
 /// Lists the datagrams to the recording's end, or to its fault.
 fn list(rt: HostRuntime) -> Result<()> {
-    let mut reader = LatchedReader::new(rt.reader());
+    let mut reader = Latched::new(rt.reader());
     let mut recording = RecordingReader::begin(rt.alloc(), &mut reader)?;
     let mut event = Event::empty(rt.alloc());
     for _ in 0..u64::MAX {
@@ -36,7 +36,7 @@ fn list(rt: HostRuntime) -> Result<()> {
 /// Reads a frame and lists the datagram that it brought, if any; whether there was a frame.
 fn list_next<R: Read>(
     rt: HostRuntime,
-    reader: &mut LatchedReader<R>,
+    reader: &mut Latched<R>,
     recording: &mut RecordingReader,
     event: &mut Event,
 ) -> Result<bool> {

@@ -4,7 +4,7 @@
 use std::process::ExitCode;
 use std::{env, io};
 use tftp_commands::run;
-use tftp_streams::{LatchedReader, LineWriter};
+use tftp_streams::{Latched, LineWriter};
 
 /// Ends with status 2, and no output, where it can't get its words.
 fn main(rt: HostRuntime) -> ExitCode {
@@ -14,7 +14,7 @@ fn main(rt: HostRuntime) -> ExitCode {
     let Ok(words) = words.collect::<Vec<String>>(rt.alloc()) else {
         return ExitCode::from(2);
     };
-    let mut reader = LatchedReader::new(rt.reader());
+    let mut reader = Latched::new(rt.reader());
     let mut writer = LineWriter::new(rt.alloc(), io::writer(&rt));
     let status = run(rt.alloc(), words.as_slice(), &mut reader, &mut writer);
     ExitCode::from(status.code())

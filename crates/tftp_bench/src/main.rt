@@ -16,7 +16,7 @@ use tftp_hosts::Dir;
 use tftp_netascii::{Decoder, encode};
 use tftp_packet::End;
 use tftp_recording::{Event, Fate, RecordingReader};
-use tftp_streams::{LatchedReader, LineWriter};
+use tftp_streams::{Latched, LineWriter};
 
 /// The most bytes that are read at once.
 const PIECE: usize = 65_536;
@@ -129,7 +129,7 @@ fn translate<R: Read, W: Write>(
 
 /// How many datagrams the capture reader gives.
 fn count_datagrams<R: Read + Drop>(alloc: Global, reader: R) -> io::Result<u64> {
-    let mut reader = LatchedReader::new(reader);
+    let mut reader = Latched::new(reader);
     let Ok(mut capture) = CaptureReader::begin(alloc, &mut reader) else {
         return Err(io::Error::from(ErrorKind::InvalidData));
     };
@@ -146,7 +146,7 @@ fn count_datagrams<R: Read + Drop>(alloc: Global, reader: R) -> io::Result<u64> 
 
 /// Counts the datagrams of a recording.
 fn count_recorded<R: Read + Drop>(alloc: Global, reader: R) -> io::Result<u64> {
-    let mut reader = LatchedReader::new(reader);
+    let mut reader = Latched::new(reader);
     let Ok(mut recording) = RecordingReader::begin(alloc, &mut reader) else {
         return Err(io::Error::from(ErrorKind::InvalidData));
     };

@@ -7,7 +7,7 @@ use crate::fault::TextFault;
 use crate::line_error::LineError;
 use memchr::memchr;
 use std::io::Read;
-use tftp_streams::{LatchedReader, ReadBuffer};
+use tftp_streams::{Latched, ReadBuffer};
 
 /// How many bytes stand before the first of that value, or before the end where there is none.
 #[inline]
@@ -26,7 +26,7 @@ pub fn count_before(bytes: &[u8], value: u8) -> usize
 /// answer is how many bytes it has with its LF. After a fault nothing is held.
 pub fn read_line<R: Read>(
     ahead: &mut ReadBuffer,
-    reader: &mut LatchedReader<R>,
+    reader: &mut Latched<R>,
     longest: usize,
     room: u64,
 ) -> Result<usize, LineError>

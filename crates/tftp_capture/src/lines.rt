@@ -11,7 +11,7 @@ use crate::version::Version;
 use std::alloc::{AllocError, Global};
 use std::io::Read;
 use std::marker::Model;
-use tftp_streams::{LatchedReader, ReadBuffer};
+use tftp_streams::{Latched, ReadBuffer};
 
 /// The most bytes of a text.
 const LONGEST_TEXT: u64 = 1 << 40;
@@ -130,7 +130,7 @@ impl Lines {
     }
 
     /// Reads the next line.
-    pub fn next<R: Read>(&mut self, reader: &mut LatchedReader<R>) -> Result<(), LineError>
+    pub fn next<R: Read>(&mut self, reader: &mut Latched<R>) -> Result<(), LineError>
         ensures ends { (bytes : List ℕ) × Consumes (prepend_known self.old.ahead (R.remaining reader.old.0)) (prepend_known self.new.ahead (R.remaining reader.new.0)) bytes
             × LineEnds result self.new.line (longest_line self.old.version) (2 ^ 40 - self.old.taken) bytes × LeavesEnd result (2 ^ 40 - self.old.taken) bytes self.new.ahead }
         ensures taken { OnOk result (self.new.taken ≡ self.old.taken + length self.new.line + 1) }
@@ -156,7 +156,7 @@ impl Lines {
     }
 
     /// Reads on to the next line that says something.
-    pub fn next_said<R: Read>(&mut self, reader: &mut LatchedReader<R>) -> Result<(), LineError>
+    pub fn next_said<R: Read>(&mut self, reader: &mut Latched<R>) -> Result<(), LineError>
         ensures reaches { ReachesLine result self.old self.new (prepend_known self.old.ahead (R.remaining reader.old.0)) (prepend_known self.new.ahead (R.remaining reader.new.0)) }
         ensures end { result ≡ Err (LineError.Text TextFault.Truncated) → IsAtEnd (prepend_known self.new.ahead (R.remaining reader.new.0)) }
         ensures read { result ≡ Err LineError.Read → reader.new.1 ≡ true }
@@ -173,7 +173,7 @@ impl Lines {
     }
 
     /// Looks for the text's end after the line last read.
-    pub fn finish<R: Read>(&mut self, reader: &mut LatchedReader<R>) -> Result<(), LineError>
+    pub fn finish<R: Read>(&mut self, reader: &mut Latched<R>) -> Result<(), LineError>
         ensures ends { (bytes : List ℕ) × Consumes (prepend_known self.old.ahead (R.remaining reader.old.0)) (prepend_known self.new.ahead (R.remaining reader.new.0)) bytes
             × TextEnds result self.old.taken bytes }
         ensures same { (self.new.taken ≡ self.old.taken) × (self.new.count ≡ self.old.count) }

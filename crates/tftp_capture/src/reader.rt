@@ -16,7 +16,7 @@ use crate::version::Version;
 use std::alloc::Global;
 use std::io::Read;
 use std::marker::Model;
-use tftp_streams::LatchedReader;
+use tftp_streams::Latched;
 
 /// A reader of a capture text: it holds one line of at most 131,070 bytes, in version 2 of 131,116, and at most
 /// 65,536 bytes read ahead.
@@ -43,10 +43,7 @@ impl Model for CaptureReader {
 
 impl CaptureReader {
     /// Reads the header: the first line, the end line and the service line.
-    pub fn begin<R: Read>(
-        alloc: Global,
-        reader: &mut LatchedReader<R>,
-    ) -> Result<Self, CaptureFault>
+    pub fn begin<R: Read>(alloc: Global, reader: &mut Latched<R>) -> Result<Self, CaptureFault>
         requires clean { reader.old.1 ≡ false }
         ensures ok { IfOk result (λ begun. (taken : List ℕ) × Consumes (R.remaining reader.old.0) (prepend_known begun.lines.ahead (R.remaining reader.new.0)) taken
             × GoesOn begun.header begun.lines begun.count taken []) }
@@ -97,7 +94,7 @@ impl CaptureReader {
     /// caller holds.
     pub fn next_into<R: Read>(
         &mut self,
-        reader: &mut LatchedReader<R>,
+        reader: &mut Latched<R>,
         datagram: &mut Datagram,
     ) -> Result<bool, CaptureFault>
         requires told { IsReadStanding self.old.standing → reader.old.1 ≡ true }
@@ -172,7 +169,7 @@ impl CaptureReader {
 /// Reads to the next datagram, or over the total to the text's end, after `count` datagrams.
 fn read_on<R: Read>(
     lines: &mut Lines,
-    reader: &mut LatchedReader<R>,
+    reader: &mut Latched<R>,
     count: u64,
     datagram: &mut Datagram,
 ) -> Result<bool, CaptureFault>

@@ -6,14 +6,14 @@ ghost use Rattle.tftp_capture.specs.{IsReadStanding};
 use std::alloc::Global;
 use std::marker::Model;
 use tftp_capture::{CaptureFault, CaptureReader, Datagram, Header};
-use tftp_streams::LatchedReader;
+use tftp_streams::Latched;
 use tftp_trials::drip::DripReader;
 
 /// A text whose header was read. Contracts see nothing of it, so that what the library promises of its readers is read
 /// only here, where it is called.
 #[derive(Drop)]
 pub struct Reading<'a> {
-    reader: LatchedReader<DripReader<'a>>,
+    reader: Latched<DripReader<'a>>,
     capture: CaptureReader,
 }
 
@@ -28,7 +28,7 @@ impl<'a> Model for Reading<'a> {
 impl<'a> Reading<'a> {
     /// The fault of a header, and whether a read failed.
     pub fn begin(alloc: Global, drip: DripReader<'a>) -> Result<Self, (CaptureFault, bool)> {
-        let mut reader = LatchedReader::new(drip);
+        let mut reader = Latched::new(drip);
         match CaptureReader::begin(alloc, &mut reader) {
             Ok(capture) => Ok(Reading { reader, capture }),
             Err(fault) => Err((fault, reader.failed())),

@@ -10,12 +10,12 @@ use crate::verdicts::{put_accepted, put_verdict, status_of};
 use std::alloc::Global;
 use std::io::{Read, Write};
 use tftp_judge::{Meaning, Verdict, judge_text};
-use tftp_streams::{LatchedReader, LineWriter};
+use tftp_streams::{Latched, LineWriter};
 
 /// Judges a capture text, and says in one line what it means, or why it is not accepted.
 pub fn check<R: Read, W: Write>(
     alloc: Global,
-    reader: &mut LatchedReader<R>,
+    reader: &mut Latched<R>,
     writer: &mut LineWriter<W>,
 ) -> Status
     requires reading { reader.old.1 ≡ false }

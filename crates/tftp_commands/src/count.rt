@@ -12,12 +12,12 @@ use std::alloc::Global;
 use std::io::{Read, Write};
 use tftp_judge::{Meaning, judge_text};
 use tftp_normal::normal_count;
-use tftp_streams::{LatchedReader, LineWriter, WriteFault};
+use tftp_streams::{Latched, LineWriter, WriteFault};
 
 /// Judges a capture text, and says in one line how many datagrams its normal capture has, or why it is not accepted.
 pub fn count<R: Read, W: Write>(
     alloc: Global,
-    reader: &mut LatchedReader<R>,
+    reader: &mut Latched<R>,
     writer: &mut LineWriter<W>,
 ) -> Status
     requires reading { reader.old.1 ≡ false }

@@ -8,13 +8,13 @@ use crate::verdicts::status_of;
 use std::alloc::Global;
 use std::io::{Read, Write};
 use tftp_judge::OutFault;
-use tftp_streams::{LatchedReader, LineWriter};
+use tftp_streams::{Latched, LineWriter};
 
 /// Writes the file of a capture text that is accepted, and nothing beside it; of a text that is not accepted nothing is
 /// written (RFC 1350, section 1). An empty file makes no write.
 pub fn extract<R: Read, W: Write>(
     alloc: Global,
-    reader: &mut LatchedReader<R>,
+    reader: &mut Latched<R>,
     writer: &mut LineWriter<W>,
 ) -> Status
     requires reading { reader.old.1 ≡ false }

@@ -17,14 +17,14 @@ use crate::words::{Action, UsageFault, action_of};
 use std::alloc::Global;
 use std::convert::AsStr;
 use std::io::{Read, Write};
-use tftp_streams::{LatchedReader, LineWriter};
+use tftp_streams::{Latched, LineWriter};
 
 /// Runs the command that the words name, the first of which is the program's name: reads a capture text, and writes
 /// lines, a file or a normal text. After a write that fails nothing more is written.
 pub fn run<S: AsStr, R: Read, W: Write>(
     alloc: Global,
     words: &[S],
-    reader: &mut LatchedReader<R>,
+    reader: &mut Latched<R>,
     writer: &mut LineWriter<W>,
 ) -> Status
     requires reading { reader.old.1 ≡ false }

@@ -15,14 +15,14 @@ use std::alloc::Global;
 use std::io::{Read, Write};
 use tftp_capture::{CaptureFault, CaptureReader, Datagram};
 use tftp_packet::{Packet, read_packet};
-use tftp_streams::{LatchedReader, LineWriter, WriteFault};
+use tftp_streams::{Latched, LineWriter, WriteFault};
 
 /// Shows the datagrams of a capture text, up to its end or its first fault, as they come: a line each, numbered from
 /// 1. Nothing is judged; at most one line of the text, 65,536 bytes read ahead and 16,384 bytes to be written are held.
 /// Where the next datagram may have to be waited for, as from a pipe, nothing is held back.
 pub fn show<R: Read, W: Write>(
     alloc: Global,
-    reader: &mut LatchedReader<R>,
+    reader: &mut Latched<R>,
     writer: &mut LineWriter<W>,
 ) -> Status
     requires reading { reader.old.1 ≡ false }

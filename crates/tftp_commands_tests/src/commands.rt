@@ -2,7 +2,7 @@
 
 use std::test::Fail;
 use tftp_commands::run;
-use tftp_streams::{LatchedReader, LineWriter};
+use tftp_streams::{Latched, LineWriter};
 use tftp_trials::drip::{DripReader, DripWriter};
 use tftp_trials::texts::READ;
 
@@ -13,7 +13,7 @@ type Said = (&'static [&'static str], &'static str, u8);
 
 /// Runs the program on a text. It promises nothing, so that what `run` promises is read only here.
 fn ran(rt: &HostRuntime, words: &[&str], text: &[u8], drip: DripWriter) -> (u8, DripWriter) {
-    let mut reader = LatchedReader::new(DripReader::new(text, 7, 0, None));
+    let mut reader = Latched::new(DripReader::new(text, 7, 0, None));
     let mut writer = LineWriter::new(rt.alloc(), drip);
     let status = run(rt.alloc(), words, &mut reader, &mut writer).code();
     (status, writer.finish().0)

@@ -4,7 +4,7 @@ use std::alloc::AllocError;
 use std::test::Fail;
 use tftp_judge::{Meaning, Verdict, judge_text};
 use tftp_normal::{NormalFault, normal_capture, normal_count, normalise};
-use tftp_streams::{LatchedReader, LineWriter};
+use tftp_streams::{Latched, LineWriter};
 use tftp_trials::drip::{DripReader, DripWriter};
 use tftp_trials::normals::SCRIPT;
 use tftp_trials::scripts::Script;
@@ -19,7 +19,7 @@ fn normalised_on(
     text: &[u8],
     drip: DripWriter,
 ) -> (Result<(), NormalFault>, DripWriter) {
-    let mut reader = LatchedReader::new(DripReader::new(text, usize::MAX, 0, None));
+    let mut reader = Latched::new(DripReader::new(text, usize::MAX, 0, None));
     let mut writer = LineWriter::new(rt.alloc(), drip);
     let answer = normalise(rt.alloc(), &mut reader, &mut writer);
     (answer, writer.finish().0)
@@ -61,7 +61,7 @@ fn is_written(
 
 /// What `judge_text` answers to a text.
 fn verdict_of(rt: &HostRuntime, text: &[u8]) -> Result<Meaning, Verdict> {
-    let mut reader = LatchedReader::new(DripReader::new(text, usize::MAX, 0, None));
+    let mut reader = Latched::new(DripReader::new(text, usize::MAX, 0, None));
     judge_text(rt.alloc(), &mut reader)
 }
 

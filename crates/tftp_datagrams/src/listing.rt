@@ -3,12 +3,12 @@ use std::io;
 use tftp_fragments::Fragments;
 use tftp_pcap::{Direction, PcapFault};
 use tftp_recording::{Datagram, Event, Fate, LeftOut, RecordingReader};
-use tftp_streams::LatchedReader;
+use tftp_streams::Latched;
 
 /// Lists what a recording has; whether it is one to its end.
 pub fn list(rt: HostRuntime) -> io::Result<bool> {
     let alloc = rt.alloc();
-    let mut reader = LatchedReader::new(rt.reader());
+    let mut reader = Latched::new(rt.reader());
     let mut recording = match RecordingReader::begin(alloc, &mut reader) {
         Ok(recording) => recording,
         Err(fault) => return put_fault(rt, fault),

@@ -10,7 +10,7 @@ use crate::verdict::Verdict;
 use std::alloc::Global;
 use std::convert::From;
 use std::io::{Read, Write};
-use tftp_streams::{LatchedReader, LineWriter, WriteFault};
+use tftp_streams::{Latched, LineWriter, WriteFault};
 
 /// Why a file was not written, or not whole.
 #[derive(Clone, Copy, Debug, PartialEq, Eq)]
@@ -47,7 +47,7 @@ impl From<WriteFault> for OutFault {
 /// judged before the first byte is written.
 pub fn extract<R: Read, W: Write>(
     alloc: Global,
-    reader: &mut LatchedReader<R>,
+    reader: &mut Latched<R>,
     writer: &mut LineWriter<W>,
 ) -> Result<(), OutFault>
     requires reading { reader.old.1 ≡ false }

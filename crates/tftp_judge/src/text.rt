@@ -11,7 +11,7 @@ use std::alloc::Global;
 use std::io::Read;
 use tftp_blocks::RingDelivered;
 use tftp_capture::{CaptureReader, Datagram};
-use tftp_streams::LatchedReader;
+use tftp_streams::Latched;
 
 /// What a capture text means, or why it is not accepted, by the runs of two ends (RFC 1350; RFC 2347; RFC 7440): the first
 /// unlawful datagram on the lines before the text's first fault, else that fault, else what there is to say of its
@@ -19,7 +19,7 @@ use tftp_streams::LatchedReader;
 /// judge that wants memory, how many datagrams came before is told in place of the line. Each datagram is judged when it is
 /// read, and nothing is read after a refusal. The text may have 2^40 bytes; held are the blocks, a
 /// line and the datagram on it, into whose memory the next one is read.
-pub fn judge_text<R: Read>(alloc: Global, reader: &mut LatchedReader<R>) -> Result<Meaning, Verdict>
+pub fn judge_text<R: Read>(alloc: Global, reader: &mut Latched<R>) -> Result<Meaning, Verdict>
     requires clean { reader.old.1 ≡ false }
     ensures judged { (read : List ℕ) × Consumes (R.remaining reader.old.0) (R.remaining reader.new.0) read × IsReadVerdict read result }
     ensures ended { EndsText result → IsAtEnd (R.remaining reader.new.0) }

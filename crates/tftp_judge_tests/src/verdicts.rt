@@ -8,7 +8,7 @@ use tftp_capture::CaptureFault;
 use tftp_capture_tests::reading::Reading;
 use tftp_judge::{AbortedBy, Meaning, Refusal, Rule, Verdict, judge_text};
 use tftp_packet::{Mode, Side};
-use tftp_streams::LatchedReader;
+use tftp_streams::Latched;
 use tftp_trials::comparing::is_so;
 use tftp_trials::drip::DripReader;
 
@@ -113,7 +113,7 @@ fn verdict_of(
     piece: usize,
     fails_at: u64,
 ) -> Result<Meaning, Verdict> {
-    let mut reader = LatchedReader::new(DripReader::new(text, piece, fails_at, None));
+    let mut reader = Latched::new(DripReader::new(text, piece, fails_at, None));
     judge_text(rt.alloc(), &mut reader)
 }
 

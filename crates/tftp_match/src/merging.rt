@@ -12,7 +12,7 @@ use tftp_blocks::RingDelivered;
 use tftp_capture::Datagram;
 use tftp_packet::End;
 use tftp_pair_judge::PairJudge;
-use tftp_streams::LatchedReader;
+use tftp_streams::Latched;
 
 impl Reading {
     /// Reads the text of an end till its last datagram waits for the other end, or no more of it is read.
@@ -21,7 +21,7 @@ impl Reading {
         alloc: Global,
         pair: &mut PairJudge<RingDelivered>,
         end: End,
-        reader: &mut LatchedReader<R>,
+        reader: &mut Latched<R>,
         datagram: &mut Datagram,
     )
         requires goes { self.old.halt ≡ None }
@@ -64,9 +64,9 @@ pub fn merge<R: Read, S: Read>(
     alloc: Global,
     pair: &mut PairJudge<RingDelivered>,
     client: &mut Reading,
-    client_reader: &mut LatchedReader<R>,
+    client_reader: &mut Latched<R>,
     server: &mut Reading,
-    server_reader: &mut LatchedReader<S>,
+    server_reader: &mut Latched<S>,
     datagram: &mut Datagram,
 )
     requires client_open { client.old.halt ≡ None → client.old.capture.standing ≡ Standing.Open }

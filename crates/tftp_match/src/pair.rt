@@ -20,7 +20,7 @@ use tftp_capture::{CaptureReader, Datagram};
 use tftp_judge::{Judge, Meaning, Verdict, judge_text};
 use tftp_packet::End;
 use tftp_pair_judge::PairJudge;
-use tftp_streams::LatchedReader;
+use tftp_streams::Latched;
 
 /// What there is to say of two capture texts, the first of a client and the second of a server, by the runs of two ends (RFC
 /// 1350; RFC 2347; RFC 7440). Of each it says what there is to say of it alone, and of both how far one run has them
@@ -30,8 +30,8 @@ use tftp_streams::LatchedReader;
 /// the ACKs that it has sent.
 pub fn judge_pair<R: Read, S: Read>(
     alloc: Global,
-    client: &mut LatchedReader<R>,
-    server: &mut LatchedReader<S>,
+    client: &mut Latched<R>,
+    server: &mut Latched<S>,
 ) -> PairSaid
     requires client_clean { client.old.1 ≡ false }
     requires server_clean { server.old.1 ≡ false }
@@ -70,8 +70,8 @@ pub fn judge_pair<R: Read, S: Read>(
 /// The same, in fewer words.
 fn judge_both<R: Read, S: Read>(
     alloc: Global,
-    client: &mut LatchedReader<R>,
-    server: &mut LatchedReader<S>,
+    client: &mut Latched<R>,
+    server: &mut Latched<S>,
 ) -> PairSaid
     requires client_clean { client.old.1 ≡ false }
     requires server_clean { server.old.1 ≡ false }
@@ -102,7 +102,7 @@ fn judge_both<R: Read, S: Read>(
 fn judge_alone<R: Read>(
     alloc: Global,
     capture: CaptureReader,
-    reader: &mut LatchedReader<R>,
+    reader: &mut Latched<R>,
 ) -> Result<Meaning, Verdict>
     requires open { capture.standing ≡ Standing.Open }
     ensures { (before : Option (List ℕ)) → HasBegun before (R.remaining reader.old.0) reader.old.1 capture
@@ -122,9 +122,9 @@ fn judge_alone<R: Read>(
 fn judge_begun<R: Read, S: Read>(
     alloc: Global,
     client: CaptureReader,
-    client_reader: &mut LatchedReader<R>,
+    client_reader: &mut Latched<R>,
     server: CaptureReader,
-    server_reader: &mut LatchedReader<S>,
+    server_reader: &mut Latched<S>,
 ) -> PairSaid
     requires client_open { client.standing ≡ Standing.Open }
     requires server_open { server.standing ≡ Standing.Open }

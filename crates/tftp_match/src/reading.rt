@@ -8,7 +8,7 @@ ghost use Rattle.tftp_match.specs.declared.reading.Halt.{Halt as HaltKind};
 use std::io::Read;
 use tftp_capture::{CaptureFault, CaptureReader, Datagram};
 use tftp_judge::{Meaning, Refusal, Verdict};
-use tftp_streams::LatchedReader;
+use tftp_streams::Latched;
 
 /// Why no more of a text is read.
 #[derive(Clone, Copy, Debug, PartialEq, Eq)]
@@ -30,7 +30,7 @@ pub struct Reading {
 
 impl Reading {
     /// The next datagram, into what the caller holds; false once no more is read, and then it is kept why.
-    pub fn next<R: Read>(&mut self, reader: &mut LatchedReader<R>, datagram: &mut Datagram) -> bool
+    pub fn next<R: Read>(&mut self, reader: &mut Latched<R>, datagram: &mut Datagram) -> bool
         requires open { self.old.capture.standing ≡ Standing.Open }
         ensures given { result ≡ true → (before : Option (List ℕ)) (h : HeaderParts) (read : List DatagramParts) (judge : JudgeParts)
             → GoesOnAt before (R.remaining reader.old.0) reader.old.1 self.old.capture h read → IsJudgeAfter judge h read

@@ -14,7 +14,7 @@ use tftp_capture::Datagram;
 use tftp_judge::Judge;
 use tftp_packet::End;
 use tftp_pair_judge::PairRest;
-use tftp_streams::LatchedReader;
+use tftp_streams::Latched;
 
 impl Reading {
     /// Reads what is left of the text of an end, where its last datagram waited.
@@ -23,7 +23,7 @@ impl Reading {
         alloc: Global,
         rest: &mut PairRest<RingDelivered>,
         end: End,
-        reader: &mut LatchedReader<R>,
+        reader: &mut Latched<R>,
         datagram: &mut Datagram,
     )
         requires open { self.old.halt ≡ None → self.old.capture.standing ≡ Standing.Open }
@@ -53,7 +53,7 @@ impl Reading {
         &mut self,
         alloc: Global,
         judge: &mut Judge<RingDelivered>,
-        reader: &mut LatchedReader<R>,
+        reader: &mut Latched<R>,
         datagram: &mut Datagram,
     )
         requires goes { self.old.halt ≡ None }

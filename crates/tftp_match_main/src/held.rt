@@ -4,7 +4,7 @@ use crate::source::Whole;
 use std::alloc::Global;
 use std::io::Read;
 use tftp_match::{PairSaid, judge_pair};
-use tftp_streams::LatchedReader;
+use tftp_streams::Latched;
 
 /// A capture text: one that is read while it is judged, or one in memory.
 #[derive(Drop)]
@@ -15,7 +15,7 @@ pub enum Held<R: Read + Drop> {
 
 /// What there is to say of a text of the client and one of the server.
 pub fn said_of<R: Read + Drop, S: Read + Drop>(alloc: Global, client: R, server: S) -> PairSaid {
-    let mut client = LatchedReader::new(client);
-    let mut server = LatchedReader::new(server);
+    let mut client = Latched::new(client);
+    let mut server = Latched::new(server);
     judge_pair(alloc, &mut client, &mut server)
 }

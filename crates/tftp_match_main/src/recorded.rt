@@ -10,7 +10,7 @@ use std::io::Read;
 use tftp_capture::{CaptureReader, Datagram};
 use tftp_packet::End;
 use tftp_session::{Asked, Session, TextAt, TextFault, requests_of};
-use tftp_streams::{LatchedReader, LineWriter};
+use tftp_streams::{Latched, LineWriter};
 
 /// A recording at an end.
 #[derive(Clone, Copy)]
@@ -84,7 +84,7 @@ fn read_out<R: Read + Drop>(alloc: Global, mut reader: R) -> Result<Vec<u8>> {
 
 /// The payload of the first datagram of a text; without one an empty one.
 fn first_payload(alloc: Global, text: &[u8]) -> Result<Vec<u8>> {
-    let mut reader = LatchedReader::new(text);
+    let mut reader = Latched::new(text);
     let mut capture = CaptureReader::begin(alloc, &mut reader)?;
     let mut first = Datagram::empty(alloc);
     if capture.next_into(&mut reader, &mut first)? {

@@ -16,7 +16,7 @@ use std::alloc::Global;
 use std::io::{Read, Write};
 use tftp_judge::{Meaning, MeaningParts, judge_text};
 use tftp_packet::Side;
-use tftp_streams::{LatchedReader, LineWriter};
+use tftp_streams::{Latched, LineWriter};
 
 /// Writes the normal text of a meaning, and nothing else. It takes all memory that it needs before it writes, so with
 /// `Memory` nothing was written; it never answers `Verdict`.
@@ -41,7 +41,7 @@ pub fn normal_capture<W: Write>(
 /// memory is taken, before the first byte is written.
 pub fn normalise<R: Read, W: Write>(
     alloc: Global,
-    reader: &mut LatchedReader<R>,
+    reader: &mut Latched<R>,
     writer: &mut LineWriter<W>,
 ) -> Result<(), NormalFault>
     requires reading { reader.old.1 ≡ false }

@@ -11,7 +11,7 @@ use crate::step::Pieces;
 use std::alloc::Global;
 use std::io::Read;
 use std::marker::Model;
-use tftp_streams::LatchedReader;
+use tftp_streams::Latched;
 
 /// Which way a frame went, where the recording says so.
 #[derive(Clone, Copy, Debug, PartialEq, Eq)]
@@ -67,7 +67,7 @@ impl Frame {
     pub fn fill<R: Read>(
         &mut self,
         pieces: &mut Pieces,
-        reader: &mut LatchedReader<R>,
+        reader: &mut Latched<R>,
         number: u64,
     ) -> Result<bool, FaultKind>
         ensures tells { (bytes : List ℕ) (frames : List FrameParts) → Stands bytes pieces.old.mode pieces.old.count frames

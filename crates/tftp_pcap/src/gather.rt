@@ -3,12 +3,12 @@ ghost use Rattle.std.specs.Io.KnownBytes.{prepend_known, Consumes, IsAtEnd};
 
 use crate::fault::FaultKind;
 use std::io::Read;
-use tftp_streams::{LatchedReader, ReadBuffer};
+use tftp_streams::{Latched, ReadBuffer};
 
 /// Reads on into what was read of a piece until it has so many bytes; false where the recording ends before.
 pub fn gather<R: Read>(
     ahead: &mut ReadBuffer,
-    reader: &mut LatchedReader<R>,
+    reader: &mut Latched<R>,
     piece: &mut Vec<u8>,
     size: usize,
 ) -> Result<bool, FaultKind>

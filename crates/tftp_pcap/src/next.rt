@@ -10,7 +10,7 @@ use crate::found::Found;
 use crate::place::Place;
 use crate::step::Pieces;
 use std::io::Read;
-use tftp_streams::LatchedReader;
+use tftp_streams::Latched;
 
 /// Where the frame lies that was found, if it is one.
 #[inline]
@@ -26,7 +26,7 @@ fn place_of(found: Found) -> Option<Place>
 /// Reads on to the next frame, and says where it lies in its piece; none where the recording ends before one.
 pub fn next_place<R: Read>(
     pieces: &mut Pieces,
-    reader: &mut LatchedReader<R>,
+    reader: &mut Latched<R>,
     piece: &mut Vec<u8>,
 ) -> Result<Option<Place>, FaultKind>
     ensures tells { (bytes : List ℕ) (frames : List FrameParts) → Stands bytes pieces.old.mode pieces.old.count frames

@@ -11,7 +11,7 @@ use crate::pieces::{said_by, skipped_in};
 use crate::sizes::{begins_as_one, front_of, size_of};
 use crate::skip::skip_rest;
 use std::io::Read;
-use tftp_streams::{LatchedReader, ReadBuffer};
+use tftp_streams::{Latched, ReadBuffer};
 
 /// What the end of the recording is within the first bytes of a piece: the end after the pieces before it, or a fault.
 fn ended(layout: Layout, piece: &[u8]) -> Result<Option<usize>, FaultKind>
@@ -32,7 +32,7 @@ fn ended(layout: Layout, piece: &[u8]) -> Result<Option<usize>, FaultKind>
 pub fn read_front<R: Read>(
     layout: Layout,
     ahead: &mut ReadBuffer,
-    reader: &mut LatchedReader<R>,
+    reader: &mut Latched<R>,
     piece: &mut Vec<u8>,
 ) -> Result<Option<usize>, FaultKind>
     ensures taken { Consumes (prepend_known ahead.old.bytes (R.remaining reader.old.0)) (prepend_known ahead.new.bytes (R.remaining reader.new.0)) piece.new.items }
@@ -58,7 +58,7 @@ pub fn read_rest<R: Read>(
     layout: Layout,
     interfaces: &[Interface],
     ahead: &mut ReadBuffer,
-    reader: &mut LatchedReader<R>,
+    reader: &mut Latched<R>,
     piece: &mut Vec<u8>,
     size: usize,
 ) -> Result<Found, FaultKind>

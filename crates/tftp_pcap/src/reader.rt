@@ -12,7 +12,7 @@ use crate::step::Pieces;
 use std::alloc::Global;
 use std::io::Read;
 use std::marker::Model;
-use tftp_streams::LatchedReader;
+use tftp_streams::Latched;
 
 /// A reader of a recording's frames, classic or of blocks: it holds at most 65,536 bytes read ahead and the interfaces of a
 /// section.
@@ -36,7 +36,7 @@ impl Model for FrameReader {
 
 impl FrameReader {
     /// Reads the header of a classic recording, or the first section header.
-    pub fn begin<R: Read>(alloc: Global, reader: &mut LatchedReader<R>) -> Result<Self, PcapFault>
+    pub fn begin<R: Read>(alloc: Global, reader: &mut Latched<R>) -> Result<Self, PcapFault>
         ensures ok { IfOk result (λ begun. (taken : List ℕ) × Consumes (R.remaining reader.old.0) (prepend_known begun.pieces.ahead (R.remaining reader.new.0)) taken × StandsFor begun taken []) }
         ensures opened { IfOk result (λ begun. begun.pieces.mode.layout ≢ Layout.Unopened) }
         ensures open { IfOk result (λ begun. begun.standing ≡ Standing.Open) }
@@ -71,7 +71,7 @@ impl FrameReader {
     /// without a fault. A fault is answered for good. Where no frame was read, nothing is said of what the caller holds.
     pub fn next_into<R: Read>(
         &mut self,
-        reader: &mut LatchedReader<R>,
+        reader: &mut Latched<R>,
         frame: &mut Frame,
     ) -> Result<bool, PcapFault>
         ensures continues { (bytes : List ℕ) (frames : List FrameParts) → StandsFor self.old bytes frames

@@ -10,12 +10,12 @@ use crate::found::Found;
 use crate::gather::gather;
 use crate::numbers::Order;
 use std::io::Read;
-use tftp_streams::{LatchedReader, ReadBuffer};
+use tftp_streams::{Latched, ReadBuffer};
 
 /// Reads on over so many bytes, of which none is held; false where the recording ends before.
 fn skip<R: Read>(
     ahead: &mut ReadBuffer,
-    reader: &mut LatchedReader<R>,
+    reader: &mut Latched<R>,
     count: usize,
 ) -> Result<bool, FaultKind>
     ensures skips { (bytes : List ℕ) × Consumes (prepend_known ahead.old.bytes (R.remaining reader.old.0)) (prepend_known ahead.new.bytes (R.remaining reader.new.0)) bytes × SkipEnds result count bytes }
@@ -45,7 +45,7 @@ fn skip<R: Read>(
 /// before.
 fn skip_to_end<R: Read>(
     ahead: &mut ReadBuffer,
-    reader: &mut LatchedReader<R>,
+    reader: &mut Latched<R>,
     piece: &mut Vec<u8>,
     size: usize,
 ) -> Result<bool, FaultKind>
@@ -75,7 +75,7 @@ fn skip_to_end<R: Read>(
 pub fn skip_rest<R: Read>(
     order: Order,
     ahead: &mut ReadBuffer,
-    reader: &mut LatchedReader<R>,
+    reader: &mut Latched<R>,
     piece: &mut Vec<u8>,
     size: usize,
 ) -> Result<Found, FaultKind>

@@ -12,7 +12,7 @@ use crate::read::{read_front, read_rest};
 use std::alloc::{AllocError, Global};
 use std::io::Read;
 use std::marker::Model;
-use tftp_streams::{LatchedReader, ReadBuffer};
+use tftp_streams::{Latched, ReadBuffer};
 
 /// The most records and blocks of a recording.
 const MOST_PIECES: u64 = 1 << 40;
@@ -84,7 +84,7 @@ impl Pieces {
     /// Reads one piece more, and says what it says; none where the recording ends before it.
     pub fn step<R: Read>(
         &mut self,
-        reader: &mut LatchedReader<R>,
+        reader: &mut Latched<R>,
         piece: &mut Vec<u8>,
     ) -> Result<Option<Found>, FaultKind>
         ensures ends { (taken : List ℕ) × Consumes (prepend_known self.old.ahead (R.remaining reader.old.0)) (prepend_known self.new.ahead (R.remaining reader.new.0)) taken

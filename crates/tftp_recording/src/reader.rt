@@ -11,7 +11,7 @@ use std::marker::Model;
 use tftp_copies::Recent;
 use tftp_fragments::Fragments;
 use tftp_pcap::{FaultKind, FrameReader, PcapFault};
-use tftp_streams::LatchedReader;
+use tftp_streams::Latched;
 
 /// A reader of what became of a recording's frames: it holds what a reader of frames does, the last 16 packets,
 /// and the fragments that wait for others of their packets, 64 MB at most.
@@ -33,7 +33,7 @@ impl Model for RecordingReader {
 
 impl RecordingReader {
     /// Reads the header of a classic recording, or the first section header.
-    pub fn begin<R: Read>(alloc: Global, reader: &mut LatchedReader<R>) -> Result<Self, PcapFault>
+    pub fn begin<R: Read>(alloc: Global, reader: &mut Latched<R>) -> Result<Self, PcapFault>
         ensures ok { IfOk result (λ begun. (taken : List ℕ) × Consumes (R.remaining reader.old.0) (prepend_known begun.frames.pieces.ahead (R.remaining reader.new.0)) taken × StandsFor begun taken []) }
         ensures open { IfOk result (λ begun. standing_of begun ≡ Standing.Open) }
         ensures err { IfErr result (λ fault. FailsToBegin (R.remaining reader.old.0) (R.remaining reader.new.0) fault) }
@@ -66,7 +66,7 @@ impl RecordingReader {
     pub fn next_into<R: Read>(
         &mut self,
         alloc: Global,
-        reader: &mut LatchedReader<R>,
+        reader: &mut Latched<R>,
         event: &mut Event,
     ) -> Result<bool, PcapFault>
         ensures continues { (bytes : List ℕ) (history : List Step) → StandsFor self.old bytes history

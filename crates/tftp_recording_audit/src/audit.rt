@@ -24,7 +24,7 @@ use tftp_lines::{Endpoint, spells_request};
 use tftp_parties::party_of;
 use tftp_recording::{Datagram, Event, Fate, RecordingReader};
 use tftp_recording_judge::{Judging, RecordingJudge, Watched};
-use tftp_streams::LatchedReader;
+use tftp_streams::Latched;
 use tftp_transfers::{Attributed, AttributionFault};
 
 /// The judges of a recording's transfers, to be given what became of each of its frames, from the first to the last.
@@ -81,7 +81,7 @@ impl<D: Delivered + Drop> RecordingAudit<D> {
     pub fn next_into<R: Read>(
         &mut self,
         alloc: Global,
-        reader: &mut LatchedReader<R>,
+        reader: &mut Latched<R>,
         recording: &mut RecordingReader,
         event: &mut Event,
     ) -> Result<NextFrame, AuditFault>

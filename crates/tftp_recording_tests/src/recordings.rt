@@ -4,7 +4,7 @@ use crate::fragments::let_go_any;
 use std::test::Fail;
 use tftp_pcap::{FaultKind, PcapFault};
 use tftp_recording::{Event, Fate, LeftOut, RecordingReader};
-use tftp_streams::LatchedReader;
+use tftp_streams::Latched;
 use tftp_trials::comparing::is_so;
 use tftp_trials::drip::DripReader;
 
@@ -79,14 +79,14 @@ const FATES: &[(Told, &[u64], &[u64])] = &[
 /// A recording, how far it is read, and the last event. It hides what the libraries promise.
 #[derive(Drop)]
 struct Reading<'a> {
-    reader: LatchedReader<DripReader<'a>>,
+    reader: Latched<DripReader<'a>>,
     frames: RecordingReader,
     event: Event,
 }
 
 /// Begins to read a recording in pieces of this size.
 fn begun<'a>(rt: &HostRuntime, bytes: &'a [u8], piece: usize) -> Result<Reading<'a>, Fail> {
-    let mut reader = LatchedReader::new(DripReader::new(bytes, piece, 0, None));
+    let mut reader = Latched::new(DripReader::new(bytes, piece, 0, None));
     let frames = RecordingReader::begin(rt.alloc(), &mut reader).map_err(failed)?;
     let event = Event::empty(rt.alloc());
     Ok(Reading {

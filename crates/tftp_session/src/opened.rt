@@ -7,12 +7,12 @@ use std::alloc::{AllocError, Global};
 use std::io::Read;
 use tftp_pcap::{FaultKind, PcapFault};
 use tftp_recording::{Event, RecordingReader};
-use tftp_streams::LatchedReader;
+use tftp_streams::Latched;
 
 /// A recording that is being read.
 #[derive(Drop)]
 pub struct Opened<R: Read + Drop> {
-    reader: LatchedReader<Headed<R>>,
+    reader: Latched<Headed<R>>,
     recording: RecordingReader,
     event: Event,
 }
@@ -20,7 +20,7 @@ pub struct Opened<R: Read + Drop> {
 impl<R: Read + Drop> Opened<R> {
     /// Reads the file's beginning.
     pub fn begin(alloc: Global, reader: R) -> Result<Self, ReadFault> {
-        let mut reader = LatchedReader::new(Headed::new(reader));
+        let mut reader = Latched::new(Headed::new(reader));
         match RecordingReader::begin(alloc, &mut reader) {
             Ok(recording) => Ok(Opened {
                 reader,

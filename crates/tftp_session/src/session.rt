@@ -16,7 +16,7 @@ use tftp_pcap::{FaultKind, PcapFault};
 use tftp_recording::{Datagram, Event, Fate, RecordingReader};
 use tftp_recording_audit::{AuditFault, NextFrame, RecordingAudit};
 use tftp_recording_judge::{Judging, Watched};
-use tftp_streams::LatchedReader;
+use tftp_streams::Latched;
 use tftp_transfers::{Attributed, AttributionFault};
 
 /// What a recording has: its transfers by how many datagrams came before each, and what is to be told of it.
@@ -57,7 +57,7 @@ impl Session {
     pub fn next<R: Read>(
         &mut self,
         alloc: Global,
-        reader: &mut LatchedReader<R>,
+        reader: &mut Latched<R>,
         recording: &mut RecordingReader,
         event: &mut Event,
     ) -> Result<bool, ReadFault> {

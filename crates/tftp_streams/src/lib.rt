@@ -3,13 +3,12 @@
 
 mod digits;
 mod fault;
-mod latched_reader;
-mod latched_writer;
+mod latched;
 mod line_writer;
 mod read_buffer;
 mod whole;
 
 pub use fault::WriteFault;
-pub use latched_reader::LatchedReader;
+pub use latched::Latched;
 pub use line_writer::LineWriter;
 pub use read_buffer::ReadBuffer;

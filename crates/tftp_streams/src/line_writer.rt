@@ -4,7 +4,7 @@ ghost use Rattle.tftp_streams.specs.Sinks.{Adds, Ends, Writes};
 
 use crate::digits::encode;
 use crate::fault::WriteFault;
-use crate::latched_writer::LatchedWriter;
+use crate::latched::Latched;
 use crate::whole::write_whole;
 use std::alloc::Global;
 use std::io::Write;
@@ -21,7 +21,7 @@ const PIECE: usize = 1024;
 /// in is written at once. After a write that fails each call answers a fault, and nothing more is written.
 #[derive(Drop)]
 pub struct LineWriter<W> {
-    inner: LatchedWriter<W>,
+    inner: Latched<W>,
     bytes: Vec<u8>,
 }
 
@@ -46,7 +46,7 @@ impl<W: Write> LineWriter<W> {
             Err(_) => Vec::new(alloc),
         };
         LineWriter {
-            inner: LatchedWriter::new(inner),
+            inner: Latched::new(inner),
             bytes,
         }
     }

@@ -2,7 +2,7 @@ ghost use Rattle.std.specs.Prelude.{◌≡◌, ◌≢◌, ◌≤◌, ◌==◌, �
 ghost use Rattle.std.specs.Io.KnownBytes.{prepend_known, Consumes, Keeps, IsAtEnd};
 ghost use Rattle.tftp_streams.specs.Buffers.{most_ahead, most_of_line};
 
-use crate::latched_reader::LatchedReader;
+use crate::latched::Latched;
 use std::alloc::{AllocError, Global};
 use std::io;
 use std::io::Read;
@@ -14,9 +14,9 @@ const AT_ONCE: usize = 65_536;
 /// How many bytes there is room for: the longest line, of 131,116, and those of one read behind it.
 const ROOM: usize = 196_652;
 
-/// Bytes of a text that were read and not yet let go, and whether the last read gave as many as were asked for. A file does
-/// so but at its end; a pipe or a terminal gives what there is. They stand in memory that is asked for once, and not on the
-/// stack, where each move would copy them; where one more read finds no room behind them, they are moved to its front.
+/// Bytes of a text or a recording that were read and not yet let go, and whether the last read gave as many as were asked
+/// for. A file does so but at its end; a pipe or a terminal gives what there is. They stand in memory that is asked for once,
+/// and not on the stack, where each move would copy them; before each read they are moved to its front.
 #[derive(Drop)]
 pub struct ReadBuffer {
     buf: Vec<u8>,
@@ -37,7 +37,7 @@ impl Model for ReadBuffer {
 }
 
 impl ReadBuffer {
-    /// Nothing was read yet; it takes the memory for what will be.
+    /// Nothing was read yet; it takes the memory for what will be, once for all reads.
     pub fn new(alloc: Global) -> Result<Self, AllocError>
         ensures { IfOk result (λ buffer. buffer ≡ record { bytes = []; full = false }) }
     {
@@ -78,7 +78,7 @@ impl ReadBuffer {
 
     /// Reads once, at most 65,536 bytes, behind what is held, which is moved to the front of its memory. Nothing has come
     /// only at the reader's end.
-    pub fn read_on<R: Read>(&mut self, reader: &mut LatchedReader<R>) -> io::Result<()>
+    pub fn read_on<R: Read>(&mut self, reader: &mut Latched<R>) -> io::Result<()>
         requires room { length self.old.bytes ≤ most_of_line }
         ensures more { (more : List ℕ) × (self.new.bytes ≡ self.old.bytes ++ more) × (length more ≤ most_ahead) }
         ensures full { OnOk result (self.new.full ≡ (length self.new.bytes - length self.old.bytes == most_ahead)) }
@@ -86,7 +86,7 @@ impl ReadBuffer {
         ensures end { IfOk result (λ _. length self.new.bytes ≡ length self.old.bytes → IsAtEnd (R.remaining reader.new.0)) }
         ensures ok { OnOk result (reader.new.1 ≡ reader.old.1) }
         ensures err { OnErr result (reader.new.1 ≡ true) }
-        ensures none { OnErr result (self.new.bytes ≡ self.old.bytes) }
+        ensures none { OnErr result (self.new ≡ self.old) }
     {
         let held = self.end - self.start;
         let came = read_behind(reader, &mut self.buf, self.start, self.end);
@@ -103,14 +103,16 @@ impl ReadBuffer {
     }
 
     /// Reads once where nothing is held; then nothing is held only at the reader's end.
-    pub fn fill<R: Read>(&mut self, reader: &mut LatchedReader<R>) -> io::Result<()>
+    pub fn fill<R: Read>(&mut self, reader: &mut Latched<R>) -> io::Result<()>
         ensures few { self.old.bytes ≡ [] → length self.new.bytes ≤ most_ahead }
-        ensures held { self.old.bytes ≢ [] → self.new.bytes ≡ self.old.bytes }
+        ensures held { self.old.bytes ≢ [] → self.new ≡ self.old }
+        ensures full { self.old.bytes ≡ [] → OnOk result (self.new.full ≡ (length self.new.bytes == most_ahead)) }
         ensures kept { Keeps (prepend_known self.old.bytes (R.remaining reader.old.0)) (prepend_known self.new.bytes (R.remaining reader.new.0)) }
         ensures end { IfOk result (λ _. length self.new.bytes ≡ 0 → IsAtEnd (prepend_known self.new.bytes (R.remaining reader.new.0))) }
         ensures ok { OnOk result (reader.new.1 ≡ reader.old.1) }
         ensures err { OnErr result (reader.new.1 ≡ true) }
         ensures drained { OnErr result (self.new.bytes ≡ []) }
+        ensures none { OnErr result (self.new ≡ self.old) }
     {
         if !self.as_slice().is_empty() {
             return Ok(());
@@ -134,7 +136,7 @@ fn move_to_front(buf: &mut [u8], start: usize, end: usize)
 /// Moves the bytes from `start` to `end` to the front, and reads once behind them, at most 65,536. Answers how many have
 /// come.
 fn read_behind<R: Read>(
-    reader: &mut LatchedReader<R>,
+    reader: &mut Latched<R>,
     buf: &mut [u8],
     start: usize,
     end: usize,

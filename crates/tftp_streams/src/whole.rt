@@ -2,11 +2,11 @@ ghost use Rattle.std.specs.Prelude.{◌≡◌, false, is_err};
 ghost use Rattle.tftp_streams.specs.Sinks.{WritesWhole};
 
 use crate::fault::WriteFault;
-use crate::latched_writer::LatchedWriter;
+use crate::latched::Latched;
 use std::io::Write;
 
 /// Writes a slice by as many writes as it takes; an interrupted write is a fault too.
-pub fn write_whole<W: Write>(writer: &mut LatchedWriter<W>, bytes: &[u8]) -> Result<(), WriteFault>
+pub fn write_whole<W: Write>(writer: &mut Latched<W>, bytes: &[u8]) -> Result<(), WriteFault>
     requires going { writer.old.1 ≡ false }
     ensures writes { WritesWhole (W.contents writer.old.0) (W.contents writer.new.0) result bytes.now }
     ensures tally { writer.new.1 ≡ is_err result }

@@ -5,7 +5,7 @@ ghost use Rattle.std.specs.Prelude.{◌≡◌, IfOk};
 use std::io;
 use std::io::{ErrorKind, Read, Write};
 use std::test::Fail;
-use tftp_streams::{LatchedReader, LineWriter};
+use tftp_streams::{Latched, LineWriter};
 use tftp_trials::comparing::is_so;
 
 /// Counts how often it was asked, and answers one call with an error.
@@ -52,7 +52,7 @@ fn is_kept(found: Option<usize>, failed: bool, number: u64, fails_at: u64) -> bo
 
 /// Fails unless each of three reads asks once, of which one fails, or none.
 fn asks_once(fails_at: u64) -> Result<(), Fail> {
-    let mut latched = LatchedReader::new(Asked { calls: 0, fails_at });
+    let mut latched = Latched::new(Asked { calls: 0, fails_at });
     for number in 1..4u64 {
         let found = latched.read(&mut [0u8; 2]).ok();
         is_so(

@@ -7,7 +7,7 @@ use std::io::{Read, Write};
 use std::slice::Iter;
 use std::test::Fail;
 use tftp_commands::run;
-use tftp_streams::{LatchedReader, LineWriter};
+use tftp_streams::{Latched, LineWriter};
 use tftp_trials::drip::DripReader;
 
 /// A piece of a text, and how many datagrams have come with it.
@@ -97,7 +97,7 @@ impl Write for Counting<'_> {
 
 /// Shows what a reader gives, and answers the status.
 fn shown<R: Read + Drop>(rt: &HostRuntime, reader: R, pipe: &Pipe) -> u8 {
-    let mut reader = LatchedReader::new(reader);
+    let mut reader = Latched::new(reader);
     let mut writer = LineWriter::new(rt.alloc(), Counting { pipe });
     run(
         rt.alloc(),
