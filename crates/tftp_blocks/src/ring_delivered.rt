@@ -1,4 +1,4 @@
-ghost use Rattle.std.specs.Prelude.{◌≡◌, ◌+◌, ◌≤◌, [], None, length, ◌++◌, slice_index_or};
+ghost use Rattle.std.specs.Prelude.{◌≡◌, ◌+◌, ◌<◌, ◌≤◌, [], None, length, ◌++◌, slice_index_or, OnOk, OnErr};
 ghost use Rattle.std.specs.Vec.{vec_capacity};
 ghost use Rattle.tftp_blocks.specs.Ring.{cut, leading, filled, IsRow};
 
@@ -6,6 +6,12 @@ use crate::delivered::{Delivered, PutOutcome};
 use crate::waiting::Waiting;
 use std::alloc::{AllocError, Global};
 use std::marker::Model;
+
+/// From so many bytes on a file is long.
+const LONG: usize = 65_536;
+
+/// How many blocks a transfer may have (RFC 1350, section 5).
+const MOST_BLOCKS: usize = 65_535;
 
 /// The blocks up to the front joined, and a ring for those above it. A block that waits is copied once when it comes,
 /// into the bytes that all of them share, and moved once when the front passes it.
@@ -100,7 +106,7 @@ impl Delivered for RingDelivered {
             return Ok(PutOutcome::New);
         }
         let following = self.pending.following(self.block_size);
-        self.joined.reserve(bytes.len() + following)?;
+        make_room(&mut self.joined, self.block_size, bytes.len() + following)?;
         self.joined.extend_from_slice(bytes)?;
         self.front = number;
         if self.waiting > 0 {
@@ -145,6 +151,26 @@ impl Delivered for RingDelivered {
         let RingDelivered { joined, .. } = self;
         Ok(joined)
     }
+}
+
+/// Sees that there is room for so many bytes more. A file that has grown long is given room for fifteen times as many
+/// bytes as it has, and for no more than 65,535 blocks have, so that it is seldom moved: memory to which nothing was
+/// written yet costs nothing. Where so much is refused, just what is needed is asked for.
+fn make_room(joined: &mut Vec<u8>, block_size: u16, more: usize) -> Result<(), AllocError>
+    ensures items { joined.new.items ≡ joined.old.items }
+    ensures room { OnOk result (length joined.old.items + more ≤ vec_capacity joined.new) }
+    ensures full { OnErr result (vec_capacity joined.old < length joined.old.items + more) }
+{
+    let held = joined.len();
+    if held >= LONG && joined.capacity() - held < more {
+        let plenty = held
+            .saturating_mul(15)
+            .min(MOST_BLOCKS * usize::from(block_size));
+        if plenty >= more && joined.reserve(plenty).is_ok() {
+            return Ok(());
+        }
+    }
+    joined.reserve(more)
 }
 
 /// Moves the blocks up to the first gap behind the joined ones, where there is room for them. Answers the front.

@@ -52,7 +52,7 @@ advance-self-inside-requires-clause-row c =
     let known = new_facts c.self.inside.block_size c.self.inside.window c.self.inside.front c.self.inside.joined.items c.self.inside.pending.0 c.args.number c.args.bytes.now c.self.inside.pending.1 c.args.self.now c.self.view_is c.requires c.in-None.ensures in
     let near : c.args.number - c.self.inside.front - 1 ≤ 0 = c.if-place-gt0.false in
     let joined : c.extend_from_slice.new.self.items ≡ c.self.inside.joined.items ++ c.args.bytes.now =
-    c.in_ok-extend_from_slice.ensures.items ∙ ap (λ t. t ++ c.args.bytes.now) c.in_ok-reserve.ensures.items in
+    c.in_ok-extend_from_slice.ensures.items ∙ ap (λ t. t ++ c.args.bytes.now) c.in_ok-make_room.ensures.items in
     let row = first_moved c.self.inside.block_size c.self.inside.window c.self.inside.front c.self.inside.joined.items c.self.inside.pending.0 c.args.number c.args.bytes.now c.self.invariant.0.row known.0 known.1 known.2 near in
     subst (λ js. IsRow c.self.inside.block_size js c.args.number c.drop_first.new.self.0) (sym joined)
     (subst (IsRow c.self.inside.block_size (c.self.inside.joined.items ++ c.args.bytes.now) c.args.number) (sym c.drop_first.ensures.places) row)
@@ -62,7 +62,7 @@ invariant_of-self-else-self-gt0 c =
     let known = new_facts c.self.inside.block_size c.self.inside.window c.self.inside.front c.self.inside.joined.items c.self.inside.pending.0 c.args.number c.args.bytes.now c.self.inside.pending.1 c.args.self.now c.self.view_is c.requires c.in-None.ensures in
     let near : c.args.number - c.self.inside.front - 1 ≤ 0 = c.if-place-gt0.false in
     let joined : c.extend_from_slice.new.self.items ≡ c.self.inside.joined.items ++ c.args.bytes.now =
-    c.in_ok-extend_from_slice.ensures.items ∙ ap (λ t. t ++ c.args.bytes.now) c.in_ok-reserve.ensures.items in
+    c.in_ok-extend_from_slice.ensures.items ∙ ap (λ t. t ++ c.args.bytes.now) c.in_ok-make_room.ensures.items in
     let fits = c.ranges.number.fits in
     let count = c.self.invariant.0.count in
     let none = c.if-self-gt0.false in
@@ -83,7 +83,7 @@ returns-then-self-gt0-clause-ok c =
     let known = new_facts c.self.inside.block_size c.self.inside.window c.self.inside.front c.self.inside.joined.items c.self.inside.pending.0 c.args.number c.args.bytes.now c.self.inside.pending.1 c.args.self.now c.self.view_is c.requires c.in-None.ensures in
     let near : c.args.number - c.self.inside.front - 1 ≤ 0 = c.if-place-gt0.false in
     let joined : c.extend_from_slice.new.self.items ≡ c.self.inside.joined.items ++ c.args.bytes.now =
-    c.in_ok-extend_from_slice.ensures.items ∙ ap (λ t. t ++ c.args.bytes.now) c.in_ok-reserve.ensures.items in
+    c.in_ok-extend_from_slice.ensures.items ∙ ap (λ t. t ++ c.args.bytes.now) c.in_ok-make_room.ensures.items in
     let row = first_row c.self.inside.block_size c.self.inside.window c.self.inside.front c.self.inside.joined.items c.self.inside.pending.0 c.args.number c.args.bytes.now c.self.invariant.0.row known.0 known.1 known.2 near in (
       sym c.in-None.ensures,
       ap (numbered 1) (c.advance-self-inside.ensures.slots
@@ -98,7 +98,7 @@ returns-else-self-gt0-clause-ok c =
     let known = new_facts c.self.inside.block_size c.self.inside.window c.self.inside.front c.self.inside.joined.items c.self.inside.pending.0 c.args.number c.args.bytes.now c.self.inside.pending.1 c.args.self.now c.self.view_is c.requires c.in-None.ensures in
     let near : c.args.number - c.self.inside.front - 1 ≤ 0 = c.if-place-gt0.false in
     let joined : c.extend_from_slice.new.self.items ≡ c.self.inside.joined.items ++ c.args.bytes.now =
-    c.in_ok-extend_from_slice.ensures.items ∙ ap (λ t. t ++ c.args.bytes.now) c.in_ok-reserve.ensures.items in
+    c.in_ok-extend_from_slice.ensures.items ∙ ap (λ t. t ++ c.args.bytes.now) c.in_ok-make_room.ensures.items in
     let row = first_row c.self.inside.block_size c.self.inside.window c.self.inside.front c.self.inside.joined.items c.self.inside.pending.0 c.args.number c.args.bytes.now c.self.invariant.0.row known.0 known.1 known.2 near in
     let count = c.self.invariant.0.count in
     let none = c.if-self-gt0.false in (
