@@ -1,10 +1,21 @@
 -- What is wrong with a text, by what was taken of it.
-use Rattle.std.proofs.Common.{◌≡◌, ℕ, ◌+◌, ◌-◌, ◌^◌, ◌<◌, ◌⊎◌, inl, inr, false, List, [], ◌∷◌, ◌++◌, length, Err, refl, sym, ap, ◌∙◌, arith, append_assoc, append-nil, length-append}
-use Rattle.tftp_capture.specs.{TextFault, BadHeader, BadEnd, BadService, LineTooLong, BadLine, BadPort, BadHost, BadHex, PayloadTooLong, TotalWrong, Truncated, TrailingText, TextTooLong, Version, LineError, BodyFault, ByteFault, Due, FailsAt, HasFault, IsOver, Numbered, Stands, Unfinished, longest, longest_line, says_nothing, FaultTells, MemoryTells, IsPartOfLine, LeavesEnd, LineEnds, TextEnds, fault_at}
+use Rattle.std.proofs.Common.{◌≡◌, ℕ, ◌+◌, ◌-◌, ◌^◌, ◌<◌, false, List, [], ◌∷◌, ◌++◌, length, Err, refl, sym, ap, ◌∙◌, arith, append_assoc, append-nil, length-append}
+use Rattle.tftp_capture.specs.{TextFault, BadHeader, BadEnd, BadService, LineTooLong, BadLine, BadPort, BadHost, BadHex, PayloadTooLong, TotalWrong, Truncated, TrailingText, TextTooLong, Version, LineError, BodyFault, ByteFault, Due, FailsAt, HasFault, IsOver, Numbered, Stands, Unfinished, longest, longest_line, says_nothing, FaultTells, FirstTells, MemoryTells, IsPartOfLine, LineEnds, TextEnds, fault_at}
 use Rattle.tftp_capture.specs.declared.line_error.LineError.TheVariants.{Text, Read, Memory}
 use Rattle.tftp_capture.specs.CaptureText.{Header}
 use Rattle.tftp_capture.specs.CaptureText.Due.{Body, Nothing}
 use Rattle.tftp_capture.proofs.Texts.{stands-part}
+
+-- a line wants no memory
+pub no_want : (error : LineError) (line bytes : List ℕ) (most room at : ℕ) → LineEnds {T = Unit {0}} (Err error) line most room bytes → (text : List ℕ) (datagrams : List Numbered) → MemoryTells (fault_at error at) text datagrams
+no_want (Text fault) line bytes most room at e text datagrams = tt
+no_want Read line bytes most room at e text datagrams = tt
+no_want Memory line bytes most room at e text datagrams = absurd e
+
+pub no_first_want : (error : LineError) (line bytes : List ℕ) (most room at : ℕ) → LineEnds {T = Unit {0}} (Err error) line most room bytes → (text ahead : List ℕ) → FirstTells (fault_at error at) text ahead
+no_first_want (Text fault) line bytes most room at e text ahead = tt
+no_first_want Read line bytes most room at e text ahead = tt
+no_first_want Memory line bytes most room at e text ahead = absurd e
 
 module _ (text : List ℕ) (lines : List (List ℕ)) (due : Due) (datagrams : List Numbered) (not_yet : IsOver due → ⊥) (stands : Stands text lines [] due datagrams) where
   unfinished : (bytes : List ℕ) → IsPartOfLine bytes (longest due) (2 ^ 40 - length text) → Unfinished (text ++ bytes) datagrams (length lines + 1) due
@@ -29,7 +40,7 @@ module _ (text : List ℕ) (lines : List (List ℕ)) (due : Due) (datagrams : Li
       (text ++ at.front, at.more, e.0, ap (λ l. text ++ l) at.are ∙ sym (append_assoc text at.front (e.0 ∷ at.more)), fails at.front e.0 TextTooLong part wrong)
   fault_in_line line bytes (Text Truncated) e = (due, unfinished bytes e, not_yet)
   fault_in_line line bytes Read e = (due, unfinished bytes e)
-  fault_in_line line bytes Memory e = tt
+  fault_in_line line bytes Memory e = absurd e
   fault_in_line line bytes (Text BadHeader) e = absurd e
   fault_in_line line bytes (Text BadEnd) e = absurd e
   fault_in_line line bytes (Text BadService) e = absurd e
@@ -40,21 +51,6 @@ module _ (text : List ℕ) (lines : List (List ℕ)) (due : Due) (datagrams : Li
   fault_in_line line bytes (Text PayloadTooLong) e = absurd e
   fault_in_line line bytes (Text TotalWrong) e = absurd e
   fault_in_line line bytes (Text TrailingText) e = absurd e
-
-  -- memory was refused in a line
-  pub memory_in_line : (line bytes ahead : List ℕ) (error : LineError) → LineEnds {T = Unit {0}} (Err error) line (longest due) (2 ^ 40 - length text) bytes → LeavesEnd {T = Unit {0}} (Err error) (2 ^ 40 - length text) bytes ahead
-      → MemoryTells (fault_at error (length lines + 1)) (text ++ bytes) ahead datagrams
-  memory_in_line line bytes ahead (Text fault) e l = tt
-  memory_in_line line bytes ahead Read e l = tt
-  memory_in_line line bytes ahead Memory e l = inl (record {
-    due = due;
-    unfinished = unfinished bytes e;
-    goes_on = not_yet;
-    ends = elim l as (λ _. (ahead ≡ []) ⊎ ((more : List ℕ) × (ahead ≡ 10 ∷ more) × (length (text ++ bytes) < 2 ^ 40))) [
-      | inl none ↦ inl none
-      | inr end ↦ inr (end.0, end.1, omega (arith, length-append text bytes, end.2))
-    ];
-  })
 
   -- the LF of a line whose content is wrong fails
   pub fault_at_end : (line : List ℕ) (fault : TextFault) → IsPartOfLine line (longest due) (2 ^ 40 - length text) → ByteFault (length (text ++ line)) line due (length datagrams) 10 fault

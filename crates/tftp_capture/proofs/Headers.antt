@@ -1,17 +1,16 @@
 -- The header of a text, line by line.
-use Rattle.std.proofs.Common.{◌≡◌, ◌≢◌, ℕ, ◌+◌, ◌-◌, ◌^◌, ◌≤◌, lit≤, inl, inr, List, [], ◌∷◌, ◌++◌, length, Option, None, Some, Ok, Err, refl, sym, ap, ◌∙◌, subst, arith, append_assoc, length-append}
+use Rattle.std.proofs.Common.{◌≡◌, ◌≢◌, ℕ, ◌+◌, ◌-◌, ◌^◌, ◌≤◌, lit≤, List, [], ◌∷◌, ◌++◌, length, Option, None, Some, Ok, Err, refl, sym, ap, ◌∙◌, subst, arith, append_assoc, length-append}
 use Rattle.std.specs.Io.KnownBytes.{Consumes, IsAtEnd, prepend_known}
-use Rattle.std.proofs.lemmas.List.Elements.{All-nil}
 use Rattle.std.proofs.KnownBytes.{Consumes-trans}
 use Rattle.tftp_packet.specs.{End}
-use Rattle.tftp_capture.specs.{BadHeader, BadEnd, BadService, Truncated, CaptureFault, Version, One, Two, LineError, Due, IsPort, Says, Stands, end_line, head_line, longest, longest_line, service_line, whole_lines, FailsToBegin, FaultTells, HasService, IsAtTextEnd, IsReadFault, MemoryTells, LeavesEnd, LineEnds, LineState, ReachesLine, fault_at}
+use Rattle.tftp_capture.specs.{BadHeader, BadEnd, BadService, Truncated, CaptureFault, Version, One, Two, LineError, Due, IsPort, Says, Stands, end_line, head_line, longest, longest_line, service_line, whole_lines, FailsToBegin, FaultTells, HasService, IsAtTextEnd, IsReadFault, FirstTells, LineEnds, LineState, ReachesLine, fault_at}
 use Rattle.tftp_streams.specs.{most_ahead}
 use Rattle.tftp_capture.specs.declared.fault.CaptureFault.TheVariants as faults
 use Rattle.tftp_capture.specs.declared.line_error.LineError.TheVariants.{Text, Read, Memory}
 use Rattle.tftp_capture.specs.CaptureText.Due.{Head, EndLine, ServiceLine, Body}
 use Rattle.tftp_capture.proofs.Texts.{IsSkippable, said-push, says-head, says-end, says-service, stands-line, stands-nothing}
-use Rattle.tftp_capture.proofs.Faults.{fault_in_line, fault_at_end, memory_in_line}
-use Rattle.tftp_capture.proofs.Histories.{reached, stop_memory, stop_tells, number_is, part_is, within_is, taken_is, bytes_are}
+use Rattle.tftp_capture.proofs.Faults.{fault_in_line, fault_at_end, no_first_want}
+use Rattle.tftp_capture.proofs.Histories.{reached, stop_tells, number_is, part_is, within_is, taken_is, bytes_are}
 
 -- these bytes were taken, and this is due after them
 pub record Begun (k0 k1 : Option (List ℕ)) (state : LineState) (due : Due) : Type 0 where
@@ -28,15 +27,15 @@ pub record Tells (k0 k1 : Option (List ℕ)) (ahead : List ℕ) (fault : Capture
   pub text : List ℕ
   pub consumed : Consumes k0 k1 text
   pub tells : FaultTells fault text []
-  pub memory : MemoryTells fault text ahead []
+  pub memory : FirstTells fault text ahead
 
-pub head_stop : (k0 k1 : Option (List ℕ)) (line bytes ahead : List ℕ) (error : LineError) → Consumes k0 k1 bytes → LineEnds {T = Unit {0}} (Err error) line 131070 (2 ^ 40 - 0) bytes → LeavesEnd {T = Unit {0}} (Err error) (2 ^ 40 - 0) bytes ahead
+pub head_stop : (k0 k1 : Option (List ℕ)) (line bytes ahead : List ℕ) (error : LineError) → Consumes k0 k1 bytes → LineEnds {T = Unit {0}} (Err error) line 131070 (2 ^ 40 - 0) bytes
     → Tells k0 k1 ahead (fault_at error 1)
-head_stop k0 k1 line bytes ahead error consumed ends leaves = record {
+head_stop k0 k1 line bytes ahead error consumed ends = record {
   text = bytes;
   consumed = consumed;
   tells = fault_in_line [] [] Head [] (λ o. o) stands-nothing line bytes error ends;
-  memory = memory_in_line [] [] Head [] (λ o. o) stands-nothing line bytes ahead error ends leaves;
+  memory = no_first_want error line bytes _ _ 1 ends bytes ahead;
 }
 
 pub head_bad : (k0 k1 : Option (List ℕ)) (line bytes ahead : List ℕ) → Consumes k0 k1 bytes → LineEnds {T = Unit {0}} (Ok tt) line 131070 (2 ^ 40 - 0) bytes → ((version : Version) → line ≢ head_line version) → Tells k0 k1 ahead (faults.Text 1 BadHeader)
@@ -79,7 +78,7 @@ module _ (k0 k1 k2 : Option (List ℕ)) (old new : LineState) (due : Due) (skipp
     text = begun.text ++ (whole_lines reach.skipped ++ reach.bytes);
     consumed = Consumes-trans _ _ _ _ _ begun.consumed reach.consumed;
     tells = stop_tells begun.text begun.lines due [] skippable begun.stands old new k1 k2 begun.byte_count begun.limit error reach begun.line_count;
-    memory = stop_memory begun.text begun.lines due [] skippable begun.stands old new k1 k2 begun.byte_count begun.limit error reach begun.line_count;
+    memory = no_first_want error new.line reach.bytes _ _ (new.count + 1) reach.ends _ new.ahead;
   }
 
   module _ (reach : ReachesLine {T = Unit {0}} (Ok tt) old new k1 k2) where
@@ -176,17 +175,14 @@ none_ahead [] rest e = refl
 none_ahead (b ∷ bs) rest e = absurd (omega (arith, ap length e))
 
 -- what is known of the bytes ahead is known of none
-memory_alone : (fault : CaptureFault) (text ahead : List ℕ) → MemoryTells fault text ahead [] → MemoryTells fault text [] []
-memory_alone (faults.Text line fault) text ahead m = tt
-memory_alone (faults.Read line) text ahead m = tt
-memory_alone (faults.Memory line) text ahead m = elim m as (λ _. MemoryTells (faults.Memory line) text [] []) [
-  | inl b ↦ inl (record { due = b.due; unfinished = b.unfinished; goes_on = b.goes_on; ends = inl refl })
-  | inr s ↦ inr s
-]
+first_alone : (fault : CaptureFault) (text ahead : List ℕ) → FirstTells fault text ahead → FirstTells fault text []
+first_alone (faults.Text line fault) text ahead m = tt
+first_alone (faults.Read line) text ahead m = tt
+first_alone (faults.Memory line) text ahead (at, none, empty) = (at, none, refl)
 
 pub fails_to_begin : (r0 r1 : Option (List ℕ)) (ahead : List ℕ) (fault : CaptureFault) → length ahead ≤ most_ahead → (IsReadFault fault → ahead ≡ []) → (IsAtTextEnd fault → IsAtEnd (prepend_known ahead r1))
     → Tells (prepend_known [] r0) (prepend_known ahead r1) ahead fault → FailsToBegin r0 r1 fault
-fails_to_begin None r1 ahead fault near none end t = record { taken = t.text; ahead = []; consumed = tt; tells = t.tells; drained = λ _. refl; ended = λ _. refl; near = lit≤ tt; memory = memory_alone fault t.text ahead t.memory }
+fails_to_begin None r1 ahead fault near none end t = record { taken = t.text; ahead = []; consumed = tt; tells = t.tells; drained = λ _. refl; ended = λ _. refl; near = lit≤ tt; memory = first_alone fault t.text ahead t.memory }
 fails_to_begin (Some x) None ahead fault near none end t = absurd t.consumed
 fails_to_begin (Some x) (Some y) ahead fault near none end t = record {
   taken = t.text;
@@ -220,5 +216,4 @@ consumes_nothing (Some x) = refl
 
 -- memory was refused before anything was read
 pub refused_at_once : (r : Option (List ℕ)) → FailsToBegin r r (faults.Memory 1)
-refused_at_once r = fails_to_begin r r [] (faults.Memory 1) (lit≤ tt) (λ h. absurd h) (λ h. absurd h)
-    (head_stop (prepend_known [] r) (prepend_known [] r) [] [] [] Memory (consumes_nothing r) (record { no_end = All-nil (λ b. b ≢ 10); narrow = lit≤ tt; short = lit≤ tt }) (inl refl))
+refused_at_once r = fails_to_begin r r [] (faults.Memory 1) (lit≤ tt) (λ h. absurd h) (λ h. absurd h) (record { text = []; consumed = consumes_nothing r; tells = tt; memory = (refl, refl, refl) })

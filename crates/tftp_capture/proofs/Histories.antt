@@ -1,5 +1,5 @@
 -- What a reader's answers tell of the bytes that were taken.
-use Rattle.std.proofs.Common.{◌≡◌, ℕ, ◌+◌, ◌-◌, ◌^◌, ◌<◌, inr, List, [], ◌∷◌, ◌++◌, length, All, Option, None, Some, Result, Ok, Err, refl, sym, ap, ◌∙◌, subst, arith, append_assoc, append-nil, length-append}
+use Rattle.std.proofs.Common.{◌≡◌, ℕ, ◌+◌, ◌-◌, ◌^◌, ◌<◌, List, [], ◌∷◌, ◌++◌, length, All, Option, None, Some, Result, Ok, Err, refl, sym, ap, ◌∙◌, subst, arith, append_assoc, append-nil, length-append}
 use Rattle.std.specs.Io.KnownBytes.{Consumes}
 use Rattle.std.proofs.KnownBytes.{Consumes-trans}
 use Rattle.tftp_capture.specs.{LineError, Due, Numbered, SaysDatagram, Stands, longest, longest_line, total_line, whole_lines, BodyEnds, datagram_of, Answers, FaultTells, GoesOn, MemoryTells, IsPartOfLine, IsSkipped, LineState, ReachesLine, TextEnds, fault_at}
@@ -8,7 +8,7 @@ use Rattle.tftp_capture.specs.declared.datagram.Datagram.{Datagram as Owned}
 use Rattle.tftp_capture.specs.CaptureText.{Datagram, Header}
 use Rattle.tftp_capture.specs.CaptureText.Due.{Body, Nothing}
 use Rattle.tftp_capture.proofs.Texts.{IsSkippable, not_over, says-datagram, stands-line, stands-skips}
-use Rattle.tftp_capture.proofs.Faults.{body_fault, end_fault, fault_in_line, memory_in_line}
+use Rattle.tftp_capture.proofs.Faults.{body_fault, end_fault, fault_in_line, no_want}
 
 module _ (text : List ℕ) (lines : List (List ℕ)) (due : Due) (datagrams : List Numbered) (skippable : IsSkippable due) (stands : Stands text lines [] due datagrams) (old new : LineState) (k0 k1 : Option (List ℕ)) (byte_count : old.taken ≡ length text) (limit : longest_line old.version ≡ longest due) where
   -- after the lines that say nothing
@@ -24,15 +24,6 @@ module _ (text : List ℕ) (lines : List (List ℕ)) (due : Due) (datagrams : Li
   stop_tells error reach line_count =
       let at : length (lines ++ reach.skipped) ≡ new.count = length-append lines reach.skipped ∙ ap (λ n. n + length reach.skipped) (sym line_count) ∙ sym reach.count_before in
       let tells = fault_in_line (text ++ whole_lines reach.skipped) (lines ++ reach.skipped) due datagrams (not_over due skippable) (reached (Err error) reach) new.line reach.bytes error (rw (room_is (Err error) reach, limit) at reach.ends) in
-      rw (at, append_assoc text (whole_lines reach.skipped) reach.bytes) at tells
-
-  -- memory was refused there
-  pub stop_memory : (error : LineError) (reach : ReachesLine {T = Unit {0}} (Err error) old new k0 k1) → old.count ≡ length lines
-      → MemoryTells (fault_at error (new.count + 1)) (text ++ (whole_lines reach.skipped ++ reach.bytes)) new.ahead datagrams
-  stop_memory error reach line_count =
-      let at : length (lines ++ reach.skipped) ≡ new.count = length-append lines reach.skipped ∙ ap (λ n. n + length reach.skipped) (sym line_count) ∙ sym reach.count_before in
-      let room = room_is (Err error) reach in
-      let tells = memory_in_line (text ++ whole_lines reach.skipped) (lines ++ reach.skipped) due datagrams (not_over due skippable) (reached (Err error) reach) new.line reach.bytes new.ahead error (rw (room, limit) at reach.ends) (rw room at reach.leaves) in
       rw (at, append_assoc text (whole_lines reach.skipped) reach.bytes) at tells
 
   module _ (reach : ReachesLine {T = Unit {0}} (Ok tt) old new k0 k1) (line_count : old.count ≡ length lines) where
@@ -57,7 +48,7 @@ module _ (header : Header) (old new : LineState) (count : ℕ) (text : List ℕ)
     taken = whole_lines reach.skipped ++ reach.bytes;
     consumed = reach.consumed;
     tells = stop_tells text goes.lines (Body old.version header) datagrams tt goes.stands old new k0 k1 goes.byte_count refl error reach goes.line_count;
-    memory = stop_memory text goes.lines (Body old.version header) datagrams tt goes.stands old new k0 k1 goes.byte_count refl error reach goes.line_count;
+    memory = no_want error new.line reach.bytes _ _ (new.count + 1) reach.ends _ datagrams;
   }
 
   module _ (reach : ReachesLine {T = Unit {0}} (Ok tt) old new k0 k1) where
@@ -120,11 +111,10 @@ module _ (header : Header) (old new : LineState) (count : ℕ) (text : List ℕ)
     }
 
     -- the text's end is looked for without memory
-    end_memory : (ahead bytes : List ℕ) (error : LineError) → TextEnds {T = Unit {0}} (Err error) new.taken bytes
-        → MemoryTells (fault_at error (new.count + 1)) (text ++ ((whole_lines reach.skipped ++ reach.bytes) ++ bytes)) ahead datagrams
-    end_memory ahead bytes (Text fault) ends = tt
-    end_memory ahead bytes Read ends = tt
-    end_memory ahead bytes Memory ends = absurd ends
+    end_memory : (bytes : List ℕ) (error : LineError) → TextEnds {T = Unit {0}} (Err error) new.taken bytes → MemoryTells (fault_at error (new.count + 1)) (text ++ ((whole_lines reach.skipped ++ reach.bytes) ++ bytes)) datagrams
+    end_memory bytes (Text fault) ends = tt
+    end_memory bytes Read ends = tt
+    end_memory bytes Memory ends = absurd ends
 
     pub end_answers : (state : LineState) (k2 : Option (List ℕ)) (bytes : List ℕ) (error : LineError) → new.line ≡ total_line count → Consumes k1 k2 bytes → TextEnds {T = Unit {0}} (Err error) new.taken bytes
         → Answers k0 k2 (Err (fault_at error (new.count + 1))) header state count text datagrams
@@ -137,7 +127,7 @@ module _ (header : Header) (old new : LineState) (count : ℕ) (text : List ℕ)
           taken = (whole_lines reach.skipped ++ reach.bytes) ++ bytes;
           consumed = Consumes-trans _ _ _ _ _ reach.consumed consumed;
           tells = rw (number, append_assoc text (whole_lines reach.skipped ++ reach.bytes) bytes) at tells;
-          memory = end_memory state.ahead bytes error ends;
+          memory = end_memory bytes error ends;
         }
 
     content_tells : (error : LineError) → BodyEnds new.version (Err error) new.line count → FaultTells (fault_at error new.count) (text ++ (whole_lines reach.skipped ++ reach.bytes)) datagrams
@@ -151,17 +141,17 @@ module _ (header : Header) (old new : LineState) (count : ℕ) (text : List ℕ)
     content_tells Read ends = absurd ends
     content_tells Memory ends = tt
 
-    content_memory : (error : LineError) → BodyEnds new.version (Err error) new.line count → MemoryTells (fault_at error new.count) (text ++ (whole_lines reach.skipped ++ reach.bytes)) new.ahead datagrams
+    content_memory : (error : LineError) → BodyEnds new.version (Err error) new.line count → MemoryTells (fault_at error new.count) (text ++ (whole_lines reach.skipped ++ reach.bytes)) datagrams
     content_memory (Text fault) ends = tt
     content_memory Read ends = tt
-    content_memory Memory ends = inr (record {
+    content_memory Memory ends = record {
       version = old.version;
       header = header;
       datagram = ends.0;
       lines = lines_after;
       stands = datagram_stands ends.0 (subst (λ v. SaysDatagram v new.line ends.0) reach.version ends.1);
       at_line = lines_number;
-    })
+    }
 
     pub content_answers : (error : LineError) → BodyEnds new.version (Err error) new.line count → Answers k0 k1 (Err (fault_at error new.count)) header new count text datagrams
     content_answers error ends = record {

@@ -1,5 +1,5 @@
 -- What a reader of captures holds, and for what bytes and datagrams it stands.
-use Rattle.std.specs.Prelude.{◌≡◌, ℕ, ◌+◌, ◌^◌, ◌<◌, ◌≤◌, ◌⊎◌, ◌==◌, Bool, false, List, [], ◌∷◌, ◌++◌, length, Option, Some, None, Result, Ok, Err}
+use Rattle.std.specs.Prelude.{◌≡◌, ℕ, ◌+◌, ◌≤◌, ◌==◌, Bool, false, List, [], ◌∷◌, ◌++◌, length, Option, Some, None, Result, Ok, Err}
 use Rattle.std.specs.Io.KnownBytes.{Consumes}
 use Rattle.tftp_capture.specs.declared.fault.TextFault.TheVariants.{Truncated}
 use Rattle.tftp_capture.specs.declared.fault.CaptureFault.{CaptureFault}
@@ -9,7 +9,7 @@ use Rattle.tftp_capture.specs.declared.standing.Standing.TheVariants.{Open, Over
 use Rattle.tftp_capture.specs.declared.datagram.Datagram.{Datagram as Owned}
 use Rattle.tftp_capture.specs.declared.version.Version.{Version}
 use Rattle.std.specs.List.{slice_split}
-use Rattle.tftp_capture.specs.CaptureText.{Datagram, Header, Numbered, Due, Stands, Unfinished, IsCapture, IsOver, HasFault, said, head_line, end_line, service_line}
+use Rattle.tftp_capture.specs.CaptureText.{Datagram, Header, Numbered, Due, Stands, Unfinished, IsCapture, HasFault, said, head_line, end_line, service_line}
 use Rattle.tftp_capture.specs.CaptureText.Due.{Body}
 use Rattle.tftp_capture.specs.Lines.{LineState}
 use Rattle.tftp_streams.specs.{most_ahead}
@@ -38,14 +38,6 @@ FaultTells (Text line fault) text datagrams = HasFault text datagrams line fault
 FaultTells (Read line) text datagrams = (due : Due) × Unfinished text datagrams line due
 FaultTells (Memory line) text datagrams = Unit {0}
 
--- Memory was refused while the line was read: no byte of it or before it is wrong, and all of it that was read is taken;
--- what is ahead is nothing, or begins with its LF, for which the text has room.
-pub record IsBeingRead (text ahead : List ℕ) (datagrams : List Numbered) (line : ℕ) : Type 0 where
-  pub due : Due
-  pub unfinished : Unfinished text datagrams line due
-  pub goes_on : IsOver due → ⊥
-  pub ends : (ahead ≡ []) ⊎ ((more : List ℕ) × (ahead ≡ 10 ∷ more) × (length text < 2 ^ 40))
-
 -- memory was refused for the datagram that the line says, the last of the whole lines that were taken
 pub record SaysOneMore (text : List ℕ) (datagrams : List Numbered) (line : ℕ) : Type 0 where
   pub version : Version
@@ -55,19 +47,24 @@ pub record SaysOneMore (text : List ℕ) (datagrams : List Numbered) (line : ℕ
   pub stands : Stands text lines [] (Body version header) (datagrams ++ (line, datagram) ∷ [])
   pub at_line : line ≡ length lines
 
--- what want of memory says of the bytes that were taken, of those ahead, and of the datagrams that were given before it:
--- no byte that was taken is wrong, and the line is the one that was being read
-abbrev pub MemoryTells : CaptureFault → List ℕ → List ℕ → List Numbered → Type 0
-MemoryTells (Text line fault) text ahead datagrams = Unit {0}
-MemoryTells (Read line) text ahead datagrams = Unit {0}
-MemoryTells (Memory line) text ahead datagrams = IsBeingRead text ahead datagrams line ⊎ SaysOneMore text datagrams line
+-- what want of memory says of the bytes that were taken, and of the datagrams that were given before it
+abbrev pub MemoryTells : CaptureFault → List ℕ → List Numbered → Type 0
+MemoryTells (Text line fault) text datagrams = Unit {0}
+MemoryTells (Read line) text datagrams = Unit {0}
+MemoryTells (Memory line) text datagrams = SaysOneMore text datagrams line
 
 -- the same of the answer of a reader that went on
-abbrev pub WantTells : Standing → Result (Option Owned) CaptureFault → List ℕ → List ℕ → List Numbered → Type 0
-WantTells Open (Ok _) text ahead datagrams = Unit {0}
-WantTells Open (Err fault) text ahead datagrams = MemoryTells fault text ahead datagrams
-WantTells Over result text ahead datagrams = Unit {0}
-WantTells (Failed fault) result text ahead datagrams = Unit {0}
+abbrev pub WantTells : Standing → Result (Option Owned) CaptureFault → List ℕ → List Numbered → Type 0
+WantTells Open (Ok _) text datagrams = Unit {0}
+WantTells Open (Err fault) text datagrams = MemoryTells fault text datagrams
+WantTells Over result text datagrams = Unit {0}
+WantTells (Failed fault) result text datagrams = Unit {0}
+
+-- Before the header was read memory is wanted for the first line alone, and then no byte was read.
+abbrev pub FirstTells : CaptureFault → List ℕ → List ℕ → Type 0
+FirstTells (Text line fault) text ahead = Unit {0}
+FirstTells (Read line) text ahead = Unit {0}
+FirstTells (Memory line) text ahead = (line ≡ 1) × (text ≡ []) × (ahead ≡ [])
 
 -- The text is whole lines: the first line, the end line, and on line n the service line, before any other line that
 -- says something.
@@ -114,14 +111,14 @@ pub record Answers (before after : Option (List ℕ)) (result : Result (Option O
   pub taken : List ℕ
   pub consumed : Consumes before after taken
   pub tells : AnswerTells result header state count (text ++ taken) datagrams
-  pub memory : WantTells Open result (text ++ taken) state.ahead datagrams
+  pub memory : WantTells Open result (text ++ taken) datagrams
 
 -- bytes were taken, and with them the reader stands for the history that the answer adds to
 pub record Continues (old new : ReaderState) (before after : Option (List ℕ)) (result : Result (Option Owned) CaptureFault) (text : List ℕ) (datagrams : List Numbered) : Type 0 where
   pub taken : List ℕ
   pub consumed : Consumes before after taken
   pub stands : StandsFor new (text ++ taken) (with_answer datagrams new.handed result)
-  pub memory : WantTells old.standing result (text ++ taken) new.lines.ahead datagrams
+  pub memory : WantTells old.standing result (text ++ taken) datagrams
 
 -- whether a fault, or the answer of a reader that has stopped, is that a read failed
 abbrev pub IsReadFault : CaptureFault → Type 0
@@ -150,7 +147,7 @@ pub record FailsToBegin (before after : Option (List ℕ)) (fault : CaptureFault
   pub drained : IsReadFault fault → ahead ≡ []
   pub ended : IsAtTextEnd fault → ahead ≡ []
   pub near : length ahead ≤ most_ahead
-  pub memory : MemoryTells fault taken ahead []
+  pub memory : FirstTells fault taken ahead
 
 -- the answer of a reader that goes on no more
 abbrev pub KeepsAnswer : Standing → Result Bool CaptureFault → Type 0

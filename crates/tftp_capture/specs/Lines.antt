@@ -1,5 +1,5 @@
 -- Where the lines of a reader end, in its bytes.
-use Rattle.std.specs.Prelude.{◌≡◌, ◌≢◌, ℕ, ◌+◌, ◌-◌, ◌^◌, ◌<◌, ◌≤◌, ◌⊎◌, Bool, true, false, List, [], ◌∷◌, ◌++◌, length, take, All, Option, Result, Ok, Err, OnOk, OnErr}
+use Rattle.std.specs.Prelude.{◌≡◌, ◌≢◌, ℕ, ◌+◌, ◌-◌, ◌^◌, ◌<◌, ◌≤◌, Bool, true, false, List, [], ◌∷◌, ◌++◌, length, take, All, Option, Result, Ok, Err, OnOk, OnErr}
 use Rattle.std.specs.Io.KnownBytes.{Consumes}
 use Rattle.tftp_capture.specs.CaptureText.{longest_line, says_nothing, whole_lines}
 use Rattle.tftp_capture.specs.declared.fault.TextFault.TheVariants.{LineTooLong, Truncated, TrailingText, TextTooLong}
@@ -35,13 +35,14 @@ pub record IsPartOfLine (bytes : List ℕ) (longest room : ℕ) : Type 0 where
 
 -- What the bytes are that were taken to find the end of a line of at most `longest` bytes, where the text may have `room`
 -- more: the line and its LF; or, where there is no line, what came up to the byte that can't stand there, or up to the text's end.
+-- No line wants memory.
 abbrev pub LineEnds : {T : Type 0} → Result T LineError → List ℕ → (longest room : ℕ) → List ℕ → Type 0
 LineEnds (Ok _) line longest room bytes = (bytes ≡ line ++ 10 ∷ []) × IsPartOfLine line longest room × (length line < room)
 LineEnds (Err (Text LineTooLong)) line longest room bytes = (byte : ℕ) × HasByteAt bytes longest byte × (byte ≢ 10) × (longest < room)
 LineEnds (Err (Text TextTooLong)) line longest room bytes = (byte : ℕ) × HasByteAt bytes room byte × (room ≤ longest)
 LineEnds (Err (Text Truncated)) line longest room bytes = IsPartOfLine bytes longest room
 LineEnds (Err Read) line longest room bytes = IsPartOfLine bytes longest room
-LineEnds (Err Memory) line longest room bytes = IsPartOfLine bytes longest room
+LineEnds (Err Memory) line longest room bytes = ⊥
 LineEnds (Err (Text _)) line longest room bytes = ⊥
 
 -- how many of the bytes read ahead are a line with its LF that lies there
@@ -52,14 +53,6 @@ bytes_lying (Err error) = 0
 -- the line that lies there so
 abbrev pub line_at : (lies : ℕ) (ahead : List ℕ) → List ℕ
 line_at lies ahead = take (lies - 1) ahead
-
--- Where memory was refused in a line, all of it that was read is taken: nothing is ahead, or its LF is, for which the
--- text has room.
-abbrev pub LeavesEnd : {T : Type 0} → Result T LineError → ℕ → List ℕ → List ℕ → Type 0
-LeavesEnd (Err Memory) room bytes ahead = (ahead ≡ []) ⊎ ((more : List ℕ) × (ahead ≡ 10 ∷ more) × (length bytes < room))
-LeavesEnd (Err Read) room bytes ahead = Unit {0}
-LeavesEnd (Err (Text _)) room bytes ahead = Unit {0}
-LeavesEnd (Ok _) room bytes ahead = Unit {0}
 
 -- ---- lines, one after another
 
@@ -114,7 +107,6 @@ pub record ReachesLine {T : Type 0} (result : Result T LineError) (old new : Lin
   pub consumed : Consumes before after (whole_lines skipped ++ bytes)
   pub short : old.taken + length (whole_lines skipped) ≤ 2 ^ 40
   pub ends : LineEnds result new.line (longest_line old.version) (2 ^ 40 - (old.taken + length (whole_lines skipped))) bytes
-  pub leaves : LeavesEnd result (2 ^ 40 - (old.taken + length (whole_lines skipped))) bytes new.ahead
   pub said : OnOk result (says_nothing new.line ≡ false)
   pub taken : OnOk result (new.taken ≡ old.taken + length (whole_lines skipped) + length bytes)
   pub count : OnOk result (new.count ≡ old.count + length skipped + 1)

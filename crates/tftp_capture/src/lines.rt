@@ -1,6 +1,6 @@
 ghost use Rattle.std.specs.Prelude.{◌≡◌, ◌≢◌, ◌+◌, ◌-◌, ◌^◌, ◌≤◌, ◌⊎◌, ℕ, List, [], length, true, false, IfOk, OnOk, OnErr};
 ghost use Rattle.std.specs.Io.KnownBytes.{prepend_known, Consumes, IsAtEnd};
-ghost use Rattle.tftp_capture.specs.Lines.{unread, HoldsLine, HoldsNoLine, LeavesEnd, LineEnds, ReachesLine, TextEnds};
+ghost use Rattle.tftp_capture.specs.Lines.{unread, HoldsLine, HoldsNoLine, LineEnds, ReachesLine, TextEnds};
 ghost use Rattle.tftp_streams.specs.{most_ahead};
 ghost use Rattle.tftp_capture.specs.CaptureText.{longest_line, says_nothing};
 
@@ -132,7 +132,7 @@ impl Lines {
     /// Reads the next line.
     pub fn next<R: Read>(&mut self, reader: &mut Latched<R>) -> Result<(), LineError>
         ensures ends { (bytes : List ℕ) × Consumes (prepend_known self.old.ahead (R.remaining reader.old.0)) (prepend_known self.new.ahead (R.remaining reader.new.0)) bytes
-            × LineEnds result self.new.line (longest_line self.old.version) (2 ^ 40 - self.old.taken) bytes × LeavesEnd result (2 ^ 40 - self.old.taken) bytes self.new.ahead }
+            × LineEnds result self.new.line (longest_line self.old.version) (2 ^ 40 - self.old.taken) bytes }
         ensures taken { OnOk result (self.new.taken ≡ self.old.taken + length self.new.line + 1) }
         ensures count { OnOk result (self.new.count ≡ self.old.count + 1) }
         ensures same { OnErr result ((self.new.taken ≡ self.old.taken) × (self.new.count ≡ self.old.count)) }

@@ -3,7 +3,7 @@ use Rattle.std.proofs.Common.{◌≡◌, ℕ, ◌+◌, ◌≤◌, lit≤, ◌⊎
 use Rattle.std.specs.Io.KnownBytes.{Consumes, IsAtEnd, prepend_known}
 use Rattle.std.proofs.KnownBytes.{Consumes-trans}
 use Rattle.std.proofs.lemmas.List.{length-map, length-reverse, map-append, reverse-append, reverse-reverse}
-use Rattle.tftp_capture.specs.{Begins, IsCapture, Numbered, Stands, Version, datagram_of, Continues, GoesOn, IsAtTextEnd, IsReadFault, MemoryTells, ReaderState, StandingTells, StandsFor, WantTells, standing_after, with_answer, CaptureFault, Open, Over, Failed}
+use Rattle.tftp_capture.specs.{Begins, IsCapture, Numbered, Stands, Version, datagram_of, Continues, GoesOn, IsAtTextEnd, IsReadFault, ReaderState, StandingTells, StandsFor, WantTells, standing_after, with_answer, CaptureFault, Open, Over, Failed}
 use Rattle.tftp_streams.specs.{most_ahead}
 use Rattle.tftp_capture.specs.CaptureText.Due.{Body}
 use Rattle.tftp_capture.specs.declared.datagram.Datagram.{Datagram as Owned}
@@ -14,7 +14,7 @@ use Rattle.tftp_law.specs.{IsLawful, OneEnded, Passes, FirstBroken, Rule}
 use Rattle.tftp_law.proofs.Whole.TwoEnds.{lawful}
 use Rattle.tftp_judge.specs.{Refuses, IsJudgeAfter, Judge, EndsText, IsReadVerdict, IsTextVerdict, SaysReadFailed, WantsToJudge, unnumbered, Verdict, IsUnlawfulAt, IsVerdict, Refusal, Unlawful, Capture, Refused}
 use Rattle.tftp_judge.specs.declared.refusal.Refusal.TheVariants.{Memory}
-use Rattle.tftp_judge.proofs.FirstFaults.{begins_longer, lawful_in, told_alone}
+use Rattle.tftp_judge.proofs.FirstFaults.{begins_longer, lawful_in, wants_more}
 use Rattle.tftp_judge.proofs.TextFound.{Closed, Found, Stays, closed, failed_or, found_by_fault}
 
 -- bytes were taken, the reader goes on after the datagrams that it gave, and the judge stands for them
@@ -131,10 +131,6 @@ near_of : (held ahead : List ℕ) → (ahead ≡ []) ⊎ (ahead ≡ held) → le
 near_of held ahead (inl none) near = omega (arith, ap length none)
 near_of held ahead (inr same) near = omega (arith, ap length same, near)
 
-told_of : (text held ahead : List ℕ) (ds : List Numbered) (fault : CaptureFault) → (ahead ≡ []) ⊎ (ahead ≡ held) → MemoryTells fault text held ds → MemoryTells fault text ahead ds
-told_of text held ahead ds fault (inl none) tells = subst (λ l. MemoryTells fault text l ds) (sym none) (told_alone text held ds fault tells)
-told_of text held ahead ds fault (inr same) tells = subst (λ l. MemoryTells fault text l ds) (sym same) tells
-
 module _ (before now after : Option (List ℕ)) (old new : ReaderState) (judge : Judge) (ready : old.standing ≡ Open) (follows : Follows before now old judge) where
   abbrev rest : Option (List ℕ)
   rest = prepend_known new.lines.ahead after
@@ -158,8 +154,8 @@ module _ (before now after : Option (List ℕ)) (old new : ReaderState) (judge :
     tells : new.standing ≡ standing_after result → StandingTells (standing_after result) new all (with_answer follows.datagrams new.handed result)
     tells is = subst (λ s. StandingTells s new all (with_answer follows.datagrams new.handed result)) is step.stands
 
-    want : WantTells Open result all new.lines.ahead follows.datagrams
-    want = subst (λ s. WantTells s result all new.lines.ahead follows.datagrams) ready step.memory
+    want : WantTells Open result all follows.datagrams
+    want = subst (λ s. WantTells s result all follows.datagrams) ready step.memory
 
     begins : Begins all old.header follows.datagrams
     begins = begins_more follows.taken step.taken follows.goes_on.lines old.header follows.datagrams follows.goes_on.stands
@@ -178,7 +174,7 @@ module _ (before now after : Option (List ℕ)) (old new : ReaderState) (judge :
         taken = text;
         ahead = close.ahead;
         consumed = close.consumed;
-        said = found_by_fault after text close.ahead follows.datagrams fault (tells (Err fault) goes is) (told_of text new.lines.ahead close.ahead follows.datagrams fault close.all_held (want (Err fault) goes)) (near_of new.lines.ahead close.ahead close.all_held near) close.ended close.drained
+        said = found_by_fault after text close.ahead follows.datagrams fault (tells (Err fault) goes is) (wants_more text close.ahead follows.datagrams fault (want (Err fault) goes)) (near_of new.lines.ahead close.ahead close.all_held near) close.ended close.drained
             (λ more. lawful_in (text ++ more) old.header follows.datagrams (begins_longer text more old.header follows.datagrams first) are_lawful);
         ended = λ h. (close.ended h).1;
         failing = read;

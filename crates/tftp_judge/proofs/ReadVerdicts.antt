@@ -1,16 +1,22 @@
 -- What is said of what was read is said of it as a text.
-use Rattle.std.proofs.Common.{ℕ, List, [], Result, Err, sym, subst, append-nil}
+use Rattle.std.proofs.Common.{ℕ, inl, inr, List, [], Result, Err, sym, subst, append-nil}
 use Rattle.tftp_capture.specs.declared.fault.CaptureFault.TheVariants.{Memory}
 use Rattle.tftp_model.specs.{Meaning}
-use Rattle.tftp_judge.specs.{IsLineOf, IsReadVerdict, IsTextVerdict, NoFaultBefore, WantsToRead, Verdict, Capture, Refused}
+use Rattle.tftp_judge.specs.{IsReadVerdict, IsTextVerdict, MayWantAt, NoFaultBefore, WantsToRead, Verdict, Capture, Refused}
 use Rattle.tftp_judge.specs.declared.refusal.Refusal.TheVariants as refusal
-use Rattle.tftp_judge.proofs.WantOfMemory.{line_of, no_fault_before}
+use Rattle.tftp_judge.proofs.WantOfMemory.{no_fault_before, wanted_at, wants_first_line}
 
-line_read : (read : List ℕ) (line : ℕ) → WantsToRead read line → IsLineOf read line
-line_read read line wants = subst (λ t. IsLineOf t line) (sym wants.to.0) (line_of wants.taken wants.ahead wants.ahead wants.datagrams line wants.tells)
+line_read : (read : List ℕ) (line : ℕ) → WantsToRead read line → MayWantAt read line
+line_read read line wants = elim wants.wants as (λ _. MayWantAt read line) [
+  | inl first ↦ inl first.1
+  | inr said ↦ subst (λ t. MayWantAt t line) (sym wants.to.0) (wanted_at wants.taken wants.ahead wants.datagrams line said)
+]
 
 faults_read : (read : List ℕ) (line : ℕ) → WantsToRead read line → NoFaultBefore read line
-faults_read read line wants = subst (λ t. NoFaultBefore t line) (sym wants.to.0) (no_fault_before wants.taken wants.ahead wants.ahead wants.datagrams line wants.tells)
+faults_read read line wants = elim wants.wants as (λ _. NoFaultBefore read line) [
+  | inl first ↦ subst (NoFaultBefore read) (sym first.1) (wants_first_line read).1
+  | inr said ↦ subst (λ t. NoFaultBefore t line) (sym wants.to.0) (no_fault_before wants.taken wants.ahead wants.datagrams line said)
+]
 
 pub read_is_text : (read : List ℕ) (r : Result Meaning Verdict) → IsReadVerdict read r → IsTextVerdict read r
 read_is_text read (Err (Refused (refusal.Memory count))) wants = (read, [], sym (append-nil read), wants)

@@ -1,5 +1,5 @@
 -- Two texts that are the same capture, in as many lines, have the same verdicts; so have a text and the same in version 2.
-use Rattle.std.proofs.Common.{◌≡◌, ℕ, ◌+◌, ◌^◌, ◌≤◌, ◌==◌, ◌↔◌, lit≤, List, [], ◌∷◌, ◌++◌, All, reverse, length, map as each, Result, Ok, Err, refl, sym, ap, ◌∙◌, subst, arith, append_assoc, append-nil, length-append}
+use Rattle.std.proofs.Common.{◌≡◌, ℕ, ◌+◌, ◌^◌, ◌≤◌, ◌==◌, ◌↔◌, lit≤, inl, inr, List, [], ◌∷◌, ◌++◌, All, reverse, length, map as each, Result, Ok, Err, refl, sym, ap, ◌∙◌, subst, arith, append_assoc, append-nil, length-append}
 use Rattle.std.specs.List.{join_with_byte, slice_split}
 use Rattle.std.proofs.lemmas.List.{length-map}
 use Rattle.std.proofs.lemmas.List.Elements.{All-cons, All-tail}
@@ -15,7 +15,7 @@ use Rattle.tftp_capture.proofs.Readings.{reads_same}
 use Rattle.tftp_hosts.specs.{Header}
 use Rattle.tftp_model.specs.{Meaning}
 use Rattle.tftp_law.specs.{IsLawful}
-use Rattle.tftp_judge.specs.{AllLawful, IsCaptureBy, IsTextVerdict, LawfulBefore, WantsToJudge, unnumbered, TakesMemory, IsVerdict, Verdict, Refusal, Unlawful, Aborted, Incomplete, NormalTooLong}
+use Rattle.tftp_judge.specs.{AllLawful, IsCaptureBy, IsTextVerdict, LawfulBefore, MayWantAt, WantsToJudge, unnumbered, TakesMemory, IsVerdict, Verdict, Refusal, Unlawful, Aborted, Incomplete, NormalTooLong}
 use Rattle.tftp_judge.specs.declared.verdict.Verdict.TheVariants as verdict
 use Rattle.tftp_judge.specs.declared.refusal.Refusal.TheVariants.{Memory as NoMemory}
 use Rattle.tftp_judge.proofs.FirstLines.{capture_begins_front}
@@ -47,6 +47,13 @@ module _ (one two : List ℕ) (h : Header) (ds : List Numbered) (first : IsCaptu
       let header : k ≡ h = cc in
       let list : es ≡ ds = cc in
       (h, ds, second, subst (λ x. IsVerdict h (unnumbered x) v) list (subst (λ x. IsVerdict x (unnumbered es) v) header is))
+
+  -- where memory may be wanting in one, it may be in the other
+  wanted_both : (line : ℕ) → MayWantAt one line → MayWantAt two line
+  wanted_both line (inl first_line) = inl first_line
+  wanted_both line (inr (k, es, d, begins)) =
+      let all = es ++ (line, d) ∷ [] in
+      inr (h, es, d, capture_begins_front two h ds all second (capture_has one h k ds all first begins).1)
 
   -- memory was wanting for the same datagram
   wants_both : (count : ℕ) (read more : List ℕ) → one ≡ read ++ more → WantsToJudge read count → (read more : List ℕ) × (two ≡ read ++ more) × WantsToJudge read count
@@ -95,7 +102,7 @@ module _ (one two : List ℕ) (h : Header) (ds : List Numbered) (first : IsCaptu
       let there : line_count two ≡ length second.1 + 1 = ap length second.2.divided ∙ length-append second.1 ([] ∷ []) in
       ((ds, Nothing second.0 h, record { lines = second.1; rest = []; stands = second.2; at_line = ends.at_line ∙ sym here ∙ lines ∙ there }), all_lawful lawful)
   same_verdict lines (Err (verdict.Capture (Memory line))) (of, faults, before) =
-      ((of.0, omega (arith, of.1, lines)), (λ es at fault has. absurd (captured_or_faulty two h ds es at fault second has)), before_both line before)
+      (wanted_both line of, (λ es at fault has. absurd (captured_or_faulty two h ds es at fault second has)), before_both line before)
 
 -- ---- in version 2
 

@@ -1,14 +1,14 @@
 -- What was found in the bytes of a reader.
 use Rattle.std.proofs.Common.{◌≡◌, ◌≤◌, ◌⊎◌, ℕ, inl, inr, Bool, true, false, true≢false, List, [], ◌∷◌, ◌++◌, length, Option, Some, None, Result, Err, refl, sym, ap, ◌∙◌, subst, arith, append_assoc, append-nil}
 use Rattle.std.specs.Io.KnownBytes.{Consumes, IsAtEnd, prepend_known}
-use Rattle.tftp_capture.specs.{Numbered, FailsToBegin, FaultTells, IsAtTextEnd, IsReadFault, MemoryTells, CaptureFault}
+use Rattle.tftp_capture.specs.{Numbered, FailsToBegin, FaultTells, IsAtTextEnd, IsReadFault, CaptureFault}
 use Rattle.tftp_streams.specs.{most_ahead}
 use Rattle.tftp_capture.specs.declared.fault.CaptureFault.TheVariants.{Text, Read, Memory}
 use Rattle.tftp_capture.proofs.Headers.{at_end_rest}
 use Rattle.tftp_model.specs.{Meaning}
 use Rattle.tftp_judge.specs.{EndsText, IsOfText, IsReadVerdict, IsTextVerdict, SaysReadFailed, WantsMemory, Verdict, Capture, Refused}
 use Rattle.tftp_judge.specs.declared.refusal.Refusal.TheVariants as refusal
-use Rattle.tftp_judge.proofs.FirstFaults.{LawfulIn, fault_alone, fault_here, fault_kinds, fault_longer, fault_read, none_in}
+use Rattle.tftp_judge.proofs.FirstFaults.{LawfulIn, Wants, fault_alone, fault_here, fault_kinds, fault_longer, fault_read, none_in, wants_first}
 use Rattle.tftp_judge.proofs.OneTextVerdict.{one_text_verdict}
 
 -- bytes were taken and some read ahead, none where a read failed or the text has ended
@@ -106,16 +106,16 @@ module _ (before after : Option (List ℕ)) (failed : Bool) (r : Result Meaning 
 -- ---- the kinds of faults
 
 -- a fault that stays whatever follows, or that is said of the bytes that were taken alone
-pub found_by_fault : (after : Option (List ℕ)) (text ahead : List ℕ) (ds : List Numbered) (fault : CaptureFault) → FaultTells fault text ds → MemoryTells fault text ahead ds → length ahead ≤ most_ahead
+pub found_by_fault : (after : Option (List ℕ)) (text ahead : List ℕ) (ds : List Numbered) (fault : CaptureFault) → FaultTells fault text ds → Wants fault text ahead ds → length ahead ≤ most_ahead
     → (IsAtTextEnd fault → (ahead ≡ []) × IsAtEnd after) → (IsReadFault fault → ahead ≡ []) → ((more : List ℕ) → LawfulIn (text ++ more) ds) → Stays text ahead (Err (Capture fault)) ⊎ Ends after text ahead (Err (Capture fault))
-found_by_fault after text ahead ds fault tells memory near end drained lawful = elim (fault_kinds fault) as (λ _. Stays text ahead (Err (Capture fault)) ⊎ Ends after text ahead (Err (Capture fault))) [
-  | inl may ↦ inl (record { longer = λ more. fault_longer text ahead ds fault tells memory more may (lawful more); read = fault_read text ahead ds fault tells memory may near (lawful ahead) })
+found_by_fault after text ahead ds fault tells wants near end drained lawful = elim (fault_kinds fault) as (λ _. Stays text ahead (Err (Capture fault)) ⊎ Ends after text ahead (Err (Capture fault))) [
+  | inl may ↦ inl (record { longer = λ more. fault_longer text ahead ds fault tells wants more may (lawful more); read = fault_read text ahead ds fault tells wants may near (lawful ahead) })
   | inr (inl ends) ↦ inr (record { all = (end ends).0; is = here; read = fault_alone text fault here (inl ends); why = inl (end ends).1 })
   | inr (inr reads) ↦ inr (record { all = drained reads; is = here; read = fault_alone text fault here (inr reads); why = inr reads })
 ]
   where
     here : IsTextVerdict text (Err (Capture fault))
-    here = fault_here text ahead ds fault tells memory (subst (λ t. LawfulIn t ds) (append-nil text) (lawful []))
+    here = fault_here text ahead ds fault tells wants (subst (λ t. LawfulIn t ds) (append-nil text) (lawful []))
 
 -- ---- a text whose header is not read
 
@@ -131,7 +131,7 @@ found_no_header before after failed fault fails end read clean = record {
   taken = fails.taken;
   ahead = fails.ahead;
   consumed = fails.consumed;
-  said = found_by_fault after fails.taken fails.ahead [] fault fails.tells fails.memory fails.near (λ h. (fails.ended h, end h)) fails.drained (λ more. none_in (fails.taken ++ more));
+  said = found_by_fault after fails.taken fails.ahead [] fault fails.tells (wants_first fails.taken fails.ahead [] fault fails.memory) fails.near (λ h. (fails.ended h, end h)) fails.drained (λ more. none_in (fails.taken ++ more));
   ended = end;
   failing = λ h. read h;
   latched = failed_or fault failed clean;

@@ -10,7 +10,7 @@ pub mod Extracted
 pub mod Exchanges
 pub mod Contents
 pub use Verdicts.{IsSaid, IsUnlawfulAt, IsVerdict, IsVerdictBy, IsVerdictByRules}
-pub use TextVerdict.{AllLawful, BeginsBy, EndsText, IsCaptureBy, IsFaultOf, IsLineOf, IsOfText, IsReadVerdict, IsTextVerdict, LawfulBefore, NoFaultBefore, SaysReadFailed, WantsMemory, WantsToJudge, WantsToRead, unnumbered}
+pub use TextVerdict.{AllLawful, BeginsBy, EndsText, IsCaptureBy, IsFaultOf, IsOfText, IsReadVerdict, IsTextVerdict, LawfulBefore, MayWantAt, NoFaultBefore, SaysReadFailed, WantsMemory, WantsToJudge, WantsToRead, unnumbered}
 pub use Ending.{IsUnfinished}
 pub use Kept.{Agreed, AreBytesOf, AreErrors, Begun, ErrorText, Errors, HasBegun, HasKept, IsExchange, IsErrorOf, IsJudgeAfter, IsKept, IsTransferAfter, IsTransferOf, Judge, JudgeState, Transfer, Unanswered}
 pub use SentByKept.{AreFlags, HasAgreed, HasBlock, HasSentBy, HasSentIn, IsAgreedBy, flags_of}

@@ -1,7 +1,6 @@
 -- What there is to say of a capture text, by the runs of two ends.
-use Rattle.std.specs.List.{slice_split}
-use Rattle.std.specs.Prelude.{◌≡◌, ◌==◌, List, [], ◌∷◌, ◌++◌, ℕ, ◌<◌, ◌≤◌, All, length, map, reverse, Result, Ok, Err}
-use Rattle.tftp_capture.specs.{Begins, Due, HasFault, IsCapture, Numbered, Stands, Unfinished, IsAtTextEnd, IsReadFault, MemoryTells, Version, TextFault, CaptureFault}
+use Rattle.std.specs.Prelude.{◌≡◌, List, [], ◌∷◌, ◌++◌, ℕ, ◌<◌, ◌≤◌, ◌⊎◌, All, length, map, reverse, Result, Ok, Err}
+use Rattle.tftp_capture.specs.{Begins, Due, HasFault, IsCapture, Numbered, Stands, Unfinished, IsAtTextEnd, IsReadFault, SaysOneMore, Version, TextFault, CaptureFault}
 use Rattle.tftp_streams.specs.{most_ahead}
 use Rattle.tftp_capture.specs.CaptureText.Due.{Body}
 use Rattle.tftp_capture.specs.declared.fault.CaptureFault.TheVariants.{Text, Read, Memory}
@@ -42,14 +41,14 @@ LawfulBefore text line =
 abbrev pub IsReadTo : List ℕ → List ℕ → List ℕ → Type 0
 IsReadTo read taken ahead = (read ≡ taken ++ ahead) × (length ahead ≤ most_ahead)
 
--- The reader wanted memory for this line: no byte that was taken is wrong, and the line is the one that was being read, or
--- the last that was taken, which says a datagram.
+-- The reader wanted memory for this line: the first, before any byte was read, or the last that was taken, which says a
+-- datagram.
 pub record WantsToRead (read : List ℕ) (line : ℕ) : Type 0 where
   pub taken : List ℕ
   pub ahead : List ℕ
   pub datagrams : List Numbered
   pub to : IsReadTo read taken ahead
-  pub tells : MemoryTells (Memory line) taken ahead datagrams
+  pub wants : ((read ≡ []) × (line ≡ 1)) ⊎ SaysOneMore taken datagrams line
 
 -- The judge wanted memory for the last datagram on the lines that were taken, which has so many before it: with it they are
 -- lawful, and it is one for which memory is taken.
@@ -69,9 +68,9 @@ pub record WantsToJudge (read : List ℕ) (count : ℕ) : Type 0 where
 
 -- ---- what is said
 
--- the text has so many lines, with what is left after its last LF
-abbrev pub IsLineOf : List ℕ → ℕ → Type 0
-IsLineOf text line = (1 ≤ line) × (line ≤ length (slice_split (λ b. b == 10) text))
+-- memory may be wanted for the first line, before any byte is read, and for a line that says a datagram
+abbrev pub MayWantAt : List ℕ → ℕ → Type 0
+MayWantAt text line = (line ≡ 1) ⊎ ((header : Header) × (datagrams : List Numbered) × (datagram : Datagram) × Begins text header (datagrams ++ (line, datagram) ∷ []))
 
 -- the text's fault, if it has one, is on this line or after it
 abbrev pub NoFaultBefore : List ℕ → ℕ → Type 0
@@ -81,12 +80,12 @@ NoFaultBefore text line = (datagrams : List Numbered) (at : ℕ) (fault : TextFa
 abbrev pub IsFaultOf : List ℕ → CaptureFault → Type 0
 IsFaultOf text (Text line fault) = ((datagrams : List Numbered) × HasFault text datagrams line fault) × AllLawful text
 IsFaultOf text (Read line) = ((datagrams : List Numbered) × (due : Due) × Unfinished text datagrams line due) × AllLawful text
-IsFaultOf text (Memory line) = IsLineOf text line × NoFaultBefore text line × LawfulBefore text line
+IsFaultOf text (Memory line) = MayWantAt text line × NoFaultBefore text line × LawfulBefore text line
 
 -- The first unlawful datagram on the lines before the text's first fault; else that fault; else what is said of the
--- datagrams. A text whose reading failed is what came before. Want of memory may be said of a line before which there is
--- no fault and the datagrams are lawful, or of a datagram that takes memory after others with which it is lawful; never of
--- the meaning of all.
+-- datagrams. A text whose reading failed is what came before. Want of memory may be said of the first line, or of one that
+-- says a datagram, before which there is no fault and the datagrams are lawful; or of a datagram that takes memory after
+-- others with which it is lawful; never of the meaning of all.
 abbrev pub IsTextVerdict : List ℕ → Result Meaning Verdict → Type 0
 IsTextVerdict text (Ok m) = IsCaptureBy text (Ok m)
 IsTextVerdict text (Err (Refused (refusal.Unlawful index rule))) = BeginsBy text (Err (refusal.Unlawful index rule))

@@ -1,4 +1,4 @@
-use Rattle.std.proofs.Common.{false, [], Ok, Err, ap, reverse, subst, arith}
+use Rattle.std.proofs.Common.{[], Ok, Err, ap, reverse, subst, arith}
 use Rattle.std.specs.Io.KnownBytes.{prepend_known}
 use Rattle.std.proofs.lemmas.Result.{err_from_is_err_and}
 use Rattle.tftp_capture.specs.{IsReadFault, IsReadStanding}

@@ -10,7 +10,7 @@ returns-in_default-clause-err g c = refused_at_once (g.R.Read.remaining c.args.r
 pub returns-in-Err-clause-err : goal.returns-in-Err-clause-err
 returns-in-Err-clause-err g c =
     let ends = rw c.in-Ok.ensures at c.in-Err.ensures.ends in
-    fails_to_begin (g.R.Read.remaining c.args.reader.now.0) (g.R.Read.remaining c.next.new.reader.0) c.next.new.self.ahead c.at.result c.next.ensures.near (λ h. c.in-Err.ensures.drained (ap Err (at_read c.in-Err.error _ (rw c.at.ensures at h)))) (λ h. c.in-Err.ensures.end (ap Err (at_text_end c.in-Err.error _ (rw c.at.ensures at h)))) (rw c.at.ensures (head_stop _ _ c.next.new.self.line _ c.next.new.self.ahead c.in-Err.error ends.1 ends.2 ends.3))
+    fails_to_begin (g.R.Read.remaining c.args.reader.now.0) (g.R.Read.remaining c.next.new.reader.0) c.next.new.self.ahead c.at.result c.next.ensures.near (λ h. c.in-Err.ensures.drained (ap Err (at_read c.in-Err.error _ (rw c.at.ensures at h)))) (λ h. c.in-Err.ensures.end (ap Err (at_text_end c.in-Err.error _ (rw c.at.ensures at h)))) (rw c.at.ensures (head_stop _ _ c.next.new.self.line _ c.next.new.self.ahead c.in-Err.error ends.1 ends.2))
 
 pub returns-in_default-of-clause-err : goal.returns-in_default-of-clause-err
 returns-in_default-of-clause-err g c =
