@@ -1,18 +1,16 @@
 -- What a reader of captures holds, and for what bytes and datagrams it stands.
-use Rattle.std.specs.Prelude.{◌≡◌, ℕ, ◌+◌, ◌≤◌, ◌==◌, Bool, false, List, [], ◌∷◌, ◌++◌, length, Option, Some, None, Result, Ok, Err}
+use Rattle.std.specs.Prelude.{◌≡◌, ℕ, ◌+◌, ◌≤◌, ◌==◌, Bool, true, false, List, [], ◌∷◌, ◌++◌, length, Option, Some, None, Result, Ok, Err}
 use Rattle.std.specs.Io.KnownBytes.{Consumes}
 use Rattle.tftp_capture.specs.declared.fault.TextFault.TheVariants.{Truncated}
 use Rattle.tftp_capture.specs.declared.fault.CaptureFault.{CaptureFault}
 use Rattle.tftp_capture.specs.declared.fault.CaptureFault.TheVariants.{Text, Read, Memory}
-use Rattle.tftp_capture.specs.declared.standing.Standing.{Standing}
-use Rattle.tftp_capture.specs.declared.standing.Standing.TheVariants.{Open, Over, Failed}
 use Rattle.tftp_capture.specs.declared.datagram.Datagram.{Datagram as Owned}
 use Rattle.tftp_capture.specs.declared.version.Version.{Version}
 use Rattle.std.specs.List.{slice_split}
 use Rattle.tftp_capture.specs.CaptureText.{Datagram, Header, Numbered, Due, Stands, Unfinished, IsCapture, HasFault, said, head_line, end_line, service_line}
 use Rattle.tftp_capture.specs.CaptureText.Due.{Body}
 use Rattle.tftp_capture.specs.Lines.{LineState}
-use Rattle.tftp_streams.specs.{most_ahead}
+use Rattle.tftp_streams.specs.{Standing, Open, Over, Failed, most_ahead}
 use Rattle.tftp_capture.specs.Fields.{datagram_of}
 
 -- what contracts see of a reader: its header, its lines, how many datagrams it gave, the line of the last of them (or of
@@ -22,7 +20,7 @@ pub record ReaderState : Type 0 where
   pub lines : LineState
   pub count : ℕ
   pub handed : ℕ
-  pub standing : Standing
+  pub standing : Standing CaptureFault
 
 -- the reader goes on: what was taken are whole lines, after which a datagram or the total is due
 pub record GoesOn (header : Header) (state : LineState) (count : ℕ) (text : List ℕ) (datagrams : List Numbered) : Type 0 where
@@ -54,7 +52,7 @@ MemoryTells (Read line) text datagrams = Unit {0}
 MemoryTells (Memory line) text datagrams = SaysOneMore text datagrams line
 
 -- the same of the answer of a reader that went on
-abbrev pub WantTells : Standing → Result (Option Owned) CaptureFault → List ℕ → List Numbered → Type 0
+abbrev pub WantTells : Standing CaptureFault → Result (Option Owned) CaptureFault → List ℕ → List Numbered → Type 0
 WantTells Open (Ok _) text datagrams = Unit {0}
 WantTells Open (Err fault) text datagrams = MemoryTells fault text datagrams
 WantTells Over result text datagrams = Unit {0}
@@ -79,7 +77,7 @@ pub record HasService (text : List ℕ) (header : Header) (n : ℕ) : Type 0 whe
   pub are : said 2 after_head ≡ (at_end, end_line header.named) ∷ (n, service_line header.service) ∷ others
 
 -- what the reader took and gave, by whether it goes on
-abbrev pub StandingTells : Standing → ReaderState → List ℕ → List Numbered → Type 0
+abbrev pub StandingTells : Standing CaptureFault → ReaderState → List ℕ → List Numbered → Type 0
 StandingTells Open reader text datagrams = GoesOn reader.header reader.lines reader.count text datagrams
 StandingTells Over reader text datagrams = IsCapture text reader.header datagrams
 StandingTells (Failed fault) reader text datagrams = FaultTells fault text datagrams
@@ -88,11 +86,11 @@ StandingTells (Failed fault) reader text datagrams = FaultTells fault text datag
 abbrev pub StandsFor : ReaderState → List ℕ → List Numbered → Type 0
 StandsFor reader text datagrams = StandingTells reader.standing reader text datagrams
 
--- what the reader is after an answer
-abbrev pub standing_after : {T : Type 0} → Result (Option T) CaptureFault → Standing
-standing_after (Ok (Some d)) = Open
-standing_after (Ok None) = Over
-standing_after (Err fault) = Failed fault
+-- whether a datagram was given
+abbrev pub gave : {T : Type 0} → Result (Option T) CaptureFault → Result Bool CaptureFault
+gave (Ok (Some d)) = Ok true
+gave (Ok None) = Ok false
+gave (Err fault) = Err fault
 
 -- the datagrams with the one that was given, on that line
 abbrev pub with_answer : List Numbered → ℕ → Result (Option Owned) CaptureFault → List Numbered
@@ -126,7 +124,7 @@ IsReadFault (Text line fault) = ⊥
 IsReadFault (Read line) = Unit {0}
 IsReadFault (Memory line) = ⊥
 
-abbrev pub IsReadStanding : Standing → Type 0
+abbrev pub IsReadStanding : Standing CaptureFault → Type 0
 IsReadStanding Open = ⊥
 IsReadStanding Over = ⊥
 IsReadStanding (Failed fault) = IsReadFault fault
@@ -148,9 +146,3 @@ pub record FailsToBegin (before after : Option (List ℕ)) (fault : CaptureFault
   pub ended : IsAtTextEnd fault → ahead ≡ []
   pub near : length ahead ≤ most_ahead
   pub memory : FirstTells fault taken ahead
-
--- the answer of a reader that goes on no more
-abbrev pub KeepsAnswer : Standing → Result Bool CaptureFault → Type 0
-KeepsAnswer Open result = Unit {0}
-KeepsAnswer Over result = result ≡ Ok false
-KeepsAnswer (Failed fault) result = result ≡ Err fault

@@ -11,7 +11,7 @@ pub use CaptureText.{AreFields, Begins, BeginsWith, BodyFault, ByteFault, Due, F
 pub use Commented.{Entry, IsEntry, comment_line, commented_text, entry_line, numbered_in, said_in}
 pub use Digits.{IsNibble}
 pub use Fields.{BeginWithFields, BodyEnds, DatagramEnds, PayloadEnds, TotalEnds, datagram_of, filled, filled_if, header_of}
-pub use History.{Answers, Continues, FailsToBegin, FaultTells, GoesOn, HasService, IsAtTextEnd, IsReadFault, IsReadStanding, FirstTells, MemoryTells, ReaderState, SaysOneMore, StandingTells, StandsFor, WantTells, standing_after, with_answer}
+pub use History.{Answers, Continues, FailsToBegin, FaultTells, GoesOn, HasService, IsAtTextEnd, IsReadFault, IsReadStanding, FirstTells, MemoryTells, ReaderState, SaysOneMore, StandingTells, StandsFor, WantTells, gave, with_answer}
 pub use InTwo.{in_version_two, is_way, line_in_two, lines_in_two, pieces_in_two}
 pub use Lines.{HasByteAt, HasNoEnd, HoldsLine, HoldsNoLine, IsPartOfLine, IsSilent, IsSkipped, LineEnds, LineState, ReachesLine, TextEnds, fault_at, line_at, unread}
 pub use Worked.{line, named_datagrams, named_text, worked_header, worked_text}
@@ -20,7 +20,5 @@ pub use declared.fault.CaptureFault.{CaptureFault}
 pub use declared.fault.TextFault.TheVariants.{BadEnd, BadHeader, BadHex, BadHost, BadLine, BadPort, BadService, LineTooLong, PayloadTooLong, TextTooLong, TotalWrong, TrailingText, Truncated}
 pub use declared.fault.TextFault.{TextFault}
 pub use declared.line_error.LineError.{LineError}
-pub use declared.standing.Standing.TheVariants.{Failed, Open, Over}
-pub use declared.standing.Standing.{Standing}
 pub use declared.version.Version.TheVariants.{One, Two}
 pub use declared.version.Version.{Version}

@@ -11,7 +11,6 @@ mod line;
 mod line_error;
 mod lines;
 mod reader;
-mod standing;
 mod version;
 mod writer;
 

@@ -3,20 +3,19 @@ ghost use Rattle.std.specs.Io.KnownBytes.{prepend_known, Consumes, IsAtEnd};
 ghost use Rattle.tftp_capture.specs.CaptureText.{Header as HeaderParts, Numbered};
 ghost use Rattle.tftp_capture.specs.Fields.{filled_if, header_of};
 ghost use Rattle.tftp_capture.specs.Lines.{HoldsLine, HoldsNoLine};
-ghost use Rattle.tftp_streams.specs.{most_ahead};
-ghost use Rattle.tftp_capture.specs.History.{Answers, Continues, FailsToBegin, GoesOn, HasService, IsAtTextEnd, IsReadFault, IsReadStanding, KeepsAnswer, StandsFor, standing_after};
+ghost use Rattle.tftp_streams.specs.{KeepsAnswer, most_ahead, standing_after};
+ghost use Rattle.tftp_capture.specs.History.{Answers, Continues, FailsToBegin, GoesOn, HasService, IsAtTextEnd, IsReadFault, IsReadStanding, StandsFor};
 
 use crate::datagram::{Datagram, Header};
 use crate::fault::{CaptureFault, TextFault};
 use crate::fields::{body_line, end_of, service_of};
 use crate::line_error::LineError;
 use crate::lines::Lines;
-use crate::standing::Standing;
 use crate::version::Version;
 use std::alloc::Global;
 use std::io::Read;
 use std::marker::Model;
-use tftp_streams::Latched;
+use tftp_streams::{Latched, Standing};
 
 /// A reader of a capture text: it holds one line of at most 131,070 bytes, in version 2 of 131,116, and at most
 /// 65,536 bytes read ahead.
@@ -26,7 +25,7 @@ pub struct CaptureReader {
     lines: Lines,
     count: u64,
     handed: u64,
-    standing: Standing,
+    standing: Standing<CaptureFault>,
 }
 
 impl Model for CaptureReader {
@@ -100,7 +99,7 @@ impl CaptureReader {
         requires told { IsReadStanding self.old.standing → reader.old.1 ≡ true }
         ensures continues { (text : List ℕ) (datagrams : List Numbered) → StandsFor self.old text datagrams
             → Continues self.old self.new (prepend_known self.old.lines.ahead (R.remaining reader.old.0)) (prepend_known self.new.lines.ahead (R.remaining reader.new.0)) (filled_if result datagram.new) text datagrams }
-        ensures standing { self.new.standing ≡ standing_after (filled_if result datagram.new) }
+        ensures standing { self.new.standing ≡ standing_after result }
         ensures kept { KeepsAnswer self.old.standing result }
         ensures untouched { self.old.standing ≢ Standing.Open → (self.new ≡ self.old) × (reader.new ≡ reader.old) }
         ensures end { self.old.standing ≡ Standing.Open → result ≡ Ok false → IsAtEnd (prepend_known self.new.lines.ahead (R.remaining reader.new.0)) }

@@ -2,8 +2,8 @@
 use Rattle.std.proofs.Common.{◌≡◌, ◌≢◌, ◌⊎◌, inl, inr, ℕ, ◌+◌, List, [], ◌∷◌, ◌++◌, length, Bool, true, false, true≢false, Option, Some, None, Result, Ok, Err, refl, sym, ap, ◌∙◌, subst, append_assoc, append-nil, length-append, arith}
 use Rattle.std.specs.Io.KnownBytes.{prepend_known, Consumes, IsAtEnd}
 use Rattle.std.proofs.KnownBytes.{Consumes-trans}
-use Rattle.tftp_capture.specs.{TextFault, BadHeader, BadEnd, BadService, LineTooLong, BadLine, BadPort, BadHost, BadHex, PayloadTooLong, TotalWrong, Truncated, TrailingText, TextTooLong, CaptureFault, Open, Over, Failed, Version, Numbered, Stands, IsCapture, HasFault, datagram_of, Continues, FailsToBegin, FaultTells, GoesOn, IsAtTextEnd, IsReadFault, ReaderState, StandsFor}
-use Rattle.tftp_streams.specs.{Sink, AppendsPrefix, Gathers}
+use Rattle.tftp_capture.specs.{TextFault, BadHeader, BadEnd, BadService, LineTooLong, BadLine, BadPort, BadHost, BadHex, PayloadTooLong, TotalWrong, Truncated, TrailingText, TextTooLong, CaptureFault, Version, Numbered, Stands, IsCapture, HasFault, datagram_of, Continues, FailsToBegin, FaultTells, GoesOn, IsAtTextEnd, IsReadFault, ReaderState, StandsFor}
+use Rattle.tftp_streams.specs.{AppendsPrefix, Failed, Gathers, Open, Over, Sink}
 use Rattle.tftp_capture.specs.declared.fault.CaptureFault.TheVariants.{Text, Read, Memory}
 use Rattle.tftp_capture.specs.declared.datagram.Datagram.{Datagram as Owned}
 use Rattle.tftp_capture.specs.CaptureText.{Header}

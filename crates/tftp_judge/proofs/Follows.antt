@@ -3,8 +3,8 @@ use Rattle.std.proofs.Common.{◌≡◌, ℕ, ◌+◌, ◌≤◌, lit≤, ◌⊎
 use Rattle.std.specs.Io.KnownBytes.{Consumes, IsAtEnd, prepend_known}
 use Rattle.std.proofs.KnownBytes.{Consumes-trans}
 use Rattle.std.proofs.lemmas.List.{length-map, length-reverse, map-append, reverse-append, reverse-reverse}
-use Rattle.tftp_capture.specs.{Begins, IsCapture, Numbered, Stands, Version, datagram_of, Continues, GoesOn, IsAtTextEnd, IsReadFault, ReaderState, StandingTells, StandsFor, WantTells, standing_after, with_answer, CaptureFault, Open, Over, Failed}
-use Rattle.tftp_streams.specs.{most_ahead}
+use Rattle.tftp_capture.specs.{Begins, IsCapture, Numbered, Stands, Version, datagram_of, Continues, GoesOn, IsAtTextEnd, IsReadFault, ReaderState, StandingTells, StandsFor, WantTells, gave, with_answer, CaptureFault}
+use Rattle.tftp_streams.specs.{Failed, Open, Over, most_ahead, standing_after}
 use Rattle.tftp_capture.specs.CaptureText.Due.{Body}
 use Rattle.tftp_capture.specs.declared.datagram.Datagram.{Datagram as Owned}
 use Rattle.tftp_capture.proofs.Beginnings.{begins_more, capture_begins}
@@ -151,7 +151,7 @@ module _ (before now after : Option (List ℕ)) (old new : ReaderState) (judge :
     consumed : Consumes before rest all
     consumed = Consumes-trans before now rest follows.taken step.taken follows.consumed step.consumed
 
-    tells : new.standing ≡ standing_after result → StandingTells (standing_after result) new all (with_answer follows.datagrams new.handed result)
+    tells : new.standing ≡ standing_after (gave result) → StandingTells (standing_after (gave result)) new all (with_answer follows.datagrams new.handed result)
     tells is = subst (λ s. StandingTells s new all (with_answer follows.datagrams new.handed result)) is step.stands
 
     want : WantTells Open result all follows.datagrams

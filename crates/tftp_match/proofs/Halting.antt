@@ -3,8 +3,8 @@ use Rattle.std.proofs.Common.{◌≡◌, ◌≤◌, ◌⊎◌, inl, inr, ℕ, Bo
 use Rattle.std.specs.Io.KnownBytes.{Consumes, IsAtEnd, prepend_known}
 use Rattle.std.proofs.KnownBytes.{Consumes-trans}
 use Rattle.std.proofs.lemmas.List.{map-append, reverse-append, reverse-reverse}
-use Rattle.tftp_capture.specs.{Begins, HasFault, IsCapture, Numbered, datagram_of, Continues, GoesOn, IsAtTextEnd, IsReadFault, ReaderState, StandingTells, StandsFor, standing_after, with_answer, CaptureFault, TextFault, Open, Over, Failed, Stands}
-use Rattle.tftp_streams.specs.{most_ahead}
+use Rattle.tftp_capture.specs.{Begins, HasFault, IsCapture, Numbered, datagram_of, Continues, GoesOn, IsAtTextEnd, IsReadFault, ReaderState, StandingTells, StandsFor, gave, with_answer, CaptureFault, TextFault, Stands}
+use Rattle.tftp_streams.specs.{Failed, Open, Over, most_ahead, standing_after}
 use Rattle.tftp_capture.specs.declared.datagram.Datagram.{Datagram as Owned}
 use Rattle.tftp_capture.specs.declared.fault.CaptureFault.TheVariants.{Text, Read, Memory as NoMemory}
 use Rattle.tftp_capture.proofs.Beginnings.{begins_more, capture_begins}
@@ -73,7 +73,7 @@ module _ (before now after : Option (List ℕ)) (old new : ReaderState) (judge :
     consumed : Consumes before rest all
     consumed = Consumes-trans before now rest has.taken step.taken has.consumed step.consumed
 
-    tells : new.standing ≡ standing_after result → StandingTells (standing_after result) new all (with_answer has.datagrams new.handed result)
+    tells : new.standing ≡ standing_after (gave result) → StandingTells (standing_after (gave result)) new all (with_answer has.datagrams new.handed result)
     tells is = subst (λ s. StandingTells s new all (with_answer has.datagrams new.handed result)) is step.stands
 
     began : Begins all old.header has.datagrams

@@ -1,7 +1,8 @@
 -- What was read of one of two capture texts, and why no more is. Lists of datagrams have the newest first, but those of texts.
 use Rattle.std.specs.Prelude.{◌≡◌, ◌∷◌, ℕ, List, Bool, false, length, reverse, Option, Some, None, Result, Ok, Err}
 use Rattle.std.specs.Io.KnownBytes.{Consumes, prepend_known}
-use Rattle.tftp_capture.specs.{Numbered, GoesOn, ReaderState, Open}
+use Rattle.tftp_capture.specs.{Numbered, GoesOn, ReaderState}
+use Rattle.tftp_streams.specs.{Open}
 use Rattle.tftp_hosts.specs.{Datagram, Header}
 use Rattle.tftp_model.specs.{Meaning}
 use Rattle.tftp_judge.specs.{Refuses, IsOfText, unnumbered, IsVerdict, Refusal, Verdict, Capture, Refused as RefusedFor}

@@ -1,5 +1,5 @@
 ghost use Rattle.std.specs.Prelude.{◌≡◌, ◌<◌, ◌≤◌, ◌^◌, true, false, None, is_some};
-ghost use Rattle.tftp_capture.specs.{Standing};
+ghost use Rattle.tftp_streams.specs.{Standing};
 ghost use Rattle.tftp_model.specs.Roles.{other_end};
 ghost use Rattle.tftp_pair_judge.specs.{HasSame, side_at};
 ghost use Rattle.tftp_match.specs.Merging.{BothRun, Runs, judge_at};

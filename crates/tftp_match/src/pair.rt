@@ -1,6 +1,7 @@
 ghost use Rattle.std.specs.Prelude.{◌≡◌, ◌⊎◌, ◌↔◌, ℕ, List, false, true, Option, None, Some, Result, IfOk, IfErr};
 ghost use Rattle.std.specs.Io.KnownBytes.{Consumes, IsAtEnd};
-ghost use Rattle.tftp_capture.specs.{IsCapture, Numbered, Standing};
+ghost use Rattle.tftp_capture.specs.{IsCapture, Numbered};
+ghost use Rattle.tftp_streams.specs.{Standing};
 ghost use Rattle.tftp_hosts.specs.{Header as HeaderParts};
 ghost use Rattle.tftp_model.specs.{Meaning as MeaningParts};
 ghost use Rattle.tftp_judge.specs.{EndsText, IsOfText, IsReadVerdict, IsTextVerdict, SaysReadFailed, WantsMemory, Verdict as VerdictKind};

@@ -1,5 +1,6 @@
 ghost use Rattle.std.specs.Prelude.{◌≡◌, ◌<◌, ◌≤◌, ◌^◌, ℕ, List, length, true, false, Option, None, Some};
-ghost use Rattle.tftp_capture.specs.{datagram_of, Standing};
+ghost use Rattle.tftp_capture.specs.{datagram_of};
+ghost use Rattle.tftp_streams.specs.{Standing};
 ghost use Rattle.tftp_hosts.specs.{Datagram as DatagramParts, Header as HeaderParts};
 ghost use Rattle.tftp_judge.specs.{IsJudgeAfter, Judge as JudgeParts};
 ghost use Rattle.tftp_match.specs.Reading.{GoesOnAt, IsGiven, IsHalted, said_by};

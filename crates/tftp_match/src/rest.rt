@@ -1,5 +1,5 @@
 ghost use Rattle.std.specs.Prelude.{◌≡◌, ◌<◌, ◌≤◌, true, None, Some, is_some};
-ghost use Rattle.tftp_capture.specs.{Standing};
+ghost use Rattle.tftp_streams.specs.{Standing};
 ghost use Rattle.tftp_model.specs.Roles.{other_end};
 ghost use Rattle.tftp_pair_judge.specs.{left_at};
 ghost use Rattle.tftp_match.specs.Merging.{AloneRuns, RestRuns, left_judge_at};

@@ -8,8 +8,7 @@ use Rattle.tftp_pcap.specs.declared.place.Place.{Place}
 use Rattle.tftp_pcap.specs.declared.fault.FaultKind.{FaultKind}
 use Rattle.tftp_pcap.specs.declared.fault.FaultKind.TheVariants.{NotARecording, Truncated, Bad, TooLong, TooMany, Read, Memory}
 use Rattle.tftp_pcap.specs.declared.fault.PcapFault.{PcapFault}
-use Rattle.tftp_pcap.specs.declared.standing.Standing.{Standing}
-use Rattle.tftp_pcap.specs.declared.standing.Standing.TheVariants.{Open, Over, Failed}
+use Rattle.tftp_streams.specs.{Standing, Open, Over, Failed}
 
 -- The bytes are whole pieces, which give these frames, and then some of which this is so, by how it stands after the pieces.
 pub record EndsIn (P : Mode → ℕ → List ℕ → Type 0) (bytes : List ℕ) (frames : List FrameParts) : Type 0 where
@@ -57,7 +56,7 @@ FillTells (Err kind) state frame bytes frames = FailsAs bytes frames kind
 pub record ReaderState : Type 0 where
   pub pieces : PiecesState
   pub count : ℕ
-  pub standing : Standing
+  pub standing : Standing PcapFault
 
 -- the bytes fail so, at the frame after those that they give
 pub record FailsIn (bytes : List ℕ) (frames : List FrameParts) (fault : PcapFault) : Type 0 where
@@ -65,7 +64,7 @@ pub record FailsIn (bytes : List ℕ) (frames : List FrameParts) (fault : PcapFa
   pub number : fault.frame ≡ length frames + 1
 
 -- what the reader took and gave, by whether it goes on
-abbrev pub StandingTells : Standing → ReaderState → List ℕ → List FrameParts → Type 0
+abbrev pub StandingTells : Standing PcapFault → ReaderState → List ℕ → List FrameParts → Type 0
 StandingTells Open reader bytes frames = Stands bytes reader.pieces.mode reader.pieces.count frames × (reader.count ≡ length frames)
 StandingTells Over reader bytes frames = IsRecording bytes frames
 StandingTells (Failed fault) reader bytes frames = FailsIn bytes frames fault
@@ -73,12 +72,6 @@ StandingTells (Failed fault) reader bytes frames = FailsIn bytes frames fault
 -- The reader stands for a history: it took these bytes, and gave these frames, in order.
 abbrev pub StandsFor : ReaderState → List ℕ → List FrameParts → Type 0
 StandsFor reader bytes frames = StandingTells reader.standing reader bytes frames
-
--- what the reader is after an answer
-abbrev pub standing_after : Result Bool PcapFault → Standing
-standing_after (Ok true) = Open
-standing_after (Ok false) = Over
-standing_after (Err fault) = Failed fault
 
 -- the frames with the one that was given
 abbrev pub with_answer : List FrameParts → Result Bool PcapFault → FrameParts → List FrameParts
@@ -91,12 +84,6 @@ pub record Continues (new : ReaderState) (before after : Option (List ℕ)) (res
   pub taken : List ℕ
   pub consumed : Consumes before after taken
   pub stands : StandsFor new (bytes ++ taken) (with_answer frames result frame)
-
--- the answer of a reader that goes on no more
-abbrev pub KeepsAnswer : Standing → Result Bool PcapFault → Type 0
-KeepsAnswer Open result = Unit {0}
-KeepsAnswer Over result = result ≡ Ok false
-KeepsAnswer (Failed fault) result = result ≡ Err fault
 
 -- Bytes were taken in which a header was looked for, and some more were read ahead. What is no recording is told by the
 -- end, or by twelve bytes.

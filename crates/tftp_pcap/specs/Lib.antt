@@ -18,7 +18,7 @@ pub use Blocks.{SpellsBlock, SpellsEnhanced, SpellsInterface, SpellsObsolete, Sp
 pub use Pieces.{Announces, AnnouncesSection, BeginsAsOne, BlockSays, BodySays, Follows, IsRecording, IsSize, Mode, OpensAgain, OpensAs, Said, Says, Stands, front_of, given, next_mode, said_of, start}
 pub use Sizes.{BlockSizeTells, IsIrregular, IsTooLong, SizeTells}
 pub use Stopping.{EndReached, FrontEnds, IsBad, IsCut, IsLonger, IsPart, IsShort, IsSkipped, IsWhole, PiecesState, RestEnds, StepEnds, Stops, WantsMemory}
-pub use History.{Continues, EndsIn, FailsAs, FailsToBegin, FillTells, IsWrong, KeepsAnswer, ReaderState, RunsOut, StandingTells, StandsFor, standing_after}
+pub use History.{Continues, EndsIn, FailsAs, FailsToBegin, FillTells, IsWrong, ReaderState, RunsOut, StandingTells, StandsFor}
 pub use Worked.{worked_blocks, worked_classic, worked_frame, worked_header, worked_interface, worked_packet, worked_record, worked_section}
 pub use declared.fault.FaultKind.{FaultKind}
 pub use declared.fault.FaultKind.TheVariants.{Bad, Memory, NotARecording, Read, TooLong, TooMany, Truncated}
@@ -32,5 +32,3 @@ pub use declared.layout.Layout.TheVariants.{Unopened}
 pub use declared.numbers.Order.{Order}
 pub use declared.numbers.Order.TheVariants.{Big, Little}
 pub use declared.place.Place.{Place}
-pub use declared.standing.Standing.{Standing}
-pub use declared.standing.Standing.TheVariants.{Failed, Open, Over}

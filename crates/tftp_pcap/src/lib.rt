@@ -19,7 +19,6 @@ mod read;
 mod reader;
 mod sizes;
 mod skip;
-mod standing;
 mod step;
 mod times;
 

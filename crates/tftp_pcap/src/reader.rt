@@ -2,17 +2,17 @@ ghost use Rattle.std.specs.Prelude.{◌≡◌, ◌≢◌, ◌+◌, ◌<◌, ◌�
 ghost use Rattle.std.specs.Io.KnownBytes.{prepend_known, Consumes, IsAtEnd};
 ghost use Rattle.tftp_pcap.specs.Frames.{FrameParts};
 ghost use Rattle.tftp_pcap.specs.Pieces.{start};
-ghost use Rattle.tftp_pcap.specs.History.{Continues, FailsToBegin, KeepsAnswer, RunsOut, StandsFor, standing_after};
+ghost use Rattle.tftp_pcap.specs.History.{Continues, FailsToBegin, RunsOut, StandsFor};
+ghost use Rattle.tftp_streams.specs.{KeepsAnswer, standing_after};
 
 use crate::fault::{FaultKind, PcapFault};
 use crate::frame::Frame;
 use crate::layout::Layout;
-use crate::standing::Standing;
 use crate::step::Pieces;
 use std::alloc::Global;
 use std::io::Read;
 use std::marker::Model;
-use tftp_streams::Latched;
+use tftp_streams::{Latched, Standing};
 
 /// A reader of a recording's frames, classic or of blocks: it holds at most 65,536 bytes read ahead and the interfaces of a
 /// section.
@@ -20,7 +20,7 @@ use tftp_streams::Latched;
 pub struct FrameReader {
     pieces: Pieces,
     count: u64,
-    standing: Standing,
+    standing: Standing<PcapFault>,
 }
 
 impl Model for FrameReader {

@@ -6,7 +6,8 @@ use Rattle.std.specs.Io.KnownBytes.{prepend_known}
 use Rattle.tftp_copies.specs.{Packet as Recorded, RecentState}
 use Rattle.tftp_copies.specs.Recently as copies
 use Rattle.tftp_fragments.specs.{Sets}
-use Rattle.tftp_pcap.specs.{FrameParts, FrameState, KeepsAnswer, ReaderState, StandingTells, Memory, PcapFault, Standing, Open}
+use Rattle.tftp_pcap.specs.{FrameParts, FrameState, ReaderState, StandingTells, Memory, PcapFault}
+use Rattle.tftp_streams.specs.{KeepsAnswer, Open, Standing}
 use Rattle.tftp_pcap.specs.History as pcap
 use Rattle.tftp_recording.specs.{BroughtState, Takes, Continues, EventState, RecordingState, RefusedTells, StandsFor, Step, WantsNext, frames_of, packets_of, waiting, Comes, is_copy, Likeness}
 
@@ -29,7 +30,7 @@ frames_counted : (history : List Step) → length (frames_of history) ≡ length
 frames_counted history = length-reverse (map (λ (s : Step). s.frame) history) ∙ length-map history (λ (s : Step). s.frame)
 
 -- a reader that gave a frame had counted those before it
-counted_by : (standing : Standing) (r : ReaderState) (bytes : List ℕ) (frames : List FrameParts) → KeepsAnswer standing (Ok true) → StandingTells standing r bytes frames → r.count ≡ length frames
+counted_by : (standing : Standing PcapFault) (r : ReaderState) (bytes : List ℕ) (frames : List FrameParts) → KeepsAnswer standing (Ok true) → StandingTells standing r bytes frames → r.count ≡ length frames
 counted_by Open r bytes frames keeps tells = tells.1
 counted_by _ r bytes frames keeps tells = cc
 

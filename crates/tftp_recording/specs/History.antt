@@ -4,7 +4,8 @@ use Rattle.std.specs.Io.KnownBytes.{Consumes}
 use Rattle.tftp_copies.specs.{Packet as Recorded, RecentState}
 use Rattle.tftp_copies.specs.Recently as copies
 use Rattle.tftp_fragments.specs.{Sets}
-use Rattle.tftp_pcap.specs.{FrameParts, FrameState, ReaderState, Memory, PcapFault, Standing, Failed}
+use Rattle.tftp_pcap.specs.{FrameParts, FrameState, ReaderState, Memory, PcapFault}
+use Rattle.tftp_streams.specs.{Failed, Standing}
 use Rattle.tftp_pcap.specs.History as pcap
 use Rattle.tftp_recording.specs.Brought.{BroughtState, Takes, Wants}
 use Rattle.tftp_recording.specs.Alike.{Comes, WantsToHold, is_copy}
@@ -58,12 +59,12 @@ pub record RecordingState : Type 0 where
   pub waiting : Sets
   pub refused : Option PcapFault
 
-abbrev pub standing_by : Option PcapFault → Standing → Standing
+abbrev pub standing_by : Option PcapFault → Standing PcapFault → Standing PcapFault
 standing_by None standing = standing
 standing_by (Some fault) standing = Failed fault
 
 -- whether it goes on
-abbrev pub standing_of : RecordingState → Standing
+abbrev pub standing_of : RecordingState → Standing PcapFault
 standing_of r = standing_by r.refused r.frames.standing
 
 -- memory is wanted for the frame that comes next: to hold its packet, or for the fragment that it is, and no copy

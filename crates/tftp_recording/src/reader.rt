@@ -1,6 +1,7 @@
 ghost use Rattle.std.specs.Prelude.{◌≡◌, ◌≢◌, ◌+◌, ◌++◌, ℕ, List, [], true, false, None, Ok, Err, IfOk, IfErr, OnOk};
 ghost use Rattle.std.specs.Io.KnownBytes.{prepend_known, Consumes, IsAtEnd};
-ghost use Rattle.tftp_pcap.specs.{FailsToBegin, KeepsAnswer, standing_after, FaultKind, Standing};
+ghost use Rattle.tftp_pcap.specs.{FailsToBegin, FaultKind};
+ghost use Rattle.tftp_streams.specs.{KeepsAnswer, Standing, standing_after};
 ghost use Rattle.tftp_recording.specs.History.{Continues, StandsFor, Step, standing_of};
 
 use crate::brought::take_frame;
