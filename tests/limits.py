@@ -13,6 +13,9 @@ from trial import Trial
 
 # The stack that the program is run in, and the steps in which its memory is raised, in bytes.
 STACK, STEP = 100 * 1024, 16 * 1024
+# A file for which room is asked for ahead, sixteen times of it, and beside what the empty program has so much memory that
+# it is granted for what is needed alone.
+LONG, SCARCE = 300_000, 1536 * 1024
 # In so much memory the empty program starts, and in so much each command has what it needs.
 MUCH = 8 * 1024 * 1024
 ENOUGH = 64 * 1024 * 1024
@@ -47,6 +50,18 @@ def windowed() -> Capture:
     for at in range(0, len(wire), 4):
         capture.put("server", *wire[at : at + 4])
         capture.put("client", ack(min(at + 4, len(wire))))
+    return capture
+
+
+def long_read(size: int) -> Capture:
+    """A read of so many bytes in blocks of 8,192."""
+    sizes, capture = {"blksize": 8192}, Capture("client")
+    capture.put("client", read_request("boot.img", "octet", **sizes))
+    capture.put("server", oack(**sizes))
+    capture.put("client", ack(0))
+    for number, block in enumerate(blocks(bytes(size), 8192), 1):
+        capture.put("server", block)
+        capture.put("client", ack(number))
     return capture
 
 
@@ -123,6 +138,13 @@ class LimitTrial(Trial):
             right, size = right + 1 if is_right else 0, size + STEP
         self.check(f"{command}, {name}, memory", right == 2, "is never enough")
 
+    def long_file(self) -> None:
+        """Where the room that is asked for ahead is refused, what is needed is enough."""
+        text = long_read(LONG).text()
+        got = self.run(["check"], text, resource.RLIMIT_AS, self.begin + SCARCE)
+        line = b"accepted get octet blocks 37 bytes 300000\n"
+        self.check("check, a long file where memory is scarce", got == (line, 0, b""), got[1:] + (got[0][-80:],))
+
     def try_case(self, name: str, text: bytes, by_command: dict[str, Output]) -> None:
         for command in COMMANDS:
             got = self.run([command], text, resource.RLIMIT_STACK, STACK)
@@ -135,4 +157,5 @@ def limited(program: str) -> LimitTrial:
     trial = LimitTrial(program)
     for name, text, by_command in cases():
         trial.try_case(name, text, by_command)
+    trial.long_file()
     return trial
