@@ -15,7 +15,7 @@ from trial import Trial
 STACK, STEP = 100 * 1024, 16 * 1024
 # A file for which room is asked for ahead, sixteen times of it, and beside what the empty program has so much memory that
 # it is granted for what is needed alone.
-LONG, SCARCE = 300_000, 1536 * 1024
+LONG, SCARCE = 2_000_000, 6 * 1024 * 1024
 # In so much memory the empty program starts, and in so much each command has what it needs.
 MUCH = 8 * 1024 * 1024
 ENOUGH = 64 * 1024 * 1024
@@ -142,7 +142,7 @@ class LimitTrial(Trial):
         """Where the room that is asked for ahead is refused, what is needed is enough."""
         text = long_read(LONG).text()
         got = self.run(["check"], text, resource.RLIMIT_AS, self.begin + SCARCE)
-        line = b"accepted get octet blocks 37 bytes 300000\n"
+        line = b"accepted get octet blocks 245 bytes 2000000\n"
         self.check("check, a long file where memory is scarce", got == (line, 0, b""), got[1:] + (got[0][-80:],))
 
     def try_case(self, name: str, text: bytes, by_command: dict[str, Output]) -> None:

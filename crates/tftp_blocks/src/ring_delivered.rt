@@ -8,7 +8,7 @@ use std::alloc::{AllocError, Global};
 use std::marker::Model;
 
 /// From so many bytes on a file is long.
-const LONG: usize = 65_536;
+const LONG: usize = 1 << 20;
 
 /// How many blocks a transfer may have (RFC 1350, section 5).
 const MOST_BLOCKS: usize = 65_535;
