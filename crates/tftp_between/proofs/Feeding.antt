@@ -1,17 +1,17 @@
 -- What is fed has passed as it was recorded.
 use Rattle.std.proofs.Common.{◌≡◌, ℕ, true, cond, List, ◌∷◌, sym, ap, ◌∙◌, map, filter}
 use Rattle.tftp_parties.specs.{host_name}
-use Rattle.tftp_lines.specs.{Endpoint, Place, Transfer, Placed, is_of}
-use Rattle.tftp_views.specs.{Party, IsFed}
+use Rattle.tftp_lines.specs.{Endpoint, Transfer, Placed, is_of}
+use Rattle.tftp_views.specs.{Held, Party, IsFed}
 use Rattle.tftp_between.specs.{between_capture, passed_of, peer_of, passed_as, side_of}
 
 party_is : (end : Endpoint) (party : Party) → end ≡ party.end → party.host ≡ host_name party.end.address → peer_of end ≡ side_of party
 party_is end party same named = ap peer_of same ∙ ap (λ (h : List ℕ). record { host = h; port = party.end.port }) (sym named)
 
-pub passed_fed : (p : Placed) (place : Place) (source target : Party) (payload : List ℕ) → IsFed host_name p place source target payload → passed_of p.datagram ≡ passed_as source target payload
-passed_fed p place source target payload fed =
-    let from : peer_of p.datagram.source ≡ side_of source = party_is p.datagram.source source fed.from fed.from_host in
-    let to : peer_of p.datagram.target ≡ side_of target = party_is p.datagram.target target fed.to fed.to_host in
+pub passed_fed : (p : Placed) (h : Held) → IsFed host_name p h → passed_of p.datagram ≡ passed_as h
+passed_fed p h fed =
+    let from : peer_of p.datagram.source ≡ side_of h.source = party_is p.datagram.source h.source fed.from fed.from_host in
+    let to : peer_of p.datagram.target ≡ side_of h.target = party_is p.datagram.target h.target fed.to fed.to_host in
     λ i. record { source = from i; destination = to i; payload = fed.carries i }
 
 pub captured_too : (x : Transfer) (p : Placed) (older : List Placed) → is_of x.number p ≡ true → between_capture x (p ∷ older) ≡ passed_of p.datagram ∷ between_capture x older

@@ -1,14 +1,12 @@
 -- What is held until it is known who the server is, and is then given to the judge of the sides.
-use Rattle.std.proofs.Common.{◌≡◌, ℕ, ◌≤◌, true, false, List, [], ◌∷◌, ◌++◌, length, Some, None, refl, sym, ap, ◌∙◌, subst, append_assoc, append-nil, map, reverse, Option}
-use Rattle.std.specs.List.{All}
+use Rattle.std.proofs.Common.{◌≡◌, true, false, List, [], ◌∷◌, ◌++◌, length, Some, None, refl, sym, ap, ◌∙◌, subst, append_assoc, append-nil, map, reverse, Option}
 use Rattle.std.proofs.lemmas.List.{length-map, length-reverse, map-append, reverse-append, reverse-reverse}
-use Rattle.std.proofs.lemmas.List.Elements.{All-append, All-from_recursion}
 use Rattle.tftp_tap.specs.{TapDatagram}
 use Rattle.tftp_tap_judge.specs.{passing_of, TapDatagram as Owned}
 use Rattle.tftp_parties.specs.{host_name}
-use Rattle.tftp_lines.specs.{Place, Transfer, Placed, is_of}
+use Rattle.tftp_lines.specs.{Transfer, Placed, is_of}
 use Rattle.tftp_transfers.specs.{is_settled}
-use Rattle.tftp_views.specs.{Party, IsFed}
+use Rattle.tftp_views.specs.{Held, IsFed}
 use Rattle.tftp_between.specs.{are_apart, between_capture, is_to_itself, passed_of, sides_of, sides_with, AreHeld, Between, BetweenBy, HasPassed, IsBetweenAfter, IsGoingOn, IsWaiting, View, counted_by, given_to, passed_as}
 use Rattle.tftp_between.proofs.Feeding.{captured_too, passed_fed}
 use Rattle.tftp_views.proofs.Settling.{settled_stays}
@@ -41,20 +39,16 @@ given_all b given so = subst (HasPassed b) (ap reverse (sym (so.are ∙ append-n
 
 -- ---- one more is held, as the newest
 
-pub held_newest : (x : Transfer) (held : List Owned) (d : Owned) (p : Placed) (older : List Placed) (place : Place) (source target : Party) (payload : List ℕ)
-    → IsFed host_name p place source target payload → is_of x.number p ≡ true → passing_of d ≡ passed_as source target payload
+pub held_newest : (x : Transfer) (held : List Owned) (d : Owned) (p : Placed) (older : List Placed) (h : Held)
+    → IsFed host_name p h → is_of x.number p ≡ true → passing_of d ≡ passed_as h
     → AreHeld held (between_capture x older) → AreHeld (held ++ d ∷ []) (between_capture x (p ∷ older))
-held_newest x held d p older place source target payload fed of_it passed are =
+held_newest x held d p older h fed of_it passed are =
     let given : List TapDatagram = between_capture x older in
     map-append passing_of held (d ∷ [])
     ∙ ap (λ l. l ++ passing_of d ∷ []) are
-    ∙ ap (λ t. reverse given ++ t ∷ []) (passed ∙ sym (passed_fed p place source target payload fed))
+    ∙ ap (λ t. reverse given ++ t ∷ []) (passed ∙ sym (passed_fed p h fed))
     ∙ sym (reverse-append (passed_of p.datagram ∷ []) given)
     ∙ ap reverse (sym (captured_too x p older of_it))
-
--- and its payload is no longer than that of another
-pub held_short : (held : List Owned) (d : Owned) → All (λ (d : Owned). length d.payload ≤ 65527) held → length d.payload ≤ 65527 → All (λ (d : Owned). length d.payload ≤ 65527) (held ++ d ∷ [])
-held_short held d short is = All-append (λ (d : Owned). length d.payload ≤ 65527) held (d ∷ []) short (All-from_recursion (λ (d : Owned). length d.payload ≤ 65527) (d ∷ []) (is, tt))
 
 -- ---- one that is not of the transfer at its client
 

@@ -4,7 +4,7 @@ use Rattle.tftp_tap.specs.{PeerId, TapDatagram, TapSides}
 use Rattle.tftp_tap_judge.specs.{TapJudge, passing_of, TapDatagram as Owned, TapRefusal}
 use Rattle.tftp_lines.specs.{Transfer, Placed}
 use Rattle.tftp_transfers.specs.{TransferEnds, AreEndsAfter, is_settled}
-use Rattle.tftp_views.specs.{Party}
+use Rattle.tftp_views.specs.{Held, Party}
 use Rattle.tftp_between.specs.Captured.{between_capture, sides_of}
 use Rattle.tftp_between.specs.Judged.{HasTapped}
 
@@ -14,8 +14,8 @@ use Rattle.tftp_between.specs.Judged.{HasTapped}
 abbrev pub side_of : Party → PeerId
 side_of p = record { host = p.host; port = p.end.port }
 
-abbrev pub passed_as : Party → Party → List ℕ → TapDatagram
-passed_as source target payload = record { source = side_of source; destination = side_of target; payload = payload }
+abbrev pub passed_as : Held → TapDatagram
+passed_as h = record { source = side_of h.source; destination = side_of h.target; payload = h.payload }
 
 -- ---- two sides
 

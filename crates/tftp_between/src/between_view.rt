@@ -10,7 +10,7 @@ ghost use Rattle.tftp_tap.specs.{AreApart, TapDatagram as Passing};
 ghost use Rattle.tftp_tap_judge.specs.{TapDatagram as Owned, TapRefusal as RefusalKind};
 ghost use Rattle.tftp_lines.specs.{Placed, is_of};
 ghost use Rattle.tftp_transfers.specs.{is_settled, client_view};
-ghost use Rattle.tftp_views.specs.{IsFed};
+ghost use Rattle.tftp_views.specs.{IsFed, held_of};
 
 use crate::passing::{passed, sides_of};
 use crate::sides_judge::SidesJudge;
@@ -20,11 +20,11 @@ use std::marker::Model;
 use std::mem;
 use tftp_blocks::Delivered;
 use tftp_judge::Meaning;
-use tftp_lines::{Place, Transfer};
+use tftp_lines::Transfer;
 use tftp_tap::Sides;
 use tftp_tap_judge::{TapDatagram, TapRefusal};
 use tftp_transfers::TransferEnds;
-use tftp_views::Party;
+use tftp_views::Fed;
 
 /// The judge of a transfer between its two ends (RFC 1350, section 4), fed with a recording from its first datagram to its
 /// last. Until it is known who the server is it holds the transfer's datagrams; then it gives them to the judge, and holds
@@ -72,19 +72,12 @@ impl<D: Delivered + Drop> BetweenView<D> {
 
     /// Takes the next datagram of the recording, of this transfer or of another, which belongs there. Where there is no
     /// memory for it, it was not taken. A refusal is kept, and after it no datagram takes memory.
-    pub fn feed(
-        &mut self,
-        alloc: Global,
-        place: &Place,
-        source: &Party,
-        target: &Party,
-        payload: &[u8],
-    ) -> Result<(), AllocError>
+    pub fn feed(&mut self, alloc: Global, fed: &Fed<'_>) -> Result<(), AllocError>
         requires few { given_to self.old < 2 ^ 40 }
-        requires short { length payload.now ≤ 65527 }
+        requires short { length fed.now.payload.now ≤ 65527 }
         ensures after { (p : Placed) (older : List Placed) → IsBetweenAfter self.old older
-            → IsFed host_name p place.now source.now target.now payload.now → OnOk result (IsBetweenAfter self.new (p ∷ older)) }
-        ensures others { (p : Placed) → place.now ≡ p.place → is_of self.old.transfer.number p ≡ false
+            → IsFed host_name p (held_of fed.now) → OnOk result (IsBetweenAfter self.new (p ∷ older)) }
+        ensures others { (p : Placed) → fed.now.place.now ≡ p.place → is_of self.old.transfer.number p ≡ false
             → (result ≡ Ok tt) × (self.new ≡ self.old) }
         ensures same { OnErr result (self.new ≡ self.old) }
         ensures counts { given_to self.new ≤ given_to self.old + 1 }
@@ -92,37 +85,30 @@ impl<D: Delivered + Drop> BetweenView<D> {
         ensures for_good { (refusal : RefusalKind) → has_refused self.old ≡ Some refusal → has_refused self.new ≡ Some refusal }
         ensures rests { (refusal : RefusalKind) → has_refused self.old ≡ Some refusal → (result ≡ Ok tt) × (self.new ≡ self.old) }
     {
-        if !self.ends.is_at_client(place) {
+        if !self.ends.is_at_client(fed.place) {
             return Ok(());
         }
         if let Some(judge) = &mut self.judge {
-            return judge.put(alloc, source, target, payload);
+            return judge.put(alloc, fed);
         }
-        self.wait(alloc, place, source, target, payload)
+        self.wait(alloc, fed)
     }
 
     /// Holds one of the transfer's datagrams, until it is known who the server is.
-    fn wait(
-        &mut self,
-        alloc: Global,
-        place: &Place,
-        source: &Party,
-        target: &Party,
-        payload: &[u8],
-    ) -> Result<(), AllocError>
+    fn wait(&mut self, alloc: Global, fed: &Fed<'_>) -> Result<(), AllocError>
         requires waits { self.old.judge ≡ None }
         requires few { length self.old.held < 2 ^ 40 }
-        requires short { length payload.now ≤ 65527 }
+        requires short { length fed.now.payload.now ≤ 65527 }
         ensures after { (p : Placed) (older : List Placed) → IsBetweenAfter self.old older
-            → IsFed host_name p place.now source.now target.now payload.now → is_of self.old.transfer.number p ≡ true
+            → IsFed host_name p (held_of fed.now) → is_of self.old.transfer.number p ≡ true
             → OnOk result (IsBetweenAfter self.new (p ∷ older)) }
         ensures same { OnErr result (self.new ≡ self.old) }
         ensures counts { given_to self.new ≤ given_to self.old + 1 }
         ensures transfer { self.new.transfer ≡ self.old.transfer }
     {
-        self.held
-            .push_back(passed(alloc, source, target, payload)?)?;
-        self.ends.note(place, source.end, target.end, payload);
+        self.held.push_back(passed(alloc, fed)?)?;
+        self.ends
+            .note(fed.place, fed.source.end, fed.target.end, fed.payload);
         if self.ends.is_settled() {
             let held = mem::replace(&mut self.held, VecDeque::new(alloc));
             let sides = sides_of(&self.transfer, &self.ends);

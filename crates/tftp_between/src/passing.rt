@@ -6,6 +6,7 @@ ghost use Rattle.tftp_between.specs.Kept.{passed_as, side_of};
 ghost use Rattle.tftp_tap_judge.specs.{passing_of};
 ghost use Rattle.tftp_transfers.specs.{AreEndsAfter};
 ghost use Rattle.tftp_lines.specs.{Placed};
+ghost use Rattle.tftp_views.specs.{held_of};
 
 use std::alloc::{AllocError, Global};
 use tftp_hosts::Peer;
@@ -15,7 +16,7 @@ use tftp_parties::host_of;
 use tftp_tap::Sides;
 use tftp_tap_judge::TapDatagram;
 use tftp_transfers::TransferEnds;
-use tftp_views::Party;
+use tftp_views::{Fed, Party};
 
 /// The sides of a transfer whose ends are known: where no server is, it is whom the client asked.
 pub fn sides_of(transfer: &Transfer, ends: &TransferEnds) -> Sides
@@ -52,18 +53,13 @@ fn side_of(party: &Party) -> Peer
 }
 
 /// A copy of a datagram, as it passed.
-pub fn passed(
-    alloc: Global,
-    source: &Party,
-    target: &Party,
-    payload: &[u8],
-) -> Result<TapDatagram, AllocError>
-    ensures passed { IfOk result (λ d. passing_of d ≡ passed_as source.now target.now payload.now) }
-    ensures short { IfOk result (λ d. length d.payload ≡ length payload.now) }
+pub fn passed(alloc: Global, fed: &Fed<'_>) -> Result<TapDatagram, AllocError>
+    ensures passed { IfOk result (λ d. passing_of d ≡ passed_as (held_of fed.now)) }
+    ensures short { IfOk result (λ d. length d.payload ≡ length fed.now.payload.now) }
 {
     Ok(TapDatagram {
-        source: side_of(source),
-        destination: side_of(target),
-        payload: Bytes::of(Vec::from_slice(alloc, payload)?),
+        source: side_of(fed.source),
+        destination: side_of(fed.target),
+        payload: Bytes::of(Vec::from_slice(alloc, fed.payload)?),
     })
 }

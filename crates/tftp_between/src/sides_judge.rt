@@ -6,6 +6,7 @@ ghost use Rattle.tftp_between.specs.Judged.{HasTapped, IsBetweenVerdict};
 ghost use Rattle.tftp_between.specs.Kept.{HasPassed, counted_by, passed_as, refused_by};
 ghost use Rattle.tftp_tap.specs.{AreApart, TapDatagram as Passing, TapSides};
 ghost use Rattle.tftp_tap_judge.specs.{passing_of, TapRefusal as RefusalKind};
+ghost use Rattle.tftp_views.specs.{held_of};
 
 use crate::passing::passed;
 use std::alloc::{AllocError, Global};
@@ -14,7 +15,7 @@ use tftp_blocks::Delivered;
 use tftp_judge::Meaning;
 use tftp_tap::Sides;
 use tftp_tap_judge::{TapDatagram, TapJudge, TapRefusal};
-use tftp_views::Party;
+use tftp_views::Fed;
 
 /// The judge of what passes between two sides. Where the client is the server too, or where it asks, there is none: then it
 /// counts what passes, and refuses nothing.
@@ -62,17 +63,11 @@ impl<D: Delivered + Drop> SidesJudge<D> {
     }
 
     /// Gives it the next datagram, which is copied only where it goes to a judge that has refused none.
-    pub fn put(
-        &mut self,
-        alloc: Global,
-        source: &Party,
-        target: &Party,
-        payload: &[u8],
-    ) -> Result<(), AllocError>
+    pub fn put(&mut self, alloc: Global, fed: &Fed<'_>) -> Result<(), AllocError>
         requires few { counted_by self.old < 2 ^ 40 }
-        requires short { length payload.now ≤ 65527 }
+        requires short { length fed.now.payload.now ≤ 65527 }
         ensures passed { (given : List Passing) → HasPassed self.old given
-            → OnOk result (HasPassed self.new (passed_as source.now target.now payload.now ∷ given)) }
+            → OnOk result (HasPassed self.new (passed_as (held_of fed.now) ∷ given)) }
         ensures same { OnErr result (self.new ≡ self.old) }
         ensures counts { counted_by self.new ≤ counted_by self.old + 1 }
         ensures sides { self.new.sides ≡ self.old.sides }
@@ -81,7 +76,7 @@ impl<D: Delivered + Drop> SidesJudge<D> {
         match &mut self.judge {
             None => self.counted += 1,
             Some(judge) => match judge.refused() {
-                None => give(judge, alloc, passed(alloc, source, target, payload)?),
+                None => give(judge, alloc, passed(alloc, fed)?),
                 Some(_) => {}
             },
         }

@@ -1,6 +1,7 @@
 -- What is kept of a transfer stands for each datagram that tells nothing of it.
-use Rattle.std.proofs.Common.{◌≡◌, false, List, [], ◌∷◌, Option, Some, None, Result, Ok, Err, ap, ◌∙◌, IfSome, OnOk}
+use Rattle.std.proofs.Common.{◌≡◌, Bool, true, false, List, [], ◌∷◌, Option, Some, None, Result, Ok, Err, sym, ap, ◌∙◌, subst, IfSome, IsSomeAnd, MatchOption, OnOk}
 use Rattle.std.proofs.lemmas.Bool.{or_parts}
+use Rattle.std.specs.Bool.{then_some}
 use Rattle.std.proofs.lemmas.List.Elements.{All-head, All-tail}
 use Rattle.tftp_lines.specs.{Transfer, Placed, may_be_answer_of}
 use Rattle.tftp_transfers.specs.{is_about, is_answered_apart, is_it}
@@ -14,9 +15,19 @@ use Rattle.tftp_recording_judge.specs.{Judging, AreJudgesAfter, BetweenStands, C
 
 -- ---- at each point
 
-pub on_ok_when : {X E A B : Type 0} (C : Type 0) (r : Result X E) → B → (A → OnOk r C) → OnOk r (B × (A → C))
-on_ok_when C (Ok x) here then = (here, then)
-on_ok_when C (Err e) here then = tt
+pub on_ok_when : {X E A : Type 0} (C : Type 0) (r : Result X E) → (A → OnOk r C) → OnOk r (A → C)
+on_ok_when C (Ok x) then = then
+on_ok_when C (Err e) then = tt
+
+pub on_some_if : {A : Type 0} (P : A → Type 0) {o : Option A} (b : Bool) (a : A) → o ≡ then_some b a → P a → IfSome o P
+on_some_if P true a is holds = subst (λ o. IfSome o P) (sym is) holds
+on_some_if P false a none holds = subst (λ o. IfSome o P) (sym none) tt
+
+pub on_mapped : {A B : Type 0} {P : A → Type 0} {Q : B → Type 0} {R : A → B → Type 0} (o : Option A) (r : Option B) → MatchOption o (r ≡ None) (λ a. IsSomeAnd r (R a))
+    → ((a : A) (b : B) → R a b → P a → Q b) → IfSome o P → IfSome r Q
+on_mapped {Q = Q} None r none f is = subst (λ o. IfSome o Q) (sym none) tt
+on_mapped (Some a) (Some b) made f is = f a b made is
+on_mapped (Some a) None made f is = tt
 
 -- the judge of a transfer is of none that the datagram is about
 pub away_of : {X : Type 0} (transfer_of : X → Transfer) (judge : Option X) (x : Transfer) (p : Placed) → is_about x.number p ≡ false

@@ -25,15 +25,18 @@ pub record Judges : Type 0 where
   pub failed : Bool
 
 -- The judge at a point, if there is one, is this transfer's and was fed these datagrams of a recording, and nothing else.
+abbrev pub StandsAs : {J : Type 0} → (J → Transfer) → (J → Naming → List Placed → Type 0) → Option J → Transfer → Naming → List Placed → Type 0
+StandsAs judged stands judge x name placed = IfSome judge (λ j. (judged j ≡ x) × stands j name placed)
+
 abbrev pub ClientStands : Option Client → Transfer → Naming → List Placed → Type 0
-ClientStands client x name placed = IfSome client (λ c. (c.transfer ≡ x) × IsClientAfter c name placed)
+ClientStands = StandsAs (λ (c : Client). c.transfer) (λ c name placed. IsClientAfter c name placed)
 
 abbrev pub ServerStands : Option View → Transfer → Naming → List Placed → Type 0
-ServerStands server x name placed = IfSome server (λ v. (v.transfer ≡ x) × IsViewAfter v name placed)
+ServerStands = StandsAs (λ (v : View). v.transfer) (λ v name placed. IsViewAfter v name placed)
 
 -- the judge between the ends wants the hosts called by their addresses
 abbrev pub BetweenStands : Option Between → Transfer → Naming → List Placed → Type 0
-BetweenStands between x name placed = IfSome between (λ v. (v.transfer ≡ x) × (name ≡ host_name → IsBetweenAfter v placed))
+BetweenStands = StandsAs (λ (v : Between). v.transfer) (λ v name placed. name ≡ host_name → IsBetweenAfter v placed)
 
 -- each of them
 pub record AreJudgesAfter (j : Judges) (x : Transfer) (name : Naming) (placed : List Placed) : Type 0 where
@@ -55,17 +58,18 @@ pub record AreAt (j : Judges) (points : Points) : Type 0 where
   pub between : is_some j.between ≡ points.between
 
 -- how many datagrams the judge at a point has accepted, or holds
+abbrev pub fed_by : {J : Type 0} → (J → ℕ) → Option J → ℕ
+fed_by counted None = 0
+fed_by counted (Some j) = counted j
+
 abbrev pub fed_at_client : Option Client → ℕ
-fed_at_client None = 0
-fed_at_client (Some c) = c.end.judge.fed
+fed_at_client = fed_by (λ (c : Client). c.end.judge.fed)
 
 abbrev pub fed_at_server : Option View → ℕ
-fed_at_server None = 0
-fed_at_server (Some v) = fed_to v
+fed_at_server = fed_by fed_to
 
 abbrev pub fed_between : Option Between → ℕ
-fed_between None = 0
-fed_between (Some v) = given_to v
+fed_between = fed_by given_to
 
 -- one of them has as many as can be counted
 abbrev pub IsCrowded : Judges → Type 0

@@ -5,7 +5,7 @@ ghost use Rattle.tftp_recording_judge.specs.Kept.{AreCrowded, AreHanded, AreKept
 ghost use Rattle.tftp_recording_judge.specs.declared.judging.Judging.{Judging as JudgingKind};
 ghost use Rattle.tftp_lines.specs.{doubts_of, Placed, Place, Transfer};
 ghost use Rattle.tftp_transfers.specs.{is_it, is_about, AttributionFault};
-ghost use Rattle.tftp_views.specs.{Naming, IsFed};
+ghost use Rattle.tftp_views.specs.{Naming, IsFed, held_of};
 
 use crate::judging::Judging;
 use crate::watched::Watched;
@@ -14,7 +14,7 @@ use std::collections::BTreeMap;
 use tftp_blocks::Delivered;
 use tftp_lines::{Place, Transfer};
 use tftp_transfers::{Attributed, AttributionFault};
-use tftp_views::Party;
+use tftp_views::Fed;
 
 /// A transfer that a request opens is kept, before any datagram.
 pub(crate) fn open<D: Delivered + Drop>(
@@ -87,13 +87,11 @@ pub(crate) fn hand<D: Delivered + Drop>(
     alloc: Global,
     number: Option<u64>,
     found: &Attributed,
-    source: &Party,
-    target: &Party,
-    payload: &[u8],
+    fed: &Fed<'_>,
 ) -> Result<(), AttributionFault>
-    requires short { length payload.now ≤ 65527 }
+    requires short { length fed.now.payload.now ≤ 65527 }
     ensures handed { (judging : JudgingKind) (name : Naming) (out : List ℕ) (p : Placed) (older : List Placed)
-        → IsFed name p found.now.place source.now target.now payload.now → found.now.doubts ≡ doubts_of p older
+        → IsFed name p (held_of fed.now) → found.now.place ≡ p.place → found.now.doubts ≡ doubts_of p older
         → AreKept watched.old judging name out (p ∷ older) older
         → OnOk result (AreHanded (λ n. is_it n number) watched.new judging name out p older) }
     ensures spare { number ≡ None → IsOk result }
@@ -103,7 +101,7 @@ pub(crate) fn hand<D: Delivered + Drop>(
         return Ok(());
     };
     match watched.get_mut(&number) {
-        Some(one) => one.take(alloc, found, source, target, payload),
+        Some(one) => one.take(alloc, found, fed),
         None => Ok(()),
     }
 }
@@ -132,13 +130,11 @@ pub(crate) fn hand_on<D: Delivered + Drop>(
     watched: &mut BTreeMap<u64, Watched<D>>,
     alloc: Global,
     found: &Attributed,
-    source: &Party,
-    target: &Party,
-    payload: &[u8],
+    fed: &Fed<'_>,
 ) -> Result<(), AttributionFault>
-    requires short { length payload.now ≤ 65527 }
+    requires short { length fed.now.payload.now ≤ 65527 }
     ensures kept { (judging : JudgingKind) (name : Naming) (out : List ℕ) (p : Placed) (older : List Placed)
-        → IsFed name p found.now.place source.now target.now payload.now → found.now.doubts ≡ doubts_of p older
+        → IsFed name p (held_of fed.now) → found.now.place ≡ p.place → found.now.doubts ≡ doubts_of p older
         → AreKept watched.old judging name out (p ∷ older) older
         → OnOk result (AreKept watched.new judging name out (p ∷ older) (p ∷ older)) }
     ensures spare { found.now.place ≡ Place.Nowhere → IsOk result }
@@ -146,7 +142,7 @@ pub(crate) fn hand_on<D: Delivered + Drop>(
 {
     let own = about(&found.place);
     let answered = unless(found.doubts.may_be_answer_of, own);
-    hand(watched, alloc, own, found, source, target, payload)?;
+    hand(watched, alloc, own, found, fed)?;
     doubt(watched, answered, found);
     Ok(())
 }

@@ -5,20 +5,22 @@ ghost use Rattle.tftp_between.specs.{between_capture, is_to_itself, sides_of, Is
 ghost use Rattle.tftp_parties.specs.{host_name};
 ghost use Rattle.tftp_recording_judge.specs.Kept.{AreAt, AreFew, AreJudgesAfter, AreOf, AreTold, AreWants, IsCrowded};
 ghost use Rattle.tftp_tap.specs.{AreApart};
-ghost use Rattle.tftp_tap_judge.specs.{TapRefusal};
+ghost use Rattle.tftp_tap_judge.specs.{TapRefusal as RefusalKind};
 ghost use Rattle.tftp_lines.specs.{Placed, Transfer};
 ghost use Rattle.tftp_transfers.specs.{is_about};
-ghost use Rattle.tftp_views.specs.{Naming, client_capture, client_header, server_capture, server_header, IsJudgedWith, IsFed};
+ghost use Rattle.tftp_views.specs.{Naming, client_capture, client_header, server_capture, server_header, IsJudgedWith, IsFed, held_of};
 
 use crate::judging::Points;
+use crate::point::{counted, feed};
 use crate::verdicts::Verdicts;
-use crate::{between, client, server};
 use std::alloc::{AllocError, Global};
 use std::marker::Model;
 use tftp_between::BetweenView;
 use tftp_blocks::Delivered;
-use tftp_lines::{Place, Transfer};
-use tftp_views::{ClientJudge, Party, ServerView};
+use tftp_judge::Refusal;
+use tftp_lines::Transfer;
+use tftp_tap_judge::TapRefusal;
+use tftp_views::{ClientJudge, Fed, ServerView};
 
 /// How many datagrams a judge can count.
 const MOST: u64 = 1 << 40;
@@ -53,28 +55,21 @@ impl<D: Delivered + Drop> Judges<D> {
         ensures none { IsCrowded result → ⊥ }
     {
         Judges {
-            client: client::open(alloc, transfer, points.client),
-            server: server::open(alloc, transfer, points.server),
-            between: between::open(alloc, transfer, points.between),
+            client: points.client.then_some(ClientJudge::new(alloc, transfer)),
+            server: points.server.then_some(ServerView::new(alloc, transfer)),
+            between: points.between.then_some(BetweenView::new(alloc, transfer)),
             failed: false,
         }
     }
 
     /// Gives the next datagram of the recording to each, of this transfer or of another, which belongs there. Where there is
     /// no memory for it at one of the points, they have failed for good.
-    pub(crate) fn feed(
-        &mut self,
-        alloc: Global,
-        place: &Place,
-        source: &Party,
-        target: &Party,
-        payload: &[u8],
-    ) -> Result<(), AllocError>
+    pub(crate) fn feed(&mut self, alloc: Global, fed: &Fed<'_>) -> Result<(), AllocError>
         requires few { AreFew self.old }
-        requires short { length payload.now ≤ 65527 }
+        requires short { length fed.now.payload.now ≤ 65527 }
         ensures after { (x : Transfer) (name : Naming) (p : Placed) (older : List Placed) → AreJudgesAfter self.old x name older
-            → IsFed name p place.now source.now target.now payload.now → OnOk result (AreJudgesAfter self.new x name (p ∷ older)) }
-        ensures others { (x : Transfer) (p : Placed) → place.now ≡ p.place → AreOf self.old x → is_about x.number p ≡ false
+            → IsFed name p (held_of fed.now) → OnOk result (AreJudgesAfter self.new x name (p ∷ older)) }
+        ensures others { (x : Transfer) (p : Placed) → fed.now.place.now ≡ p.place → AreOf self.old x → is_about x.number p ≡ false
             → self.old.failed ≡ false → (result ≡ Ok tt) × (self.new ≡ self.old) }
         ensures points { (points : Points) → AreAt self.old points → AreAt self.new points }
         ensures fails { OnErr result (self.new.failed ≡ true) }
@@ -84,9 +79,9 @@ impl<D: Delivered + Drop> Judges<D> {
             return Err(AllocError);
         }
         self.failed = true;
-        client::feed(&mut self.client, alloc, place, source, target, payload)?;
-        server::feed(&mut self.server, alloc, place, source, target, payload)?;
-        between::feed(&mut self.between, alloc, place, source, target, payload)?;
+        feed(&mut self.client, alloc, fed)?;
+        feed(&mut self.server, alloc, fed)?;
+        feed(&mut self.between, alloc, fed)?;
         self.failed = false;
         Ok(())
     }
@@ -95,9 +90,9 @@ impl<D: Delivered + Drop> Judges<D> {
     pub(crate) fn is_crowded(&self) -> bool
         ensures { MatchBool result (IsCrowded self.now) (AreFew self.now) }
     {
-        client::fed(&self.client) >= MOST
-            || server::fed(&self.server) >= MOST
-            || between::fed(&self.between) >= MOST
+        counted(&self.client) >= MOST
+            || counted(&self.server) >= MOST
+            || counted(&self.between) >= MOST
     }
 
     /// The judge at the client, where it is judged there.
@@ -130,7 +125,7 @@ impl<D: Delivered + Drop> Judges<D> {
         ensures between { (x : Transfer) (whole : List Placed) → AreJudgesAfter self x host_name whole → AreApart (sides_of x whole)
             → IfSome result.between (λ said. IsBetweenVerdict (sides_of x whole) (between_capture x whole) said) }
         ensures to_itself { (x : Transfer) (whole : List Placed) → AreJudgesAfter self x host_name whole → is_to_itself x whole ≡ true
-            → IfSome result.between (λ said. said ≡ Err (TapRefusal.Incomplete (length (between_capture x whole)))) }
+            → IfSome result.between (λ said. said ≡ Err (RefusalKind.Incomplete (length (between_capture x whole)))) }
         ensures points { (points : Points) → AreAt self points → AreTold result points }
         ensures failed { self.failed ≡ true → AreWants self result }
     {
@@ -140,10 +135,17 @@ impl<D: Delivered + Drop> Judges<D> {
             between,
             failed,
         } = self;
+        if failed {
+            return Verdicts {
+                client: client.map(|judge| Err(Refusal::Memory(judge.fed()))),
+                server: server.map(|judge| Err(Refusal::Memory(judge.fed()))),
+                between: between.map(|judge| Err(TapRefusal::Memory(judge.fed()))),
+            };
+        }
         Verdicts {
-            client: client::finish(client, failed, alloc),
-            server: server::finish(server, failed, alloc),
-            between: between::finish(between, failed, alloc),
+            client: client.map(|judge| judge.finish(alloc)),
+            server: server.map(|judge| judge.finish(alloc)),
+            between: between.map(|judge| judge.finish(alloc)),
         }
     }
 }

@@ -1,14 +1,12 @@
 //! The judge of a whole recording: it divides what passed into transfers, and judges each where that is wanted.
 #![tactic(auto)]
 
-mod between;
-mod client;
 mod hands;
 mod judges;
 mod judging;
 pub mod laws;
+mod point;
 mod recording_judge;
-mod server;
 mod verdicts;
 mod watched;
 

@@ -14,7 +14,7 @@ use std::collections::BTreeMap;
 use tftp_blocks::Delivered;
 use tftp_lines::Endpoint;
 use tftp_transfers::{Attributed, Attribution, AttributionFault};
-use tftp_views::Party;
+use tftp_views::{Fed, Party};
 
 /// The judge of a whole recording, fed from its first datagram to its last: it divides what passed into transfers, and
 /// judges each where that is wanted.
@@ -84,7 +84,13 @@ impl<D: Delivered + Drop> RecordingJudge<D> {
             .attribution
             .feed(alloc, time, source.end, target.end, payload, is_spelled)?;
         open(&mut self.watched, alloc, self.judging, &found.place)?;
-        hand_on(&mut self.watched, alloc, &found, source, target, payload)?;
+        let fed = Fed {
+            place: &found.place,
+            source,
+            target,
+            payload,
+        };
+        hand_on(&mut self.watched, alloc, &found, &fed)?;
         self.failed = false;
         Ok(found)
     }

@@ -10,7 +10,7 @@ ghost use Rattle.tftp_tap.specs.{AreApart};
 ghost use Rattle.tftp_tap_judge.specs.{TapRefusal};
 ghost use Rattle.tftp_lines.specs.{doubts_of, Placed, Transfer};
 ghost use Rattle.tftp_transfers.specs.{is_about, AttributionFault};
-ghost use Rattle.tftp_views.specs.{Naming, client_capture, client_header, server_capture, server_header, IsJudgedWith, IsFed};
+ghost use Rattle.tftp_views.specs.{Naming, client_capture, client_header, server_capture, server_header, IsJudgedWith, IsFed, held_of};
 
 use crate::judges::Judges;
 use crate::judging::Judging;
@@ -21,7 +21,7 @@ use tftp_between::BetweenView;
 use tftp_blocks::Delivered;
 use tftp_lines::Transfer;
 use tftp_transfers::{Attributed, AttributionFault, TransferDoubts};
-use tftp_views::{ClientJudge, Party, ServerView};
+use tftp_views::{ClientJudge, Fed, ServerView};
 
 /// A transfer of a recording: its judges, each at a point where it is judged, and what makes a refusal of it no accusation.
 #[derive(Drop)]
@@ -62,13 +62,11 @@ impl<D: Delivered + Drop> Watched<D> {
         &mut self,
         alloc: Global,
         found: &Attributed,
-        source: &Party,
-        target: &Party,
-        payload: &[u8],
+        fed: &Fed<'_>,
     ) -> Result<(), AttributionFault>
-        requires short { length payload.now ≤ 65527 }
+        requires short { length fed.now.payload.now ≤ 65527 }
         ensures stands { (judging : JudgingKind) (x : Transfer) (name : Naming) (p : Placed) (older : List Placed) → IsWatching self.old judging x name older
-            → IsFed name p found.now.place source.now target.now payload.now → found.now.doubts ≡ doubts_of p older
+            → IsFed name p (held_of fed.now) → found.now.place ≡ p.place → found.now.doubts ≡ doubts_of p older
             → OnOk result (IsWatching self.new judging x name (p ∷ older)) }
         ensures full { result ≡ Err AttributionFault.TooMany → IsCrowded self.old.judges }
         ensures transfer { self.new.transfer ≡ self.old.transfer }
@@ -77,8 +75,7 @@ impl<D: Delivered + Drop> Watched<D> {
             return Err(AttributionFault::TooMany);
         }
         self.doubts.note(found);
-        self.judges
-            .feed(alloc, &found.place, source, target, payload)?;
+        self.judges.feed(alloc, fed)?;
         Ok(())
     }
 

@@ -9,7 +9,7 @@ use std::collections::BTreeMap;
 use tftp_blame::{Passing, about};
 use tftp_lines::{Place, Transfer};
 use tftp_texts::{Comment, TransferText};
-use tftp_views::Party;
+use tftp_views::Fed;
 
 /// Of which transfers of a recording the texts are wanted.
 #[derive(Clone, Copy, Debug, PartialEq, Eq)]
@@ -59,19 +59,17 @@ impl Kept {
     pub(crate) fn note(
         &mut self,
         alloc: Global,
-        place: &Place,
-        source: &Party,
-        target: &Party,
+        fed: &Fed<'_>,
         passing: &Passing<'_>,
     ) -> Result<(), AllocError>
-        requires source { IsPort source.now.end.port }
-        requires target { IsPort target.now.end.port }
-        requires short { length passing.now.payload.now ≤ 65527 }
+        requires source { IsPort fed.now.source.now.end.port }
+        requires target { IsPort fed.now.target.now.end.port }
+        requires short { length fed.now.payload.now ≤ 65527 }
     {
-        if let Place::Opens(transfer) = place {
+        if let Place::Opens(transfer) = fed.place {
             self.open(alloc, *transfer)?;
         }
-        let Some(number) = about(place) else {
+        let Some(number) = about(fed.place) else {
             return Ok(());
         };
         let Some(text) = self.texts.get_mut(&number) else {
@@ -80,7 +78,7 @@ impl Kept {
         let Some(comment) = Comment::new(words_of(alloc, passing)?) else {
             return Ok(());
         };
-        text.note(alloc, place, source, target, passing.payload, comment)
+        text.note(alloc, fed, comment)
     }
 
     /// Begins the text of a transfer, if it is wanted.

@@ -18,6 +18,7 @@ use tftp_recording_audit::{AuditFault, NextFrame, RecordingAudit};
 use tftp_recording_judge::{Judging, Watched};
 use tftp_streams::Latched;
 use tftp_transfers::{Attributed, AttributionFault};
+use tftp_views::Fed;
 
 /// What a recording has: its transfers by how many datagrams came before each, and what is to be told of it.
 #[derive(Drop)]
@@ -124,8 +125,13 @@ impl Session {
         if let Place::Opens(transfer) = found.place {
             self.open(alloc, transfer, &passing)?;
         }
-        self.kept
-            .note(alloc, &found.place, &source, &target, &passing)?;
+        let fed = Fed {
+            place: &found.place,
+            source: &source,
+            target: &target,
+            payload: datagram.payload,
+        };
+        self.kept.note(alloc, &fed, &passing)?;
         Ok(self.follow(&found, &passing)?)
     }
 

@@ -6,7 +6,7 @@ use Rattle.tftp_texts.specs.{Noted}
 
 -- it was fed as this datagram
 abbrev pub IsFedAs : Naming → Noted → Placed → Type 0
-IsFedAs name n p = IsFed name p n.held.place n.held.source n.held.target n.held.payload
+IsFedAs name n p = IsFed name p n.held
 
 pub at_place : (name : Naming) (ns : List Noted) (ps : List Placed) (i : ℕ) (d : Noted) → AreHeld name (map (λ n. n.held) ns) ps → i < length ns
     → (p : Placed) × (take (i + 1) ps ≡ take i ps ++ p ∷ []) × IsFedAs name (get_or ns i d) p

@@ -8,9 +8,9 @@ use Rattle.tftp_streams.specs.{Sink, WriteFault, Writes, Wrote}
 use Rattle.tftp_capture.specs.Commented.Entry.{Comment, Passed}
 use Rattle.tftp_hosts.specs.{Dir}
 use Rattle.tftp_packet.specs.{End}
-use Rattle.tftp_lines.specs.{Place, Transfer, Placed}
+use Rattle.tftp_lines.specs.{Transfer, Placed}
 use Rattle.tftp_transfers.specs.{AreEndsAfter, is_about}
-use Rattle.tftp_views.specs.{Naming, captured, captured_as, IsFed, Party}
+use Rattle.tftp_views.specs.{Naming, captured, captured_as, Held, IsFed}
 use Rattle.tftp_views.proofs.Feeding.{fed_as}
 use Rattle.tftp_texts.specs.{AreNotesAfter, Notes, Noted, HasComment, IsComment, capture_at, captured_at, is_seen, way_at}
 
@@ -47,14 +47,14 @@ module _ (end : End) (name : Naming) (x : Transfer) (whole : List Placed) (p : P
   seen : is_seen end x.number whole p ≡ true → capture_at end name x whole (p ∷ []) ≡ captured_at end name x whole p ∷ []
   seen is = ap (λ (b : Bool). map (captured_at end name x whole) (cond b (p ∷ []) [])) is
 
-  module _ (place : Place) (source target : Party) (payload : List ℕ) (fed : IsFed name p place source target payload) (is : is_seen end x.number whole p ≡ true) where
-    pub shown : (way : Dir) → way ≡ way_at end x whole p → captured_as way source target payload ∷ [] ≡ capture_at end name x whole (p ∷ [])
-    shown way is_way = sym (seen is ∙ ap (λ (w : Dir). captured name w p.datagram ∷ []) (sym is_way) ∙ ap (λ (d : Datagram). d ∷ []) (fed_as name p place source target payload fed way))
+  module _ (h : Held) (fed : IsFed name p h) (is : is_seen end x.number whole p ≡ true) where
+    pub shown : (way : Dir) → way ≡ way_at end x whole p → captured_as way h.source h.target h.payload ∷ [] ≡ capture_at end name x whole (p ∷ [])
+    shown way is_way = sym (seen is ∙ ap (λ (w : Dir). captured name w p.datagram ∷ []) (sym is_way) ∙ ap (λ (d : Datagram). d ∷ []) (fed_as name p h fed way))
 
 -- these are what a datagram that was fed as this note has in the end's capture
 abbrev pub ShowsNote : End → Notes → Noted → List Datagram → Type 0
 ShowsNote end t n ds = (name : Naming) (p : Placed) (placed : List Placed) → AreEndsAfter t.ends placed → t.ends.number ≡ t.transfer.number
-    → IsFed name p n.held.place n.held.source n.held.target n.held.payload → ds ≡ capture_at end name t.transfer placed (p ∷ [])
+    → IsFed name p n.held → ds ≡ capture_at end name t.transfer placed (p ∷ [])
 
 -- these are what the first of the notes have in the end's capture
 abbrev pub ShowsNotes : End → Notes → ℕ → List Datagram → Type 0

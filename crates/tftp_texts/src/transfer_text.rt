@@ -6,7 +6,7 @@ ghost use Rattle.tftp_capture.specs.{IsPort, Entry, said_in, HasWrittenHosts};
 ghost use Rattle.tftp_streams.specs.{Sink, Wrote};
 ghost use Rattle.tftp_transfers.specs.{AreEndsAfter, is_about};
 ghost use Rattle.tftp_lines.specs.{Placed};
-ghost use Rattle.tftp_views.specs.{Naming, IsFed};
+ghost use Rattle.tftp_views.specs.{Naming, IsFed, held_of};
 ghost use Rattle.tftp_texts.specs.Kept.{AreNotesAfter, CanBeWritten};
 ghost use Rattle.tftp_texts.specs.Views.{HasComment, IsTextOf, capture_at, header_at, is_seen, way_at};
 
@@ -18,10 +18,10 @@ use std::marker::Model;
 use tftp_capture::{Header, HostCaptureWriter};
 use tftp_hosts::Dir;
 use tftp_lines::{Endpoint, Place, Transfer};
-use tftp_packet::{Bytes, End};
+use tftp_packet::End;
 use tftp_streams::{LineWriter, WriteFault};
 use tftp_transfers::TransferEnds;
-use tftp_views::{Held, Party, sides, way_at_client, way_at_server};
+use tftp_views::{Fed, sides, way_at_client, way_at_server};
 
 /// The most datagrams that are kept.
 const MOST: usize = 1 << 40;
@@ -73,41 +73,26 @@ impl TransferText {
 
     /// Takes the next datagram of the recording, of this transfer or of another, which belongs there, with its comment.
     /// Where there is no memory for it, it was not taken.
-    pub fn note(
-        &mut self,
-        alloc: Global,
-        place: &Place,
-        source: &Party,
-        target: &Party,
-        payload: &[u8],
-        comment: Comment,
-    ) -> Result<(), AllocError>
-        requires source { IsPort source.now.end.port }
-        requires target { IsPort target.now.end.port }
-        requires short { length payload.now ≤ 65527 }
+    pub fn note(&mut self, alloc: Global, fed: &Fed<'_>, comment: Comment) -> Result<(), AllocError>
+        requires source { IsPort fed.now.source.now.end.port }
+        requires target { IsPort fed.now.target.now.end.port }
+        requires short { length fed.now.payload.now ≤ 65527 }
         ensures after { (name : Naming) (p : Placed) (older : List Placed) → AreNotesAfter self.old name older
-            → IsFed name p place.now source.now target.now payload.now → OnOk result (AreNotesAfter self.new name (p ∷ older)) }
-        ensures others { (p : Placed) → place.now ≡ p.place → is_about self.old.transfer.number p ≡ false → (result ≡ Ok tt) × (self.new ≡ self.old) }
+            → IsFed name p (held_of fed.now) → OnOk result (AreNotesAfter self.new name (p ∷ older)) }
+        ensures others { (p : Placed) → fed.now.place.now ≡ p.place → is_about self.old.transfer.number p ≡ false → (result ≡ Ok tt) × (self.new ≡ self.old) }
         ensures same { OnErr result (self.new ≡ self.old) }
         ensures transfer { self.new.transfer ≡ self.old.transfer }
     {
-        if !self.ends.is_about(place) {
+        if !self.ends.is_about(fed.place) {
             return Ok(());
         }
         if self.noted.len() >= MOST {
             return Err(AllocError);
         }
-        let bytes = Bytes::of(Vec::from_slice(alloc, payload)?);
-        self.noted.push(Noted {
-            held: Held {
-                place: *place,
-                source: *source,
-                target: *target,
-                payload: bytes,
-            },
-            comment,
-        })?;
-        self.ends.note(place, source.end, target.end, payload);
+        let held = fed.held(alloc)?;
+        self.noted.push(Noted { held, comment })?;
+        self.ends
+            .note(fed.place, fed.source.end, fed.target.end, fed.payload);
         Ok(())
     }
 
@@ -151,7 +136,7 @@ impl TransferText {
             → HasWrittenHosts W.contents start writer.old capture.old header entries
             → OnOk result ((more : List Entry) × HasWrittenHosts W.contents start writer.new capture.new header (entries ++ more) × All HasComment more
             × ((name : Naming) (p : Placed) (placed : List Placed) → AreEndsAfter self.now.ends placed → self.now.ends.number ≡ self.now.transfer.number
-            → IsFed name p noted.now.held.place noted.now.held.source noted.now.held.target noted.now.held.payload
+            → IsFed name p noted.now.held
             → said_in more ≡ capture_at end name self.now.transfer placed (p ∷ []))) }
     {
         let (place, source, target) = (&noted.held.place, &noted.held.source, &noted.held.target);

@@ -1,9 +1,9 @@
 -- What is fed is captured as it passed.
-use Rattle.std.proofs.Common.{◌≡◌, ℕ, true, false, cond, List, ◌∷◌, sym, ap, ◌∙◌, subst, map, filter}
+use Rattle.std.proofs.Common.{◌≡◌, true, false, cond, List, ◌∷◌, sym, ap, ◌∙◌, subst, map, filter}
 use Rattle.tftp_hosts.specs.{Datagram, Dir, In, Out}
-use Rattle.tftp_lines.specs.{Place, Transfer, Placed, is_of}
+use Rattle.tftp_lines.specs.{Transfer, Placed, is_of}
 use Rattle.tftp_transfers.specs.{is_at_server}
-use Rattle.tftp_views.specs.{Party, Naming, captured, captured_as, captured_at_client, captured_at_server, client_capture, client_header, server_capture, server_header, way_at_client, way_at_server, HasJudged, Client, IsClientAfter, IsFed, IsServerAfter, OneEnd, Server}
+use Rattle.tftp_views.specs.{Held, Naming, captured, captured_as, captured_at_client, captured_at_server, client_capture, client_header, server_capture, server_header, way_at_client, way_at_server, HasJudged, Client, IsClientAfter, IsFed, IsServerAfter, OneEnd, Server}
 
 module _ (name : Naming) (x : Transfer) (whole : List Placed) (p : Placed) (part : List Placed) where
   seen_too : is_at_server x.number whole p ≡ true → server_capture name x whole (p ∷ part) ≡ captured_at_server name x whole p ∷ server_capture name x whole part
@@ -22,20 +22,20 @@ server_apart s name whole p part off after = record {
 
 -- ---- one that an end saw
 
-module _ (name : Naming) (p : Placed) (place : Place) (source target : Party) (payload : List ℕ) (fed : IsFed name p place source target payload) where
-  from_host : name p.datagram.source.address ≡ source.host
+module _ (name : Naming) (p : Placed) (h : Held) (fed : IsFed name p h) where
+  from_host : name p.datagram.source.address ≡ h.source.host
   from_host = ap (λ e. name e.address) fed.from ∙ sym fed.from_host
 
-  to_host : name p.datagram.target.address ≡ target.host
+  to_host : name p.datagram.target.address ≡ h.target.host
   to_host = ap (λ e. name e.address) fed.to ∙ sym fed.to_host
 
-  pub fed_as : (way : Dir) → captured name way p.datagram ≡ captured_as way source target payload
+  pub fed_as : (way : Dir) → captured name way p.datagram ≡ captured_as way h.source h.target h.payload
   fed_as Out = λ i. record { dir = Out; local = (fed.from i).port; host = to_host i; remote = (fed.to i).port; payload = fed.carries i }
   fed_as In = λ i. record { dir = In; local = (fed.to i).port; host = from_host i; remote = (fed.from i).port; payload = fed.carries i }
 
   -- the client's judge was given it
   pub client_given : (c : Client) (end : OneEnd) (older : List Placed) (way : Dir) → is_of c.transfer.number p ≡ true → way ≡ way_at_client c.transfer p
-      → HasJudged end.judge (client_header c.transfer) (captured_as way source target payload ∷ client_capture name c.transfer older) → IsClientAfter (record c { end = end }) name (p ∷ older)
+      → HasJudged end.judge (client_header c.transfer) (captured_as way h.source h.target h.payload ∷ client_capture name c.transfer older) → IsClientAfter (record c { end = end }) name (p ∷ older)
   client_given c end older way is is_way judged =
       subst (HasJudged end.judge (client_header c.transfer))
       (sym (ap (λ b. map (captured_at_client name c.transfer) (cond b (p ∷ filter (is_of c.transfer.number) older) (filter (is_of c.transfer.number) older))) is
@@ -44,7 +44,7 @@ module _ (name : Naming) (p : Placed) (place : Place) (source target : Party) (p
 
   -- and the server's
   pub server_given : (s : Server) (end : OneEnd) (whole part : List Placed) (way : Dir) → IsServerAfter s name whole part → is_at_server s.transfer.number whole p ≡ true → way ≡ way_at_server s.transfer whole p
-      → HasJudged end.judge (server_header s.transfer) (captured_as way source target payload ∷ server_capture name s.transfer whole part) → IsServerAfter (record s { end = end }) name whole (p ∷ part)
+      → HasJudged end.judge (server_header s.transfer) (captured_as way h.source h.target h.payload ∷ server_capture name s.transfer whole part) → IsServerAfter (record s { end = end }) name whole (p ∷ part)
   server_given s end whole part way after is is_way judged = record {
     number = after.number;
     ends = after.ends;

@@ -1,7 +1,9 @@
 -- What is held until it is known who the server is, and is then given to its judge.
 use Rattle.std.proofs.Common.{◌≡◌, ◌≤◌, ℕ, suc, true, false, cond, List, [], ◌∷◌, ◌++◌, length, Option, Some, None, refl, sym, ap, ◌∙◌, subst, append_assoc, append-nil, arith, map, reverse, filter, Result, Ok, Err, OnOk, Bool}
 use Rattle.std.specs.declared.alloc.AllocError.{AllocError}
+use Rattle.std.specs.List.{All}
 use Rattle.std.proofs.lemmas.List.{length-reverse, reverse-append, reverse-reverse}
+use Rattle.std.proofs.lemmas.List.Elements.{All-append, All-from_recursion}
 use Rattle.tftp_lines.specs.{Transfer, Placed, is_of}
 use Rattle.tftp_transfers.specs.{TransferEnds, AreEndsAfter, is_settled, answered_by, asked_of, is_about, is_at_server, went_on_with, server_of}
 use Rattle.tftp_transfers.proofs.OwnDatagrams.{about_none, answered_kept, asked_kept, filter_kept, seen_none, settled_kept, went_on_kept, server_kept}
@@ -27,7 +29,7 @@ pub given_none : (s : Server) (name : Naming) (whole part : List Placed) (held :
 given_none s name whole part held are after = record { given = []; rest = reverse part; are = refl; left = are; after = after }
 
 pub given_one : (old new : Server) (name : Naming) (whole part : List Placed) (h : Held) (held : List Held)
-    → ((p : Placed) (before : List Placed) → IsServerAfter old name whole before → IsFed name p h.place h.source h.target h.payload → IsServerAfter new name whole (p ∷ before))
+    → ((p : Placed) (before : List Placed) → IsServerAfter old name whole before → IsFed name p h → IsServerAfter new name whole (p ∷ before))
     → IsGivenSoFar old name whole part (h ∷ held) → IsGivenSoFar new name whole part held
 given_one old new name whole part h held takes so = by so.rest so.are so.left where
   by : (rest : List Placed) → reverse part ≡ so.given ++ rest → AreHeld name (h ∷ held) rest → IsGivenSoFar new name whole part held
@@ -48,13 +50,18 @@ given_all s name whole part so = by so.rest so.are so.left where
 
 -- ---- one more is held
 
-pub held_more : (name : Naming) (held : List Held) (ps : List Placed) (h : Held) (p : Placed) → AreHeld name held ps → IsFed name p h.place h.source h.target h.payload → AreHeld name (held ++ h ∷ []) (ps ++ p ∷ [])
+pub held_more : (name : Naming) (held : List Held) (ps : List Placed) (h : Held) (p : Placed) → AreHeld name held ps → IsFed name p h → AreHeld name (held ++ h ∷ []) (ps ++ p ∷ [])
 held_more name [] [] h p are fed = (fed, tt)
 held_more name (g ∷ held) (q ∷ ps) h p are fed = (are.0, held_more name held ps h p are.1 fed)
 held_more name _ _ h p are fed = absurd are
 
+-- and its payload is no longer than that of another
+pub held_short : {H : Type 0} (payload_of : H → List ℕ) (held : List H) (h : H) → All (λ (k : H). length (payload_of k) ≤ 65527) held → length (payload_of h) ≤ 65527
+    → All (λ (k : H). length (payload_of k) ≤ 65527) (held ++ h ∷ [])
+held_short payload_of held h short is = All-append (λ k. length (payload_of k) ≤ 65527) held (h ∷ []) short (All-from_recursion (λ k. length (payload_of k) ≤ 65527) (h ∷ []) (is, tt))
+
 -- as the newest of the transfer's
-pub held_newest : (n : ℕ) (name : Naming) (held : List Held) (older : List Placed) (h : Held) (p : Placed) → is_about n p ≡ true → AreHeld name held (reverse (filter (is_about n) older)) → IsFed name p h.place h.source h.target h.payload
+pub held_newest : (n : ℕ) (name : Naming) (held : List Held) (older : List Placed) (h : Held) (p : Placed) → is_about n p ≡ true → AreHeld name held (reverse (filter (is_about n) older)) → IsFed name p h
     → AreHeld name (held ++ h ∷ []) (reverse (filter (is_about n) (p ∷ older)))
 held_newest n name held older h p about are fed =
     subst (AreHeld name (held ++ h ∷ [])) (sym (ap (λ b. reverse (cond b (p ∷ filter (is_about n) older) (filter (is_about n) older))) about ∙ reverse-append (p ∷ []) (filter (is_about n) older)))

@@ -2,10 +2,10 @@
 use Rattle.std.specs.Prelude.{◌≡◌, ℕ, true, false, List, [], filter, length, reverse, Option, Some, None}
 use Rattle.std.specs.List.{AllZip}
 use Rattle.tftp_judge.specs.{Judge, Refusal}
-use Rattle.tftp_lines.specs.{Place, Transfer, Placed}
+use Rattle.tftp_lines.specs.{Transfer, Placed}
 use Rattle.tftp_transfers.specs.{is_settled, is_about, TransferEnds, AreEndsAfter}
+use Rattle.tftp_views.specs.declared.fed.Fed.{Fed}
 use Rattle.tftp_views.specs.declared.held.Held.{Held}
-use Rattle.tftp_views.specs.declared.party.Party.{Party}
 use Rattle.tftp_views.specs.Captured.{Naming, client_capture, client_header, server_capture, server_header}
 use Rattle.tftp_views.specs.Judged.{HasJudged}
 
@@ -20,14 +20,18 @@ pub record Client : Type 0 where
   pub transfer : Transfer
   pub end : OneEnd
 
--- A datagram with its place, as it is fed: with the names of its hosts.
-pub record IsFed (name : Naming) (p : Placed) (place : Place) (source target : Party) (payload : List ℕ) : Type 0 where
-  pub belongs : place ≡ p.place
-  pub from : p.datagram.source ≡ source.end
-  pub to : p.datagram.target ≡ target.end
-  pub carries : p.datagram.payload ≡ payload
-  pub from_host : source.host ≡ name source.end.address
-  pub to_host : target.host ≡ name target.end.address
+-- what is held of a datagram that is fed
+abbrev pub held_of : Fed → Held
+held_of f = record { place = f.place.now; source = f.source.now; target = f.target.now; payload = f.payload.now }
+
+-- It is this datagram with its place, and with the names of its hosts.
+pub record IsFed (name : Naming) (p : Placed) (h : Held) : Type 0 where
+  pub belongs : h.place ≡ p.place
+  pub from : p.datagram.source ≡ h.source.end
+  pub to : p.datagram.target ≡ h.target.end
+  pub carries : p.datagram.payload ≡ h.payload
+  pub from_host : h.source.host ≡ name h.source.end.address
+  pub to_host : h.target.host ≡ name h.target.end.address
 
 -- It was given the client's view of these datagrams of a recording, and nothing else.
 abbrev pub IsClientAfter : Client → Naming → List Placed → Type 0
@@ -55,7 +59,7 @@ pub record View : Type 0 where
 
 -- these datagrams are held, as they were fed
 abbrev pub AreHeld : Naming → List Held → List Placed → Type 0
-AreHeld name held placed = AllZip (λ h p. IsFed name p h.place h.source h.target h.payload) held placed
+AreHeld name held placed = AllZip (λ h p. IsFed name p h) held placed
 
 -- It is not known yet who the server is: those of the transfer are held, and no others.
 pub record IsWaiting (v : View) (name : Naming) (placed : List Placed) : Type 0 where

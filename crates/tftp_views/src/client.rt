@@ -7,10 +7,10 @@ ghost use Rattle.tftp_law.specs.{IsEnded};
 ghost use Rattle.tftp_lines.specs.{Placed, is_of};
 ghost use Rattle.tftp_views.specs.Captured.{Naming, client_capture, client_header};
 ghost use Rattle.tftp_views.specs.Judged.{IsJudgedWith};
-ghost use Rattle.tftp_views.specs.Kept.{IsClientAfter, IsFed};
+ghost use Rattle.tftp_views.specs.Kept.{IsClientAfter, IsFed, held_of};
 
 use crate::end_judge::EndJudge;
-use crate::party::Party;
+use crate::fed::Fed;
 use crate::ways::way_at_client;
 use std::alloc::{AllocError, Global};
 use std::marker::Model;
@@ -60,31 +60,24 @@ impl<D: Delivered + Drop> ClientJudge<D> {
 
     /// Takes the next datagram of the recording, of this transfer or of another, which belongs there. Memory is wanted only
     /// of one whose payload is longer than that of the one before it, and then it was not taken. A refusal is kept.
-    pub fn feed(
-        &mut self,
-        alloc: Global,
-        place: &Place,
-        source: &Party,
-        target: &Party,
-        payload: &[u8],
-    ) -> Result<(), AllocError>
+    pub fn feed(&mut self, alloc: Global, fed: &Fed<'_>) -> Result<(), AllocError>
         requires few { self.old.end.judge.fed < 2 ^ 40 }
-        requires short { length payload.now ≤ 65527 }
+        requires short { length fed.now.payload.now ≤ 65527 }
         ensures after { (name : Naming) (p : Placed) (older : List Placed) → IsClientAfter self.old name older
-            → IsFed name p place.now source.now target.now payload.now → OnOk result (IsClientAfter self.new name (p ∷ older)) }
-        ensures others { (p : Placed) → place.now ≡ p.place → is_of self.old.transfer.number p ≡ false
+            → IsFed name p (held_of fed.now) → OnOk result (IsClientAfter self.new name (p ∷ older)) }
+        ensures others { (p : Placed) → fed.now.place.now ≡ p.place → is_of self.old.transfer.number p ≡ false
             → (result ≡ Ok tt) × (self.new ≡ self.old) }
-        ensures longer { OnErr result (self.old.end.room < length payload.now) }
+        ensures longer { OnErr result (self.old.end.room < length fed.now.payload.now) }
         ensures same { OnErr result (self.new ≡ self.old) }
         ensures counts { self.new.end.judge.fed ≤ self.old.end.judge.fed + 1 }
         ensures for_good { (refusal : RefusalKind) → self.old.end.judge.refused ≡ Some refusal → self.new.end.judge ≡ self.old.end.judge }
         ensures transfer { self.new.transfer ≡ self.old.transfer }
     {
-        if !self.is_at_client(place) {
+        if !self.is_at_client(fed.place) {
             return Ok(());
         }
-        let dir = way_at_client(&self.transfer, source.end);
-        self.judge.put(alloc, dir, source, target, payload)
+        let dir = way_at_client(&self.transfer, fed.source.end);
+        self.judge.put(alloc, dir, fed)
     }
 
     fn is_at_client(&self, place: &Place) -> bool

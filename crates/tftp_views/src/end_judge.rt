@@ -9,7 +9,7 @@ ghost use Rattle.tftp_law.specs.{IsEnded};
 ghost use Rattle.tftp_views.specs.Captured.{captured_as};
 ghost use Rattle.tftp_views.specs.Judged.{HasJudged, IsJudgedWith};
 
-use crate::party::Party;
+use crate::fed::Fed;
 use crate::ways::captured;
 use std::alloc::{AllocError, Global};
 use std::marker::Model;
@@ -55,30 +55,26 @@ impl<D: Delivered + Drop> EndJudge<D> {
 
     /// Gives it the next datagram, which passed its end this way; a refusal it keeps. Memory for the payload is wanted only of one that is longer than the
     /// one before it, and then it was not given it.
-    pub fn put(
-        &mut self,
-        alloc: Global,
-        dir: Dir,
-        source: &Party,
-        target: &Party,
-        payload: &[u8],
-    ) -> Result<(), AllocError>
+    pub fn put(&mut self, alloc: Global, dir: Dir, fed: &Fed<'_>) -> Result<(), AllocError>
         requires few { self.old.judge.fed < 2 ^ 40 }
-        requires short { length payload.now ≤ 65527 }
+        requires short { length fed.now.payload.now ≤ 65527 }
         ensures judged { (h : HeaderParts) (given : List DatagramParts) → HasJudged self.old.judge h given
-            → OnOk result (HasJudged self.new.judge h (captured_as dir source.now target.now payload.now ∷ given)) }
-        ensures room { OnOk result (self.new.room ≡ length payload.now) }
-        ensures longer { OnErr result (self.old.room < length payload.now) }
+            → OnOk result (HasJudged self.new.judge h (captured_as dir fed.now.source.now fed.now.target.now fed.now.payload.now ∷ given)) }
+        ensures room { OnOk result (self.new.room ≡ length fed.now.payload.now) }
+        ensures longer { OnErr result (self.old.room < length fed.now.payload.now) }
         ensures same { OnErr result (self.new ≡ self.old) }
         ensures counts { self.new.judge.fed ≤ self.old.judge.fed + 1 }
         ensures for_good { (refusal : RefusalKind) → self.old.judge.refused ≡ Some refusal → self.new.judge ≡ self.old.judge }
     {
         let mut bytes = self.datagram.payload.take();
-        if let Err(error) = refill(&mut bytes, payload) {
+        if let Err(error) = refill(&mut bytes, fed.payload) {
             self.datagram.payload = Bytes::of(bytes);
             return Err(error);
         }
-        self.give(alloc, captured(dir, source, target, Bytes::of(bytes)));
+        self.give(
+            alloc,
+            captured(dir, fed.source, fed.target, Bytes::of(bytes)),
+        );
         Ok(())
     }
 

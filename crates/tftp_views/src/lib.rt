@@ -3,6 +3,7 @@
 
 mod client;
 mod end_judge;
+mod fed;
 mod held;
 pub mod laws;
 mod party;
@@ -12,6 +13,7 @@ mod ways;
 
 pub use client::ClientJudge;
 pub use end_judge::EndJudge;
+pub use fed::Fed;
 pub use held::Held;
 pub use party::Party;
 pub use server::ServerJudge;

@@ -8,18 +8,18 @@ ghost use Rattle.tftp_transfers.specs.{AreEndsAfter, is_settled, is_at_server};
 ghost use Rattle.tftp_lines.specs.{Placed};
 ghost use Rattle.tftp_views.specs.Captured.{Naming, server_capture, server_header};
 ghost use Rattle.tftp_views.specs.Judged.{IsJudgedWith};
-ghost use Rattle.tftp_views.specs.Kept.{IsFed, IsServerAfter};
+ghost use Rattle.tftp_views.specs.Kept.{IsFed, IsServerAfter, held_of};
 
 use crate::end_judge::EndJudge;
+use crate::fed::Fed;
 use crate::held::Held;
-use crate::party::Party;
 use crate::ways::{captured, way_at_server};
 use std::alloc::{AllocError, Global};
 use std::marker::Model;
 use tftp_blocks::Delivered;
 use tftp_capture::Header;
 use tftp_judge::{Meaning, Refusal};
-use tftp_lines::{Place, Transfer};
+use tftp_lines::Transfer;
 use tftp_packet::End;
 use tftp_transfers::TransferEnds;
 
@@ -67,37 +67,33 @@ impl<D: Delivered + Drop> ServerJudge<D> {
     /// Takes the next datagram of the recording, from its first on, of this transfer or of another, which belongs there; or, as
     /// the recording comes, where it is known who the server is. Memory is wanted only of one whose payload is longer than that
     /// of the one before it, and then it was not taken. A refusal is kept.
-    pub fn feed(
-        &mut self,
-        alloc: Global,
-        place: &Place,
-        source: &Party,
-        target: &Party,
-        payload: &[u8],
-    ) -> Result<(), AllocError>
+    pub fn feed(&mut self, alloc: Global, fed: &Fed<'_>) -> Result<(), AllocError>
         requires few { self.old.end.judge.fed < 2 ^ 40 }
-        requires short { length payload.now ≤ 65527 }
+        requires short { length fed.now.payload.now ≤ 65527 }
         ensures after { (name : Naming) (whole : List Placed) (p : Placed) (part : List Placed) → IsServerAfter self.old name whole part
-            → IsFed name p place.now source.now target.now payload.now → OnOk result (IsServerAfter self.new name whole (p ∷ part)) }
+            → IsFed name p (held_of fed.now) → OnOk result (IsServerAfter self.new name whole (p ∷ part)) }
         ensures goes_on { (name : Naming) (p : Placed) (older : List Placed) → IsServerAfter self.old name older older
-            → is_settled self.old.transfer.number older ≡ true → IsFed name p place.now source.now target.now payload.now
+            → is_settled self.old.transfer.number older ≡ true → IsFed name p (held_of fed.now)
             → OnOk result (IsServerAfter self.new name (p ∷ older) (p ∷ older)) }
         ensures settled { (p : Placed) (older : List Placed) → is_settled self.old.transfer.number older ≡ true
             → is_settled self.new.transfer.number (p ∷ older) ≡ true }
         ensures others { (name : Naming) (whole : List Placed) (p : Placed) (part : List Placed) → IsServerAfter self.old name whole part
-            → IsFed name p place.now source.now target.now payload.now → is_at_server self.old.transfer.number whole p ≡ false
+            → IsFed name p (held_of fed.now) → is_at_server self.old.transfer.number whole p ≡ false
             → (result ≡ Ok tt) × (self.new ≡ self.old) }
-        ensures longer { OnErr result (self.old.end.room < length payload.now) }
+        ensures longer { OnErr result (self.old.end.room < length fed.now.payload.now) }
         ensures same { OnErr result (self.new ≡ self.old) }
         ensures counts { self.new.end.judge.fed ≤ self.old.end.judge.fed + 1 }
         ensures for_good { (refusal : RefusalKind) → self.old.end.judge.refused ≡ Some refusal → self.new.end.judge ≡ self.old.end.judge }
         ensures transfer { self.new.transfer ≡ self.old.transfer }
     {
-        if !self.ends.is_at_server(place, source.end, target.end) {
+        if !self
+            .ends
+            .is_at_server(fed.place, fed.source.end, fed.target.end)
+        {
             return Ok(());
         }
-        let dir = way_at_server(&self.transfer, &self.ends, place, source.end);
-        self.judge.put(alloc, dir, source, target, payload)
+        let dir = way_at_server(&self.transfer, &self.ends, fed.place, fed.source.end);
+        self.judge.put(alloc, dir, fed)
     }
 
     /// The same as `feed`, of one that was held, whose memory it takes over.
@@ -105,7 +101,7 @@ impl<D: Delivered + Drop> ServerJudge<D> {
         requires few { self.old.end.judge.fed < 2 ^ 40 }
         requires short { length held.payload ≤ 65527 }
         ensures after { (name : Naming) (whole : List Placed) (p : Placed) (part : List Placed) → IsServerAfter self.old name whole part
-            → IsFed name p held.place held.source held.target held.payload → IsServerAfter self.new name whole (p ∷ part) }
+            → IsFed name p held → IsServerAfter self.new name whole (p ∷ part) }
         ensures counts { self.new.end.judge.fed ≤ self.old.end.judge.fed + 1 }
         ensures transfer { self.new.transfer ≡ self.old.transfer }
     {

@@ -7,10 +7,10 @@ ghost use Rattle.tftp_transfers.specs.{AreEndsAfter, is_settled, is_about};
 ghost use Rattle.tftp_lines.specs.{Placed};
 ghost use Rattle.tftp_views.specs.Captured.{Naming, server_capture, server_header};
 ghost use Rattle.tftp_views.specs.Judged.{IsJudgedWith};
-ghost use Rattle.tftp_views.specs.Kept.{AreHeld, IsFed, IsServerAfter, IsViewAfter, fed_to, has_refused};
+ghost use Rattle.tftp_views.specs.Kept.{AreHeld, IsFed, IsServerAfter, IsViewAfter, fed_to, has_refused, held_of};
 
+use crate::fed::Fed;
 use crate::held::Held;
-use crate::party::Party;
 use crate::server::ServerJudge;
 use std::alloc::{AllocError, Global};
 use std::collections::VecDeque;
@@ -18,8 +18,7 @@ use std::marker::Model;
 use std::mem;
 use tftp_blocks::Delivered;
 use tftp_judge::{Meaning, Refusal};
-use tftp_lines::{Place, Transfer};
-use tftp_packet::Bytes;
+use tftp_lines::Transfer;
 use tftp_transfers::TransferEnds;
 
 /// The judge of a transfer at its server (RFC 1350, section 2), fed with a recording from its first datagram to its last.
@@ -67,59 +66,41 @@ impl<D: Delivered + Drop> ServerView<D> {
 
     /// Takes the next datagram of the recording, of this transfer or of another, which belongs there. Where there is no
     /// memory for it, it was not taken. A refusal is kept.
-    pub fn feed(
-        &mut self,
-        alloc: Global,
-        place: &Place,
-        source: &Party,
-        target: &Party,
-        payload: &[u8],
-    ) -> Result<(), AllocError>
+    pub fn feed(&mut self, alloc: Global, fed: &Fed<'_>) -> Result<(), AllocError>
         requires few { fed_to self.old < 2 ^ 40 }
-        requires short { length payload.now ≤ 65527 }
+        requires short { length fed.now.payload.now ≤ 65527 }
         ensures after { (name : Naming) (p : Placed) (older : List Placed) → IsViewAfter self.old name older
-            → IsFed name p place.now source.now target.now payload.now → OnOk result (IsViewAfter self.new name (p ∷ older)) }
-        ensures others { (p : Placed) → place.now ≡ p.place → is_about self.old.transfer.number p ≡ false
+            → IsFed name p (held_of fed.now) → OnOk result (IsViewAfter self.new name (p ∷ older)) }
+        ensures others { (p : Placed) → fed.now.place.now ≡ p.place → is_about self.old.transfer.number p ≡ false
             → (result ≡ Ok tt) × (self.new ≡ self.old) }
         ensures same { OnErr result (self.new ≡ self.old) }
         ensures counts { fed_to self.new ≤ fed_to self.old + 1 }
         ensures transfer { self.new.transfer ≡ self.old.transfer }
     {
-        if !self.ends.is_about(place) {
+        if !self.ends.is_about(fed.place) {
             return Ok(());
         }
         if let Some(judge) = &mut self.judge {
-            return judge.feed(alloc, place, source, target, payload);
+            return judge.feed(alloc, fed);
         }
-        self.wait(alloc, place, source, target, payload)
+        self.wait(alloc, fed)
     }
 
     /// Holds one of the transfer's datagrams, until it is known who the server is.
-    fn wait(
-        &mut self,
-        alloc: Global,
-        place: &Place,
-        source: &Party,
-        target: &Party,
-        payload: &[u8],
-    ) -> Result<(), AllocError>
+    fn wait(&mut self, alloc: Global, fed: &Fed<'_>) -> Result<(), AllocError>
         requires waits { self.old.judge ≡ None }
         requires few { length self.old.held < 2 ^ 40 }
-        requires short { length payload.now ≤ 65527 }
+        requires short { length fed.now.payload.now ≤ 65527 }
         ensures after { (name : Naming) (p : Placed) (older : List Placed) → IsViewAfter self.old name older
-            → IsFed name p place.now source.now target.now payload.now → is_about self.old.transfer.number p ≡ true
+            → IsFed name p (held_of fed.now) → is_about self.old.transfer.number p ≡ true
             → OnOk result (IsViewAfter self.new name (p ∷ older)) }
         ensures same { OnErr result (self.new ≡ self.old) }
         ensures counts { fed_to self.new ≤ fed_to self.old + 1 }
         ensures transfer { self.new.transfer ≡ self.old.transfer }
     {
-        self.held.push_back(Held {
-            place: *place,
-            source: *source,
-            target: *target,
-            payload: Bytes::of(Vec::from_slice(alloc, payload)?),
-        })?;
-        self.ends.note(place, source.end, target.end, payload);
+        self.held.push_back(fed.held(alloc)?)?;
+        self.ends
+            .note(fed.place, fed.source.end, fed.target.end, fed.payload);
         if self.ends.is_settled() {
             let held = mem::replace(&mut self.held, VecDeque::new(alloc));
             self.judge = Some(judge_of(alloc, self.transfer, self.ends, held));

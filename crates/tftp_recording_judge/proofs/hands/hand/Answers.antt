@@ -6,7 +6,7 @@ use Rattle.tftp_recording_judge.proofs.Keeping.{handed_alone, handed_one, held_o
 use Rattle.tftp_recording_judge.proofs.hands.hand.Goals as goal
 
 pub returns-in-Some-get_mut-clause-handed : goal.returns-in-Some-get_mut-clause-handed
-returns-in-Some-get_mut-clause-handed g c judging name out p older fed doubts kept =
+returns-in-Some-get_mut-clause-handed g c judging name out p older fed belongs doubts kept =
     let was = sym c.in-Some-get_mut.ensures.value in
     let updates = (c.get_mut.follows.holds c.take.new.self).3 (ap is_some was) in
     let held = held_one (λ n. false) c.args.watched.now (c.get_mut.follows.lender c.take.new.self) judging name out p older c.in-Some.number refl c.in-Some-get_mut.one.now was kept in
@@ -14,4 +14,4 @@ returns-in-Some-get_mut-clause-handed g c judging name out p older fed doubts ke
     (on_ok_map c.take.result
     (λ stands. handed_alone (c.get_mut.follows.lender c.take.new.self) judging name out p older c.in-Some.number
     (handed_one (λ n. false) c.args.watched.now (c.get_mut.follows.lender c.take.new.self) judging name out p older c.in-Some.number refl c.in-Some-get_mut.one.now c.take.new.self was updates.0 c.take.ensures.transfer stands kept))
-    (c.take.ensures.stands judging c.in-Some-get_mut.one.now.transfer name p older held.1 fed doubts))
+    (c.take.ensures.stands judging c.in-Some-get_mut.one.now.transfer name p older held.1 fed belongs doubts))

@@ -4,6 +4,7 @@ use Rattle.tftp_lines.specs.{is_of}
 use Rattle.tftp_between.specs.{between_capture, HasPassed, IsBetweenAfter, IsGoingOn, View}
 use Rattle.tftp_between.proofs.Feeding.{passed_fed}
 use Rattle.tftp_between.proofs.Holding.{goes_on_too, is_going_on, passes_by}
+use Rattle.tftp_views.specs.{held_of}
 use Rattle.tftp_views.proofs.Holding.{on_ok}
 use Rattle.tftp_between.proofs.between_view.BetweenView.feed.Goals as goal
 
@@ -22,5 +23,5 @@ returns-in-Some-clause-after g c p older after fed =
     let goes : IsGoingOn c.in-Some.judge v older = is_going_on v c.in-Some.judge older c.in-Some.is (subst (λ (v : View). IsBetweenAfter v older) (sym c.self.view_is) after) in
     on_ok c.put.result
     (λ passed. goes_on_too c.in-Some.judge c.put.new.self v w p older refl refl c.put.ensures.sides of_it goes
-    (subst (λ (t : TapDatagram). HasPassed c.put.new.self (t ∷ between_capture v.transfer older)) (sym (passed_fed p c.args.place.now c.args.source.now c.args.target.now c.args.payload.now fed)) passed))
+    (subst (λ (t : TapDatagram). HasPassed c.put.new.self (t ∷ between_capture v.transfer older)) (sym (passed_fed p (held_of c.args.fed.now) fed)) passed))
     (c.put.ensures.passed (between_capture v.transfer older) goes.passed)

@@ -3,8 +3,10 @@ use Rattle.std.specs.List.{All}
 use Rattle.tftp_tap_judge.specs.{TapDatagram as Owned}
 use Rattle.tftp_transfers.specs.{AreEndsAfter, is_settled}
 use Rattle.tftp_lines.specs.{is_of}
+use Rattle.tftp_views.specs.{held_of}
 use Rattle.tftp_between.specs.{between_capture, AreHeld, Between, BetweenBy, IsBetweenAfter, IsGoingOn, IsWaiting, View}
-use Rattle.tftp_between.proofs.Holding.{held_newest, held_short, is_waiting}
+use Rattle.tftp_between.proofs.Holding.{held_newest, is_waiting}
+use Rattle.tftp_views.proofs.Holding.{held_short}
 use Rattle.tftp_between.proofs.between_view.BetweenView.wait.Goals as goal
 use Rattle.tftp_between.proofs.between_view.BetweenView.wait.Goals.{in-Some+in-Some-self-2+in-Some-self-3+in-Some-self-10, in-Some+in-Some-self-2+in-Some-self-3+in-None-1, in-Some+in-Some-self-2+in-None-1, in-Some+in-None-1, in-None-4}
 
@@ -13,7 +15,7 @@ judge_of-requires-clause-short g c =
     let short = c.requires.short in
     let copied = c.in_ok-passed.ensures.short in
     subst (λ (l : List Owned). All (λ (d : Owned). length d.payload ≤ 65527) l) (sym (ap (λ q. q.items) c.replace-held.ensures.value ∙ c.in_ok-push_back.ensures.items))
-    (held_short c.self.inside.held.items c.in_ok-passed.field-0 c.self.invariant.2 (omega arith))
+    (held_short (λ (d : Owned). d.payload) c.self.inside.held.items c.in_ok-passed.field-0 c.self.invariant.2 (omega arith))
 
 pub invariant_of-self-else-is_settled : goal.invariant_of-self-else-is_settled
 invariant_of-self-else-is_settled g c =
@@ -24,7 +26,7 @@ invariant_of-self-else-is_settled g c =
     let len = c.in_ok-push_back.ensures.len in
     let own = c.self.inside.held.ok.0 in
     let all : All (λ (d : Owned). length d.payload ≤ 65527) c.push_back.new.self.items = subst (λ (l : List Owned). All (λ (d : Owned). length d.payload ≤ 65527) l) (sym c.in_ok-push_back.ensures.items)
-    (held_short c.self.inside.held.items c.in_ok-passed.field-0 c.self.invariant.2 (omega arith)) in
+    (held_short (λ (d : Owned). d.payload) c.self.inside.held.items c.in_ok-passed.field-0 c.self.invariant.2 (omega arith)) in
     (c.note.ensures.number ∙ c.self.invariant.0, omega arith, all)
 
 pub returns-else-is_settled-clause-after : goal.returns-else-is_settled-clause-after
@@ -41,7 +43,7 @@ returns-else-is_settled-clause-after g c p older after fed is =
       ends = ends;
       unsettled = known ∙ c.if-is_settled.false;
       held = subst (λ (l : List Owned). AreHeld l (between_capture v.transfer (p ∷ older))) (sym c.in_ok-push_back.ensures.items)
-          (held_newest v.transfer v.held c.in_ok-passed.field-0 p older c.args.place.now c.args.source.now c.args.target.now c.args.payload.now fed of_it c.in_ok-passed.ensures.passed waits.held);
+          (held_newest v.transfer v.held c.in_ok-passed.field-0 p older (held_of c.args.fed.now) fed of_it c.in_ok-passed.ensures.passed waits.held);
     })
 
 pub returns-then-is_settled-clause-after : goal.returns-then-is_settled-clause-after
@@ -55,7 +57,7 @@ returns-then-is_settled-clause-after g c p older after fed is =
     let known = ap (λ k. is_settled k (p ∷ older)) (sym (c.note.ensures.number ∙ c.self.invariant.0)) ∙ sym (c.is_settled.ensures (p ∷ older) ends) in
     let held : AreHeld c.replace-held.result.items (between_capture v.transfer (p ∷ older)) =
     subst (λ (l : List Owned). AreHeld l (between_capture v.transfer (p ∷ older))) (sym (ap (λ q. q.items) c.replace-held.ensures.value ∙ c.in_ok-push_back.ensures.items))
-    (held_newest v.transfer v.held c.in_ok-passed.field-0 p older c.args.place.now c.args.source.now c.args.target.now c.args.payload.now fed of_it c.in_ok-passed.ensures.passed waits.held) in
+    (held_newest v.transfer v.held c.in_ok-passed.field-0 p older (held_of c.args.fed.now) fed of_it c.in_ok-passed.ensures.passed waits.held) in
     let goes : IsGoingOn c.judge_of.result w (p ∷ older) = record {
       settled = known ∙ c.if-is_settled.true;
       none = ap (λ q. q.items) c.replace-held.ensures.after ∙ c.new.ensures.items;

@@ -1,6 +1,7 @@
 use Rattle.std.proofs.Common.{sym, ◌∙◌, subst, Option}
 use Rattle.tftp_tap_judge.specs.{TapJudge}
 use Rattle.tftp_between.specs.{HasTapped, Between, HasPassed, PassedBy, passed_as}
+use Rattle.tftp_views.specs.{held_of}
 use Rattle.tftp_between.proofs.Tapping.{rests_more}
 use Rattle.tftp_between.proofs.sides_judge.SidesJudge.put.Goals as goal
 
@@ -8,4 +9,4 @@ pub returns-in-Some-refused-clause-passed : goal.returns-in-Some-refused-clause-
 returns-in-Some-refused-clause-passed g c given passed =
     let b : Between = record { sides = c.self.inside.sides; judge = c.self.inside.judge; counted = c.self.inside.counted } in
     let tapped : HasTapped c.in-Some.judge b.sides given = subst (λ (o : Option TapJudge). PassedBy o b given) c.in-Some.is (subst (λ (b : Between). HasPassed b given) (sym c.self.view_is) passed) in
-    rests_more c.in-Some.judge b.sides given (passed_as c.args.source.now c.args.target.now c.args.payload.now) c.in-Some-refused.field-0 (sym c.refused.ensures ∙ c.in-Some-refused.is) tapped
+    rests_more c.in-Some.judge b.sides given (passed_as (held_of c.args.fed.now)) c.in-Some-refused.field-0 (sym c.refused.ensures ∙ c.in-Some-refused.is) tapped

@@ -18,11 +18,11 @@ returns-clause-stands g c named name out recorded d stands of from to =
     c.in_ok-found.ensures.doubts named older d stands.attribution of
     ∙ ap (λ t. doubts_of (record { datagram = d; moment = max t (clock older); place = c.in_ok-found.found.place }) older) (sym of.time)
     ∙ ap (λ q. doubts_of (record { datagram = d; moment = max d.time (clock older); place = q }) older) belongs in
-    let fed : IsFed name p c.in_ok-found.found.place c.args.source.now c.args.target.now c.args.payload.now =
+    let fed : IsFed name p (record { place = c.in_ok-found.found.place; source = c.args.source.now; target = c.args.target.now; payload = c.args.payload.now }) =
     record { belongs = belongs; from = of.source; to = of.target; carries = of.payload; from_host = from; to_host = to } in
     record {
       works = refl;
       attribution = c.in_ok-found.ensures.stands named older d stands.attribution of;
-      transfers = c.in_ok-hand_on.ensures.kept c.args.self.now.judging name out p older fed doubts
+      transfers = c.in_ok-hand_on.ensures.kept c.args.self.now.judging name out p older fed belongs doubts
           (c.in_ok-open.ensures.kept name out p older belongs (unheard_before named recorded (max d.time (clock older)) d) stands.transfers);
     }

@@ -1,4 +1,4 @@
-use Rattle.std.proofs.Common.{◌≡◌, ◌∷◌, [], true, sym, ap, ◌∙◌, subst}
+use Rattle.std.proofs.Common.{◌≡◌, ℕ, List, ◌∷◌, [], true, sym, ap, ◌∙◌, subst}
 use Rattle.tftp_capture.specs.{IsPort}
 use Rattle.tftp_hosts.specs.{Datagram, Dir, In, Out}
 use Rattle.tftp_views.specs.{IsFed, Party, captured_as}
@@ -41,6 +41,6 @@ returns-clause-written g c = λ start header entries h.
     let is : is_seen c.args.end x.number placed p ≡ true =
     ap (λ n. is_seen c.args.end n placed p) (sym number) ∙ sym (c.is_seen.ensures placed p ends fed.belongs fed.from fed.to) ∙ c.if-not-is_seen.false in
     ap (λ (d : Datagram). d ∷ []) (sym (c.sides-local.ensures payload))
-    ∙ shown c.args.end name x placed p held.place held.source held.target payload (subst (IsFed name p held.place held.source held.target) (sym c.as_slice-payload.ensures) fed) is
+    ∙ shown c.args.end name x placed p (record held { payload = payload }) (subst (λ (l : List ℕ). IsFed name p (record held { payload = l })) (sym c.as_slice-payload.ensures) fed) is
     c.way-dir.result (c.way-dir.ensures placed p ends number fed.belongs fed.from)))
     (c.put.ensures.written start header _ noted)

@@ -1,6 +1,6 @@
 use Rattle.std.proofs.Common.{◌≡◌, true, sym, ap, ◌∙◌, subst}
 use Rattle.tftp_lines.specs.{is_of}
-use Rattle.tftp_views.specs.{client_capture, client_header, Client, IsClientAfter}
+use Rattle.tftp_views.specs.{client_capture, client_header, Client, IsClientAfter, held_of}
 use Rattle.tftp_views.proofs.Feeding.{client_given}
 use Rattle.tftp_views.proofs.Holding.{on_ok}
 use Rattle.tftp_views.proofs.client.ClientJudge.feed.Goals as goal
@@ -12,5 +12,5 @@ returns-clause-after g c name p older after fed =
     let own : is_of k.transfer.number p ≡ true =
     ap (λ (k : Client). is_of k.transfer.number p) c.self.view_is ∙ sym (c.is_at_client.ensures p fed.belongs) ∙ c.if-not-is_at_client.false in
     on_ok c.put.result
-    (client_given name p c.args.place.now c.args.source.now c.args.target.now c.args.payload.now fed k c.put.new.self older c.way_at_client-dir.result own (c.way_at_client-dir.ensures p fed.from))
+    (client_given name p (held_of c.args.fed.now) fed k c.put.new.self older c.way_at_client-dir.result own (c.way_at_client-dir.ensures p fed.from))
     (c.put.ensures.judged (client_header k.transfer) (client_capture name k.transfer older) before)

@@ -1,6 +1,6 @@
-use Rattle.std.proofs.Common.{◌≡◌, ◌∷◌, [], true, false, List, sym, ap, ◌∙◌, subst}
+use Rattle.std.proofs.Common.{◌≡◌, ◌∷◌, [], true, false, sym, ap, ◌∙◌, subst}
 use Rattle.tftp_transfers.specs.{is_at_server}
-use Rattle.tftp_views.specs.{server_capture, server_header, IsServerAfter, Server}
+use Rattle.tftp_views.specs.{server_capture, server_header, IsServerAfter, Server, held_of}
 use Rattle.tftp_views.proofs.Feeding.{server_apart, server_given}
 use Rattle.tftp_views.proofs.Holding.{on_ok}
 use Rattle.tftp_views.proofs.Settling.{server_goes_on}
@@ -25,7 +25,7 @@ returns-clause-after g c name whole p part after fed =
     let seen : is_at_server s.transfer.number whole p ≡ true =
     ap (λ k. is_at_server k whole p) (sym before.number) ∙ sym (c.is_at_server.ensures whole p before.ends fed.belongs fed.from fed.to) ∙ c.if-not-is_at_server.false in
     on_ok c.put.result
-    (server_given name p c.args.place.now c.args.source.now c.args.target.now c.args.payload.now fed s c.put.new.self whole part c.way_at_server-dir.result before seen
+    (server_given name p (held_of c.args.fed.now) fed s c.put.new.self whole part c.way_at_server-dir.result before seen
     (c.way_at_server-dir.ensures whole p before.ends before.number fed.belongs fed.from))
     (c.put.ensures.judged (server_header s.transfer) (server_capture name s.transfer whole part) before.judged)
 

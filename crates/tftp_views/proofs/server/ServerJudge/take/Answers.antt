@@ -1,4 +1,4 @@
-use Rattle.std.proofs.Common.{◌≡◌, ◌∷◌, true, List, sym, ap, ◌∙◌, subst}
+use Rattle.std.proofs.Common.{◌≡◌, ◌∷◌, true, sym, ap, ◌∙◌, subst}
 use Rattle.tftp_hosts.specs.{Datagram}
 use Rattle.tftp_transfers.specs.{is_at_server}
 use Rattle.tftp_views.specs.{server_capture, server_header, HasJudged, IsServerAfter, Server}
@@ -11,7 +11,7 @@ returns-clause-after g c name whole p part after fed =
     let before : IsServerAfter s name whole part = subst (λ (s : Server). IsServerAfter s name whole part) (sym c.self.view_is) after in
     let seen : is_at_server s.transfer.number whole p ≡ true =
     ap (λ k. is_at_server k whole p) (sym before.number) ∙ sym (c.is_at_server.ensures whole p before.ends fed.belongs fed.from fed.to) ∙ c.if-not-is_at_server.false in
-    server_given name p c.args.held.place c.args.held.source c.args.held.target c.args.held.payload fed s c.give.new.self whole part c.way_at_server-dir.result before seen
+    server_given name p c.args.held fed s c.give.new.self whole part c.way_at_server-dir.result before seen
     (c.way_at_server-dir.ensures whole p before.ends before.number fed.belongs fed.from)
     (subst (λ (d : Datagram). HasJudged c.give.new.self.judge (server_header s.transfer) (d ∷ server_capture name s.transfer whole part)) c.captured.ensures
     (c.give.ensures.judged (server_header s.transfer) (server_capture name s.transfer whole part) before.judged))
