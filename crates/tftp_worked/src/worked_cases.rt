@@ -6,51 +6,40 @@ ghost use Rattle.tftp_packet.specs.{Client, Server};
 ghost use Rattle.tftp_law.specs.{IsDressed, Shows, ShowsBy, IsSeen, IsLawful, IsLawfulUpTo};
 ghost use Rattle.tftp_worked.specs.WorkedWindows.{at_service};
 ghost use Rattle.tftp_worked.specs.WorkedWindows as windows;
-ghost use Rattle.tftp_worked.specs.Worked.{
-  at_client,
-  at_server,
-  one_block_read,
-  read_without_its_ack,
-  read_past_its_end,
-  read_with_a_stray,
-  read_at_server,
-  one_block_write,
-  write_at_server,
-  read_in_eights,
-  acknowledges_hi,
-};
+ghost use Rattle.tftp_worked.specs.Worked.{at_client, at_server};
+ghost use Rattle.tftp_worked.specs.Worked as small;
 ghost use Rattle.tftp_normal.specs.{line_end_cut};
 ghost use Rattle.tftp_worked.specs.WorkedNetascii.{read_of_lines, read_of_bare_lines};
 ghost use Rattle.tftp_worked.specs.WorkedErrors as errors;
 
 /// Three datagrams show a read of a file of two bytes.
 pub fn one_block_read_is_shown()
-    ensures { Shows at_client two_bytes one_block_read }
+    ensures { Shows at_client two_bytes small.one_block_read }
 {}
 
 /// So do five, of which one came from another port and one answers it.
 pub fn read_with_a_stray_is_shown()
-    ensures { Shows at_client two_bytes read_with_a_stray }
+    ensures { Shows at_client two_bytes small.read_with_a_stray }
 {}
 
 /// The same read as its server sees it, which answers from a port of its own.
 pub fn read_at_the_server_is_shown()
-    ensures { Shows at_server two_bytes read_at_server }
+    ensures { Shows at_server two_bytes small.read_at_server }
 {}
 
 /// A write of the two bytes.
 pub fn one_block_write_is_shown()
-    ensures { Shows at_client two_bytes_written one_block_write }
+    ensures { Shows at_client two_bytes_written small.one_block_write }
 {}
 
 /// The same write as its server sees it.
 pub fn write_at_the_server_is_shown()
-    ensures { Shows at_server two_bytes_written write_at_server }
+    ensures { Shows at_server two_bytes_written small.write_at_server }
 {}
 
 /// A read with an agreed block size, in two blocks.
 pub fn read_in_eights_is_shown()
-    ensures { Shows at_client ten_bytes read_in_eights }
+    ensures { Shows at_client ten_bytes small.read_in_eights }
 {}
 
 /// A read in netascii, in two blocks between which a line end is cut; and one whose line ends by LF alone. Both show one
@@ -111,7 +100,7 @@ pub fn read_stopped_at_the_end_is_shown()
 /// No run has another ERROR of the server after its first one, nor an ACK of the client after its ERROR.
 pub fn what_follows_an_error_is_unlawful()
     ensures another { IsLawful at_client (errors.read_refused ++ errors.says_forbidden ∷ []) → ⊥ }
-    ensures ack { IsLawful at_client (errors.read_given_up ++ acknowledges_hi ∷ []) → ⊥ }
+    ensures ack { IsLawful at_client (errors.read_given_up ++ small.acknowledges_hi ∷ []) → ⊥ }
 {}
 
 /// No run has a block that answers an ACK which went out after the ERROR came in. Up to it the capture is lawful.
@@ -127,18 +116,18 @@ pub fn error_before_the_answer_is_unlawful()
 
 /// The three datagrams of the read at the client show nothing else.
 pub fn one_block_read_has_one_meaning()
-    ensures only { (m : Meaning) (wire : List ℕ) → IsSeen at_client m wire one_block_read → m ≡ two_bytes }
-    ensures same { (m other : Meaning) → Shows at_client m one_block_read → Shows at_client other one_block_read
+    ensures only { (m : Meaning) (wire : List ℕ) → IsSeen at_client m wire small.one_block_read → m ≡ two_bytes }
+    ensures same { (m other : Meaning) → Shows at_client m small.one_block_read → Shows at_client other small.one_block_read
         → m ≡ other }
 {}
 
 /// Without its last ACK the read is lawful, and shows nothing.
 pub fn read_without_its_ack_is_not_complete()
-    ensures lawful { IsLawful at_client read_without_its_ack }
-    ensures shows_nothing { (m : Meaning) (wire : List ℕ) → ShowsBy at_client m wire read_without_its_ack → ⊥ }
+    ensures lawful { IsLawful at_client small.read_without_its_ack }
+    ensures shows_nothing { (m : Meaning) (wire : List ℕ) → ShowsBy at_client m wire small.read_without_its_ack → ⊥ }
 {}
 
 /// No run has a block after one that is shorter than a block.
 pub fn block_after_the_last_is_unlawful()
-    ensures { IsLawful at_client read_past_its_end → ⊥ }
+    ensures { IsLawful at_client small.read_past_its_end → ⊥ }
 {}
