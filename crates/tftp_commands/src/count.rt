@@ -1,37 +1,18 @@
-ghost use Rattle.std.specs.Prelude.{◌≡◌, false, Ok};
+ghost use Rattle.std.specs.Prelude.{Ok};
 ghost use Rattle.tftp_streams.specs.{Adds, IsFresh};
-ghost use Rattle.tftp_commands.specs.Counted.{IsCounted, counted, counted_line};
+ghost use Rattle.tftp_commands.specs.Counted.{counted, counted_line};
 ghost use Rattle.tftp_commands.specs.Outputs.{Prints};
-ghost use Rattle.tftp_commands.specs.Running.{Runs};
 
-use crate::check::say_verdict;
 use crate::output::write_out;
 use crate::status::Status;
 use itoa::Buffer;
-use std::alloc::Global;
-use std::io::{Read, Write};
-use tftp_judge::{Meaning, judge_text};
+use std::io::Write;
+use tftp_judge::Meaning;
 use tftp_normal::normal_count;
-use tftp_streams::{Latched, LineWriter, WriteFault};
-
-/// Judges a capture text, and says in one line how many datagrams its normal capture has, or why it is not accepted.
-pub fn count<R: Read, W: Write>(
-    alloc: Global,
-    reader: &mut Latched<R>,
-    writer: &mut LineWriter<W>,
-) -> Status
-    requires reading { reader.old.1 ≡ false }
-    requires fresh { IsFresh writer.old }
-    ensures { Runs R.remaining W.contents IsCounted reader.old reader.new writer.old writer.new result }
-{
-    match judge_text(alloc, reader) {
-        Ok(meaning) => say_counted(writer, &meaning),
-        Err(verdict) => say_verdict(writer, verdict),
-    }
-}
+use tftp_streams::{LineWriter, WriteFault};
 
 /// Says how many datagrams the normal capture has.
-fn say_counted<W: Write>(writer: &mut LineWriter<W>, meaning: &Meaning) -> Status
+pub fn say_counted<W: Write>(writer: &mut LineWriter<W>, meaning: &Meaning) -> Status
     requires fresh { IsFresh writer.old }
     ensures { Prints W.contents writer.old writer.new (counted (Ok meaning.now)) result }
 {

@@ -2,12 +2,11 @@
 #![tactic(auto)]
 
 mod check;
+mod command;
 mod count;
-mod extract;
 mod faults;
 pub mod laws;
 mod names;
-mod normal;
 mod output;
 mod session;
 mod show;

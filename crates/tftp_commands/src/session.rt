@@ -6,14 +6,10 @@ ghost use Rattle.tftp_commands.specs.Run.{IsOutput};
 ghost use Rattle.tftp_commands.specs.Sources.{Source, given};
 ghost use Rattle.tftp_commands.specs.Words.{IsNoCommand};
 
-use crate::check::check;
-use crate::count::count;
-use crate::extract::extract;
-use crate::normal::normal;
+use crate::command::run_command;
 use crate::output::say;
-use crate::show::show;
 use crate::status::Status;
-use crate::words::{Action, UsageFault, action_of};
+use crate::words::{UsageFault, action_of};
 use std::alloc::Global;
 use std::convert::AsStr;
 use std::io::{Read, Write};
@@ -45,11 +41,7 @@ pub fn run<S: AsStr, R: Read, W: Write>(
     ensures untouched { IsNoCommand (map S.text words.now) → reader.new ≡ reader.old }
 {
     match action_of(alloc, words) {
-        Ok(Action::Check) => check(alloc, reader, writer),
-        Ok(Action::Extract) => extract(alloc, reader, writer),
-        Ok(Action::Normal) => normal(alloc, reader, writer),
-        Ok(Action::Show) => show(alloc, reader, writer),
-        Ok(Action::Count) => count(alloc, reader, writer),
+        Ok(action) => run_command(alloc, action, reader, writer),
         Err(UsageFault::Usage) => say(writer, b"fault usage\n"),
         Err(UsageFault::Memory) => say(writer, b"fault memory\n"),
         Err(UsageFault::Silent) => Status::Fault,

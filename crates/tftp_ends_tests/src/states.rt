@@ -1,9 +1,9 @@
 //! The states of the two ends, on each of the two stores by the same steps.
 
-ghost use Rattle.std.specs.Prelude.{◌≡◌};
+ghost use Rattle.std.specs.Prelude.{◌≡◌, ◌≤◌, IfSome};
 ghost use Rattle.tftp_model.specs.Roles.{sender_of as sends_for, receiver_of as receives_for};
 
-use std::alloc::AllocError;
+use std::alloc::{AllocError, Global};
 use std::test::Fail;
 use tftp_blocks::{Delivered, MapDelivered, RingDelivered};
 use tftp_ends::{ReceiverState, Rejection, SenderState};
@@ -39,48 +39,61 @@ fn is_wanted(answer: Result<(), Rejection>, wanted: Result<(), EndRule>) -> bool
     }
 }
 
-/// Hands a packet to a sender.
-fn pass_at_sender<D: Delivered>(
-    rt: &HostRuntime,
-    sender: &mut SenderState<D>,
-    dir: Dir,
-    packet: &Packet<'_>,
-) -> Result<(), Rejection> {
-    sender.pass(rt.alloc(), dir, packet)
+/// A state of an end, of either kind.
+#[derive(Drop)]
+enum State<D: Delivered + Drop> {
+    Sends(SenderState<D>),
+    Receives(ReceiverState<D>),
 }
 
-/// What a sender answers to a packet. Where a growth is refused the packet is handed over once more.
-fn answer_of_sender<D: Delivered>(
-    rt: &HostRuntime,
-    sender: &mut SenderState<D>,
-    dir: Dir,
-    packet: &Packet<'_>,
-) -> Result<(), Rejection> {
-    match pass_at_sender(rt, sender, dir, packet) {
-        Err(Rejection::Memory) => pass_at_sender(rt, sender, dir, packet),
-        answer => answer,
+impl<D: Delivered + Drop> State<D> {
+    /// The ways that its blocks and its ACKs go.
+    fn ways(&self) -> (Dir, Dir) {
+        match self {
+            State::Sends(_) => (Dir::Out, Dir::In),
+            State::Receives(_) => (Dir::In, Dir::Out),
+        }
+    }
+
+    /// Hands it a packet.
+    fn pass(&mut self, alloc: Global, dir: Dir, packet: &Packet<'_>) -> Result<(), Rejection> {
+        match self {
+            State::Sends(sender) => sender.pass(alloc, dir, packet),
+            State::Receives(receiver) => receiver.pass(alloc, dir, packet),
+        }
+    }
+
+    fn done(&self) -> bool {
+        match self {
+            State::Sends(sender) => sender.done(),
+            State::Receives(receiver) => receiver.done(),
+        }
+    }
+
+    fn store(&self) -> &D {
+        match self {
+            State::Sends(sender) => sender.store(),
+            State::Receives(receiver) => receiver.store(),
+        }
+    }
+
+    fn into_store(self) -> D {
+        match self {
+            State::Sends(sender) => sender.into_store(),
+            State::Receives(receiver) => receiver.into_store(),
+        }
     }
 }
 
-/// Hands a packet to a receiver.
-fn pass_at_receiver<D: Delivered>(
+/// What a state answers to a packet. Where a growth is refused the packet is handed over once more.
+fn answer_of<D: Delivered + Drop>(
     rt: &HostRuntime,
-    receiver: &mut ReceiverState<D>,
+    state: &mut State<D>,
     dir: Dir,
     packet: &Packet<'_>,
 ) -> Result<(), Rejection> {
-    receiver.pass(rt.alloc(), dir, packet)
-}
-
-/// What a receiver answers to a packet, likewise.
-fn answer_of_receiver<D: Delivered>(
-    rt: &HostRuntime,
-    receiver: &mut ReceiverState<D>,
-    dir: Dir,
-    packet: &Packet<'_>,
-) -> Result<(), Rejection> {
-    match pass_at_receiver(rt, receiver, dir, packet) {
-        Err(Rejection::Memory) => pass_at_receiver(rt, receiver, dir, packet),
+    match state.pass(rt.alloc(), dir, packet) {
+        Err(Rejection::Memory) => state.pass(rt.alloc(), dir, packet),
         answer => answer,
     }
 }
@@ -104,13 +117,13 @@ fn error() -> Packet<'static> {
 }
 
 /// Takes a block that comes in.
-fn take<D: Delivered>(
+fn take<D: Delivered + Drop>(
     rt: &HostRuntime,
-    receiver: &mut ReceiverState<D>,
+    receiver: &mut State<D>,
     number: u16,
     bytes: &'static [u8],
 ) -> Result<(), Fail> {
-    match answer_of_receiver(rt, receiver, Dir::In, &data(number, bytes)) {
+    match answer_of(rt, receiver, Dir::In, &data(number, bytes)) {
         Ok(()) => Ok(()),
         Err(Rejection::Memory) => Err(Fail::from(AllocError)),
         Err(Rejection::Broken(_)) => Err(Fail::new("may not come in")),
@@ -127,44 +140,38 @@ fn has_front<D: Delivered>(store: &D, front: u16, pending: usize) -> bool {
     store.front() == front && store.pending() == pending
 }
 
-/// Whether the call answers what is wanted, at a sender.
-fn sender_holds<D: Delivered>(rt: &HostRuntime, sender: &mut SenderState<D>, step: &Step) -> bool {
+/// Whether the call answers what is wanted.
+fn holds<D: Delivered + Drop>(rt: &HostRuntime, state: &mut State<D>, step: &Step) -> bool {
+    let (blocks, acks) = state.ways();
     match step {
         Step::Data(number, bytes, wanted) => {
-            let answer = answer_of_sender(rt, sender, Dir::Out, &data(*number, *bytes));
+            let answer = answer_of(rt, state, blocks, &data(*number, *bytes));
             is_wanted(answer, *wanted)
         }
         Step::Ack(number, wanted) => {
-            let answer = answer_of_sender(rt, sender, Dir::In, &ack(*number));
+            let answer = answer_of(rt, state, acks, &ack(*number));
             is_wanted(answer, *wanted)
         }
-        Step::Stopped => answer_of_sender(rt, sender, Dir::In, &error()).is_ok(),
-        Step::Done(done) => sender.done() == *done,
-        Step::Block(number, bytes) => has_block(sender.store(), *number, *bytes),
-        Step::Front(front, pending) => has_front(sender.store(), *front, *pending),
+        Step::Stopped => answer_of(rt, state, Dir::In, &error()).is_ok(),
+        Step::Done(done) => state.done() == *done,
+        Step::Block(number, bytes) => has_block(state.store(), *number, *bytes),
+        Step::Front(front, pending) => has_front(state.store(), *front, *pending),
     }
 }
 
-/// Whether the call answers what is wanted, at a receiver.
-fn receiver_holds<D: Delivered>(
+/// Fails unless each step answers what is wanted.
+fn all_hold<D: Delivered + Drop>(
     rt: &HostRuntime,
-    receiver: &mut ReceiverState<D>,
-    step: &Step,
-) -> bool {
-    match step {
-        Step::Data(number, bytes, wanted) => {
-            let answer = answer_of_receiver(rt, receiver, Dir::In, &data(*number, *bytes));
-            is_wanted(answer, *wanted)
+    state: &mut State<D>,
+    name: &'static str,
+    steps: &[Step],
+) -> Result<(), Fail> {
+    for (index, step) in steps.iter().enumerate() {
+        if !holds(rt, state, step) {
+            return Err(Fail::from((name, index)));
         }
-        Step::Ack(number, wanted) => {
-            let answer = answer_of_receiver(rt, receiver, Dir::Out, &ack(*number));
-            is_wanted(answer, *wanted)
-        }
-        Step::Stopped => answer_of_receiver(rt, receiver, Dir::In, &error()).is_ok(),
-        Step::Done(done) => receiver.done() == *done,
-        Step::Block(number, bytes) => has_block(receiver.store(), *number, *bytes),
-        Step::Front(front, pending) => has_front(receiver.store(), *front, *pending),
     }
+    Ok(())
 }
 
 /// A server sends two blocks in a window of two, once its OACK is acknowledged.
@@ -398,43 +405,40 @@ fn reply_of(oacked: bool) -> Reply {
     if oacked { Reply::Oacked } else { Reply::Plain }
 }
 
-/// A new sender, unless its block size or its window is too small.
-fn sender_of<D: Delivered>(
-    rt: &HostRuntime,
-    (side, oacked, blksize, windowsize, size): Start,
-) -> Option<SenderState<D>> {
+/// The terms of this end where it begins so, unless its block size or its window is too small.
+fn terms_of(named: End, start: Start) -> Option<Terms>
+    ensures { IfSome result (λ terms. (terms.named ≡ named) × (terms.side ≡ start.0) × (8 ≤ terms.blksize) × (1 ≤ terms.windowsize)) }
+{
+    let (side, oacked, blksize, windowsize, size) = start;
     if blksize < 8 || windowsize < 1 {
         return None;
     }
-    let terms = Terms {
-        named: sender_for(side),
+    Some(Terms {
+        named,
         side,
         reply: reply_of(oacked),
         blksize,
         windowsize,
         size,
-    };
-    let store = D::new(rt.alloc(), blksize, windowsize);
-    Some(SenderState::new(terms, store, false))
+    })
 }
 
-/// Fails unless each step answers what is wanted.
-fn all_hold_at_sender<D: Delivered>(
-    rt: &HostRuntime,
-    sender: &mut SenderState<D>,
-    name: &'static str,
-    steps: &[Step],
-) -> Result<(), Fail> {
-    for (index, step) in steps.iter().enumerate() {
-        if !sender_holds(rt, sender, step) {
-            return Err(Fail::from((name, index)));
-        }
-    }
-    Ok(())
+/// A new sender.
+fn sender_of<D: Delivered + Drop>(rt: &HostRuntime, start: Start) -> Option<State<D>> {
+    let terms = terms_of(sender_for(start.0), start)?;
+    let store = D::new(rt.alloc(), terms.blksize, terms.windowsize);
+    Some(State::Sends(SenderState::new(terms, store, false)))
+}
+
+/// A new receiver.
+fn receiver_of<D: Delivered + Drop>(rt: &HostRuntime, start: Start) -> Option<State<D>> {
+    let terms = terms_of(receiver_for(start.0), start)?;
+    let store = D::new(rt.alloc(), terms.blksize, terms.windowsize);
+    Some(State::Receives(ReceiverState::new(terms, store, false)))
 }
 
 /// The highest block that a sender has sent. A state is let go in such functions alone, since that is dear to prove.
-fn highest_of<D: Delivered + Drop>(sender: SenderState<D>) -> u16 {
+fn highest_of<D: Delivered + Drop>(sender: State<D>) -> u16 {
     sender.into_store().highest()
 }
 
@@ -446,7 +450,7 @@ fn sends<D: Delivered + Drop>(
     let Some(mut sender) = sender_of::<D>(rt, *start) else {
         return Err(Fail::new(*name));
     };
-    let held = all_hold_at_sender(rt, &mut sender, *name, *steps);
+    let held = all_hold(rt, &mut sender, *name, *steps);
     let found = highest_of(sender);
     held?;
     if found == *highest {
@@ -456,45 +460,10 @@ fn sends<D: Delivered + Drop>(
     }
 }
 
-/// A new receiver, likewise.
-fn receiver_of<D: Delivered>(
-    rt: &HostRuntime,
-    (side, oacked, blksize, windowsize, size): Start,
-) -> Option<ReceiverState<D>> {
-    if blksize < 8 || windowsize < 1 {
-        return None;
-    }
-    let terms = Terms {
-        named: receiver_for(side),
-        side,
-        reply: reply_of(oacked),
-        blksize,
-        windowsize,
-        size,
-    };
-    let store = D::new(rt.alloc(), blksize, windowsize);
-    Some(ReceiverState::new(terms, store, false))
-}
-
-/// Fails unless each step answers what is wanted.
-fn all_hold_at_receiver<D: Delivered>(
-    rt: &HostRuntime,
-    receiver: &mut ReceiverState<D>,
-    name: &'static str,
-    steps: &[Step],
-) -> Result<(), Fail> {
-    for (index, step) in steps.iter().enumerate() {
-        if !receiver_holds(rt, receiver, step) {
-            return Err(Fail::from((name, index)));
-        }
-    }
-    Ok(())
-}
-
 /// The wire of a receiver.
 fn wire_of<D: Delivered + Drop>(
     rt: &HostRuntime,
-    receiver: ReceiverState<D>,
+    receiver: State<D>,
 ) -> Result<Vec<u8>, AllocError> {
     receiver.into_store().into_wire(rt.alloc())
 }
@@ -516,21 +485,21 @@ fn receives<D: Delivered + Drop>(
     let Some(mut receiver) = receiver_of::<D>(rt, *start) else {
         return Err(Fail::new(*name));
     };
-    let held = all_hold_at_receiver(rt, &mut receiver, *name, *steps);
+    let held = all_hold(rt, &mut receiver, *name, *steps);
     let found = wire_of(rt, receiver);
     held?;
     is_wire(*name, found?.as_slice(), *wire)
 }
 
 /// How many blocks wait.
-fn waiting_of<D: Delivered>(receiver: &ReceiverState<D>) -> usize {
+fn waiting_of<D: Delivered + Drop>(receiver: &State<D>) -> usize {
     receiver.store().pending()
 }
 
 /// Takes all blocks but the first, the highest before the others.
-fn take_all_but_one<D: Delivered>(
+fn take_all_but_one<D: Delivered + Drop>(
     rt: &HostRuntime,
-    receiver: &mut ReceiverState<D>,
+    receiver: &mut State<D>,
 ) -> Result<(), Fail> {
     take(rt, receiver, 65535, b".......")?;
     for below in 1..65534u16 {
@@ -544,14 +513,14 @@ fn take_all_but_one<D: Delivered>(
 type Filled = (usize, Result<(), Rejection>, usize, bool);
 
 /// That of a receiver which takes a whole window.
-fn filled<D: Delivered>(rt: &HostRuntime, receiver: &mut ReceiverState<D>) -> Result<Filled, Fail> {
-    let started = answer_of_receiver(rt, receiver, Dir::Out, &ack(0));
+fn filled<D: Delivered + Drop>(rt: &HostRuntime, receiver: &mut State<D>) -> Result<Filled, Fail> {
+    let started = answer_of(rt, receiver, Dir::Out, &ack(0));
     take_all_but_one(rt, receiver)?;
     let waiting = waiting_of(receiver);
-    let early = answer_of_receiver(rt, receiver, Dir::Out, &ack(1));
+    let early = answer_of(rt, receiver, Dir::Out, &ack(1));
     take(rt, receiver, 1, b"........")?;
     let left = waiting_of(receiver);
-    let last = answer_of_receiver(rt, receiver, Dir::Out, &ack(65535));
+    let last = answer_of(rt, receiver, Dir::Out, &ack(65535));
     let done = started.is_ok() && last.is_ok() && receiver.done();
     Ok((waiting, early, left, done))
 }

@@ -12,6 +12,7 @@ mod opened;
 mod plain;
 mod requests;
 mod session;
+mod telling;
 mod text;
 
 pub use endpoint::shown;
@@ -23,4 +24,5 @@ pub use opened::{Opened, read_whole};
 pub use plain::{put_number, put_plain};
 pub use requests::{Asked, requests_of};
 pub use session::{Ended, Session};
+pub use telling::{ended, tell_asked, tell_notes, told};
 pub use text::TextAt;

@@ -1,10 +1,11 @@
 //! The verdict on each transfer of recordings.
 
+use crate::PROGRAM;
 use crate::reading::read_file;
 use crate::teller::{Teller, What};
 use anyhow::Result;
 use tftp_recording_judge::Judging;
-use tftp_session::{Kept, Notes, Session, Wanted};
+use tftp_session::{Kept, Session, Wanted, tell_asked, tell_notes, told};
 use tftp_words::{CheckRequest, Point};
 
 /// Judges the transfers of recordings. A recording that can't be read does not end it.
@@ -12,8 +13,8 @@ pub fn check(rt: HostRuntime, asked: &CheckRequest<'_>) -> Result<u8> {
     let width = widest(asked.files.as_slice());
     let mut teller = Teller::new(What::Check, asked.json, width);
     for file in asked.files.iter() {
-        if let Err(error) = check_file(rt, *file, asked, &mut teller) {
-            eprintln!(rt; "tftp-transfers: {}: {error}", *file)?;
+        let checked = check_file(rt, *file, asked, &mut teller);
+        if told(rt, PROGRAM, *file, checked)?.is_none() {
             teller.status = 2;
         }
     }
@@ -62,31 +63,12 @@ pub fn tell_session(
 ) -> Result<()> {
     read_file(rt, file, session, teller)?;
     teller.tell_all(rt, session)?;
-    tell_notes(rt, file, &session.notes)?;
+    tell_notes(rt, PROGRAM, file, &session.notes)?;
     if !session.notes.is_whole() {
         teller.status = 2;
     }
     if teller.told == 0 {
-        tell_asked(rt, file, &session.notes)?;
-    }
-    Ok(())
-}
-
-/// Tells what there is to tell of a recording as a whole.
-pub fn tell_notes(rt: HostRuntime, file: &str, notes: &Notes) -> Result<()> {
-    let lines = notes.lines(rt.alloc())?;
-    for line in lines.iter() {
-        eprintln!(rt; "tftp-transfers: {file}: {line}")?;
-    }
-    Ok(())
-}
-
-/// Tells at which ports something looks like a request, where no transfer was found.
-pub fn tell_asked(rt: HostRuntime, file: &str, notes: &Notes) -> Result<()> {
-    if let Some(ports) = notes.asked_ports(rt.alloc())? {
-        eprintln!(rt;
-            "tftp-transfers: {file}: what looks like a request went to port{ports}: name the port by --service"
-        )?;
+        tell_asked(rt, PROGRAM, file, &session.notes)?;
     }
     Ok(())
 }

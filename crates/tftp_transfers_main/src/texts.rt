@@ -1,12 +1,12 @@
 //! The capture texts of transfers at an end.
 
-use crate::checking::{tell_asked, tell_notes};
+use crate::PROGRAM;
 use crate::reasoned::Reasoned;
 use anyhow::Result;
 use std::{fs, io};
 use tftp_packet::End;
 use tftp_recording_judge::Judging;
-use tftp_session::{Kept, Session, TextAt, TextFault, Wanted, read_whole};
+use tftp_session::{Kept, Session, TextAt, TextFault, Wanted, read_whole, tell_asked, tell_notes};
 use tftp_streams::LineWriter;
 use tftp_words::{TextRequest, TextsRequest};
 
@@ -23,7 +23,7 @@ pub fn write_text(rt: HostRuntime, asked: &TextRequest<'_>) -> Result<u8> {
 
 fn write_session(rt: HostRuntime, asked: &TextRequest<'_>, session: &mut Session) -> Result<()> {
     read_file(rt, asked.file, session)?;
-    tell_notes(rt, asked.file, &session.notes)?;
+    tell_notes(rt, PROGRAM, asked.file, &session.notes)?;
     let found = TextAt::find(rt.alloc(), session, asked.number, asked.end, asked.file)?;
     print_text(rt, asked.end, &found)
 }
@@ -41,10 +41,10 @@ pub fn write_texts(rt: HostRuntime, asked: &TextsRequest<'_>) -> Result<u8> {
 
 fn write_all(rt: HostRuntime, asked: &TextsRequest<'_>, session: &mut Session) -> Result<u8> {
     read_file(rt, asked.file, session)?;
-    tell_notes(rt, asked.file, &session.notes)?;
+    tell_notes(rt, PROGRAM, asked.file, &session.notes)?;
     let keys = session.transfers(rt.alloc())?;
     if keys.is_empty() {
-        tell_asked(rt, asked.file, &session.notes)?;
+        tell_asked(rt, PROGRAM, asked.file, &session.notes)?;
     }
     let (mut number, mut status) = (0u64, 0);
     for key in keys.iter() {
@@ -69,7 +69,7 @@ fn write_next(
         }
         Err(TextFault::NotWhole) => {
             let (file, why) = (asked.file, TextFault::NotWhole);
-            eprintln!(rt; "tftp-transfers: {file}: transfer {number}: {why}")?;
+            eprintln!(rt; "{PROGRAM}: {file}: transfer {number}: {why}")?;
             Ok(2)
         }
         Err(fault) => Err(fault.into()),

@@ -7,9 +7,11 @@ mod help;
 mod part;
 mod point;
 mod request;
+mod telling;
 mod words;
 
 pub use help::VERSION;
 pub use point::Point;
 pub use request::{CheckRequest, ListRequest, Request, TextRequest, TextsRequest};
-pub use words::{WordsFault, request_of};
+pub use telling::{own_words, tell_fault};
+pub use words::{WordsFault, fault_of, request_of};

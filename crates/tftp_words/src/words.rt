@@ -48,7 +48,8 @@ fn told<S: AsStr>(alloc: Global, words: &[S]) -> WordsFault
     }
 }
 
-fn fault_of(error: Error) -> WordsFault
+/// What clap says, as a fault of the words.
+pub fn fault_of(error: Error) -> WordsFault
     ensures { IsTold result }
 {
     match error.kind() {

@@ -1,5 +1,5 @@
 -- Payloads that are no packets: no earlier rule is broken than the one that they break.
-use Rattle.std.proofs.Common.{◌≡◌, ◌<◌, true, List, [], codes, reverse, inl, inr, refl, sym, ap, ◌∙◌, arith, rules}
+use Rattle.std.proofs.Common.{◌≡◌, ◌<◌, true, List, [], codes, reverse, inl, inr, refl, sym, ◌∙◌, arith, rules}
 use Rattle.std.proofs.lemmas.Bool.{false≢true}
 use Rattle.tftp_packet.specs.{FirstFault, Holds, number, PacketFault, Short, Opcode, AckLength, MailMode}
 use Rattle.tftp_packet.proofs.RequestCases.{mode_fault}

@@ -1,5 +1,5 @@
 -- Captures of transfers in which an ERROR is sent (RFC 1350, section 7), and datagrams that no end sends after one.
-use Rattle.std.specs.Prelude.{ℕ, List, [], ◌∷◌, codes}
+use Rattle.std.specs.Prelude.{ℕ, List, [], ◌∷◌, ◌++◌, codes}
 use Rattle.tftp_packet.specs.{terminated}
 use Rattle.tftp_hosts.specs.{Datagram}
 use Rattle.tftp_worked.specs.Worked.{asks_for_a, brings_hi, acknowledges_hi}
@@ -43,28 +43,17 @@ stopped_at_the_end = asks_for_a ∷ brings_hi ∷ stops ∷ acknowledges_hi ∷ 
 abbrev pub stopped_after_the_end : List Datagram
 stopped_after_the_end = asks_for_a ∷ brings_hi ∷ acknowledges_hi ∷ stops ∷ []
 
--- a read in lock step: block 2 comes after the ERROR that was sent after it
+-- a read in lock step, up to its first block
+abbrev pub begun_in_eights : List Datagram
+begun_in_eights = asks (request 1 by_eight) ∷ comes (oack by_eight) ∷ goes (ack 0) ∷ comes (block 1 (codes "01234567")) ∷ []
+
+-- block 2 comes after the ERROR that was sent after it
 abbrev pub block_after_error : List Datagram
-block_after_error =
-    asks (request 1 by_eight)
-    ∷ comes (oack by_eight)
-    ∷ goes (ack 0)
-    ∷ comes (block 1 (codes "01234567"))
-    ∷ goes (ack 1)
-    ∷ stops
-    ∷ comes (block 2 (codes "89"))
-    ∷ []
+block_after_error = begun_in_eights ++ goes (ack 1) ∷ stops ∷ comes (block 2 (codes "89")) ∷ []
 
 -- the same with the ACK after the ERROR: the server can't have used it
 abbrev pub before_late_answer : List Datagram
-before_late_answer =
-    asks (request 1 by_eight)
-    ∷ comes (oack by_eight)
-    ∷ goes (ack 0)
-    ∷ comes (block 1 (codes "01234567"))
-    ∷ stops
-    ∷ goes (ack 1)
-    ∷ []
+before_late_answer = begun_in_eights ++ stops ∷ goes (ack 1) ∷ []
 
 abbrev pub late_answer : Datagram
 late_answer = comes (block 2 (codes "89"))

@@ -1,23 +1,9 @@
 -- Captures up to a datagram that breaks a rule, each named for that datagram.
-use Rattle.std.specs.Prelude.{ℕ, List, [], ◌∷◌, codes}
+use Rattle.std.specs.Prelude.{ℕ, List, [], ◌∷◌, ◌++◌, codes}
 use Rattle.tftp_packet.specs.{Pair}
 use Rattle.tftp_hosts.specs.{In, Out, Datagram}
 use Rattle.tftp_worked.specs.Worked.{server_host, asks_for_a, brings_hi}
 use Rattle.tftp_worked.specs.WorkedWindows.{request, oack, block, ack, by_eight, by_four, asks, goes, comes, answers, hears, is_asked}
-
--- a write in lock step: block 1 once more after block 2
-abbrev pub before_going_back : List Datagram
-before_going_back =
-    asks (request 2 by_eight)
-    ∷ comes (oack by_eight)
-    ∷ goes (block 1 (codes "11111111"))
-    ∷ comes (ack 1)
-    ∷ goes (block 1 (codes "11111111"))
-    ∷ goes (block 2 (codes "22"))
-    ∷ []
-
-abbrev pub goes_back : Datagram
-goes_back = goes (block 1 (codes "11111111"))
 
 -- a write with options: ACK 0 before a block went out
 abbrev pub before_ack_zero : List Datagram
@@ -71,13 +57,7 @@ abbrev pub changed_block : Datagram
 changed_block = comes (block 1 (codes "11111112"))
 
 abbrev pub before_short_block : List Datagram
-before_short_block =
-    asks_for_size
-    ∷ comes (oack (sized (codes "10")))
-    ∷ goes (ack 0)
-    ∷ comes (block 1 (codes "11111111"))
-    ∷ goes (ack 1)
-    ∷ []
+before_short_block = before_changed_block ++ goes (ack 1) ∷ []
 
 abbrev pub short_block : Datagram
 short_block = comes (block 2 (codes "2"))

@@ -1,5 +1,5 @@
 -- Captures with agreed options, and captures that break a rule.
-use Rattle.std.specs.Prelude.{ℕ, List, [], ◌∷◌, codes}
+use Rattle.std.specs.Prelude.{ℕ, List, [], ◌∷◌, ◌++◌, codes}
 use Rattle.tftp_packet.specs.{Pair, strings, pair_strings, Server}
 use Rattle.tftp_hosts.specs.{In, Out, Datagram, Header}
 use Rattle.tftp_worked.specs.Worked.{server_host, client_host}
@@ -40,9 +40,10 @@ goes payload = record { dir = Out; local = 40000; host = server_host; remote = 4
 abbrev pub comes : List ℕ → Datagram
 comes payload = record { dir = In; local = 40000; host = server_host; remote = 41000; payload = payload }
 
--- a read in a window of four blocks: block 3 comes late, and block 4 twice
-abbrev pub window_out_of_order : List Datagram
-window_out_of_order =
+-- seven datagrams of a read in a window of four blocks, of which block 3 is late; and block 7, which no ACK allows: 7 is
+-- more than 2 + 4
+abbrev pub before_overrun : List Datagram
+before_overrun =
     asks (request 1 by_four)
     ∷ comes (oack by_four)
     ∷ goes (ack 0)
@@ -50,7 +51,16 @@ window_out_of_order =
     ∷ comes (block 2 (codes "22222222"))
     ∷ comes (block 4 (codes "44444444"))
     ∷ goes (ack 2)
-    ∷ comes (block 3 (codes "33333333"))
+    ∷ []
+
+abbrev pub block_seven : Datagram
+block_seven = comes (block 7 (codes "77777777"))
+
+-- the whole read: block 3 comes late, and block 4 twice
+abbrev pub window_out_of_order : List Datagram
+window_out_of_order =
+    before_overrun
+    ++ comes (block 3 (codes "33333333"))
     ∷ comes (block 4 (codes "44444444"))
     ∷ comes (block 5 (codes "55555555"))
     ∷ comes (block 6 (codes "666"))
@@ -85,32 +95,22 @@ window_at_server =
     ∷ hears (ack 6)
     ∷ []
 
--- seven datagrams of that read, and block 7, which no ACK allows: 7 is more than 2 + 4
-abbrev pub before_overrun : List Datagram
-before_overrun =
-    asks (request 1 by_four)
-    ∷ comes (oack by_four)
-    ∷ goes (ack 0)
-    ∷ comes (block 1 (codes "11111111"))
-    ∷ comes (block 2 (codes "22222222"))
-    ∷ comes (block 4 (codes "44444444"))
-    ∷ goes (ack 2)
-    ∷ []
-
-abbrev pub block_seven : Datagram
-block_seven = comes (block 7 (codes "77777777"))
-
--- a write in lock step: DATA 1 goes out again though its ACK has come
-abbrev pub block_sent_again : List Datagram
-block_sent_again =
+-- a write in lock step: DATA 1 goes out again though its ACK has come, and may not once DATA 2 has gone out
+abbrev pub before_going_back : List Datagram
+before_going_back =
     asks (request 2 by_eight)
     ∷ comes (oack by_eight)
     ∷ goes (block 1 (codes "11111111"))
     ∷ comes (ack 1)
     ∷ goes (block 1 (codes "11111111"))
     ∷ goes (block 2 (codes "22"))
-    ∷ comes (ack 2)
     ∷ []
+
+abbrev pub goes_back : Datagram
+goes_back = goes (block 1 (codes "11111111"))
+
+abbrev pub block_sent_again : List Datagram
+block_sent_again = before_going_back ++ comes (ack 2) ∷ []
 
 -- a write in a window of four: ACK 0 says that the first block was lost, and both go out again
 abbrev pub window_sent_again : List Datagram

@@ -7,67 +7,19 @@ ghost use Rattle.tftp_rules.specs.{EndRule, PortRule};
 ghost use Rattle.tftp_law.specs.{Rule, OneEnded, IsRefused, Meant};
 ghost use Rattle.tftp_model.specs.{two_bytes};
 ghost use Rattle.tftp_worked.specs.Worked.{at_client, brings_hi, acknowledges_hi, acknowledges_two, one_block_read, read_without_its_ack};
-ghost use Rattle.tftp_worked.specs.WorkedWindows.{
-  at_service,
-  window_out_of_order,
-  window_at_server,
-  block_sent_again,
-  window_sent_again,
-  before_overrun,
-  block_seven,
-  before_skip,
-  block_two,
-};
-ghost use Rattle.tftp_worked.specs.WorkedRules.{
-  before_going_back,
-  goes_back,
-  before_ack_zero,
-  ack_zero,
-  before_answering,
-  acknowledges_stray,
-  acknowledges_nobody,
-  comes_to_another_port,
-  before_last_number,
-  last_number,
-  asks_for_size,
-  too_many_blocks,
-  before_changed_block,
-  changed_block,
-  before_short_block,
-  short_block,
-  only_asked,
-  block_zero,
-  before_changed_reply,
-  agrees_to_four,
-  before_taking_offer,
-  agrees_to_eight,
-  block_too_early,
-  before_late_oack,
-  late_oack,
-};
-ghost use Rattle.tftp_worked.specs.WorkedErrors.{
-  says_forbidden,
-  read_refused,
-  read_refused_twice,
-  read_given_up,
-  read_given_up_twice,
-  stopped_at_the_end,
-  stopped_after_the_end,
-  block_after_error,
-  before_late_answer,
-  late_answer,
-  only_offered,
-  stops_unanswered,
-};
+ghost use Rattle.tftp_worked.specs.WorkedWindows.{at_service};
+ghost use Rattle.tftp_worked.specs.WorkedWindows as windows;
+ghost use Rattle.tftp_worked.specs.WorkedRules as rules;
+ghost use Rattle.tftp_worked.specs.WorkedErrors as errors;
 
 /// Captures of whole transfers break no rule: the read of one block; the read in a window of four of which a block comes
 /// late, at both ends; and the two writes that send blocks again.
 pub fn whole_transfers_break_no_rule()
     ensures read { OneEnded at_client (reverse one_block_read) }
-    ensures window { OneEnded at_client (reverse window_out_of_order) }
-    ensures window_at_the_server { OneEnded at_service (reverse window_at_server) }
-    ensures block_again { OneEnded at_client (reverse block_sent_again) }
-    ensures window_again { OneEnded at_client (reverse window_sent_again) }
+    ensures window { OneEnded at_client (reverse windows.window_out_of_order) }
+    ensures window_at_the_server { OneEnded at_service (reverse windows.window_at_server) }
+    ensures block_again { OneEnded at_client (reverse windows.block_sent_again) }
+    ensures window_again { OneEnded at_client (reverse windows.window_sent_again) }
 {}
 
 /// The three datagrams of the read mean, by the rules, what they show.
@@ -78,9 +30,9 @@ pub fn one_block_read_means_two_bytes()
 /// At its transfer id the client hears one server (RFC 1350, section 4). What comes to another port, what goes to a port
 /// that nothing came from, and what answers a stray by no ERROR 5 breaks one of the first three rules.
 pub fn ports_are_the_transfers()
-    ensures foreign { IsRefused at_client (reverse before_answering) comes_to_another_port (Rule.Port PortRule.Foreign) }
-    ensures wrong { IsRefused at_client (reverse before_answering) acknowledges_nobody (Rule.Port PortRule.Wrong) }
-    ensures stray { IsRefused at_client (reverse before_answering) acknowledges_stray (Rule.Port PortRule.BadAnswer) }
+    ensures foreign { IsRefused at_client (reverse rules.before_answering) rules.comes_to_another_port (Rule.Port PortRule.Foreign) }
+    ensures wrong { IsRefused at_client (reverse rules.before_answering) rules.acknowledges_nobody (Rule.Port PortRule.Wrong) }
+    ensures stray { IsRefused at_client (reverse rules.before_answering) rules.acknowledges_stray (Rule.Port PortRule.BadAnswer) }
 {}
 
 /// Nothing comes before a request (RFC 1350, section 4).
@@ -90,36 +42,36 @@ pub fn request_comes_first()
 
 /// The server of a read acknowledges nothing (RFC 1350, section 2).
 pub fn server_of_a_read_sends_no_ack()
-    ensures { IsRefused at_client (reverse only_asked) ack_zero Rule.WrongKind }
+    ensures { IsRefused at_client (reverse rules.only_asked) rules.ack_zero Rule.WrongKind }
 {}
 
 /// Transfers in which an ERROR is sent break no rule: it may come after a request, go out after a block, and do so again;
 /// an ACK may go out after it came in, and what was sent before it may come after it.
 pub fn transfers_with_an_error_break_no_rule()
-    ensures refused { OneEnded at_client (reverse read_refused) }
-    ensures refused_twice { OneEnded at_client (reverse read_refused_twice) }
-    ensures given_up { OneEnded at_client (reverse read_given_up) }
-    ensures given_up_twice { OneEnded at_client (reverse read_given_up_twice) }
-    ensures stopped_at_the_end { OneEnded at_client (reverse stopped_at_the_end) }
-    ensures stopped_after_the_end { OneEnded at_client (reverse stopped_after_the_end) }
-    ensures block_after_error { OneEnded at_client (reverse block_after_error) }
+    ensures refused { OneEnded at_client (reverse errors.read_refused) }
+    ensures refused_twice { OneEnded at_client (reverse errors.read_refused_twice) }
+    ensures given_up { OneEnded at_client (reverse errors.read_given_up) }
+    ensures given_up_twice { OneEnded at_client (reverse errors.read_given_up_twice) }
+    ensures stopped_at_the_end { OneEnded at_client (reverse errors.stopped_at_the_end) }
+    ensures stopped_after_the_end { OneEnded at_client (reverse errors.stopped_after_the_end) }
+    ensures block_after_error { OneEnded at_client (reverse errors.block_after_error) }
 {}
 
 /// After its ERROR an end says nothing else (RFC 1350, section 7): the other end's next ERROR is that one again, and the
 /// named end's next datagram is.
 pub fn an_end_goes_no_further_than_its_error()
-    ensures another { IsRefused at_client (reverse read_refused) says_forbidden Rule.AfterError }
-    ensures ack { IsRefused at_client (reverse read_given_up) acknowledges_hi Rule.AfterError }
+    ensures another { IsRefused at_client (reverse errors.read_refused) errors.says_forbidden Rule.AfterError }
+    ensures ack { IsRefused at_client (reverse errors.read_given_up) acknowledges_hi Rule.AfterError }
 {}
 
 /// What comes in after an ERROR was sent before it, and so no block answers an ACK that went out after the ERROR came in.
 pub fn blocks_answer_no_ack_after_an_error()
-    ensures { IsRefused at_client (reverse before_late_answer) late_answer (Rule.Block EndRule.WindowOverrun) }
+    ensures { IsRefused at_client (reverse errors.before_late_answer) errors.late_answer (Rule.Block EndRule.WindowOverrun) }
 {}
 
 /// A server that has not answered is asked at the service port, and nothing else comes there (RFC 1350, section 4).
 pub fn server_is_stopped_once_it_has_answered()
-    ensures { IsRefused at_service (reverse only_offered) stops_unanswered (Rule.Port PortRule.Wrong) }
+    ensures { IsRefused at_service (reverse errors.only_offered) errors.stops_unanswered (Rule.Port PortRule.Wrong) }
 {}
 
 /// No block is acknowledged before it and all below it have come in (RFC 1350, section 2).
@@ -129,39 +81,39 @@ pub fn acks_follow_the_blocks()
 
 /// An OACK comes before the file or not at all, and says one thing (RFC 2347).
 pub fn one_reply_answers_a_request()
-    ensures after_a_block { IsRefused at_client (reverse before_changed_reply) agrees_to_four Rule.ReplyChanged }
-    ensures another { IsRefused at_client (reverse before_taking_offer) agrees_to_eight Rule.OackChanged }
-    ensures late { IsRefused at_service (reverse before_late_oack) late_oack Rule.OackAfterStart }
+    ensures after_a_block { IsRefused at_client (reverse rules.before_changed_reply) rules.agrees_to_four Rule.ReplyChanged }
+    ensures another { IsRefused at_client (reverse rules.before_taking_offer) rules.agrees_to_eight Rule.OackChanged }
+    ensures late { IsRefused at_service (reverse rules.before_late_oack) rules.late_oack Rule.OackAfterStart }
 {}
 
 /// With options the first block of a read waits for ACK 0 (RFC 2347), and block numbers begin with 1 (RFC 1350,
 /// section 5).
 pub fn blocks_begin_in_order()
-    ensures early { IsRefused at_client (reverse before_taking_offer) block_too_early (Rule.Block EndRule.NotStarted) }
-    ensures zero { IsRefused at_client (reverse only_asked) block_zero (Rule.Block EndRule.BlockZero) }
+    ensures early { IsRefused at_client (reverse rules.before_taking_offer) rules.block_too_early (Rule.Block EndRule.NotStarted) }
+    ensures zero { IsRefused at_client (reverse rules.only_asked) rules.block_zero (Rule.Block EndRule.BlockZero) }
 {}
 
 /// Blocks have numbers of two bytes (RFC 1350, section 5). Block 65535 is the last, and so is shorter than a block; and a
 /// size that needs more blocks may not be agreed.
 pub fn blocks_end_at_65535()
-    ensures block { IsRefused at_client (reverse before_last_number) last_number (Rule.Block EndRule.BeyondBlock65535) }
-    ensures size { IsRefused at_client (reverse (asks_for_size ∷ [])) too_many_blocks (Rule.Block EndRule.BeyondBlock65535) }
+    ensures block { IsRefused at_client (reverse rules.before_last_number) rules.last_number (Rule.Block EndRule.BeyondBlock65535) }
+    ensures size { IsRefused at_client (reverse (rules.asks_for_size ∷ [])) rules.too_many_blocks (Rule.Block EndRule.BeyondBlock65535) }
 {}
 
 /// The agreed size says which block is the last and how long it is (RFC 2349), and a block that comes again is the same.
 pub fn blocks_are_those_of_the_file()
-    ensures length { IsRefused at_client (reverse before_short_block) short_block (Rule.Block EndRule.BlockLength) }
-    ensures changed { IsRefused at_client (reverse before_changed_block) changed_block (Rule.Block EndRule.BlockChanged) }
+    ensures length { IsRefused at_client (reverse rules.before_short_block) rules.short_block (Rule.Block EndRule.BlockLength) }
+    ensures changed { IsRefused at_client (reverse rules.before_changed_block) rules.changed_block (Rule.Block EndRule.BlockChanged) }
 {}
 
 /// Blocks go in order and at most a window ahead (RFC 7440, section 4), and in lock step never back (RFC 1350, section 2).
 pub fn blocks_keep_to_the_window()
-    ensures overrun { IsRefused at_client (reverse before_overrun) block_seven (Rule.Block EndRule.WindowOverrun) }
-    ensures skipped { IsRefused at_client (reverse before_skip) block_two (Rule.Block EndRule.BlockSkipped) }
-    ensures back { IsRefused at_client (reverse before_going_back) goes_back (Rule.Block EndRule.GoneBack) }
+    ensures overrun { IsRefused at_client (reverse windows.before_overrun) windows.block_seven (Rule.Block EndRule.WindowOverrun) }
+    ensures skipped { IsRefused at_client (reverse windows.before_skip) windows.block_two (Rule.Block EndRule.BlockSkipped) }
+    ensures back { IsRefused at_client (reverse windows.before_going_back) windows.goes_back (Rule.Block EndRule.GoneBack) }
 {}
 
 /// On a write with options ACK 0 has nothing to answer before a block has gone out (RFC 2347).
 pub fn ack_zero_answers_something()
-    ensures { IsRefused at_client (reverse before_ack_zero) ack_zero (Rule.Block EndRule.AckZero) }
+    ensures { IsRefused at_client (reverse rules.before_ack_zero) rules.ack_zero (Rule.Block EndRule.AckZero) }
 {}

@@ -1,85 +1,22 @@
 use Rattle.std.proofs.Common.{[], Err, refl, ap, ◌∙◌}
 use Rattle.std.proofs.lemmas.List.{length-map}
 use Rattle.std.proofs.KnownBytes.{Consumes-nil}
-use Rattle.tftp_commands.specs.{Check, Extract, Normal, Show, Count}
 use Rattle.tftp_commands.proofs.Commands.{command_output, memory_output, memory_told, no_command, silent_output, usage_output}
 use Rattle.tftp_commands.proofs.Written.{printed_none}
 use Rattle.tftp_commands.proofs.session.run.Goals as goal
 
-pub returns-in-Ok-Check-clause-said : goal.returns-in-Ok-Check-clause-said
-returns-in-Ok-Check-clause-said g c =
-    let is = rw c.in-Ok-Check.field-0-is at c.in-Ok-Check.ensures.ok in
-    let said = c.check.ensures.said in
-    (said.0, said.1, said.2, command_output Check _ _ _ said.1 is said.3, said.4)
+pub returns-in-Ok-clause-said : goal.returns-in-Ok-clause-said
+returns-in-Ok-clause-said g c =
+    let said = c.run_command.ensures.said in
+    (said.0, said.1, said.2, command_output c.in-Ok.action _ _ _ said.1 c.in-Ok.ensures.ok said.3, said.4)
 
-pub returns-in-Ok-Check-clause-whole : goal.returns-in-Ok-Check-clause-whole
-returns-in-Ok-Check-clause-whole g c = λ text tells clean.
-    let is = rw c.in-Ok-Check.field-0-is at c.in-Ok-Check.ensures.ok in
-    let said = c.check.ensures.whole text tells clean in
-    (said.0, command_output Check _ _ _ said.0 is said.1, said.2)
+pub returns-in-Ok-clause-whole : goal.returns-in-Ok-clause-whole
+returns-in-Ok-clause-whole g c = λ text tells clean.
+    let said = c.run_command.ensures.whole text tells clean in
+    (said.0, command_output c.in-Ok.action _ _ _ said.0 c.in-Ok.ensures.ok said.1, said.2)
 
-pub returns-in-Ok-Check-clause-untouched : goal.returns-in-Ok-Check-clause-untouched
-returns-in-Ok-Check-clause-untouched g c = λ none. absurd (none Check (rw c.in-Ok-Check.field-0-is at c.in-Ok-Check.ensures.ok))
-
-pub returns-in-Ok-Extract-clause-said : goal.returns-in-Ok-Extract-clause-said
-returns-in-Ok-Extract-clause-said g c =
-    let is = rw c.in-Ok-Extract.field-0-is at c.in-Ok-Extract.ensures.ok in
-    let said = c.extract.ensures.said in
-    (said.0, said.1, said.2, command_output Extract _ _ _ said.1 is said.3, said.4)
-
-pub returns-in-Ok-Extract-clause-whole : goal.returns-in-Ok-Extract-clause-whole
-returns-in-Ok-Extract-clause-whole g c = λ text tells clean.
-    let is = rw c.in-Ok-Extract.field-0-is at c.in-Ok-Extract.ensures.ok in
-    let said = c.extract.ensures.whole text tells clean in
-    (said.0, command_output Extract _ _ _ said.0 is said.1, said.2)
-
-pub returns-in-Ok-Extract-clause-untouched : goal.returns-in-Ok-Extract-clause-untouched
-returns-in-Ok-Extract-clause-untouched g c = λ none. absurd (none Extract (rw c.in-Ok-Extract.field-0-is at c.in-Ok-Extract.ensures.ok))
-
-pub returns-in-Ok-Normal-clause-said : goal.returns-in-Ok-Normal-clause-said
-returns-in-Ok-Normal-clause-said g c =
-    let is = rw c.in-Ok-Normal.field-0-is at c.in-Ok-Normal.ensures.ok in
-    let said = c.normal.ensures.said in
-    (said.0, said.1, said.2, command_output Normal _ _ _ said.1 is said.3, said.4)
-
-pub returns-in-Ok-Normal-clause-whole : goal.returns-in-Ok-Normal-clause-whole
-returns-in-Ok-Normal-clause-whole g c = λ text tells clean.
-    let is = rw c.in-Ok-Normal.field-0-is at c.in-Ok-Normal.ensures.ok in
-    let said = c.normal.ensures.whole text tells clean in
-    (said.0, command_output Normal _ _ _ said.0 is said.1, said.2)
-
-pub returns-in-Ok-Normal-clause-untouched : goal.returns-in-Ok-Normal-clause-untouched
-returns-in-Ok-Normal-clause-untouched g c = λ none. absurd (none Normal (rw c.in-Ok-Normal.field-0-is at c.in-Ok-Normal.ensures.ok))
-
-pub returns-in-Ok-Show-clause-said : goal.returns-in-Ok-Show-clause-said
-returns-in-Ok-Show-clause-said g c =
-    let is = rw c.in-Ok-Show.field-0-is at c.in-Ok-Show.ensures.ok in
-    let said = c.show.ensures.said in
-    (said.0, said.1, said.2, command_output Show _ _ _ said.1 is said.3, said.4)
-
-pub returns-in-Ok-Show-clause-whole : goal.returns-in-Ok-Show-clause-whole
-returns-in-Ok-Show-clause-whole g c = λ text tells clean.
-    let is = rw c.in-Ok-Show.field-0-is at c.in-Ok-Show.ensures.ok in
-    let said = c.show.ensures.whole text tells clean in
-    (said.0, command_output Show _ _ _ said.0 is said.1, said.2)
-
-pub returns-in-Ok-Show-clause-untouched : goal.returns-in-Ok-Show-clause-untouched
-returns-in-Ok-Show-clause-untouched g c = λ none. absurd (none Show (rw c.in-Ok-Show.field-0-is at c.in-Ok-Show.ensures.ok))
-
-pub returns-in-Ok-Count-clause-said : goal.returns-in-Ok-Count-clause-said
-returns-in-Ok-Count-clause-said g c =
-    let is = rw c.in-Ok-Count.field-0-is at c.in-Ok-Count.ensures.ok in
-    let said = c.count.ensures.said in
-    (said.0, said.1, said.2, command_output Count _ _ _ said.1 is said.3, said.4)
-
-pub returns-in-Ok-Count-clause-whole : goal.returns-in-Ok-Count-clause-whole
-returns-in-Ok-Count-clause-whole g c = λ text tells clean.
-    let is = rw c.in-Ok-Count.field-0-is at c.in-Ok-Count.ensures.ok in
-    let said = c.count.ensures.whole text tells clean in
-    (said.0, command_output Count _ _ _ said.0 is said.1, said.2)
-
-pub returns-in-Ok-Count-clause-untouched : goal.returns-in-Ok-Count-clause-untouched
-returns-in-Ok-Count-clause-untouched g c = λ none. absurd (none Count (rw c.in-Ok-Count.field-0-is at c.in-Ok-Count.ensures.ok))
+pub returns-in-Ok-clause-untouched : goal.returns-in-Ok-clause-untouched
+returns-in-Ok-clause-untouched g c = λ none. absurd (none c.in-Ok.action c.in-Ok.ensures.ok)
 
 pub returns-in-Err-Usage-clause-said : goal.returns-in-Err-Usage-clause-said
 returns-in-Err-Usage-clause-said g c =
