@@ -1,16 +1,17 @@
 //! The captures are opened, their transfers found, and both judged.
 
+use crate::PROGRAM;
 use crate::held::{Held, said_of};
 use crate::recorded::{Recorded, Taken, take_beside, take_both};
 use crate::source::{Source, Whole};
-use crate::told::{Named, tell_session, told};
+use crate::told::{Named, tell_session};
 use crate::words::Request;
 use anyhow::{Result, bail};
 use std::fs::{self, File};
 use std::io::Read;
 use tftp_match::PairSaid;
 use tftp_packet::End;
-use tftp_session::Session;
+use tftp_session::{Session, told};
 
 const TRANSFER: &str = "--transfer";
 
@@ -50,7 +51,7 @@ fn opened(rt: HostRuntime, path: &str) -> Result<Option<File>> {
     match fs::open(&rt, path) {
         Ok(file) => Ok(Some(file)),
         Err(error) => {
-            eprintln!(rt; "tftp-match: {path}: {error}")?;
+            eprintln!(rt; "{PROGRAM}: {path}: {error}")?;
             Ok(None)
         }
     }
@@ -82,7 +83,12 @@ fn begun<R: Read + Drop>(
     reader: R,
 ) -> Result<Option<Source<R>>> {
     let services = request.services.as_slice();
-    let source = told(rt, file, Source::begin(rt.alloc(), services, reader))?;
+    let source = told(
+        rt,
+        PROGRAM,
+        file,
+        Source::begin(rt.alloc(), services, reader),
+    )?;
     if let Some(Source::Recording(session)) = &source {
         tell_session(rt, file, session)?;
     }

@@ -19,27 +19,20 @@ use crate::json::say_json;
 use crate::judging::{Judged, judge_captures};
 use crate::lines::say;
 use crate::words::{Request, request_of};
-use anyhow::{Error, Result};
-use clap::Error as WordsError;
-use clap::error::ErrorKind;
+use anyhow::Result;
 use std::process::ExitCode;
-use std::{env, io};
+use tftp_session::ended;
+use tftp_words::{fault_of, own_words, tell_fault};
+
+/// The name with which all begins that is told on standard error.
+const PROGRAM: &str = "tftp-match";
 
 /// Ends with status 0 where one run has both captures, 1 where none has, or 2 after a fault.
 fn main(rt: HostRuntime) -> ExitCode {
-    let Ok(words) = env::args(&rt) else {
+    let Some(words) = own_words(rt) else {
         return ExitCode::from(2);
     };
-    let Ok(words) = words.collect::<Vec<String>>(rt.alloc()) else {
-        return ExitCode::from(2);
-    };
-    match answer(rt, words.as_slice()) {
-        Ok(status) => ExitCode::from(status),
-        Err(error) => {
-            let _ = tell(rt, &error);
-            ExitCode::from(2)
-        }
-    }
+    ended(rt, PROGRAM, answer(rt, words.as_slice()))
 }
 
 /// Does what the words ask for, and answers the status.
@@ -49,7 +42,7 @@ fn answer(rt: HostRuntime, words: &[String]) -> Result<u8> {
             Some(judged) => say_judged(rt, &request, judged),
             None => Ok(2),
         },
-        Err(error) => tell_words(rt, &error),
+        Err(error) => Ok(tell_fault(rt, PROGRAM, &fault_of(error))?),
     }
 }
 
@@ -67,27 +60,4 @@ fn say_judged(rt: HostRuntime, request: &Request<'_>, judged: Judged) -> Result<
         say(rt, &facts)?;
     }
     Ok(facts.status)
-}
-
-/// Tells an error.
-fn tell(rt: HostRuntime, error: &Error) -> io::Result<()> {
-    eprintln!(rt; "tftp-match: {error}")
-}
-
-/// What there is to say of words that ask for nothing.
-fn tell_words(rt: HostRuntime, error: &WordsError) -> Result<u8> {
-    match error.kind() {
-        ErrorKind::DisplayHelp | ErrorKind::DisplayVersion => {
-            print!(rt; "{error}")?;
-            Ok(0)
-        }
-        ErrorKind::OutOfMemory => {
-            eprintln!(rt; "tftp-match: no memory")?;
-            Ok(2)
-        }
-        _ => {
-            eprint!(rt; "{error}")?;
-            Ok(2)
-        }
-    }
 }

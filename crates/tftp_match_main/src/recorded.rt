@@ -1,15 +1,16 @@
 //! The transfers of recordings that are to be judged.
 
+use crate::PROGRAM;
 use crate::candidates::Candidates;
 use crate::held::Held;
 use crate::source::Whole;
-use crate::told::{Named, tell_apart, tell_several, told};
+use crate::told::{Named, tell_apart, tell_several};
 use anyhow::{Result, bail};
 use std::alloc::Global;
 use std::io::Read;
 use tftp_capture::{CaptureReader, Datagram};
 use tftp_packet::End;
-use tftp_session::{Asked, Session, TextAt, TextFault, requests_of};
+use tftp_session::{Asked, Session, TextAt, TextFault, requests_of, told};
 use tftp_streams::{Latched, LineWriter};
 
 /// A recording at an end.
@@ -48,16 +49,22 @@ pub fn take_beside<R: Read + Drop>(
     text: Whole<R>,
 ) -> Result<Option<Taken<R>>> {
     let own = recorded.named.file;
-    let Some(asked) = told(rt, own, recorded.asked(rt.alloc()))? else {
+    let Some(asked) = told(rt, PROGRAM, own, recorded.asked(rt.alloc()))? else {
         return Ok(None);
     };
     if let [sole] = asked.as_slice() {
         return recorded.taken(rt, sole.number, Held::Stream(text));
     }
-    let Some(bytes) = told(rt, file, read_out(rt.alloc(), text))? else {
+    let Some(bytes) = told(rt, PROGRAM, file, read_out(rt.alloc(), text))? else {
         return Ok(None);
     };
-    let Some(payload) = told(rt, file, first_payload(rt.alloc(), bytes.as_slice()))? else {
+    let Some(payload) = told(
+        rt,
+        PROGRAM,
+        file,
+        first_payload(rt.alloc(), bytes.as_slice()),
+    )?
+    else {
         return Ok(None);
     };
     let other = Asked {
@@ -100,10 +107,10 @@ pub fn take_both(
     client: &Recorded<'_>,
     server: &Recorded<'_>,
 ) -> Result<Option<BothTaken>> {
-    let Some(clients) = told(rt, client.named.file, client.asked(rt.alloc()))? else {
+    let Some(clients) = told(rt, PROGRAM, client.named.file, client.asked(rt.alloc()))? else {
         return Ok(None);
     };
-    let Some(servers) = told(rt, server.named.file, server.asked(rt.alloc()))? else {
+    let Some(servers) = told(rt, PROGRAM, server.named.file, server.asked(rt.alloc()))? else {
         return Ok(None);
     };
     let found = Candidates::of(rt.alloc(), clients.as_slice(), servers.as_slice())?;
@@ -127,11 +134,11 @@ fn both_texts(
     server_number: u64,
 ) -> Result<Option<BothTaken>> {
     let text = client.text(rt.alloc(), client_number);
-    let Some(client) = told(rt, client.named.file, text)? else {
+    let Some(client) = told(rt, PROGRAM, client.named.file, text)? else {
         return Ok(None);
     };
     let text = server.text(rt.alloc(), server_number);
-    let Some(server) = told(rt, server.named.file, text)? else {
+    let Some(server) = told(rt, PROGRAM, server.named.file, text)? else {
         return Ok(None);
     };
     Ok(Some(BothTaken {
@@ -163,7 +170,7 @@ impl<'a> Recorded<'a> {
         number: u64,
         held: Held<R>,
     ) -> Result<Option<Taken<R>>> {
-        match told(rt, self.named.file, self.text(rt.alloc(), number))? {
+        match told(rt, PROGRAM, self.named.file, self.text(rt.alloc(), number))? {
             Some(text) => Ok(Some(Taken { number, text, held })),
             None => Ok(None),
         }
