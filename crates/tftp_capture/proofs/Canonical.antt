@@ -12,7 +12,7 @@ use Rattle.hex.proofs.HexLemmas.{decode_of-encode_lower, decode_of-ok, length-en
 use Rattle.tftp_hosts.specs.{IsSign, Dir, In, Out}
 use Rattle.tftp_packet.specs.{End, Client, Server}
 use Rattle.tftp_capture.specs.CaptureText.{Datagram, Header}
-use Rattle.tftp_capture.specs.{Due, IsCapture, IsLawful, IsPort, NamesNoHost, Numbered, SaysDatagram, SaysDatagrams, Says, Stands, datagram_line, dir_word, end_line, head_line, line_with_host, longest, longest_line, SpellsPayload, numbered, payload_text, said, says_nothing, service_line, text_of, text_with_hosts, total_line, whole_lines, Version, One, Two, HasNoEnd}
+use Rattle.tftp_capture.specs.{Due, IsCapture, IsLawful, IsPort, NamesNoHost, Numbered, SaysDatagram, SaysDatagrams, Says, Stands, datagram_line, dir_word, end_line, head_line, line_with_host, longest, longest_line, SpellsPayload, numbered, payload_text, pieces, said, says_nothing, service_line, text_of, text_with_hosts, total_line, whole_lines, Version, One, Two, HasNoEnd}
 use Rattle.tftp_capture.specs.CaptureText.Due.{Nothing}
 use Rattle.tftp_capture.proofs.Texts.{at_ends}
 
@@ -23,7 +23,7 @@ Plain b = (b ≢ 32) × (b ≢ 10)
 pub no_space : (xs : List ℕ) → All Plain xs → All (λ b. (b == 32) ≡ false) xs
 no_space xs h = All-weaker Plain (λ b. (b == 32) ≡ false) (λ b n. ne_eqb b 32 n.0) xs h
 
-no_lf : (xs : List ℕ) → All Plain xs → All (λ b. b ≢ 10) xs
+pub no_lf : (xs : List ℕ) → All Plain xs → All (λ b. b ≢ 10) xs
 no_lf xs h = All-weaker Plain (λ b. b ≢ 10) (λ b n. n.1) xs h
 
 plain_digit : (c : ℕ) → 48 ≤ c → Plain c
@@ -41,7 +41,7 @@ plain_decimal n h = plain_digits (decimal n) (decimal_is_IsNumeral n h).0.1
 hex_low : (c : ℕ) → is_hex_digit c ≡ true → 48 ≤ c
 hex_low c h = grind (arith, nat_tests)
 
-plain_hex : (xs : List ℕ) (bytes : List ℕ) → decode_of xs ≡ Ok bytes → All Plain xs
+pub plain_hex : (xs : List ℕ) (bytes : List ℕ) → decode_of xs ≡ Ok bytes → All Plain xs
 plain_hex xs bytes h = All-weaker (λ c. is_hex_digit c ≡ true) Plain (λ c is. plain_digit c (hex_low c is)) xs (decode_of-ok xs bytes h).1
 
 -- tests on the bytes of a text that is written out
@@ -61,15 +61,15 @@ plain_payload : (bytes : List ℕ) → IsBytes bytes → All Plain (payload_text
 plain_payload [] h = plain_text (codes "-") refl
 plain_payload (b ∷ bs) h = plain_hex (encode_lower (b ∷ bs)) (b ∷ bs) (decode_of-encode_lower (b ∷ bs) h)
 
-plain_dir : (dir : Dir) → All Plain (dir_word dir)
+pub plain_dir : (dir : Dir) → All Plain (dir_word dir)
 plain_dir In = plain_text (codes "in") refl
 plain_dir Out = plain_text (codes "out") refl
 
-plain_signs : (xs : List ℕ) → AllByRecursion IsSign xs → All Plain xs
+pub plain_signs : (xs : List ℕ) → AllByRecursion IsSign xs → All Plain xs
 plain_signs [] h = All-nil Plain
 plain_signs (b ∷ bs) h = All-cons Plain b bs (λ e. absurd (omega (arith, h.0.0, e)), λ e. absurd (omega (arith, h.0.0, e))) (plain_signs bs h.1)
 
-first_byte : (dir : Dir) (rest : List ℕ) → says_nothing (dir_word dir ++ rest) ≡ false
+pub first_byte : (dir : Dir) (rest : List ℕ) → says_nothing (dir_word dir ++ rest) ≡ false
 first_byte In rest = refl
 first_byte Out rest = refl
 
@@ -85,7 +85,25 @@ spelled : (bytes : List ℕ) → IsBytes bytes → SpellsPayload (payload_text b
 spelled [] h = inl (refl, refl)
 spelled (b ∷ bs) h = inr (λ e. absurd (omega (arith, ap length e)), decode_of-encode_lower (b ∷ bs) h)
 
+-- fields without a space, each with one behind it
+pub fields_cut : (word local remote rest : List ℕ) → All Plain word → All Plain local → All Plain remote → pieces (word ++ 32 ∷ (local ++ 32 ∷ (remote ++ 32 ∷ rest))) ≡ word ∷ local ∷ remote ∷ pieces rest
+fields_cut word local remote rest w l r =
+    slice_split_at (λ b. b == 32) word 32 (local ++ 32 ∷ (remote ++ 32 ∷ rest)) (no_space word w) refl
+    ∙ ap (λ s. word ∷ s)
+    (slice_split_at (λ b. b == 32) local 32 (remote ++ 32 ∷ rest) (no_space local l) refl ∙ ap (λ s. local ∷ s) (slice_split_at (λ b. b == 32) remote 32 rest (no_space remote r) refl))
+
+pub fields_with_host_cut : (word local host remote rest : List ℕ) → All Plain word → All Plain local → All Plain host → All Plain remote
+    → pieces (word ++ 32 ∷ (local ++ 32 ∷ (host ++ 32 ∷ (remote ++ 32 ∷ rest)))) ≡ word ∷ local ∷ host ∷ remote ∷ pieces rest
+fields_with_host_cut word local host remote rest w l h r =
+    slice_split_at (λ b. b == 32) word 32 (local ++ 32 ∷ (host ++ 32 ∷ (remote ++ 32 ∷ rest))) (no_space word w) refl ∙ ap (λ s. word ∷ s) (fields_cut local host remote rest l h r)
+
+pub after_space : (xs : List ℕ) → All (λ b. b ≢ 10) xs → All (λ b. b ≢ 10) (32 ∷ xs)
+after_space xs h = All-cons (λ b. b ≢ 10) 32 xs (λ e. absurd (omega (arith, e))) h
+
 module _ (d : Datagram) (lawful : IsLawful d) where
+  payload_one : pieces (payload_text d.payload) ≡ payload_text d.payload ∷ []
+  payload_one = slice_split_none (λ b. b == 32) (payload_text d.payload) (no_space _ (plain_payload d.payload lawful.bytes))
+
   local_plain : All Plain (decimal d.local)
   local_plain = plain_decimal d.local (omega (arith, lawful.local.1))
 
@@ -98,12 +116,7 @@ module _ (d : Datagram) (lawful : IsLawful d) where
     remote = decimal d.remote;
     digits = payload_text d.payload;
     cut = (
-      slice_split_at (λ b. b == 32) (dir_word d.dir) 32 (decimal d.local ++ 32 ∷ (decimal d.remote ++ 32 ∷ payload_text d.payload)) (no_space _ (plain_dir d.dir)) refl
-          ∙ ap (λ s. dir_word d.dir ∷ s)
-          (slice_split_at (λ b. b == 32) (decimal d.local) 32 (decimal d.remote ++ 32 ∷ payload_text d.payload) (no_space _ local_plain) refl
-          ∙ ap (λ s. decimal d.local ∷ s)
-          (slice_split_at (λ b. b == 32) (decimal d.remote) 32 (payload_text d.payload) (no_space _ remote_plain) refl
-          ∙ ap (λ s. decimal d.remote ∷ s) (slice_split_none (λ b. b == 32) (payload_text d.payload) (no_space _ (plain_payload d.payload lawful.bytes))))),
+      fields_cut (dir_word d.dir) (decimal d.local) (decimal d.remote) (payload_text d.payload) (plain_dir d.dir) local_plain remote_plain ∙ ap (λ l. dir_word d.dir ∷ decimal d.local ∷ decimal d.remote ∷ l) payload_one,
       unnamed,
     );
     local_port = (lawful.local, refl);
@@ -113,12 +126,9 @@ module _ (d : Datagram) (lawful : IsLawful d) where
     fits = lawful.fits;
   }
 
-  space : (xs : List ℕ) → All (λ b. b ≢ 10) xs → All (λ b. b ≢ 10) (32 ∷ xs)
-  space xs h = All-cons (λ b. b ≢ 10) 32 xs (λ e. absurd (omega (arith, e))) h
-
   datagram_no_end : HasNoEnd (datagram_line d)
   datagram_no_end =
-      All-append (λ b. b ≢ 10) (dir_word d.dir) _ (no_lf _ (plain_dir d.dir)) (space _ (All-append (λ b. b ≢ 10) (decimal d.local) _ (no_lf _ local_plain) (space _ (All-append (λ b. b ≢ 10) (decimal d.remote) _ (no_lf _ remote_plain) (space _ (no_lf _ (plain_payload d.payload lawful.bytes)))))))
+      All-append (λ b. b ≢ 10) (dir_word d.dir) _ (no_lf _ (plain_dir d.dir)) (after_space _ (All-append (λ b. b ≢ 10) (decimal d.local) _ (no_lf _ local_plain) (after_space _ (All-append (λ b. b ≢ 10) (decimal d.remote) _ (no_lf _ remote_plain) (after_space _ (no_lf _ (plain_payload d.payload lawful.bytes)))))))
 
   datagram_narrow : length (datagram_line d) ≤ 131070
   datagram_narrow =
@@ -154,14 +164,8 @@ module _ (d : Datagram) (lawful : IsLawful d) where
     remote = decimal d.remote;
     digits = payload_text d.payload;
     cut =
-        slice_split_at (λ b. b == 32) (dir_word d.dir) 32 (decimal d.local ++ 32 ∷ after_local) (no_space _ (plain_dir d.dir)) refl
-        ∙ ap (λ s. dir_word d.dir ∷ s)
-        (slice_split_at (λ b. b == 32) (decimal d.local) 32 after_local (no_space _ local_plain) refl
-        ∙ ap (λ s. decimal d.local ∷ s)
-        (slice_split_at (λ b. b == 32) d.host 32 (decimal d.remote ++ 32 ∷ payload_text d.payload) (no_space _ host_plain) refl
-        ∙ ap (λ s. d.host ∷ s)
-        (slice_split_at (λ b. b == 32) (decimal d.remote) 32 (payload_text d.payload) (no_space _ remote_plain) refl
-        ∙ ap (λ s. decimal d.remote ∷ s) (slice_split_none (λ b. b == 32) (payload_text d.payload) (no_space _ (plain_payload d.payload lawful.bytes))))));
+        fields_with_host_cut (dir_word d.dir) (decimal d.local) d.host (decimal d.remote) (payload_text d.payload) (plain_dir d.dir) local_plain host_plain remote_plain
+        ∙ ap (λ l. dir_word d.dir ∷ decimal d.local ∷ d.host ∷ decimal d.remote ∷ l) payload_one;
     local_port = (lawful.local, refl);
     host = lawful.host;
     remote_port = (lawful.remote, refl);
@@ -172,9 +176,9 @@ module _ (d : Datagram) (lawful : IsLawful d) where
   pub host_no_end : HasNoEnd (line_with_host d)
   host_no_end =
       All-append (λ b. b ≢ 10) (dir_word d.dir) _ (no_lf _ (plain_dir d.dir))
-      (space _ (All-append (λ b. b ≢ 10) (decimal d.local) _ (no_lf _ local_plain)
-      (space _ (All-append (λ b. b ≢ 10) d.host _ (no_lf _ host_plain)
-      (space _ (All-append (λ b. b ≢ 10) (decimal d.remote) _ (no_lf _ remote_plain) (space _ (no_lf _ (plain_payload d.payload lawful.bytes)))))))))
+      (after_space _ (All-append (λ b. b ≢ 10) (decimal d.local) _ (no_lf _ local_plain)
+      (after_space _ (All-append (λ b. b ≢ 10) d.host _ (no_lf _ host_plain)
+      (after_space _ (All-append (λ b. b ≢ 10) (decimal d.remote) _ (no_lf _ remote_plain) (after_space _ (no_lf _ (plain_payload d.payload lawful.bytes)))))))))
 
   pub host_narrow : length (line_with_host d) ≤ 131116
   host_narrow =

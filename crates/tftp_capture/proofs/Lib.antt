@@ -4,6 +4,7 @@ pub mod Canonical
 pub mod Commented
 pub mod Cuts
 pub mod Faults
+pub mod HeadLines
 pub mod Headers
 pub mod Histories
 pub mod InTwo

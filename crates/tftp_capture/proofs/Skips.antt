@@ -1,11 +1,12 @@
 -- Lines that say nothing, taken one after another.
-use Rattle.std.proofs.Common.{◌≡◌, ℕ, ◌+◌, ◌<◌, ◌≤◌, true, false, List, [], ◌∷◌, ◌++◌, length, take, drop, get_or, All, Option, Ok, sym, ap, ◌∙◌, subst, arith, append_assoc, append-nil, take-append-drop, length-append}
-use Rattle.std.specs.Io.KnownBytes.{Consumes}
-use Rattle.std.proofs.KnownBytes.{Consumes-trans}
+use Rattle.std.proofs.Common.{◌≡◌, ℕ, ◌+◌, ◌^◌, ◌<◌, ◌≤◌, true, false, List, [], ◌∷◌, ◌++◌, length, take, drop, get_or, All, Option, Ok, sym, ap, ◌∙◌, subst, arith, append_assoc, append-nil, take-append-drop, length-append}
+use Rattle.std.specs.Io.KnownBytes.{prepend_known, Consumes}
+use Rattle.std.proofs.KnownBytes.{Consumes-trans, Keeps-refl}
 use Rattle.std.proofs.lemmas.List.Concat.{flat_map-append}
-use Rattle.std.proofs.lemmas.List.Elements.{All-push}
-use Rattle.tftp_capture.specs.{longest_line, says_nothing, whole_lines, HasNoEnd, HoldsLine, IsSilent, IsSkipped, LineEnds, LineState}
-use Rattle.tftp_capture.proofs.Bytes.{line_ended}
+use Rattle.std.proofs.lemmas.List.Elements.{All-nil, All-push}
+use Rattle.std.proofs.Math.Seq.{take-append_seam}
+use Rattle.tftp_capture.specs.{longest_line, says_nothing, whole_lines, BeginsWithLine, HasNoEnd, HoldsLine, IsSilent, IsSkipped, LineEnds, LineState, ReachesLine}
+use Rattle.tftp_capture.proofs.Bytes.{held_some, line_ended}
 
 pub whole_lines-push : (lines : List (List ℕ)) (line : List ℕ) → whole_lines (lines ++ line ∷ []) ≡ whole_lines lines ++ (line ++ 10 ∷ [])
 whole_lines-push lines line = flat_map-append (λ (l : List ℕ). l ++ 10 ∷ []) lines (line ∷ []) ∙ ap (λ l. whole_lines lines ++ l) (append-nil (line ++ 10 ∷ []))
@@ -71,3 +72,36 @@ held_line bytes rest count p within here no_end says = record {
   no_end = no_end;
   says = says;
 }
+
+-- ---- a line that lies in what is held, taken as it is
+
+pub reaches_held : (old new : LineState) (size : ℕ) (known : Option (List ℕ)) → (b : BeginsWithLine old.ahead size) → size ≤ longest_line old.version → old.taken + size < 2 ^ 40
+    → new.line ≡ take size old.ahead → new.ahead ≡ drop (size + 1) old.ahead → new.taken ≡ old.taken + (size + 1) → new.count ≡ old.count + 1 → new.version ≡ old.version
+    → ReachesLine {T = Unit {0}} (Ok tt) old new (prepend_known old.ahead known) (prepend_known new.ahead known)
+reaches_held old new size known b narrow fits line ahead taken count version =
+    let whole : take (size + 1) old.ahead ≡ b.line ++ 10 ∷ [] =
+    let long : size + 1 ≡ length (b.line ++ 10 ∷ []) = omega (arith, b.sized, length-append b.line (10 ∷ [])) in
+    ap (λ n. take n old.ahead) long ∙ ap (take (length (b.line ++ 10 ∷ []))) (b.are ∙ sym (append_assoc b.line (10 ∷ []) b.more)) ∙ take-append_seam (b.line ++ 10 ∷ []) b.more in
+    let same : new.line ≡ b.line = line ∙ ap (λ n. take n old.ahead) (sym b.sized) ∙ ap (take (length b.line)) b.are ∙ take-append_seam b.line (10 ∷ b.more) in
+    let long : length new.line ≡ size = ap length same ∙ b.sized in
+    record {
+      skipped = [];
+      bytes = take (size + 1) old.ahead;
+      nothing = All-nil (IsSkipped (longest_line old.version));
+      consumed = rw ahead (held_some (prepend_known old.ahead known) known old.ahead (size + 1) (Keeps-refl (prepend_known old.ahead known)));
+      short = omega (arith, fits);
+      ends = (
+        whole ∙ ap (λ l. l ++ 10 ∷ []) (sym same),
+        record {
+          no_end = subst HasNoEnd (sym same) b.no_end;
+          narrow = omega (arith, long, narrow);
+          short = omega (arith, long, fits);
+        },
+        omega (arith, long, fits),
+      );
+      said = ap says_nothing same ∙ b.says;
+      taken = omega (arith, taken, ap length whole, length-append b.line (10 ∷ []), b.sized);
+      count = omega (arith, count);
+      count_before = tt;
+      version = version;
+    }

@@ -4,7 +4,7 @@ use Rattle.std.specs.Io.KnownBytes.{Appends}
 use Rattle.std.proofs.lemmas.List.{map-append}
 use Rattle.std.proofs.lemmas.List.Concat.{flat_map-append}
 use Rattle.hex.specs.Hex.{encode_lower}
-use Rattle.tftp_capture.specs.{Version, One, Two, datagram_line, dir_word, end_line, end_word, head_line, line_with_host, payload_text, service_line, text_of, total_line, whole_lines, Entry, comment_line, commented_text, entry_line, said_in, HasWritten, HasWrittenHosts, header_text_in, host_field, line_naming}
+use Rattle.tftp_capture.specs.{Version, One, Two, datagram_line, end_line, end_word, head_line, line_with_host, payload_text, service_line, text_of, total_line, whole_lines, Entry, comment_line, commented_text, entry_line, said_in, HasWritten, HasWrittenHosts, header_text_in, head_naming, line_naming}
 use Rattle.tftp_streams.specs.{Gathers, Sink}
 use Rattle.tftp_capture.specs.CaptureText.{Datagram, Header}
 use Rattle.tftp_capture.specs.Commented.Entry.{Comment, Passed}
@@ -21,16 +21,9 @@ pub header_pieces : (version : Version) (header : Header) (head named service : 
     → head ++ ((10 ∷ codes "end ") ++ (named ++ ((10 ∷ codes "service ") ++ (service ++ 10 ∷ [])))) ≡ header_text_in version header
 header_pieces version header head named service d e f = three_lines head named service ∙ cc
 
-pieces_naming : (host : Option (List ℕ)) (d : Datagram)
-    → (dir_word d.dir ++ (codes " " ++ (decimal d.local ++ (codes " " ++ (host_field host ++ (decimal d.remote ++ codes " ")))))) ++ (payload_text d.payload ++ 10 ∷ []) ≡ line_naming host d ++ 10 ∷ []
-pieces_naming None d = simp append_assoc
-pieces_naming (Some host) d = simp append_assoc
-
-pub datagram_pieces : (host : Option (List ℕ)) (d : Datagram) (word local name space remote : List ℕ) → word ≡ dir_word d.dir → local ≡ decimal d.local → name ++ space ≡ host_field host → remote ≡ decimal d.remote
-    → (word ++ (codes " " ++ (local ++ (codes " " ++ (name ++ (space ++ (remote ++ codes " "))))))) ++ (payload_text d.payload ++ 10 ∷ []) ≡ line_naming host d ++ 10 ∷ []
-datagram_pieces host d word local name space remote e f i h =
-    let named : name ++ (space ++ (remote ++ codes " ")) ≡ host_field host ++ (remote ++ codes " ") = sym (append_assoc name space (remote ++ codes " ")) ∙ ap (λ l. l ++ (remote ++ codes " ")) i in
-    rw (named, e, f, h) (pieces_naming host d)
+pub head_and_payload : (host : Option (List ℕ)) (d : Datagram) → head_naming host d.dir d.local d.remote ++ (payload_text d.payload ++ 10 ∷ []) ≡ line_naming host d ++ 10 ∷ []
+head_and_payload None d = simp append_assoc
+head_and_payload (Some host) d = simp append_assoc
 
 -- a payload that is not empty
 pub payload_digits : (payload : List ℕ) → length payload ≢ 0 → payload_text payload ≡ encode_lower payload

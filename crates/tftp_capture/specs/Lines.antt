@@ -75,6 +75,15 @@ pub record IsSilent (line : List ℕ) : Type 0 where
   pub nothing : says_nothing line ≡ true
   pub no_end : HasNoEnd line
 
+-- the bytes begin with a line of so many bytes that says something, and its LF
+pub record BeginsWithLine (bytes : List ℕ) (size : ℕ) : Type 0 where
+  pub line : List ℕ
+  pub more : List ℕ
+  pub are : bytes ≡ line ++ 10 ∷ more
+  pub sized : length line ≡ size
+  pub no_end : HasNoEnd line
+  pub says : says_nothing line ≡ false
+
 -- a whole line that says something is among the bytes, after lines that say nothing
 pub record HoldsLine (bytes : List ℕ) : Type 0 where
   pub silent : List (List ℕ)

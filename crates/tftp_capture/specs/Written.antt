@@ -1,9 +1,10 @@
 -- What was written of a capture, and for what header and datagrams it stands.
-use Rattle.std.specs.Prelude.{◌≡◌, ℕ, List, [], ◌∷◌, ◌++◌, length, map, codes, Option, None, Some}
+use Rattle.std.specs.Prelude.{◌≡◌, ℕ, List, [], ◌∷◌, ◌++◌, length, map, codes, decimal, Option, None, Some}
 use Rattle.tftp_capture.specs.declared.version.Version.{Version}
 use Rattle.tftp_capture.specs.declared.version.Version.TheVariants.{One, Two}
+use Rattle.tftp_hosts.specs.{Dir}
 use Rattle.tftp_streams.specs.Sinks.{Gathers, Sink}
-use Rattle.tftp_capture.specs.CaptureText.{Header, Datagram, head_line, end_line, service_line, datagram_line, line_with_host, whole_lines}
+use Rattle.tftp_capture.specs.CaptureText.{Header, Datagram, head_line, end_line, service_line, datagram_line, dir_word, line_with_host, whole_lines}
 use Rattle.tftp_capture.specs.Commented.{Entry, entry_line, said_in}
 
 -- the host in a datagram's line, and the space after it; nothing where the line names none
@@ -15,6 +16,10 @@ host_field (Some host) = host ++ codes " "
 abbrev pub line_naming : Option (List ℕ) → Datagram → List ℕ
 line_naming None d = datagram_line d
 line_naming (Some host) d = line_with_host (record { dir = d.dir; local = d.local; host = host; remote = d.remote; payload = d.payload })
+
+-- such a line up to its digits
+abbrev pub head_naming : Option (List ℕ) → Dir → (local remote : ℕ) → List ℕ
+head_naming host dir local remote = dir_word dir ++ (codes " " ++ (decimal local ++ (codes " " ++ (host_field host ++ (decimal remote ++ codes " ")))))
 
 -- the header's part of a text
 abbrev pub header_text_in : Version → Header → List ℕ

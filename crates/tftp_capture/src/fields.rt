@@ -122,7 +122,7 @@ fn refused(digits: &[u8]) -> LineError
 }
 
 /// Fills a payload with the bytes that are spelled, in the memory that it has.
-fn fill_payload(digits: &[u8], payload: &mut Vec<u8>) -> Result<(), LineError>
+pub fn fill_payload(digits: &[u8], payload: &mut Vec<u8>) -> Result<(), LineError>
     ensures { PayloadEnds (filled result payload.new.items) digits.now }
 {
     if digits == b"-".as_slice() {

@@ -8,6 +8,7 @@ ghost use Rattle.tftp_capture.specs.Fields.{header_of};
 ghost use Rattle.tftp_capture.specs.Written.{header_text_in, HasWrittenHosts};
 
 use crate::datagram::Header;
+use crate::spelled_head::SpelledHeads;
 use crate::version::Version;
 use crate::writer::{finish, put_datagram, put_header};
 use std::io::Write;
@@ -19,6 +20,7 @@ use tftp_streams::{LineWriter, WriteFault};
 /// contracts see the number of its datagrams. All its calls are to be made with the same writer of lines.
 #[derive(Drop)]
 pub struct HostCaptureWriter {
+    heads: SpelledHeads,
     count: u64,
 }
 
@@ -38,7 +40,10 @@ impl HostCaptureWriter {
         ensures adds { Adds W.contents writer.old writer.new result (header_text_in Version.Two (header_of header.now)) }
     {
         put_header(writer, Version::Two, header)?;
-        Ok(HostCaptureWriter { count: 0 })
+        Ok(HostCaptureWriter {
+            heads: SpelledHeads::new(),
+            count: 0,
+        })
     }
 
     /// Adds a datagram with its host, `-` where none is known; some of it may wait.
@@ -62,7 +67,16 @@ impl HostCaptureWriter {
             → HasWrittenHosts W.contents start writer.old self.old header entries
             → OnOk result (HasWrittenHosts W.contents start writer.new self.new header (entries ++ Passed (record { dir = dir; local = local; host = host.now; remote = remote; payload = payload.now }) ∷ [])) }
     {
-        put_datagram(writer, dir, local, Some(host), remote, payload, b"")?;
+        put_datagram(
+            writer,
+            &mut self.heads,
+            dir,
+            local,
+            Some(host),
+            remote,
+            payload,
+            b"",
+        )?;
         self.count += 1;
         Ok(())
     }

@@ -5,12 +5,14 @@ mod datagram;
 mod digits;
 mod fault;
 mod fields;
+mod heads;
 mod host_writer;
 mod laws;
 mod line;
 mod line_error;
 mod lines;
 mod reader;
+mod spelled_head;
 mod version;
 mod writer;
 

@@ -1,6 +1,6 @@
-ghost use Rattle.std.specs.Prelude.{◌≡◌, ◌≢◌, ◌+◌, ◌-◌, ◌^◌, ◌≤◌, ◌⊎◌, ℕ, List, [], length, true, false, IfOk, OnOk, OnErr};
+ghost use Rattle.std.specs.Prelude.{◌≡◌, ◌≢◌, ◌+◌, ◌-◌, ◌^◌, ◌≤◌, ◌⊎◌, ℕ, List, [], length, take, true, false, Ok, IfOk, OnOk, OnErr, Option};
 ghost use Rattle.std.specs.Io.KnownBytes.{prepend_known, Consumes, IsAtEnd};
-ghost use Rattle.tftp_capture.specs.Lines.{unread, HoldsLine, HoldsNoLine, LineEnds, ReachesLine, TextEnds};
+ghost use Rattle.tftp_capture.specs.Lines.{unread, BeginsWithLine, HoldsLine, HoldsNoLine, LineEnds, ReachesLine, TextEnds};
 ghost use Rattle.tftp_streams.specs.{most_ahead};
 ghost use Rattle.tftp_capture.specs.CaptureText.{longest_line, says_nothing};
 
@@ -109,6 +109,37 @@ impl Lines {
         &self.ahead.as_slice()[..self.lies.saturating_sub(1)]
     }
 
+    /// The bytes that are read ahead: those after the line last read.
+    #[inline]
+    pub fn ahead(&self) -> &[u8]
+        ensures { result.now ≡ self.now.ahead }
+    {
+        &self.ahead.as_slice()[self.lies..]
+    }
+
+    /// Takes the next line, which lies in what is read ahead and has `size` bytes before its LF, where it may be so long. Else
+    /// it is still to be read.
+    pub fn take(&mut self, size: usize) -> bool
+        requires line { BeginsWithLine self.old.ahead size }
+        ensures reaches { result ≡ true → (known : Option (List ℕ))
+            → ReachesLine {T = Unit {0}} (Ok tt) self.old self.new (prepend_known self.old.ahead known) (prepend_known self.new.ahead known) }
+        ensures line { result ≡ true → self.new.line ≡ take size self.old.ahead }
+        ensures near { length self.new.ahead ≤ most_ahead }
+        ensures few { self.new.count ≤ 2 ^ 40 }
+        ensures rises { result ≡ true → self.new.count ≡ self.old.count + 1 }
+        ensures version { self.new.version ≡ self.old.version }
+        ensures others { result ≡ false → self.new ≡ self.old }
+    {
+        if size > self.version.longest_line() || LONGEST_TEXT - self.taken <= size as u64 {
+            return false;
+        }
+        self.ahead.consume(self.lies);
+        self.lies = size + 1;
+        self.taken += self.lies as u64;
+        self.count += 1;
+        true
+    }
+
     /// How many lines were read.
     #[inline]
     pub fn count(&self) -> u64
@@ -126,7 +157,7 @@ impl Lines {
         ensures waits { result ≡ true → (self.now.full ≡ false) × HoldsNoLine self.now.ahead }
         ensures ready { result ≡ false → (self.now.full ≡ true) ⊎ HoldsLine self.now.ahead }
     {
-        !self.ahead.is_full() && !holds_line(&self.ahead.as_slice()[self.lies..])
+        !self.ahead.is_full() && !holds_line(self.ahead())
     }
 
     /// Reads the next line.

@@ -1,14 +1,15 @@
-ghost use Rattle.std.specs.Prelude.{◌≡◌, ◌≢◌, ◌+◌, ◌^◌, ◌<◌, ◌≤◌, ◌⊎◌, ℕ, List, [], length, true, false, IfOk, IfErr, IsErrAnd, OnOk};
+ghost use Rattle.std.specs.Prelude.{◌≡◌, ◌≢◌, ◌+◌, ◌^◌, ◌<◌, ◌≤◌, ◌⊎◌, ℕ, List, [], length, true, false, Ok, IfOk, IfErr, IsErrAnd, OnOk, Option};
 ghost use Rattle.std.specs.Io.KnownBytes.{prepend_known, Consumes, IsAtEnd};
-ghost use Rattle.tftp_capture.specs.CaptureText.{Header as HeaderParts, Numbered};
-ghost use Rattle.tftp_capture.specs.Fields.{filled_if, header_of};
-ghost use Rattle.tftp_capture.specs.Lines.{HoldsLine, HoldsNoLine};
+ghost use Rattle.tftp_capture.specs.CaptureText.{Header as HeaderParts, Numbered, SaysDatagram};
+ghost use Rattle.tftp_capture.specs.Fields.{datagram_of, filled_if, header_of};
+ghost use Rattle.tftp_capture.specs.Lines.{HoldsLine, HoldsNoLine, ReachesLine};
 ghost use Rattle.tftp_streams.specs.{KeepsAnswer, most_ahead, standing_after};
 ghost use Rattle.tftp_capture.specs.History.{Answers, Continues, FailsToBegin, GoesOn, HasService, IsAtTextEnd, IsReadFault, IsReadStanding, StandsFor};
 
 use crate::datagram::{Datagram, Header};
 use crate::fault::{CaptureFault, TextFault};
 use crate::fields::{body_line, end_of, service_of};
+use crate::heads::Heads;
 use crate::line_error::LineError;
 use crate::lines::Lines;
 use crate::version::Version;
@@ -17,12 +18,13 @@ use std::io::Read;
 use std::marker::Model;
 use tftp_streams::{Latched, Standing};
 
-/// A reader of a capture text: it holds one line of at most 131,070 bytes, in version 2 of 131,116, and at most
-/// 65,536 bytes read ahead.
+/// A reader of a capture text: it holds one line of at most 131,070 bytes, in version 2 of 131,116, at most 65,536 bytes
+/// read ahead, and the memory of one payload more than the caller, that of the last one that went the other way.
 #[derive(Drop)]
 pub struct CaptureReader {
     header: Header,
     lines: Lines,
+    heads: Heads,
     count: u64,
     handed: u64,
     standing: Standing<CaptureFault>,
@@ -82,15 +84,16 @@ impl CaptureReader {
         Ok(CaptureReader {
             header: Header { named, service },
             lines,
+            heads: Heads::new(alloc),
             count: 0,
             handed,
             standing: Standing::Open,
         })
     }
 
-    /// Reads the next datagram into what the caller holds, in the memory of its payload; false, for good, once the text
-    /// has ended without a fault. A fault is answered for good. Where no datagram was read, nothing is said of what the
-    /// caller holds.
+    /// Reads the next datagram into what the caller holds, in the memory of its payload, or of the last one that went the
+    /// same way; false, for good, once the text has ended without a fault. A fault is answered for good. Where no datagram
+    /// was read, nothing is said of what the caller holds.
     pub fn next_into<R: Read>(
         &mut self,
         reader: &mut Latched<R>,
@@ -120,7 +123,13 @@ impl CaptureReader {
             Standing::Over => return Ok(false),
             Standing::Failed(fault) => return Err(fault),
         }
-        match read_on(&mut self.lines, reader, self.count, datagram) {
+        match read_on(
+            &mut self.lines,
+            reader,
+            self.count,
+            &mut self.heads,
+            datagram,
+        ) {
             Ok(true) => {
                 self.count += 1;
                 self.handed = self.lines.count();
@@ -165,11 +174,29 @@ impl CaptureReader {
     }
 }
 
+/// Takes the next line where it is like the last one of its way: its head is known, and its LF is not searched for, since no
+/// digit is one. Else no line is taken, and nothing is said of the datagram.
+fn take_like(lines: &mut Lines, heads: &mut Heads, datagram: &mut Datagram) -> bool
+    ensures reaches { result ≡ true → (known : Option (List ℕ))
+        → ReachesLine {T = Unit {0}} (Ok tt) lines.old lines.new (prepend_known lines.old.ahead known) (prepend_known lines.new.ahead known) }
+    ensures says { result ≡ true → SaysDatagram lines.new.version lines.new.line (datagram_of datagram.new) }
+    ensures near { result ≡ true → length lines.new.ahead ≤ most_ahead }
+    ensures few { result ≡ true → lines.new.count ≤ 2 ^ 40 }
+    ensures rises { result ≡ true → lines.old.count < lines.new.count }
+    ensures others { result ≡ false → lines.new ≡ lines.old }
+{
+    match heads.fill(lines.version(), lines.ahead(), datagram) {
+        Some(size) => lines.take(size),
+        None => false,
+    }
+}
+
 /// Reads to the next datagram, or over the total to the text's end, after `count` datagrams.
 fn read_on<R: Read>(
     lines: &mut Lines,
     reader: &mut Latched<R>,
     count: u64,
+    heads: &mut Heads,
     datagram: &mut Datagram,
 ) -> Result<bool, CaptureFault>
     ensures answers { (header : HeaderParts) (text : List ℕ) (datagrams : List Numbered) → GoesOn header lines.old count text datagrams
@@ -185,13 +212,19 @@ fn read_on<R: Read>(
     ensures few { lines.new.count ≤ 2 ^ 40 }
     ensures fits { result ≡ Ok true → length datagram.new.payload ≤ 65527 }
 {
+    if take_like(lines, heads, datagram) {
+        return Ok(true);
+    }
     if let Err(error) = lines.next_said(reader) {
         let due = lines.count() + 1;
         return Err(error.at(due));
     }
     let line = lines.count();
     match body_line(lines.version(), lines.line(), count, datagram) {
-        Ok(true) => Ok(true),
+        Ok(true) => {
+            heads.note(lines.version(), lines.line(), datagram);
+            Ok(true)
+        }
         Ok(false) => match lines.finish(reader) {
             Ok(()) => Ok(false),
             Err(error) => Err(error.at(line + 1)),

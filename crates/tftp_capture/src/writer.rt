@@ -4,9 +4,10 @@ ghost use Rattle.tftp_hosts.specs.{no_host};
 ghost use Rattle.tftp_streams.specs.Sinks.{Adds, Sink, Writes};
 ghost use Rattle.tftp_capture.specs.CaptureText.{datagram_line, payload_text, text_of, total_line, Datagram, Header as HeaderParts, IsPort};
 ghost use Rattle.tftp_capture.specs.Fields.{header_of};
-ghost use Rattle.tftp_capture.specs.Written.{header_text, header_text_in, host_field, line_naming, HasWritten};
+ghost use Rattle.tftp_capture.specs.Written.{header_text, header_text_in, line_naming, HasWritten};
 
 use crate::datagram::Header;
+use crate::spelled_head::SpelledHeads;
 use crate::version::Version;
 use itoa::Buffer;
 use std::io::Write;
@@ -19,6 +20,7 @@ use tftp_streams::{LineWriter, WriteFault};
 /// datagrams. All its calls are to be made with the same writer of lines.
 #[derive(Drop)]
 pub struct CaptureWriter {
+    heads: SpelledHeads,
     count: u64,
 }
 
@@ -38,7 +40,10 @@ impl CaptureWriter {
         ensures adds { Adds W.contents writer.old writer.new result (header_text (header_of header.now)) }
     {
         put_header(writer, Version::One, header)?;
-        Ok(CaptureWriter { count: 0 })
+        Ok(CaptureWriter {
+            heads: SpelledHeads::new(),
+            count: 0,
+        })
     }
 
     /// Adds a datagram whose host is `-`; some of it may wait.
@@ -85,7 +90,16 @@ impl CaptureWriter {
             → HasWritten W.contents start writer.old self.old header datagrams
             → OnOk result (HasWritten W.contents start writer.new self.new header (datagrams ++ record { dir = dir; local = local; host = no_host; remote = remote; payload = head.now ++ rest.now } ∷ [])) }
     {
-        put_datagram(writer, dir, local, None, remote, head, rest)?;
+        put_datagram(
+            writer,
+            &mut self.heads,
+            dir,
+            local,
+            None,
+            remote,
+            head,
+            rest,
+        )?;
         self.count += 1;
         Ok(())
     }
@@ -128,6 +142,7 @@ pub fn put_header<W: Write>(
 /// The line of a datagram, with its host where the text names it; its payload lies in two parts.
 pub fn put_datagram<W: Write>(
     writer: &mut LineWriter<W>,
+    heads: &mut SpelledHeads,
     dir: Dir,
     local: u16,
     host: Option<&Host>,
@@ -138,27 +153,33 @@ pub fn put_datagram<W: Write>(
     ensures adds { Adds W.contents writer.old writer.new result
         (line_naming (option_map (λ h. h.now) host.entry) (record { dir = dir; local = local; host = no_host; remote = remote; payload = head.now ++ rest.now }) ++ 10 ∷ []) }
 {
-    let mut local_buffer = Buffer::new();
-    let mut remote_buffer = Buffer::new();
-    let local = local_buffer.format(local).as_bytes();
-    let remote = remote_buffer.format(remote).as_bytes();
-    let word = match dir {
-        Dir::In => b"in".as_slice(),
-        Dir::Out => b"out".as_slice(),
-    };
-    let (name, space) = host_field(host);
-    writer.add_all(&[word, b" ", local, b" ", name, space, remote, b" "])?;
-    put_payload(writer, head, rest)
+    match dir {
+        Dir::In => put_line(
+            writer,
+            heads.came.spelled(dir, local, host, remote),
+            head,
+            rest,
+        ),
+        Dir::Out => put_line(
+            writer,
+            heads.went.spelled(dir, local, host, remote),
+            head,
+            rest,
+        ),
+    }
 }
 
-/// The host, and the space after it; two empty slices for none.
-fn host_field(host: Option<&Host>) -> (&[u8], &[u8])
-    ensures { result.0.now ++ result.1.now ≡ host_field (option_map (λ h. h.now) host.entry) }
+/// A line that begins with these bytes, and its payload in two parts.
+fn put_line<W: Write>(
+    writer: &mut LineWriter<W>,
+    begins: &[u8],
+    head: &[u8],
+    rest: &[u8],
+) -> Result<(), WriteFault>
+    ensures adds { Adds W.contents writer.old writer.new result (begins.now ++ (payload_text (head.now ++ rest.now) ++ 10 ∷ [])) }
 {
-    match host {
-        None => (b"", b""),
-        Some(host) => (host.bytes(), b" "),
-    }
+    writer.add(begins)?;
+    put_payload(writer, head, rest)
 }
 
 /// Ends with the line of the total, and writes what waits.

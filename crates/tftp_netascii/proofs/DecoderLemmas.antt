@@ -1,10 +1,10 @@
 -- What a decoder stands for, as the machine goes over more bytes.
-use Rattle.std.proofs.Common.{◌≡◌, ◌≢◌, ℕ, Bool, true, false, eqb, List, [], ◌∷◌, ◌++◌, refl, sym, ap, ◌∙◌, subst, ⊎_elim}
+use Rattle.std.proofs.Common.{◌≡◌, ◌≢◌, ℕ, ◌≤◌, Bool, true, false, eqb, List, [], ◌∷◌, ◌++◌, length, inl, inr, refl, sym, ap, ◌∙◌, subst, ⊎_elim, arith}
 use Rattle.std.proofs.lemmas.Bool.{cases_eq, ne_eqb, cases_Bool}
 use Rattle.std.proofs.lemmas.List.{append-nil, append_cancel_right}
 use Rattle.std.proofs.lemmas.List.Elements.{recursion_from_All}
 use Rattle.std.specs.List.{All, AllByRecursion}
-use Rattle.tftp_netascii.specs.{Reads, end, line_end, bare_return, itself, BeginsWithPair, StandsFor, EndsInReturn}
+use Rattle.tftp_netascii.specs.{Reads, end, line_end, bare_return, itself, BeginsWithPair, StandsFor, EndsInReturn, ReadsAfterReturn}
 use Rattle.tftp_netascii.proofs.ReadsLemmas.{given, after, held, no_pair, Reads-unique, Reads-push_return}
 
 -- how a text ends, with one byte more before it
@@ -163,3 +163,19 @@ given-to_end b rest empty plain =
 pub after-to_end : (b : Bool) (rest : List ℕ) → b ≡ false → All (λ x. x ≢ 13) rest → after b rest ≡ b
 after-to_end b rest empty plain =
     rw empty (ap (after false) (sym (append-nil rest)) ∙ after_run rest [] (recursion_from_All _ rest plain))
+
+-- what the machine makes of bytes after a CR, by what that stands for
+pub past_return : (tail rest : List ℕ) (byte : ℕ) → length tail ≢ 0 → ReadsAfterReturn tail byte rest → (given true tail ≡ byte ∷ given false rest) × (after true tail ≡ after false rest)
+past_return [] rest byte some stands = absurd (some refl)
+past_return (y ∷ ys) rest byte some (inl feed) = rw (feed.0, feed.1, feed.2) (refl, refl)
+past_return (y ∷ ys) rest byte some (inr (inl bare)) = rw (bare.0, bare.1, bare.2) (refl, refl)
+past_return (y ∷ ys) rest byte some (inr (inr lone)) =
+    let not_lf : eqb y 10 ≡ false = ne_eqb y 10 lone.0 in
+    let not_nul : eqb y 0 ≡ false = ne_eqb y 0 lone.1 in
+    rw (lone.2, lone.3, not_lf, not_nul) (refl, refl)
+
+pub no_longer : (tail rest : List ℕ) (byte : ℕ) → ReadsAfterReturn tail byte rest → length rest ≤ length tail
+no_longer [] rest byte stands = rw stands.1 (omega arith)
+no_longer (y ∷ ys) rest byte (inl feed) = rw feed.2 (omega arith)
+no_longer (y ∷ ys) rest byte (inr (inl bare)) = rw bare.2 (omega arith)
+no_longer (y ∷ ys) rest byte (inr (inr lone)) = rw lone.3 (omega arith)

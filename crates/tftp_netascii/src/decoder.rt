@@ -46,25 +46,28 @@ impl Decoder {
         // It fails only where there was no room for the piece and the CR that is held back before it.
         ensures full { OnErr result (vec_capacity out.old < vec_len out.old + length piece.now + held_count self.old) }
     {
-        let mut holds_return = self.holds_return;
-        out.reserve(piece.len() + usize::from(holds_return))?;
-        let mut rest = piece;
-        while !rest.is_empty() {
-            if holds_return {
-                let (byte, after) = after_return(rest);
-                out.push_reserved(byte);
-                holds_return = false;
-                rest = after;
-            } else if let Some((run, after)) = split_at_return(rest) {
-                out.extend_from_slice(run)?;
-                holds_return = true;
-                rest = after;
-            } else {
-                out.extend_from_slice(rest)?;
-                rest = &[];
-            }
+        out.reserve(piece.len() + usize::from(self.holds_return))?;
+        if piece.is_empty() {
+            return Ok(());
         }
-        self.holds_return = holds_return;
+        let mut rest = piece;
+        if self.holds_return {
+            let (byte, after) = after_return(piece);
+            out.push_reserved(byte);
+            rest = after;
+        }
+        while let Some((run, tail)) = split_at_return(rest) {
+            out.extend_from_slice(run)?;
+            if tail.is_empty() {
+                self.holds_return = true;
+                return Ok(());
+            }
+            let (byte, after) = after_return(tail);
+            out.push_reserved(byte);
+            rest = after;
+        }
+        out.extend_from_slice(rest)?;
+        self.holds_return = false;
         Ok(())
     }
 

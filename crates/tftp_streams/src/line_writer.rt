@@ -22,18 +22,21 @@ const PIECE: usize = 1024;
 #[derive(Drop)]
 pub struct LineWriter<W> {
     inner: Latched<W>,
+    /// `ROOM` bytes, or none where there was no memory for them.
     bytes: Vec<u8>,
+    /// How many of them wait, from the first on.
+    held: usize,
 }
 
 impl<W> Model for LineWriter<W> {
-    ghost use Rattle.std.specs.Prelude.{vec_len, ◌≤◌};
+    ghost use Rattle.std.specs.Prelude.{take, vec_len, ◌≤◌};
     ghost use Rattle.tftp_streams.specs.Sinks.{Sink};
 
     ghost Value = { Sink W };
 
-    ghost view = { λ w. record { inner = w.inner.0; waits = w.bytes.items; failed = w.inner.1 } };
+    ghost view = { λ w. record { inner = w.inner.0; waits = take w.held w.bytes.items; failed = w.inner.1 } };
 
-    ghost invariant = { λ w. vec_len w.bytes ≤ 16384 };
+    ghost invariant = { λ w. (w.held ≤ vec_len w.bytes) × (vec_len w.bytes ≤ 16384) };
 }
 
 impl<W: Write> LineWriter<W> {
@@ -41,13 +44,14 @@ impl<W: Write> LineWriter<W> {
     pub fn new(alloc: Global, inner: W) -> Self
         ensures { result ≡ record { inner = inner; waits = []; failed = false } }
     {
-        let bytes = match Vec::with_capacity(alloc, ROOM) {
+        let bytes = match vec![in alloc; 0; ROOM] {
             Ok(bytes) => bytes,
             Err(_) => Vec::new(alloc),
         };
         LineWriter {
             inner: Latched::new(inner),
             bytes,
+            held: 0,
         }
     }
 
@@ -129,8 +133,8 @@ impl<W: Write> LineWriter<W> {
         if self.inner.failed() {
             return Err(WriteFault);
         }
-        write_whole(&mut self.inner, self.bytes.as_slice())?;
-        self.bytes.clear();
+        write_whole(&mut self.inner, &self.bytes[..self.held])?;
+        self.held = 0;
         write_whole(&mut self.inner, bytes)
     }
 
@@ -146,29 +150,40 @@ impl<W: Write> LineWriter<W> {
         ensures ends { Ends W.contents self result.0 result.1 }
     {
         let answer = self.flush();
-        let LineWriter { inner, bytes: _ } = self;
+        let LineWriter {
+            inner,
+            bytes: _,
+            held: _,
+        } = self;
         (inner.into_inner(), answer)
     }
 
-    /// Adds a piece where there is room for it, and memory; else all stays as it was.
+    /// Adds a piece where there is room for it; else all stays as it was.
     #[inline]
     fn push(&mut self, bytes: &[u8]) -> bool
         ensures { MatchBool result (self.new ≡ record { inner = self.old.inner; waits = self.old.waits ++ bytes.now; failed = self.old.failed }) (self.new ≡ self.old) }
     {
-        bytes.len() <= ROOM - self.bytes.len() && self.bytes.extend_from_slice(bytes).is_ok()
+        let held = self.held;
+        if bytes.len() > self.bytes.len() - held {
+            return false;
+        }
+        self.bytes[held..held + bytes.len()].copy_from_slice(bytes);
+        self.held += bytes.len();
+        true
     }
 
-    /// Adds the digits of a piece where there is room for them, and memory; else all stays as it was.
+    /// Adds the digits of a piece where there is room for them; else all stays as it was.
     fn push_digits(&mut self, bytes: &[u8]) -> bool
         requires short { length bytes.now ≤ 1024 }
         ensures { MatchBool result (self.new ≡ record { inner = self.old.inner; waits = self.old.waits ++ encode_lower bytes.now; failed = self.old.failed }) (self.new ≡ self.old) }
     {
-        let held = self.bytes.len();
+        let held = self.held;
         let size = 2 * bytes.len();
-        if size > ROOM - held || self.bytes.resize(held + size, 0).is_err() {
+        if size > self.bytes.len() - held {
             return false;
         }
-        encode(bytes, &mut self.bytes.as_mut_slice()[held..]);
+        encode(bytes, &mut self.bytes[held..held + size]);
+        self.held += size;
         true
     }
 }

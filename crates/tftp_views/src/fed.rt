@@ -1,4 +1,4 @@
-ghost use Rattle.std.specs.Prelude.{◌≡◌, IfOk};
+ghost use Rattle.std.specs.Prelude.{◌≡◌, [], IfOk, IsOk};
 ghost use Rattle.tftp_views.specs.Kept.{held_of};
 
 use crate::held::Held;
@@ -21,15 +21,18 @@ pub struct Fed<'a> {
 }
 
 impl<'a> Fed<'a> {
-    /// A copy of it, to be held.
+    /// A copy of it, to be held. It takes memory for the payload alone.
     pub fn held(&self, alloc: Global) -> Result<Held, AllocError>
-        ensures { IfOk result (λ held. held ≡ held_of self.now) }
+        ensures held { IfOk result (λ held. held ≡ held_of self.now) }
+        ensures none { self.now.payload.now ≡ [] → IsOk result }
     {
+        let mut payload = Vec::new(alloc);
+        payload.extend_from_slice(self.payload)?;
         Ok(Held {
             place: *self.place,
             source: *self.source,
             target: *self.target,
-            payload: Bytes::of(Vec::from_slice(alloc, self.payload)?),
+            payload: Bytes::of(payload),
         })
     }
 }

@@ -49,7 +49,7 @@ pub next_into-requires : goal.next_into-requires
 next_into-requires g c = record { told = λ reads. absurd (subst IsReadStanding c.loop-datagram.invariant.goes reads) }
 
 -- the reader has stopped
-stopped : (g : Over) (c : goal.After-drop-capture-inside g) → Found (g.R.Read.remaining c.args.reader.now.0) (g.R.Read.remaining c.next_into.new.reader.0) c.next_into.new.reader.1 c.from_residual-in_err-next_into.result
+stopped : (g : Over) (c : goal.After-drop-capture-inside-in_err-next_into g) → Found (g.R.Read.remaining c.args.reader.now.0) (g.R.Read.remaining c.next_into.new.reader.0) c.next_into.new.reader.1 c.from_residual-in_err-next_into.result
 stopped g c =
     let p = err_from_is_err_and c.from_residual-in_err-next_into.result c.from_residual-in_err-next_into.ensures.1 in
     let e = c.in_err-next_into.ensures in
@@ -86,7 +86,7 @@ feed-requires g c =
     }
 
 -- the judge has refused it
-refused : (g : Over) (c : goal.After-drop-capture-inside-in_err-feed g) → Found (g.R.Read.remaining c.args.reader.now.0) (g.R.Read.remaining c.next_into.new.reader.0) c.next_into.new.reader.1 c.from_residual-in_err-feed.result
+refused : (g : Over) (c : goal.After-drop-capture-inside-in_err-feed-2 g) → Found (g.R.Read.remaining c.args.reader.now.0) (g.R.Read.remaining c.next_into.new.reader.0) c.next_into.new.reader.1 c.from_residual-in_err-feed.result
 refused g c =
     let p = err_from_is_err_and c.from_residual-in_err-feed.result c.from_residual-in_err-feed.ensures.1 in
     let e = c.in_ok-next_into.ensures in
@@ -136,7 +136,7 @@ loop-datagram-preserved g c =
 
 -- ---- the text has ended
 
-unfinished : (g : Over) (c : goal.After-drop-capture-inside-in_err-finish g) → Found (g.R.Read.remaining c.args.reader.now.0) (g.R.Read.remaining c.next_into.new.reader.0) c.next_into.new.reader.1 c.from_residual-in_err-finish.result
+unfinished : (g : Over) (c : goal.After-drop-capture-inside-in_err-finish-2 g) → Found (g.R.Read.remaining c.args.reader.now.0) (g.R.Read.remaining c.next_into.new.reader.0) c.next_into.new.reader.1 c.from_residual-in_err-finish.result
 unfinished g c =
     let p = err_from_is_err_and c.from_residual-in_err-finish.result c.from_residual-in_err-finish.ensures.1 in
     let e = c.in_ok-next_into.ensures in
@@ -163,7 +163,7 @@ returns-in_err-finish-clause-whole g c = found_whole _ _ _ _ (unfinished g c)
 pub returns-in_err-finish-clause-exact : goal.returns-in_err-finish-clause-exact
 returns-in_err-finish-clause-exact g c = found_exact _ _ _ _ (unfinished g c)
 
-meant : (g : Over) (c : goal.After-drop-capture-inside-2 g) → Found (g.R.Read.remaining c.args.reader.now.0) (g.R.Read.remaining c.next_into.new.reader.0) c.next_into.new.reader.1 (Ok c.in_ok-finish.field-0)
+meant : (g : Over) (c : goal.After-drop-capture-inside-3 g) → Found (g.R.Read.remaining c.args.reader.now.0) (g.R.Read.remaining c.next_into.new.reader.0) c.next_into.new.reader.1 (Ok c.in_ok-finish.field-0)
 meant g c =
     let e = c.in_ok-next_into.ensures in
     let i = c.loop-datagram.invariant in

@@ -26,7 +26,7 @@ pub invariant_of-self-2 : goal.invariant_of-self-2
 invariant_of-self-2 c =
     let noted : Held → Noted = λ h. record { held = h; comment = c.args.comment } in
     let one : CanBeWritten (noted c.in_ok-held.held) =
-    subst (λ (h : Held). CanBeWritten (noted h)) (sym c.in_ok-held.ensures) (record { source = c.requires.source; target = c.requires.target; short = c.requires.short }) in
+    subst (λ (h : Held). CanBeWritten (noted h)) (sym c.in_ok-held.ensures.held) (record { source = c.requires.source; target = c.requires.target; short = c.requires.short }) in
     let all : All CanBeWritten c.push.new.self.items = subst (All CanBeWritten) (sym c.in_ok-push.ensures.items)
     (All-append CanBeWritten c.self.inside.noted.items (noted c.in_ok-held.held ∷ []) c.self.invariant.3 (All-from_recursion CanBeWritten (noted c.in_ok-held.held ∷ []) (one, tt))) in
     let few = c.if-len-ge-MOST.false in
@@ -39,7 +39,7 @@ returns-clause-after c name p older after fed =
     let t : Notes = record { transfer = c.self.inside.transfer; ends = c.self.inside.ends; noted = c.self.inside.noted.items } in
     let before : AreNotesAfter t name older = subst (λ (t : Notes). AreNotesAfter t name older) (sym c.self.view_is) after in
     let h : Held = c.in_ok-held.held in
-    let as_held : IsFed name p h = subst (IsFed name p) (sym c.in_ok-held.ensures) fed in
+    let as_held : IsFed name p h = subst (IsFed name p) (sym c.in_ok-held.ensures.held) fed in
     let of_it : is_about t.transfer.number p ≡ true = ap (λ n. is_about n p) (sym c.self.invariant.0) ∙ sym (c.is_about.ensures p fed.belongs) ∙ c.if-not-is_about.false in
     let one : Noted = record { held = h; comment = c.args.comment } in
     record {

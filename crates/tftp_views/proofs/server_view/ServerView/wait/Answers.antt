@@ -10,7 +10,7 @@ use Rattle.tftp_views.proofs.server_view.ServerView.wait.Goals.{in-Some-1, in-No
 pub judge_of-requires-clause-short : goal.judge_of-requires-clause-short
 judge_of-requires-clause-short g c =
     subst (λ (l : List Held). All (λ (h : Held). length h.payload ≤ 65527) l) (sym (ap (λ q. q.items) c.replace-held.ensures.value ∙ c.in_ok-push_back.ensures.items))
-    (held_short (λ (h : Held). h.payload) c.self.inside.held.items c.in_ok-held.field-0 c.self.invariant.2 (subst (λ (h : Held). length h.payload ≤ 65527) (sym c.in_ok-held.ensures) c.requires.short))
+    (held_short (λ (h : Held). h.payload) c.self.inside.held.items c.in_ok-held.field-0 c.self.invariant.2 (subst (λ (h : Held). length h.payload ≤ 65527) (sym c.in_ok-held.ensures.held) c.requires.short))
 
 pub invariant_of-self-else-is_settled : goal.invariant_of-self-else-is_settled
 invariant_of-self-else-is_settled g c =
@@ -19,7 +19,7 @@ invariant_of-self-else-is_settled g c =
     let len = c.in_ok-push_back.ensures.len in
     let own = c.self.inside.held.ok.0 in
     let all : All (λ (h : Held). length h.payload ≤ 65527) c.push_back.new.self.items = subst (λ (l : List Held). All (λ (h : Held). length h.payload ≤ 65527) l) (sym c.in_ok-push_back.ensures.items)
-    (held_short (λ (h : Held). h.payload) c.self.inside.held.items c.in_ok-held.field-0 c.self.invariant.2 (subst (λ (h : Held). length h.payload ≤ 65527) (sym c.in_ok-held.ensures) c.requires.short)) in
+    (held_short (λ (h : Held). h.payload) c.self.inside.held.items c.in_ok-held.field-0 c.self.invariant.2 (subst (λ (h : Held). length h.payload ≤ 65527) (sym c.in_ok-held.ensures.held) c.requires.short)) in
     (c.note.ensures.number ∙ c.self.invariant.0, omega arith, all)
 
 pub returns-else-is_settled-clause-after : goal.returns-else-is_settled-clause-after
@@ -29,7 +29,7 @@ returns-else-is_settled-clause-after g c name p older after fed about =
     let none : v.judge ≡ None = ap (λ (v : View). v.judge) c.self.view_is ∙ c.requires.waits in
     let waits : IsWaiting v name older = subst (λ (o : Option Server). ViewedBy o v name older) none (subst (λ (v : View). IsViewAfter v name older) (sym c.self.view_is) after) in
     let h : Held = c.in_ok-held.field-0 in
-    let as_held : IsFed name p h = subst (IsFed name p) (sym c.in_ok-held.ensures) fed in
+    let as_held : IsFed name p h = subst (IsFed name p) (sym c.in_ok-held.ensures.held) fed in
     let of_it : is_about v.transfer.number p ≡ true = ap (λ (v : View). is_about v.transfer.number p) c.self.view_is ∙ about in
     let ends : AreEndsAfter c.note.new.self (p ∷ older) = c.note.ensures.stands p older waits.ends fed.belongs fed.from fed.to fed.carries in
     let known = ap (λ k. is_settled k (p ∷ older)) (sym (c.note.ensures.number ∙ c.self.invariant.0)) ∙ sym (c.is_settled.ensures (p ∷ older) ends) in
@@ -47,7 +47,7 @@ returns-then-is_settled-clause-after g c name p older after fed about =
     let none : v.judge ≡ None = ap (λ (v : View). v.judge) c.self.view_is ∙ c.requires.waits in
     let waits : IsWaiting v name older = subst (λ (o : Option Server). ViewedBy o v name older) none (subst (λ (v : View). IsViewAfter v name older) (sym c.self.view_is) after) in
     let h : Held = c.in_ok-held.field-0 in
-    let as_held : IsFed name p h = subst (IsFed name p) (sym c.in_ok-held.ensures) fed in
+    let as_held : IsFed name p h = subst (IsFed name p) (sym c.in_ok-held.ensures.held) fed in
     let of_it : is_about v.transfer.number p ≡ true = ap (λ (v : View). is_about v.transfer.number p) c.self.view_is ∙ about in
     let ends : AreEndsAfter c.note.new.self (p ∷ older) = c.note.ensures.stands p older waits.ends fed.belongs fed.from fed.to fed.carries in
     let known = ap (λ k. is_settled k (p ∷ older)) (sym (c.note.ensures.number ∙ c.self.invariant.0)) ∙ sym (c.is_settled.ensures (p ∷ older) ends) in

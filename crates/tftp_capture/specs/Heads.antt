@@ -1,0 +1,69 @@
+-- What a datagram's line says before its digits.
+use Rattle.std.specs.Prelude.{◌≡◌, ℕ, ◌≤◌, List, [], ◌∷◌, ◌++◌, length, take, decimal}
+use Rattle.std.specs.List.{join_with_byte}
+use Rattle.tftp_hosts.specs.{IsHost, no_host, Dir}
+use Rattle.tftp_capture.specs.CaptureText.{Datagram, IsPort, SaysDatagram, dir_word}
+use Rattle.tftp_capture.specs.declared.heads.Head.TheInside.{Inside}
+use Rattle.tftp_capture.specs.declared.version.Version.{Version}
+use Rattle.tftp_capture.specs.declared.version.Version.TheVariants.{One, Two}
+
+-- the fields of a datagram's line before its digits, a space behind each; version 1 has none for the host
+abbrev pub head_text : Version → Dir → (local : ℕ) (host : List ℕ) (remote : ℕ) → List ℕ
+head_text One dir local host remote = join_with_byte 32 (dir_word dir ∷ decimal local ∷ decimal remote ∷ [] ∷ [])
+head_text Two dir local host remote = join_with_byte 32 (dir_word dir ∷ decimal local ∷ host ∷ decimal remote ∷ [] ∷ [])
+
+-- a host that a line of this version may name: version 1 has no field for it
+abbrev pub MayName : Version → List ℕ → Type 0
+MayName One host = host ≡ no_host
+MayName Two host = IsHost host
+
+-- the bytes of a line before its digits, how many bytes the line has, and what the head says
+pub record HeadState : Type 0 where
+  pub bytes : List ℕ
+  pub line : ℕ
+  pub version : Version
+  pub dir : Dir
+  pub local : ℕ
+  pub host : List ℕ
+  pub remote : ℕ
+
+-- the bytes say what is kept beside them
+pub record IsHead (h : HeadState) : Type 0 where
+  pub spelled : h.bytes ≡ head_text h.version h.dir h.local h.host h.remote
+  pub local_port : IsPort h.local
+  pub host : IsHost h.host
+  pub named : MayName h.version h.host
+  pub remote_port : IsPort h.remote
+
+-- ---- how a head is held
+
+abbrev pub head_held : Inside → HeadState
+head_held h = record {
+  bytes = take h.len h.bytes;
+  line = h.line;
+  version = h.version;
+  dir = h.dir;
+  local = h.local_port;
+  host = h.remote_host;
+  remote = h.remote_port;
+}
+
+pub record Holds (h : Inside) : Type 0 where
+  pub sized : h.len ≤ 62
+  pub head : IsHead (head_held h)
+
+-- ---- the next line
+
+-- the bytes begin with a head and this rest of a line of so many bytes, and an LF
+pub record GoesOnAfter (head : List ℕ) (size : ℕ) (rest bytes : List ℕ) : Type 0 where
+  pub more : List ℕ
+  pub are : bytes ≡ (head ++ rest) ++ 10 ∷ more
+  pub sized : length (head ++ rest) ≡ size
+
+-- the bytes begin with a line of so many bytes that says the datagram, and its LF
+pub record BeginsWithDatagram (version : Version) (bytes : List ℕ) (d : Datagram) (size : ℕ) : Type 0 where
+  pub line : List ℕ
+  pub more : List ℕ
+  pub are : bytes ≡ line ++ 10 ∷ more
+  pub sized : length line ≡ size
+  pub says : SaysDatagram version line d
