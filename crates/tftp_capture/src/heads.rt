@@ -106,16 +106,44 @@ impl Head {
     }
 }
 
-/// The head of one way.
-fn known<'a>(came: &'a Option<Head>, went: &'a Option<Head>, comes: bool) -> &'a Option<Head> {
-    if comes { came } else { went }
+/// What is known of the lines of one way: the ports of the last one, and the head of the last one whose ports were those of
+/// the line before it.
+#[derive(Drop)]
+struct Way {
+    ports: (u16, u16),
+    head: Option<Head>,
 }
 
-/// The head of the line last read of each way, and the memory of the payload that went the other way than the last one.
+impl Way {
+    /// Keeps the head of a line that says this datagram, where its ports come again; of a line that nothing like it came
+    /// before, as one of many strays, none is made.
+    fn note(&mut self, version: Version, line: &[u8], datagram: &Datagram)
+        requires { SaysDatagram version line.now (datagram_of datagram.now) }
+    {
+        let ports = (datagram.local_port, datagram.remote_port);
+        if self.ports == ports {
+            self.head = Head::of(version, line, datagram);
+        }
+        self.ports = ports;
+    }
+
+    /// Fills a datagram with what the next line says, where the head is known and the line is like the one that it is of, and
+    /// answers how many bytes it has. Else nothing is said of the datagram.
+    fn fill(&self, version: Version, ahead: &[u8], datagram: &mut Datagram) -> Option<usize>
+        ensures { IfSome result (BeginsWithDatagram version ahead.now (datagram_of datagram.new)) }
+    {
+        match &self.head {
+            Some(head) if head.version == version => head.fill(ahead, datagram),
+            _ => None,
+        }
+    }
+}
+
+/// What is known of the lines of each way, and the memory of the payload that went the other way than the last one.
 #[derive(Drop)]
 pub struct Heads {
-    came: Option<Head>,
-    went: Option<Head>,
+    came: Way,
+    went: Way,
     spare: Vec<u8>,
 }
 
@@ -123,8 +151,14 @@ impl Heads {
     /// None is known yet. Takes no memory.
     pub fn new(alloc: Global) -> Self {
         Heads {
-            came: None,
-            went: None,
+            came: Way {
+                ports: (0, 0),
+                head: None,
+            },
+            went: Way {
+                ports: (0, 0),
+                head: None,
+            },
             spare: Vec::new(alloc),
         }
     }
@@ -141,20 +175,20 @@ impl Heads {
             let payload = datagram.payload.take();
             datagram.payload = Bytes::of(mem::replace(&mut self.spare, payload));
         }
-        match known(&self.came, &self.went, comes) {
-            Some(head) if head.version == version => head.fill(ahead, datagram),
-            _ => None,
+        if comes {
+            self.came.fill(version, ahead, datagram)
+        } else {
+            self.went.fill(version, ahead, datagram)
         }
     }
 
-    /// Keeps the head of a line that says this datagram.
+    /// Notes a line that says this datagram.
     pub fn note(&mut self, version: Version, line: &[u8], datagram: &Datagram)
         requires { SaysDatagram version line.now (datagram_of datagram.now) }
     {
-        let head = Head::of(version, line, datagram);
         match datagram.dir {
-            Dir::In => self.came = head,
-            Dir::Out => self.went = head,
+            Dir::In => self.came.note(version, line, datagram),
+            Dir::Out => self.went.note(version, line, datagram),
         }
     }
 }
