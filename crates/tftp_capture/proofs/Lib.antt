@@ -9,8 +9,6 @@ pub mod Headers
 pub mod Histories
 pub mod InTwo
 mod Named
-pub mod Nibbles
-pub mod Pairs
 pub mod Payloads
 pub mod Pieces
 pub mod Ports

@@ -8,7 +8,7 @@ use Rattle.tftp_capture.specs.{Version, One, Two, datagram_line, end_line, end_w
 use Rattle.tftp_streams.specs.{Gathers, Sink}
 use Rattle.tftp_capture.specs.CaptureText.{Datagram, Header}
 use Rattle.tftp_capture.specs.Commented.Entry.{Comment, Passed}
-use Rattle.tftp_streams.proofs.Encoding.{encode-append}
+use Rattle.tftp_digits.proofs.Encoding.{encode-append}
 use Rattle.tftp_streams.proofs.Gathering.{gathers_more, gathers_written}
 use Rattle.tftp_capture.proofs.Skips.{whole_lines-push}
 

@@ -1,6 +1,5 @@
 pub mod CaptureText
 pub mod Commented
-pub mod Digits
 pub mod Fields
 pub mod Heads
 pub mod History
@@ -11,7 +10,6 @@ pub mod Worked
 pub mod Written
 pub use CaptureText.{AreFields, Begins, BeginsWith, BodyFault, ByteFault, Due, FailsAt, HasFault, HasFields, HasPorts, IsCapture, IsLawful, IsOver, IsPort, LineFault, NamesNoHost, Numbered, Reading, Reads, Says, SaysDatagram, SaysDatagrams, SpellsPayload, SpellsPort, Stands, Unfinished, datagram_line, dir_word, end_line, end_word, head_line, line_with_host, longest, longest_line, numbered, payload_text, pieces, said, says_nothing, service_line, text_of, text_with_hosts, total_line, whole_lines}
 pub use Commented.{Entry, IsEntry, comment_line, commented_text, entry_line, numbered_in, said_in}
-pub use Digits.{IsNibble}
 pub use Fields.{BeginWithFields, BodyEnds, DatagramEnds, PayloadEnds, TotalEnds, datagram_of, filled, filled_if, header_of}
 pub use Heads.{BeginsWithDatagram, GoesOnAfter, HeadState, IsHead, MayName, head_text}
 pub use History.{Answers, Continues, FailsToBegin, FaultTells, GoesOn, HasService, IsAtTextEnd, IsReadFault, IsReadStanding, FirstTells, MemoryTells, ReaderState, SaysOneMore, StandingTells, StandsFor, WantTells, gave, with_answer}

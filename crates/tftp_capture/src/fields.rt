@@ -6,13 +6,13 @@ ghost use Rattle.tftp_capture.specs.CaptureText.{dir_word, end_line, service_lin
 ghost use Rattle.tftp_capture.specs.Fields.{BeginWithFields, BodyEnds, DatagramEnds, PayloadEnds, TotalEnds, filled, filled_if};
 
 use crate::datagram::Datagram;
-use crate::digits::decode;
 use crate::fault::TextFault;
 use crate::line::count_before;
 use crate::line_error::LineError;
 use crate::version::Version;
 use hex::FromHexError;
 use itoa::Buffer;
+use tftp_digits::decode;
 use tftp_hosts::{Dir, Host};
 use tftp_packet::{Bytes, End};
 
@@ -122,6 +122,7 @@ fn refused(digits: &[u8]) -> LineError
 }
 
 /// Fills a payload with the bytes that are spelled, in the memory that it has.
+#[inline(always)]
 pub fn fill_payload(digits: &[u8], payload: &mut Vec<u8>) -> Result<(), LineError>
     ensures { PayloadEnds (filled result payload.new.items) digits.now }
 {

@@ -51,6 +51,16 @@ fn count_digits(payload: &[u8]) -> usize
     }
 }
 
+/// Puts a host in place. Most often it is there already, and what reads it need not wait for a write.
+#[inline(always)]
+fn put_host(host: &Host, place: &mut Host)
+    ensures { place.new ≡ host.now }
+{
+    if *place != *host {
+        *place = *host;
+    }
+}
+
 impl Head {
     /// The head of a line that says this datagram, unless it is longer than a head can be.
     fn of(version: Version, line: &[u8], datagram: &Datagram) -> Option<Self>
@@ -100,7 +110,7 @@ impl Head {
         datagram.payload = Bytes::of(payload);
         datagram.dir = self.dir;
         datagram.local_port = self.local_port;
-        datagram.remote_host = self.remote_host;
+        put_host(&self.remote_host, &mut datagram.remote_host);
         datagram.remote_port = self.remote_port;
         if filled { Some(self.line) } else { None }
     }
@@ -129,6 +139,7 @@ impl Way {
 
     /// Fills a datagram with what the next line says, where the head is known and the line is like the one that it is of, and
     /// answers how many bytes it has. Else nothing is said of the datagram.
+    #[inline]
     fn fill(&self, version: Version, ahead: &[u8], datagram: &mut Datagram) -> Option<usize>
         ensures { IfSome result (BeginsWithDatagram version ahead.now (datagram_of datagram.new)) }
     {
@@ -175,11 +186,8 @@ impl Heads {
             let payload = datagram.payload.take();
             datagram.payload = Bytes::of(mem::replace(&mut self.spare, payload));
         }
-        if comes {
-            self.came.fill(version, ahead, datagram)
-        } else {
-            self.went.fill(version, ahead, datagram)
-        }
+        let way = if comes { &self.came } else { &self.went };
+        way.fill(version, ahead, datagram)
     }
 
     /// Notes a line that says this datagram.

@@ -2,7 +2,6 @@
 #![tactic(auto)]
 
 mod datagram;
-mod digits;
 mod fault;
 mod fields;
 mod heads;

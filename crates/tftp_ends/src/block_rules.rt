@@ -39,6 +39,7 @@ pub(crate) fn ack_zero_waits(terms: &Terms, any_block: bool) -> bool
 }
 
 /// The block that is shorter than the others, and so the last, if it is held (RFC 1350, section 2). It is the highest.
+#[inline(always)]
 fn short_block<D: Delivered>(store: &D, highest: u16, block_size: usize) -> Option<u16>
     requires highest { IsHighest (D.held store.now) highest }
     requires orderly { IsOrderly block_size (D.held store.now) }
@@ -85,6 +86,7 @@ fn has_length_by_size(block_size: u64, size: u64, number: u64, len: u64) -> bool
 
 /// Whether a block that is no longer than the others can't have its length, where no size was agreed (RFC 1350, section
 /// 2).
+#[inline(always)]
 fn ends_elsewhere<D: Delivered>(
     store: &D,
     highest: u16,
@@ -105,6 +107,7 @@ fn ends_elsewhere<D: Delivered>(
 }
 
 /// Whether a block can't have this length beside those that are held (RFC 1350, section 2; RFC 2348; RFC 2349).
+#[inline(always)]
 fn has_wrong_length<D: Delivered>(
     terms: &Terms,
     store: &D,
@@ -143,6 +146,7 @@ fn is_beyond(terms: &Terms, number: u16, len: usize) -> bool
 /// The first rule that a block of this length breaks, of those that are the same at both ends and do not compare its
 /// bytes (RFC 1350, sections 2, 4 and 5; RFC 2347; RFC 2348; RFC 2349; RFC 7440, section 4). `highest` is the highest
 /// block that is held, or 0, and `acked` the highest ACK that the sender can go by.
+#[inline(always)]
 pub(crate) fn may_open<D: Delivered>(
     terms: &Terms,
     store: &D,
@@ -182,6 +186,7 @@ pub(crate) fn may_open<D: Delivered>(
 }
 
 /// Holds a block, unless one with other bytes is held (RFC 1350, section 2).
+#[inline(always)]
 pub(crate) fn hold_block<D: Delivered>(
     store: &mut D,
     alloc: Global,

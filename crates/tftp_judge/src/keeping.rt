@@ -185,22 +185,24 @@ impl<D: Delivered + Drop> JudgeState<D> {
         if self.transfer.is_none() && route == Route::Peer {
             return Err(PassError::Broken(Rule::NoRequest));
         }
-        let packet = match read_packet(payload) {
+        let read = read_packet(payload);
+        let packet = match &read {
             Ok(packet) => packet,
-            Err(fault) => return Err(PassError::Broken(Rule::Malformed(fault))),
+            Err(fault) => return Err(PassError::Broken(Rule::Malformed(*fault))),
         };
         if let Some(transfer) = &mut self.transfer {
-            transfer.pass(alloc, dir, &packet)?;
-            transfer.keep_oack(alloc, &packet, payload);
+            transfer.pass(alloc, dir, packet)?;
+            transfer.keep_oack(alloc, packet, payload);
             return Ok(());
         }
-        match &packet {
+        match packet {
             Packet::Request(asked) => self.begin(alloc, asked, payload),
             _ => Err(PassError::Broken(Rule::NoRequest)),
         }
     }
 
     /// The transfer begins, with its first request, whose bytes these are.
+    #[inline(never)]
     fn begin(
         &mut self,
         alloc: Global,

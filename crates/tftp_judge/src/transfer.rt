@@ -157,6 +157,7 @@ impl<D: Delivered + Drop> Transfer<D> {
 
     /// A request after the first one: it is not that one again, or it comes after a block or an ACK of the client (RFC
     /// 1350, section 4).
+    #[inline(never)]
     fn pass_request(&mut self, dir: Dir, now: &RequestView<'_>) -> Result<(), PassError>
         ensures finds { (h : Header) (passed : List Datagram) (d : Datagram) → IsTransferAfter self.old h passed
             → Says d dir (Message.Request (parts now.now))
@@ -175,6 +176,7 @@ impl<D: Delivered + Drop> Transfer<D> {
     }
 
     /// An ERROR breaks none of these rules (RFC 1350, section 7).
+    #[inline(never)]
     fn pass_error(
         &mut self,
         alloc: Global,
@@ -199,6 +201,7 @@ impl<D: Delivered + Drop> Transfer<D> {
     }
 
     /// An OACK, by how the request was answered before (RFC 2347).
+    #[inline(never)]
     fn pass_oack(
         &mut self,
         alloc: Global,
@@ -334,6 +337,7 @@ impl<D: Delivered + Drop> Transfer<D> {
 
     /// The first block of a read, or the ACK 0 of a write, which answers the request without an OACK (RFC 1350, section
     /// 4).
+    #[inline(never)]
     fn pass_answer(&mut self, alloc: Global, dir: Dir, packet: &Packet<'_>) -> Result<(), PassError>
         requires unanswered { self.old.exchange ≡ Unanswered }
         requires kind { IsBlockOrAck (meaning packet.now) }

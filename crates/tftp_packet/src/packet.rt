@@ -42,6 +42,7 @@ pub fn opcode(payload: &[u8]) -> u16
 }
 
 /// The packet that a payload spells. It borrows the payload, and takes no memory.
+#[inline(always)]
 pub fn read_packet(payload: &[u8]) -> Result<Packet<'_>, PacketFault>
     ensures found { IfOk result (λ p. Spells payload.now (meaning p)) }
     ensures written { IfOk result (IsWritten payload.now) }
@@ -63,6 +64,7 @@ pub fn read_packet(payload: &[u8]) -> Result<Packet<'_>, PacketFault>
 }
 
 /// The request that a payload spells (RFC 1350, section 5).
+#[inline(never)]
 fn read_request(side: Side, payload: &[u8]) -> Result<Packet<'_>, PacketFault>
     requires { opcode_of payload.now ≡ side_opcode side }
     ensures { Judges payload.now result }
@@ -99,6 +101,7 @@ fn read_ack(payload: &[u8]) -> Result<Packet<'_>, PacketFault>
 }
 
 /// The error that a payload spells (RFC 1350, section 5).
+#[inline(never)]
 fn read_error(payload: &[u8]) -> Result<Packet<'_>, PacketFault>
     requires { opcode_of payload.now ≡ 5 }
     ensures { Judges payload.now result }
@@ -116,6 +119,7 @@ fn read_error(payload: &[u8]) -> Result<Packet<'_>, PacketFault>
 }
 
 /// The OACK that a payload spells (RFC 2347).
+#[inline(never)]
 fn read_oack(payload: &[u8]) -> Result<Packet<'_>, PacketFault>
     requires { opcode_of payload.now ≡ 6 }
     ensures { Judges payload.now result }

@@ -1,7 +1,6 @@
 //! Streams of bytes: readers that remember whether they have failed, what is read ahead, and a writer of lines.
 #![tactic(auto)]
 
-mod digits;
 mod fault;
 mod latched;
 mod line_writer;

@@ -2,13 +2,13 @@ ghost use Rattle.std.specs.Prelude.{◌≡◌, ◌++◌, ◌≤◌, [], false, l
 ghost use Rattle.hex.specs.Hex.{encode_lower};
 ghost use Rattle.tftp_streams.specs.Sinks.{Adds, Ends, Writes};
 
-use crate::digits::encode;
 use crate::fault::WriteFault;
 use crate::latched::Latched;
 use crate::whole::write_whole;
 use std::alloc::Global;
 use std::io::Write;
 use std::marker::Model;
+use tftp_digits::encode;
 
 /// The most bytes that wait.
 const ROOM: usize = 16384;

@@ -1,4 +1,4 @@
-use Rattle.std.proofs.Common.{◌≡◌, true, List, [], ◌∷◌, Option, Some, None, Result, Ok, Err, OnOk, IfErr, inr, rules, sym, subst, ap, ◌∙◌}
+use Rattle.std.proofs.Common.{◌≡◌, true, List, [], ◌∷◌, Option, Some, None, Result, Ok, Err, OnOk, IfErr, inr, refl, rules, sym, subst, ap, ◌∙◌}
 use Rattle.std.proofs.lemmas.Bool.{false≢true}
 use Rattle.tftp_packet.specs.{End, Message, RequestParts, meaning, Spells, parts, Packet}
 use Rattle.tftp_hosts.specs.{Datagram, Header}
@@ -25,7 +25,7 @@ began h earlier d named asked after (Err stop) at one none on other spells begin
 pub returns-in_err-pass-clause-finds : goal.returns-in_err-pass-clause-finds
 returns-in_err-pass-clause-finds g c = λ h earlier d at one kept is on dir payload.
     let routed : is_of_transfer (route_of h earlier d) ≡ true = ap is_of_transfer (sym is) ∙ on in
-    let spells : Spells d.payload (meaning c.in-Ok.packet) = subst (λ (bytes : List _). Spells bytes (meaning c.in-Ok.packet)) (sym payload) c.in-Ok.ensures.found in
+    let spells : Spells d.payload (meaning c.in-Ok.packet) = subst (λ (bytes : List _). Spells bytes (meaning c.in-Ok.packet)) (sym payload) (rw c.in-Ok.is at c.read_packet-read.ensures.found) in
     let there : c.args.self.now.transfer ≡ Some c.in-Some.transfer = sym (ap (λ (k : JudgeState). k.transfer) c.self.view_is) ∙ c.in-Some.is in
     let kept_now : IsKept h earlier (Some c.in-Some.transfer) = subst (λ (t : Option Transfer). IsKept h earlier t) there kept in
     let same : Err c.in_err-pass.field-0.0 ≡ c.from_residual.result = search rules in
@@ -39,7 +39,7 @@ returns-in-Some-clause-finds g c = λ h earlier d at one kept is on dir payload.
     let t = c.in-Some.transfer in
     let passed = transfer_of h earlier in
     let routed : is_of_transfer (route_of h earlier d) ≡ true = ap is_of_transfer (sym is) ∙ on in
-    let spells : Spells d.payload m = subst (λ (bytes : List _). Spells bytes m) (sym payload) c.in-Ok.ensures.found in
+    let spells : Spells d.payload m = subst (λ (bytes : List _). Spells bytes m) (sym payload) (rw c.in-Ok.is at c.read_packet-read.ensures.found) in
     let there : c.args.self.now.transfer ≡ Some t = sym (ap (λ (k : JudgeState). k.transfer) c.self.view_is) ∙ c.in-Some.is in
     let kept_now : IsKept h earlier (Some t) = subst (λ (o : Option Transfer). IsKept h earlier o) there kept in
     let found = c.in_ok-pass.ensures.finds h passed d kept_now.1 (dir, spells) in
@@ -52,7 +52,7 @@ returns-in-Request-clause-finds g c = λ h earlier d at one kept is on dir paylo
     let there : c.args.self.now.transfer ≡ None = sym (ap (λ (k : JudgeState). k.transfer) c.self.view_is) ∙ c.in_default.is in
     let none : earlier ≡ [] = subst (λ (t : Option Transfer). IsKept h earlier t) there kept in
     let spells : Spells d.payload (Message.Request (parts c.in-Request.asked)) =
-    subst (λ (p : Packet). Spells d.payload (meaning p)) c.in-Request.is (subst (λ (bytes : List _). Spells bytes (meaning c.in-Ok.packet)) (sym payload) c.in-Ok.ensures.found) in
+    subst (λ (p : Packet). Spells d.payload (meaning p)) c.in-Request.is (subst (λ (bytes : List _). Spells bytes (meaning c.in-Ok.packet)) (sym payload) (rw c.in-Ok.is at c.read_packet-read.ensures.found)) in
     let other : route_of h earlier d ≡ Route.Peer → ⊥ = λ peer. elim c.else-is_none.branch [
       | else-is_none-via-then-is_none+else-eq w ↦ let same : c.args.route ≡ may.Peer = peer_is c.args.route (is ∙ peer) in false≢true (rw same at w.if-eq.ensures)
       | else-is_none-via-else-is_none w ↦ search rules
@@ -69,6 +69,12 @@ returns-in_err-pass-clause-memory g c = λ h earlier d kept is on dir payload wa
     let same : Err c.in_err-pass.field-0.0 ≡ c.from_residual.result = search rules in
     inr (
       meaning c.in-Ok.packet,
-      record { routed = ap is_of_transfer (sym is) ∙ on; spells = subst (λ (bytes : List _). Spells bytes (meaning c.in-Ok.packet)) (sym payload) c.in-Ok.ensures.found },
+      record { routed = ap is_of_transfer (sym is) ∙ on; spells = subst (λ (bytes : List _). Spells bytes (meaning c.in-Ok.packet)) (sym payload) (rw c.in-Ok.is at c.read_packet-read.ensures.found) },
       subst (λ w. IsNew (transfer_of h earlier) w (meaning c.in-Ok.packet)) (sym dir) (c.in_err-pass.ensures.memory h (transfer_of h earlier) kept_now.1 (same ∙ want)),
     )
+
+pub returns-in-Err-clause-finds : goal.returns-in-Err-clause-finds
+returns-in-Err-clause-finds g c = λ h earlier d at one kept is on dir payload.
+    let fault = rw c.in-Err.is at c.read_packet-read.ensures.fault in
+    let first = (fault c.in-Err.fault).0 refl in
+    search rules

@@ -1,7 +1,7 @@
 use Rattle.std.proofs.Common.{rules, drop, ◌+◌, ◌-◌}
 use Rattle.hex.specs.Hex.{encode_lower}
 use Rattle.tftp_streams.proofs.Gathering.{adds_err, gathers_none, gathers_more, gathers_prefix, stops_now}
-use Rattle.tftp_streams.proofs.Encoding.{encode-nil, encode_more, encode_rest}
+use Rattle.tftp_digits.proofs.Encoding.{encode-nil, encode_more, encode_rest}
 use Rattle.tftp_streams.proofs.line_writer.LineWriter.add_hex.Goals as goal
 
 pub loop-done-init : goal.loop-done-init

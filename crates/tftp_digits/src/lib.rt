@@ -1,0 +1,9 @@
+//! Hex digits, as `hex` reads and writes them, in memory that the caller has, and by vectors.
+#![tactic(auto)]
+
+mod reading;
+mod vectors;
+mod writing;
+
+pub use reading::decode;
+pub use writing::encode;
