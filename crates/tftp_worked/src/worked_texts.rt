@@ -1,7 +1,8 @@
 //! Worked cases of whole texts: what there is to say of each, and what the commands write of it. Each is the
 //! contract of a function that does nothing.
 
-ghost use Rattle.std.specs.Prelude.{◌∷◌, ◌++◌, false, Ok, Err, codes};
+ghost use Rattle.std.specs.Prelude.{[], ◌∷◌, ◌++◌, false, Ok, Err, codes};
+ghost use Rattle.tftp_digits.specs.{AreNibbles, IsNibble};
 ghost use Rattle.tftp_capture.specs.{line, worked_text, BadHeader};
 ghost use Rattle.tftp_capture.specs.declared.fault.CaptureFault.TheVariants.{Text};
 ghost use Rattle.tftp_model.specs.{two_bytes};
@@ -54,4 +55,11 @@ pub fn lines_are_read_as_their_file()
     ensures checked { IsChecked (given lines_text) (with_success (line (codes "accepted get netascii blocks 2 bytes 9"))) }
     ensures extracted { IsExtracted (given lines_text) (with_success (codes "abcdefg" ++ 10 ∷ codes "h")) }
     ensures normalised { IsNormalised (given lines_text) (with_success lines_text) }
+{}
+
+/// Hex digits of either case have the values of the field; a byte that is none has 16 or any more, here the one behind `f`.
+pub fn digits_have_their_values()
+    ensures digits { AreNibbles (codes "09afAF") (0 ∷ 9 ∷ 10 ∷ 15 ∷ 10 ∷ 15 ∷ []) }
+    ensures none { IsNibble 103 16 }
+    ensures any { IsNibble 103 255 }
 {}
