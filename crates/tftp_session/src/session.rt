@@ -159,16 +159,8 @@ impl Session {
         }
     }
 
-    /// Hands out the oldest transfer, if no datagram joins it any more.
-    pub fn pop_over(&mut self) -> Option<Ended> {
-        if self.is_first_over() {
-            self.pop()
-        } else {
-            None
-        }
-    }
-
-    fn is_first_over(&self) -> bool {
+    /// Whether there is a transfer, and no datagram joins the oldest any more.
+    pub fn is_first_over(&self) -> bool {
         match self.trails.first_key_value() {
             Some((_, trail)) => self.audit.is_over(&trail.transfer.client),
             None => false,

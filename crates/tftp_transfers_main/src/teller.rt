@@ -68,11 +68,10 @@ impl<'a> Teller<'a> {
     /// Tells the transfers of which all is known, from the oldest on.
     pub fn tell_over(&mut self, rt: HostRuntime, session: &mut Session) -> Result<()> {
         for _ in 0..session.count() {
-            let Some(ended) = session.pop_over() else {
+            if !session.is_first_over() {
                 return Ok(());
-            };
-            let lost = session.lost_of(&ended);
-            self.tell(rt, ended, lost)?;
+            }
+            self.tell_oldest(rt, session)?;
         }
         Ok(())
     }
@@ -80,13 +79,22 @@ impl<'a> Teller<'a> {
     /// Tells all transfers that were not told, where the recording has ended.
     pub fn tell_all(&mut self, rt: HostRuntime, session: &mut Session) -> Result<()> {
         for _ in 0..session.count() {
-            let Some(ended) = session.pop() else {
-                return Ok(());
-            };
-            let lost = session.lost_of(&ended);
-            self.tell(rt, ended, lost)?;
+            self.tell_oldest(rt, session)?;
         }
         Ok(())
+    }
+
+    /// Tells the oldest transfer, if there is one. It stays a call, since the room of a transfer that is handed out would be
+    /// cleared for each datagram after which none is over.
+    #[inline(never)]
+    fn tell_oldest(&mut self, rt: HostRuntime, session: &mut Session) -> Result<()> {
+        match session.pop() {
+            Some(ended) => {
+                let lost = session.lost_of(&ended);
+                self.tell(rt, ended, lost)
+            }
+            None => Ok(()),
+        }
     }
 
     /// Tells a transfer, of whose client's datagrams these may be missing.
