@@ -1,5 +1,5 @@
 -- What holds of the blocks of any store.
-use Rattle.std.proofs.Common.{◌≡◌, ◌+◌, ◌<◌, ◌≤◌, ℕ, ◌⊎◌, inl, inr, Some, None, sym, ◌∙◌, arith}
+use Rattle.std.proofs.Common.{◌≡◌, ◌+◌, ◌<◌, ◌≤◌, ℕ, inl, inr, Some, None, refl, sym, ◌∙◌, arith}
 use Rattle.std.proofs.lemmas.Bool.{cases_lt}
 use Rattle.tftp_blocks.specs.{Held, IsHeldFront, IsHighest, IsOrderly, IsHeldLast, Takes}
 
@@ -31,15 +31,34 @@ last_is b held high last orderly highest is =
       | inr same ↦ omega arith
     ]
 
-pub may_after_short : (b w : ℕ) (held : Held) (front high k long : ℕ) → IsHeldFront held front → IsOrderly b held → IsHighest held high → 1 ≤ k → k ≤ front + w → long ≤ b
-    → IsHeldLast b held high → ((k < high) × (long ≡ b)) ⊎ ((k ≡ high) × (long < b)) → Takes b w held k long
-may_after_short b w held front high k long is orderly highest one near fits short rest = record {
+pub may_below : (b w : ℕ) (held : Held) (front high k : ℕ) → IsHeldFront held front → IsOrderly b held → IsHighest held high → 1 ≤ k → k ≤ front + w → k < high → Takes b w held k b
+may_below b w held front high k is orderly highest one near low = record {
   from_one = one;
   within = (front, is, near);
-  fits = fits;
-  before_last = λ last known. let same = last_is b held high last orderly highest known in elim rest [
-    | inl (low, exact) ↦ inl (omega arith, exact)
-    | inr (equal, less) ↦ inr (omega arith, less)
-  ];
+  fits = omega arith;
+  before_last = λ last known. let same = last_is b held high last orderly highest known in inl (omega arith, refl);
+  is_last = λ less. absurd (omega arith);
+}
+
+-- what is not the highest block is whole
+pub whole_below : (b w : ℕ) (held : Held) (high k long : ℕ) → IsOrderly b held → IsHighest held high → k < high → Takes b w held k long → long ≡ b
+whole_below b w held high k long orderly highest low takes = elim (cases_lt long b) [
+  | inl less ↦ elim (takes.is_last less) [
+    | inl (last, known) ↦ let same = last_is b held high last orderly highest known in elim (takes.before_last last known) [
+      | inl (before, exact) ↦ exact
+      | inr (equal, short) ↦ absurd (omega arith)
+    ]
+    | inr others ↦ let there = highest.held_there (omega arith) in let under = others high there.0 there.1 in absurd (omega arith)
+  ]
+  | inr most ↦ let fits = takes.fits in omega arith
+]
+
+pub may_end : (b w : ℕ) (held : Held) (front high k long : ℕ) → IsHeldFront held front → IsOrderly b held → IsHighest held high → 1 ≤ k → k ≤ front + w → IsHeldLast b held high
+    → k ≡ high → long < b → Takes b w held k long
+may_end b w held front high k long is orderly highest one near short equal less = record {
+  from_one = one;
+  within = (front, is, near);
+  fits = omega arith;
+  before_last = λ last known. let same = last_is b held high last orderly highest known in inr (omega arith, less);
   is_last = λ less. inl (high, short);
 }

@@ -71,12 +71,13 @@ pub trait Delivered: Sized {
         }
         let whole = len == size;
         let highest = self.highest();
+        // what is not the highest block is whole, whether that one is the last or not
+        if number < highest {
+            return whole;
+        }
         match self.block(highest) {
             Some(bytes) => {
                 if bytes.len() < size {
-                    if number < highest {
-                        return whole;
-                    }
                     return number == highest && !whole;
                 }
             }

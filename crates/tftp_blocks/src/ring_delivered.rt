@@ -41,7 +41,8 @@ impl Model for RingDelivered {
 
 impl RingDelivered {
     ghost use Rattle.std.specs.Prelude.{◌*◌, ◌^◌};
-    ghost use Rattle.tftp_blocks.specs.Store.{IsPending};
+    ghost use Rattle.std.specs.FinMap as map;
+    ghost use Rattle.tftp_blocks.specs.Store.{IsPending, Takes};
     ghost use Rattle.tftp_blocks.specs.Ring.{numbered};
 
     /// How many bytes are kept for the blocks above the front: theirs, and those of blocks that have left whose room is not
@@ -53,6 +54,36 @@ impl RingDelivered {
         ensures most { result ≤ 2 * (self.now.2 * self.now.1 + 2 ^ 20) }
     {
         self.pending.kept()
+    }
+
+    /// Holds a block that is not held yet. Most blocks of a window that comes again are held, and need none of this.
+    #[inline(always)]
+    fn hold_new(&mut self, alloc: Global, number: u16, bytes: &[u8]) -> Result<(), AllocError>
+        requires takes { Takes self.old.1 self.old.2 (numbered 1 self.old.0) number (length bytes.now) }
+        requires absent { map.get (numbered 1 self.old.0) number ≡ None }
+        ensures ok { OnOk result (numbered 1 self.new.0 ≡ map.insert (numbered 1 self.old.0) number bytes.now) }
+        ensures err { OnErr result (self.new.0 ≡ self.old.0) }
+        ensures block_size { self.new.1 ≡ self.old.1 }
+        ensures window { self.new.2 ≡ self.old.2 }
+    {
+        // All growths come before the first change.
+        let place = (number - self.front - 1) as usize;
+        if place > 0 {
+            let waiting = usize::from(self.waiting) * usize::from(self.block_size);
+            self.pending.hold(alloc, waiting, place, bytes)?;
+            self.waiting += 1;
+            return Ok(());
+        }
+        let following = self.pending.following(self.block_size);
+        make_room(&mut self.joined, self.block_size, bytes.len() + following)?;
+        self.joined.extend_from_slice(bytes)?;
+        self.front = number;
+        if self.waiting > 0 {
+            self.pending.drop_first();
+            self.front = advance(&mut self.joined, &mut self.pending, number, self.block_size);
+            self.waiting -= self.front - number;
+        }
+        Ok(())
     }
 }
 
@@ -87,6 +118,7 @@ impl Delivered for RingDelivered {
         self.window
     }
 
+    #[inline(always)]
     fn put(&mut self, alloc: Global, number: u16, bytes: &[u8]) -> Result<PutOutcome, AllocError> {
         match self.block(number) {
             Some(held) => {
@@ -97,23 +129,7 @@ impl Delivered for RingDelivered {
             }
             None => {}
         }
-        // All growths come before the first change.
-        let place = (number - self.front - 1) as usize;
-        if place > 0 {
-            let waiting = usize::from(self.waiting) * usize::from(self.block_size);
-            self.pending.hold(alloc, waiting, place, bytes)?;
-            self.waiting += 1;
-            return Ok(PutOutcome::New);
-        }
-        let following = self.pending.following(self.block_size);
-        make_room(&mut self.joined, self.block_size, bytes.len() + following)?;
-        self.joined.extend_from_slice(bytes)?;
-        self.front = number;
-        if self.waiting > 0 {
-            self.pending.drop_first();
-            self.front = advance(&mut self.joined, &mut self.pending, number, self.block_size);
-            self.waiting -= self.front - number;
-        }
+        self.hold_new(alloc, number, bytes)?;
         Ok(PutOutcome::New)
     }
 
@@ -162,7 +178,10 @@ fn make_room(joined: &mut Vec<u8>, block_size: u16, more: usize) -> Result<(), A
     ensures full { OnErr result (vec_capacity joined.old < length joined.old.items + more) }
 {
     let held = joined.len();
-    if held >= LONG && joined.capacity() - held < more {
+    if joined.capacity() - held >= more {
+        return Ok(());
+    }
+    if held >= LONG {
         let plenty = held
             .saturating_mul(15)
             .min(MOST_BLOCKS * usize::from(block_size));

@@ -79,6 +79,7 @@ impl Waiting {
     /// Puts a block at a place. There are then as many places as that at least. `waiting` is how many bytes wait: where
     /// most of the bytes are of blocks that have left, their room is given back first. So no more bytes are kept than twice
     /// what waits and 2 MiB, and this block.
+    #[inline(never)]
     pub(crate) fn hold(
         &mut self,
         alloc: Global,

@@ -1,4 +1,5 @@
-ghost use Rattle.std.specs.Prelude.{◌≡◌, ◌*◌, ◌⊎◌, false, true, length, Ok, Err, IsErr, IfErr, OnOk, MatchResult};
+ghost use Rattle.std.specs.Prelude.{◌≡◌, ◌≤◌, ◌*◌, ◌/◌, ◌⊎◌, false, true, length, Ok, Err, IsErr, IfErr, OnOk, MatchResult};
+ghost use Rattle.std.specs.Vec.{vec_capacity};
 ghost use Rattle.hex.specs.Hex.{decode_of, decode_sized};
 ghost use Rattle.hex.specs.declared.error.FromHexError.TheVariants.{OutOfMemory};
 ghost use Rattle.tftp_digits.specs.Digits.{IsNibble};
@@ -42,7 +43,8 @@ fn decode_each(digits: &[u8], bytes: &mut [u8]) -> bool
     most < 16
 }
 
-/// The same of fewer than eight bytes: eight digits at once, where there are so many, and the others one by one.
+/// The same of fewer than eight bytes: eight digits at once, where there are so many, and the others one by one. Four are
+/// left of most packets, since a block has a multiple of eight behind its four bytes of opcode and number.
 #[inline(always)]
 fn decode_last(digits: &[u8], bytes: &mut [u8]) -> bool
     requires { length digits.now ≡ 2 * length bytes.old }
@@ -51,6 +53,9 @@ fn decode_last(digits: &[u8], bytes: &mut [u8]) -> bool
 {
     if bytes.len() < 4 {
         return decode_each(digits, bytes);
+    }
+    if bytes.len() == 4 {
+        return decode_8(digits, bytes);
     }
     decode_8(&digits[..8], &mut bytes[..4]) && decode_each(&digits[8..], &mut bytes[4..])
 }
@@ -104,6 +109,7 @@ fn decode_to_slice(digits: &[u8], bytes: &mut [u8]) -> Result<(), FromHexError>
 #[inline]
 pub fn decode(digits: &[u8], bytes: &mut Vec<u8>) -> Result<(), FromHexError>
     ensures ok { OnOk result (decode_of digits.now ≡ Ok bytes.new.items) }
+    ensures room { length digits.now / 2 ≤ vec_capacity bytes.old → MatchResult (decode_of digits.now) (λ _. result ≡ Ok tt) (λ fault. result ≡ Err fault) }
     ensures err { IfErr result (λ fault. (fault ≡ OutOfMemory) ⊎ (decode_of digits.now ≡ Err fault)) }
 {
     bytes.resize(digits.len() / 2, 0)?;

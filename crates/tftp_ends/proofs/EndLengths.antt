@@ -5,8 +5,8 @@ use Rattle.std.proofs.lemmas.Nat.{mod_below}
 use Rattle.std.specs.FinMap as map
 use Rattle.tftp_hosts.specs.{Datagram}
 use Rattle.tftp_rules.specs.{IsLast, IsNotLengthOf, HasWrongLength, Terms}
-use Rattle.tftp_blocks.specs.{Held, IsHeldLast}
-use Rattle.tftp_ends.specs.{AreBlocks, IsHeld, HasLengthBySize, IsShortTop, IsEnd, EndsThere, HasRightLength, IsSound}
+use Rattle.tftp_blocks.specs.{Held, IsHeldLast, IsHighest, IsOrderly}
+use Rattle.tftp_ends.specs.{AreBlocks, AreWhole, IsHeld, HasLengthBySize, IsShortTop, IsEnd, EndsThere, HasRightLength, IsSound}
 
 less_than_size : (size b : ℕ) → 8 ≤ b → size % b < b
 less_than_size size b some = mod_below size b (omega arith)
@@ -150,3 +150,27 @@ right_not_wrong t held passed k bytes long blocks sound is some right wrong = el
           | inr there ↦ fails last (inr (there.0 ∙ sym agreed.2, omega (arith, there.1, small))) (λ size sized same. there.1 ∙ ap (λ n. n % t.blksize) (one_size t agreed.0 size agreed.1 sized)) misfit
         ]
   ]
+
+-- the highest block is the last one by its length, or all are whole
+pub short_top : (b : ℕ) (held : Held) (high : ℕ) → IsHighest held high → IsOrderly b held → 1 ≤ high → IsShortTop b held high ⊎ AreWhole b held
+short_top b held high highest orderly some =
+    let there = highest.held_there some in
+    elim (cases_lt (length there.0) b) [
+      | inl short ↦ inl (record {
+        short = (there.0, there.1, short);
+        only = λ other known. let low = highest.most other known.0 known.1 in let less = known.2 in elim (cases_lt other high) [
+          | inl below ↦ let whole = orderly.whole other high known.0 there.0 known.1 there.1 below in absurd (omega arith)
+          | inr not ↦ omega arith
+        ];
+        most = λ k is. highest.most k is.0 is.1;
+        whole = λ k bytes is below. orderly.whole k high bytes there.0 is there.1 below;
+      })
+      | inr long ↦ inr (λ k bytes is. let low = highest.most k bytes is in elim (cases_lt k high) [
+        | inl below ↦ let whole = orderly.whole k high bytes there.0 is there.1 below in omega arith
+        | inr not ↦
+            let at : k ≡ high = omega arith in
+            let same : Some bytes ≡ Some there.0 = sym is ∙ ap (map.get held) at ∙ there.1 in
+            let equal : bytes ≡ there.0 = cc in
+            let lengths = ap length equal in omega arith
+      ])
+    ]

@@ -100,8 +100,12 @@ fn ends_elsewhere<D: Delivered>(
     ensures wrong { result ≡ true → EndsElsewhere block_size (D.held store.now) number len }
     ensures right { result ≡ false → EndsThere block_size (D.held store.now) number len }
 {
+    // below the highest block each is whole, whether that one is the last or not
+    if number < highest {
+        return len < block_size;
+    }
     match short_block(store, highest, block_size) {
-        Some(last) => number > last || (len == block_size) != (number < last),
+        Some(last) => number > last || len == block_size,
         None => len < block_size && number <= highest,
     }
 }

@@ -116,6 +116,7 @@ impl Errors {
 
     /// Whether the end that sends this packet goes on after its ERROR. What comes in and is no ERROR may have been sent
     /// before it (RFC 1350, section 7).
+    #[inline(always)]
     pub fn goes_on(&self, dir: Dir, packet: &Packet<'_>) -> bool
         ensures { (passed : List Datagram) → AreErrors self.now passed → (IsTrue result ↔ GoesOn passed dir (meaning packet.now)) }
     {

@@ -33,6 +33,7 @@ pub enum Exchange<D: Delivered + Drop> {
 impl<D: Delivered + Drop> Exchange<D> {
     /// Keeps a packet that passes this way, or tells the first rule that it breaks. Memory is taken for a block that is not
     /// held alone. Before the request is answered only an ERROR comes here, which changes nothing.
+    #[inline(always)]
     pub fn pass(&mut self, alloc: Global, dir: Dir, packet: &Packet<'_>) -> Result<(), PassError>
         ensures finds { (h : Header) (asked : RequestParts) (passed : List Datagram) → HasAnswer (exchange_of self.old)
             → IsExchange h asked passed (exchange_of self.old) → Finds (TermsBreak h asked passed (meaning packet.now)) (Unit {0}) result }

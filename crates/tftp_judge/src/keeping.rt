@@ -21,7 +21,7 @@ use tftp_capture::{Datagram, Header};
 use tftp_ends::{PortFault, Ports, Route, says_unknown_id};
 use tftp_hosts::Dir;
 use tftp_law::Rule;
-use tftp_packet::{Bytes, Packet, RequestView, opcode, own_request, read_packet};
+use tftp_packet::{Bytes, Packet, RequestView, ack_of, block_of, opcode, own_request, read_packet};
 use tftp_rules::PortRule;
 
 /// What is kept of the datagrams that have passed: the transfer ids, and the transfer from its first request on.
@@ -133,7 +133,7 @@ impl<D: Delivered + Drop> JudgeState<D> {
     }
 
     /// What is found of a datagram of the transfer. The first request again and the first OACK again
-    /// are known by their bytes, and are not read.
+    /// are known by their bytes, and are not read; a block or an ACK, as most are, is judged where it lies.
     fn pass_message(
         &mut self,
         alloc: Global,
@@ -152,18 +152,25 @@ impl<D: Delivered + Drop> JudgeState<D> {
         ensures of_transfer { self.new.of_transfer ≡ self.old.of_transfer }
         ensures err { OnErr result (self.new.transfer ≡ self.old.transfer) }
     {
-        if let Some(transfer) = &self.transfer {
+        if let Some(transfer) = &mut self.transfer {
             if payload == self.asked.as_slice() {
                 return transfer.pass_again(dir);
             }
             if transfer.has_agreed_by(payload) {
                 return transfer.pass_oack_again(dir);
             }
+            if let Some((block, bytes)) = block_of(payload) {
+                return transfer.pass(alloc, dir, &Packet::Data { block, bytes });
+            }
+            if let Some(block) = ack_of(payload) {
+                return transfer.pass(alloc, dir, &Packet::Ack { block });
+            }
         }
         self.pass_read(alloc, route, dir, payload)
     }
 
     /// The same of one whose bytes are read.
+    #[inline(never)]
     fn pass_read(
         &mut self,
         alloc: Global,

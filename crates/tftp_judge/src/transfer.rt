@@ -85,6 +85,7 @@ impl<D: Delivered + Drop> Transfer<D> {
 
     /// What a packet breaks that comes after the first request; where it breaks no rule it is kept. Memory is taken for the
     /// first OACK, a block that is not held and the first ERROR of an end.
+    #[inline(always)]
     pub fn pass(&mut self, alloc: Global, dir: Dir, packet: &Packet<'_>) -> Result<(), PassError>
         ensures finds { (h : Header) (passed : List Datagram) (d : Datagram) → IsTransferAfter self.old h passed
             → Says d dir (meaning packet.now)
@@ -301,6 +302,7 @@ impl<D: Delivered + Drop> Transfer<D> {
     }
 
     /// A block or an ACK, by the rules of these (RFC 1350, sections 2, 4 and 5; RFC 7440, section 4).
+    #[inline(always)]
     fn pass_block(&mut self, alloc: Global, dir: Dir, packet: &Packet<'_>) -> Result<(), PassError>
         requires { IsBlockOrAck (meaning packet.now) }
         ensures finds { (h : Header) (passed : List Datagram) (d : Datagram) → IsTransferAfter self.old h passed
@@ -318,6 +320,7 @@ impl<D: Delivered + Drop> Transfer<D> {
     }
 
     /// The named end keeps a block or an ACK that breaks no rule.
+    #[inline(always)]
     fn keep_block(&mut self, alloc: Global, dir: Dir, packet: &Packet<'_>) -> Result<(), PassError>
         requires { IsBlockOrAck (meaning packet.now) }
         ensures finds { (h : Header) (passed : List Datagram) (d : Datagram) → IsTransferAfter self.old h passed

@@ -29,7 +29,7 @@ pub use laws::{
 pub use options::{OptionsView, Pairs};
 pub use owned_options::{Options, own_options};
 pub use owned_request::{Request, own_request, same_request};
-pub use packet::{Packet, opcode, read_packet};
+pub use packet::{Packet, ack_of, block_of, opcode, read_packet};
 pub use request::RequestView;
 pub use same::same_options;
 pub use value::Value;

@@ -1,4 +1,4 @@
-ghost use Rattle.std.specs.Prelude.{◌≡◌, ◌↔◌, ℕ, IfOk, IsOkAnd};
+ghost use Rattle.std.specs.Prelude.{◌≡◌, ◌≢◌, ◌↔◌, ◌<◌, ◌/◌, ◌%◌, ℕ, [], ◌∷◌, None, length, IfOk, IfSome, IsOkAnd};
 ghost use Rattle.tftp_packet.specs.Messages.{Message};
 ghost use Rattle.tftp_packet.specs.Meaning.{meaning};
 ghost use Rattle.tftp_packet.specs.Spelling.{side_opcode, Spells};
@@ -73,18 +73,41 @@ fn read_request(side: Side, payload: &[u8]) -> Result<Packet<'_>, PacketFault>
     Ok(Packet::Request(request))
 }
 
+/// The number and the bytes of a block, where the payload spells one (RFC 1350, section 5).
+#[inline(always)]
+pub fn block_of(payload: &[u8]) -> Option<(u16, &[u8])>
+    ensures written { IfSome result (λ block. payload.now ≡ 0 ∷ 3 ∷ block.0 / 256 ∷ block.0 % 256 ∷ block.1.now) }
+    ensures spelled { IfSome result (λ block. Spells payload.now (Message.Data block.0 block.1.now)) }
+    ensures none { result ≡ None → opcode_of payload.now ≡ 3 → length payload.now < 4 }
+{
+    if payload.len() < 4 || opcode(payload) != 3 {
+        return None;
+    }
+    Some((BigEndian::read_u16(&payload[2..]), &payload[4..]))
+}
+
+/// The number of an ACK, where the payload spells one (RFC 1350, section 5).
+#[inline(always)]
+pub fn ack_of(payload: &[u8]) -> Option<u16>
+    ensures written { IfSome result (λ block. payload.now ≡ 0 ∷ 4 ∷ block / 256 ∷ block % 256 ∷ []) }
+    ensures spelled { IfSome result (λ block. Spells payload.now (Message.Ack block)) }
+    ensures none { result ≡ None → opcode_of payload.now ≡ 4 → length payload.now ≢ 4 }
+{
+    if payload.len() != 4 || opcode(payload) != 4 {
+        return None;
+    }
+    Some(BigEndian::read_u16(&payload[2..]))
+}
+
 /// The block that a payload spells (RFC 1350, section 5).
 fn read_data(payload: &[u8]) -> Result<Packet<'_>, PacketFault>
     requires { opcode_of payload.now ≡ 3 }
     ensures { Judges payload.now result }
 {
-    if payload.len() < 4 {
-        return Err(PacketFault::Short);
+    match block_of(payload) {
+        Some((block, bytes)) => Ok(Packet::Data { block, bytes }),
+        None => Err(PacketFault::Short),
     }
-    Ok(Packet::Data {
-        block: BigEndian::read_u16(&payload[2..]),
-        bytes: &payload[4..],
-    })
 }
 
 /// The acknowledgement that a payload spells (RFC 1350, section 5).
@@ -92,12 +115,10 @@ fn read_ack(payload: &[u8]) -> Result<Packet<'_>, PacketFault>
     requires { opcode_of payload.now ≡ 4 }
     ensures { Judges payload.now result }
 {
-    if payload.len() != 4 {
-        return Err(PacketFault::AckLength);
+    match ack_of(payload) {
+        Some(block) => Ok(Packet::Ack { block }),
+        None => Err(PacketFault::AckLength),
     }
-    Ok(Packet::Ack {
-        block: BigEndian::read_u16(&payload[2..]),
-    })
 }
 
 /// The error that a payload spells (RFC 1350, section 5).

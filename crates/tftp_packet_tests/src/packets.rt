@@ -8,7 +8,8 @@ use std::test::Fail;
 use tftp_hosts::Host;
 use tftp_packet::{
     Bytes, Mode, Options, OptionsView, Packet, PacketFault, Request, RequestView, Side, Value,
-    opcode, own_options, same_options, same_request, write_oack, write_packet, write_request,
+    ack_of, block_of, opcode, own_options, same_options, same_request, write_oack, write_packet,
+    write_request,
 };
 use tftp_trials::comparing::{is_same, is_so};
 
@@ -41,6 +42,15 @@ fn parts_of(payload: &[u8]) -> Option<Parts<'_>> {
     }
 }
 
+/// The parts of a block or an ACK.
+fn parts_of_block_or_ack(payload: &[u8]) -> Option<Parts<'_>> {
+    match (block_of(payload), ack_of(payload)) {
+        (Some((block, bytes)), None) => Some((3, block, bytes)),
+        (None, Some(block)) => Some((4, block, b"")),
+        _ => None,
+    }
+}
+
 /// Payloads, and their parts.
 const PARTS: &[(&[u8], Parts<'static>)] = &[
     (b"\x00\x03\x00\x01", (3, 1, b"")),
@@ -57,6 +67,11 @@ fn count_of(payload: &[u8]) -> Result<usize, Fail> {
 fn reads_each_kind(_rt: HostRuntime) -> Result<(), Fail> {
     for (payload, parts) in PARTS {
         is_so(parts_of(*payload) == Some(*parts), "other parts")?;
+        let told = if parts.0 == 5 { None } else { Some(*parts) };
+        is_so(
+            parts_of_block_or_ack(*payload) == told,
+            "another block or ACK",
+        )?;
     }
     is_so(count_of(b"\x00\x06")? == 0, "OACK")?;
     is_so(opcode(b"\x00\x06") == 6, "opcode")

@@ -14,7 +14,7 @@ use tftp_digits::encode;
 const ROOM: usize = 16384;
 
 /// So many bytes become digits at a time.
-const PIECE: usize = 1024;
+const PIECE: usize = 4096;
 
 /// A writer of lines, of which at most 16,384 bytes wait to be written together. They stand in memory that is asked for
 /// once, and not on the stack, where each move would copy them. No call fails for want of it: what has no memory to wait
@@ -102,6 +102,9 @@ impl<W: Write> LineWriter<W> {
         if self.inner.failed() {
             return Err(WriteFault);
         }
+        if bytes.len() <= PIECE {
+            return self.add_digits(bytes);
+        }
         let mut done = 0;
         while done < bytes.len() {
             let size = (bytes.len() - done).min(PIECE);
@@ -111,19 +114,33 @@ impl<W: Write> LineWriter<W> {
         Ok(())
     }
 
-    /// Adds the digits of one piece: where there is room for them they are written where they wait.
+    /// Adds the digits of one piece, which are written where they wait: where there is no room for them, what waits is
+    /// written first.
     fn add_digits(&mut self, bytes: &[u8]) -> Result<(), WriteFault>
         requires going { self.old.failed ≡ false }
-        requires short { length bytes.now ≤ 1024 }
+        requires short { length bytes.now ≤ 4096 }
         ensures adds { Adds W.contents self.old self.new result (encode_lower bytes.now) }
     {
         if self.push_digits(bytes) {
             return Ok(());
         }
+        self.flush()?;
+        if self.push_digits(bytes) {
+            return Ok(());
+        }
+        self.write_digits(bytes)
+    }
+
+    /// Writes what waits, and then the digits of a piece, for which there is no memory to wait in.
+    #[inline(never)]
+    fn write_digits(&mut self, bytes: &[u8]) -> Result<(), WriteFault>
+        requires short { length bytes.now ≤ 4096 }
+        ensures writes { Writes W.contents self.old self.new result (encode_lower bytes.now) }
+    {
         let mut room = [0; 2 * PIECE];
         let digits = &mut room[..2 * bytes.len()];
         encode(bytes, digits);
-        self.add(digits)
+        self.write(digits)
     }
 
     /// Writes what waits, and then a slice of any length, which is not copied.
@@ -173,8 +190,9 @@ impl<W: Write> LineWriter<W> {
     }
 
     /// Adds the digits of a piece where there is room for them; else all stays as it was.
+    #[inline(always)]
     fn push_digits(&mut self, bytes: &[u8]) -> bool
-        requires short { length bytes.now ≤ 1024 }
+        requires short { length bytes.now ≤ 4096 }
         ensures { MatchBool result (self.new ≡ record { inner = self.old.inner; waits = self.old.waits ++ encode_lower bytes.now; failed = self.old.failed }) (self.new ≡ self.old) }
     {
         let held = self.held;

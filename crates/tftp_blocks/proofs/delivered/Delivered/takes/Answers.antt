@@ -1,7 +1,7 @@
-use Rattle.std.proofs.Common.{ap, sym, ◌∙◌, ◌≡◌, ◌<◌, ◌≤◌, option_map, inl, inr, arith}
+use Rattle.std.proofs.Common.{ap, sym, subst, ◌∙◌, ◌≡◌, ◌<◌, ◌≤◌, option_map, inl, inr, arith}
 use Rattle.std.proofs.lemmas.Bool.Decides.{nat_tests}
-use Rattle.tftp_blocks.specs.{IsHeldLast}
-use Rattle.tftp_blocks.proofs.Orderly.{takes_within, may_after_short}
+use Rattle.tftp_blocks.specs.{IsHeldLast, Takes}
+use Rattle.tftp_blocks.proofs.Orderly.{takes_within, may_below, whole_below, may_end}
 use Rattle.tftp_blocks.proofs.delivered.Delivered.takes.Goals as goal
 
 pub returns-then-number-front : goal.returns-then-number-front
@@ -17,15 +17,14 @@ pub returns-then-number-highest : goal.returns-then-number-highest
 returns-then-number-highest g c =
     let size = c.block_size-size.ensures in
     let one : 1 ≤ c.args.number = (let some = c.if-number-eq0.false in omega arith) in
-    let short : IsHeldLast (g.Self.Delivered.block_size c.args.self.now) (g.Self.Delivered.held c.args.self.now) c.highest-highest.result = (c.in-Some.bytes.now, sym c.block.ensures ∙ ap (option_map (λ b. b.now)) c.in-Some.is, rw c.block_size-size.ensures at c.if-bytes-size.true) in
     let low = c.if-number-highest.true in (
       λ e.
           let exact : c.args.len ≡ g.Self.Delivered.block_size c.args.self.now = grind (arith, nat_tests) in
-          may_after_short (g.Self.Delivered.block_size c.args.self.now) (g.Self.Delivered.window c.args.self.now) (g.Self.Delivered.held c.args.self.now) c.front.result c.highest-highest.result c.args.number c.args.len c.front.ensures c.highest-highest.ensures.orderly c.highest-highest.ensures.highest one (rw c.window.ensures at c.if-number-front.false) (rw size at c.if-len-size.false) short (inl (low, exact)),
-      λ takes. elim (takes.before_last c.highest-highest.result short) [
-        | inl (before, exact) ↦ let same : c.args.len ≡ g.Self.Delivered.block_size c.args.self.now = omega arith in grind (arith, nat_tests)
-        | inr (equal, less) ↦ absurd (omega arith)
-      ],
+          subst (Takes (g.Self.Delivered.block_size c.args.self.now) (g.Self.Delivered.window c.args.self.now) (g.Self.Delivered.held c.args.self.now) c.args.number) (sym exact)
+          (may_below (g.Self.Delivered.block_size c.args.self.now) (g.Self.Delivered.window c.args.self.now) (g.Self.Delivered.held c.args.self.now) c.front.result c.highest-highest.result c.args.number c.front.ensures c.highest-highest.ensures.orderly c.highest-highest.ensures.highest one (rw c.window.ensures at c.if-number-front.false) low),
+      λ takes.
+          let exact = whole_below (g.Self.Delivered.block_size c.args.self.now) (g.Self.Delivered.window c.args.self.now) (g.Self.Delivered.held c.args.self.now) c.highest-highest.result c.args.number c.args.len c.highest-highest.ensures.orderly c.highest-highest.ensures.highest low takes in
+          grind (arith, nat_tests),
     )
 
 pub returns-then-number-highest-2 : goal.returns-then-number-highest-2
@@ -36,7 +35,7 @@ returns-then-number-highest-2 g c =
     let at = c.if-number-highest-2.true in (
       λ e.
           let less : c.args.len < g.Self.Delivered.block_size c.args.self.now = grind (arith, nat_tests) in
-          may_after_short (g.Self.Delivered.block_size c.args.self.now) (g.Self.Delivered.window c.args.self.now) (g.Self.Delivered.held c.args.self.now) c.front.result c.highest-highest.result c.args.number c.args.len c.front.ensures c.highest-highest.ensures.orderly c.highest-highest.ensures.highest one (rw c.window.ensures at c.if-number-front.false) (rw size at c.if-len-size.false) short (inr (at, less)),
+          may_end (g.Self.Delivered.block_size c.args.self.now) (g.Self.Delivered.window c.args.self.now) (g.Self.Delivered.held c.args.self.now) c.front.result c.highest-highest.result c.args.number c.args.len c.front.ensures c.highest-highest.ensures.orderly c.highest-highest.ensures.highest one (rw c.window.ensures at c.if-number-front.false) short at less,
       λ takes. elim (takes.before_last c.highest-highest.result short) [
         | inl (before, exact) ↦ absurd (omega arith)
         | inr (equal, less) ↦ let under : c.args.len < g.Self.Delivered.block_size c.args.self.now = omega arith in grind (arith, nat_tests)

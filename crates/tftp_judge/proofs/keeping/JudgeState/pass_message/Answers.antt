@@ -1,8 +1,8 @@
-use Rattle.std.proofs.Common.{◌≡◌, true, List, ◌∷◌, Option, Some, refl, sym, subst, ap, ◌∙◌}
+use Rattle.std.proofs.Common.{◌≡◌, true, List, Option, Some, inr, refl, sym, subst, ap, ◌∙◌}
 use Rattle.std.proofs.lemmas.Slice.Eq.{bytes_eq-Decides}
 use Rattle.tftp_packet.specs.{Message, Spells}
 use Rattle.tftp_rules.specs.{route_of, is_of_transfer, transfer_of}
-use Rattle.tftp_judge.specs.{FindsOf, AreBytesOf, JudgeState, Transfer, IsKept}
+use Rattle.tftp_judge.specs.{AreBytesOf, JudgeState, Transfer, IsKept, IsNew}
 use Rattle.tftp_judge.proofs.Accepting.{message_found}
 use Rattle.tftp_judge.proofs.keeping.JudgeState.pass_message.Goals as goal
 
@@ -16,8 +16,7 @@ returns-then-eq-clause-finds g c = λ h earlier d at one kept is on dir payload.
     let bytes : Spells c.self.inside.asked m = subst (AreBytesOf c.self.inside.asked) c.in-Some.is c.self.invariant in
     let spells : Spells d.payload m = subst (λ (bytes : List _). Spells bytes m) (sym (payload ∙ same)) bytes in
     let kept_now : IsKept h earlier (Some t) = subst (λ (o : Option Transfer). IsKept h earlier o) there kept in
-    subst (λ (o : Option Transfer). FindsOf h earlier d (IsKept h (d ∷ earlier) o) c.pass_again.result) (sym there)
-    (message_found h earlier d c.args.dir m t t dir routed spells kept_now refl c.pass_again.result (c.pass_again.ensures.finds h (transfer_of h earlier) d kept_now.1 (dir, spells)))
+    message_found h earlier d c.args.dir m t t dir routed spells kept_now refl c.pass_again.result (c.pass_again.ensures.finds h (transfer_of h earlier) d kept_now.1 (dir, spells))
 
 pub returns-then-has_agreed_by-clause-finds : goal.returns-then-has_agreed_by-clause-finds
 returns-then-has_agreed_by-clause-finds g c = λ h earlier d at one kept is on dir payload.
@@ -28,5 +27,46 @@ returns-then-has_agreed_by-clause-finds g c = λ h earlier d at one kept is on d
     let there : c.args.self.now.transfer ≡ Some t = sym (ap (λ (k : JudgeState). k.transfer) c.self.view_is) ∙ c.in-Some.is in
     let spells : Spells d.payload m = subst (λ (bytes : List _). Spells bytes m) (sym payload) bytes in
     let kept_now : IsKept h earlier (Some t) = subst (λ (o : Option Transfer). IsKept h earlier o) there kept in
-    subst (λ (o : Option Transfer). FindsOf h earlier d (IsKept h (d ∷ earlier) o) c.pass_oack_again.result) (sym there)
-    (message_found h earlier d c.args.dir m t t dir routed spells kept_now refl c.pass_oack_again.result (c.pass_oack_again.ensures.finds h (transfer_of h earlier) d given kept_now.1 agreed (dir, spells)))
+    message_found h earlier d c.args.dir m t t dir routed spells kept_now refl c.pass_oack_again.result (c.pass_oack_again.ensures.finds h (transfer_of h earlier) d given kept_now.1 agreed (dir, spells))
+
+pub returns-in-Some-block_of-clause-finds : goal.returns-in-Some-block_of-clause-finds
+returns-in-Some-block_of-clause-finds g c = λ h earlier d at one kept is on dir payload.
+    let t = c.in-Some.transfer in
+    let m = Message.Data c.in-Some-block_of.block c.in-Some-block_of.bytes.now in
+    let routed : is_of_transfer (route_of h earlier d) ≡ true = ap is_of_transfer (sym is) ∙ on in
+    let there : c.args.self.now.transfer ≡ Some t = sym (ap (λ (k : JudgeState). k.transfer) c.self.view_is) ∙ c.in-Some.is in
+    let spells : Spells d.payload m = subst (λ (bytes : List _). Spells bytes m) (sym payload) (rw c.in-Some-block_of.is at c.block_of.ensures.spelled) in
+    let kept_now : IsKept h earlier (Some t) = subst (λ (o : Option Transfer). IsKept h earlier o) there kept in
+    message_found h earlier d c.args.dir m t c.pass.new.self dir routed spells kept_now c.pass.ensures.asked c.pass.result (c.pass.ensures.finds h (transfer_of h earlier) d kept_now.1 (dir, spells))
+
+pub returns-in-Some-block_of-clause-memory : goal.returns-in-Some-block_of-clause-memory
+returns-in-Some-block_of-clause-memory g c = λ h earlier d kept is on dir payload want.
+    let m = Message.Data c.in-Some-block_of.block c.in-Some-block_of.bytes.now in
+    let there : c.args.self.now.transfer ≡ Some c.in-Some.transfer = sym (ap (λ (k : JudgeState). k.transfer) c.self.view_is) ∙ c.in-Some.is in
+    let kept_now : IsKept h earlier (Some c.in-Some.transfer) = subst (λ (o : Option Transfer). IsKept h earlier o) there kept in
+    inr (
+      m,
+      record { routed = ap is_of_transfer (sym is) ∙ on; spells = subst (λ (bytes : List _). Spells bytes m) (sym payload) (rw c.in-Some-block_of.is at c.block_of.ensures.spelled) },
+      subst (λ w. IsNew (transfer_of h earlier) w m) (sym dir) (c.pass.ensures.memory h (transfer_of h earlier) kept_now.1 want),
+    )
+
+pub returns-in-Some-ack_of-clause-finds : goal.returns-in-Some-ack_of-clause-finds
+returns-in-Some-ack_of-clause-finds g c = λ h earlier d at one kept is on dir payload.
+    let t = c.in-Some.transfer in
+    let m = Message.Ack c.in-Some-ack_of.block in
+    let routed : is_of_transfer (route_of h earlier d) ≡ true = ap is_of_transfer (sym is) ∙ on in
+    let there : c.args.self.now.transfer ≡ Some t = sym (ap (λ (k : JudgeState). k.transfer) c.self.view_is) ∙ c.in-Some.is in
+    let spells : Spells d.payload m = subst (λ (bytes : List _). Spells bytes m) (sym payload) (rw c.in-Some-ack_of.is at c.ack_of.ensures.spelled) in
+    let kept_now : IsKept h earlier (Some t) = subst (λ (o : Option Transfer). IsKept h earlier o) there kept in
+    message_found h earlier d c.args.dir m t c.pass-in-Some-ack_of.new.self dir routed spells kept_now c.pass-in-Some-ack_of.ensures.asked c.pass-in-Some-ack_of.result (c.pass-in-Some-ack_of.ensures.finds h (transfer_of h earlier) d kept_now.1 (dir, spells))
+
+pub returns-in-Some-ack_of-clause-memory : goal.returns-in-Some-ack_of-clause-memory
+returns-in-Some-ack_of-clause-memory g c = λ h earlier d kept is on dir payload want.
+    let m = Message.Ack c.in-Some-ack_of.block in
+    let there : c.args.self.now.transfer ≡ Some c.in-Some.transfer = sym (ap (λ (k : JudgeState). k.transfer) c.self.view_is) ∙ c.in-Some.is in
+    let kept_now : IsKept h earlier (Some c.in-Some.transfer) = subst (λ (o : Option Transfer). IsKept h earlier o) there kept in
+    inr (
+      m,
+      record { routed = ap is_of_transfer (sym is) ∙ on; spells = subst (λ (bytes : List _). Spells bytes m) (sym payload) (rw c.in-Some-ack_of.is at c.ack_of.ensures.spelled) },
+      subst (λ w. IsNew (transfer_of h earlier) w m) (sym dir) (c.pass-in-Some-ack_of.ensures.memory h (transfer_of h earlier) kept_now.1 want),
+    )
