@@ -26,7 +26,7 @@ HEADING = re.compile(r"(?m)^#{3,5} `([\w:]+)`(?: as `[^`]+`)?$")
 # A clause as a page has it, and as a source does: its kind, its name and its text.
 ON_PAGE = re.compile(r"(?m)^- (requires)?(?: ?`(\w+)`)?(?:: )?(?:[^`\n].*?)?(?:`` (.*) ``|`([^`]*)`)$")
 IN_SOURCE = re.compile(
-    r"(?ms)^ *(requires|ensures) (?:(\w+) )?\{ (.*?) \};?$(?=\s*(?:requires|ensures|\{|\}|//|fn|\Z))"
+    r"(?ms)^ *(requires|ensures)\*? (?:(\w+) )?\{ (.*?) \};?$(?=\s*(?:requires|ensures|\{|\}|//|fn|\Z))"
 )
 FUNCTION = re.compile(r"(?m)^(?= *(?:pub(?:\(crate\))? )?fn )")
 WORD_ROW = re.compile(r"(?m)^\| (`.*) \| \[[^\]]*\]\(([^)]*)\) \|$")
@@ -76,6 +76,7 @@ impl<'a, T: Trait> Pair<'a, T> {
         requires few { self.now.first < 2 ^ 3 }
         ensures ok { (w : Word)
             → Another w × (record { x = "a  }" } ≡ result) }
+        ensures* lends { Lends self.entry result }
     {
         match sign { '{' => b"}{", 'x' => r#"}"# }
     }
@@ -131,6 +132,7 @@ def try_statements(trial: Trial, file: File) -> None:
     trial.check("its clauses", texts == [
         ("requires", "few", "self.now.first < 2 ^ 3"),
         ("ensures", "ok", '(w : Word) → Another w × (record { x = "a  }" } ≡ result)'),
+        ("ensures*", "lends", "Lends self.entry result"),
     ], texts)
     trial.check("what is the crate's alone", not kept.is_public and len(kept.clauses) == 1, kept)
 

@@ -146,7 +146,7 @@ class Definitions:
             return Place("", ".".join(path[1:-1]), path[-1])
         if len(rest) == 1 and rest[0] in self.listed(crate):
             rest = (*self.listed(crate)[rest[0]].split("."), rest[0])
-        if rest[:1] == ("declared",):
+        if rest[:1] in (("declared",), ("contracts",)):  # what the sources give of themselves
             folder, end, rest = "src", "rt", rest[1:]
         else:
             folder, end = part, "antt"

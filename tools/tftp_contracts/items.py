@@ -328,7 +328,7 @@ class Reader:
             remark = self.comments(Kind.COMMENT)
             if not self.is_next(*CONTRACT):
                 return
-            kind = self.take().text
+            kind = self.take().text + "*" * self.took("*")
             name = "" if self.is_next("{") else self.name_next()
             yield self.statement(kind, name, remark)
 

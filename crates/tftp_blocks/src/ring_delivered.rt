@@ -56,7 +56,7 @@ impl RingDelivered {
         self.pending.kept()
     }
 
-    /// Holds a block that is not held yet. Most blocks of a window that comes again are held, and need none of this.
+    /// Holds a block that is not held yet.
     #[inline(always)]
     fn hold_new(&mut self, alloc: Global, number: u16, bytes: &[u8]) -> Result<(), AllocError>
         requires takes { Takes self.old.1 self.old.2 (numbered 1 self.old.0) number (length bytes.now) }

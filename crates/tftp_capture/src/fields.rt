@@ -14,7 +14,7 @@ use hex::FromHexError;
 use itoa::Buffer;
 use tftp_digits::decode;
 use tftp_hosts::{Dir, Host};
-use tftp_packet::{Bytes, End};
+use tftp_packet::End;
 
 /// The most bytes of a payload: the 65,535 that a UDP length counts, less the header's 8 (RFC 768).
 const LONGEST_PAYLOAD: usize = 65_527;
@@ -204,10 +204,7 @@ fn fill_with(dir: Dir, fields: Fields<'_>, datagram: &mut Datagram) -> Result<()
     datagram.dir = dir;
     datagram.local_port = local_port;
     datagram.remote_port = remote_port;
-    let mut payload = datagram.payload.take();
-    let ended = fill_payload(fields.digits, &mut payload);
-    datagram.payload = Bytes::of(payload);
-    ended
+    fill_payload(fields.digits, datagram.payload.as_mut_vec())
 }
 
 /// Fills a datagram with what the text after the first word says. Where the last field spells a payload it is one

@@ -13,7 +13,6 @@ use std::alloc::Global;
 use std::marker::Model;
 use std::mem;
 use tftp_hosts::{Dir, Host};
-use tftp_packet::Bytes;
 
 /// The most bytes of a head that is kept: `out`, a port of five digits, a host of 45 bytes, a port and four spaces.
 pub const LONGEST_HEAD: usize = 62;
@@ -105,9 +104,7 @@ impl Head {
         ensures { IfSome result (BeginsWithDatagram self.now.version ahead.now (datagram_of datagram.new)) }
     {
         let digits = self.rest(ahead)?;
-        let mut payload = datagram.payload.take();
-        let filled = fill_payload(digits, &mut payload).is_ok();
-        datagram.payload = Bytes::of(payload);
+        let filled = fill_payload(digits, datagram.payload.as_mut_vec()).is_ok();
         datagram.dir = self.dir;
         datagram.local_port = self.local_port;
         put_host(&self.remote_host, &mut datagram.remote_host);
@@ -183,8 +180,7 @@ impl Heads {
     {
         let comes = matches!(ahead, [b'i', ..]);
         if comes != (datagram.dir == Dir::In) {
-            let payload = datagram.payload.take();
-            datagram.payload = Bytes::of(mem::replace(&mut self.spare, payload));
+            mem::swap(datagram.payload.as_mut_vec(), &mut self.spare);
         }
         let way = if comes { &self.came } else { &self.went };
         way.fill(version, ahead, datagram)

@@ -74,15 +74,26 @@ digits_of_all table bytes long fits =
     let low = ap (swz_l w8 16 table 0) (low_is bytes long) ∙ looked_up table 0 (map (λ b. b % 16) bytes) (omega arith) (low_small bytes) in
     (λ p. pick_l 0 (high p ++ low p) turns) ∙ in_turn table bytes long
 
--- sixteen bytes more are written
-pub block_written : (bytes digits block : List ℕ) (done : ℕ) → done + 16 ≤ length bytes → length digits ≡ 2 * length bytes → block ≡ encode_lower (chunk done 16 bytes)
-    → take (2 * done) digits ≡ encode_lower (take done bytes) → take (2 * (done + 16)) (put_chunk (2 * done) digits block) ≡ encode_lower (take (done + 16) bytes)
-block_written bytes digits block done room len is before =
-    let long = length-encode_with lower_digits (chunk done 16 bytes) in
-    let sixteen = length-chunk done 16 bytes room in
+-- four bytes, and zeros as far as sixteen
+abbrev widened : List ℕ → List ℕ
+widened bytes = pick_l 0 (bytes ++ replicate 4 0) (0 ∷ 1 ∷ 2 ∷ 3 ∷ 4 ∷ 4 ∷ 4 ∷ 4 ∷ 4 ∷ 4 ∷ 4 ∷ 4 ∷ 4 ∷ 4 ∷ 4 ∷ 4 ∷ [])
+
+abbrev Begins : List ℕ → List ℕ → Type 0
+Begins bytes digits = pick_l 0 (digits ++ digits) (0 ∷ 1 ∷ 2 ∷ 3 ∷ 4 ∷ 5 ∷ 6 ∷ 7 ∷ []) ≡ encode_lower bytes
+
+pub digits_of_four : (bytes digits : List ℕ) → length bytes ≡ 4 → digits ≡ encode_lower (widened bytes) → Begins bytes digits
+unfolding encode_with
+digits_of_four bytes digits long is = subst (Begins bytes) (sym is) (spelled (λ four. Begins four (encode_lower (widened four))) 4 (λ f. refl) bytes long)
+
+-- n bytes more are written
+pub block_written : (bytes digits block : List ℕ) (n done : ℕ) → done + n ≤ length bytes → length digits ≡ 2 * length bytes → block ≡ encode_lower (chunk done n bytes)
+    → take (2 * done) digits ≡ encode_lower (take done bytes) → take (2 * (done + n)) (put_chunk (2 * done) digits block) ≡ encode_lower (take (done + n) bytes)
+block_written bytes digits block n done room len is before =
+    let long = length-encode_with lower_digits (chunk done n bytes) in
+    let many = length-chunk done n bytes room in
     let size = ap length is in
-    take_more_put_chunk (2 * done) digits block (2 * (done + 16)) (omega arith) (omega arith)
-    ∙ (λ p. before p ++ is p) ∙ sym (encode-append (take done bytes) (chunk done 16 bytes)) ∙ ap encode_lower (sym (take-add done 16 bytes))
+    take_more_put_chunk (2 * done) digits block (2 * (done + n)) (omega arith) (omega arith)
+    ∙ (λ p. before p ++ is p) ∙ sym (encode-append (take done bytes) (chunk done n bytes)) ∙ ap encode_lower (sym (take-add done n bytes))
 
 -- what was written at once, and the rest
 pub rest_written : (bytes digits ys : List ℕ) (done k : ℕ) → length digits ≡ 2 * length bytes → 2 * done + k ≡ length digits

@@ -111,6 +111,7 @@ pub fn decode(digits: &[u8], bytes: &mut Vec<u8>) -> Result<(), FromHexError>
     ensures ok { OnOk result (decode_of digits.now ≡ Ok bytes.new.items) }
     ensures room { length digits.now / 2 ≤ vec_capacity bytes.old → MatchResult (decode_of digits.now) (λ _. result ≡ Ok tt) (λ fault. result ≡ Err fault) }
     ensures err { IfErr result (λ fault. (fault ≡ OutOfMemory) ⊎ (decode_of digits.now ≡ Err fault)) }
+    ensures kept { vec_capacity bytes.old ≤ vec_capacity bytes.new }
 {
     bytes.resize(digits.len() / 2, 0)?;
     decode_to_slice(digits, bytes.as_mut_slice())

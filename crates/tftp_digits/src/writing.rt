@@ -42,6 +42,38 @@ fn encode_blocks(bytes: &[u8], digits: &mut [u8]) -> usize
     done
 }
 
+#[tactic(auto, using(crate::proofs::Lanes::digits_of_four))]
+/// The two digits of each of four bytes: those of sixteen, of which the others are zero.
+#[inline(always)]
+fn digits_of_4(bytes: u8x4) -> u8x8
+    ensures { result ≡ encode_lower bytes }
+{
+    let wide = bytes.shuffle(
+        u8x4::splat(0),
+        [0, 1, 2, 3, 4, 4, 4, 4, 4, 4, 4, 4, 4, 4, 4, 4],
+    );
+    digits_of(wide).swizzle([0, 1, 2, 3, 4, 5, 6, 7])
+}
+
+/// Goes on with four bytes at a time, where `from` are written.
+#[inline(always)]
+fn encode_fours(bytes: &[u8], digits: &mut [u8], from: usize) -> usize
+    requires len { length digits.old ≡ 2 * length bytes.now }
+    requires within { from ≤ length bytes.now }
+    requires written { take (2 * from) digits.old ≡ encode_lower (take from bytes.now) }
+    ensures within { result ≤ length bytes.now }
+    ensures written { take (2 * result) digits.new ≡ encode_lower (take result bytes.now) }
+    ensures len { length digits.new ≡ length digits.old }
+{
+    let mut done = from;
+    while bytes.len() - done >= 4 {
+        let four = u8x4::from_slice(&bytes[done..]);
+        digits_of_4(four).copy_to_slice(&mut digits[2 * done..]);
+        done += 4;
+    }
+    done
+}
+
 /// Writes the digits of one byte after another.
 fn encode_rest(bytes: &[u8], digits: &mut [u8])
     requires { length digits.old ≡ 2 * length bytes.now }
@@ -59,6 +91,7 @@ pub fn encode(bytes: &[u8], digits: &mut [u8])
     requires { length digits.old ≡ 2 * length bytes.now }
     ensures { digits.new ≡ encode_lower bytes.now }
 {
-    let done = encode_blocks(bytes, digits);
+    let many = encode_blocks(bytes, digits);
+    let done = encode_fours(bytes, digits, many);
     encode_rest(&bytes[done..], &mut digits[2 * done..]);
 }

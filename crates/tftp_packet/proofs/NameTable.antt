@@ -1,10 +1,11 @@
 -- A table of names: what is put into it is found, and nothing else.
-use Rattle.std.proofs.Common.{◌≡◌, ◌≢◌, ◌↔◌, inl, inr, ℕ, zero, suc, ◌+◌, ◌-◌, ◌<◌, ◌≤◌, List, [], ◌∷◌, ◌++◌, length, get_or, drop, set, take, refl, sym, ap, subst, ◌∙◌, append_assoc, get_or-set_same, get_or-set_other, length-append, length-drop, take_all, arith, replicate, map as each}
-use Rattle.std.proofs.lemmas.List.{drop_all}
+use Rattle.std.proofs.Common.{◌≡◌, ◌≢◌, ◌↔◌, inl, inr, ℕ, zero, suc, ◌+◌, ◌-◌, ◌*◌, ◌%◌, ◌^◌, ◌<◌, ◌≤◌, List, [], ◌∷◌, ◌++◌, length, get_or, drop, set, take, refl, sym, ap, subst, ◌∙◌, append_assoc, get_or-set_same, get_or-set_other, length-append, length-drop, take_all, arith, replicate, min, map as each}
+use Rattle.std.proofs.lemmas.List.{drop_min}
+use Rattle.std.specs.Char.{to_ascii_lowercase}
 use Rattle.std.specs.List.{AllByRecursion}
 use Rattle.std.proofs.lemmas.Bool.{cases_eq, ne_eqb}
 use lib.Seq.{drop-append_seam}
-use Rattle.tftp_packet.specs.{lower, IsString, pairs_of, AnyOf, HasRepeat, HasTwo, StandsFirst, keys_of, string_first, mark_of, key_at, AreMarked, IsHeld, IsFound, IsFree, StandForSome}
+use Rattle.tftp_packet.specs.{lower, IsString, pairs_of, AnyOf, HasRepeat, HasTwo, StandsFirst, keys_of, mixed, string_first, mark_of, key_at, AreMarked, IsHeld, IsFound, IsFree, StandForSome}
 use Rattle.tftp_packet.specs.NameTable.{Holds}
 use Rattle.tftp_packet.proofs.NameLists.{any_left, any_right, two_right, two_across, two_skipped, two_behind, all_more, any_of}
 use Rattle.tftp_packet.proofs.NameOrder.{two_of_repeat, repeat_of_two}
@@ -29,13 +30,18 @@ key_there bytes front rest name after entry e is first =
     ∙ ap lower (string_front name (first.1.0 ++ 0 ∷ after) first.0)
 
 -- the name at a place, or none behind the end
-pub name_there : (bytes name : List ℕ) (entry : ℕ) → name ≡ string_first (take (length bytes - (entry - 1)) (drop (entry - 1) bytes)) → lower name ≡ key_at bytes entry
+pub name_there : (bytes name : List ℕ) (entry place : ℕ) → place ≡ min (entry - 1) (length bytes)
+    → name ≡ string_first (take (length bytes - place) (drop place bytes)) → lower name ≡ key_at bytes entry
 unfolding key_at
-name_there bytes name entry is = ap lower is ∙ ap (λ b. lower (string_first b)) (take_all (length bytes - (entry - 1)) (drop (entry - 1) bytes) (omega (arith, length-drop (entry - 1) bytes)))
+name_there bytes name entry place at is =
+    ap lower is ∙ ap (λ b. lower (string_first b)) (take_all (length bytes - place) (drop place bytes) (omega (arith, length-drop place bytes)) ∙ ap (λ k. drop k bytes) at ∙ drop_min (entry - 1) bytes)
 
-pub none_there : (bytes : List ℕ) (entry : ℕ) → length bytes ≤ entry - 1 → lower [] ≡ key_at bytes entry
-unfolding key_at
-none_there bytes entry over = ap (λ b. lower (string_first b)) (sym (drop_all (entry - 1) bytes over))
+-- what two bytes leave to be mixed in
+pub two_mixed : (hash a b : ℕ) (left : List ℕ) → 2 ≤ length left → a ≡ to_ascii_lowercase (get_or left 0 0) → b ≡ to_ascii_lowercase (get_or left 1 0)
+    → mixed ((hash + (a + 256 * b)) % 2 ^ 64 * 11400714819323198485 % 2 ^ 64) (lower (take (length left - 2) (drop 2 left))) ≡ mixed hash (lower left)
+two_mixed hash a b [] few is js = absurd (omega arith)
+two_mixed hash a b (x ∷ []) few is js = absurd (omega arith)
+two_mixed hash a b (x ∷ y ∷ rest) few is js = rw (is, js, take_all (length (x ∷ y ∷ rest) - 2) rest (omega arith)) refl
 
 pub string_cut : (bytes name rest : List ℕ) → IsString name → bytes ≡ name ++ 0 ∷ rest → name ≡ string_first bytes
 string_cut bytes name rest p e = sym (ap string_first e ∙ string_front name rest p)

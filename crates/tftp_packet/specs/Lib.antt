@@ -15,6 +15,7 @@ pub mod Canonical
 pub mod Same
 pub mod Names
 pub mod NameTable
+pub mod Rows
 pub use OptionMaps.{Num, OptionMap, OptionValue, Text, is_within, lower, no_options, number_in}
 unfoldable pub use OptionMaps.{is_known_number, is_number, range_of, value_of}
 pub use Messages.{Ack, Data, Error, Message, Oack, Request, RequestParts}

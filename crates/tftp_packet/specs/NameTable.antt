@@ -16,10 +16,11 @@ StandsFirst bytes name after = IsString name × ((text : List ℕ) × (bytes ≡
 abbrev pub keys_of : List ℕ → List (List ℕ)
 keys_of bytes = each (λ pair. lower pair.0) (pairs_of bytes)
 
--- the bytes of a name, mixed into a number of 64 bits
+-- the bytes of a name, two by two, mixed into a number of 64 bits
 abbrev pub mixed : ℕ → List ℕ → ℕ
 mixed hash [] = hash
-mixed hash (b ∷ bs) = mixed (((hash + b) % 2 ^ 64) * 11400714819323198485 % 2 ^ 64) bs
+mixed hash (b ∷ []) = ((hash + b) % 2 ^ 64) * 11400714819323198485 % 2 ^ 64
+mixed hash (b ∷ c ∷ bs) = mixed (((hash + (b + 256 * c)) % 2 ^ 64) * 11400714819323198485 % 2 ^ 64) bs
 
 -- the first slot in which a name is looked for, of 4,096
 unfoldable pub first_slot : List ℕ → ℕ

@@ -18,6 +18,10 @@ impl Model for Bytes {
 }
 
 impl Bytes {
+    ghost use Rattle.std.specs.Borrow.{Lends, sem};
+    ghost use Rattle.tftp_packet.specs.contracts.byte_list.Bytes.{the_row};
+    ghost use Rattle.tftp_packet.specs.Rows.{vector_row};
+
     /// Takes a vector over, and no memory.
     pub fn of(bytes: Vec<u8>) -> Self
         ensures { result ≡ bytes.items }
@@ -39,6 +43,15 @@ impl Bytes {
     {
         let Bytes { bytes } = self;
         bytes
+    }
+
+    /// The vector, to be filled where it is: the bytes are then what is left in it.
+    #[inline]
+    pub fn as_mut_vec(&mut self) -> &mut Vec<u8>
+        ensures* writes_back { sem 𝓛 (Lends the_row vector_row self.entry result (λ vector. vector.items)) }
+        ensures value { result.now.items ≡ self.old }
+    {
+        &mut self.bytes
     }
 
     /// Hands the vector out, to be filled anew, and keeps an empty one; it takes no memory.

@@ -4,7 +4,7 @@ ghost use Rattle.std.specs.Prelude.{◌≡◌, ◌↔◌, ◌+◌, ◌-◌, ◌<
 ghost use Rattle.tftp_packet.specs.OptionMaps.{lower};
 ghost use Rattle.tftp_packet.specs.Written.{pairs_of};
 ghost use Rattle.tftp_packet.specs.Faults.{AnyOf, HasRepeat};
-ghost use Rattle.tftp_packet.specs.NameTable.{string_first, first_slot, mark_of, key_at, keys_of, AreMarked, IsHeld, IsFound, Tells, Holds};
+ghost use Rattle.tftp_packet.specs.NameTable.{first_slot, mark_of, key_at, keys_of, AreMarked, IsHeld, IsFound, Tells, Holds};
 
 use crate::name_order::has_repeat_in_order;
 use crate::text::{split_pair, split_string};
@@ -20,6 +20,9 @@ const SLOTS: usize = FIRST_SLOTS + TRIED;
 
 /// No more names are put into a table, so that a look ends soon.
 const MOST_NAMES: usize = 2_048;
+
+/// What the hash of a name is multiplied by at each step: the odd number next to 2^64 over the golden ratio.
+const FACTOR: u64 = 0x9E37_79B9_7F4A_7C15;
 
 /// A table that has so few bytes of options, and not all of them, is crowded by hashes that are alike.
 const CROWDED: usize = 4_096;
@@ -152,29 +155,19 @@ fn look(bytes: &[u8], table: &Table, name: &[u8]) -> Slot
     Slot::Full
 }
 
-/// The name for which a slot stands.
+/// The name for which a slot stands: the bytes from its place to the next zero byte, or all.
 fn name_at(bytes: &[u8], entry: u16) -> &[u8]
     ensures { lower result.now ≡ key_at bytes.now entry }
 {
-    let place = usize::from(entry).saturating_sub(1);
-    if place < bytes.len() {
-        first_string(&bytes[place..])
-    } else {
-        &[]
+    let place = usize::from(entry).saturating_sub(1).min(bytes.len());
+    let left = &bytes[place..];
+    match split_string(left) {
+        Some((name, _)) => name,
+        None => left,
     }
 }
 
-/// The bytes before the first zero byte, or all.
-fn first_string(bytes: &[u8]) -> &[u8]
-    ensures { result.now ≡ string_first bytes.now }
-{
-    match split_string(bytes) {
-        Some((first, _)) => first,
-        None => bytes,
-    }
-}
-
-#[tactic(auto, unfolding(crate::specs::NameTable::first_slot, crate::specs::NameTable::mark_of))]
+#[tactic(auto, using(crate::proofs::NameTable::two_mixed), unfolding(crate::specs::NameTable::first_slot, crate::specs::NameTable::mark_of))]
 /// The first slot in which a name is looked for, and the byte that is kept of its hash. Letter case counts for nothing.
 fn slot_of(name: &[u8]) -> (usize, u8)
     ensures slot { result.0 ≡ first_slot (lower name.now) }
@@ -183,11 +176,15 @@ fn slot_of(name: &[u8]) -> (usize, u8)
 {
     let mut hash: u64 = 0;
     let mut left = name;
-    while let [byte, rest @ ..] = left {
-        hash = hash
-            .wrapping_add(u64::from(byte.to_ascii_lowercase()))
-            .wrapping_mul(0x9E37_79B9_7F4A_7C15);
+    while let [first, second, rest @ ..] = left {
+        let (low, high) = (first.to_ascii_lowercase(), second.to_ascii_lowercase());
+        let two = u64::from(low) + 256 * u64::from(high);
+        hash = hash.wrapping_add(two).wrapping_mul(FACTOR);
         left = rest;
+    }
+    if let [last] = left {
+        let one = u64::from(last.to_ascii_lowercase());
+        hash = hash.wrapping_add(one).wrapping_mul(FACTOR);
     }
     ((hash >> 52) as usize, ((hash >> 44) % 256) as u8)
 }

@@ -30,12 +30,12 @@ pub fn has_empty_name(bytes: &[u8]) -> bool
     false
 }
 
-/// Whether two options have one name, letter case ignored. No memory is taken: more than 8 options are looked for
-/// in a table of 12 KB on the stack, by the hashes of their names.
-pub fn has_repeat(bytes: &[u8]) -> bool
+/// Whether two options have one name, letter case ignored, by `strings`, how many strings there are. No memory is taken: more
+/// than 8 options are looked for in a table of 12 KB on the stack, by the hashes of their names.
+pub fn has_repeat(bytes: &[u8], strings: usize) -> bool
     ensures { IsTrue result ↔ HasRepeat (pairs_of bytes.now) }
 {
-    if string_count(bytes) <= FEW_STRINGS {
+    if strings <= FEW_STRINGS {
         has_repeat_of_few(bytes)
     } else {
         has_repeat_of_many(bytes)

@@ -39,13 +39,14 @@ impl<'a> OptionsView<'a> {
         if !is_ended(bytes) {
             return Err(PacketFault::NoTerminator);
         }
-        if string_count(bytes) % 2 == 1 {
+        let strings = string_count(bytes);
+        if strings % 2 == 1 {
             return Err(PacketFault::OddOptions);
         }
         if has_empty_name(bytes) {
             return Err(PacketFault::EmptyOptionName);
         }
-        if has_repeat(bytes) {
+        if has_repeat(bytes, strings) {
             return Err(PacketFault::DuplicateOption);
         }
         Ok(OptionsView { bytes })

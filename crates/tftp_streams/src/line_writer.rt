@@ -114,8 +114,7 @@ impl<W: Write> LineWriter<W> {
         Ok(())
     }
 
-    /// Adds the digits of one piece, which are written where they wait: where there is no room for them, what waits is
-    /// written first.
+    /// Adds the digits of one piece, which are written where they wait.
     fn add_digits(&mut self, bytes: &[u8]) -> Result<(), WriteFault>
         requires going { self.old.failed ≡ false }
         requires short { length bytes.now ≤ 4096 }
@@ -124,6 +123,16 @@ impl<W: Write> LineWriter<W> {
         if self.push_digits(bytes) {
             return Ok(());
         }
+        self.add_digits_after(bytes)
+    }
+
+    /// Adds the digits of one piece after what waits is written, since there was no room for them.
+    #[inline(never)]
+    fn add_digits_after(&mut self, bytes: &[u8]) -> Result<(), WriteFault>
+        requires going { self.old.failed ≡ false }
+        requires short { length bytes.now ≤ 4096 }
+        ensures adds { Adds W.contents self.old self.new result (encode_lower bytes.now) }
+    {
         self.flush()?;
         if self.push_digits(bytes) {
             return Ok(());

@@ -23,8 +23,8 @@ pub returns-clause-ends : goal.returns-clause-ends
 returns-clause-ends c = λ version line count cut.
     let f = c.args.fields in
     let named = c.fill_host.ensures.named c.if-not-fill_host.false in
-    rw (named.1, c.of.ensures)
-    (payload_ends version count line f.local.now f.host.now f.remote.now f.digits.now c.args.dir _ _ cut c.in-Some.ensures c.in-Some-port.ensures named.0 c.fill_payload-ended.result _ c.fill_payload-ended.ensures)
+    rw (named.1)
+    (payload_ends version count line f.local.now f.host.now f.remote.now f.digits.now c.args.dir _ _ cut c.in-Some.ensures c.in-Some-port.ensures named.0 c.fill_payload.result _ c.fill_payload.ensures)
 
 pub returns-clause-whole : goal.returns-clause-whole
-returns-clause-whole c = filled_whole c.args.fields.digits.now _ c.fill_payload-ended.result c.fill_payload-ended.ensures
+returns-clause-whole c = filled_whole c.args.fields.digits.now _ c.fill_payload.result c.fill_payload.ensures

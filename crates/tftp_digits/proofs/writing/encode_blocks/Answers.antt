@@ -11,5 +11,5 @@ pub loop-done-preserved : goal.loop-done-preserved
 loop-done-preserved c = record {
   within = omega arith;
   len = omega (arith, length-put_chunk (2 * c.loop-done.done) c.loop-done.digits c.digits_of.result);
-  written = block_written c.args.bytes.now c.loop-done.digits c.digits_of.result c.loop-done.done (omega arith) c.loop-done.invariant.len c.digits_of.ensures c.loop-done.invariant.written;
+  written = block_written c.args.bytes.now c.loop-done.digits c.digits_of.result 16 c.loop-done.done (omega arith) c.loop-done.invariant.len c.digits_of.ensures c.loop-done.invariant.written;
 }
