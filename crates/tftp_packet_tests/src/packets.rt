@@ -250,12 +250,14 @@ fn writes_blocks(rt: HostRuntime) -> Result<(), Fail> {
     is_written(&rt, &error, b"\x00\x05\x00\x05\x00")
 }
 
-/// Bytes are the vector that was taken over, and given back.
+/// Bytes are the vector that was taken over, lent to be filled, and given back.
 #[test]
 fn bytes_are_a_vector(rt: HostRuntime) -> Result<(), Fail> {
-    let bytes = Bytes::of(Vec::from_slice(rt.alloc(), b"ab")?);
+    let mut bytes = Bytes::of(Vec::from_slice(rt.alloc(), b"ab")?);
     is_same(bytes.as_slice(), b"ab")?;
-    is_same(bytes.into_vec().as_slice(), b"ab")
+    bytes.as_mut_vec().push(b'c')?;
+    is_same(bytes.as_slice(), b"abc")?;
+    is_same(bytes.into_vec().as_slice(), b"abc")
 }
 
 /// Whether the bytes name a host, which has these bytes.

@@ -8,10 +8,10 @@ use tftp_trials::comparing::is_so;
 
 /// 70 names of five letters whose hashes begin at one slot, found by a program of its own.
 const ALIKE: &[u8] =
-    b"aayqkabcdiabljhacobhacxhgadbxkaeepkaenvjafhhkafqnjafztiagtfjaiannaijtmaiszlajdfnajmlmajvrl\
-    akpdmakyjlalczpamfrpamoxoanijpanrpoaolbpaouhoaqbpsaqkvrarnnrarwtqasagoaszlqaugyaaupztavcsq\
-    awfkqaxicqaxripayuapazhwsbaimrbblerbbukqbcxcqbdbsubdbxabdkytbeekubeepabenqtbewwsbfhcubfhha\
-    bfqitbfzosbgtatbhgwwbiaixbiandbijowbijtcbisuvbiszbbjdaxbjdfdbjmgwbjmlcbjvmvbjvrb";
+    b"aacjgaaeauaaeunaajaaaallhaancvaanwoaascbabtywabyejabyycackimacmttactknadddjaddxcadzmvaejfr\
+    aelqyaeqqeaeshsaeuszaezsfafajaafcaoafcuhafelvafjlbagpnjagrexagryqagwedagypkahbrmahiigahktn\
+    aiqvvaivbiaivvbaixmpaizxwajaorajczyajhflajhzeajjqsajqhmakaaiakaubakwjualgcqalgwjalinxalnnd\
+    alperalpykalrpyalwpeambiuamgiaamvgzanmkianobwanovpantbcanvmjanxxqaoafzaoazsaofff";
 
 /// Appends so many options without a value, each with a name of three letters of its own, the first `aaa`.
 fn add_options(payload: &mut Vec<u8>, count: u32) -> Result<(), Fail> {
@@ -83,8 +83,8 @@ fn alike_stand_once(rt: &HostRuntime, count: u32, twice: &[u8]) -> Result<(), Fa
 
 /// Options that come twice.
 const TWICE: &[&[u8]] = &[
-    b"AAYQK\x00\x00",
-    b"bjvrb\x00\x00",
+    b"AACJG\x00\x00",
+    b"aofff\x00\x00",
     b"AAA\x00\x00",
     b"aac\x00\x00",
 ];
