@@ -112,7 +112,7 @@ class Sources:
             self.laws |= set(re.findall(r"(?m)^pub fn (\w+)\(\)\n *ensures ", text))
             for function in re.split(r"(?m)^(?=\s*(?:pub )?fn )", text)[1:]:
                 name = re.match(r"\s*(?:pub )?fn (\w+)", function)
-                clauses = re.findall(r"(?m)^\s*(?:ensures|requires) (\w+) \{", function)
+                clauses = re.findall(r"(?m)^\s*(?:ensures\*?|requires) (\w+) \{", function)
                 if name and function.lstrip().startswith("pub "):
                     self.functions.setdefault(name[1], set()).update(clauses)
         for spec in sorted((TOP / "crates").glob("*/specs/**/*.antt")):
