@@ -1,7 +1,7 @@
 """Texts whose lines are like the line before that went the same way, or only look so, on the built program: the same ports
 and as long, but for a sign that is no digit, an LF among the digits where a shorter line ends, other ports of as many
-digits, another version's fields, or a comment between. What `show` and `check` print is compared with a slow reading of
-the text, given whole and through a pipe in pieces.
+digits, another version's fields, or a comment between; some lines are longer than what is read at once. What `show` and
+`check` print is compared with a slow reading of the text, given whole and through a pipe in pieces.
 
     alike.py PROGRAM [--cases N] [--seed N]
 
@@ -21,6 +21,8 @@ from trial import Trial
 # Hosts and ports of which some begin as others do; the first of each stand in most lines.
 HOSTS, PORTS = [b"-", b"192.0.2.1", b"192.0.2.10", b"2001:db8::1"], [b"40000", b"4000", b"40001", b"6", b"69"]
 WAYS, SIZES = [b"in", b"out"], [4, 4, 8, 12, 12, 12, 16, 20, 516]
+# A block whose line is longer than what the program reads at once, and the most bytes that a pipe holds.
+LONG, PIPE = 40_004, 65_536
 
 
 def mostly_first(chance: random.Random, among: Sequence[bytes]) -> bytes:
@@ -29,7 +31,7 @@ def mostly_first(chance: random.Random, among: Sequence[bytes]) -> bytes:
 
 def digits_of(chance: random.Random) -> bytes:
     """Those of a payload: of a block or an ACK, of no payload, or with a sign that is none among them."""
-    size, kind = chance.choice(SIZES), chance.randrange(40)
+    size, kind = LONG if chance.random() < 0.02 else chance.choice(SIZES), chance.randrange(40)
     if kind == 0:
         return b"-"
     packet = (b"\0\4\0\1" if size == 4 else b"\0\3" + chance.randrange(1, 4).to_bytes(2, "big")) + chance.randbytes(size - 4)
@@ -95,7 +97,7 @@ def main() -> int:
             wanted = answers.of(command)
             printed, told, status = program.run(command, text)
             trial.check(f"{command} of text {case}", (printed, status) == wanted and not told, (text, printed, status, wanted))
-            if case % 10 == 0:
+            if case % 3 == 0 and len(text) <= PIPE:
                 printed, told, status = program.run_in_pieces(command, pieces_of(chance, text))
                 trial.check(f"{command} of text {case} in pieces", (printed, status) == wanted and not told, (text, printed, status, wanted))
     program.close()

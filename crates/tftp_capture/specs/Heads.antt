@@ -1,6 +1,7 @@
 -- What a datagram's line says before its digits.
-use Rattle.std.specs.Prelude.{◌≡◌, ℕ, ◌≤◌, List, [], ◌∷◌, ◌++◌, length, take, decimal}
+use Rattle.std.specs.Prelude.{◌≡◌, ℕ, ◌+◌, ◌*◌, ◌≤◌, List, [], ◌∷◌, ◌++◌, length, take, drop, decimal, Ok}
 use Rattle.std.specs.List.{join_with_byte}
+use Rattle.hex.specs.Hex.{decode_of}
 use Rattle.tftp_hosts.specs.{IsHost, no_host, Dir}
 use Rattle.tftp_capture.specs.CaptureText.{Datagram, IsPort, SaysDatagram, dir_word}
 use Rattle.tftp_capture.specs.declared.heads.Head.TheInside.{Inside}
@@ -53,6 +54,30 @@ pub record Holds (h : Inside) : Type 0 where
   pub head : IsHead (head_held h)
 
 -- ---- the next line
+
+-- the bytes begin with a head and at most so many behind it, and the line that it was of had two digits for each byte of a
+-- payload that a datagram can carry
+pub record BeginsWithHead (h : HeadState) (bytes : List ℕ) (most : ℕ) : Type 0 where
+  pub begins : take (length h.bytes) bytes ≡ h.bytes
+  pub upto : length bytes ≤ h.line
+  pub narrow : h.line ≤ most
+  pub count : ℕ
+  pub pairs : h.line ≡ length h.bytes + 2 * count
+  pub some : 1 ≤ count
+  pub fits : count ≤ 65527
+
+-- of what is held behind a head so many bytes of a payload are decoded
+pub record IsDecoded (h : HeadState) (held payload : List ℕ) (count : ℕ) : Type 0 where
+  pub begins : take (length h.bytes) held ≡ h.bytes
+  pub decoded : decode_of (take (2 * count) (drop (length h.bytes) held)) ≡ Ok (take count payload)
+  pub upto : count ≤ length payload
+  pub within : length h.bytes + 2 * count ≤ length held
+
+-- the line is a head and digits that spell the payload
+pub record SpellsBehind (head line payload : List ℕ) : Type 0 where
+  pub digits : List ℕ
+  pub are : line ≡ head ++ digits
+  pub decoded : decode_of digits ≡ Ok payload
 
 -- the bytes begin with a head and this rest of a line of so many bytes, and an LF
 pub record GoesOnAfter (head : List ℕ) (size : ℕ) (rest bytes : List ℕ) : Type 0 where

@@ -1,6 +1,7 @@
 -- Where the lines of a reader end, in its bytes.
 use Rattle.std.specs.Prelude.{◌≡◌, ◌≢◌, ℕ, ◌+◌, ◌-◌, ◌^◌, ◌<◌, ◌≤◌, Bool, true, false, List, [], ◌∷◌, ◌++◌, length, take, All, Option, Result, Ok, Err, OnOk, OnErr}
 use Rattle.std.specs.Io.KnownBytes.{Consumes}
+use Rattle.tftp_streams.specs.{most_ahead}
 use Rattle.tftp_capture.specs.CaptureText.{longest_line, says_nothing, whole_lines}
 use Rattle.tftp_capture.specs.declared.fault.TextFault.TheVariants.{LineTooLong, Truncated, TrailingText, TextTooLong}
 use Rattle.tftp_capture.specs.declared.fault.CaptureFault.{CaptureFault}
@@ -32,6 +33,12 @@ pub record IsPartOfLine (bytes : List ℕ) (longest room : ℕ) : Type 0 where
   pub no_end : HasNoEnd bytes
   pub narrow : length bytes ≤ longest
   pub short : length bytes ≤ room
+
+-- so many of the bytes that are held are part of such a line, and no more bytes than are read at once come behind them
+pub record HoldsPart (bytes : List ℕ) (seen longest room : ℕ) : Type 0 where
+  pub within : seen ≤ length bytes
+  pub near : length bytes ≤ seen + most_ahead
+  pub part : IsPartOfLine (take seen bytes) longest room
 
 -- What the bytes are that were taken to find the end of a line of at most `longest` bytes, where the text may have `room`
 -- more: the line and its LF; or, where there is no line, what came up to the byte that can't stand there, or up to the text's end.
@@ -121,6 +128,11 @@ pub record ReachesLine {T : Type 0} (result : Result T LineError) (old new : Lin
   pub count : OnOk result (new.count ≡ old.count + length skipped + 1)
   pub count_before : OnErr result (new.count ≡ old.count + length skipped)
   pub version : new.version ≡ old.version
+
+-- whether there was such a line, whatever else is said of it
+abbrev pub reading_of : {T : Type 0} → Result T LineError → Result (Unit {0}) LineError
+reading_of (Ok _) = Ok tt
+reading_of (Err error) = Err error
 
 -- what the bytes are in which the end of the text was looked for
 abbrev pub TextEnds : {T : Type 0} → Result T LineError → ℕ → List ℕ → Type 0

@@ -17,7 +17,7 @@ use tftp_hosts::{Dir, Host};
 use tftp_packet::End;
 
 /// The most bytes of a payload: the 65,535 that a UDP length counts, less the header's 8 (RFC 768).
-const LONGEST_PAYLOAD: usize = 65_527;
+pub const LONGEST_PAYLOAD: usize = 65_527;
 
 /// The most digits of a port.
 const MOST_DIGITS: usize = 5;

@@ -1,21 +1,45 @@
 //! What the lines of datagrams begin with: most often what the line before them that went the same way began with, and most
 //! often they are as long as that line.
 
-ghost use Rattle.std.specs.Prelude.{◌≡◌, ℕ, List, length, IfSome};
+ghost use Rattle.std.specs.Prelude.{◌≡◌, ◌+◌, ◌*◌, ◌≤◌, ℕ, List, length, take, true, false, IfOk, IfSome, OnErr, OnOk};
+ghost use Rattle.std.specs.Io.KnownBytes.{prepend_known, Keeps};
 ghost use Rattle.tftp_capture.specs.CaptureText.{SaysDatagram, SpellsPayload};
 ghost use Rattle.tftp_capture.specs.Fields.{datagram_of};
-ghost use Rattle.tftp_capture.specs.Heads.{BeginsWithDatagram, GoesOnAfter};
+ghost use Rattle.tftp_capture.specs.Heads.{BeginsWithDatagram, BeginsWithHead, GoesOnAfter, IsDecoded, SpellsBehind};
+ghost use Rattle.tftp_capture.specs.Lines.{HasNoEnd, HoldsPart, IsPartOfLine};
+ghost use Rattle.tftp_streams.specs.{most_ahead, most_of_line};
 
 use crate::datagram::Datagram;
-use crate::fields::fill_payload;
+use crate::fields::{LONGEST_PAYLOAD, fill_payload};
 use crate::version::Version;
 use std::alloc::Global;
+use std::io::Read;
 use std::marker::Model;
-use std::mem;
+use std::{io, mem};
+use tftp_digits::decode_on;
 use tftp_hosts::{Dir, Host};
+use tftp_streams::{Latched, ReadBuffer};
 
 /// The most bytes of a head that is kept: `out`, a port of five digits, a host of 45 bytes, a port and four spaces.
 pub const LONGEST_HEAD: usize = 62;
+
+/// How far the next line is known.
+#[derive(Clone, Copy)]
+pub struct Reached {
+    /// Of so many bytes that are held, from the first on, none is an LF.
+    pub seen: usize,
+    /// Whether these are a line that is like the one before, where an LF follows.
+    pub whole: bool,
+}
+
+impl Reached {
+    /// Nothing is known but `seen` bytes without an LF.
+    fn upto(seen: usize) -> Self
+        ensures { result ≡ record { seen = seen; whole = false } }
+    {
+        Reached { seen, whole: false }
+    }
+}
 
 /// The bytes of a line before its digits, what they say, and how many bytes the line has.
 #[derive(Drop)]
@@ -83,6 +107,25 @@ impl Head {
         })
     }
 
+    /// The bytes of the head.
+    #[inline(always)]
+    fn text(&self) -> &[u8]
+        ensures { result.now ≡ self.now.bytes }
+    {
+        &self.bytes[..self.len]
+    }
+
+    /// Fills all of a datagram but its payload with what the head says.
+    #[inline(always)]
+    fn fill_rest(&self, datagram: &mut Datagram)
+        ensures { datagram_of datagram.new ≡ record { dir = self.now.dir; local = self.now.local; host = self.now.host; remote = self.now.remote; payload = datagram.old.payload } }
+    {
+        datagram.dir = self.dir;
+        datagram.local_port = self.local_port;
+        put_host(&self.remote_host, &mut datagram.remote_host);
+        datagram.remote_port = self.remote_port;
+    }
+
     /// What stands between the head and the LF, where the bytes begin with the head and an LF stands where the line would
     /// end, were it as long as the one before.
     fn rest<'a>(&self, ahead: &'a [u8]) -> Option<&'a [u8]>
@@ -105,11 +148,117 @@ impl Head {
     {
         let digits = self.rest(ahead)?;
         let filled = fill_payload(digits, datagram.payload.as_mut_vec()).is_ok();
-        datagram.dir = self.dir;
-        datagram.local_port = self.local_port;
-        put_host(&self.remote_host, &mut datagram.remote_host);
-        datagram.remote_port = self.remote_port;
+        self.fill_rest(datagram);
         if filled { Some(self.line) } else { None }
+    }
+
+    /// Whether what is held may be the beginning of a line of at most `most` bytes that is as long as the one before: the
+    /// head, and digits in pairs.
+    fn begins(&self, held: &[u8], most: usize) -> bool
+        ensures { result ≡ true → BeginsWithHead self.now held.now most }
+    {
+        let (line, len) = (self.line, self.len);
+        if held.len() < len || line < held.len() || most < line {
+            return false;
+        }
+        let digits = line - len;
+        if digits % 2 == 1 || digits == 0 || digits > 2 * LONGEST_PAYLOAD {
+            return false;
+        }
+        held[..len] == self.bytes[..len]
+    }
+
+    /// Goes on with the digits of what is held of a line as long as the one before, where those of `done` bytes are decoded.
+    /// Answers of how many bytes they are then; none where a sign that has come is no digit, but for one whose pair has not
+    /// come yet: that is no LF.
+    fn decode_held(&self, held: &[u8], payload: &mut [u8], done: usize) -> Option<usize>
+        requires decoded { IsDecoded self.now held.now payload.old done }
+        requires pairs { self.now.line ≡ length self.now.bytes + 2 * length payload.old }
+        ensures decoded { IfSome result (IsDecoded self.now held.now payload.new) }
+        ensures no_end { IfSome result (λ _. HasNoEnd (take self.now.line held.now)) }
+        ensures whole { IfSome result (λ count. self.now.line ≤ length held.now → count ≡ length payload.new) }
+        ensures len { length payload.new ≡ length payload.old }
+    {
+        let digits = &held[self.text().len()..held.len().min(self.line)];
+        if digits.len() % 2 == 1 && digits[digits.len() - 1] == b'\n' {
+            return None;
+        }
+        decode_on(digits, payload, done)
+    }
+
+    /// Reads on until a line as long as the one before is held, and decodes its digits as they come; no further than they are
+    /// digits.
+    fn read_digits<R: Read>(
+        &self,
+        ahead: &mut ReadBuffer,
+        reader: &mut Latched<R>,
+        payload: &mut [u8],
+    ) -> io::Result<Reached>
+        requires near { length ahead.old.bytes ≤ most_ahead }
+        requires begins { take (length self.now.bytes) ahead.old.bytes ≡ self.now.bytes }
+        requires narrow { self.now.line ≤ most_of_line }
+        requires pairs { self.now.line ≡ length self.now.bytes + 2 * length payload.old }
+        ensures part { IfOk result (λ reached. HoldsPart ahead.new.bytes reached.seen self.now.line self.now.line) }
+        ensures cut { OnErr result (IsPartOfLine ahead.new.bytes self.now.line self.now.line) }
+        ensures whole { IfOk result (λ reached. reached.whole ≡ true → SpellsBehind self.now.bytes (take reached.seen ahead.new.bytes) payload.new) }
+        ensures len { length payload.new ≡ length payload.old }
+        ensures kept { Keeps (prepend_known ahead.old.bytes (R.remaining reader.old.0)) (prepend_known ahead.new.bytes (R.remaining reader.new.0)) }
+        ensures ok { OnOk result (reader.new.1 ≡ reader.old.1) }
+        ensures err { OnErr result (reader.new.1 ≡ true) }
+    {
+        let line = self.line;
+        let mut seen = 0;
+        let mut done = 0;
+        'reads: loop {
+            let held = ahead.as_slice();
+            let all = held.len();
+            let Some(count) = self.decode_held(held, payload, done) else {
+                return Ok(Reached::upto(seen));
+            };
+            if all > line {
+                return Ok(Reached {
+                    seen: line,
+                    whole: true,
+                });
+            }
+            ahead.read_on(reader)?;
+            if ahead.as_slice().len() == all {
+                return Ok(Reached::upto(all));
+            }
+            seen = all;
+            done = count;
+        }
+    }
+
+    /// Fills a datagram with what the next line says, where it is like the one before, reading on while what is held is a part
+    /// of it. Else nothing is said of the datagram.
+    fn fill_on<R: Read>(
+        &self,
+        ahead: &mut ReadBuffer,
+        reader: &mut Latched<R>,
+        most: usize,
+        datagram: &mut Datagram,
+    ) -> io::Result<Reached>
+        requires near { length ahead.old.bytes ≤ most_ahead }
+        requires narrow { most ≤ most_of_line }
+        ensures part { IfOk result (λ reached. HoldsPart ahead.new.bytes reached.seen most most) }
+        ensures cut { OnErr result (IsPartOfLine ahead.new.bytes most most) }
+        ensures says { IfOk result (λ reached. reached.whole ≡ true → SaysDatagram self.now.version (take reached.seen ahead.new.bytes) (datagram_of datagram.new)) }
+        ensures kept { Keeps (prepend_known ahead.old.bytes (R.remaining reader.old.0)) (prepend_known ahead.new.bytes (R.remaining reader.new.0)) }
+        ensures ok { OnOk result (reader.new.1 ≡ reader.old.1) }
+        ensures err { OnErr result (reader.new.1 ≡ true) }
+    {
+        if !self.begins(ahead.as_slice(), most) {
+            return Ok(Reached::upto(0));
+        }
+        let digits = self.line - self.text().len();
+        let payload = datagram.payload.as_mut_vec();
+        let Ok(()) = payload.resize(digits / 2, 0) else {
+            return Ok(Reached::upto(0));
+        };
+        let reached = self.read_digits(ahead, reader, payload.as_mut_slice())?;
+        self.fill_rest(datagram);
+        Ok(reached)
     }
 }
 
@@ -184,6 +333,33 @@ impl Heads {
         }
         let way = if comes { &self.came } else { &self.went };
         way.fill(version, ahead, datagram)
+    }
+
+    /// Reads on while what is held is a part of a line of at most `most` bytes that is like one before it, and fills the datagram
+    /// with what that says. Else nothing is said of the datagram, and nothing is read.
+    pub fn reach<R: Read>(
+        &self,
+        version: Version,
+        ahead: &mut ReadBuffer,
+        reader: &mut Latched<R>,
+        most: usize,
+        datagram: &mut Datagram,
+    ) -> io::Result<Reached>
+        requires near { length ahead.old.bytes ≤ most_ahead }
+        requires narrow { most ≤ most_of_line }
+        ensures part { IfOk result (λ reached. HoldsPart ahead.new.bytes reached.seen most most) }
+        ensures cut { OnErr result (IsPartOfLine ahead.new.bytes most most) }
+        ensures says { IfOk result (λ reached. reached.whole ≡ true → SaysDatagram version (take reached.seen ahead.new.bytes) (datagram_of datagram.new)) }
+        ensures kept { Keeps (prepend_known ahead.old.bytes (R.remaining reader.old.0)) (prepend_known ahead.new.bytes (R.remaining reader.new.0)) }
+        ensures ok { OnOk result (reader.new.1 ≡ reader.old.1) }
+        ensures err { OnErr result (reader.new.1 ≡ true) }
+    {
+        let comes = matches!(ahead.as_slice(), [b'i', ..]);
+        let way = if comes { &self.came } else { &self.went };
+        match &way.head {
+            Some(head) if head.version == version => head.fill_on(ahead, reader, most, datagram),
+            _ => Ok(Reached::upto(0)),
+        }
     }
 
     /// Notes a line that says this datagram.

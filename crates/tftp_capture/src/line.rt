@@ -1,6 +1,6 @@
-ghost use Rattle.std.specs.Prelude.{◌≡◌, ◌≢◌, ◌+◌, ◌<◌, ◌≤◌, ℕ, List, [], All, true, length, take, drop, slice_index, OnOk, OnErr};
+ghost use Rattle.std.specs.Prelude.{◌≡◌, ◌≢◌, ◌+◌, ◌<◌, ◌≤◌, ◌++◌, ℕ, List, [], All, true, length, take, drop, slice_index, OnOk, OnErr};
 ghost use Rattle.std.specs.Io.KnownBytes.{prepend_known, Consumes, IsAtEnd};
-ghost use Rattle.tftp_capture.specs.Lines.{bytes_lying, line_at, LineEnds};
+ghost use Rattle.tftp_capture.specs.Lines.{bytes_lying, line_at, HoldsPart, LineEnds};
 ghost use Rattle.tftp_streams.specs.{most_ahead, most_of_line};
 
 use crate::fault::TextFault;
@@ -22,18 +22,21 @@ pub fn count_before(bytes: &[u8], value: u8) -> usize
     }
 }
 
-/// Reads on until a line of at most `longest` bytes is held, at the beginning; the text may have `room` more bytes. The
-/// answer is how many bytes it has with its LF. After a fault nothing is held.
+/// Reads on until a line of at most `longest` bytes is held, at the beginning; the text may have `room` more bytes. Of the
+/// first `seen` bytes it is known that none is an LF. The answer is how many bytes the line has with its LF. After a fault
+/// nothing is held.
 pub fn read_line<R: Read>(
     ahead: &mut ReadBuffer,
     reader: &mut Latched<R>,
     longest: usize,
     room: u64,
+    mut seen: usize,
 ) -> Result<usize, LineError>
     requires narrow { longest ≤ most_of_line }
-    requires near { length ahead.old.bytes ≤ most_ahead }
+    requires part { HoldsPart ahead.old.bytes seen longest room }
     ensures ends { (bytes : List ℕ) × Consumes (prepend_known ahead.old.bytes (R.remaining reader.old.0)) (prepend_known (drop (bytes_lying result) ahead.new.bytes) (R.remaining reader.new.0)) bytes
         × LineEnds result (line_at (bytes_lying result) ahead.new.bytes) longest room bytes }
+    ensures more { OnOk result ((more : List ℕ) × (ahead.new.bytes ≡ ahead.old.bytes ++ more)) }
     ensures lies { bytes_lying result ≤ length ahead.new.bytes }
     ensures some { OnOk result (1 ≤ bytes_lying result) }
     ensures fits { OnOk result (bytes_lying result ≤ room) }
@@ -45,7 +48,6 @@ pub fn read_line<R: Read>(
     ensures read { result ≡ Err LineError.Read → reader.new.1 ≡ true }
     ensures tally { result ≢ Err LineError.Read → reader.new.1 ≡ reader.old.1 }
 {
-    let mut seen = 0;
     'reads: loop {
         let held = ahead.as_slice();
         let all = held.len();

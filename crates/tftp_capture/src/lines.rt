@@ -1,10 +1,13 @@
 ghost use Rattle.std.specs.Prelude.{◌≡◌, ◌≢◌, ◌+◌, ◌-◌, ◌^◌, ◌≤◌, ◌⊎◌, ℕ, List, [], length, take, true, false, Ok, IfOk, OnOk, OnErr, Option};
 ghost use Rattle.std.specs.Io.KnownBytes.{prepend_known, Consumes, IsAtEnd};
-ghost use Rattle.tftp_capture.specs.Lines.{unread, BeginsWithLine, HoldsLine, HoldsNoLine, LineEnds, ReachesLine, TextEnds};
+ghost use Rattle.tftp_capture.specs.Lines.{reading_of, unread, BeginsWithLine, HoldsLine, HoldsNoLine, LineEnds, ReachesLine, TextEnds};
 ghost use Rattle.tftp_streams.specs.{most_ahead};
-ghost use Rattle.tftp_capture.specs.CaptureText.{longest_line, says_nothing};
+ghost use Rattle.tftp_capture.specs.CaptureText.{longest_line, says_nothing, SaysDatagram};
+ghost use Rattle.tftp_capture.specs.Fields.{datagram_of};
 
+use crate::datagram::Datagram;
 use crate::fault::TextFault;
+use crate::heads::Heads;
 use crate::line::{count_before, read_line};
 use crate::line_error::LineError;
 use crate::version::Version;
@@ -180,10 +183,75 @@ impl Lines {
         self.lies = 0;
         let longest = self.version.longest_line();
         let room = LONGEST_TEXT - self.taken;
-        self.lies = read_line(&mut self.ahead, reader, longest, room)?;
+        self.lies = read_line(&mut self.ahead, reader, longest, room, 0)?;
         self.taken += self.lies as u64;
         self.count += 1;
         Ok(())
+    }
+
+    /// Reads the next line, as `next` does. Where it is like one before it the datagram is filled with what it says, as it
+    /// comes, and the answer is true; else nothing is said of the datagram.
+    fn next_like<R: Read>(
+        &mut self,
+        reader: &mut Latched<R>,
+        heads: &Heads,
+        datagram: &mut Datagram,
+    ) -> Result<bool, LineError>
+        ensures ends { (bytes : List ℕ) × Consumes (prepend_known self.old.ahead (R.remaining reader.old.0)) (prepend_known self.new.ahead (R.remaining reader.new.0)) bytes
+            × LineEnds result self.new.line (longest_line self.old.version) (2 ^ 40 - self.old.taken) bytes }
+        ensures says { result ≡ Ok true → SaysDatagram self.new.version self.new.line (datagram_of datagram.new) }
+        ensures taken { OnOk result (self.new.taken ≡ self.old.taken + length self.new.line + 1) }
+        ensures count { OnOk result (self.new.count ≡ self.old.count + 1) }
+        ensures same { OnErr result ((self.new.taken ≡ self.old.taken) × (self.new.count ≡ self.old.count)) }
+        ensures version { self.new.version ≡ self.old.version }
+        ensures short { self.new.taken ≤ 2 ^ 40 }
+        ensures short_before { self.old.taken ≤ 2 ^ 40 }
+        ensures end { result ≡ Err (LineError.Text TextFault.Truncated) → IsAtEnd (prepend_known self.new.ahead (R.remaining reader.new.0)) }
+        ensures read { result ≡ Err LineError.Read → reader.new.1 ≡ true }
+        ensures drained { result ≡ Err LineError.Read → self.new.ahead ≡ [] }
+        ensures few { self.new.count ≤ 2 ^ 40 }
+        ensures near { length self.new.ahead ≤ most_ahead }
+        ensures tally { result ≢ Err LineError.Read → reader.new.1 ≡ reader.old.1 }
+    {
+        self.ahead.consume(self.lies);
+        self.lies = 0;
+        let longest = self.version.longest_line();
+        let room = LONGEST_TEXT - self.taken;
+        let most = room.min(longest as u64) as usize;
+        let Ok(reached) = heads.reach(self.version, &mut self.ahead, reader, most, datagram) else {
+            let held = self.ahead.as_slice().len();
+            self.ahead.consume(held);
+            return Err(LineError::Read);
+        };
+        self.lies = read_line(&mut self.ahead, reader, longest, room, reached.seen)?;
+        self.taken += self.lies as u64;
+        self.count += 1;
+        Ok(reached.whole && self.lies == reached.seen + 1)
+    }
+
+    /// Reads on to the next line that says something, as `next_said` does. Where it is like one before it the datagram is
+    /// filled with what it says, and the answer is true; else nothing is said of the datagram.
+    pub fn next_said_like<R: Read>(
+        &mut self,
+        reader: &mut Latched<R>,
+        heads: &Heads,
+        datagram: &mut Datagram,
+    ) -> Result<bool, LineError>
+        ensures reaches { ReachesLine (reading_of result) self.old self.new (prepend_known self.old.ahead (R.remaining reader.old.0)) (prepend_known self.new.ahead (R.remaining reader.new.0)) }
+        ensures says { result ≡ Ok true → SaysDatagram self.new.version self.new.line (datagram_of datagram.new) }
+        ensures end { result ≡ Err (LineError.Text TextFault.Truncated) → IsAtEnd (prepend_known self.new.ahead (R.remaining reader.new.0)) }
+        ensures read { result ≡ Err LineError.Read → reader.new.1 ≡ true }
+        ensures drained { result ≡ Err LineError.Read → self.new.ahead ≡ [] }
+        ensures few { self.new.count ≤ 2 ^ 40 }
+        ensures near { length self.new.ahead ≤ most_ahead }
+        ensures tally { result ≢ Err LineError.Read → reader.new.1 ≡ reader.old.1 }
+    {
+        'lines: loop {
+            let like = self.next_like(reader, heads, datagram)?;
+            if !is_skipped(self.line()) {
+                return Ok(like);
+            }
+        }
     }
 
     /// Reads on to the next line that says something.

@@ -215,9 +215,13 @@ fn read_on<R: Read>(
     if take_like(lines, heads, datagram) {
         return Ok(true);
     }
-    if let Err(error) = lines.next_said(reader) {
-        let due = lines.count() + 1;
-        return Err(error.at(due));
+    match lines.next_said_like(reader, heads, datagram) {
+        Ok(true) => return Ok(true),
+        Ok(false) => {}
+        Err(error) => {
+            let due = lines.count() + 1;
+            return Err(error.at(due));
+        }
     }
     let line = lines.count();
     match body_line(lines.version(), lines.line(), count, datagram) {

@@ -1,7 +1,7 @@
 //! Datagrams that are read into one that is held, whose memory is used again.
 
 use crate::reading::Reading;
-use crate::texts::changed;
+use crate::texts::{BLOCKS, changed};
 use std::test::Fail;
 use tftp_capture::{CaptureFault, Datagram, TextFault};
 use tftp_hosts::Dir;
@@ -93,11 +93,16 @@ fn fills_for_good(
     Ok(())
 }
 
-/// Fails unless the changed text has those datagrams, and that is answered after them.
-fn holds(rt: &HostRuntime, (number, line, datagrams, end): &Row) -> Result<(), Fail> {
-    let text = changed(rt, READ, *number, *line)?;
-    let Ok(mut reading) = Reading::begin(rt.alloc(), DripReader::new(text.as_slice(), 7, 0, None))
-    else {
+/// Fails unless the changed text, which comes in pieces of this size, has those datagrams, and that is answered after them.
+fn holds(
+    rt: &HostRuntime,
+    whole: &str,
+    piece: usize,
+    (number, line, datagrams, end): &Row,
+) -> Result<(), Fail> {
+    let text = changed(rt, whole, *number, *line)?;
+    let drip = DripReader::new(text.as_slice(), piece, 0, None);
+    let Ok(mut reading) = Reading::begin(rt.alloc(), drip) else {
         return Err(Fail::new("begin"));
     };
     let mut held = Datagram::empty(rt.alloc());
@@ -108,7 +113,108 @@ fn holds(rt: &HostRuntime, (number, line, datagrams, end): &Row) -> Result<(), F
 #[test]
 fn a_held_datagram_is_filled_anew(rt: HostRuntime) -> Result<(), Fail> {
     for row in ROWS {
-        holds(&rt, row)?;
+        holds(&rt, READ, 7, row)?;
+    }
+    Ok(())
+}
+
+/// The first two of `BLOCKS`.
+const FIRST: Held = (Dir::In, 40_000, 41_000, b"\0\x03\0\x01abcd");
+
+const SECOND: Held = (Dir::In, 40_000, 41_000, b"\0\x03\0\x02jklm");
+
+/// The third line as it stands, as long as the second, and others that begin as that does.
+const THIRD: &[Row] = &[
+    (
+        6,
+        b"in 40000 41000 000300036e4F7071",
+        &[
+            FIRST,
+            SECOND,
+            (Dir::In, 40_000, 41_000, b"\0\x03\0\x03nOpq"),
+        ],
+        Ok(false),
+    ),
+    (
+        6,
+        b"in 40000 41000 000300036e6f",
+        &[FIRST, SECOND, (Dir::In, 40_000, 41_000, b"\0\x03\0\x03no")],
+        Ok(false),
+    ),
+    (
+        6,
+        b"in 40000 41000 000300036e6f70717273",
+        &[
+            FIRST,
+            SECOND,
+            (Dir::In, 40_000, 41_000, b"\0\x03\0\x03nopqrs"),
+        ],
+        Ok(false),
+    ),
+    (
+        6,
+        b"in 40000 41000 -",
+        &[FIRST, SECOND, (Dir::In, 40_000, 41_000, b"")],
+        Ok(false),
+    ),
+    (
+        6,
+        b"in 40000 41001 000300036e6f7071",
+        &[
+            FIRST,
+            SECOND,
+            (Dir::In, 40_000, 41_001, b"\0\x03\0\x03nopq"),
+        ],
+        Ok(false),
+    ),
+    (
+        6,
+        b"in 40000 41000 000300036e\n#f7071",
+        &[FIRST, SECOND, (Dir::In, 40_000, 41_000, b"\0\x03\0\x03n")],
+        Ok(false),
+    ),
+    (
+        6,
+        b"in 40000 41000 000300036\n#6f7071",
+        &[FIRST, SECOND],
+        Err(CaptureFault::Text(6, TextFault::BadHex)),
+    ),
+    (
+        6,
+        b"in 40000 41000 000300036e6f707",
+        &[FIRST, SECOND],
+        Err(CaptureFault::Text(6, TextFault::BadHex)),
+    ),
+    (
+        6,
+        b"in 40000 41000 000300036e6g7071",
+        &[FIRST, SECOND],
+        Err(CaptureFault::Text(6, TextFault::BadHex)),
+    ),
+    (
+        6,
+        b"in 40000 41000 000300036e 67071",
+        &[FIRST, SECOND],
+        Err(CaptureFault::Text(6, TextFault::BadLine)),
+    ),
+    (
+        7,
+        b"total 4",
+        &[
+            FIRST,
+            SECOND,
+            (Dir::In, 40_000, 41_000, b"\0\x03\0\x03efgh"),
+        ],
+        Err(CaptureFault::Text(7, TextFault::TotalWrong)),
+    ),
+];
+
+#[test]
+fn a_line_like_the_one_before_may_come_in_pieces(rt: HostRuntime) -> Result<(), Fail> {
+    for row in THIRD {
+        for piece in 1..40usize {
+            holds(&rt, BLOCKS, piece, row)?;
+        }
     }
     Ok(())
 }

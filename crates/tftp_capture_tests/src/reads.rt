@@ -3,7 +3,7 @@
 use crate::hosts::HOSTS;
 use crate::outcomes::{Outcome, gives, read_out};
 use crate::reading::Reading;
-use crate::texts::{Line, with_line};
+use crate::texts::{BLOCKS, Line, with_line};
 use std::test::Fail;
 use tftp_capture::{CaptureFault, Header, TextFault};
 use tftp_packet::End;
@@ -125,12 +125,18 @@ fn fails_after(rt: &HostRuntime, text: &[u8], taken: usize) -> Result<(), Fail> 
     }
 }
 
-#[test]
-fn each_read_fails_in_turn(rt: HostRuntime) -> Result<(), Fail> {
-    for taken in 0..=READ.len() {
-        fails_after(&rt, READ.as_bytes(), taken)?;
+/// Fails unless each read of a text fails in turn.
+fn each_fails(rt: &HostRuntime, text: &[u8]) -> Result<(), Fail> {
+    for taken in 0..=text.len() {
+        fails_after(rt, text, taken)?;
     }
     Ok(())
+}
+
+#[test]
+fn each_read_fails_in_turn(rt: HostRuntime) -> Result<(), Fail> {
+    each_fails(&rt, READ.as_bytes())?;
+    each_fails(&rt, BLOCKS.as_bytes())
 }
 
 /// Whether memory is wanting on one of so many lines.

@@ -6,6 +6,10 @@ use std::test::Fail;
 use tftp_capture::{CaptureFault, TextFault};
 use tftp_trials::texts::{NAMED, READ, long};
 
+/// Blocks that go the same way between the same ports, so that the third line may be known by the second.
+pub const BLOCKS: &str =
+    "tftp-capture 1\nend client\nservice 69\nin 40000 41000 0003000161626364\nin 40000 41000 000300026A6b6C6d\nin 40000 41000 0003000365666768\ntotal 3\n";
+
 /// Adds a text with its line `number`, counted from 1, changed.
 fn add_changed(
     text: &mut Vec<u8>,
@@ -56,5 +60,6 @@ fn texts_with_a_growth_refused(rt: HostRuntime) -> Result<(), Fail> {
     let fault = CaptureFault::Text(4, TextFault::BadHex);
     reads::gives_or_wants(&rt, READ.as_bytes(), Ok((3, 15)), 7)?;
     reads::gives_or_wants(&rt, NAMED.as_bytes(), Ok((3, 15)), 7)?;
+    reads::gives_or_wants(&rt, BLOCKS.as_bytes(), Ok((3, 15)), 7)?;
     reads::gives_or_wants(&rt, bad, Err(fault), 4)
 }

@@ -17,6 +17,7 @@ use tftp_judge::laws::text_has_one_verdict;
 
 /// On what was read, and on whether a read failed, `check` has at most one right output, bytes and status, that does not
 /// come of want of memory.
+#[tactic(auto, using(crate::proofs::OneOutput::one_checked))]
 pub fn check_has_one_output()
     ensures { (source : Source) (one other : Output) (first : IsChecked source one) (second : IsChecked source other) → SaysNoMemory first.said → SaysNoMemory second.said
         → one ≡ other }
@@ -25,6 +26,7 @@ pub fn check_has_one_output()
 }
 
 /// `extract` has at most one right output on its source that does not come of want of memory.
+#[tactic(auto, using(crate::proofs::OneOutput::one_extracted))]
 pub fn extract_has_one_output()
     ensures { (source : Source) (one other : Output) (first : IsExtracted source one) (second : IsExtracted source other) → SaysNoMemory first.said → SaysNoMemory second.said
         → one ≡ other }
@@ -33,6 +35,7 @@ pub fn extract_has_one_output()
 }
 
 /// `normal` has at most one right output on its source that does not come of want of memory.
+#[tactic(auto, using(crate::proofs::OneOutput::one_normalised))]
 pub fn normal_has_one_output()
     ensures { (source : Source) (one other : Output) (first : IsNormalised source one) (second : IsNormalised source other) → SaysNoMemory first.said → SaysNoMemory second.said
         → one ≡ other }
@@ -41,6 +44,7 @@ pub fn normal_has_one_output()
 }
 
 /// `count` has at most one right output on its source that does not come of want of memory.
+#[tactic(auto, using(crate::proofs::OneOutput::one_counted))]
 pub fn count_has_one_output()
     ensures { (source : Source) (one other : Output) (first : IsCounted source one) (second : IsCounted source other) → SaysNoMemory first.said → SaysNoMemory second.said
         → one ≡ other }
@@ -57,6 +61,7 @@ pub fn show_has_one_output()
 
 /// Whatever the words, `run` has at most one right output on its source, where no write failed, but for that of want of
 /// memory: two that are right are the same, or one of them is that.
+#[tactic(auto, using(crate::proofs::OneRun::one_output))]
 pub fn run_has_one_output()
     ensures { (words : List (List ℕ)) (source : Source) (one other : Output) → IsOutput words source false one → IsOutput words source false other
         → (one ≡ other) ⊎ TellsOfMemory words one ⊎ TellsOfMemory words other }
@@ -66,6 +71,7 @@ pub fn run_has_one_output()
 
 /// An output is written in one way, where no write failed: what a writer then holds that tells its bytes, and the status,
 /// are one.
+#[tactic(auto, using(crate::proofs::Written::written_once))]
 pub fn output_is_written_in_one_way()
     ensures { (held : List ℕ) (new other : Option (List ℕ)) (output : Output) (status also : Status) → IsWritten (Some held) new false output status
         → IsWritten (Some held) other false output also → (new ≡ other) × (status ≡ also) }

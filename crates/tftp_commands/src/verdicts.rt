@@ -99,6 +99,7 @@ fn detail_of(rule: Rule) -> (&'static [u8], &'static [u8])
     }
 }
 
+#[tactic(auto, using(crate::proofs::AbortedLine::aborted_pieces))]
 fn put_aborted<W: Write>(
     writer: &mut LineWriter<W>,
     by: AbortedBy,

@@ -2,7 +2,7 @@
 use Rattle.std.proofs.Common.{◌≡◌, ℕ, ◌+◌, ◌*◌, ◌%◌, ◌≤◌, List, [], ◌∷◌, ◌++◌, length, take, drop, Option, Some, None, Result, Ok, Err, refl, sym, ap, subst, ◌∙◌, arith, append-nil, take-append-drop, length-append, length-drop, IsErr}
 use Rattle.std.specs.Result.{result_unwrap_or}
 use Rattle.std.proofs.Math.Seq.{take-add}
-use Rattle.std.proofs.lemmas.List.{drop_all, length-take-le, take-append-le, take_all}
+use Rattle.std.proofs.lemmas.List.{drop-take, drop_all, length-take-le, take-append-le, take_all}
 use Rattle.std.proofs.lemmas.Slice.{take-put_mid}
 use Rattle.hex.specs.Hex.{decode_of, decode_pairs, digit_or_error, pair_value, value_at, hex_digit_value, ◌>>=◌}
 use Rattle.hex.specs.declared.error.FromHexError.{FromHexError}
@@ -91,7 +91,7 @@ last_decoded digits xs out more n k even within room is first second =
     ∙ decoded_both (take (2 * n) digits) (drop (2 * n) digits) out more (omega (arith, front)) (omega (arith, length-drop (2 * n) digits)) first second
     ∙ ap (λ l. Ok (l ++ more)) (sym is) ∙ ap Ok (sym (put_last n k xs more room))
 
-pub more_decoded : (digits xs more : List ℕ) (done n k : ℕ) → length digits ≡ 2 * length xs → done + n ≤ length xs → length more ≡ n
+pub more_decoded : (digits xs more : List ℕ) (done n k : ℕ) → 2 * (done + n) ≤ length digits → done + n ≤ length xs → length more ≡ n
     → decode_of (take (2 * done) digits) ≡ Ok (take done xs) → decode_of (take (2 * n) (drop (2 * done) digits)) ≡ Ok more
     → decode_of (take (2 * (done + n)) digits) ≡ Ok (take (done + n) (put_mid done k xs more))
 more_decoded digits xs more done n k len room long before now =
@@ -116,6 +116,14 @@ pub refused_piece : (digits : List ℕ) (done n : ℕ) → length digits % 2 ≡
 refused_piece digits done n even within h =
     let rest = length-drop (2 * done) digits in
     refused_rest digits done even (omega (arith, within)) (refused_front (drop (2 * done) digits) n (omega (arith, rest, within)) (omega (arith, rest, within)) h)
+
+-- of digits up to a place, those behind another
+pub refused_more : (digits : List ℕ) (done n : ℕ) → 2 * (done + n) ≤ length digits → IsErr (decode_of (take (2 * n) (drop (2 * done) digits))) → IsErr (decode_of (take (2 * (done + n)) digits))
+refused_more digits done n within h =
+    let front = length-take-le (2 * (done + n)) digits within in
+    let twice : 2 * (done + n) ≡ 2 * done + 2 * n = omega arith in
+    let same : drop (2 * done) (take (2 * (done + n)) digits) ≡ take (2 * n) (drop (2 * done) digits) = ap (λ k. drop (2 * done) (take k digits)) twice ∙ drop-take (2 * done) (2 * n) digits in
+    refused_rest (take (2 * (done + n)) digits) done (omega (arith, front)) (omega (arith, front)) (subst (λ l. IsErr (decode_of l)) (sym same) h)
 
 pub none_decoded : decode_of [] ≡ Ok []
 unfolding decode_pairs

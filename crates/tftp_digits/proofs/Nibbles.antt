@@ -11,7 +11,7 @@ use mathlib.Core.Bool.{cond}
 
 -- what the arithmetic answers
 abbrev pub nibble_of : ℕ → ℕ
-nibble_of byte = min (((byte + 198) % 256 - 6 + 16) % 256) (min ((bit_and byte 223 + 191) % 256 + 10) 255)
+nibble_of byte = min (((byte + 198) % 256 - 6 + 16) % 256) ((bit_and ((byte + 191) % 256) 223 + 10) % 256)
 
 -- the test of one byte, which computes
 abbrev fits : Option ℕ → ℕ → Bool
@@ -57,14 +57,11 @@ where_below lower upper xs ys = sel_l (map (top 7) (zip2 (λ a b. cond (ltb a b)
 abbrev down_to_zero : List ℕ → List ℕ → List ℕ
 down_to_zero xs ys = minus (where_below xs ys ys xs) ys
 
-abbrev up_to_all : List ℕ → List ℕ → List ℕ
-up_to_all xs ys = plus xs (where_below ys (map (λ a. 255 - a) xs) ys (map (λ a. 255 - a) xs))
-
 -- what the arithmetic answers in n lanes
 abbrev pub nibbles_of : ℕ → List ℕ → List ℕ
 nibbles_of n xs =
     let digit = minus (down_to_zero (plus xs (replicate n 198)) (replicate n 6)) (replicate n 240) in
-    let letter = up_to_all (minus (zip2 bit_and xs (replicate n 223)) (replicate n 65)) (replicate n 10) in
+    let letter = plus (zip2 bit_and (minus xs (replicate n 65)) (replicate n 223)) (replicate n 10) in
     where_below digit letter digit letter
 
 abbrev in_a_lane : ℕ → ℕ

@@ -5,5 +5,5 @@ mod reading;
 mod vectors;
 mod writing;
 
-pub use reading::decode;
+pub use reading::{decode, decode_on};
 pub use writing::encode;

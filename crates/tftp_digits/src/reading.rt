@@ -1,4 +1,4 @@
-ghost use Rattle.std.specs.Prelude.{◌≡◌, ◌≤◌, ◌*◌, ◌/◌, ◌⊎◌, false, true, length, Ok, Err, IsErr, IfErr, OnOk, MatchResult};
+ghost use Rattle.std.specs.Prelude.{◌≡◌, ◌≤◌, ◌*◌, ◌/◌, ◌⊎◌, false, true, length, take, None, Ok, Err, IsErr, IfErr, IfSome, OnOk, MatchResult};
 ghost use Rattle.std.specs.Vec.{vec_capacity};
 ghost use Rattle.hex.specs.Hex.{decode_of, decode_sized};
 ghost use Rattle.hex.specs.declared.error.FromHexError.TheVariants.{OutOfMemory};
@@ -19,7 +19,7 @@ fn nibble(byte: u8) -> u8
         .wrapping_add(0xff - b'9')
         .saturating_sub(6)
         .wrapping_sub(0xf0);
-    let letter = (byte & 0xdf).wrapping_sub(b'A').saturating_add(10);
+    let letter = (byte.wrapping_sub(b'A') & 0xdf).wrapping_add(10);
     digit.min(letter)
 }
 
@@ -78,7 +78,7 @@ fn decode_few(digits: &[u8], bytes: &mut [u8]) -> bool
 }
 
 /// The same of any number: by vectors of the loop over each as far as they go, and then of the few that are left.
-#[inline]
+#[inline(always)]
 fn decode_pairs(digits: &[u8], bytes: &mut [u8]) -> bool
     requires { length digits.now ≡ 2 * length bytes.old }
     ensures decoded { result ≡ true → decode_of digits.now ≡ Ok bytes.new }
@@ -92,7 +92,27 @@ fn decode_pairs(digits: &[u8], bytes: &mut [u8]) -> bool
         && decode_few(&digits[2 * many..], &mut bytes[many..])
 }
 
+/// Goes on with digits of which more have come: decodes the pairs behind those of the first `done` bytes, and answers how
+/// many bytes are decoded then. None where a sign is no digit; what was written is not specified then. A digit whose pair
+/// has not come yet waits.
+pub fn decode_on(digits: &[u8], bytes: &mut [u8], done: usize) -> Option<usize>
+    requires room { length digits.now / 2 ≤ length bytes.old }
+    requires within { 2 * done ≤ length digits.now }
+    requires done { decode_of (take (2 * done) digits.now) ≡ Ok (take done bytes.old) }
+    ensures decoded { IfSome result (λ count. (count ≡ length digits.now / 2) × (decode_of (take (2 * count) digits.now) ≡ Ok (take count bytes.new))) }
+    ensures refused { result ≡ None → IsErr (decode_of (take (2 * (length digits.now / 2)) digits.now)) }
+    ensures len { length bytes.new ≡ length bytes.old }
+{
+    let count = digits.len() / 2;
+    if decode_pairs(&digits[2 * done..2 * count], &mut bytes[done..count]) {
+        Some(count)
+    } else {
+        None
+    }
+}
+
 /// Decodes as `hex::decode_to_slice` does, which names what is wrong where no payload is spelled.
+#[inline(always)]
 fn decode_to_slice(digits: &[u8], bytes: &mut [u8]) -> Result<(), FromHexError>
     ensures value { MatchResult (decode_sized digits.now (length bytes.old))
         (λ decoded. (result ≡ Ok tt) × (bytes.new ≡ decoded))
@@ -106,7 +126,7 @@ fn decode_to_slice(digits: &[u8], bytes: &mut [u8]) -> Result<(), FromHexError>
 
 /// Decodes as `hex::decode` does, in the memory of a vector, which holds these bytes then and no others. After a fault
 /// what it holds is not specified.
-#[inline]
+#[inline(always)]
 pub fn decode(digits: &[u8], bytes: &mut Vec<u8>) -> Result<(), FromHexError>
     ensures ok { OnOk result (decode_of digits.now ≡ Ok bytes.new.items) }
     ensures room { length digits.now / 2 ≤ vec_capacity bytes.old → MatchResult (decode_of digits.now) (λ _. result ≡ Ok tt) (λ fault. result ≡ Err fault) }

@@ -13,7 +13,7 @@ fn nibbles<const N: usize>(digits: Simd<u8, N>) -> Simd<u8, N>
 {
     let digit = (digits + Simd::splat(0xff - b'9')).saturating_sub(Simd::splat(6))
         - Simd::splat(0xf0);
-    let letter = ((digits & Simd::splat(0xdf)) - Simd::splat(b'A')).saturating_add(Simd::splat(10));
+    let letter = ((digits - Simd::splat(b'A')) & Simd::splat(0xdf)) + Simd::splat(10);
     digit.simd_min(letter)
 }
 

@@ -13,12 +13,14 @@ ghost use Rattle.tftp_judge.specs.declared.refusal.Refusal.{Refusal};
 ghost use Rattle.tftp_judge.specs.declared.verdict.Verdict.{Verdict};
 
 /// What there is to say by the runs of two ends is what there is by the rules at one.
+#[tactic(auto, using(crate::proofs::ByRuns::verdict))]
 pub fn rules_give_the_verdict()
     ensures { (header : Header) (datagrams : List Datagram) (v : Result Meaning Refusal) → IsVerdict header datagrams v
         ↔ IsVerdictByRules header datagrams v }
 {}
 
 /// A list of datagrams has one verdict: two that are of the datagrams, and do not tell of want of memory, are the same.
+#[tactic(auto, using(crate::proofs::OneVerdict::one_verdict))]
 pub fn verdict_is_one()
     ensures { (header : Header) (datagrams : List Datagram) (v w : Result Meaning Refusal) → IsSaid v → IsSaid w
         → IsVerdict header datagrams v → IsVerdict header datagrams w → v ≡ w }
@@ -26,6 +28,7 @@ pub fn verdict_is_one()
 
 /// And a text has one verdict, whoever reads it: two that are of the text, and tell neither of a failed read nor of want
 /// of memory, are the same.
+#[tactic(auto, using(crate::proofs::OneTextVerdict::one_text_verdict))]
 pub fn text_has_one_verdict()
     ensures { (text : List ℕ) (v w : Result Meaning Verdict) → IsOfText v → IsOfText w → IsTextVerdict text v
         → IsTextVerdict text w → v ≡ w }

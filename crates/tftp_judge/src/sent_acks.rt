@@ -26,6 +26,7 @@ impl SentAcks {
     }
 
     /// Notes that the ACK of this block went out.
+    #[tactic(auto, using(crate::proofs::Flags::flag_noted))]
     #[inline]
     pub fn note(&mut self, block: u16)
         ensures { (j : ℕ) → flags_of self.new j ≡ (flags_of self.old j || (j == block)) }

@@ -21,18 +21,21 @@ pub fn agreed_options_have_no_fault()
 {}
 
 /// And options without a fault may be agreed.
+#[tactic(auto, using(crate::proofs::FirstBroken::Agreed::without_fault))]
 pub fn options_without_fault_may_be_agreed()
     ensures { (request : RequestParts) (oack : OptionMap) → ((fault : NegoFault) → Holds fault request oack → ⊥)
         → MayAgree request oack }
 {}
 
 /// A datagram has at most one first rule that it breaks, by the rule's number.
+#[tactic(auto, using(crate::proofs::FirstBroken::FirstBroken::one_first_broken))]
 pub fn first_broken_rule_is_one()
     ensures { (header : Header) (earlier : List Datagram) (d : Datagram) (r q : Rule) → FirstBroken header earlier d r
         → FirstBroken header earlier d q → number_of r ≡ number_of q }
 {}
 
 /// A datagram that is refused does not pass after those before it.
+#[tactic(auto, using(crate::proofs::FirstBroken::FirstBroken::refused_does_not_pass))]
 pub fn refused_does_not_pass()
     ensures { (header : Header) (earlier : List Datagram) (d : Datagram) (rule : Rule) → IsRefused header earlier d rule
         → OneEnded header (d ∷ earlier) → ⊥ }
@@ -54,6 +57,7 @@ pub fn meaning_is_one()
 {}
 
 /// A wire carries one file, which can be computed from it (RFC 1350, section 1).
+#[tactic(auto, using(crate::proofs::Whole::CarriedFile::carried_one))]
 pub fn wire_carries_one_file()
     ensures { (mode : Mode) (wire file : List ℕ) → ReadsAs mode wire file ↔ (file ≡ carried_file mode wire) }
 {}

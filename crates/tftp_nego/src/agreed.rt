@@ -109,6 +109,7 @@ ghost use Rattle.std.specs.Prelude.{◌≡◌};
 ghost use Rattle.tftp_packet.specs.{no_options};
 
 /// The agreement of a transfer without an OACK. Takes no memory.
+#[tactic(auto, using(crate::proofs::Numbers::empty_in_range))]
 pub fn nothing_agreed(alloc: Global) -> Agreed
     ensures { result ≡ no_options }
 {

@@ -7,11 +7,13 @@ ghost use Rattle.tftp_nego.specs.declared.fault.NegoFault.{NegoFault};
 ghost use Rattle.tftp_nego.specs.declared.rule.AgreementRule.{AgreementRule};
 
 /// An OACK has at most one first fault.
+#[tactic(auto, using(crate::proofs::FaultOrder::first_fault_unique))]
 pub fn first_fault_is_one()
     ensures { (request : RequestParts) (agreed : OptionMap) (f g : NegoFault) → FirstFault request agreed f → FirstFault request agreed g → f ≡ g }
 {}
 
 /// What may be agreed to, and is not empty, has none of the faults.
+#[tactic(auto, using(crate::proofs::Tested::no_fault))]
 pub fn agreed_has_no_fault()
     ensures { (request : RequestParts) (agreed : OptionMap) (f : NegoFault) → agreed ≢ no_options → MayAgree request agreed → FirstFault request agreed f → ⊥ }
 {}

@@ -13,6 +13,7 @@ use std::alloc::Global;
 use tftp_packet::{OptionsView, Request, own_options};
 
 /// What an OACK agrees to, where it may answer the request (RFC 2347). An error is the first of the faults.
+#[tactic(auto, using(crate::proofs::Numbers::map_in_range))]
 pub fn agree(alloc: Global, request: &Request, oack: &OptionsView<'_>) -> Result<Agreed, NegoFault>
     ensures ok { IfOk result (λ agreed. (agreed ≡ map_of oack.now) × (agreed ≢ no_options) × MayAgree request.now agreed) }
     ensures only { map_of oack.now ≢ no_options → MayAgree request.now (map_of oack.now) → IsOk result ⊎ (result ≡ Err NegoFault.Memory) }

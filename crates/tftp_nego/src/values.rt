@@ -87,6 +87,7 @@ pub fn fits_block_numbers(request: &Request, oack: &OptionsView<'_>) -> bool
 }
 
 /// The block size that an OACK gives, or 512 (RFC 2348).
+#[tactic(auto, using(crate::proofs::Numbers::block_size_some))]
 fn block_size(oack: &OptionsView<'_>) -> u64
     ensures size { result ≡ option_or 512 (map_of oack.now) (codes "blksize") }
     ensures some { 0 < result }

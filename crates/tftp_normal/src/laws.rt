@@ -10,6 +10,7 @@ ghost use Rattle.tftp_normal.specs.Normal.{normal_datagrams, normal_header, norm
 ghost use Rattle.tftp_normal.specs.Accepted.{IsAccepted};
 
 /// How many datagrams the normal capture has: what opens the transfer, the blocks, and an ACK for each window.
+#[tactic(auto, using(crate::proofs::Lengths::counted))]
 pub fn normal_capture_is_counted()
     ensures { (m : Meaning) → 1 ≤ windowsize_of m → length (normal_datagrams m) ≡ normal_count m }
 {}
@@ -27,6 +28,7 @@ pub fn normal_capture_shows_its_meaning()
 {}
 
 /// So two meanings have two normal captures.
+#[tactic(auto, using(crate::proofs::Shown::injective))]
 pub fn normal_capture_has_one_meaning()
     ensures { (m o : Meaning) → CanBeWritten m → CanBeWritten o → normal_datagrams m ≡ normal_datagrams o → m ≡ o }
 {}

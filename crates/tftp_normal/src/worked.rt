@@ -31,11 +31,13 @@ pub fn six_blocks_are_normal()
 {}
 
 /// A write in blocks of eight bytes, in lock step (RFC 1350, section 2): the OACK stands for ACK 0 (RFC 2347).
+#[tactic(auto, using(crate::proofs::Computed::lock_step_row))]
 pub fn write_in_lock_step_is_normal()
     ensures { normal_datagrams ten_bytes_written ≡ ten_bytes_written_datagrams }
 {}
 
 /// A read in netascii whose first block ends between the CR and the LF of a line's end (RFC 764).
+#[tactic(auto, using(crate::proofs::Computed::line_end_row))]
 pub fn line_end_between_blocks_is_normal()
     ensures { normal_datagrams line_end_cut ≡ line_end_cut_datagrams }
 {}

@@ -41,6 +41,7 @@ fn dir_from(author: End) -> Dir
 }
 
 /// Puts a datagram between the two ends' own ports.
+#[tactic(auto, using(crate::proofs::Putting::put_one))]
 fn put_from<W: Write>(
     author: End,
     payload: &[u8],
@@ -55,6 +56,7 @@ fn put_from<W: Write>(
 }
 
 /// Puts a DATA packet between the two ends' own ports, with its block where it lies.
+#[tactic(auto, using(crate::proofs::Putting::put_one))]
 fn put_data<W: Write>(
     author: End,
     head: &[u8],
@@ -177,6 +179,7 @@ fn put_opening<W: Write>(
 }
 
 /// Puts the request, which goes to the service port.
+#[tactic(auto, using(crate::proofs::Putting::put_one))]
 fn put_request<W: Write>(
     request: &[u8],
     capture: &mut CaptureWriter,

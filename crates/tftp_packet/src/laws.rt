@@ -11,16 +11,19 @@ ghost use Rattle.tftp_packet.specs.Faults.{FirstFault};
 ghost use Rattle.tftp_packet.specs.declared.fault.PacketFault.{PacketFault};
 
 /// A payload spells at most one message.
+#[tactic(auto, using(crate::proofs::Unique::one_message))]
 pub fn spells_one_message()
     ensures { (payload : List ℕ) (m n : Message) → Spells payload m → Spells payload n → m ≡ n }
 {}
 
 /// A payload has at most one first fault.
+#[tactic(auto, using(crate::proofs::FaultOrder::first_fault_unique))]
 pub fn first_fault_is_one()
     ensures { (payload : List ℕ) (f g : PacketFault) → FirstFault payload f → FirstFault payload g → f ≡ g }
 {}
 
 /// A payload that spells a message has none of the faults.
+#[tactic(auto, using(crate::proofs::NoFault::no_fault))]
 pub fn spelled_has_no_fault()
     ensures { (payload : List ℕ) (m : Message) (f : PacketFault) → Spells payload m → FirstFault payload f → ⊥ }
 {}
@@ -34,11 +37,13 @@ pub fn worked_spellings()
 {}
 
 /// What is written for a message that some payload spells, spells it too.
+#[tactic(auto, using(crate::proofs::CanonicalLaws::spells_again))]
 pub fn canonical_spells()
     ensures { (payload : List ℕ) (m : Message) → Spells payload m → Spells (canonical m) m }
 {}
 
 /// No spelling of a message is shorter than what is written for it.
+#[tactic(auto, using(crate::proofs::CanonicalLaws::shortest))]
 pub fn canonical_is_shortest()
     ensures { (payload : List ℕ) (m : Message) → Spells payload m → length (canonical m) ≤ length payload }
 {}

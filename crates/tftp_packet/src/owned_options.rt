@@ -80,6 +80,7 @@ impl Options {
     ghost use Rattle.tftp_packet.specs.Owned.{shown, shown_entries};
 
     /// No option. Takes no memory.
+    #[tactic(auto, using(crate::proofs::OwnedMaps::no_entries))]
     pub fn none(alloc: Global) -> Self
         ensures { result ≡ no_options }
     {
@@ -89,6 +90,7 @@ impl Options {
     }
 
     /// How many options there are.
+    #[tactic(auto, using(crate::proofs::OwnedMaps::shown_len))]
     pub fn len(&self) -> usize
         ensures { result ≡ map.len self.now }
     {
@@ -96,6 +98,7 @@ impl Options {
     }
 
     /// Whether there is no option.
+    #[tactic(auto, using(crate::proofs::OwnedMaps::shown_len))]
     pub fn is_empty(&self) -> bool
         ensures { IsTrue result ↔ (map.len self.now ≡ 0) }
     {
@@ -110,6 +113,7 @@ impl Options {
     }
 
     /// The options in the order of their names.
+    #[tactic(auto, using(crate::proofs::OwnedMaps::shown_all))]
     pub(crate) fn entries(&self) -> &[Entry]
         ensures { shown_entries result.now ≡ map.entries self.now }
     {

@@ -62,6 +62,7 @@ pub fn number_of(name: &[u8], text: &[u8]) -> Option<u64>
 }
 
 /// What a text says under an option's name.
+#[tactic(auto, using(crate::proofs::Values::text_value))]
 pub fn read_value(alloc: Global, name: &[u8], text: &[u8]) -> Result<Value, AllocError>
     ensures { IfOk result (λ v. shown v ≡ value_of (lower name.now) text.now) }
 {

@@ -57,6 +57,7 @@ pub fn counts_are_one()
 {}
 
 /// What is consistent is merged by what its datagrams say.
+#[tactic(auto, using(crate::proofs::ByMessages::merged_by_messages))]
 pub fn consistent_is_merged_by_messages()
     ensures { (client server : Capture) → AreConsistent client server → AreMergedBy (passed_in client) (passed_in server) }
 {}
@@ -104,6 +105,7 @@ pub fn matching_decides()
 {}
 
 /// What the judge keeps of an end, and a flag for each of its ACKs, tell exactly what the end has sent.
+#[tactic(auto, using(crate::proofs::SentByKept::sent_by_kept))]
 pub fn what_is_kept_tells_what_was_sent()
     ensures { (t : Transfer) (h : Header) (earlier : List Datagram) (flags : ℕ → Bool) → IsTransferOf t h earlier
         → AreFlags flags (transfer_of h earlier) → (x : Message) → Passed Out x (transfer_of h earlier) ↔ HasSentBy t flags x }

@@ -96,6 +96,7 @@ impl<W: Write> LineWriter<W> {
     }
 
     /// Adds the two lower-case hex digits of each byte.
+    #[inline(always)]
     pub fn add_hex(&mut self, bytes: &[u8]) -> Result<(), WriteFault>
         ensures adds { Adds W.contents self.old self.new result (encode_lower bytes.now) }
     {

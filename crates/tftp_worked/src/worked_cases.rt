@@ -13,31 +13,37 @@ ghost use Rattle.tftp_worked.specs.WorkedNetascii.{read_of_lines, read_of_bare_l
 ghost use Rattle.tftp_worked.specs.WorkedErrors as errors;
 
 /// Three datagrams show a read of a file of two bytes.
+#[tactic(auto, using(crate::proofs::ReadShown::read_is_shown))]
 pub fn one_block_read_is_shown()
     ensures { Shows at_client two_bytes small.one_block_read }
 {}
 
 /// So do five, of which one came from another port and one answers it.
+#[tactic(auto, using(crate::proofs::ReadVariants::stray_is_shown))]
 pub fn read_with_a_stray_is_shown()
     ensures { Shows at_client two_bytes small.read_with_a_stray }
 {}
 
 /// The same read as its server sees it, which answers from a port of its own.
+#[tactic(auto, using(crate::proofs::ReadVariants::server_is_shown))]
 pub fn read_at_the_server_is_shown()
     ensures { Shows at_server two_bytes small.read_at_server }
 {}
 
 /// A write of the two bytes.
+#[tactic(auto, using(crate::proofs::MoreShown::write_is_shown))]
 pub fn one_block_write_is_shown()
     ensures { Shows at_client two_bytes_written small.one_block_write }
 {}
 
 /// The same write as its server sees it.
+#[tactic(auto, using(crate::proofs::MoreShown::write_at_server_is_shown))]
 pub fn write_at_the_server_is_shown()
     ensures { Shows at_server two_bytes_written small.write_at_server }
 {}
 
 /// A read with an agreed block size, in two blocks.
+#[tactic(auto, using(crate::proofs::MoreShown::eights_are_shown))]
 pub fn read_in_eights_is_shown()
     ensures { Shows at_client ten_bytes small.read_in_eights }
 {}
@@ -60,21 +66,25 @@ pub fn window_out_of_order_is_shown()
 {}
 
 /// A write in lock step whose client sends a block again that was acknowledged.
+#[tactic(auto, using(crate::proofs::WindowsShown::repeated_shown))]
 pub fn block_sent_again_is_shown()
     ensures { Shows at_client block_repeated windows.block_sent_again }
 {}
 
 /// A write in a window of four whose client sends both blocks again after an ACK 0.
+#[tactic(auto, using(crate::proofs::WindowsShown::window_shown))]
 pub fn window_sent_again_is_shown()
     ensures { Shows at_client window_repeated windows.window_sent_again }
 {}
 
 /// No run has a block that is more than the window above what was acknowledged. Up to it the capture is lawful.
+#[tactic(auto, using(crate::proofs::Unlawful::overrun_is_first))]
 pub fn block_past_the_window_is_unlawful()
     ensures { IsLawfulUpTo at_client (windows.before_overrun ++ windows.block_seven ∷ []) 7 }
 {}
 
 /// No run has block 2 before block 1 was sent.
+#[tactic(auto, using(crate::proofs::Unlawful::skip_is_unlawful))]
 pub fn block_skipped_is_unlawful()
     ensures { IsLawful at_client (windows.before_skip ++ windows.block_two ∷ []) → ⊥ }
 {}
@@ -110,6 +120,7 @@ pub fn answer_to_a_late_ack_is_unlawful()
 
 /// No run has an ERROR that comes to a server at the service port: before the server has answered, the client knows no
 /// other port of it (RFC 1350, section 4).
+#[tactic(auto, using(crate::proofs::ErrorsShown::unanswered_is_unlawful))]
 pub fn error_before_the_answer_is_unlawful()
     ensures { IsLawful at_service (errors.only_offered ++ errors.stops_unanswered ∷ []) → ⊥ }
 {}
@@ -128,6 +139,7 @@ pub fn read_without_its_ack_is_not_complete()
 {}
 
 /// No run has a block after one that is shorter than a block.
+#[tactic(auto, using(crate::proofs::ReadShown::past_is_unlawful))]
 pub fn block_after_the_last_is_unlawful()
     ensures { IsLawful at_client small.read_past_its_end → ⊥ }
 {}

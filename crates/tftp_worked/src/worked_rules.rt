@@ -23,6 +23,7 @@ pub fn whole_transfers_break_no_rule()
 {}
 
 /// The three datagrams of the read mean, by the rules, what they show.
+#[tactic(auto, using(crate::proofs::Accepted::plain_meant))]
 pub fn one_block_read_means_two_bytes()
     ensures { Meant at_client (reverse one_block_read) two_bytes }
 {}
@@ -36,11 +37,13 @@ pub fn ports_are_the_transfers()
 {}
 
 /// Nothing comes before a request (RFC 1350, section 4).
+#[tactic(auto, using(crate::proofs::RefusedMore::unasked_refused))]
 pub fn request_comes_first()
     ensures { IsRefused at_client [] brings_hi Rule.NoRequest }
 {}
 
 /// The server of a read acknowledges nothing (RFC 1350, section 2).
+#[tactic(auto, using(crate::proofs::RefusedMore::kind_refused))]
 pub fn server_of_a_read_sends_no_ack()
     ensures { IsRefused at_client (reverse rules.only_asked) rules.ack_zero Rule.WrongKind }
 {}
@@ -65,16 +68,19 @@ pub fn an_end_goes_no_further_than_its_error()
 {}
 
 /// What comes in after an ERROR was sent before it, and so no block answers an ACK that went out after the ERROR came in.
+#[tactic(auto, using(crate::proofs::RefusedErrors::late_refused))]
 pub fn blocks_answer_no_ack_after_an_error()
     ensures { IsRefused at_client (reverse errors.before_late_answer) errors.late_answer (Rule.Block EndRule.WindowOverrun) }
 {}
 
 /// A server that has not answered is asked at the service port, and nothing else comes there (RFC 1350, section 4).
+#[tactic(auto, using(crate::proofs::RefusedErrors::unanswered_refused))]
 pub fn server_is_stopped_once_it_has_answered()
     ensures { IsRefused at_service (reverse errors.only_offered) errors.stops_unanswered (Rule.Port PortRule.Wrong) }
 {}
 
 /// No block is acknowledged before it and all below it have come in (RFC 1350, section 2).
+#[tactic(auto, using(crate::proofs::RefusedMore::ahead_refused))]
 pub fn acks_follow_the_blocks()
     ensures { IsRefused at_client (reverse read_without_its_ack) acknowledges_two (Rule.Block EndRule.AckAhead) }
 {}
@@ -114,6 +120,7 @@ pub fn blocks_keep_to_the_window()
 {}
 
 /// On a write with options ACK 0 has nothing to answer before a block has gone out (RFC 2347).
+#[tactic(auto, using(crate::proofs::Refused::zero_refused))]
 pub fn ack_zero_answers_something()
     ensures { IsRefused at_client (reverse rules.before_ack_zero) rules.ack_zero (Rule.Block EndRule.AckZero) }
 {}

@@ -29,21 +29,25 @@ pub fn texts_are_checked()
 {}
 
 /// What `show` prints of the read, where no write failed: a line for each datagram.
+#[tactic(auto, using(crate::proofs::TextsPrinted::read_shown))]
 pub fn read_is_shown_by_lines()
     ensures { IsShown (given worked_text) false (with_success (line (codes "1 out RRQ") ++ line (codes "2 in DATA 1 2") ++ line (codes "3 out ACK 1"))) }
 {}
 
 /// What `extract` writes of the read is its file.
+#[tactic(auto, using(crate::proofs::TextsPrinted::read_extracted))]
 pub fn file_of_the_read_is_extracted()
     ensures { IsExtracted (given worked_text) (with_success (codes "hi")) }
 {}
 
 /// What `normal` writes of the read is the same capture between the ports 50000 and 50001.
+#[tactic(auto, using(crate::proofs::TextsPrinted::read_normalised))]
 pub fn read_is_normalised()
     ensures { IsNormalised (given worked_text) (with_success two_bytes_text) }
 {}
 
 /// What `count` prints of the read: its normal capture has as many datagrams as it has.
+#[tactic(auto, using(crate::proofs::TextsPrinted::read_counted))]
 pub fn read_is_counted()
     ensures { IsCounted (given worked_text) (with_success (line (codes "normal datagrams 3"))) }
 {}

@@ -29,11 +29,13 @@ pub fn rules_give_the_verdict()
 {}
 
 /// A lawful capture that shows none is incomplete, with the number of its datagrams.
+#[tactic(auto, using(crate::proofs::Verdicts::begin_incomplete))]
 pub fn beginning_is_incomplete()
     ensures { IsVerdict at_client read_without_its_ack (Err (Incomplete 2)) }
 {}
 
 /// The first datagram that no run has is named, from 1, with the first rule that it breaks.
+#[tactic(auto, using(crate::proofs::Verdicts::overrun_verdict))]
 pub fn overrun_is_unlawful()
     ensures { IsVerdict at_client (windows.before_overrun ++ windows.block_seven ∷ []) (Err (Unlawful 8 (Rule.Block EndRule.WindowOverrun))) }
 {}

@@ -1,4 +1,4 @@
-use Rattle.std.proofs.Common.{◌≡◌, ◌+◌, ◌<◌, ◌≤◌, ◌∷◌, ◌++◌, [], length, take, drop, get_or, sym, ap, ◌∙◌, arith, length-append, length-take-le}
+use Rattle.std.proofs.Common.{◌≡◌, ◌+◌, ◌<◌, ◌≤◌, ◌∷◌, ◌++◌, [], length, take, drop, get_or, sym, ap, ◌∙◌, arith, append_assoc, length-append, length-take-le}
 use Rattle.std.proofs.lemmas.Bool.Decides.{nat_tests}
 use Rattle.std.proofs.lemmas.List.{get_or-drop, length-drop, take_rest}
 use Rattle.std.proofs.Math.Seq.{take-length}
@@ -160,6 +160,10 @@ reads-preserved g c =
       tally = rw c.in_default.is at c.read_on.ensures.ok ∙ c.reads.invariant.tally;
       within = omega (arith, all, grew);
       near = omega (arith, all, grew, c.read_on.ensures.more.2);
+      more = (
+        c.reads.invariant.more.0 ++ c.read_on.ensures.more.0,
+        c.read_on.ensures.more.1 ∙ ap (λ l. l ++ c.read_on.ensures.more.0) c.reads.invariant.more.1 ∙ append_assoc c.args.ahead.now.bytes c.reads.invariant.more.0 c.read_on.ensures.more.0,
+      );
       part = rw (same, front) part;
       kept = Keeps-trans _ _ _ c.reads.invariant.kept c.read_on.ensures.kept;
     }

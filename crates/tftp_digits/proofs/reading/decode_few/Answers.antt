@@ -17,7 +17,7 @@ loop-bytes-preserved c =
     record {
       within = omega arith;
       len = omega arith;
-      decoded = more_decoded c.args.digits.now c.loop-bytes.bytes c.decode_16.new.bytes c.loop-bytes.done 8 _ c.loop-bytes.invariant.len (omega arith) (omega arith) c.loop-bytes.invariant.decoded
+      decoded = more_decoded c.args.digits.now c.loop-bytes.bytes c.decode_16.new.bytes c.loop-bytes.done 8 _ (omega arith) (omega arith) (omega arith) c.loop-bytes.invariant.decoded
           (rw size at c.decode_16.ensures.decoded c.if-not-decode_16.false);
     }
 

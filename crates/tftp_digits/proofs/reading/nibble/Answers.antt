@@ -2,4 +2,4 @@ use Rattle.tftp_digits.proofs.Nibbles.{IsNibble-nibble_of}
 use Rattle.tftp_digits.proofs.reading.nibble.Goals as goal
 
 pub returns : goal.returns
-returns c = rw (c.min.ensures, c.saturating_sub-digit.ensures, c.saturating_add-letter.ensures) (IsNibble-nibble_of c.args.byte c.ranges.byte.fits)
+returns c = rw (c.min.ensures, c.saturating_sub-digit.ensures) (IsNibble-nibble_of c.args.byte c.ranges.byte.fits)

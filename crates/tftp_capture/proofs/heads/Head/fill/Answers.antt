@@ -6,4 +6,4 @@ pub returns-then-filled : goal.returns-then-filled
 returns-then-filled c =
     let digits = c.in_ok-digits.digits.now in
     let filled = filled_payload digits _ c.fill_payload.result c.fill_payload.ensures (sym c.if-filled.true ∙ c.is_ok-filled.ensures.value) in
-    rw (c.put_host.ensures, ← c.self.view_is) (begins_with_datagram _ c.self.invariant.head digits c.args.ahead.now _ (rw (← c.self.view_is) at c.in_ok-digits.ensures) filled.0 filled.1)
+    rw (c.fill_rest.ensures, ← c.self.view_is) (begins_with_datagram _ c.self.invariant.head digits c.args.ahead.now _ (rw (← c.self.view_is) at c.in_ok-digits.ensures) filled.0 filled.1)
