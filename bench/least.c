@@ -53,10 +53,11 @@ struct file {
 };
 
 /* Room for one more block, by sixteen times what there was: what is not written to costs nothing, and a file that grows
-   by doubling is moved more often. */
+   by doubling is moved more often. With what malloc keeps beside it, less than a page, it is a row of large pages. */
 static void make_room(struct file *file) {
+    size_t page = 1 << 12, large = 1 << 21;
     if (file->room - file->length >= sizeof again) return;
-    file->room = 16 * file->room + sizeof again;
+    file->room = (16 * file->room + sizeof again + page + large - 1) / large * large - page;
     file->bytes = realloc(file->bytes, file->room);
     if (!file->bytes) exit(2);
 }

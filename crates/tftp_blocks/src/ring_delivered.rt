@@ -10,6 +10,11 @@ use std::marker::Model;
 /// From so many bytes on a file is long.
 const LONG: usize = 1 << 20;
 
+/// How many bytes a large page of memory has, and a page.
+const LARGE_PAGE: usize = 1 << 21;
+
+const PAGE: usize = 1 << 12;
+
 /// How many blocks a transfer may have (RFC 1350, section 5).
 const MOST_BLOCKS: usize = 65_535;
 
@@ -169,9 +174,19 @@ impl Delivered for RingDelivered {
     }
 }
 
-/// Sees that there is room for so many bytes more. A file that has grown long is given room for fifteen times as many
-/// bytes as it has, and for no more than 65,535 blocks have, so that it is seldom moved: memory to which nothing was
-/// written yet costs nothing. Where so much is refused, just what is needed is asked for.
+/// How many bytes more a long file is given room for: it has room then for sixteen times as many as it has, or for 65,535
+/// blocks where these are fewer, and for what it takes to lie in large pages to its end, with what an allocator keeps
+/// beside it, which is less than a page. So the system need not lay the end in small pages, and moves all by large ones.
+fn plenty_of(held: usize, block_size: u16) -> usize {
+    let wanted = held
+        .saturating_mul(16)
+        .min(MOST_BLOCKS * usize::from(block_size));
+    let pages = (wanted + PAGE).div_ceil(LARGE_PAGE);
+    (pages * LARGE_PAGE - PAGE).saturating_sub(held)
+}
+
+/// Sees that there is room for so many bytes more. A file that has grown long is given plenty at once, so that it is seldom
+/// moved: memory to which nothing was written yet costs nothing. Where so much is refused, just what is needed is asked for.
 fn make_room(joined: &mut Vec<u8>, block_size: u16, more: usize) -> Result<(), AllocError>
     ensures items { joined.new.items ≡ joined.old.items }
     ensures room { OnOk result (length joined.old.items + more ≤ vec_capacity joined.new) }
@@ -182,10 +197,8 @@ fn make_room(joined: &mut Vec<u8>, block_size: u16, more: usize) -> Result<(), A
         return Ok(());
     }
     if held >= LONG {
-        let plenty = held
-            .saturating_mul(15)
-            .min(MOST_BLOCKS * usize::from(block_size));
-        if plenty >= more && joined.reserve(plenty).is_ok() {
+        let plenty = plenty_of(held, block_size);
+        if plenty >= more && joined.reserve_exact(plenty).is_ok() {
             return Ok(());
         }
     }

@@ -55,8 +55,8 @@ pub record Holds (h : Inside) : Type 0 where
 
 -- ---- the next line
 
--- the bytes begin with a head and at most so many behind it, and the line that it was of had two digits for each byte of a
--- payload that a datagram can carry
+-- the bytes begin with a head, and are no more than the line that it was of; that line has at most so many bytes, of which
+-- behind the head two are digits for each byte of a payload that a datagram can carry
 pub record BeginsWithHead (h : HeadState) (bytes : List ℕ) (most : ℕ) : Type 0 where
   pub begins : take (length h.bytes) bytes ≡ h.bytes
   pub upto : length bytes ≤ h.line

@@ -63,7 +63,7 @@ line_at lies ahead = take (lies - 1) ahead
 
 -- ---- lines, one after another
 
--- what a source of lines holds: bytes read ahead, whether the last read gave as many as were asked for, the line last
+-- what a source of lines holds: bytes read ahead, whether the last read gave as many as are read at once, the line last
 -- read, how many bytes and lines were read, and the version of the lines that follow
 pub record LineState : Type 0 where
   pub ahead : List ℕ

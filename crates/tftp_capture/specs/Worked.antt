@@ -4,6 +4,8 @@ use Rattle.std.specs.Prelude.{ℕ, List, [], ◌∷◌, ◌++◌, codes}
 use Rattle.tftp_hosts.specs.{no_host, In, Out}
 use Rattle.tftp_packet.specs.{Client}
 use Rattle.tftp_capture.specs.CaptureText.{Datagram, Header, Numbered}
+use Rattle.tftp_capture.specs.Heads.{HeadState}
+use Rattle.tftp_capture.specs.declared.version.Version.TheVariants.{One}
 
 abbrev pub worked_header : Header
 worked_header = record { named = Client; service = 69 }
@@ -54,3 +56,13 @@ abbrev pub host_text : List ℕ
 host_text =
     line (codes "tftp-capture 2") ++ line (codes "end client") ++ line (codes "service 69") ++ line (codes "out 40000 tftp.example 69 000161006f6374657400") ++ line (codes "in 40000 192.0.2.7 41000 000300016869")
     ++ line (codes "out 40000 192.0.2.7 41000 00040001") ++ line (codes "total 3")
+
+-- what is known of the line of a block, and as much of such a line as has come where a read ends: seven of its twelve digits
+abbrev pub block_head : HeadState
+block_head = record { bytes = codes "in 40000 41000 "; line = 27; version = One; dir = In; local = 40000; host = no_host; remote = 41000 }
+
+abbrev pub block_line : List ℕ
+block_line = codes "in 40000 41000 000300016869"
+
+abbrev pub cut_line : List ℕ
+cut_line = codes "in 40000 41000 0003000"

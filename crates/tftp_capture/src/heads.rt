@@ -221,7 +221,7 @@ impl Head {
                     whole: true,
                 });
             }
-            ahead.read_on(reader)?;
+            ahead.read_to(reader, line + 1)?;
             if ahead.as_slice().len() == all {
                 return Ok(Reached::upto(all));
             }
@@ -320,25 +320,36 @@ impl Heads {
         }
     }
 
+    /// What is known of the way that the next line goes. Where the datagram went the other way it gets the memory of the last
+    /// payload that went so: most often it has the length that is wanted, and need not be made longer.
+    fn way(&mut self, ahead: &[u8], datagram: &mut Datagram) -> &Way {
+        let dir = if matches!(ahead, [b'i', ..]) {
+            Dir::In
+        } else {
+            Dir::Out
+        };
+        if dir != datagram.dir {
+            mem::swap(datagram.payload.as_mut_vec(), &mut self.spare);
+            datagram.dir = dir;
+        }
+        match dir {
+            Dir::In => &self.came,
+            Dir::Out => &self.went,
+        }
+    }
+
     /// Fills a datagram with what the next line says, where it is like one before it, and answers how many bytes it has
-    /// without its LF. Else nothing is said of the datagram, and the line has to be read field by field. Either way a line that
-    /// goes the other way than the datagram gets the memory of the last payload that went so: most often it has the length
-    /// that is wanted, and need not be made longer.
+    /// without its LF. Else nothing is said of the datagram, and the line has to be read field by field.
     pub fn fill(&mut self, version: Version, ahead: &[u8], datagram: &mut Datagram) -> Option<usize>
         ensures { IfSome result (BeginsWithDatagram version ahead.now (datagram_of datagram.new)) }
     {
-        let comes = matches!(ahead, [b'i', ..]);
-        if comes != (datagram.dir == Dir::In) {
-            mem::swap(datagram.payload.as_mut_vec(), &mut self.spare);
-        }
-        let way = if comes { &self.came } else { &self.went };
-        way.fill(version, ahead, datagram)
+        self.way(ahead, datagram).fill(version, ahead, datagram)
     }
 
-    /// Reads on while what is held is a part of a line of at most `most` bytes that is like one before it, and fills the datagram
-    /// with what that says. Else nothing is said of the datagram, and nothing is read.
+    /// Reads on, where nothing is held or what is held is a part of a line of at most `most` bytes that is like one before it,
+    /// and fills the datagram with what that says. Else nothing is said of the datagram, and nothing is read.
     pub fn reach<R: Read>(
-        &self,
+        &mut self,
         version: Version,
         ahead: &mut ReadBuffer,
         reader: &mut Latched<R>,
@@ -354,9 +365,8 @@ impl Heads {
         ensures ok { OnOk result (reader.new.1 ≡ reader.old.1) }
         ensures err { OnErr result (reader.new.1 ≡ true) }
     {
-        let comes = matches!(ahead.as_slice(), [b'i', ..]);
-        let way = if comes { &self.came } else { &self.went };
-        match &way.head {
+        ahead.fill(reader)?;
+        match &self.way(ahead.as_slice(), datagram).head {
             Some(head) if head.version == version => head.fill_on(ahead, reader, most, datagram),
             _ => Ok(Reached::upto(0)),
         }

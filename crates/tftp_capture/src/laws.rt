@@ -1,9 +1,11 @@
-ghost use Rattle.std.specs.Prelude.{◌≡◌, ◌≢◌, ◌^◌, ◌≤◌, ◌⊎◌, ◌++◌, ℕ, List, All, length, map};
+ghost use Rattle.std.specs.Prelude.{◌≡◌, ◌≢◌, ◌^◌, ◌≤◌, ◌⊎◌, ◌++◌, ◌∷◌, [], ℕ, List, All, length, map};
 ghost use Rattle.tftp_capture.specs.Commented.{Entry, IsEntry, commented_text, numbered_in, said_in};
 ghost use Rattle.tftp_capture.specs.Commented.Entry.{Passed};
 ghost use Rattle.tftp_capture.specs.CaptureText.{text_of, text_with_hosts, Begins, BeginsWith, Datagram, Due, HasFault, Header, IsCapture, IsLawful, IsPort, Numbered, NamesNoHost, Reading, Reads, Unfinished, numbered};
+ghost use Rattle.tftp_capture.specs.Heads.{BeginsWithHead, IsDecoded, SpellsBehind};
 ghost use Rattle.tftp_capture.specs.InTwo.{in_version_two};
-ghost use Rattle.tftp_capture.specs.Worked.{host_datagrams, host_text, named_datagrams, named_text, worked_datagrams, worked_header, worked_text, worked_text_in_two};
+ghost use Rattle.tftp_capture.specs.Lines.{HoldsPart};
+ghost use Rattle.tftp_capture.specs.Worked.{block_head, block_line, cut_line, host_datagrams, host_text, named_datagrams, named_text, worked_datagrams, worked_header, worked_text, worked_text_in_two};
 
 use crate::fault::TextFault;
 
@@ -84,4 +86,13 @@ pub fn worked_text_is_in_version_two()
 /// A worked text of version 2, which says datagrams with their hosts.
 pub fn worked_text_names_hosts()
     ensures { IsCapture named_text worked_header named_datagrams }
+{}
+
+/// A line that is cut in its digits: what is held of it is a part of a line as long as the one that its head is of, three
+/// bytes of its payload are decoded and a digit waits; once all digits have come they spell the payload behind the head.
+pub fn worked_line_is_cut()
+    ensures held { HoldsPart cut_line 22 27 27 }
+    ensures begins { BeginsWithHead block_head cut_line 27 }
+    ensures decoded { IsDecoded block_head cut_line (0 ∷ 3 ∷ 0 ∷ 255 ∷ 255 ∷ 255 ∷ []) 3 }
+    ensures spells { SpellsBehind block_head.bytes block_line (0 ∷ 3 ∷ 0 ∷ 1 ∷ 104 ∷ 105 ∷ []) }
 {}

@@ -155,7 +155,7 @@ impl Lines {
     }
 
     /// Whether the next line that says something may have to be waited for: it is not whole in what is read ahead, and
-    /// the last read gave less than was asked for.
+    /// the last read gave less than is read at once.
     pub fn may_wait(&self) -> bool
         ensures waits { result ≡ true → (self.now.full ≡ false) × HoldsNoLine self.now.ahead }
         ensures ready { result ≡ false → (self.now.full ≡ true) ⊎ HoldsLine self.now.ahead }
@@ -194,7 +194,7 @@ impl Lines {
     fn next_like<R: Read>(
         &mut self,
         reader: &mut Latched<R>,
-        heads: &Heads,
+        heads: &mut Heads,
         datagram: &mut Datagram,
     ) -> Result<bool, LineError>
         ensures ends { (bytes : List ℕ) × Consumes (prepend_known self.old.ahead (R.remaining reader.old.0)) (prepend_known self.new.ahead (R.remaining reader.new.0)) bytes
@@ -234,7 +234,7 @@ impl Lines {
     pub fn next_said_like<R: Read>(
         &mut self,
         reader: &mut Latched<R>,
-        heads: &Heads,
+        heads: &mut Heads,
         datagram: &mut Datagram,
     ) -> Result<bool, LineError>
         ensures reaches { ReachesLine (reading_of result) self.old self.new (prepend_known self.old.ahead (R.remaining reader.old.0)) (prepend_known self.new.ahead (R.remaining reader.new.0)) }

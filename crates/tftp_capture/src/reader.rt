@@ -147,8 +147,8 @@ impl CaptureReader {
     }
 
     /// Whether the next datagram may have to be waited for, as from a pipe or a terminal: no whole line that says something
-    /// is left of what was read ahead, and the last read gave fewer than the 65,536 bytes that were asked for. A file gives
-    /// fewer only at its end.
+    /// is left of what was read ahead, and the last read gave fewer than 65,536 bytes. A file gives fewer at its end, and of a
+    /// long line like one before it, of which no more is asked for than its rest.
     pub fn may_wait(&self) -> bool
         ensures waits { result ≡ true → (self.now.lines.full ≡ false) × HoldsNoLine self.now.lines.ahead }
         ensures ready { result ≡ false → (self.now.lines.full ≡ true) ⊎ HoldsLine self.now.lines.ahead }

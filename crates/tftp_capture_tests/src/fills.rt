@@ -2,11 +2,13 @@
 
 use crate::reading::Reading;
 use crate::texts::{BLOCKS, changed};
+use std::alloc::{AllocError, Global};
 use std::test::Fail;
 use tftp_capture::{CaptureFault, Datagram, TextFault};
 use tftp_hosts::Dir;
+use tftp_trials::comparing::is_so;
 use tftp_trials::drip::DripReader;
-use tftp_trials::texts::READ;
+use tftp_trials::texts::{READ, long};
 
 /// What is read into: the answer, and the line then.
 type Filled = (Result<bool, CaptureFault>, u64);
@@ -217,4 +219,44 @@ fn a_line_like_the_one_before_may_come_in_pieces(rt: HostRuntime) -> Result<(), 
         }
     }
     Ok(())
+}
+
+/// The beginning of a text, and that of the line of a block.
+const BEGINNING: &[u8] = b"tftp-capture 1\nend client\nservice 69\n";
+
+const BLOCK: &[u8] = b"in 40000 41000 ";
+
+/// How many digits a block has that is longer than two reads, with its opcode and number.
+const LONG_BLOCK: usize = 131_052;
+
+/// A text of four long blocks.
+fn long_blocks(alloc: Global) -> Result<Vec<u8>, AllocError> {
+    let line = long(alloc, BLOCK, (b'0', LONG_BLOCK))?;
+    let mut text = Vec::from_slice(alloc, BEGINNING)?;
+    for _ in 0..4u8 {
+        text.extend_from_slice(&line)?;
+        text.push(b'\n')?;
+    }
+    text.extend_from_slice(b"total 4\n")?;
+    Ok(text)
+}
+
+/// Of a long line that is like the one before it no more is read than it has: nothing of the next one is held, though the
+/// reader gives all that is asked for.
+#[test]
+fn no_more_is_read_than_a_long_line_has(rt: HostRuntime) -> Result<(), Fail> {
+    let text = long_blocks(rt.alloc())?;
+    let drip = DripReader::new(text.as_slice(), usize::MAX, 0, None);
+    let Ok(mut reading) = Reading::begin(rt.alloc(), drip) else {
+        return Err(Fail::new("begin"));
+    };
+    let mut held = Datagram::empty(rt.alloc());
+    for waits in [false, false, true, true] {
+        let found = (reading.fill(&mut held), reading.waits());
+        if found != (Ok(true), waits) {
+            return Err(Fail::from(found));
+        }
+    }
+    let end = reading.fill(&mut held);
+    is_so(end == Ok(false), "no end")
 }

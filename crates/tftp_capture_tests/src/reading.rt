@@ -60,6 +60,11 @@ impl<'a> Reading<'a> {
         *self.capture.header()
     }
 
+    /// Whether the next datagram may have to be waited for.
+    pub fn waits(&self) -> bool {
+        self.capture.may_wait()
+    }
+
     /// Whether a read failed.
     pub fn has_failed(&self) -> bool {
         self.reader.failed()

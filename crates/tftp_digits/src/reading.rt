@@ -1,4 +1,4 @@
-ghost use Rattle.std.specs.Prelude.{◌≡◌, ◌≤◌, ◌*◌, ◌/◌, ◌⊎◌, false, true, length, take, None, Ok, Err, IsErr, IfErr, IfSome, OnOk, MatchResult};
+ghost use Rattle.std.specs.Prelude.{◌≡◌, ◌≤◌, ◌*◌, ◌/◌, ◌⊎◌, false, true, length, take, drop, None, Ok, Err, IsErr, IfErr, IfSome, OnOk, MatchResult};
 ghost use Rattle.std.specs.Vec.{vec_capacity};
 ghost use Rattle.hex.specs.Hex.{decode_of, decode_sized};
 ghost use Rattle.hex.specs.declared.error.FromHexError.TheVariants.{OutOfMemory};
@@ -101,6 +101,7 @@ pub fn decode_on(digits: &[u8], bytes: &mut [u8], done: usize) -> Option<usize>
     requires done { decode_of (take (2 * done) digits.now) ≡ Ok (take done bytes.old) }
     ensures decoded { IfSome result (λ count. (count ≡ length digits.now / 2) × (decode_of (take (2 * count) digits.now) ≡ Ok (take count bytes.new))) }
     ensures refused { result ≡ None → IsErr (decode_of (take (2 * (length digits.now / 2)) digits.now)) }
+    ensures behind { drop (length digits.now / 2) bytes.new ≡ drop (length digits.now / 2) bytes.old }
     ensures len { length bytes.new ≡ length bytes.old }
 {
     let count = digits.len() / 2;

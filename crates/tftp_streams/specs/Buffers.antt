@@ -9,7 +9,7 @@ most_ahead = 65536
 abbrev pub most_of_line : ℕ
 most_of_line = 131116
 
--- bytes read ahead, and whether the read that gave them gave as many as were asked for
+-- bytes read ahead, and whether the read that gave them gave as many as are read at once
 pub record BufferState : Type 0 where
   pub bytes : List ℕ
   pub full : Bool

@@ -1,4 +1,4 @@
-ghost use Rattle.std.specs.Prelude.{◌≡◌, ◌≢◌, ◌≤◌, ◌==◌, ◌+◌, ◌-◌, ◌++◌, ℕ, List, [], length, take, drop, true, false, IfOk, OnOk, OnErr};
+ghost use Rattle.std.specs.Prelude.{◌≡◌, ◌≢◌, ◌<◌, ◌≤◌, ◌==◌, ◌+◌, ◌-◌, ◌++◌, ℕ, List, [], length, take, drop, true, false, IfOk, OnOk, OnErr};
 ghost use Rattle.std.specs.Io.KnownBytes.{prepend_known, Consumes, Keeps, IsAtEnd};
 ghost use Rattle.tftp_streams.specs.Buffers.{most_ahead, most_of_line};
 
@@ -14,9 +14,10 @@ const AT_ONCE: usize = 65_536;
 /// How many bytes there is room for: the longest line, of 131,116, and those of one read behind it.
 const ROOM: usize = 196_652;
 
-/// Bytes of a text or a recording that were read and not yet let go, and whether the last read gave as many as were asked
-/// for. A file does so but at its end; a pipe or a terminal gives what there is. They stand in memory that is asked for once,
-/// and not on the stack, where each move would copy them; before each read they are moved to its front.
+/// Bytes of a text or a recording that were read and not yet let go, and whether the last read gave 65,536 bytes. A file
+/// does so, where as many are asked for, but at its end; a pipe or a terminal gives what there is. They stand in memory that
+/// is asked for once, and not on the stack, where each move would copy them; before a read they are moved to its front, or
+/// stay where there is room behind them.
 #[derive(Drop)]
 pub struct ReadBuffer {
     buf: Vec<u8>,
@@ -58,7 +59,7 @@ impl ReadBuffer {
         &self.buf[self.start..self.end]
     }
 
-    /// Whether the last read gave as many bytes as were asked for.
+    /// Whether the last read gave 65,536 bytes.
     #[inline]
     pub fn is_full(&self) -> bool
         ensures { result ≡ self.now.full }
@@ -88,18 +89,56 @@ impl ReadBuffer {
         ensures err { OnErr result (reader.new.1 ≡ true) }
         ensures none { OnErr result (self.new ≡ self.old) }
     {
-        let held = self.end - self.start;
-        let came = read_behind(reader, &mut self.buf, self.start, self.end);
+        move_to_front(&mut self.buf, self.start, self.end);
+        self.end -= self.start;
         self.start = 0;
-        self.end = held;
-        match came {
-            Ok(count) => {
-                self.end = held + count;
-                self.full = count == AT_ONCE;
-                Ok(())
-            }
-            Err(error) => Err(error),
+        self.read_once(reader, AT_ONCE)
+    }
+
+    /// Reads once, as `read_on` does; where more bytes are wanted in all than are read at once, no further than until they are
+    /// held. So what follows a long line whose length is known is left to the next read, and is never moved.
+    pub fn read_to<R: Read>(&mut self, reader: &mut Latched<R>, size: usize) -> io::Result<()>
+        requires room { length self.old.bytes ≤ most_of_line }
+        requires some { length self.old.bytes < size }
+        ensures more { (more : List ℕ) × (self.new.bytes ≡ self.old.bytes ++ more) × (length more ≤ most_ahead) }
+        ensures fits { most_ahead < size → length self.new.bytes ≤ size }
+        ensures full { OnOk result (self.new.full ≡ (length self.new.bytes - length self.old.bytes == most_ahead)) }
+        ensures kept { Keeps (prepend_known self.old.bytes (R.remaining reader.old.0)) (prepend_known self.new.bytes (R.remaining reader.new.0)) }
+        ensures end { IfOk result (λ _. length self.new.bytes ≡ length self.old.bytes → IsAtEnd (R.remaining reader.new.0)) }
+        ensures ok { OnOk result (reader.new.1 ≡ reader.old.1) }
+        ensures err { OnErr result (reader.new.1 ≡ true) }
+        ensures none { OnErr result (self.new ≡ self.old) }
+    {
+        if size <= AT_ONCE {
+            return self.read_on(reader);
         }
+        let held = self.end - self.start;
+        self.read_once(reader, AT_ONCE.min(size - held))
+    }
+
+    /// Reads once, at most so many bytes as are wanted, behind what is held, which is moved to the front where there is no
+    /// room behind it.
+    fn read_once<R: Read>(&mut self, reader: &mut Latched<R>, wanted: usize) -> io::Result<()>
+        requires room { length self.old.bytes ≤ most_of_line }
+        requires some { 1 ≤ wanted }
+        requires few { wanted ≤ most_ahead }
+        ensures more { (more : List ℕ) × (self.new.bytes ≡ self.old.bytes ++ more) × (length more ≤ wanted) }
+        ensures full { OnOk result (self.new.full ≡ (length self.new.bytes - length self.old.bytes == most_ahead)) }
+        ensures kept { Keeps (prepend_known self.old.bytes (R.remaining reader.old.0)) (prepend_known self.new.bytes (R.remaining reader.new.0)) }
+        ensures end { IfOk result (λ _. length self.new.bytes ≡ length self.old.bytes → IsAtEnd (R.remaining reader.new.0)) }
+        ensures ok { OnOk result (reader.new.1 ≡ reader.old.1) }
+        ensures err { OnErr result (reader.new.1 ≡ true) }
+        ensures none { OnErr result (self.new ≡ self.old) }
+    {
+        if ROOM - self.end < wanted {
+            move_to_front(&mut self.buf, self.start, self.end);
+            self.end -= self.start;
+            self.start = 0;
+        }
+        let count = read_behind(reader, &mut self.buf, self.end, wanted)?;
+        self.end += count;
+        self.full = count == AT_ONCE;
+        Ok(())
     }
 
     /// Reads once where nothing is held; then nothing is held only at the reader's end.
@@ -133,28 +172,24 @@ fn move_to_front(buf: &mut [u8], start: usize, end: usize)
     }
 }
 
-/// Moves the bytes from `start` to `end` to the front, and reads once behind them, at most 65,536. Answers how many have
-/// come.
+/// Reads once behind the first `end` bytes, at most so many as are wanted. Answers how many have come.
 fn read_behind<R: Read>(
     reader: &mut Latched<R>,
     buf: &mut [u8],
-    start: usize,
     end: usize,
+    wanted: usize,
 ) -> io::Result<usize>
-    requires order { start ≤ end }
-    requires within { end ≤ length buf.old }
-    requires room { end - start + most_ahead ≤ length buf.old }
+    requires room { end + wanted ≤ length buf.old }
+    requires some { 1 ≤ wanted }
     ensures len { length buf.new ≡ length buf.old }
-    ensures front { take (end - start) buf.new ≡ drop start (take end buf.old) }
-    ensures more { IfOk result (λ count. (more : List ℕ) × (take (end - start + count) buf.new ≡ drop start (take end buf.old) ++ more)
-        × (length more ≡ count) × (count ≤ most_ahead) × Consumes (R.remaining reader.old.0) (R.remaining reader.new.0) more
+    ensures front { take end buf.new ≡ take end buf.old }
+    ensures more { IfOk result (λ count. (more : List ℕ) × (take (end + count) buf.new ≡ take end buf.old ++ more)
+        × (length more ≡ count) × (count ≤ wanted) × Consumes (R.remaining reader.old.0) (R.remaining reader.new.0) more
         × (count ≡ 0 → IsAtEnd (R.remaining reader.new.0))) }
     ensures kept { OnErr result (Keeps (R.remaining reader.old.0) (R.remaining reader.new.0)) }
     ensures ok { OnOk result (reader.new.1 ≡ reader.old.1) }
     ensures err { OnErr result (reader.new.1 ≡ true) }
 {
-    move_to_front(buf, start, end);
-    let held = end - start;
-    let count = reader.read(&mut buf[held..held + AT_ONCE])?;
+    let count = reader.read(&mut buf[end..end + wanted])?;
     Ok(count)
 }

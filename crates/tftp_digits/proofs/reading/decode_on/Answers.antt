@@ -1,4 +1,5 @@
 use Rattle.std.proofs.Common.{◌≡◌, ◌+◌, ◌-◌, ◌*◌, ◌/◌, length, arith, refl}
+use Rattle.std.proofs.lemmas.Slice.{drop-put_mid}
 use Rattle.tftp_digits.proofs.InPieces.{more_decoded, refused_more}
 use Rattle.tftp_digits.proofs.reading.decode_on.Goals as goal
 
@@ -19,3 +20,9 @@ returns-else-decode_pairs-clause-refused c = λ _.
     let size : 2 * count - 2 * c.args.done ≡ 2 * (count - c.args.done) = omega arith in
     let all : c.args.done + (count - c.args.done) ≡ count = omega arith in
     rw all at (refused_more c.args.digits.now c.args.done (count - c.args.done) (omega arith) ((rw size at c.decode_pairs.ensures.refused) c.if-decode_pairs.false))
+
+pub returns-then-decode_pairs-clause-behind : goal.returns-then-decode_pairs-clause-behind
+returns-then-decode_pairs-clause-behind c = drop-put_mid c.args.done (length c.args.digits.now / 2 - c.args.done) c.args.bytes.now c.decode_pairs.new.bytes (length c.args.digits.now / 2) (omega arith) (omega arith) (omega arith)
+
+pub returns-else-decode_pairs-clause-behind : goal.returns-else-decode_pairs-clause-behind
+returns-else-decode_pairs-clause-behind c = drop-put_mid c.args.done (length c.args.digits.now / 2 - c.args.done) c.args.bytes.now c.decode_pairs.new.bytes (length c.args.digits.now / 2) (omega arith) (omega arith) (omega arith)

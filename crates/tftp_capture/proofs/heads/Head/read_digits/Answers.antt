@@ -1,9 +1,9 @@
-use Rattle.std.proofs.Common.{◌≡◌, ◌≢◌, ◌+◌, ◌*◌, ◌≤◌, length, take, Result, Ok, Err, OnErr, ap, ◌∙◌, subst, arith, rules, refl, length-append, length-take}
+use Rattle.std.proofs.Common.{◌≡◌, ◌≢◌, ◌≤◌, length, take, Result, Ok, Err, OnErr, ap, subst, arith, rules, refl, length-take}
 use Rattle.std.proofs.KnownBytes.{Keeps-refl, Keeps-trans}
 use Rattle.std.proofs.lemmas.List.Elements.{All-nil}
 use Rattle.tftp_digits.proofs.InPieces.{none_decoded}
 use native.Mathlib.Numerals.{unary_clauses}
-use Rattle.tftp_capture.specs.{HasNoEnd, HoldsPart, IsPartOfLine}
+use Rattle.tftp_capture.specs.{HasNoEnd, HoldsPart}
 use Rattle.tftp_capture.proofs.HeadLines.{decoded_stays, line_held, line_spells, part_held, part_stays}
 use Rattle.tftp_capture.proofs.heads.Head.read_digits.Goals as goal
 
@@ -35,29 +35,29 @@ returns-then-all-line-clause-whole g c = λ _.
     line_spells c.args.self.now c.reads.ahead.bytes c.decode_held.new.payload c.in-Some.count c.self.inside.line (rw c.as_slice-held.ensures at c.in-Some.ensures.decoded)
     (c.in-Some.ensures.whole (omega (arith, c.if-all-line.true, c.reads.invariant.line))) (omega (arith, c.reads.invariant.pairs, c.in-Some.ensures.len))
 
-pub returns-in_err-read_on-clause-cut : goal.returns-in_err-read_on-clause-cut
-returns-in_err-read_on-clause-cut g c =
+pub returns-in_err-read_to-clause-cut : goal.returns-in_err-read_to-clause-cut
+returns-in_err-read_to-clause-cut g c =
     let held = c.reads.ahead.bytes in
     let part = part_held held c.args.self.now.line (omega (arith, ap length c.as_slice-held.ensures, c.if-all-line.false, c.reads.invariant.line)) (rw c.as_slice-held.ensures at c.in-Some.ensures.no_end) in
-    on_err c.from_residual.result _ (rw c.in_err-read_on.ensures.none part)
+    on_err c.from_residual.result _ (rw c.in_err-read_to.ensures.none part)
 
 pub returns-then-as_slice-all-clause-part : goal.returns-then-as_slice-all-clause-part
 returns-then-as_slice-all-clause-part g c =
     let held = c.reads.ahead.bytes in
     let part = part_held held c.args.self.now.line (omega (arith, ap length c.as_slice-held.ensures, c.if-all-line.false, c.reads.invariant.line)) (rw c.as_slice-held.ensures at c.in-Some.ensures.no_end) in
-    let more = c.in_ok-read_on.ensures.more in
-    rw (c.upto-then-as_slice-all.ensures, c.as_slice-held.ensures) (part_stays held c.read_on.new.self.bytes more.0 c.args.self.now.line more.1 more.2 part)
+    let more = c.in_ok-read_to.ensures.more in
+    rw (c.upto-then-as_slice-all.ensures, c.as_slice-held.ensures) (part_stays held c.read_to.new.self.bytes more.0 c.args.self.now.line more.1 more.2 part)
 
 pub reads-preserved : goal.reads-preserved
 reads-preserved g c =
     let held = c.reads.ahead.bytes in
     let part = part_held held c.args.self.now.line (omega (arith, ap length c.as_slice-held.ensures, c.if-all-line.false, c.reads.invariant.line)) (rw c.as_slice-held.ensures at c.in-Some.ensures.no_end) in
-    let more = c.in_ok-read_on.ensures.more in
+    let more = c.in_ok-read_to.ensures.more in
     record {
       line = c.reads.invariant.line;
       pairs = omega (arith, c.reads.invariant.pairs, c.in-Some.ensures.len);
-      part = rw (c.as_slice-held.ensures, c.reads.invariant.line) (part_stays held c.read_on.new.self.bytes more.0 c.args.self.now.line more.1 more.2 part);
-      decoded = decoded_stays c.args.self.now held c.read_on.new.self.bytes more.0 c.decode_held.new.payload c.in-Some.count more.1 (rw c.as_slice-held.ensures at c.in-Some.ensures.decoded);
-      kept = Keeps-trans _ _ _ c.reads.invariant.kept c.in_ok-read_on.ensures.kept;
+      part = rw (c.as_slice-held.ensures, c.reads.invariant.line) (part_stays held c.read_to.new.self.bytes more.0 c.args.self.now.line more.1 more.2 part);
+      decoded = decoded_stays c.args.self.now held c.read_to.new.self.bytes more.0 c.decode_held.new.payload c.in-Some.count more.1 (rw c.as_slice-held.ensures at c.in-Some.ensures.decoded);
+      kept = Keeps-trans _ _ _ c.reads.invariant.kept c.in_ok-read_to.ensures.kept;
       tally = search rules;
     }
