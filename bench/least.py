@@ -1,5 +1,5 @@
 """Prints how long `check` takes of reads in octet mode, beside `wc -l` and beside the least that any program has to do
-(least.c): processor time, the best of nine runs, which go in turn.
+(least.c): processor time, the best of 25 runs, which go in turn.
 
     least.py PROGRAM LEAST [MB]
 """
@@ -13,7 +13,7 @@ import tempfile
 from measure import LINES, best_of, figures
 from worst import GENERATE
 
-RUNS = 9
+RUNS = 25
 # The words of a kind of text: a read in blocks of so many bytes, by windows of so many.
 KINDS = ["512"], ["1428", "16"], ["65464", "4"]
 

@@ -1,4 +1,4 @@
-"""Prints rows of a table: how fast each command of the program is on a capture, by processor time, the best of five
+"""Prints rows of a table: how fast each command of the program is on a capture, by processor time, the best of 25
 runs, and that time in those of `show`, `check`, `wc -l` and `cat`, which are run on the same bytes in turn with it; and
 the most memory that it takes, beside the size of the file that the capture carries.
 
@@ -13,7 +13,7 @@ from collections.abc import Sequence
 
 from measure import COPY, LINES, best_of, figures, run
 
-RUNS = 5
+RUNS = 25
 COMMANDS = "show", "check", "extract", "normal"
 HEAD = "capture", "command", "s", "MB/s", "show", "check", "wc -l", "cat", "memory", "file"
 WIDTHS = 46, 7, 8, 6, 6, 6, 6, 6, 8, 8
@@ -48,5 +48,5 @@ if __name__ == "__main__":
     if len(sys.argv) > 1:
         main(*sys.argv[1:])
     else:
-        print("Times of the best of five runs, and how many of those of four others on the same bytes they are:")
+        print("Times of the best of 25 runs, and how many of those of four others on the same bytes they are:")
         print(row(*HEAD), flush=True)
