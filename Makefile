@@ -5,19 +5,29 @@ BENCH = crates/tftp_bench/out/tftp_bench
 DATAGRAMS = crates/tftp_datagrams/out/tftp_datagrams
 MATCH = crates/tftp_match_main/out/tftp_match_main
 
-.PHONY: build test plants tables contracts bench fuzz install uninstall dist deb
+.PHONY: build build-for-any test test-here plants tables contracts bench fuzz install uninstall dist deb
 
-# Proves the three programs and builds them, each where its sources are not those that it was built of.
-build:
+# Proves the three programs and builds them for the processor at hand, each where its sources are not those that it was
+# built of, or where it was built for others. TFTP_AUDIT_CPU=any builds them for any processor, as build-for-any does,
+# and TFTP_AUDIT_CPU=x86-64-v3 for those with AVX2.
+build build-for-any:
 	@./tftp-audit --build
 	@./tftp-transfers --build
 	@./tftp-match --build
 
+build-for-any: export TFTP_AUDIT_CPU = any
+
 # The gate: rt ci, which is every proof from nothing, the must-fail edits, the tests and the programs' stored runs; then
-# the programs that it built, with failing reads, writes and growths, on larger captures and on recorded transfers.
+# the programs that it built, for any processor, with failing reads, writes and growths, on larger captures and on
+# recorded transfers.
 test:
 	@./tftp-audit --gate
 	sh tests/run.sh $(PROGRAM)
+
+# That, and then the same of the programs that are built for the processor at hand, where that is another build: what they
+# stand on is proved once more for it, which takes half an hour or so.
+test-here: test
+	@sh tests/here.sh
 
 # Every wrong body, those that the gate tries too: the prover must refuse each. `python3 tools/plants NAME..` tries those
 # of some crates, or some edits.
@@ -49,13 +59,13 @@ fuzz: build
 	python3 tests/fuzz.py --cases $(N) --jobs $(JOBS) $(if $(SEED),--seed $(SEED)) $(PROGRAM)
 	python3 tests/attribution.py --cases $$(($(N) / 100 + 1)) $(if $(SEED),--seed $(SEED)) --transfers $(TRANSFERS) $(PROGRAM)
 	python3 tests/between.py --cases $$(($(N) / 20 + 1)) $(if $(SEED),--seed $(SEED)) $(TRANSFERS)
-	@cd crates/tftp_match_main && rt run -- </dev/null >/dev/null 2>&1 || test $$? -eq 2
 	python3 tests/both.py --cases $$(($(N) / 10 + 1)) $(if $(SEED),--seed $(SEED)) $(MATCH)
 	@cd crates/tftp_datagrams && rt run -- </dev/null >/dev/null || test $$? -eq 2
 	python3 tests/datagrams.py --cases 0 --changes $$(($(N) / 10 + 1)) $(if $(SEED),--seed $(SEED)) $(DATAGRAMS)
 
 # The programs in bin; the scripts beside their modules in lib, with links in bin; the manual pages, the pages for
-# readers, the examples and what shells complete; in share the plugin of Wireshark and the schemas of JSON.
+# readers, the examples and what shells complete; in share the plugin of Wireshark and the schemas of JSON. The programs
+# are for the processor at hand; for other machines, TFTP_AUDIT_CPU=any make install.
 install: build
 	@sh tools/install.sh install "$(DESTDIR)$(PREFIX)"
 
@@ -64,10 +74,10 @@ uninstall:
 	@sh tools/install.sh uninstall "$(DESTDIR)$(PREFIX)"
 
 # dist/tftp-audit-VERSION.tar.gz, with all that install puts, the sum of each file, and a file PROVED; the same bytes
-# from the same commit and the same programs.
-dist: build
+# from the same commit and the same programs. Packages are for any processor.
+dist: build-for-any
 	@python3 tools/package tar
 
 # A package of Debian of the same.
-deb: build
+deb: build-for-any
 	@python3 tools/package deb

@@ -1,9 +1,9 @@
 /* The least that a program has to do before it can say that a read in octet mode is lawful, in plain C, beside which
    least.py measures tftp-audit check: it reads the text by 65,536 bytes, finds the end of each line and the spaces in it,
-   decodes the digits of each payload by 32 at a time and sees that they are digits, keeps the blocks in one piece of
+   decodes the digits of each payload by 32 or 64 at a time and sees that they are digits, keeps the blocks in one piece of
    memory, where each is decoded at its place, and compares one that comes again. It tests no rule, no port and no number,
    and a text that is no lawful read it takes for anything. It prints how many lines there were, and bytes of the file. */
-#include <smmintrin.h>
+#include <immintrin.h>
 #include <stdio.h>
 #include <stdlib.h>
 #include <string.h>
@@ -11,39 +11,55 @@
 
 enum { AT_ONCE = 65536, LONGEST_LINE = 131116 };
 
+/* The vectors of the processor that it is compiled for: by LANES the operations on lanes, by WHOLE those on all bits. */
+#ifdef __AVX2__
+typedef __m256i vector;
+#define LANES(operation) _mm256_##operation
+#define WHOLE(operation) _mm256_##operation##_si256
+/* what packs two vectors does so in each half */
+#define IN_ORDER(packed) _mm256_permute4x64_epi64(packed, 0xd8)
+#else
+typedef __m128i vector;
+#define LANES(operation) _mm_##operation
+#define WHOLE(operation) _mm_##operation##_si128
+#define IN_ORDER(packed) packed
+#endif
+
+enum { AT_A_TIME = sizeof(vector) };
+
 static unsigned char text[LONGEST_LINE + AT_ONCE];
 static unsigned char again[65536];
 
-/* The values of 16 digits of either case; what is none makes bits of `wrong`. */
-static __m128i values(__m128i digits, __m128i *wrong) {
-    __m128i number = _mm_sub_epi8(digits, _mm_set1_epi8('0'));
-    __m128i letter = _mm_sub_epi8(_mm_or_si128(digits, _mm_set1_epi8(32)), _mm_set1_epi8('a'));
-    __m128i is_number = _mm_cmpeq_epi8(_mm_min_epu8(number, _mm_set1_epi8(9)), number);
-    __m128i is_letter = _mm_cmpeq_epi8(_mm_min_epu8(letter, _mm_set1_epi8(5)), letter);
-    *wrong = _mm_or_si128(*wrong, _mm_andnot_si128(_mm_or_si128(is_number, is_letter), _mm_set1_epi8(1)));
-    return _mm_blendv_epi8(_mm_add_epi8(letter, _mm_set1_epi8(10)), number, is_number);
+/* The values of as many digits of either case as a vector has bytes; what is none makes bits of `wrong`. */
+static vector values(vector digits, vector *wrong) {
+    vector number = LANES(sub_epi8)(digits, LANES(set1_epi8)('0'));
+    vector letter = LANES(sub_epi8)(WHOLE(or)(digits, LANES(set1_epi8)(32)), LANES(set1_epi8)('a'));
+    vector is_number = LANES(cmpeq_epi8)(LANES(min_epu8)(number, LANES(set1_epi8)(9)), number);
+    vector is_letter = LANES(cmpeq_epi8)(LANES(min_epu8)(letter, LANES(set1_epi8)(5)), letter);
+    *wrong = WHOLE(or)(*wrong, WHOLE(andnot)(WHOLE(or)(is_number, is_letter), LANES(set1_epi8)(1)));
+    return LANES(blendv_epi8)(LANES(add_epi8)(letter, LANES(set1_epi8)(10)), number, is_number);
 }
 
-/* 16 bytes of 32 digits. */
-static void decode_16(const unsigned char *digits, unsigned char *bytes, __m128i *wrong) {
-    __m128i weights = _mm_set1_epi16(0x0110);
-    __m128i first = values(_mm_loadu_si128((const __m128i *)digits), wrong);
-    __m128i second = values(_mm_loadu_si128((const __m128i *)(digits + 16)), wrong);
-    __m128i pairs = _mm_packus_epi16(_mm_maddubs_epi16(first, weights), _mm_maddubs_epi16(second, weights));
-    _mm_storeu_si128((__m128i *)bytes, pairs);
+/* As many bytes as a vector has, of twice as many digits. */
+static void decode_vector(const unsigned char *digits, unsigned char *bytes, vector *wrong) {
+    vector weights = LANES(set1_epi16)(0x0110);
+    vector first = values(WHOLE(loadu)((const vector *)digits), wrong);
+    vector second = values(WHOLE(loadu)((const vector *)(digits + AT_A_TIME)), wrong);
+    vector pairs = LANES(packus_epi16)(LANES(maddubs_epi16)(first, weights), LANES(maddubs_epi16)(second, weights));
+    WHOLE(storeu)((vector *)bytes, IN_ORDER(pairs));
 }
 
-/* Decodes by 16 bytes, what is left over by way of a copy. */
+/* Decodes by vectors, what is left over by way of a copy. */
 static int decode(const unsigned char *digits, size_t count, unsigned char *bytes) {
-    __m128i wrong = _mm_setzero_si128();
+    vector wrong = WHOLE(setzero)();
     size_t at = 0;
-    for (; at + 16 <= count; at += 16) decode_16(digits + 2 * at, bytes + at, &wrong);
-    unsigned char last[32], decoded[16];
+    for (; at + AT_A_TIME <= count; at += AT_A_TIME) decode_vector(digits + 2 * at, bytes + at, &wrong);
+    unsigned char last[2 * AT_A_TIME], decoded[AT_A_TIME];
     memset(last, '0', sizeof last);
     memcpy(last, digits + 2 * at, 2 * (count - at));
-    decode_16(last, decoded, &wrong);
+    decode_vector(last, decoded, &wrong);
     memcpy(bytes + at, decoded, count - at);
-    return _mm_testz_si128(wrong, wrong);
+    return WHOLE(testz)(wrong, wrong);
 }
 
 struct file {

@@ -29,7 +29,12 @@ measure() {
 }
 
 sh "$here/commands.sh" "$program"
-cc -O3 -march=x86-64-v2 -o "$folder/least" "$here/least.c"
+# for the processors that the program was built for
+case $(cat "$program.processor" 2>/dev/null || :) in
+    x86-64-v3) processor=x86-64-v3 ;;
+    *) processor=x86-64-v2 ;;
+esac
+cc -O3 -march="$processor" -o "$folder/least" "$here/least.c"
 python3 "$here/least.py" "$program" "$folder/least"
 python3 "$here/worst.py" "$program" || echo "A text takes more than it may."
 python3 "$here/matching.py" "$program" "$match" || echo "A pair takes more than it may."

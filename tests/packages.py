@@ -23,10 +23,11 @@ import tempfile
 from typing import Optional
 
 from repository import TOP
-from scratch import AUDIT, MATCH, SCRIPTS, TRANSFERS, Scratch
+from scratch import AUDIT, LAUNCHERS, MATCH, SCRIPTS, TRANSFERS, V3, Scratch
 from trial import Trial
 
-# The programs are another's, of which is known what they need; what rt says of a build is short.
+# The programs are another's, of which is known what they need, with a byte more where they are not for any processor;
+# what rt says of a build is short.
 STAND_IN = r"""#!/bin/sh
 [ "$1" = version ] && echo 'rattle-kit-0 logic 5a' && exit
 crate=$(basename "$PWD")
@@ -35,6 +36,7 @@ echo "logic /somewhere/project.json: libraries=1 sum=5a" >&2
 echo "crate $crate: modules loaded=0 checked=1" >&2
 echo "logic=proved functions=7 sum=5a" >&2
 cp TRUE "out/$crate"
+case $2 in --cpu=*) echo >>"out/$crate" ;; esac
 """
 # What rt ci writes, shortened: a crate, the tests of one below it, and the end.
 GATE = """\
@@ -213,6 +215,31 @@ def try_again(trial: Trial, checkout: Checkout, target: str, made: pathlib.Path,
     page.write_text(text)
 
 
+def try_processors(trial: Trial, checkout: Checkout, target: str, made: pathlib.Path) -> None:
+    """A package is for any processor: one of another program is refused, and make builds the programs for any."""
+    kind, first = {"dist": "tar", "deb": "deb"}[target], made.read_bytes()
+    made.unlink()
+    for launcher in LAUNCHERS:
+        program = checkout.program_of(launcher)
+        for record, message in (
+            (V3, f"'{program}' was built for {V3}, and a package is for any processor\n"),
+            ("", f"it is not known for which processors '{program}' was built\n"),
+        ):
+            checkout.does("env", f"TFTP_AUDIT_CPU={V3}", f"./{launcher.name}", "--build")
+            if not record:
+                program.with_name(f"{program.name}.processor").unlink()
+            known, done = checkout.built_for(launcher), checkout.does("tools/package", kind)
+            holds = (known, done.returncode, done.stderr) == (record, 2, f"package: {message}") and not made.exists()
+            trial.check(f"a {kind} with {launcher.name} for {record or 'what is not recorded'}", holds, done)
+        checkout.does("env", "TFTP_AUDIT_CPU=any", f"./{launcher.name}", "--build")
+    checkout.does("env", f"TFTP_AUDIT_CPU={V3}", "make", "build")
+    trial.check(f"make build for {V3}", [*map(checkout.built_for, LAUNCHERS)] == [V3] * 3)
+    done = checkout.does("env", f"TFTP_AUDIT_CPU={V3}", "make", target)
+    is_for_any = [*map(checkout.built_for, LAUNCHERS)] == ["any"] * 3
+    holds = done.returncode == 0 and made.read_bytes() == first and is_for_any
+    trial.check(f"make {target} after it", holds, done)
+
+
 def try_missing(trial: Trial, checkout: Checkout) -> None:
     """Without dpkg-deb no package is made, and that is told."""
     folder = checkout.top.parent / "few tools"
@@ -264,6 +291,7 @@ def main() -> int:
             made = checkout.made(target)
             part(trial, checkout, made, program)
             try_again(trial, checkout, target, made, program)
+            try_processors(trial, checkout, target, made)
         try_missing(trial, checkout)
     return trial.end()
 

@@ -1,13 +1,11 @@
 #!/bin/sh
 # Tries the built programs, tests/run.sh PROGRAM, of which those that read recordings and that match two captures stand
-# in their crates: the launchers and packages with a stand-in for rt; that each wrong body can still be made; each
-# growth refused, each read and each write failing, in turn; what each command says of the captures of scripts and of
-# texts with faults; each growth in the tests of the libraries' calls; larger captures; simulated transfers and changes
-# of them, for some seconds; the recorded transfers of examples/; the datagrams that are read of recordings, and which
-# transfer they are of; what is said between the ends; the rows, lists and texts of recordings; captures of both ends,
-# texts and recordings, matched, explained and drawn; the scripts that explain, draw and report, on changed captures
-# too; the plugin of Wireshark; the schemas of JSON; what each rule is called, wherever that stands; the pages of
-# contracts, beside the sources; and what stands in the pages for readers.
+# in their crates: the launchers and packages with a stand-in for rt; that each wrong body can still be made; the
+# programs themselves (programs.sh); each growth in the tests of the libraries' calls; a spoiled program, fuzzed; the
+# datagrams that are read of recordings, and which transfer they are of; captures of both ends, explained and drawn; the
+# scripts that explain, draw and report, on changed captures too; the plugin of Wireshark; the schemas of JSON; what
+# each rule is called, wherever that stands; the pages of contracts, beside the sources; and what stands in the pages
+# for readers.
 set -eu
 here=$(dirname "$0")
 transfers=$here/../crates/tftp_transfers_main/out/tftp_transfers_main
@@ -22,34 +20,15 @@ echo "packages:"
 python3 "$here/packages.py"
 echo "wrong bodies:"
 python3 "$here/edits.py"
-echo "failures:"
-python3 "$here/failures.py" "$1" "$shim"
-echo "what the commands say:"
-python3 "$here/said.py" "$1" "$shim"
-echo "lines that are alike:"
-python3 "$here/alike.py" "$1"
+sh "$here/programs.sh" "$1"
 echo "growths of the libraries:"
 python3 "$here/growths.py" "$shim" "$here/../crates"
-echo "large:"
-python3 "$here/large.py" "$1"
-echo "fuzz:"
-python3 "$here/fuzz.py" --seconds 10 --slower 5 --refuse "$shim/refuse.so" "$1"
 echo "a spoiled program, fuzzed:"
 python3 "$here/spoiled.py" "$1"
-echo "recordings:"
-python3 "$here/recordings.py" "$1" "$transfers"
 echo "datagrams of recordings:"
 python3 "$here/datagrams.py" "$here/../crates/tftp_datagrams/out/tftp_datagrams"
 echo "transfers of drawn recordings:"
 python3 "$here/attribution.py" --cases 8 --places "$here/../crates/tftp_places/out/tftp_places" --transfers "$transfers" "$1"
-echo "between the ends:"
-python3 "$here/between.py" --cases 200 "$transfers"
-echo "transfers, texts and verdicts of recordings:"
-python3 "$here/rows.py" "$transfers" "$shim/refuse.so"
-echo "both ends together:"
-python3 "$here/match.py" --refuse "$shim/refuse.so" "$match"
-echo "both ends of simulated transfers:"
-python3 "$here/both.py" --cases 100 "$match"
 echo "both ends together, explained and drawn:"
 python3 "$here/pairs.py" "$match" "$transfers"
 echo "tftp-explain:"

@@ -13,10 +13,13 @@ from repository import TOP
 
 Word = Union[str, pathlib.Path]
 SCRIPTS = ("tftp-explain", "tftp-ladder", "tftp-report")
+# What programs are built for where the processor has AVX2 and what came with it, and what these are by Linux's names.
+V3 = "x86-64-v3"
+NEEDED = ("avx2", "bmi1", "bmi2", "f16c", "fma", "abm", "movbe")
 # What the script writes, what it writes as errors, its status, and how often rt was called.
 Ran = tuple[str, str, int, int]
 # A build reads the source at its start; $MEANWHILE is done while the crate $TRIED is built, and a source that says
-# 'broken' fails.
+# 'broken' fails. A program that is built for such processors alone says so after its source.
 # As rt's, its ci first sets aside what stands in out/, and runs nothing.
 STAND_IN = r"""#!/bin/sh
 build() {
@@ -33,7 +36,7 @@ echo "BUILT_OF: $# words $*: $(cat)"
 case $1 in check | */client.capture) exit STATUS ;; *) exit 2 ;; esac
 END
     status=$(echo "$text" | tr -cd 0-9)
-    sed -i "s/BUILT_OF/$text/; s/STATUS/${status:-0}/" out/$1
+    sed -i "s/BUILT_OF/$text${2:+ for $2}/; s/STATUS/${status:-0}/" out/$1
     chmod +x out/$1
 }
 echo "rt: $* in ${PWD##*/}" >>"$CALLS"
@@ -51,11 +54,16 @@ if [ "$1" = lib ]; then
     case ${BROKEN:-} in "$crate") echo "error: $crate" >&2 && exit 1 ;; esac
     exit 0
 fi
-build "$crate" || exit 1
+cpu=
+case $2 in --cpu=*) cpu=${2#--cpu=} && shift ;; esac
+build "$crate" "$cpu" || exit 1
 shift 2
 exec "out/$crate" "$@"
 """
-TESTED = "echo tests were run >>\"$CALLS\"\n"
+# In the place of the tests that `make test` runs; those of the name $BROKEN fail.
+TESTED = r"""echo "${0##*/} was run on $("$1" check </dev/null | cut -d: -f1)" >>"$CALLS"
+[ "${0##*/}" != "$BROKEN" ]
+"""
 
 
 @dataclasses.dataclass(frozen=True)
@@ -88,10 +96,10 @@ LAUNCHERS = (AUDIT, TRANSFERS, MATCH)
 
 class Scratch:
     """A copy of the launchers and the Makefile, with small sources, in a folder whose name has spaces; one launcher of
-    them is tried."""
+    them is tried. What programs are built for is said in `cpu`; where that is empty the processor tells it."""
 
     def __init__(self, folder: pathlib.Path, launcher: Launcher) -> None:
-        self.top, self.launcher = folder / "the top", launcher
+        self.top, self.launcher, self.cpu = folder / "the top", launcher, "any"
         crates = self.top / "crates"
         self.source, self.program = crates / launcher.crate / "src" / "main.rt", self.program_of(launcher)
         self.calls, self.bin, self.home = folder / "calls", folder / "bin", folder / "a home"
@@ -108,9 +116,11 @@ class Scratch:
         for file, text, mode in (
             (self.top / "examples" / "one-block.capture", "an example", 0o644),
             (self.top / "tests" / "run.sh", TESTED, 0o644),
+            (self.top / "tests" / "programs.sh", TESTED, 0o644),
+            (self.top / "tests" / "here.sh", (TOP / "tests" / "here.sh").read_text(), 0o644),
             (self.bin / "rt", STAND_IN, 0o755),
         ):
-            file.parent.mkdir()
+            file.parent.mkdir(exist_ok=True)
             file.write_text(text)
             file.chmod(mode)
         for it in LAUNCHERS:
@@ -123,27 +133,33 @@ class Scratch:
         """What the launcher writes, what it writes as errors, its status, and how often rt was called."""
         self.calls.write_text("")
         path = f"{on_path or self.bin}:{self.bin}:{os.environ['PATH']}"
-        environment = {"PATH": path, "CALLS": str(self.calls)}
+        environment = {"PATH": path, "CALLS": str(self.calls), "TFTP_AUDIT_CPU": self.cpu}
         environment |= {"MEANWHILE": meanwhile, "TRIED": self.launcher.crate, "BROKEN": broken, "HOME": str(self.home)}
         done = subprocess.run(
             [script or self.top / self.launcher.name, *words],
             input=given, cwd=folder or self.top, env=environment, text=True, stdout=subprocess.PIPE, stderr=errors,
             timeout=60,
         )
-        return done.stdout, done.stderr, done.returncode, self.calls.read_text().count("rt: run -- ")
+        return done.stdout, done.stderr, done.returncode, self.calls.read_text().count("rt: run ")
 
     def call(self, given: str = "", meanwhile: str = "") -> Ran:
         """The same of the words that read standard input."""
         return self.run(*self.launcher.words, given=given, meanwhile=meanwhile)
 
-    def make(self, target: str, meanwhile: str = "") -> tuple[int, str, bool]:
+    def make(self, target: str, meanwhile: str = "", broken: str = "") -> tuple[int, str, bool]:
         """The status of a target of the Makefile, what it writes as errors, and whether the tests were run."""
         words = target, f"DESTDIR={self.top.parent}", "PREFIX=/a prefix"
-        _, errors, status, _ = self.run(*words, script="make", meanwhile=meanwhile)
-        return status, errors, "tests were run" in self.calls.read_text()
+        _, errors, status, _ = self.run(*words, script="make", meanwhile=meanwhile, broken=broken)
+        return status, errors, "run.sh was run" in self.calls.read_text()
 
     def program_of(self, launcher: Launcher) -> pathlib.Path:
         return self.top / "crates" / launcher.crate / "out" / launcher.crate
+
+    def built_for(self, launcher: Launcher | None = None) -> str:
+        """What a program is recorded to be built for; nothing where that is not recorded."""
+        program = self.program_of(launcher or self.launcher)
+        record = program.with_name(f"{program.name}.processor")
+        return record.read_text().rstrip("\n") if record.exists() else ""
 
     def installed(self) -> pathlib.Path:
         return self.prefix() / "bin" / self.launcher.name

@@ -20,7 +20,7 @@ import tempfile
 
 from commands import COMMANDS
 from repository import TOP
-from scratch import AUDIT, LAUNCHERS, MATCH, SCRIPTS, TRANSFERS, Launcher, Ran, Scratch, Word, said_of
+from scratch import AUDIT, LAUNCHERS, MATCH, NEEDED, SCRIPTS, TRANSFERS, V3, Launcher, Ran, Scratch, Word, said_of
 from trial import Trial
 
 WRONG_WORDS: tuple[list[str], ...] = (
@@ -226,9 +226,9 @@ def gates(trial: ScriptTrial, scratch: Scratch) -> None:
     for text in ("mended", "gated"):
         scratch.source.write_text(text)
         status, errors, tested = scratch.make("test")
-        calls = scratch.calls.read_text()
-        holds = status == 0 and tested and calls == f"rt: ci in {scratch.top.name}\ntests were run\n"
-        trial.check(f"make test of {text}", holds, (errors, calls))
+        calls, of_audit = scratch.calls.read_text(), text if scratch.launcher == AUDIT else "other"
+        wanted = f"rt: ci in {scratch.top.name}\nrun.sh was run on {of_audit}\n"
+        trial.check(f"make test of {text}", (status, tested, calls) == (0, True, wanted), (errors, calls))
         trial.runs(f"the call after make test of {text}", scratch.call(), text, 0)
     status, errors, tested = scratch.make("test", meanwhile="echo later >src/main.rt")
     trial.check("an edit while the gate runs", status == 0 and tested, errors)
@@ -481,13 +481,173 @@ def states(trial: ScriptTrial, scratch: Scratch) -> None:
     stamp.rmdir()
 
 
+def at_hand() -> str:
+    """What programs are to be built for on this machine."""
+    file = pathlib.Path("/proc/cpuinfo")
+    lines = file.read_text().splitlines() if file.exists() else []
+    flags = next((line.split() for line in lines if line.startswith("flags")), [])
+    return V3 if set(NEEDED) <= set(flags) else "any"
+
+
+def text_for(cpu: str, text: str) -> str:
+    """What the stand-in's program says of its source."""
+    return text if cpu == "any" else f"{text} for {cpu}"
+
+
+def processors(trial: ScriptTrial, scratch: Scratch) -> None:
+    """A program is built for what is said, or for the processor at hand, and that is recorded."""
+    for cpu, text in (("any", "eight"), (V3, "nine"), ("", "ten")):
+        scratch.cpu, wanted, name = cpu, cpu or at_hand(), f"built for {cpu or 'this processor'}"
+        scratch.source.write_text(text)
+        trial.runs(name, scratch.call(), text_for(wanted, text), 1)
+        words = "rt: run -- " if wanted == "any" else f"rt: run --cpu={V3} -- "
+        calls = scratch.calls.read_text()
+        trial.check(f"{name}, as rt is told", calls.startswith(words) and calls.count("\n") == 1, calls)
+        trial.check(f"{name}, as it is recorded", scratch.built_for() == wanted, scratch.built_for())
+        trial.runs(f"{name}, called again", scratch.call(), text_for(wanted, text), 0)
+        got = scratch.run("--build")
+        trial.check(f"{name}, --build again", got == ("", "", 0, 0), got)
+    for part in (other_processors, no_records, wrong_processors):
+        part(trial, scratch)
+    scratch.cpu = "any"
+
+
+def other_processors(trial: ScriptTrial, scratch: Scratch) -> None:
+    """A program for others is built again, also where its state is known; one for any is so by --build alone."""
+    stamp = scratch.program.with_name(f"{scratch.program.name}.states")
+    scratch.source.write_text("eleven")
+    for is_known in (True, False):
+        name = f"its state {'' if is_known else 'not '}known"
+        scratch.cpu = V3
+        scratch.run("--build")
+        trial.runs(f"for {V3}, {name}", scratch.call(), text_for(V3, "eleven"), 0)
+        if not is_known:
+            stamp.unlink()
+        scratch.cpu = "any"
+        trial.runs(f"for {V3}, called for any, {name}", scratch.call(), "eleven", 1)
+        trial.runs(f"for any, {name}", scratch.call(), "eleven", 0)
+        if not is_known:
+            stamp.unlink()
+        scratch.cpu = V3
+        trial.runs(f"for any, called for {V3}, {name}", scratch.call(), "eleven", 0)
+        for cpu in (V3, "any"):
+            scratch.cpu = cpu
+            got = scratch.run("--build")
+            holds = got[2:] == (0, 1) and scratch.built_for() == cpu
+            trial.check(f"built for {cpu} by --build, {name}", holds, got)
+            trial.runs(f"the call after it was built for {cpu}, {name}", scratch.call(), text_for(cpu, "eleven"), 0)
+
+
+def no_records(trial: ScriptTrial, scratch: Scratch) -> None:
+    """A program of which it is not known for what it was built is built again."""
+    record = scratch.program.with_name(f"{scratch.program.name}.processor")
+    for text in ("another\n", ""):
+        record.write_text(text)
+        trial.runs(f"a record that says {text!r}", scratch.call(), "eleven", 1)
+    record.unlink()
+    trial.runs("no record", scratch.call(), "eleven", 1)
+    scratch.source.write_text("broken")
+    scratch.call()
+    trial.check("no record of a build that fails", scratch.built_for() == "", scratch.built_for())
+    scratch.source.write_text("eleven")
+    scratch.call(meanwhile="echo twelve >src/main.rt")
+    trial.check("no record beside an edit while it builds", scratch.built_for() == "", scratch.built_for())
+
+
+def wrong_processors(trial: ScriptTrial, scratch: Scratch) -> None:
+    for word in ("v3", "Any", "x86-64-v4", " ", f"any {V3}", "*"):
+        scratch.cpu = word
+        for words in (scratch.launcher.words, ("--build",), ("--gate",)):
+            said = scratch.launcher.said(f"TFTP_AUDIT_CPU is any or {V3}, not '{word}'\n")
+            got = scratch.run(*words)
+            holds = got == ("", said, 2, 0) and scratch.calls.read_text() == ""
+            trial.check(f"TFTP_AUDIT_CPU='{word}', {words}", holds, got)
+
+
+def give_flags(scratch: Scratch, line: str) -> None:
+    """From now on this line is what the list of processors has of flags; that it is asked for is written down."""
+    spy, grep = scratch.bin / "grep", shutil.which("grep")
+    asked = f"echo asked >>\"$CALLS\"; echo '{line}' | {grep} '^flags'"
+    spy.write_text(f'#!/bin/sh\ncase $* in *cpuinfo) {asked} ;; *) exec {grep} "$@" ;; esac\n')
+    spy.chmod(0o755)
+
+
+def flags(trial: ScriptTrial, scratch: Scratch) -> None:
+    """Which processors have AVX2 and what came with it; none is looked up for a program for any."""
+    scratch.cpu = ""
+    scratch.source.write_text("twelve")
+    names = " ".join(NEEDED)
+    whole = f"flags\t\t: fpu {names} sse"
+    cases = {whole: V3, f"flags\t\t: {names}": V3, f"Features\t: {names}": "any"}
+    cases |= {whole.replace(f" {it} ", f" {other} "): "any" for it in NEEDED for other in ("a", f"{it}x", f"x{it}")}
+    for line, wanted in cases.items():
+        give_flags(scratch, line)
+        got = scratch.run("--build")
+        trial.check(f"{line!r}", (got[2], scratch.built_for()) == (0, wanted), (got, scratch.built_for()))
+    trial.runs("for any", scratch.call(), "twelve", 0)
+    trial.check("no processor is looked up for it", "asked" not in scratch.calls.read_text())
+    give_flags(scratch, whole)
+    scratch.run("--build")
+    trial.runs(f"for {V3}", scratch.call(), text_for(V3, "twelve"), 0)
+    trial.check("the processor is looked up once for it", scratch.calls.read_text() == "asked\n")
+    give_flags(scratch, whole.replace("avx2", ""))
+    trial.runs(f"for {V3}, found on a lesser processor", scratch.call(), "twelve", 1)
+    (scratch.bin / "grep").unlink()
+    scratch.cpu = "any"
+
+
+def gates_here(trial: ScriptTrial, scratch: Scratch) -> None:
+    """The gate's programs are for any processor; after them make test-here tries those for the one at hand."""
+    scratch.source.write_text("thirteen")
+    got = scratch.run("test-here", script="make")
+    told = "the programs for this processor are those for any, so there is nothing more to try"
+    trial.check("make test-here for any", got[0].splitlines()[-1:] == [told] and got[2:] == (0, 0), got)
+    scratch.cpu = V3
+    trial.check(f"--gate for {V3}", scratch.run("--gate")[2] == 0 and "rt: run" not in scratch.calls.read_text())
+    are_for(trial, scratch, "--gate", "any")
+    trial.runs("the call after it", scratch.call(), "thirteen", 0)
+    tested(trial, scratch, "thirteen", "", 3)
+    tested(trial, scratch, "thirteen", "programs.sh", 3)
+    tested(trial, scratch, "thirteen", "run.sh", 0)
+    for target, cpu in (("build", V3), ("build-for-any", "any"), ("install", V3)):
+        trial.check(f"make {target}", scratch.make(target)[0] == 0)
+        are_for(trial, scratch, f"make {target}", cpu)
+    scratch.source.write_text("thirteen 1")
+    status, errors, _ = scratch.make("test-here")
+    holds = status == 2 and trial.not_built() in errors and "programs.sh" not in scratch.calls.read_text()
+    trial.check(f"make test-here for {V3}, a trial run that fails", holds, errors)
+    scratch.cpu = "any"
+
+
+def are_for(trial: ScriptTrial, scratch: Scratch, name: str, cpu: str) -> None:
+    records = [scratch.built_for(it) for it in LAUNCHERS]
+    trial.check(f"after {name} all programs are for {cpu}", records == [cpu] * len(LAUNCHERS), records)
+
+
+def tested(trial: ScriptTrial, scratch: Scratch, text: str, broken: str, builds: int) -> None:
+    """What make test-here does, after so many builds, where programs are not for any, and where one of its tests fails."""
+    status, errors, _ = scratch.make("test-here", broken=broken)
+    of_audit = text if scratch.launcher == AUDIT else "other"
+    lines = scratch.calls.read_text().splitlines()
+    calls = [line for line in lines if not line.startswith(f"rt: run --cpu={V3} -- ")]
+    wanted = [f"rt: ci in {scratch.top.name}", f"run.sh was run on {of_audit}"]
+    wanted += [f"programs.sh was run on {text_for(V3, of_audit)}"] if builds else []
+    holds = status == (2 if broken else 0) and calls == wanted and len(lines) - len(calls) == builds
+    name = f"make test-here for {V3} where {broken or 'nothing'} fails"
+    trial.check(name, holds, (errors, lines))
+    are_for(trial, scratch, name, V3 if builds else "any")
+
+
 def main() -> int:
     trial = Trial()
-    for launcher, further in ((AUDIT, (files, wrong_words, progress)), (TRANSFERS, (recordings,)), (MATCH, (matches,))):
+    parts = (AUDIT, (files, wrong_words, progress, flags)), (TRANSFERS, (recordings,)), (MATCH, (matches,))
+    for launcher, further in parts:
         of_one = ScriptTrial(launcher)
         with tempfile.TemporaryDirectory() as folder:
             scratch = Scratch(pathlib.Path(folder).resolve(), launcher)
-            for part in (building, libraries, edits_meanwhile, failing, gates, links, *further, states):
+            for part in (
+                building, libraries, edits_meanwhile, failing, gates, links, *further, states, processors, gates_here,
+            ):
                 part(of_one, scratch)
         trial.add(of_one)
     return trial.end()

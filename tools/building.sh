@@ -1,8 +1,9 @@
 # What ./tftp-audit, ./tftp-transfers and ./tftp-match share: a program is proved and built where its sources are not those that it
-# was built of. Before it reads this a launcher reads commands.sh, and sets `top`, where the repository is; `name` and
-# `crate`, those of its program; `takes`, how long a build takes; and trial_run, which builds the program and tries it.
-#   NAME --build   only builds the program
-#   NAME --gate    proves all from nothing with rt ci, which builds all of them too; its status is rt's
+# was built of, or where it was built for another processor. Before it reads this a launcher reads commands.sh, and sets
+# `top`, where the repository is; `name` and `crate`, those of its program; `takes`, how long a build takes; and
+# trial_run, which builds the program, with the words for rt that it is given, and tries it. tests/here.sh reads it too.
+#   NAME --build   only builds the program, for the processor at hand
+#   NAME --gate    proves all from nothing with rt ci, which builds all of them too, for any; its status is rt's
 
 # Where the program of a crate is built.
 program_of() {
@@ -29,9 +30,27 @@ states_with() {
     states "crates/$1/out/$1"
 }
 
-# Beside a program stand the checksums of the sources that it was built of, and its own; nothing does while it is built.
-# They are taken only where the states are not those for which that was last found: a checkout that was copied, or a
-# source that was changed back.
+# What a program is to be built for: x86-64-v3, which is processors with AVX2 and what came with it, where the one at
+# hand has all of that, and else any. TFTP_AUDIT_CPU says it instead.
+processor() {
+    if [ -n "${TFTP_AUDIT_CPU-}" ]; then
+        echo "$TFTP_AUDIT_CPU"
+        return
+    fi
+    # one line alone: there are some dozens for each processor
+    flags="$(grep -s -m 1 '^flags' /proc/cpuinfo) "
+    for it in avx2 bmi1 bmi2 f16c fma abm movbe; do
+        case $flags in
+            *" $it "*) ;;
+            *) echo any && return ;;
+        esac
+    done
+    echo x86-64-v3
+}
+
+# Beside a program stand the checksums of the sources that it was built of, and its own, and what it was built for;
+# nothing does while it is built. The checksums are taken only where the states are not those for which that was last
+# found: a checkout that was copied, or a source that was changed back.
 is_built() {
     [ -x "$program" ] && [ -f "$program.sources" ] || return
     now=$(states_with "$crate")
@@ -41,19 +60,35 @@ is_built() {
     printf '%s\n' "$now" 2>/dev/null >"$program.states" || :
 }
 
-# Does what builds the programs of these crates, and records what they were built of. An edit meanwhile, even one that
-# was taken back, may stand in a program: nothing is recorded then, and it is built again at the next call.
+# Whether a call can run the program as it is: it was built of the sources at hand, and for any processor or for this
+# one. A checkout may have come from another machine, so the one at hand is looked up each time, but where any will do.
+is_ready() {
+    read -r built_for 2>/dev/null <"$program.processor" || return
+    [ "$built_for" = any ] || [ "$built_for" = "$(processor)" ] || return
+    is_built
+}
+
+# Whether it is also what --build would make.
+is_best() {
+    is_ready && [ "$built_for" = "$(processor)" ]
+}
+
+# Does what builds the programs of these crates for such a processor, and records what they were built of and for. An
+# edit meanwhile, even one that was taken back, may stand in a program: nothing is recorded then, and it is built again
+# at the next call.
 build_by() {
-    crates=$1
-    shift
+    built_for=$1
+    crates=$2
+    shift 2
     state=$(states)
     before=$(checksums)
     for it in $crates; do
-        rm -f "$(program_of "$it").sources" "$(program_of "$it").states"
+        rm -f "$(program_of "$it").sources" "$(program_of "$it").processor" "$(program_of "$it").states"
     done
     "$@" || return
     [ "$(states)" = "$state" ] || return 0
     for it in $crates; do
+        echo "$built_for" >"$(program_of "$it").processor"
         printf '%s\n' "$before" "$(cksum <"$(program_of "$it")")" >"$(program_of "$it").sources"
     done
 }
@@ -150,8 +185,8 @@ logged() {
     if [ -t 2 ]; then watched "$@"; else passed_on "$@"; fi
 }
 
-# Proves all from nothing, and builds the programs. What rt writes is kept too; what it said of earlier builds is not of
-# these programs.
+# Proves all from nothing, and builds the programs, for any processor. What rt writes is kept too; what it said of
+# earlier builds is not of these programs.
 gate() {
     rm -f "$top"/out/*.log
     mkdir -p "$top/out" || return
@@ -159,9 +194,10 @@ gate() {
     return "$({ { (cd "$top" && rt ci) 3>&- 4>&-; echo "$?" >&3; } | tee "$top/out/gate.log" >&4; } 3>&1)"
 }
 
+# The libraries are not built for a processor: rt has no word for that.
 build_all() {
     libraries
-    trial_run
+    if [ "$1" = any ]; then trial_run; else trial_run "--cpu=$1"; fi
 }
 
 # A trial run ends with status 0, so another status is that of a build that failed.
@@ -169,7 +205,8 @@ build() {
     log=$top/out/$name.log
     mkdir -p "$top/out" && : >"$log" || refuse "cannot write the file '$log'"
     say "proving and building the program: $takes from nothing, less after an edit; what rt says is in $log"
-    build_by "$crate" logged build_all && return
+    wanted=$(processor)
+    build_by "$wanted" "$crate" logged build_all "$wanted" && return
     refuse "the program was not built, so nothing is run"
 }
 
@@ -184,21 +221,25 @@ has_file() {
 
 # Builds the program where that is due, and becomes it. Its own help calls it by the name under which it was started.
 become_program() {
-    is_built || build
+    is_ready || build
     link=$(dirname "$program")/$name
     [ -h "$link" ] || ln -s "$crate" "$link" 2>/dev/null || link=$program
     ask_for_large_pages
     exec "$link" "$@"
 }
 
+case ${TFTP_AUDIT_CPU-} in
+    '' | any | x86-64-v3) ;;
+    *) refuse "TFTP_AUDIT_CPU is any or x86-64-v3, not '$TFTP_AUDIT_CPU'" ;;
+esac
 program=$(program_of "$crate")
 case $#${1-} in
     1--build)
-        is_built || build
+        is_best || build
         exit 0
         ;;
     1--gate)
-        build_by 'tftp_audit tftp_transfers_main tftp_match_main' gate
+        build_by any 'tftp_audit tftp_transfers_main tftp_match_main' gate
         exit
         ;;
 esac

@@ -63,6 +63,13 @@ class Program:
     def path(self) -> Path:
         return TOP / "crates" / self.crate / "out" / self.crate
 
+    def built_for(self) -> str:
+        """What the launcher that built it wrote down: for which processors of the architecture."""
+        try:
+            return self.path().with_name(f"{self.crate}.processor").read_text().strip()
+        except OSError:
+            raise Refused(f"it is not known for which processors '{self.path()}' was built") from None
+
     def architecture(self) -> str:
         """Debian's name of the machine that it runs on."""
         head = self.path().read_bytes()[:20]
@@ -87,6 +94,13 @@ PROGRAMS = (
     Program("tftp_audit", "tftp-audit"), Program("tftp_transfers_main", "tftp-transfers"),
     Program("tftp_match_main", "tftp-match"),
 )
+
+
+def check_processors() -> None:
+    """Refuses a program that does not run on each machine of its architecture."""
+    for program in PROGRAMS:
+        if program.built_for() != "any":
+            raise Refused(f"'{program.path()}' was built for {program.built_for()}, and a package is for any processor")
 
 
 def libc_needed() -> str:

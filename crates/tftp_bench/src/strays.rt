@@ -45,7 +45,7 @@ fn count_among(ports: &mut Ports, bytes: &[u8]) -> io::Result<u64> {
 
 /// Where a datagram belongs, by its port at the other side.
 fn route(ports: &mut Ports, dir: Dir, remote: u16, opcode: u16) -> io::Result<Route> {
-    match ports.class(dir, 40_000, Host::none(), remote, opcode) {
+    match ports.class(dir, 40_000, &Host::none(), remote, opcode) {
         Ok(route) => Ok(route),
         Err(PortFault::Memory) => Err(io::Error::from(ErrorKind::OutOfMemory)),
         Err(_) => Err(io::Error::from(ErrorKind::InvalidData)),

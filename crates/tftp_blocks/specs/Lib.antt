@@ -1,6 +1,7 @@
 pub mod Store
 pub mod Placement
 pub mod Ring
+pub mod Place
 pub mod Spans
 pub mod Kept
 pub mod WorkedStore

@@ -1,4 +1,4 @@
-ghost use Rattle.std.specs.Prelude.{◌≡◌, ◌+◌, ◌*◌, ◌≤◌, ◌<◌, ◌++◌, ◌^◌, ℕ, List, [], ◌∷◌, None, Some, true, false, option_map, max, IfOk, OnOk, OnErr, length, drop, slice_index_or};
+ghost use Rattle.std.specs.Prelude.{◌≡◌, ◌+◌, ◌*◌, ◌≤◌, ◌<◌, ◌++◌, ◌^◌, ℕ, List, [], ◌∷◌, None, Some, true, false, option_map, max, IfOk, IfSome, OnOk, OnErr, length, drop, slice_index_or};
 ghost use Rattle.std.specs.Vec.{vec_capacity};
 ghost use Rattle.std.specs.VecDeque.{deque_capacity};
 ghost use Rattle.tftp_blocks.specs.Ring.{placed, leading, total, IsEven};
@@ -6,6 +6,7 @@ ghost use Rattle.tftp_blocks.specs.Ring.{placed, leading, total, IsEven};
 use std::alloc::{AllocError, Global};
 use std::collections::VecDeque;
 use std::marker::Model;
+use std::mem::size_of;
 
 /// How many bytes more than those of the blocks that wait may be half of what is kept, before the room of the blocks that
 /// have left is given back. So twice this may be kept beside twice what waits.
@@ -18,6 +19,74 @@ struct Span {
     len: usize,
 }
 
+/// A place of the ring, and where its block lies in the bytes of all that wait, if it has one. The length of a block takes two
+/// bytes, so that it has 16 where an `Option<Span>` has 24, and the places of a wide window take less of the caches.
+#[derive(Clone, Copy)]
+struct Place {
+    start: usize,
+    len: u16,
+    held: bool,
+}
+
+/// How many bytes a place has.
+const _: () = prove!(size_of::<Place>() == 16);
+
+impl Model for Place {
+    ghost use Rattle.std.specs.Prelude.{Option};
+    ghost use Rattle.tftp_blocks.specs.declared.waiting.Span.{Span};
+
+    ghost Value = { Option Span };
+
+    ghost use Rattle.tftp_blocks.specs.Place.{span_of, kept_as, kept_again, IsPlace};
+
+    ghost view = { span_of };
+
+    ghost invariant = { IsPlace };
+
+    ghost inverse = { kept_as };
+
+    ghost inverse_ok = { kept_again };
+}
+
+impl Place {
+    /// A place without a block.
+    fn gap() -> Self
+        ensures { result ≡ None }
+    {
+        Place {
+            start: 0,
+            len: 0,
+            held: false,
+        }
+    }
+
+    /// A place whose block lies there.
+    fn of(span: Span) -> Self
+        requires { span.len ≤ 65535 }
+        ensures { result ≡ Some span }
+    {
+        Place {
+            start: span.start,
+            len: span.len as u16,
+            held: true,
+        }
+    }
+
+    /// Where its block lies, if it has one.
+    fn span(&self) -> Option<Span>
+        ensures value { result ≡ self.now }
+        ensures short { IfSome result (λ span. span.len ≤ 65535) }
+    {
+        if !self.held {
+            return None;
+        }
+        Some(Span {
+            start: self.start,
+            len: usize::from(self.len),
+        })
+    }
+}
+
 /// The blocks above the front of a ring, each at its place. Their bytes stand in one vector, in the order in which they
 /// came, until no place is left: then it is emptied, and its room is used again. Where blocks wait all the time, it is
 /// packed when more than half of it is of blocks that have left and 1 MiB more: it stays within twice the bytes that wait,
@@ -25,7 +94,7 @@ struct Span {
 #[derive(Drop)]
 pub(crate) struct Waiting {
     bytes: Vec<u8>,
-    places: VecDeque<Option<Span>>,
+    places: VecDeque<Place>,
 }
 
 impl Model for Waiting {
@@ -68,12 +137,11 @@ impl Waiting {
 
     /// The bytes of the block at a place, if one is there.
     pub(crate) fn get(&self, place: usize) -> Option<&[u8]>
-        ensures { option_map (λ b. b.now) result ≡ slice_index_or self.now.0 place None }
+        ensures value { option_map (λ b. b.now) result ≡ slice_index_or self.now.0 place None }
+        ensures short { IfSome result (λ b. length b.now ≤ 65535) }
     {
-        match self.places.get(place) {
-            Some(Some(span)) => Some(&self.bytes[span.start..span.start + span.len]),
-            _ => None,
-        }
+        let span = self.places.get(place)?.span()?;
+        Some(&self.bytes[span.start..span.start + span.len])
     }
 
     /// Puts a block at a place. There are then as many places as that at least. `waiting` is how many bytes wait: where
@@ -90,6 +158,7 @@ impl Waiting {
         requires place { place < 65535 }
         requires length { length self.old.0 ≤ 65535 }
         requires waiting { waiting ≤ 65535 * 65535 }
+        requires short { length block.now ≤ 65535 }
         ensures ok { OnOk result (self.new.0 ≡ placed self.old.0 place block.now) }
         ensures kept { OnOk result (self.new.1 ≤ max (2 * (waiting + 2 ^ 20) + 1) (total self.old.0) + length block.now) }
         ensures err { OnErr result (self.new.0 ≡ self.old.0) }
@@ -104,7 +173,8 @@ impl Waiting {
 
     /// Puts a block at a place, behind the bytes of all others.
     fn lay(&mut self, place: usize, block: &[u8]) -> Result<(), AllocError>
-        requires { place < 65535 }
+        requires place { place < 65535 }
+        requires short { length block.now ≤ 65535 }
         ensures ok { OnOk result (self.new.0 ≡ placed self.old.0 place block.now) }
         ensures kept { OnOk result (self.new.1 ≡ self.old.1 + length block.now) }
         ensures err { OnErr result (self.new ≡ self.old) }
@@ -133,7 +203,8 @@ impl Waiting {
 
     /// Adds a place behind the others.
     fn add(&mut self, block: Option<&[u8]>) -> Result<(), AllocError>
-        requires { length self.old.0 < 65535 }
+        requires length { length self.old.0 < 65535 }
+        requires short { IfSome block (λ b. length b.now ≤ 65535) }
         ensures places { OnOk result (self.new.0 ≡ self.old.0 ++ option_map (λ b. b.now) block.entry ∷ []) }
         ensures kept { OnOk result (self.new.1 ≡ self.old.1 + total (option_map (λ b. b.now) block.entry ∷ [])) }
     {
@@ -144,7 +215,7 @@ impl Waiting {
             }
             None => {
                 self.places.reserve(1)?;
-                self.places.push_back_reserved(None);
+                self.places.push_back_reserved(Place::gap());
                 Ok(())
             }
         }
@@ -160,7 +231,7 @@ impl Waiting {
         let mut total = 0;
         let mut at = 1;
         while at < self.places.len() {
-            match self.places[at] {
+            match self.places[at].span() {
                 Some(span) => {
                     total += span.len;
                     at += 1;
@@ -204,17 +275,18 @@ impl Waiting {
 }
 
 /// Puts a span at a place of the row, which grows as far as that.
-fn set_place(places: &mut VecDeque<Option<Span>>, place: usize, span: Span)
+fn set_place(places: &mut VecDeque<Place>, place: usize, span: Span)
     requires room { place < deque_capacity places.old }
+    requires short { span.len ≤ 65535 }
     ensures { places.new.items ≡ placed places.old.items place span }
 {
     let held = places.len();
     if place < held {
-        places[place] = Some(span);
+        places[place] = Place::of(span);
         return;
     }
     while places.len() < place {
-        places.push_back_reserved(None);
+        places.push_back_reserved(Place::gap());
     }
-    places.push_back_reserved(Some(span));
+    places.push_back_reserved(Place::of(span));
 }

@@ -1,3 +1,4 @@
+pub mod Alike
 pub mod Beginnings
 pub mod Bytes
 pub mod Canonical

@@ -244,6 +244,7 @@ fn total(fields: &[u8], count: u64) -> Result<(), LineError>
 
 /// What a line says where a datagram or the total is due: a datagram, with which the caller's is filled, or none for the
 /// total.
+#[inline(never)]
 pub fn body_line(
     version: Version,
     line: &[u8],

@@ -15,6 +15,7 @@ use crate::version::Version;
 use std::alloc::Global;
 use std::io::Read;
 use std::marker::Model;
+use std::simd::prelude::*;
 use std::{io, mem};
 use tftp_digits::decode_on;
 use tftp_hosts::{Dir, Host};
@@ -22,6 +23,9 @@ use tftp_streams::{Latched, ReadBuffer};
 
 /// The most bytes of a head that is kept: `out`, a port of five digits, a host of 45 bytes, a port and four spaces.
 pub const LONGEST_HEAD: usize = 62;
+
+/// How many bytes a vector has that a head is compared in. Most heads have fewer.
+const LANES: usize = 32;
 
 /// How far the next line is known.
 #[derive(Clone, Copy)]
@@ -72,6 +76,23 @@ fn count_digits(payload: &[u8]) -> usize
         [] => 1,
         _ => 2 * payload.len(),
     }
+}
+
+/// Whether the bytes begin with the first `len` of a head: by a vector, where they are no more, since that is less than a call
+/// takes.
+#[inline(always)]
+fn begins_with(ahead: &[u8], head: &[u8; 62], len: usize) -> bool
+    requires head { len ≤ 62 }
+    requires room { len ≤ length ahead.now }
+    ensures { result ≡ true → take len ahead.now ≡ take len head.now }
+{
+    if len > LANES || ahead.len() < LANES {
+        return ahead[..len] == head[..len];
+    }
+    let differ = u8x32::from_slice(ahead)
+        .simd_ne(u8x32::from_slice(head))
+        .to_bitmask();
+    differ.trailing_zeros() as usize >= len
 }
 
 /// Puts a host in place. Most often it is there already, and what reads it need not wait for a write.
@@ -128,6 +149,7 @@ impl Head {
 
     /// What stands between the head and the LF, where the bytes begin with the head and an LF stands where the line would
     /// end, were it as long as the one before.
+    #[inline(always)]
     fn rest<'a>(&self, ahead: &'a [u8]) -> Option<&'a [u8]>
         ensures { IfSome result (λ rest. GoesOnAfter self.now.bytes self.now.line rest.now ahead.now) }
     {
@@ -135,7 +157,7 @@ impl Head {
         if ahead.len() <= line || ahead[line] != b'\n' || line < len {
             return None;
         }
-        if ahead[..len] != self.bytes[..len] {
+        if !begins_with(ahead, &self.bytes, len) {
             return None;
         }
         Some(&ahead[len..line])
@@ -143,6 +165,7 @@ impl Head {
 
     /// Fills a datagram with what the next line says, where it begins with the head and is as long as the line before, and
     /// answers how long that is. Else nothing is said of the datagram.
+    #[inline(always)]
     fn fill(&self, ahead: &[u8], datagram: &mut Datagram) -> Option<usize>
         ensures { IfSome result (BeginsWithDatagram self.now.version ahead.now (datagram_of datagram.new)) }
     {
@@ -285,7 +308,7 @@ impl Way {
 
     /// Fills a datagram with what the next line says, where the head is known and the line is like the one that it is of, and
     /// answers how many bytes it has. Else nothing is said of the datagram.
-    #[inline]
+    #[inline(always)]
     fn fill(&self, version: Version, ahead: &[u8], datagram: &mut Datagram) -> Option<usize>
         ensures { IfSome result (BeginsWithDatagram version ahead.now (datagram_of datagram.new)) }
     {
@@ -340,14 +363,16 @@ impl Heads {
 
     /// Fills a datagram with what the next line says, where it is like one before it, and answers how many bytes it has
     /// without its LF. Else nothing is said of the datagram, and the line has to be read field by field.
+    #[inline(always)]
     pub fn fill(&mut self, version: Version, ahead: &[u8], datagram: &mut Datagram) -> Option<usize>
         ensures { IfSome result (BeginsWithDatagram version ahead.now (datagram_of datagram.new)) }
     {
         self.way(ahead, datagram).fill(version, ahead, datagram)
     }
 
-    /// Reads on, where nothing is held or what is held is a part of a line of at most `most` bytes that is like one before it,
-    /// and fills the datagram with what that says. Else nothing is said of the datagram, and nothing is read.
+    /// Reads on while what is held is a part of a line of at most `most` bytes that is like one before it, and fills the
+    /// datagram with what that says. Where nothing is held it first makes one read, whatever the line is. Else nothing is read,
+    /// and nothing is said of the datagram.
     pub fn reach<R: Read>(
         &mut self,
         version: Version,
@@ -373,6 +398,7 @@ impl Heads {
     }
 
     /// Notes a line that says this datagram.
+    #[inline(never)]
     pub fn note(&mut self, version: Version, line: &[u8], datagram: &Datagram)
         requires { SaysDatagram version line.now (datagram_of datagram.now) }
     {

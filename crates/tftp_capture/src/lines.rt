@@ -231,6 +231,7 @@ impl Lines {
 
     /// Reads on to the next line that says something, as `next_said` does. Where it is like one before it the datagram is
     /// filled with what it says, and the answer is true; else nothing is said of the datagram.
+    #[inline(never)]
     pub fn next_said_like<R: Read>(
         &mut self,
         reader: &mut Latched<R>,
@@ -272,6 +273,7 @@ impl Lines {
     }
 
     /// Looks for the text's end after the line last read.
+    #[inline(never)]
     pub fn finish<R: Read>(&mut self, reader: &mut Latched<R>) -> Result<(), LineError>
         ensures ends { (bytes : List ℕ) × Consumes (prepend_known self.old.ahead (R.remaining reader.old.0)) (prepend_known self.new.ahead (R.remaining reader.new.0)) bytes
             × TextEnds result self.old.taken bytes }

@@ -94,6 +94,7 @@ impl CaptureReader {
     /// Reads the next datagram into what the caller holds, in the memory of its payload, or of the last one that went the
     /// same way; false, for good, once the text has ended without a fault. A fault is answered for good. Where no datagram
     /// was read, nothing is said of what the caller holds.
+    #[inline(always)]
     pub fn next_into<R: Read>(
         &mut self,
         reader: &mut Latched<R>,
@@ -176,6 +177,7 @@ impl CaptureReader {
 
 /// Takes the next line where it is like the last one of its way: its head is known, and its LF is not searched for, since no
 /// digit is one. Else no line is taken, and nothing is said of the datagram.
+#[inline(always)]
 fn take_like(lines: &mut Lines, heads: &mut Heads, datagram: &mut Datagram) -> bool
     ensures reaches { result ≡ true → (known : Option (List ℕ))
         → ReachesLine {T = Unit {0}} (Ok tt) lines.old lines.new (prepend_known lines.old.ahead known) (prepend_known lines.new.ahead known) }
@@ -192,6 +194,7 @@ fn take_like(lines: &mut Lines, heads: &mut Heads, datagram: &mut Datagram) -> b
 }
 
 /// Reads to the next datagram, or over the total to the text's end, after `count` datagrams.
+#[inline(always)]
 fn read_on<R: Read>(
     lines: &mut Lines,
     reader: &mut Latched<R>,

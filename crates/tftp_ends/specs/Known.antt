@@ -19,9 +19,13 @@ is_noted peer strays = list_any (same_peer peer) strays
 abbrev pub sides_of : Datagram → Sides
 sides_of d = record { local = d.local; peer = peer_of d }
 
+-- the other side of a datagram that is seen
+abbrev pub peer_as : Seen → PeerId
+peer_as seen = record { host = seen.host.now; port = seen.remote }
+
 -- the datagram with these numbers and this payload
 abbrev pub datagram_as : Seen → List ℕ → Datagram
-datagram_as seen payload = record { dir = seen.dir; local = seen.sides.local; host = seen.sides.peer.host; remote = seen.sides.peer.port; payload = payload }
+datagram_as seen payload = record { dir = seen.dir; local = seen.local; host = seen.host.now; remote = seen.remote; payload = payload }
 
 -- where the capture was taken; the sides of the first request, and of the first datagram from the server's side; and
 -- where strays came from

@@ -7,7 +7,7 @@ pub mod NamedEnds
 pub mod Roles
 pub use Rows.{AreLinked, IsLatest, IsLinked, mark_of, peers_of, rows_of}
 pub use declared.linked.Linked.{Linked}
-pub use Known.{HasNoRequest, HasNumbers, IsNewStray, KnownIds, NotesStrays, StandsFor, among_all, answer_of, answers, datagram_as, first_answer, is_noted, is_other, other_end, sides_of}
+pub use Known.{HasNoRequest, HasNumbers, IsNewStray, KnownIds, NotesStrays, StandsFor, among_all, answer_of, answers, datagram_as, first_answer, is_noted, is_other, other_end, peer_as, sides_of}
 pub use States.{AreBlocks, HasLengthBySize, IsAllAnswered, IsAllTaken, IsAside, IsBeforeBlocks, IsBlockOrAck, IsHeld, IsNewBlock, IsOfItsAuthor, IsReceiverAfter, IsSenderAfter, Receiver, Says, Sender, has_stopped, replied}
 pub use StatesKept.{AreWhole, AreWholeBelow, EndsThere, HasRightLength, IsEnd, IsKnown, IsShortTop, IsSound, IsSoundReceiver, IsSoundSender}
 pub use Rejections.{CannotHold, IsFound, NoneBroken}

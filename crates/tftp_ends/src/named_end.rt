@@ -65,6 +65,7 @@ impl<D: Delivered> NamedEnd<D> {
     /// Keeps a packet that passes this way, or tells the first rule that it breaks: a block or an ACK, since other packets
     /// break none of these rules (RFC 1350, sections 2, 4 and 5; RFC 2347; RFC 2348; RFC 2349; RFC 7440, section 4). Memory
     /// is taken for a block that is not held alone.
+    #[inline(always)]
     pub fn pass(&mut self, alloc: Global, dir: Dir, packet: &Packet<'_>) -> Result<(), Rejection>
         ensures found { (passed : List Datagram) → IsEndAfter self.old passed → IsFound (terms_of self.old) passed (meaning packet.now) result }
         ensures after { (passed : List Datagram) (d : Datagram) → IsEndAfter self.old passed → Says d dir (meaning packet.now)

@@ -1,6 +1,6 @@
 ghost use Rattle.std.specs.Prelude.{◌≡◌, ◌≢◌, ◌&&◌, not, ℕ, false, List, [], ◌∷◌, Some, None, is_some, option_map, Ok, Err, OnOk, OnErr};
 ghost use Rattle.tftp_packet.specs.{opcode_of};
-ghost use Rattle.tftp_hosts.specs.{Datagram, Header};
+ghost use Rattle.tftp_hosts.specs.{Datagram, Header, same_peer};
 ghost use Rattle.tftp_rules.specs.Ports as definitions;
 ghost use Rattle.tftp_ends.specs.Known.{
   StandsFor,
@@ -12,6 +12,7 @@ ghost use Rattle.tftp_ends.specs.Known.{
   answer_of,
   datagram_as,
   is_noted,
+  peer_as,
 };
 
 use crate::route::Route;
@@ -49,15 +50,45 @@ struct Sides {
     peer: Peer,
 }
 
-/// A datagram, as far as its route goes.
+/// A datagram, as far as its route goes. The host is borrowed, since it has many bytes and is kept of few datagrams.
 #[derive(Clone, Copy)]
-struct Seen {
+struct Seen<'a> {
     dir: Dir,
-    sides: Sides,
+    local: u16,
+    host: &'a Host,
+    remote: u16,
     opcode: u16,
 }
 
-impl Seen {
+impl Seen<'_> {
+    /// Whether it is between the named end and this peer.
+    #[inline(always)]
+    fn is_with(&self, peer: &Peer) -> bool
+        ensures { result ≡ same_peer (peer_as self.now) peer.now }
+    {
+        self.remote == peer.port && *self.host == peer.host
+    }
+
+    /// The other side.
+    fn peer(&self) -> Peer
+        ensures { result ≡ peer_as self.now }
+    {
+        Peer {
+            host: *self.host,
+            port: self.remote,
+        }
+    }
+
+    /// Both sides.
+    fn sides(&self) -> Sides
+        ensures { result ≡ record { local = self.now.local; peer = peer_as self.now } }
+    {
+        Sides {
+            local: self.local,
+            peer: self.peer(),
+        }
+    }
+
     fn begins_request(&self) -> bool
         ensures { (payload : List ℕ) → opcode_of payload ≡ self.now.opcode
             → result ≡ definitions.begins_request (datagram_as self.now payload) }
@@ -85,8 +116,8 @@ impl Seen {
         ensures { (payload : List ℕ) → result ≡ definitions.port_of_server named (datagram_as self.now payload) }
     {
         match named {
-            End::Client => self.sides.peer.port,
-            End::Server => self.sides.local,
+            End::Client => self.remote,
+            End::Server => self.local,
         }
     }
 }
@@ -137,25 +168,29 @@ impl Ports {
         &mut self,
         dir: Dir,
         local: u16,
-        host: Host,
+        host: &Host,
         remote: u16,
         opcode: u16,
     ) -> Result<Route, PortFault>
         ensures answer { (h : Header) (earlier : List Datagram) (d : Datagram) → StandsFor self.old h earlier
-            → HasNumbers d dir local host remote opcode
+            → HasNumbers d dir local host.now remote opcode
             → result ≢ Err PortFault.Memory → result ≡ answer_of (definitions.route_of h earlier d) }
         ensures memory { (h : Header) (earlier : List Datagram) (d : Datagram) → StandsFor self.old h earlier
-            → HasNumbers d dir local host remote opcode
+            → HasNumbers d dir local host.now remote opcode
             → result ≡ Err PortFault.Memory → IsNewStray h earlier d }
         ensures passes { (h : Header) (earlier : List Datagram) (d : Datagram) → StandsFor self.old h earlier
-            → HasNumbers d dir local host remote opcode
+            → HasNumbers d dir local host.now remote opcode
             → OnOk result ((HasNoRequest h earlier d → ⊥) → StandsFor self.new h (d ∷ earlier)) }
         ensures waits { self.old.asked ≡ None → result ≡ Ok Route.Peer → self.new ≡ self.old }
         ensures err { OnErr result (self.new ≡ self.old) }
     {
-        let peer = Peer { host, port: remote };
-        let sides = Sides { local, peer };
-        let seen = Seen { dir, sides, opcode };
+        let seen = Seen {
+            dir,
+            local,
+            host,
+            remote,
+            opcode,
+        };
         let route = self.route(&seen)?;
         self.keep(&seen, route)?;
         Ok(route)
@@ -166,22 +201,22 @@ impl Ports {
         ensures stands { (h : Header) (earlier : List Datagram) (payload : List ℕ) → StandsFor self.old h earlier
             → among_all route ≡ definitions.route_of h earlier (datagram_as seen.now payload)
             → OnOk result ((HasNoRequest h earlier (datagram_as seen.now payload) → ⊥) → StandsFor self.new h (datagram_as seen.now payload ∷ earlier)) }
-        ensures absent { OnErr result ((route ≡ Route.Stray) × (is_noted seen.now.sides.peer self.old.strays ≡ false)) }
+        ensures absent { OnErr result ((route ≡ Route.Stray) × (is_noted (peer_as seen.now) self.old.strays ≡ false)) }
         ensures waits { self.old.asked ≡ None → route ≡ Route.Peer → self.new ≡ self.old }
         ensures err { OnErr result (self.new ≡ self.old) }
     {
         match route {
-            Route::Request if self.asked.is_none() => self.asked = Some(seen.sides),
-            Route::Peer if self.is_first_answer(seen) => self.answered = Some(seen.sides),
+            Route::Request if self.asked.is_none() => self.asked = Some(seen.sides()),
+            Route::Peer if self.is_first_answer(seen) => self.answered = Some(seen.sides()),
             Route::Request | Route::Peer => {}
-            Route::Stray => self.strays.note(seen.sides.peer)?,
+            Route::Stray => self.strays.note(seen.peer())?,
             Route::StrayAnswer => {}
         }
         Ok(())
     }
 
     /// Whether a datagram that goes this way is the first from the server's side, after a first request.
-    fn is_first_answer(&self, seen: &Seen) -> bool
+    fn is_first_answer(&self, seen: &Seen<'_>) -> bool
         ensures { (payload : List ℕ) → result ≡ (is_some self.now.asked && not (is_some self.now.answered)
             && not (definitions.is_from_client self.now.header.named (datagram_as seen.now payload))) }
     {
@@ -189,7 +224,7 @@ impl Ports {
     }
 
     /// Where a datagram belongs.
-    fn route(&self, seen: &Seen) -> Result<Route, PortFault>
+    fn route(&self, seen: &Seen<'_>) -> Result<Route, PortFault>
         ensures { (h : Header) (earlier : List Datagram) (payload : List ℕ) → StandsFor self.now h earlier
             → opcode_of payload ≡ seen.now.opcode
             → result ≡ answer_of (definitions.route_of h earlier (datagram_as seen.now payload)) }
@@ -204,7 +239,7 @@ impl Ports {
     }
 
     /// Where it belongs before the first request.
-    fn route_before(&self, seen: &Seen) -> Result<Route, PortFault>
+    fn route_before(&self, seen: &Seen<'_>) -> Result<Route, PortFault>
         ensures { (payload : List ℕ) → opcode_of payload ≡ seen.now.opcode
             → result ≡ answer_of (definitions.route_before self.now.header (datagram_as seen.now payload)) }
     {
@@ -218,59 +253,59 @@ impl Ports {
     }
 
     /// Where it belongs at a client, after its first request.
-    fn route_at_client(&self, first: &Sides, seen: &Seen) -> Result<Route, PortFault>
+    fn route_at_client(&self, first: &Sides, seen: &Seen<'_>) -> Result<Route, PortFault>
         ensures { (earlier : List Datagram) (payload : List ℕ) → opcode_of payload ≡ seen.now.opcode
             → NotesStrays self.now.strays (option_map (λ s. s.peer) self.now.answered) earlier
             → result ≡ answer_of (definitions.route_at_client first.now.local first.now.peer (option_map (λ s. s.peer) self.now.answered) earlier
             (datagram_as seen.now payload)) }
     {
-        if seen.sides.local != first.local {
+        if seen.local != first.local {
             return Err(PortFault::Broken(PortRule::Foreign));
         }
         let is_request = seen.begins_request();
         match (seen.dir, &self.answered) {
-            (Dir::Out, _) if is_request && seen.sides.peer == first.peer => Ok(Route::Request),
+            (Dir::Out, _) if is_request && seen.is_with(&first.peer) => Ok(Route::Request),
             (Dir::Out, _) if is_request => Err(PortFault::Broken(PortRule::Wrong)),
             (Dir::Out, None) => Err(PortFault::Broken(PortRule::Wrong)),
-            (Dir::Out, Some(answer)) => self.route_out(answer.peer, seen),
-            (Dir::In, Some(answer)) if seen.sides.peer != answer.peer => Ok(Route::Stray),
+            (Dir::Out, Some(answer)) => self.route_out(&answer.peer, seen),
+            (Dir::In, Some(answer)) if !seen.is_with(&answer.peer) => Ok(Route::Stray),
             (Dir::In, _) => Ok(Route::Peer),
         }
     }
 
     /// Where it belongs at a server, after its client's first request.
-    fn route_at_server(&self, first: &Sides, seen: &Seen) -> Result<Route, PortFault>
+    fn route_at_server(&self, first: &Sides, seen: &Seen<'_>) -> Result<Route, PortFault>
         ensures { (earlier : List Datagram) (payload : List ℕ) → opcode_of payload ≡ seen.now.opcode
             → NotesStrays self.now.strays (Some first.now.peer) earlier
             → result ≡ answer_of (definitions.route_at_server self.now.header first.now.peer (option_map (λ s. s.local) self.now.answered) earlier
             (datagram_as seen.now payload)) }
     {
-        let client = first.peer;
+        let client = &first.peer;
         let is_request = seen.begins_request();
-        let is_to_service = is_request && seen.sides.local == self.service;
+        let is_to_service = is_request && seen.local == self.service;
         match (&self.answered, seen.dir) {
-            (None, Dir::Out) if seen.sides.peer == client => Ok(Route::Peer),
+            (None, Dir::Out) if seen.is_with(client) => Ok(Route::Peer),
             (None, Dir::Out) => Err(PortFault::Broken(PortRule::Wrong)),
             (None, Dir::In) => self.route_to_service(client, seen),
-            (Some(own), Dir::Out) if seen.sides.local != own.local => Err(PortFault::Broken(
+            (Some(own), Dir::Out) if seen.local != own.local => Err(PortFault::Broken(
                 PortRule::Foreign,
             )),
             (Some(_), Dir::Out) => self.route_out(client, seen),
-            (Some(own), Dir::In) if seen.sides.local != own.local || is_to_service => {
+            (Some(own), Dir::In) if seen.local != own.local || is_to_service => {
                 self.route_to_service(client, seen)
             }
-            (Some(_), Dir::In) if seen.sides.peer != client => Ok(Route::Stray),
+            (Some(_), Dir::In) if !seen.is_with(client) => Ok(Route::Stray),
             (Some(_), Dir::In) if is_request => Err(PortFault::Broken(PortRule::Wrong)),
             (Some(_), Dir::In) => Ok(Route::Peer),
         }
     }
 
     /// What comes in at the service port of a server that has not answered, or answers from another port.
-    fn route_to_service(&self, client: Peer, seen: &Seen) -> Result<Route, PortFault>
+    fn route_to_service(&self, client: &Peer, seen: &Seen<'_>) -> Result<Route, PortFault>
         ensures { (payload : List ℕ) → opcode_of payload ≡ seen.now.opcode
-            → result ≡ answer_of (definitions.route_to_service self.now.header client (datagram_as seen.now payload)) }
+            → result ≡ answer_of (definitions.route_to_service self.now.header client.now (datagram_as seen.now payload)) }
     {
-        if seen.sides.local != self.service || seen.sides.peer != client {
+        if seen.local != self.service || !seen.is_with(client) {
             Err(PortFault::Broken(PortRule::Foreign))
         } else if seen.begins_request() {
             Ok(Route::Request)
@@ -280,14 +315,14 @@ impl Ports {
     }
 
     /// What goes out from the end's own port: to the other end, or in answer to a stray.
-    fn route_out(&self, other: Peer, seen: &Seen) -> Result<Route, PortFault>
+    fn route_out(&self, other: &Peer, seen: &Seen<'_>) -> Result<Route, PortFault>
         ensures { (earlier : List Datagram) (payload : List ℕ) → opcode_of payload ≡ seen.now.opcode
-            → NotesStrays self.now.strays (Some other) earlier
-            → result ≡ answer_of (definitions.route_out other earlier (datagram_as seen.now payload)) }
+            → NotesStrays self.now.strays (Some other.now) earlier
+            → result ≡ answer_of (definitions.route_out other.now earlier (datagram_as seen.now payload)) }
     {
-        if seen.sides.peer == other {
+        if seen.is_with(other) {
             Ok(Route::Peer)
-        } else if !self.strays.have(seen.sides.peer) {
+        } else if !self.strays.have(seen.peer()) {
             Err(PortFault::Broken(PortRule::Wrong))
         } else if seen.begins_error() {
             Ok(Route::StrayAnswer)

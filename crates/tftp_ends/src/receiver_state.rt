@@ -85,6 +85,7 @@ impl<D: Delivered> ReceiverState<D> {
 
     /// Keeps a packet that passes here, or tells the first rule that it breaks (RFC 1350, sections 2, 4 and 5; RFC 2347;
     /// RFC 2348; RFC 2349; RFC 7440, section 4). Memory is taken for a block that is not held alone.
+    #[inline(always)]
     pub fn pass(&mut self, alloc: Global, dir: Dir, packet: &Packet<'_>) -> Result<(), Rejection>
         ensures found { (passed : List Datagram) → IsReceiverAfter self.old passed → IsFound self.old.terms passed (meaning packet.now) result }
         ensures after { (passed : List Datagram) (d : Datagram) → IsReceiverAfter self.old passed → Says d dir (meaning packet.now)
@@ -109,6 +110,7 @@ impl<D: Delivered> ReceiverState<D> {
     }
 
     /// Keeps a block that comes in, as `pass` says it.
+    #[inline(never)]
     fn pass_data(&mut self, alloc: Global, number: u16, bytes: &[u8]) -> Result<(), Rejection>
         ensures found { (passed : List Datagram) → IsReceiverAfter self.old passed → IsFound self.old.terms passed (Data number bytes.now) result }
         ensures after { (passed : List Datagram) (d : Datagram) → IsReceiverAfter self.old passed → Says d In (Data number bytes.now)

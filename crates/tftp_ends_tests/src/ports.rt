@@ -22,7 +22,7 @@ fn class_once(
     ports: &mut Ports,
     (dir, local, host, remote, opcode): &(Dir, u16, Host, u16, u16),
 ) -> Result<Route, PortFault> {
-    ports.class(*dir, *local, *host, *remote, *opcode)
+    ports.class(*dir, *local, host, *remote, *opcode)
 }
 
 /// Asks so, and again where a growth was refused: nothing may have changed.

@@ -85,7 +85,7 @@ impl<D: Delivered + Drop> JudgeState<D> {
         let route = match self.ports.class(
             datagram.dir,
             datagram.local_port,
-            datagram.remote_host,
+            &datagram.remote_host,
             datagram.remote_port,
             opcode(payload),
         ) {

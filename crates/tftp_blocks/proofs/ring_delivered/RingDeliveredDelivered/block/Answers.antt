@@ -24,7 +24,7 @@ returns-then-number-self c =
     ∙ ap (λ m. finite.get (numbered 1 m.0) c.args.number) c.self.view_is
 
 pub returns : goal.returns
-returns c = c.get.ensures
+returns c = c.get.ensures.value
     ∙ sym (ring_block c.self.inside.block_size c.self.inside.front c.self.inside.joined.items c.self.inside.pending.0 c.args.number
     (let above = c.if-number-self.false in omega arith))
     ∙ ap (λ m. finite.get (numbered 1 m.0) c.args.number) c.self.view_is

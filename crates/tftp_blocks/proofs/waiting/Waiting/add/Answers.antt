@@ -12,11 +12,11 @@ returns-in-Some-clause-places c =
 
 pub invariant_of-self-in-None : goal.invariant_of-self-in-None
 invariant_of-self-in-None c =
-    subst (AreWithin (length c.self.inside.bytes.items)) (sym (c.push_back_reserved.ensures.items ∙ ap (λ ps. ps ++ None ∷ []) c.in_ok-reserve-in-None.ensures.items))
+    subst (AreWithin (length c.self.inside.bytes.items)) (sym (c.push_back_reserved.ensures.items ∙ ap (λ p. c.reserve.new.self.items ++ p ∷ []) c.gap.ensures ∙ ap (λ ps. ps ++ None ∷ []) c.in_ok-reserve-in-None.ensures.items))
     (within_gap _ c.self.inside.places.items c.self.invariant)
 
 pub returns-in_ok-reserve-in-None-clause-places : goal.returns-in_ok-reserve-in-None-clause-places
 returns-in_ok-reserve-in-None-clause-places c =
-    ap (shown c.self.inside.bytes.items) (c.push_back_reserved.ensures.items ∙ ap (λ ps. ps ++ None ∷ []) c.in_ok-reserve-in-None.ensures.items)
+    ap (shown c.self.inside.bytes.items) (c.push_back_reserved.ensures.items ∙ ap (λ p. c.reserve.new.self.items ++ p ∷ []) c.gap.ensures ∙ ap (λ ps. ps ++ None ∷ []) c.in_ok-reserve-in-None.ensures.items)
     ∙ shown_gap c.self.inside.bytes.items c.self.inside.places.items ∙ ap (λ v. v.0 ++ None ∷ []) c.self.view_is
     ∙ ap (λ block. c.args.self.now.0 ++ option_map (λ b. b.now) block ∷ []) (sym c.in-None.is)

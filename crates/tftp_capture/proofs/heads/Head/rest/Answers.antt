@@ -1,4 +1,4 @@
-use Rattle.std.proofs.Common.{◌≡◌, take, rules}
+use Rattle.std.proofs.Common.{take}
 use Rattle.tftp_capture.proofs.HeadLines.{goes_on}
 use Rattle.tftp_capture.proofs.heads.Head.rest.Goals as goal
 
@@ -6,5 +6,4 @@ pub returns : goal.returns
 returns c =
     let ahead = c.args.ahead.now in
     let h = c.self.inside in
-    let same : take h.len ahead ≡ take h.len h.bytes = search rules in
-    rw (← c.self.view_is) (goes_on (take h.len h.bytes) ahead h.len h.line same c.if-line-len.false c.if-ahead-line.false c.if-ahead-line-ne10.false)
+    rw (← c.self.view_is) (goes_on (take h.len h.bytes) ahead h.len h.line (c.begins_with.ensures c.if-not-begins_with.false) c.if-line-len.false c.if-ahead-line.false c.if-ahead-line-ne10.false)

@@ -9,9 +9,9 @@ use Rattle.tftp_ends.proofs.ports.Ports.class.Goals.{After-route}
 
 -- the route of the datagram with these numbers
 routed : (c : After-route) (h : Header) (earlier : List Datagram) (d : Datagram) → StandsFor c.args.self.now h earlier
-    → HasNumbers d c.args.dir c.args.local c.args.host c.args.remote c.args.opcode → c.route.result ≡ answer_of (route_of h earlier d)
+    → HasNumbers d c.args.dir c.args.local c.args.host.now c.args.remote c.args.opcode → c.route.result ≡ answer_of (route_of h earlier d)
 routed c h earlier d stands has =
-    c.route.ensures h earlier d.payload stands has.opcode ∙ ap (λ x. answer_of (route_of h earlier x)) (same_numbers d c.args.dir c.args.local c.args.host c.args.remote c.args.opcode has)
+    c.route.ensures h earlier d.payload stands has.opcode ∙ ap (λ x. answer_of (route_of h earlier x)) (same_numbers d c.args.dir c.args.local c.args.host.now c.args.remote c.args.opcode has)
 
 pub returns-in_err-route-clause-answer : goal.returns-in_err-route-clause-answer
 returns-in_err-route-clause-answer c h earlier d stands has ample =
@@ -25,7 +25,7 @@ returns-in_err-route-clause-memory c h earlier d stands has want =
 
 pub returns-in_err-keep-clause-memory : goal.returns-in_err-keep-clause-memory
 returns-in_err-keep-clause-memory c h earlier d stands has want =
-    let same = same_numbers d c.args.dir c.args.local c.args.host c.args.remote c.args.opcode has in
+    let same = same_numbers d c.args.dir c.args.local c.args.host.now c.args.remote c.args.opcode has in
     let route = passing_is (route_of h earlier d) c.in_ok-route.route (sym c.in_ok-route.was ∙ routed (goal.at.returns-in_err-keep-clause-memory c).After-route h earlier d stands has) in
     let absent = c.in_err-keep.ensures.absent in (
       sym route ∙ ap among_all absent.0,
@@ -37,7 +37,7 @@ returns-clause-answer c h earlier d stands has ample = sym c.in_ok-route.was ∙
 
 pub returns-clause-passes : goal.returns-clause-passes
 returns-clause-passes c h earlier d stands has =
-    let same = same_numbers d c.args.dir c.args.local c.args.host c.args.remote c.args.opcode has in
+    let same = same_numbers d c.args.dir c.args.local c.args.host.now c.args.remote c.args.opcode has in
     let route = passing_is (route_of h earlier d) c.in_ok-route.route (sym c.in_ok-route.was ∙ routed (goal.at.returns-clause-passes c).After-route h earlier d stands has) in
     subst (λ x. (HasNoRequest h earlier x → ⊥) → StandsFor c.keep.new.self h (x ∷ earlier)) same
     (c.in_ok-keep.ensures.stands h earlier d.payload stands (route ∙ ap (route_of h earlier) (sym same)))
