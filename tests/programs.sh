@@ -5,13 +5,7 @@
 # them, for some seconds; the recorded transfers of examples/; what is said between the ends; the rows, lists and texts
 # of recordings; and captures of both ends, texts and recordings, matched.
 set -eu
-here=$(dirname "$0")
-transfers=$here/../crates/tftp_transfers_main/out/tftp_transfers_main
-match=$here/../crates/tftp_match_main/out/tftp_match_main
-shim=$(mktemp -d)
-trap 'rm -rf "$shim"' EXIT
-export PYTHONDONTWRITEBYTECODE=1
-cc -O1 -shared -fPIC -o "$shim/refuse.so" "$here/refuse.c" -ldl
+. "$(dirname "$0")/setup.sh"
 echo "failures:"
 python3 "$here/failures.py" "$1" "$shim"
 echo "what the commands say:"

@@ -7,13 +7,7 @@
 # each rule is called, wherever that stands; the pages of contracts, beside the sources; and what stands in the pages
 # for readers.
 set -eu
-here=$(dirname "$0")
-transfers=$here/../crates/tftp_transfers_main/out/tftp_transfers_main
-match=$here/../crates/tftp_match_main/out/tftp_match_main
-shim=$(mktemp -d)
-trap 'rm -rf "$shim"' EXIT
-export PYTHONDONTWRITEBYTECODE=1
-cc -O1 -shared -fPIC -o "$shim/refuse.so" "$here/refuse.c" -ldl
+. "$(dirname "$0")/setup.sh"
 echo "launchers:"
 python3 "$here/script.py"
 echo "packages:"

@@ -25,6 +25,7 @@ from trial import Trial
 
 WRONG_WORDS: tuple[list[str], ...] = (
     [], [""], ["help"], ["-x"], ["Check"], ["extrac", "x"], ["--help", "check"], ["--version", "x"], ["--build", "x"],
+    ["--ready", "x"],
 )
 # As the program tftp-transfers tells its own.
 VERSION = re.findall(r'VERSION: &str = "(.*)"', (TOP / "crates" / "tftp_words" / "src" / "help.rt").read_text())[0]
@@ -61,8 +62,9 @@ class ScriptTrial(Trial):
 def building(trial: ScriptTrial, scratch: Scratch) -> None:
     trial.runs("the first call", scratch.call("text"), "one", 1, given="text")
     trial.runs("nothing changed", scratch.call(), "one", 0)
-    got = scratch.run("--build")
-    trial.check("--build, nothing changed", got == ("", "", 0, 0), got)
+    for word in ("--build", "--ready"):
+        got = scratch.run(word)
+        trial.check(f"{word}, nothing changed", got == ("", "", 0, 0), got)
     scratch.source.write_text("two 1")
     trial.refuses("a trial run that fails", scratch.call(), trial.not_built(), 1)
     scratch.source.write_text("two")
@@ -112,7 +114,7 @@ def failing(trial: ScriptTrial, scratch: Scratch) -> None:
     old = scratch.program.read_bytes(), scratch.program.stat().st_mtime_ns
     scratch.source.write_text("broken")
     right = scratch.launcher.words
-    for words in (right, right, *scratch.launcher.others, ("--build",), ("check", "tests/run.sh")):
+    for words in (right, right, *scratch.launcher.others, ("--build",), ("--ready",), ("check", "tests/run.sh")):
         got = scratch.run(*words)
         trial.refuses(f"a failed build, {words}", got, "error: broken\n" + trial.not_built(), 1)
     for target in ("build", "install"):
@@ -309,7 +311,7 @@ def recordings(trial: ScriptTrial, scratch: Scratch) -> None:
         trial.runs(f"{words}", got, "mended", 0, words=said_of(words), given="other")
     more: tuple[list[Word], ...] = (
         ["list", recording], ["text", "2", "client", recording], [recording, "--service", "6969"], ["--version"], [],
-        ["-", "--service", "69"], ["help"], [""], ["--build", "x", "-"],
+        ["-", "--service", "69"], ["help"], [""], ["--build", "x", "-"], ["--ready", "-"],
     )
     for words in more:
         got = scratch.run(*words, given="other")
@@ -345,7 +347,7 @@ def matches(trial: ScriptTrial, scratch: Scratch) -> None:
     for words in passed:
         got = scratch.run(*words, given="other")
         trial.runs(f"{words}", got, "mended", 0, words=said_of(words), given="other")
-    more: tuple[list[Word], ...] = (["-", capture], ["missing", "--json"], ["--version"], [], [""], ["--build", "-"])
+    more: tuple[list[Word], ...] = (["-", capture], ["missing", "--json"], ["--version"], [], [""], ["--build", "-"], ["--ready", "-"])
     for words in more:
         got = scratch.run(*words, given="other")
         trial.runs(f"{words}", got, "mended", 0, words=said_of(words), given="other", status=2)
@@ -513,7 +515,8 @@ def processors(trial: ScriptTrial, scratch: Scratch) -> None:
 
 
 def other_processors(trial: ScriptTrial, scratch: Scratch) -> None:
-    """A program for others is built again, also where its state is known; one for any is so by --build alone."""
+    """A program for others is built again, also where its state is known; one for any is so by --build alone, and not by
+    --ready."""
     stamp = scratch.program.with_name(f"{scratch.program.name}.states")
     scratch.source.write_text("eleven")
     for is_known in (True, False):
@@ -530,6 +533,8 @@ def other_processors(trial: ScriptTrial, scratch: Scratch) -> None:
             stamp.unlink()
         scratch.cpu = V3
         trial.runs(f"for any, called for {V3}, {name}", scratch.call(), "eleven", 0)
+        got = scratch.run("--ready")
+        trial.check(f"for any, --ready for {V3}, {name}", got == ("", "", 0, 0) and scratch.built_for() == "any", got)
         for cpu in (V3, "any"):
             scratch.cpu = cpu
             got = scratch.run("--build")
@@ -606,6 +611,7 @@ def gates_here(trial: ScriptTrial, scratch: Scratch) -> None:
     trial.check(f"--gate for {V3}", scratch.run("--gate")[2] == 0 and "rt: run" not in scratch.calls.read_text())
     are_for(trial, scratch, "--gate", "any")
     trial.runs("the call after it", scratch.call(), "thirteen", 0)
+    asks(trial, scratch)
     tested(trial, scratch, "thirteen", "", 3)
     tested(trial, scratch, "thirteen", "programs.sh", 3)
     tested(trial, scratch, "thirteen", "run.sh", 0)
@@ -617,6 +623,21 @@ def gates_here(trial: ScriptTrial, scratch: Scratch) -> None:
     holds = status == 2 and trial.not_built() in errors and "programs.sh" not in scratch.calls.read_text()
     trial.check(f"make test-here for {V3}, a trial run that fails", holds, errors)
     scratch.cpu = "any"
+
+
+def asks(trial: ScriptTrial, scratch: Scratch) -> None:
+    """The scripts ask the programs that the gate built, whose words are none that they know."""
+    script, recording = scratch.top / "tools" / "tftp-explain", scratch.top.parent / "asked"
+    recording.write_text("its bytes")
+    capture = TOP / "examples" / "one-block.capture"
+    asked: tuple[tuple[Launcher, tuple[Word, ...], str], ...] = (
+        (AUDIT, (capture,), "gave no verdict"), (TRANSFERS, (recording,), "gave no rows"),
+        (MATCH, ("--pair", capture, capture), "did not match the two"),
+    )
+    for launcher, words, told in asked:
+        output, errors, status, builds = scratch.run(*words, script=script)
+        holds = (output, status, builds) == ("", 2, 0) and f"/{launcher.name}' {told}" in errors
+        trial.check(f"tftp-explain asks {launcher.name} as the gate built it", holds, (output, errors, builds))
 
 
 def are_for(trial: ScriptTrial, scratch: Scratch, name: str, cpu: str) -> None:

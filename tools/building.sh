@@ -3,6 +3,7 @@
 # `top`, where the repository is; `name` and `crate`, those of its program; `takes`, how long a build takes; and
 # trial_run, which builds the program, with the words for rt that it is given, and tries it. tests/here.sh reads it too.
 #   NAME --build   only builds the program, for the processor at hand
+#   NAME --ready   only builds it where a call would
 #   NAME --gate    proves all from nothing with rt ci, which builds all of them too, for any; its status is rt's
 
 # Where the program of a crate is built.
@@ -236,6 +237,10 @@ program=$(program_of "$crate")
 case $#${1-} in
     1--build)
         is_best || build
+        exit 0
+        ;;
+    1--ready)
+        is_ready || build
         exit 0
         ;;
     1--gate)

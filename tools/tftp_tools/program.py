@@ -57,7 +57,7 @@ def find_program(name: str, wanted: Optional[str]) -> str:
 def built(launcher: str) -> str:
     """The launcher, once its program is built: what a build says is none of what the program tells."""
     with told(f"cannot run {launcher!r}"):
-        done = subprocess.run([launcher, "--build"], stdin=subprocess.DEVNULL, check=False)
+        done = subprocess.run([launcher, "--ready"], stdin=subprocess.DEVNULL, check=False)
     if done.returncode:
         raise Refused(f"{launcher!r} did not build the program")
     return launcher
