@@ -1,4 +1,4 @@
--- The digits of sixteen bytes at once.
+-- The digits of as many bytes at once as a vector holds.
 use Rattle.std.proofs.Common.{◌≡◌, ℕ, suc, ◌+◌, ◌*◌, ◌/◌, ◌%◌, ◌^◌, ◌<◌, ◌≤◌, List, [], ◌∷◌, ◌++◌, length, get_or, take, drop, map, replicate, refl, sym, ap, subst, ◌∙◌, arith, w8, Fits, bit_and, append-nil, length-drop, take-append-drop}
 use Rattle.std.specs.List.{range_with_len}
 use Rattle.std.specs.Simd.Lanes.{zip2, Each1, pick_l, chunk, put_chunk}
@@ -12,14 +12,26 @@ use Rattle.std.proofs.lemmas.Nat.{and_mask}
 use Rattle.hex.specs.Hex.{encode_lower, encode_with, lower_digits}
 use Rattle.tftp_digits.proofs.Encoding.{encode-append}
 
--- what is looked up in a table of sixteen
-looked_up : (table : List ℕ) (i : ℕ) (js : List ℕ) → i + length js ≤ 16 → Each1 (λ j. j < 16) js → swz_l w8 16 table i js ≡ map (λ j. get_or table j 0) js
-looked_up table i [] le h = refl
-looked_up table i (j ∷ js) le h =
-    let at : 16 * ((i + 0) / 16) + j ≡ j = omega arith in
-    let here = get_or-swz_l_below w8 16 table i (j ∷ js) 0 (omega arith) h.0 ∙ ap (λ k. get_or table k 0) at in
-    let rest = looked_up table (suc i) js (omega arith) h.1 in
-    λ p. here p ∷ rest p
+-- sixteen numbers, again and again
+abbrev Repeats : List ℕ → List ℕ → ℕ → Type 0
+Repeats wide table n = (m : ℕ) → m < n → get_or wide m 0 ≡ get_or table (m % 16) 0
+
+pub once : (table : List ℕ) → Repeats table table 16
+once table m l = ap (λ k. get_or table k 0) (omega arith)
+
+pub twice : Repeats (lower_digits ++ lower_digits) lower_digits 32
+twice m l = get_or-map-range_with_len (λ j. get_or lower_digits (j % 16) 0) 0 32 m m 0 l (omega arith)
+
+-- what is looked up in a table of sixteen, which stands there once for each sixteen lanes
+looked_up : (wide table : List ℕ) (b n i : ℕ) (js : List ℕ) → n ≡ b * 16 → Repeats wide table n → i + length js ≤ n → Each1 (λ j. j < 16) js
+    → swz_l w8 16 wide i js ≡ map (λ j. get_or table j 0) js
+looked_up wide table b n i [] whole again le h = refl
+looked_up wide table b n i (j ∷ js) whole again le h =
+    let small = h.0 in
+    let at = 16 * ((i + 0) / 16) + j in
+    let same : get_or wide at 0 ≡ get_or table j 0 = again at (omega arith) ∙ ap (λ k. get_or table k 0) (omega arith) in
+    let here = get_or-swz_l_below w8 16 wide i (j ∷ js) 0 (omega arith) small ∙ same in
+    λ p. here p ∷ looked_up wide table b n (suc i) js whole again (omega arith) h.1 p
 
 high_small : (bytes : List ℕ) → Each1 (Fits w8) bytes → Each1 (λ j. j < 16) (map (λ b. b / 16) bytes)
 high_small [] h = tt
@@ -29,22 +41,22 @@ low_small : (bytes : List ℕ) → Each1 (λ j. j < 16) (map (λ b. b % 16) byte
 low_small [] = tt
 low_small (b ∷ bytes) = (omega arith, low_small bytes)
 
-high_is : (bytes : List ℕ) → length bytes ≡ 16 → zip2 (λ a b. a / 2 ^ b) bytes (replicate 16 4) ≡ map (λ b. b / 16) bytes
-high_is bytes long = zip2_splat (λ a b. a / 2 ^ b) bytes 16 4 long
+high_is : (n : ℕ) (bytes : List ℕ) → length bytes ≡ n → zip2 (λ a b. a / 2 ^ b) bytes (replicate n 4) ≡ map (λ b. b / 16) bytes
+high_is n bytes long = zip2_splat (λ a b. a / 2 ^ b) bytes n 4 long
 
-low_is : (bytes : List ℕ) → length bytes ≡ 16 → zip2 bit_and bytes (replicate 16 15) ≡ map (λ b. b % 16) bytes
-low_is bytes long = zip2_splat bit_and bytes 16 15 long ∙ (λ p. map (λ b. and_mask b 4 p) bytes)
+low_is : (n : ℕ) (bytes : List ℕ) → length bytes ≡ n → zip2 bit_and bytes (replicate n 15) ≡ map (λ b. b % 16) bytes
+low_is n bytes long = zip2_splat bit_and bytes n 15 long ∙ (λ p. map (λ b. and_mask b 4 p) bytes)
 
 -- the values of digits may be looked up
-pub high_ok : (bytes : List ℕ) → length bytes ≡ 16 → Each1 (Fits w8) bytes → SwzOk w8 16 16 0 (zip2 (λ a b. a / 2 ^ b) bytes (replicate 16 4))
-high_ok bytes long fits =
+pub high_ok : (b n : ℕ) (bytes : List ℕ) → n ≡ b * 16 → length bytes ≡ n → Each1 (Fits w8) bytes → SwzOk w8 16 n 0 (zip2 (λ a b. a / 2 ^ b) bytes (replicate n 4))
+high_ok b n bytes whole long fits =
     let len = length-map bytes (λ b. b / 16) in
-    subst (SwzOk w8 16 16 0) (sym (high_is bytes long)) (SwzOk-from_below w8 16 1 16 0 _ refl (omega arith) (high_small bytes fits))
+    subst (SwzOk w8 16 n 0) (sym (high_is n bytes long)) (SwzOk-from_below w8 16 b n 0 _ whole (omega arith) (high_small bytes fits))
 
-pub low_ok : (bytes : List ℕ) → length bytes ≡ 16 → SwzOk w8 16 16 0 (zip2 bit_and bytes (replicate 16 15))
-low_ok bytes long =
+pub low_ok : (b n : ℕ) (bytes : List ℕ) → n ≡ b * 16 → length bytes ≡ n → SwzOk w8 16 n 0 (zip2 bit_and bytes (replicate n 15))
+low_ok b n bytes whole long =
     let len = length-map bytes (λ b. b % 16) in
-    subst (SwzOk w8 16 16 0) (sym (low_is bytes long)) (SwzOk-from_below w8 16 1 16 0 _ refl (omega arith) (low_small bytes))
+    subst (SwzOk w8 16 n 0) (sym (low_is n bytes long)) (SwzOk-from_below w8 16 b n 0 _ whole (omega arith) (low_small bytes))
 
 abbrev listed : (ℕ → ℕ) → ℕ → List ℕ
 listed f n = map f (range_with_len 0 n)
@@ -57,22 +69,32 @@ spelled P n h xs long =
     subst P (ext_get_or 0 _ xs (many ∙ sym long) (λ i l. get_or-map-range_with_len f 0 n i i 0 (omega arith) (omega arith))) (h f)
 
 -- by turns a digit for the high four bits and one for the low four
-abbrev turns : List ℕ
-turns = 0 ∷ 16 ∷ 1 ∷ 17 ∷ 2 ∷ 18 ∷ 3 ∷ 19 ∷ 4 ∷ 20 ∷ 5 ∷ 21 ∷ 6 ∷ 22 ∷ 7 ∷ 23 ∷ 8 ∷ 24 ∷ 9 ∷ 25 ∷ 10 ∷ 26 ∷ 11 ∷ 27 ∷ 12 ∷ 28 ∷ 13 ∷ 29 ∷ 14 ∷ 30 ∷ 15 ∷ 31 ∷ []
+abbrev turns : ℕ → List ℕ
+turns n = map (λ i. i / 2 + i % 2 * n) (range_with_len 0 (2 * n))
 
-in_turn : (table : List ℕ) (bytes : List ℕ) → length bytes ≡ 16
-    → pick_l 0 (map (λ j. get_or table j 0) (map (λ b. b / 16) bytes) ++ map (λ j. get_or table j 0) (map (λ b. b % 16) bytes)) turns ≡ encode_with table bytes
+-- the digits for the high four bits, and then those for the low four
+abbrev halves : List ℕ → List ℕ → List ℕ
+halves table bytes = map (λ j. get_or table j 0) (map (λ b. b / 16) bytes) ++ map (λ j. get_or table j 0) (map (λ b. b % 16) bytes)
+
+abbrev InTurn : List ℕ → ℕ → List ℕ → Type 0
+InTurn table n bytes = pick_l 0 (halves table bytes) (turns n) ≡ encode_with table bytes
+
+pub in_turn_16 : (table bytes : List ℕ) → length bytes ≡ 16 → InTurn table 16 bytes
 unfolding encode_with
-in_turn table = spelled (λ bytes. pick_l 0 (map (λ j. get_or table j 0) (map (λ b. b / 16) bytes) ++ map (λ j. get_or table j 0) (map (λ b. b % 16) bytes)) turns ≡ encode_with table bytes) 16 (λ f. refl)
+in_turn_16 table = spelled (InTurn table 16) 16 (λ f. refl)
 
-pub digits_of_all : (table bytes : List ℕ) → length bytes ≡ 16 → Each1 (Fits w8) bytes
-    → pick_l 0 (swz_l w8 16 table 0 (zip2 (λ a b. a / 2 ^ b) bytes (replicate 16 4)) ++ swz_l w8 16 table 0 (zip2 bit_and bytes (replicate 16 15))) turns ≡ encode_with table bytes
-digits_of_all table bytes long fits =
+pub in_turn_32 : (table bytes : List ℕ) → length bytes ≡ 32 → InTurn table 32 bytes
+unfolding encode_with
+in_turn_32 table = spelled (InTurn table 32) 32 (λ f. refl)
+
+pub digits_of_all : (wide table : List ℕ) (b n : ℕ) (bytes : List ℕ) → n ≡ b * 16 → Repeats wide table n → length bytes ≡ n → Each1 (Fits w8) bytes → InTurn table n bytes
+    → pick_l 0 (swz_l w8 16 wide 0 (zip2 (λ a b. a / 2 ^ b) bytes (replicate n 4)) ++ swz_l w8 16 wide 0 (zip2 bit_and bytes (replicate n 15))) (turns n) ≡ encode_with table bytes
+digits_of_all wide table b n bytes whole again long fits each =
     let len_high = length-map bytes (λ b. b / 16) in
     let len_low = length-map bytes (λ b. b % 16) in
-    let high = ap (swz_l w8 16 table 0) (high_is bytes long) ∙ looked_up table 0 (map (λ b. b / 16) bytes) (omega arith) (high_small bytes fits) in
-    let low = ap (swz_l w8 16 table 0) (low_is bytes long) ∙ looked_up table 0 (map (λ b. b % 16) bytes) (omega arith) (low_small bytes) in
-    (λ p. pick_l 0 (high p ++ low p) turns) ∙ in_turn table bytes long
+    let high = ap (swz_l w8 16 wide 0) (high_is n bytes long) ∙ looked_up wide table b n 0 (map (λ b. b / 16) bytes) whole again (omega arith) (high_small bytes fits) in
+    let low = ap (swz_l w8 16 wide 0) (low_is n bytes long) ∙ looked_up wide table b n 0 (map (λ b. b % 16) bytes) whole again (omega arith) (low_small bytes) in
+    (λ p. pick_l 0 (high p ++ low p) (turns n)) ∙ each
 
 -- four bytes, and zeros as far as sixteen
 abbrev widened : List ℕ → List ℕ

@@ -7,11 +7,32 @@ use std::simd::prelude::*;
 const DIGITS: [u8; 16] = *b"0123456789abcdef";
 
 /// How many bytes are encoded at once.
-const LANES: usize = 16;
+const LANES: usize = 32;
 
-/// The two digits of each byte.
+/// The two digits of each byte, which are looked up by sixteen.
 #[inline(always)]
-fn digits_of(bytes: u8x16) -> u8x32
+fn digits_of_32(bytes: u8x32) -> u8x64
+    ensures { result ≡ encode_lower bytes }
+{
+    let table = u8x16::from_array(DIGITS).swizzle([
+        0, 1, 2, 3, 4, 5, 6, 7, 8, 9, 10, 11, 12, 13, 14, 15, 0, 1, 2, 3, 4, 5, 6, 7, 8, 9, 10, 11,
+        12, 13, 14, 15,
+    ]);
+    let high = table.swizzle_dyn_within::<16>(bytes >> 4);
+    let low = table.swizzle_dyn_within::<16>(bytes & u8x32::splat(15));
+    high.shuffle(
+        low,
+        [
+            0, 32, 1, 33, 2, 34, 3, 35, 4, 36, 5, 37, 6, 38, 7, 39, 8, 40, 9, 41, 10, 42, 11, 43,
+            12, 44, 13, 45, 14, 46, 15, 47, 16, 48, 17, 49, 18, 50, 19, 51, 20, 52, 21, 53, 22, 54,
+            23, 55, 24, 56, 25, 57, 26, 58, 27, 59, 28, 60, 29, 61, 30, 62, 31, 63,
+        ],
+    )
+}
+
+/// The same of sixteen bytes.
+#[inline(always)]
+fn digits_of_16(bytes: u8x16) -> u8x32
     ensures { result ≡ encode_lower bytes }
 {
     let table = u8x16::from_array(DIGITS);
@@ -26,7 +47,7 @@ fn digits_of(bytes: u8x16) -> u8x32
     )
 }
 
-/// Writes the digits of sixteen bytes at a time, while there are so many, and answers how many bytes those were.
+/// Writes the digits of as many bytes at a time, while there are so many, and answers how many bytes those were.
 fn encode_blocks(bytes: &[u8], digits: &mut [u8]) -> usize
     requires { length digits.old ≡ 2 * length bytes.now }
     ensures within { result ≤ length bytes.now }
@@ -35,11 +56,29 @@ fn encode_blocks(bytes: &[u8], digits: &mut [u8]) -> usize
 {
     let mut done = 0;
     while bytes.len() - done >= LANES {
-        let block = u8x16::from_slice(&bytes[done..]);
-        digits_of(block).copy_to_slice(&mut digits[2 * done..]);
+        let block = u8x32::from_slice(&bytes[done..]);
+        digits_of_32(block).copy_to_slice(&mut digits[2 * done..]);
         done += LANES;
     }
     done
+}
+
+/// Goes on with sixteen bytes, if there are so many, where `from` are written.
+#[inline(always)]
+fn encode_half(bytes: &[u8], digits: &mut [u8], from: usize) -> usize
+    requires len { length digits.old ≡ 2 * length bytes.now }
+    requires within { from ≤ length bytes.now }
+    requires written { take (2 * from) digits.old ≡ encode_lower (take from bytes.now) }
+    ensures within { result ≤ length bytes.now }
+    ensures written { take (2 * result) digits.new ≡ encode_lower (take result bytes.now) }
+    ensures len { length digits.new ≡ length digits.old }
+{
+    if bytes.len() - from < LANES / 2 {
+        return from;
+    }
+    let half = u8x16::from_slice(&bytes[from..]);
+    digits_of_16(half).copy_to_slice(&mut digits[2 * from..]);
+    from + LANES / 2
 }
 
 #[tactic(auto, using(crate::proofs::Lanes::digits_of_four))]
@@ -52,7 +91,7 @@ fn digits_of_4(bytes: u8x4) -> u8x8
         u8x4::splat(0),
         [0, 1, 2, 3, 4, 4, 4, 4, 4, 4, 4, 4, 4, 4, 4, 4],
     );
-    digits_of(wide).swizzle([0, 1, 2, 3, 4, 5, 6, 7])
+    digits_of_16(wide).swizzle([0, 1, 2, 3, 4, 5, 6, 7])
 }
 
 /// Goes on with four bytes at a time, where `from` are written.
@@ -92,6 +131,7 @@ pub fn encode(bytes: &[u8], digits: &mut [u8])
     ensures { digits.new ≡ encode_lower bytes.now }
 {
     let many = encode_blocks(bytes, digits);
-    let done = encode_fours(bytes, digits, many);
+    let more = encode_half(bytes, digits, many);
+    let done = encode_fours(bytes, digits, more);
     encode_rest(&bytes[done..], &mut digits[2 * done..]);
 }

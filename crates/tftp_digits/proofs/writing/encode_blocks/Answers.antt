@@ -10,6 +10,6 @@ loop-done-init c = record { within = omega arith; len = omega arith; written = s
 pub loop-done-preserved : goal.loop-done-preserved
 loop-done-preserved c = record {
   within = omega arith;
-  len = omega (arith, length-put_chunk (2 * c.loop-done.done) c.loop-done.digits c.digits_of.result);
-  written = block_written c.args.bytes.now c.loop-done.digits c.digits_of.result 16 c.loop-done.done (omega arith) c.loop-done.invariant.len c.digits_of.ensures c.loop-done.invariant.written;
+  len = omega (arith, length-put_chunk (2 * c.loop-done.done) c.loop-done.digits c.digits_of_32.result);
+  written = block_written c.args.bytes.now c.loop-done.digits c.digits_of_32.result 32 c.loop-done.done (omega arith) c.loop-done.invariant.len c.digits_of_32.ensures c.loop-done.invariant.written;
 }
