@@ -347,7 +347,9 @@ def matches(trial: ScriptTrial, scratch: Scratch) -> None:
     for words in passed:
         got = scratch.run(*words, given="other")
         trial.runs(f"{words}", got, "mended", 0, words=said_of(words), given="other")
-    more: tuple[list[Word], ...] = (["-", capture], ["missing", "--json"], ["--version"], [], [""], ["--build", "-"], ["--ready", "-"])
+    more: tuple[list[Word], ...] = (
+        ["-", capture], ["missing", "--json"], ["--version"], [], [""], ["--build", "-"], ["--ready", "-"],
+    )
     for words in more:
         got = scratch.run(*words, given="other")
         trial.runs(f"{words}", got, "mended", 0, words=said_of(words), given="other", status=2)
@@ -515,7 +517,7 @@ def processors(trial: ScriptTrial, scratch: Scratch) -> None:
 
 
 def other_processors(trial: ScriptTrial, scratch: Scratch) -> None:
-    """A program for others is built again, also where its state is known; one for any is so by --build alone, and not by
+    """A program for others is built again, also where its state is known; one for any is so by --build alone, not by
     --ready."""
     stamp = scratch.program.with_name(f"{scratch.program.name}.states")
     scratch.source.write_text("eleven")
@@ -646,7 +648,7 @@ def are_for(trial: ScriptTrial, scratch: Scratch, name: str, cpu: str) -> None:
 
 
 def tested(trial: ScriptTrial, scratch: Scratch, text: str, broken: str, builds: int) -> None:
-    """What make test-here does, after so many builds, where programs are not for any, and where one of its tests fails."""
+    """What make test-here does, after so many builds, where programs are not for any, and one of its tests fails."""
     status, errors, _ = scratch.make("test-here", broken=broken)
     of_audit = text if scratch.launcher == AUDIT else "other"
     lines = scratch.calls.read_text().splitlines()

@@ -78,8 +78,8 @@ fn count_digits(payload: &[u8]) -> usize
     }
 }
 
-/// Whether the bytes begin with the first `len` of a head: by a vector, where they are no more, since that is less than a call
-/// takes.
+/// Whether the bytes begin with the first `len` of a head: by one vector, where it has room for these and so many bytes are
+/// there, since that is less than a call takes.
 #[inline(always)]
 fn begins_with(ahead: &[u8], head: &[u8; 62], len: usize) -> bool
     requires head { len ≤ 62 }
@@ -371,8 +371,8 @@ impl Heads {
     }
 
     /// Reads on while what is held is a part of a line of at most `most` bytes that is like one before it, and fills the
-    /// datagram with what that says. Where nothing is held it first makes one read, whatever the line is. Else nothing is read,
-    /// and nothing is said of the datagram.
+    /// datagram with what that says. Where nothing is held it first makes one read, whatever the line is. Of any other line
+    /// no more is read, and nothing is said of the datagram.
     pub fn reach<R: Read>(
         &mut self,
         version: Version,

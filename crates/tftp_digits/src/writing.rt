@@ -9,7 +9,7 @@ const DIGITS: [u8; 16] = *b"0123456789abcdef";
 /// How many bytes are encoded at once.
 const LANES: usize = 32;
 
-/// The two digits of each byte, which are looked up by sixteen.
+/// The two digits of each of 32 bytes, which are looked up by sixteen.
 #[inline(always)]
 fn digits_of_32(bytes: u8x32) -> u8x64
     ensures { result ≡ encode_lower bytes }
@@ -47,7 +47,7 @@ fn digits_of_16(bytes: u8x16) -> u8x32
     )
 }
 
-/// Writes the digits of as many bytes at a time, while there are so many, and answers how many bytes those were.
+/// Writes the digits of 32 bytes at a time, while there are so many, and answers how many bytes those were.
 fn encode_blocks(bytes: &[u8], digits: &mut [u8]) -> usize
     requires { length digits.old ≡ 2 * length bytes.now }
     ensures within { result ≤ length bytes.now }
