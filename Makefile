@@ -5,7 +5,7 @@ BENCH = crates/tftp_bench/out/tftp_bench
 DATAGRAMS = crates/tftp_datagrams/out/tftp_datagrams
 MATCH = crates/tftp_match_main/out/tftp_match_main
 
-.PHONY: build build-for-any test test-here plants tables contracts bench fuzz install uninstall dist deb
+.PHONY: build build-for-any ready test test-here plants tables contracts bench fuzz install uninstall dist deb
 
 # Proves the three programs and builds them for the processor at hand, each where its sources are not those that it was
 # built of, or where it was built for others. TFTP_AUDIT_CPU=any builds them for any processor, as build-for-any does,
@@ -16,6 +16,12 @@ build build-for-any:
 	@./tftp-match --build
 
 build-for-any: export TFTP_AUDIT_CPU = any
+
+# The same where a call would build: not where the gate has built for any processor.
+ready:
+	@./tftp-audit --ready
+	@./tftp-transfers --ready
+	@./tftp-match --ready
 
 # The gate: rt ci, which is every proof from nothing, the must-fail edits, the tests and the programs' stored runs; then
 # the programs that it built, for any processor, with failing reads, writes and growths, on larger captures and on
@@ -55,7 +61,7 @@ bench: build
 # of it compared with what a slow reader finds.
 N = 10000
 JOBS = 2
-fuzz: build
+fuzz: ready
 	python3 tests/fuzz.py --cases $(N) --jobs $(JOBS) $(if $(SEED),--seed $(SEED)) $(PROGRAM)
 	python3 tests/attribution.py --cases $$(($(N) / 100 + 1)) $(if $(SEED),--seed $(SEED)) --transfers $(TRANSFERS) $(PROGRAM)
 	python3 tests/between.py --cases $$(($(N) / 20 + 1)) $(if $(SEED),--seed $(SEED)) $(TRANSFERS)
@@ -65,8 +71,9 @@ fuzz: build
 
 # The programs in bin; the scripts beside their modules in lib, with links in bin; the manual pages, the pages for
 # readers, the examples and what shells complete; in share the plugin of Wireshark and the schemas of JSON. The programs
-# are for the processor at hand; for other machines, TFTP_AUDIT_CPU=any make install.
-install: build
+# are those that a call would run, so for the processor at hand where make build, or nothing, has built them, and for any
+# after the gate; where other machines run them too, make build-for-any comes first.
+install: ready
 	@sh tools/install.sh install "$(DESTDIR)$(PREFIX)"
 
 # Takes away what install put there, by the list that it left, and nothing else.

@@ -19,7 +19,7 @@ from fuzzing.slow_texts import Answers
 from trial import Trial
 
 # Hosts and ports of which some begin as others do; the first of each stand in most lines.
-HOSTS, PORTS = [b"-", b"192.0.2.1", b"192.0.2.10", b"2001:db8::1"], [b"40000", b"4000", b"40001", b"6", b"69"]
+HOSTS, PORTS = [b"-", b"192.0.2.1", b"192.0.2.10", b"2001:db8::1", b"2001:db8:1:2:3:4:5:6", b"2001:db8:1:2:3:4:5:60"], [b"40000", b"4000", b"40001", b"6", b"69"]
 WAYS, SIZES = [b"in", b"out"], [4, 4, 8, 12, 12, 12, 16, 20, 516]
 # A block whose line is longer than what the program reads at once, and the most bytes that a pipe holds.
 LONG, PIPE = 40_004, 65_536

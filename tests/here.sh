@@ -14,8 +14,6 @@ if [ "$(processor)" = any ]; then
     echo "the programs for this processor are those for any, so there is nothing more to try"
     exit
 fi
-for it in tftp-audit tftp-transfers tftp-match; do
-    "$top/$it" --build
-done
+make -s -C "$top" build
 echo "the programs for this processor:"
 sh "$top/tests/programs.sh" "$program"

@@ -1,9 +1,9 @@
 #!/bin/sh
 # Tries what the built programs themselves do, tests/programs.sh PROGRAM, of which those that read recordings and that
 # match two captures stand in their crates: each growth refused, each read and each write failing, in turn; what each
-# command says of the captures of scripts and of texts with faults; larger captures; simulated transfers and changes of
-# them, for some seconds; the recorded transfers of examples/; what is said between the ends; the rows, lists and texts
-# of recordings; and captures of both ends, texts and recordings, matched.
+# command says of the captures of scripts and of texts with faults; lines that are alike, or only look so; larger
+# captures; simulated transfers and changes of them, for some seconds; the recorded transfers of examples/; what is said
+# between the ends; the rows, lists and texts of recordings; and captures of both ends, texts and recordings, matched.
 set -eu
 . "$(dirname "$0")/setup.sh"
 echo "failures:"

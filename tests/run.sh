@@ -3,9 +3,9 @@
 # in their crates: the launchers and packages with a stand-in for rt; that each wrong body can still be made; the
 # programs themselves (programs.sh); each growth in the tests of the libraries' calls; a spoiled program, fuzzed; the
 # datagrams that are read of recordings, and which transfer they are of; captures of both ends, explained and drawn; the
-# scripts that explain, draw and report, on changed captures too; the plugin of Wireshark; the schemas of JSON; what
-# each rule is called, wherever that stands; the pages of contracts, beside the sources; and what stands in the pages
-# for readers.
+# scripts that explain, draw and report, on changed captures too; the plugin of Wireshark; the schemas of JSON; real
+# clients and servers over the loopback, at one end and at both; what each rule is called, wherever that stands; the
+# pages of contracts, beside the sources; and what stands in the pages for readers.
 set -eu
 . "$(dirname "$0")/setup.sh"
 echo "launchers:"

@@ -609,6 +609,11 @@ def gates_here(trial: ScriptTrial, scratch: Scratch) -> None:
     got = scratch.run("test-here", script="make")
     told = "the programs for this processor are those for any, so there is nothing more to try"
     trial.check("make test-here for any", got[0].splitlines()[-1:] == [told] and got[2:] == (0, 0), got)
+    scratch.cpu = ""
+    give_flags(scratch, "Features\t: of another architecture")
+    got = scratch.run("test-here", script="make")
+    trial.check("make test-here without flags", got[0].splitlines()[-1:] == [told] and got[2:] == (0, 0), got)
+    (scratch.bin / "grep").unlink()
     scratch.cpu = V3
     trial.check(f"--gate for {V3}", scratch.run("--gate")[2] == 0 and "rt: run" not in scratch.calls.read_text())
     are_for(trial, scratch, "--gate", "any")
@@ -617,7 +622,9 @@ def gates_here(trial: ScriptTrial, scratch: Scratch) -> None:
     tested(trial, scratch, "thirteen", "", 3)
     tested(trial, scratch, "thirteen", "programs.sh", 3)
     tested(trial, scratch, "thirteen", "run.sh", 0)
-    for target, cpu in (("build", V3), ("build-for-any", "any"), ("install", V3)):
+    for target, cpu in (
+        ("build", V3), ("install", V3), ("ready", V3), ("build-for-any", "any"), ("install", "any"), ("ready", "any"),
+    ):
         trial.check(f"make {target}", scratch.make(target)[0] == 0)
         are_for(trial, scratch, f"make {target}", cpu)
     scratch.source.write_text("thirteen 1")

@@ -38,8 +38,8 @@ processor() {
         echo "$TFTP_AUDIT_CPU"
         return
     fi
-    # one line alone: there are some dozens for each processor
-    flags="$(grep -s -m 1 '^flags' /proc/cpuinfo) "
+    # one line alone: there are some dozens for each processor; other architectures have none
+    flags="$(grep -s -m 1 '^flags' /proc/cpuinfo || :) "
     for it in avx2 bmi1 bmi2 f16c fma abm movbe; do
         case $flags in
             *" $it "*) ;;
