@@ -31,7 +31,7 @@ test:
 	sh tests/run.sh $(PROGRAM)
 
 # That, and then the same of the programs that are built for the processor at hand, where that is another build: what they
-# stand on is proved once more for it, which takes half an hour or so.
+# stand on is proved once more for it, which takes as long as the gate.
 test-here: test
 	@sh tests/here.sh
 
