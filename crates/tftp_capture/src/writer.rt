@@ -178,8 +178,11 @@ fn put_line<W: Write>(
 ) -> Result<(), WriteFault>
     ensures adds { Adds W.contents writer.old writer.new result (begins.now ++ (payload_text (head.now ++ rest.now) ++ 10 ∷ [])) }
 {
+    if head.len() + rest.len() > 0 {
+        return writer.add_hex_line(begins, head, rest);
+    }
     writer.add(begins)?;
-    put_payload(writer, head, rest)
+    writer.add(b"-\n")
 }
 
 /// Ends with the line of the total, and writes what waits.
@@ -190,20 +193,4 @@ pub fn finish<W: Write>(writer: &mut LineWriter<W>, count: u64) -> Result<(), Wr
     let number = buffer.format(count).as_bytes();
     writer.add_all(&[b"total ", number, b"\n"])?;
     writer.flush()
-}
-
-/// The last field of a datagram's line, and the line's end.
-fn put_payload<W: Write>(
-    writer: &mut LineWriter<W>,
-    head: &[u8],
-    rest: &[u8],
-) -> Result<(), WriteFault>
-    ensures adds { Adds W.contents writer.old writer.new result (payload_text (head.now ++ rest.now) ++ 10 ∷ []) }
-{
-    if head.len() + rest.len() == 0 {
-        return writer.add(b"-\n");
-    }
-    writer.add_hex(head)?;
-    writer.add_hex(rest)?;
-    writer.add(b"\n")
 }

@@ -7,6 +7,9 @@ use std::marker::Model;
 /// How many bytes stand before the block: the opcode and the block's number (RFC 1350, section 5).
 const HEAD: usize = 4;
 
+/// These bytes for block 0, as one number, so that they are stored at once.
+const DATA: u32 = 3 << 16;
+
 /// DATA packets in turn, each by its head and its block. A block lies in the file, or where its bytes are spelled anew in a
 /// buffer, in which each takes the place of the one before it.
 #[derive(Drop)]
@@ -55,8 +58,7 @@ impl<'a> DataPackets<'a> {
         ensures left { self.new.left ≡ drop self.old.size self.old.left }
         ensures size { self.new.size ≡ self.old.size }
     {
-        let [high, low] = number.to_be_bytes();
-        self.head = [0, 3, high, low];
+        self.head = (DATA + u32::from(number)).to_be_bytes();
         self.in_file = self.blocks.split_block(self.buffer.len());
         if self.in_file.is_none() {
             self.len = self.blocks.fill(self.buffer.as_mut_slice());

@@ -30,6 +30,9 @@ const SERVER_PORT: u16 = 50_001;
 /// The port at which a server is asked (RFC 1350, section 4).
 const SERVICE_PORT: u16 = 69;
 
+/// The acknowledgement of block 0, as one number, so that its bytes are stored at once (RFC 1350, section 5).
+const ACK: u32 = 4 << 16;
+
 /// Which way a datagram of this end goes, at the client.
 fn dir_from(author: End) -> Dir
     ensures { result ≡ dir_from author }
@@ -88,8 +91,8 @@ fn put_ack<W: Write>(
     requires few { capture.old + 1 ≤ 2 ^ 40 }
     ensures { Puts W.contents writer.old writer.new result capture.old capture.new (sent_by author (canonical (Message.Ack block)) ∷ []) }
 {
-    let [high, low] = block.to_be_bytes();
-    put_from(author, &[0, 4, high, low], capture, writer)
+    let payload = (ACK + u32::from(block)).to_be_bytes();
+    put_from(author, &payload, capture, writer)
 }
 
 /// Puts the blocks of a window, after one block and up to another.

@@ -105,6 +105,7 @@ fn a_failure_is_for_good(rt: HostRuntime) -> Result<(), Fail> {
     is_so(writer.add(b"ab").is_err(), "adds")?;
     is_so(writer.add_all(&[]).is_err(), "adds no pieces")?;
     is_so(writer.add_hex(b"").is_err(), "adds no digits")?;
+    is_so(writer.add_hex_line(b"", b"", b"").is_err(), "adds no line")?;
     is_so(writer.write(b"").is_err(), "writes")?;
     is_so(writer.flush().is_err(), "writes what waits")?;
     let (asked, ended) = writer.finish();

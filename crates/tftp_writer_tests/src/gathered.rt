@@ -25,10 +25,24 @@ fn take_pieces(writer: &mut LineWriter<DripWriter>, bytes: &[u8]) -> Result<(), 
     writer.flush()
 }
 
+/// Adds two lines, of two bytes and the others in either order; what waits is written.
+fn take_lines(writer: &mut LineWriter<DripWriter>, bytes: &[u8]) -> Result<(), WriteFault> {
+    writer.add_hex_line(b"- ", b"\x00\x1f", bytes)?;
+    writer.add_hex_line(b"- ", bytes, b"\x00\x1f")?;
+    writer.flush()
+}
+
 /// Gathers digits there.
 fn digits_gathered(rt: &HostRuntime, drip: DripWriter, bytes: &[u8]) -> Written {
     let mut writer = LineWriter::new(rt.alloc(), drip);
     let answer = take_digits(&mut writer, bytes);
+    written(writer, answer)
+}
+
+/// Gathers lines there.
+fn lines_gathered(rt: &HostRuntime, drip: DripWriter, bytes: &[u8]) -> Written {
+    let mut writer = LineWriter::new(rt.alloc(), drip);
+    let answer = take_lines(&mut writer, bytes);
     written(writer, answer)
 }
 
@@ -39,12 +53,28 @@ fn pieces_gathered(rt: &HostRuntime, drip: DripWriter, bytes: &[u8]) -> Written 
     written(writer, answer)
 }
 
+/// Adds so many times the digits of a byte.
+fn add_digits(text: &mut Vec<u8>, count: usize) -> Result<(), AllocError> {
+    for _ in 0..count {
+        text.extend_from_slice(b"ab")?;
+    }
+    Ok(())
+}
+
 /// The digits of two bytes and 9,000 times another, after what is as it was.
 fn many_digits(rt: &HostRuntime) -> Result<Vec<u8>, AllocError> {
     let mut text = Vec::from_slice(rt.alloc(), b"- 001f")?;
-    for _ in 0..9000 {
-        text.extend_from_slice(b"ab")?;
-    }
+    add_digits(&mut text, 9000)?;
+    Ok(text)
+}
+
+/// A line of the digits of two bytes and so many times another, and a line that has them last.
+fn two_lines(rt: &HostRuntime, count: usize) -> Result<Vec<u8>, AllocError> {
+    let mut text = Vec::from_slice(rt.alloc(), b"- 001f")?;
+    add_digits(&mut text, count)?;
+    text.extend_from_slice(b"\n- ")?;
+    add_digits(&mut text, count)?;
+    text.extend_from_slice(b"001f\n")?;
     Ok(text)
 }
 
@@ -61,6 +91,28 @@ fn bytes_are_gathered_as_digits(rt: HostRuntime) -> Result<(), Fail> {
     let text = many_digits(&rt)?;
     are_digits_in(&rt, usize::MAX, bytes.as_slice(), text.as_slice())?;
     are_digits_in(&rt, 7, bytes.as_slice(), text.as_slice())
+}
+
+/// Fails unless a byte so many times is gathered as two lines where each write takes so many bytes.
+fn are_lines_in(rt: &HostRuntime, piece: usize, count: usize) -> Result<(), Fail> {
+    let bytes = long(rt.alloc(), b"", (0xab, count))?;
+    let text = two_lines(rt, count)?;
+    let drip = DripWriter::new(rt.alloc(), text.len(), piece, 0, false)?;
+    has_written(
+        &lines_gathered(rt, drip, bytes.as_slice()),
+        Ok(()),
+        text.as_slice(),
+    )
+}
+
+/// Lines of any length: such as wait together, and longer ones.
+#[test]
+fn bytes_are_gathered_as_lines(rt: HostRuntime) -> Result<(), Fail> {
+    for count in &[0, 1, 4064, 4065, 8188, 8189, 17_000] {
+        are_lines_in(&rt, usize::MAX, *count)?;
+        are_lines_in(&rt, 7, *count)?;
+    }
+    Ok(())
 }
 
 /// Bytes that repeat after 251.

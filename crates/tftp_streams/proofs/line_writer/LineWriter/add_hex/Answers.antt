@@ -16,8 +16,8 @@ returns-in_err-add_digits g c =
     let stop = c.in_err-add_digits.ensures.adds in
     record {
       adds =
-          adds_err g.W.Write.contents c.args.self.now c.add_digits-in-loop-done.new.self c.from_residual.result _ c.from_residual.ensures.0
-          (stops_now g.W.Write.contents c.args.self.now c.add_digits-in-loop-done.new.self _ before.0 stop.failed
+          adds_err g.W.Write.contents c.args.self.now c.add_digits.new.self c.from_residual.result _ c.from_residual.ensures.0
+          (stops_now g.W.Write.contents c.args.self.now c.add_digits.new.self _ before.0 stop.failed
           (rw (encode_rest bytes done size) (gathers_prefix _ _ _ _ _ _ _ (encode_lower (drop (done + size - done) (drop done bytes))) before.2 (stop.part before.1))));
     }
 
