@@ -16,6 +16,8 @@ pub struct Blamed {
     pub is_late: bool,
     /// Whether it passed with another than the client.
     pub is_beside: bool,
+    /// Where the datagram came from.
+    pub source: Endpoint,
 }
 
 /// What has been refused by now: the numbers of the datagrams, where judges have held some back till now.

@@ -1,9 +1,9 @@
 //! What is kept of a transfer beside its judges.
 
 use crate::blame::{Blame, Blamed, Refused};
+use crate::doubted::Doubted;
+use crate::missing::Missing;
 use crate::passing::Passing;
-use crate::reasons::Doubted;
-use crate::span::Span;
 use crate::twice::Twice;
 use std::alloc::{AllocError, Global};
 use tftp_blocks::RingDelivered;
@@ -26,7 +26,14 @@ pub struct Trail {
     pub last: u64,
     /// How many these are.
     pub count: u64,
-    ends: TransferEnds,
+    /// The greatest time of these, in nanoseconds since 1970; 0 where none is told.
+    pub last_time: u64,
+    /// Who its ends are, as far as it was read.
+    pub ends: TransferEnds,
+    /// Whether something came to the client.
+    is_answered: bool,
+    /// The frame of what was left out, and may be of it by its time.
+    left_out: Option<u64>,
     twice: Twice,
     /// The frame of a datagram that may be a copy.
     copied_from: Option<u64>,
@@ -42,7 +49,10 @@ impl Trail {
             first: frame,
             last: frame,
             count: 0,
+            last_time: 0,
             ends: TransferEnds::new(transfer.number),
+            is_answered: false,
+            left_out: None,
             twice: Twice::new(alloc),
             copied_from: None,
             blame: Blame::new(alloc),
@@ -57,14 +67,28 @@ impl Trail {
         watched: &Watched<RingDelivered>,
     ) -> Result<(), AllocError> {
         if found.place.transfer().is_some() {
-            self.count = self.count.saturating_add(1);
-            self.last = passing.frame;
-            self.twice.note(passing)?;
+            self.note_own(passing)?;
         }
         if passing.is_doubtful && self.copied_from.is_none() {
             self.copied_from = Some(passing.frame);
         }
         self.note_blame(found.place, passing, watched)
+    }
+
+    /// Notes a datagram at its client.
+    fn note_own(&mut self, passing: &Passing<'_>) -> Result<(), AllocError> {
+        self.count = self.count.saturating_add(1);
+        self.last = passing.frame;
+        self.last_time = self.last_time.max(passing.time.unwrap_or(0));
+        self.is_answered |= passing.target == self.transfer.client;
+        self.twice.note(passing)
+    }
+
+    /// Notes that a datagram at its client's endpoint was left out, whose time is within the transfer's.
+    pub fn leave_out(&mut self, frame: u64) {
+        if self.left_out.is_none() {
+            self.left_out = Some(frame);
+        }
     }
 
     /// Notes at which frame it was refused.
@@ -78,6 +102,7 @@ impl Trail {
             frame: passing.frame,
             is_late: watched.doubts().is_late(),
             is_beside: matches!(place, Place::Beside(_)),
+            source: passing.source,
         };
         let refused = refused_by(watched);
         self.blame.note_client(blamed, &refused);
@@ -100,13 +125,14 @@ impl Trail {
     }
 
     /// What makes a verdict doubtful, beside its own doubts; of its client's datagrams these may be missing.
-    pub fn doubted(&self, doubts: TransferDoubts, lost: Option<Span>) -> Doubted {
+    pub fn doubted(&self, doubts: TransferDoubts, missing: Missing) -> Doubted {
         Doubted {
             doubts,
             is_twice: self.twice.are_all_twice(),
+            is_one_way: !self.is_answered,
             copied_from: self.copied_from,
-            begins: self.first,
-            lost,
+            left_out: self.left_out,
+            missing,
         }
     }
 

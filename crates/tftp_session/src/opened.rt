@@ -42,8 +42,8 @@ impl<R: Read + Drop> Opened<R> {
     }
 
     /// Reads no further: the fragments that still wait belong to nothing.
-    pub fn close(self, session: &mut Session) -> Result<(), AllocError> {
-        session.notes.lose_all(self.recording.into_waiting())
+    pub fn close(self, alloc: Global, session: &mut Session) -> Result<(), AllocError> {
+        session.notes.lose_all(alloc, self.recording.into_waiting())
     }
 }
 
@@ -63,7 +63,7 @@ pub fn read_whole<R: Read + Drop>(
 ) -> Result<(), ReadFault> {
     let mut opened = Opened::begin(alloc, reader)?;
     let read = read_frames(alloc, &mut opened, session);
-    opened.close(session)?;
+    opened.close(alloc, session)?;
     read
 }
 

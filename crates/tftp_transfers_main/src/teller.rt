@@ -5,10 +5,11 @@ use crate::listing::{ListRow, put_list_head, put_list_row};
 use crate::verdicts::{Judged, Told};
 use anyhow::Result;
 use serde::Serialize;
-use std::alloc::AllocError;
-use tftp_blame::Span;
-use tftp_session::{Ended, Session, put_plain};
-use tftp_verdict_rows::Row;
+use std::alloc::{AllocError, Global};
+use tftp_blame::{Missing, Reason};
+use tftp_packet::End;
+use tftp_session::{Ended, Session, put_number, put_plain, shown_host};
+use tftp_verdict_rows::{Accused, Row};
 
 /// What is told of each transfer.
 #[derive(Clone, Copy)]
@@ -27,7 +28,16 @@ struct VerdictRow<'a> {
     place: &'a str,
     frame: Option<u64>,
     verdict: &'a str,
+    accused: Option<AccusedEnd>,
     doubts: Vec<String>,
+}
+
+/// The end that a refusal accuses.
+#[derive(Drop, Serialize)]
+struct AccusedEnd {
+    role: &'static str,
+    host: String,
+    port: u16,
 }
 
 /// Tells transfers, each as soon as no datagram joins it any more.
@@ -90,19 +100,19 @@ impl<'a> Teller<'a> {
     fn tell_oldest(&mut self, rt: HostRuntime, session: &mut Session) -> Result<()> {
         match session.pop() {
             Some(ended) => {
-                let lost = session.lost_of(&ended);
-                self.tell(rt, ended, lost)
+                let missing = session.missing_of(&ended);
+                self.tell(rt, ended, missing)
             }
             None => Ok(()),
         }
     }
 
     /// Tells a transfer, of whose client's datagrams these may be missing.
-    fn tell(&mut self, rt: HostRuntime, ended: Ended, lost: Option<Span>) -> Result<()> {
+    fn tell(&mut self, rt: HostRuntime, ended: Ended, missing: Missing) -> Result<()> {
         self.told = self.told.saturating_add(1);
         match self.what {
             What::List => self.tell_request(rt, ended),
-            What::Check => self.tell_verdict(rt, ended, lost),
+            What::Check => self.tell_verdict(rt, ended, missing),
         }
     }
 
@@ -112,8 +122,8 @@ impl<'a> Teller<'a> {
         self.tell_listed(rt, &row?)
     }
 
-    fn tell_verdict(&mut self, rt: HostRuntime, ended: Ended, lost: Option<Span>) -> Result<()> {
-        let judged = Judged::new(rt.alloc(), ended, lost)?;
+    fn tell_verdict(&mut self, rt: HostRuntime, ended: Ended, missing: Missing) -> Result<()> {
+        let judged = Judged::new(rt.alloc(), ended, missing)?;
         self.tell_judged(rt, &judged)
     }
 
@@ -156,9 +166,8 @@ impl<'a> Teller<'a> {
     }
 
     fn tell_one(&mut self, rt: HostRuntime, judged: &Judged, told: &Told<'_>) -> Result<()> {
-        let mut doubts = Vec::new(rt.alloc());
-        let put = told.put_reasons(rt.alloc(), &mut doubts, &judged.doubted);
-        put?;
+        let reasons = judged.reasons(rt.alloc(), told)?;
+        let accused = AccusedEnd::of(rt.alloc(), judged.accused(told, reasons.as_slice()))?;
         self.status = self.status.max(told.view.status());
         let row = VerdictRow {
             file: self.file,
@@ -166,7 +175,8 @@ impl<'a> Teller<'a> {
             place: told.place,
             frame: told.view.frame(),
             verdict: told.view.line(),
-            doubts,
+            accused,
+            doubts: written(rt.alloc(), reasons.as_slice())?,
         };
         self.tell_row(rt, &row)
     }
@@ -185,7 +195,7 @@ impl<'a> Teller<'a> {
     fn put_row(&mut self, line: &mut String, row: &VerdictRow<'_>) -> Result<(), AllocError> {
         if !self.is_headed {
             put_cell(line, "file", self.width)?;
-            line.push_str("number  place    frame     verdict\n")?;
+            line.push_str("number  place    frame     accused                 verdict\n")?;
             self.is_headed = true;
         }
         let start = line.len();
@@ -197,11 +207,58 @@ impl<'a> Teller<'a> {
             Some(frame) => put_number_cell(line, frame, 8)?,
             None => put_cell(line, "-", 8)?,
         }
+        put_accused(line, row)?;
         put_verdict(line, row)
     }
 }
 
+impl AccusedEnd {
+    /// The end that is accused, if one is.
+    fn of(alloc: Global, accused: Option<Accused>) -> Result<Option<Self>, AllocError> {
+        let Some(Accused { role, end }) = accused else {
+            return Ok(None);
+        };
+        Ok(Some(AccusedEnd {
+            role: match role {
+                End::Client => "client",
+                End::Server => "server",
+            },
+            host: shown_host(alloc, end.address)?,
+            port: end.port,
+        }))
+    }
+
+    /// Puts the role and the endpoint, an IPv6 address in brackets (RFC 3986, section 3.2.2).
+    fn put(&self, line: &mut String) -> Result<(), AllocError> {
+        let is_ipv6 = self.host.as_str().contains(':');
+        line.push_str(self.role)?;
+        line.push_str(if is_ipv6 { " [" } else { " " })?;
+        line.push_str(self.host.as_str())?;
+        line.push_str(if is_ipv6 { "]:" } else { ":" })?;
+        put_number(line, u64::from(self.port))
+    }
+}
+
 fn let_go(_ended: Ended) {}
+
+/// What each reason says.
+fn written(alloc: Global, reasons: &[Reason]) -> Result<Vec<String>, AllocError> {
+    let mut words = Vec::new(alloc);
+    for reason in reasons {
+        words.push(format!(in alloc; "{reason}")?)?;
+    }
+    Ok(words)
+}
+
+/// Puts who is accused as a cell.
+fn put_accused(line: &mut String, row: &VerdictRow<'_>) -> Result<(), AllocError> {
+    let start = line.len();
+    match &row.accused {
+        Some(accused) => accused.put(line)?,
+        None => line.push('-')?,
+    }
+    pad(line, line.len().saturating_sub(start), 22)
+}
 
 /// Puts the verdict, and where it is doubtful why.
 fn put_verdict(line: &mut String, row: &VerdictRow<'_>) -> Result<(), AllocError> {

@@ -1,16 +1,18 @@
 //! The verdict on a transfer at each point where it was judged.
 
 use std::alloc::{AllocError, Global};
-use tftp_blame::{Blamed, Doubted, Span, Trail, put_unseen};
+use tftp_blame::{Blamed, Doubted, Missing, Reason, Trail, put_if};
 use tftp_commands::{say_accepted, say_verdict};
 use tftp_judge::{Meaning, Refusal, Rule, Verdict};
+use tftp_lines::Transfer;
 use tftp_packet::End;
 use tftp_recording_judge::Verdicts;
 use tftp_rules::PortRule;
 use tftp_session::Ended;
 use tftp_streams::LineWriter;
 use tftp_tap_judge::TapRefusal;
-use tftp_verdict_rows::{Place, Point, Row, Rows, Said, rows_told};
+use tftp_transfers::TransferEnds;
+use tftp_verdict_rows::{Accused, Place, Point, Row, Rows, Said, accused_by, role_at, rows_told};
 
 /// The verdict at a point.
 #[derive(Drop)]
@@ -30,8 +32,11 @@ pub struct Judged {
     client: Option<Viewed>,
     server: Option<Viewed>,
     between: Option<Viewed>,
+    transfer: Transfer,
+    /// Who its ends are.
+    ends: TransferEnds,
     /// What makes a refusal doubtful.
-    pub doubted: Doubted,
+    doubted: Doubted,
 }
 
 /// What is said of a transfer in one row.
@@ -44,9 +49,9 @@ pub struct Told<'a> {
 
 impl Judged {
     /// What there is to say of a transfer that has ended, of whose client's datagrams these may be missing.
-    pub fn new(alloc: Global, ended: Ended, lost: Option<Span>) -> Result<Self, AllocError> {
+    pub fn new(alloc: Global, ended: Ended, missing: Missing) -> Result<Self, AllocError> {
         let Ended { trail, watched } = ended;
-        let doubted = trail.doubted(watched.doubts(), lost);
+        let doubted = trail.doubted(watched.doubts(), missing);
         let verdicts = watched.finish(alloc);
         let judged = Judged::of(alloc, &trail, &verdicts, doubted);
         let_go(trail, verdicts);
@@ -63,6 +68,8 @@ impl Judged {
             client: at_client(alloc, trail, &verdicts.client)?,
             server: at_server(alloc, trail, &verdicts.server)?,
             between: between(alloc, trail, &verdicts.between)?,
+            transfer: trail.transfer,
+            ends: trail.ends,
             doubted,
         })
     }
@@ -151,21 +158,44 @@ fn word_of(place: Place) -> &'static str {
     }
 }
 
-impl<'a> Told<'a> {
-    /// Adds why a refusal is no accusation, and why what is not whole here may be whole.
-    pub fn put_reasons(
-        &self,
-        alloc: Global,
-        reasons: &mut Vec<String>,
-        doubted: &Doubted,
-    ) -> Result<(), AllocError> {
-        match (&self.view.said, &self.view.blamed) {
+impl Judged {
+    /// Why a refusal in a row is no accusation, and why what is not whole there may be whole.
+    pub fn reasons(&self, alloc: Global, told: &Told<'_>) -> Result<Vec<Reason>, AllocError> {
+        let mut reasons = Vec::new(alloc);
+        let put = self.put_reasons(&mut reasons, told.view);
+        put?;
+        Ok(reasons)
+    }
+
+    fn put_reasons(&self, reasons: &mut Vec<Reason>, view: &Viewed) -> Result<(), AllocError> {
+        match (&view.said, &view.blamed) {
             (Said::Refused(_, _), Some(blamed)) => {
-                put_unseen(alloc, reasons, self.view.may_be_asked)?;
-                doubted.put_reasons(alloc, reasons, blamed)
+                put_if(reasons, view.may_be_asked, Reason::Unseen)?;
+                put_if(reasons, self.is_strangers(blamed), Reason::Stranger)?;
+                self.doubted.put_reasons(reasons, blamed)
             }
-            (Said::NotWhole, _) if self.view.lacks => doubted.put_lacks(alloc, reasons),
+            (Said::NotWhole, _) if view.lacks => self.doubted.put_missing(reasons),
             _ => Ok(()),
+        }
+    }
+
+    /// Whether neither end sent the datagram, which passed at the client.
+    fn is_strangers(&self, blamed: &Blamed) -> bool {
+        !blamed.is_beside && role_at(&self.transfer, &self.ends, blamed.source).is_none()
+    }
+
+    /// Whom a row accuses, with these reasons for doubt.
+    pub fn accused(&self, told: &Told<'_>, reasons: &[Reason]) -> Option<Accused> {
+        match (&told.view.said, &told.view.blamed) {
+            (Said::Refused(_, _), Some(blamed)) => {
+                accused_by(
+                    &self.transfer,
+                    &self.ends,
+                    blamed.source,
+                    !reasons.is_empty(),
+                )
+            }
+            _ => None,
         }
     }
 }

@@ -1,0 +1,77 @@
+//! Why a refusal is no accusation.
+
+use std::fmt;
+
+/// Why a refusal is no accusation, or why a transfer that stops early may have gone on.
+#[derive(Clone, Copy, Debug, PartialEq, Eq)]
+pub enum Reason {
+    /// Between the ends: a request that did not pass may explain an answer to a stray (RFC 1350, section 4).
+    Unseen,
+    /// Times go back within the transfer.
+    Disordered,
+    /// The frame with this number, from 1, was left out, and its time is within the transfer's.
+    LeftOut(u64),
+    /// Nothing came to the client.
+    OneWay,
+    /// The transfer before may go on in it.
+    AskedAgain,
+    /// Its first answer may be a datagram that is another transfer's.
+    AnsweredApart,
+    /// An earlier transfer of the client had the same server's endpoint.
+    GoesOver,
+    /// The client had asked for another transfer by then.
+    Late,
+    /// The datagram passed with another than the client.
+    Beside,
+    /// Neither end sent the datagram.
+    Stranger,
+    /// Each datagram was recorded twice.
+    Twice,
+    /// The frame with this number, from 1, is not there whole.
+    Lost(u64),
+    /// The frame with this number, from 1, may be a copy.
+    Copied(u64),
+}
+
+impl fmt::Display for Reason {
+    fn fmt<W: fmt::Write>(&self, f: &mut fmt::Formatter<W>) -> fmt::Result {
+        match self {
+            Reason::LeftOut(frame) => {
+                write!(
+                    f,
+                    "frame {frame} is out of order, and by its time may be of this transfer"
+                )
+            }
+            Reason::Lost(frame) => write!(f, "frame {frame} is not there whole"),
+            Reason::Copied(frame) => write!(f, "frame {frame} may be a copy of the one before"),
+            reason => f.write_str(reason.words()),
+        }
+    }
+}
+
+impl Reason {
+    /// The words of a reason that names no frame.
+    fn words(&self) -> &'static str {
+        match self {
+            Reason::Unseen => {
+                "its client may have asked again, by a request that did not pass here"
+            }
+            Reason::Disordered => "its datagrams are not in the order of their times",
+            Reason::OneWay => "nothing that came to its client is there: one direction only",
+            Reason::AskedAgain => {
+                "its client had asked the same and sent nothing else since: the transfer before goes on"
+            }
+            Reason::AnsweredApart => {
+                "a DATA 1 from where an earlier transfer was served may be its answer"
+            }
+            Reason::GoesOver => "its server's endpoint was that of an earlier transfer",
+            Reason::Late => "its client's endpoint had asked again",
+            Reason::Beside => {
+                "it passed with another than the client, whose request may not have been recorded"
+            }
+            Reason::Stranger => "neither its client nor its server sent the datagram",
+            Reason::Twice => "each of its datagrams stands beside its equal: recorded twice",
+            Reason::LeftOut(_) | Reason::Lost(_) | Reason::Copied(_) => "",
+        }
+    }
+}
