@@ -42,6 +42,7 @@ LISTED = """number client server kind mode file options datagrams frames
 """
 SOUND = "accepted get octet blocks 1 bytes 2"
 WHOLE = Row(1, "between", None, SOUND)
+ONE_WAY = "nothing that came to its client is there: one direction only"
 AT_CLIENT, AT_SERVER, BETWEEN = ("--end", "client"), ("--end", "server"), ("--end", "between")
 
 
@@ -150,7 +151,7 @@ def try_fragments(trial: Trial, program: str) -> None:
             trial.check(f"fragments from {block.source}, {len(order)}", got == ([sound], "", 0), got)
         # Without block 1 the client acknowledges at a port from which nothing came.
         got = checked(program, file_of_packets([first, *pieces[:2], last]), *AT_CLIENT)
-        wanted = Row(1, "client", 4, refusal(2, Rule.WRONG_PORT), ("frame 2 is not there whole",))
+        wanted = Row(1, "client", 4, refusal(2, Rule.WRONG_PORT), (ONE_WAY, "frame 2 is not there whole"))
         holds = (got[0], got[2]) == ([wanted], 2) and "2 datagrams not there whole" in got[1]
         trial.check(f"a lost fragment from {block.source}", holds, got)
     passed = read("a", 40_000, 41_000)
@@ -167,7 +168,7 @@ def try_losses(trial: Trial, program: str) -> None:
     for it in frames:
         it.original, it.content = len(it.content), it.content[:96]
     got = checked(program, recorded.pcap(frames, is_nano=True, snaplen=96), *AT_CLIENT)
-    wanted = Row(1, "client", 3, refusal(2, Rule.WRONG_PORT), ("frame 2 is not there whole",))
+    wanted = Row(1, "client", 3, refusal(2, Rule.WRONG_PORT), (ONE_WAY, "frame 2 is not there whole"))
     trial.check("a recording with a small snaplen", (got[0], got[2]) == ([wanted], 2) and "(frame 2)" in got[1], got)
     given = recorded.pcap(frames, is_nano=True)
     output, told, status = said(program, ["text", "1", "client", "-"], given)
@@ -484,6 +485,63 @@ def try_between(trial: Trial, program: str) -> None:
     trial.check("a request again, late, begins another transfer", verdicts == two, rows)
 
 
+def try_accused(trial: Trial, program: str) -> None:
+    """A refusal names the end that sent the refused datagram; a doubtful one, and a stranger's, names nobody."""
+    begun = late_block()[:2]
+    changed = begun + from_client(ack(1)) + from_server(data(1, b":" * 512))
+    stranger = Datagram(THIRD, 41_000, C, 40_000, b"junk")
+    cases: tuple[tuple[str, list[Datagram], tuple[str, ...], str], ...] = (
+        ("a client", begun + from_client(ack(3)), (), "client 192.0.2.7:40000"),
+        ("a client, at the server", begun + from_client(ack(3)), AT_SERVER, "client 192.0.2.7:40000"),
+        ("a server", changed, (), "server 192.0.2.1:41000"),
+        ("a server, at the client", changed, AT_CLIENT, "server 192.0.2.1:41000"),
+        ("nobody, where nothing is refused", read("a", 40_000, 41_000), (), ""),
+        ("nobody, where a stranger sent it", [begun[0], stranger, *read("a", 40_000, 41_000)[1:]], AT_CLIENT, ""),
+        ("nobody, where it is doubtful", asked_again(), (), ""),
+    )
+    for name, passed, words, wanted in cases:
+        rows = checked(program, file_of(passed), *words)[0]
+        trial.check(f"{name} is accused", [row.accused for row in rows][-1] == wanted, rows)
+    strangers = checked(program, file_of(cases[5][1]), *AT_CLIENT)[0][0]
+    why = "neither its client nor its server sent the datagram"
+    trial.check("a stranger's datagram", strangers.doubts == (why,) and strangers.frame == 2, strangers)
+    six = read("a", 40_000, 41_000, (C_6, S_6))[:2] + [Datagram(C_6, 40_000, S_6, 41_000, ack(3)[0])]
+    table = said(program, ["check", "-"], file_of(six))[0]
+    cells = [" ".join(line.split()) for line in table.splitlines()]
+    listed = ["file number place frame accused verdict"]
+    listed.append(f"- 1 between 3 client [{C_6}]:40000 {refusal(3, Rule.ACK_AHEAD)}")
+    trial.check("who is accused, in the table", cells == listed, table)
+    output = said(program, ["check", "--json", "-"], file_of(six))[0]
+    accused = {"role": "client", "host": C_6, "port": 40_000}
+    trial.check("who is accused, in JSON", json.loads(output)["accused"] == accused, output)
+
+
+def try_final(trial: Trial, program: str) -> None:
+    """Whatever passes later, a row is the same: of a fragment that waits in vain, of one that comes in the end, and of a
+    frame that is cut."""
+    request, block, answer = read("a", 40_000, 41_000, content=b"." * 511)
+    parts = recorded.parts_of(recorded.udp(block), 400, 9)
+    one, other = [recorded.ipv4(block, content, part=part) for part, content in parts]
+    first, _, last = packets_of([request, block, answer])
+    later = packets_of([*read("b", 50_000, 51_000, (THIRD, S))] * 3)
+    cases: tuple[tuple[str, list[tuple[bytes, float]]], ...] = (
+        ("a fragment waits in vain", [(first, 0.0), (one, 0.1), (last, 0.2)]),
+        ("a fragment waits after the end", [(first, 0.0), (one, 299.0)]),
+        ("a fragment comes after the end", [(first, 0.0), (one, 299.0), (other, 301.0)]),
+        ("a frame is cut after the end", [(first, 0.0), (last[:-4], 700.0)]),
+    )
+    for name, passed in cases:
+        told = set()
+        for times in ((), (400.0,), (800.0, 801.0), (302.0, 303.0, 331.0), (331.0, 332.0, 900.0)):
+            behind = [(packet, time) for packet, time in zip(later, times) if time >= passed[-1][1]]
+            whole = [*passed, *behind]
+            frames = framed([packet for packet, _ in whole], [time for _, time in whole])
+            for frame in frames:
+                frame.original = len(frame.content) + 4 if frame.content == last[:-4] else None
+            told.add(checked(program, recorded.pcap(frames, is_nano=True))[0][0])
+        trial.check(f"{name}, whatever passes later", len(told) == 1, told)
+
+
 def try_words(trial: Trial, program: str) -> None:
     given = file_of(read("a", 40_000, 41_000))
     cases: tuple[tuple[str, list[str], bytes, str], ...] = (
@@ -584,7 +642,8 @@ def main(program: str, *refuse: str) -> int:
         try_growths(trial, program, one)
     for part in (
         try_examples, try_texts, try_links, try_fragments, try_losses, try_layers, try_sessions, try_live,
-        try_splitting, try_doubts, try_between, try_words, try_streams,
+        try_splitting, try_doubts, try_accused, try_final, try_between, try_words,
+        try_streams,
     ):
         part(trial, program)
     return trial.end()

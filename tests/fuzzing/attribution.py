@@ -72,6 +72,8 @@ class Transfer:
     answered: Optional[Endpoint] = None
     went_on: Optional[Endpoint] = None
     newest: int = 0
+    is_answered: bool = False
+    is_left_out: bool = False
     doubts: list[Doubt] = field(default_factory=list)
 
     def server(self) -> Optional[Endpoint]:
@@ -93,6 +95,12 @@ class Transfer:
     def doubts_at(self, end: EndName, number: int) -> list[str]:
         """Why a refusal at this datagram is no accusation."""
         told = [doubt.why for doubt in self.doubts if doubt.since <= number]
+        if not self.is_answered:
+            told.append("nothing that came to its client is there: one direction only")
+        if self.is_left_out:
+            told.append("a frame is out of order, and by its time may be of this transfer")
+        if any(it.number == number and it.source != self.client and not self.is_with_server(it) for it in self.seen):
+            told.append("neither its client nor its server sent the datagram")
         if end == "server" and any(it.number == number for it, _ in self.beside):
             told.append("it passed with another than the client, whose request may not have been recorded")
         ways = [it.way() for it in self.seen]
@@ -133,6 +141,11 @@ class Attribution:
     def __init__(self, named: Iterable[int] = ()) -> None:
         self.services = {69, *named}
         self.clock, self.count = 0, 0
+        # the last datagram's time, and the greatest that two in a row have reached
+        self.last, self.reached = 0, 0
+        # of what is of no transfer the greatest time at each endpoint, and the newest transfer of each client
+        self.left_out: dict[Endpoint, int] = {}
+        self.newest: dict[Endpoint, Transfer] = {}
         self.lines: dict[Endpoint, Line] = {}
         self.served: dict[Endpoint, tuple[Transfer, int]] = {}
         self.transfers: list[Transfer] = []
@@ -140,8 +153,21 @@ class Attribution:
 
     def take(self, it: Datagram) -> None:
         self.clock = max(self.clock, it.nanoseconds())
+        self.reached = max(self.reached, min(self.last, it.nanoseconds()))
+        self.last = it.nanoseconds()
         self.places.append(self.place_of(it))
         self.count += 1
+        if self.places[-1].kind == "nowhere":
+            self.leave_out(it)
+
+    def leave_out(self, it: Datagram) -> None:
+        """By its time it may be of its client's newest transfer, or of one that is asked for behind it."""
+        for end in (it.source, it.target):
+            one = self.newest.get(end)
+            if one and max(it.nanoseconds(), self.reached) <= one.newest + SILENCE:
+                one.is_left_out = True
+            if begins(it.payload, *range(1, 7)):
+                self.left_out[end] = max(self.left_out.get(end, 0), it.nanoseconds())
 
     def line(self, client: Endpoint) -> Optional[Line]:
         line = self.lines.get(client)
@@ -160,6 +186,7 @@ class Attribution:
         if it.nanoseconds() < one.newest:
             one.doubts.append(Doubt(0, "disordered", "its datagrams are not in the order of their times"))
         one.newest = max(one.newest, it.nanoseconds())
+        one.is_answered |= it.target == one.client
 
     def asks(self, it: Datagram) -> bool:
         line = self.line(it.source)
@@ -173,6 +200,8 @@ class Attribution:
             line.moment = self.clock
             return line.latest
         one = Transfer(self.count, it.source, it.target)
+        one.is_left_out = self.left_out.get(it.source, 0) > it.nanoseconds()
+        self.newest[it.source] = one
         self.transfers.append(one)
         if line is None:
             self.lines[it.source] = Line(one, self.clock, it)

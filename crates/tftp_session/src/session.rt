@@ -161,8 +161,11 @@ impl Session {
 
     /// Notes a datagram at the transfer that it is about.
     fn follow(&mut self, found: &Attributed, passing: &Passing<'_>) -> Result<(), AllocError> {
+        if let Place::Nowhere = found.place {
+            self.leave_out(passing)?;
+        }
         let Some(number) = about(&found.place) else {
-            return self.leave_out(passing);
+            return self.notes.leave_out(passing);
         };
         match (self.trails.get_mut(&number), self.audit.watched(number)) {
             (Some(trail), Some(watched)) => trail.take(found, passing, watched),
@@ -170,13 +173,12 @@ impl Session {
         }
     }
 
-    /// Notes a datagram of no transfer.
+    /// Notes a datagram of no transfer where its time may be within one's.
     fn leave_out(&mut self, passing: &Passing<'_>) -> Result<(), AllocError> {
         let time = self.notes.clock.time_of(passing.time);
         self.leave_out_at(passing.source, passing.frame, time);
         self.leave_out_at(passing.target, passing.frame, time);
-        self.unplaced.note(passing, time)?;
-        self.notes.leave_out(passing)
+        self.unplaced.note(passing, time)
     }
 
     /// Notes it at the newest transfer of a client with this endpoint, if its time is within the transfer's.
