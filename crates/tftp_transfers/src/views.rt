@@ -144,7 +144,7 @@ impl TransferEnds {
     }
 
     /// Whether it has the server's port, at a host that was asked, that answered, or that the client went on with.
-    pub fn is_server(&self, end: Endpoint) -> bool
+    fn is_server(&self, end: Endpoint) -> bool
         ensures { (placed : List Placed) → AreEndsAfter self.now placed → result ≡ is_server self.now.number placed end }
     {
         let answers = has_host(end, self.answered) || has_host(end, self.went_on);

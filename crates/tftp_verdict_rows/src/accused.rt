@@ -1,7 +1,7 @@
 ghost use Rattle.std.specs.Prelude.{◌≡◌, List};
 ghost use Rattle.tftp_lines.specs.{Placed};
 ghost use Rattle.tftp_transfers.specs.{AreEndsAfter};
-ghost use Rattle.tftp_verdict_rows.specs.Accused.{accused_of, role_at};
+ghost use Rattle.tftp_verdict_rows.specs.Accused.{accused_of, is_servers, role_at};
 
 use tftp_lines::{Endpoint, Transfer};
 use tftp_packet::End;
@@ -25,10 +25,24 @@ pub fn role_at(transfer: &Transfer, ends: &TransferEnds, end: Endpoint) -> Optio
     if end == transfer.client {
         return Some(End::Client);
     }
-    if ends.is_server(end) {
+    if is_servers(transfer, ends, end) {
         return Some(End::Server);
     }
     None
+}
+
+/// Whether an endpoint is the server's, at the host that was asked or at another one of its own.
+fn is_servers(transfer: &Transfer, ends: &TransferEnds, end: Endpoint) -> bool
+    ensures { (whole : List Placed) → AreEndsAfter ends.now whole → ends.now.number ≡ transfer.now.number
+        → result ≡ is_servers transfer.now whole end }
+{
+    match ends.server() {
+        Some(server) => {
+            let is_its_host = end.address == server.address;
+            end.port == server.port && (is_its_host || end.address == transfer.asked.address)
+        }
+        None => false,
+    }
 }
 
 /// Whom the refusal of a datagram accuses that came from this endpoint; none where the refusal is doubtful, or where a

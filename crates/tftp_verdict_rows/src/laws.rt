@@ -5,9 +5,9 @@ ghost use Rattle.tftp_lines.specs.{Place, Placed, Transfer, same_endpoint};
 ghost use Rattle.tftp_packet.specs.declared.kinds.End.TheVariants as end;
 ghost use Rattle.tftp_rules.specs.{EndRule};
 ghost use Rattle.tftp_law.specs.{Block};
-ghost use Rattle.tftp_transfers.specs.{asked_twice, client, is_server, service};
+ghost use Rattle.tftp_transfers.specs.{asked_twice, client, service};
 ghost use Rattle.tftp_transfers.specs.Worked.{at, passes};
-ghost use Rattle.tftp_verdict_rows.specs.Accused.{accused_in, accused_of};
+ghost use Rattle.tftp_verdict_rows.specs.Accused.{accused_in, accused_of, is_servers};
 ghost use Rattle.tftp_verdict_rows.specs.declared.accused.Accused.{Accused};
 ghost use Rattle.tftp_verdict_rows.specs.Told.{Tells, both_row, plain_row, rows_told, said_at};
 ghost use Rattle.tftp_verdict_rows.specs.declared.row.Point.{Point as PointKind};
@@ -36,7 +36,7 @@ pub fn an_end_is_accused_by_its_own_datagram()
     ensures sure { (x : Transfer) (whole : List Placed) (p : Placed) (doubtful : Bool) (a : Accused) → accused_of x whole p doubtful ≡ Some a
         → doubtful ≡ false }
     ensures ends { (x : Transfer) (whole : List Placed) (p : Placed) (doubtful : Bool) (a : Accused) → accused_of x whole p doubtful ≡ Some a
-        → (same_endpoint a.end x.client || is_server x.number whole a.end) ≡ true }
+        → (same_endpoint a.end x.client || is_servers x whole a.end) ≡ true }
 {}
 
 /// A client asks twice, is answered by a server and by a stranger, and acknowledges: the stranger's datagram accuses nobody.
