@@ -490,19 +490,22 @@ def try_accused(trial: Trial, program: str) -> None:
     begun = late_block()[:2]
     changed = begun + from_client(ack(1)) + from_server(data(1, b":" * 512))
     stranger = Datagram(THIRD, 41_000, C, 40_000, b"junk")
+    unanswered = [Datagram(C, 40_000, S, 69, read_request("a", "octet")[0][:-1])]
+    strays = [begun[0], stranger, *read("a", 40_000, 41_000)[1:]]
     cases: tuple[tuple[str, list[Datagram], tuple[str, ...], str], ...] = (
         ("a client", begun + from_client(ack(3)), (), "client 192.0.2.7:40000"),
         ("a client, at the server", begun + from_client(ack(3)), AT_SERVER, "client 192.0.2.7:40000"),
         ("a server", changed, (), "server 192.0.2.1:41000"),
         ("a server, at the client", changed, AT_CLIENT, "server 192.0.2.1:41000"),
+        ("a client that asks wrongly, and is not answered", unanswered, (), "client 192.0.2.7:40000"),
         ("nobody, where nothing is refused", read("a", 40_000, 41_000), (), ""),
-        ("nobody, where a stranger sent it", [begun[0], stranger, *read("a", 40_000, 41_000)[1:]], AT_CLIENT, ""),
+        ("nobody, where a stranger sent it", strays, AT_CLIENT, ""),
         ("nobody, where it is doubtful", asked_again(), (), ""),
     )
     for name, passed, words, wanted in cases:
         rows = checked(program, file_of(passed), *words)[0]
         trial.check(f"{name} is accused", [row.accused for row in rows][-1] == wanted, rows)
-    strangers = checked(program, file_of(cases[5][1]), *AT_CLIENT)[0][0]
+    strangers = checked(program, file_of(strays), *AT_CLIENT)[0][0]
     why = "neither its client nor its server sent the datagram"
     trial.check("a stranger's datagram", strangers.doubts == (why,) and strangers.frame == 2, strangers)
     six = read("a", 40_000, 41_000, (C_6, S_6))[:2] + [Datagram(C_6, 40_000, S_6, 41_000, ack(3)[0])]

@@ -95,7 +95,7 @@ class Transfer:
     def doubts_at(self, end: EndName, number: int) -> list[str]:
         """Why a refusal at this datagram is no accusation."""
         told = [doubt.why for doubt in self.doubts if doubt.since <= number]
-        if not self.is_answered:
+        if not self.is_answered and number != self.seen[0].number:
             told.append("nothing that came to its client is there: one direction only")
         if self.is_left_out:
             told.append("a frame is out of order, and by its time may be of this transfer")

@@ -13,6 +13,8 @@ pub struct Doubted {
     pub doubts: TransferDoubts,
     /// Each of its datagrams stands beside its equal.
     pub is_twice: bool,
+    /// The frame of its request.
+    pub begins: u64,
     /// Nothing came to its client.
     pub is_one_way: bool,
     /// The frame of a datagram that may be a copy of the one before.
@@ -33,7 +35,11 @@ impl Doubted {
         let doubts = &self.doubts;
         put_if(reasons, doubts.is_disordered(), Reason::Disordered)?;
         put_some(reasons, self.left_out.map(|frame| Reason::LeftOut(frame)))?;
-        put_if(reasons, self.is_one_way, Reason::OneWay)?;
+        put_if(
+            reasons,
+            self.is_one_way && blamed.frame != self.begins,
+            Reason::OneWay,
+        )?;
         put_if(reasons, doubts.is_asked_again(), Reason::AskedAgain)?;
         put_if(reasons, doubts.is_answered_apart(), Reason::AnsweredApart)?;
         put_if(reasons, doubts.goes_over(), Reason::GoesOver)?;

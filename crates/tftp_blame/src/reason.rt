@@ -31,6 +31,8 @@ pub enum Reason {
     Lost(u64),
     /// The frame with this number, from 1, may be a copy.
     Copied(u64),
+    /// The recorder says that it lost so many packets, at least 1.
+    Dropped(u64),
 }
 
 impl fmt::Display for Reason {
@@ -44,6 +46,8 @@ impl fmt::Display for Reason {
             }
             Reason::Lost(frame) => write!(f, "frame {frame} is not there whole"),
             Reason::Copied(frame) => write!(f, "frame {frame} may be a copy of the one before"),
+            Reason::Dropped(1) => f.write_str("the recorder lost 1 packet"),
+            Reason::Dropped(count) => write!(f, "the recorder lost {count} packets"),
             reason => f.write_str(reason.words()),
         }
     }
@@ -71,7 +75,7 @@ impl Reason {
             }
             Reason::Stranger => "neither its client nor its server sent the datagram",
             Reason::Twice => "each of its datagrams stands beside its equal: recorded twice",
-            Reason::LeftOut(_) | Reason::Lost(_) | Reason::Copied(_) => "",
+            Reason::LeftOut(_) | Reason::Lost(_) | Reason::Copied(_) | Reason::Dropped(_) => "",
         }
     }
 }

@@ -129,6 +129,7 @@ impl Trail {
         Doubted {
             doubts,
             is_twice: self.twice.are_all_twice(),
+            begins: self.first,
             is_one_way: !self.is_answered,
             copied_from: self.copied_from,
             left_out: self.left_out,

@@ -4,7 +4,7 @@ use crate::clock::Clock;
 use crate::losses::{Losses, SILENCE, WAIT};
 use crate::plain::put_number;
 use std::alloc::{AllocError, Global};
-use tftp_blame::{Missing, Passing, Trail};
+use tftp_blame::{Missing, Passing, Reason, Trail};
 use tftp_fragments::Fragments;
 use tftp_frames::{FrameFault, UdpFault};
 use tftp_pcap::PcapFault;
@@ -85,6 +85,10 @@ pub struct Notes {
     /// Why it was read no further.
     pub(crate) fault: Option<PcapFault>,
     pub(crate) clock: Clock,
+    /// Whether the recorder may still tell that it lost packets: as long as a recording in blocks is read.
+    pub may_lose: bool,
+    /// How many packets the recorder lost, as far as it has told that.
+    pub dropped: u64,
 }
 
 impl Notes {
@@ -100,6 +104,8 @@ impl Notes {
             backwards: Frames::new(alloc),
             fault: None,
             clock: Clock::new(),
+            may_lose: false,
+            dropped: 0,
         }
     }
 
@@ -247,6 +253,10 @@ impl Notes {
             lines,
             "not there whole, so that datagrams may be missing",
         )?;
+        if self.dropped > 0 {
+            let dropped = Reason::Dropped(self.dropped);
+            lines.push(format!(in alloc; "{dropped}, so that datagrams may be missing")?)?;
+        }
         if let Some(fault) = &self.fault {
             let (frame, kind) = (fault.frame, fault.kind);
             lines.push(format!(in alloc; "frame {frame}: {kind}")?)?;

@@ -6,6 +6,7 @@ use crate::verdicts::{Judged, Told};
 use anyhow::Result;
 use serde::Serialize;
 use std::alloc::{AllocError, Global};
+use std::mem;
 use tftp_blame::{Missing, Reason};
 use tftp_packet::End;
 use tftp_session::{Ended, Session, put_number, put_plain, shown_host};
@@ -25,9 +26,10 @@ pub enum What {
 struct VerdictRow<'a> {
     file: &'a str,
     number: u64,
-    place: &'a str,
+    place: &'static str,
+    /// That of the datagram that is refused; none where none is.
     frame: Option<u64>,
-    verdict: &'a str,
+    verdict: String,
     accused: Option<AccusedEnd>,
     doubts: Vec<String>,
 }
@@ -40,8 +42,8 @@ struct AccusedEnd {
     port: u16,
 }
 
-/// Tells transfers, each as soon as no datagram joins it any more.
-#[derive(Clone, Copy)]
+/// Tells transfers, each as soon as nothing that comes later changes what is told of it.
+#[derive(Drop)]
 pub struct Teller<'a> {
     what: What,
     is_json: bool,
@@ -53,11 +55,16 @@ pub struct Teller<'a> {
     /// 0 where all were accepted, else 1, or 2 after a fault.
     pub status: u8,
     is_headed: bool,
+    /// From the first refusal on, while the recorder may still tell that it lost packets.
+    held: Vec<VerdictRow<'a>>,
+    may_lose: bool,
+    /// How many packets the recorder lost.
+    dropped: u64,
 }
 
 impl<'a> Teller<'a> {
     /// Nothing was told.
-    pub fn new(what: What, is_json: bool, width: usize) -> Self {
+    pub fn new(alloc: Global, what: What, is_json: bool, width: usize) -> Self {
         Teller {
             what,
             is_json,
@@ -66,6 +73,9 @@ impl<'a> Teller<'a> {
             told: 0,
             status: 0,
             is_headed: false,
+            held: Vec::new(alloc),
+            may_lose: false,
+            dropped: 0,
         }
     }
 
@@ -73,15 +83,28 @@ impl<'a> Teller<'a> {
     pub fn begin(&mut self, file: &'a str) {
         self.file = file;
         self.told = 0;
+        self.dropped = 0;
     }
 
     /// Tells the transfers of which all is known, from the oldest on.
     pub fn tell_over(&mut self, rt: HostRuntime, session: &mut Session) -> Result<()> {
+        self.may_lose = session.notes.may_lose;
         for _ in 0..session.count() {
             if !session.is_first_over() {
                 return Ok(());
             }
             self.tell_oldest(rt, session)?;
+        }
+        Ok(())
+    }
+
+    /// Tells what was held back, where the recording is read no further.
+    pub fn tell_held(&mut self, rt: HostRuntime, session: &Session) -> Result<()> {
+        self.may_lose = false;
+        self.dropped = session.notes.dropped;
+        let held = mem::replace(&mut self.held, Vec::new(rt.alloc()));
+        for row in held {
+            self.tell_row(rt, row)?;
         }
         Ok(())
     }
@@ -166,27 +189,46 @@ impl<'a> Teller<'a> {
     }
 
     fn tell_one(&mut self, rt: HostRuntime, judged: &Judged, told: &Told<'_>) -> Result<()> {
-        let reasons = judged.reasons(rt.alloc(), told)?;
-        let accused = AccusedEnd::of(rt.alloc(), judged.accused(told, reasons.as_slice()))?;
+        let row = self.row_of(rt.alloc(), judged, told)?;
         self.status = self.status.max(told.view.status());
-        let row = VerdictRow {
+        let is_next = self.held.is_empty() && row.frame.is_none();
+        if self.may_lose && !is_next {
+            self.held.push(row)?;
+            return Ok(());
+        }
+        self.tell_row(rt, row)
+    }
+
+    fn row_of(
+        &self,
+        alloc: Global,
+        judged: &Judged,
+        told: &Told<'_>,
+    ) -> Result<VerdictRow<'a>, AllocError> {
+        let reasons = judged.reasons(alloc, told)?;
+        Ok(VerdictRow {
             file: self.file,
             number: self.told,
             place: told.place,
             frame: told.view.frame(),
-            verdict: told.view.line(),
-            accused,
-            doubts: written(rt.alloc(), reasons.as_slice())?,
-        };
-        self.tell_row(rt, &row)
+            verdict: String::from_str(alloc, told.view.line())?,
+            accused: AccusedEnd::of(alloc, judged.accused(told, reasons.as_slice()))?,
+            doubts: written(alloc, reasons.as_slice())?,
+        })
     }
 
-    fn tell_row(&mut self, rt: HostRuntime, row: &VerdictRow<'_>) -> Result<()> {
+    /// Tells a row. A refusal is doubtful where the recorder lost packets.
+    fn tell_row(&mut self, rt: HostRuntime, mut row: VerdictRow<'a>) -> Result<()> {
+        if self.dropped > 0 && row.frame.is_some() {
+            let dropped = Reason::Dropped(self.dropped);
+            row.doubts.push(format!(in rt.alloc(); "{dropped}")?)?;
+            row.accused = None;
+        }
         if self.is_json {
-            return print_json(rt, row);
+            return print_json(rt, &row);
         }
         let mut line = String::new(rt.alloc());
-        let put = self.put_row(&mut line, row);
+        let put = self.put_row(&mut line, &row);
         put?;
         println!(rt; "{line}")?;
         Ok(())
@@ -265,7 +307,7 @@ fn put_verdict(line: &mut String, row: &VerdictRow<'_>) -> Result<(), AllocError
     if !row.doubts.is_empty() {
         line.push_str("doubtful ")?;
     }
-    line.push_str(row.verdict)?;
+    line.push_str(row.verdict.as_str())?;
     for (place, why) in row.doubts.iter().enumerate() {
         line.push_str(if place == 0 { ": " } else { "; " })?;
         line.push_str(why.as_str())?;
