@@ -1,12 +1,12 @@
 -- What the body of a block says, by its type.
 use Rattle.std.proofs.Common.{◌≡◌, ◌≢◌, inl, inr, ℕ, ◌+◌, ◌-◌, ◌%◌, ◌≤◌, List, [], ◌++◌, length, take, append-nil, refl, sym, ap, ◌∙◌, subst, arith, ◌⊎◌, Option, Some, None, MatchOption}
-use Rattle.tftp_pcap.specs.{number_at, FrameParts, frame_at, SpellsInterface, SpellsPacket, section_type, longest_block, Said, BodySays, BlockSays, Says, OpensAgain, said_of, Order, Place, Interface, Layout, Unopened, Found}
+use Rattle.tftp_pcap.specs.{number_at, FrameParts, frame_at, SpellsInterface, SpellsPacket, section_type, longest_block, Said, BodySays, BlockSays, Says, OpensAgain, said_of, Order, Place, Interface, NamedInterface, Layout, Unopened, Found}
 use Rattle.tftp_pcap.specs.Pieces.Said.{Opens, Names, Gives, Skips}
 use Rattle.tftp_pcap.specs.declared.layout.Layout.TheVariants.{Classic, Blocks}
 use Rattle.tftp_pcap.specs.declared.found.Found.TheVariants as found
 use Rattle.tftp_pcap.proofs.Whole.{block_says, body_says, packet_moved, body_of, section_known}
 
-pub no_interface : (order : Order) (interfaces : List Interface) (body : List ℕ) → ((interface : Interface) → SpellsInterface order body interface → ⊥) → (said : Said) → BodySays order interfaces 1 body said → ⊥
+pub no_interface : (order : Order) (interfaces : List NamedInterface) (body : List ℕ) → ((interface : Interface) → SpellsInterface order body interface → ⊥) → (said : Said) → BodySays order interfaces 1 body said → ⊥
 no_interface order interfaces body never (Opens layout) says = says
 no_interface order interfaces body never (Names interface) says = never interface says.1
 no_interface order interfaces body never (Gives frame) (inl p) = omega (arith, p.0)
@@ -14,7 +14,7 @@ no_interface order interfaces body never (Gives frame) (inr (inl p)) = omega (ar
 no_interface order interfaces body never (Gives frame) (inr (inr p)) = omega (arith, p.0)
 no_interface order interfaces body never Skips says = says.0 refl
 
-module _ (order : Order) (interfaces : List Interface) (s : List ℕ) (enough : 12 ≤ length s) (sized : length s ≡ number_at order s 4) (words : length s % 4 ≡ 0) (few : length s ≤ longest_block)
+module _ (order : Order) (interfaces : List NamedInterface) (s : List ℕ) (enough : 12 ≤ length s) (sized : length s ≡ number_at order s 4) (words : length s % 4 ≡ 0) (few : length s ≤ longest_block)
     (other : take 4 s ≢ section_type) (kind : ℕ) (is : kind ≡ number_at order s 0) where
   pub wrong_end : (again : ℕ) → again ≡ number_at order s (length s - 4) → again ≢ length s → (said : Said) → BlockSays order interfaces s said → ⊥
   wrong_end again at differs said says = differs (at ∙ sym (body_says order interfaces s kind is said says).1)
@@ -48,14 +48,14 @@ module _ (order : Order) (interfaces : List Interface) (s : List ℕ) (enough : 
 
 -- ---- blocks among pieces
 
-pub block_piece : (order : Order) (interfaces : List Interface) (s : List ℕ) (said : Said) → BlockSays order interfaces s said → Says (Blocks order) interfaces s said
+pub block_piece : (order : Order) (interfaces : List NamedInterface) (s : List ℕ) (said : Said) → BlockSays order interfaces s said → Says (Blocks order) interfaces s said
 block_piece order interfaces s (Opens layout) (type, body, kind, block, plain, typed, says) = absurd says
 block_piece order interfaces s (Names interface) says = says
 block_piece order interfaces s (Gives frame) says = says
 block_piece order interfaces s Skips says = says
 
 -- a block that is no section header opens nothing
-pub block_none : (order : Order) (interfaces : List Interface) (s : List ℕ) → take 4 s ≢ section_type → ((said : Said) → BlockSays order interfaces s said → ⊥) → (said : Said) → Says (Blocks order) interfaces s said → ⊥
+pub block_none : (order : Order) (interfaces : List NamedInterface) (s : List ℕ) → take 4 s ≢ section_type → ((said : Said) → BlockSays order interfaces s said → ⊥) → (said : Said) → Says (Blocks order) interfaces s said → ⊥
 block_none order interfaces s plain never = cases
   where
     opened : (layout : Layout) → OpensAgain s layout → ⊥
@@ -72,7 +72,7 @@ block_none order interfaces s plain never = cases
     cases (Gives frame) h = never (Gives frame) h
     cases Skips h = never Skips h
 
-pub block_answer : (order : Order) (interfaces : List Interface) (s : List ℕ) → take 4 s ≢ section_type → (result : Option Found)
+pub block_answer : (order : Order) (interfaces : List NamedInterface) (s : List ℕ) → take 4 s ≢ section_type → (result : Option Found)
     → MatchOption result ((said : Said) → BlockSays order interfaces s said → ⊥) (λ f. BlockSays order interfaces s (said_of f s))
     → MatchOption result ((said : Said) → Says (Blocks order) interfaces s said → ⊥) (λ f. Says (Blocks order) interfaces s (said_of f s))
 block_answer order interfaces s plain None never = block_none order interfaces s plain never

@@ -38,7 +38,7 @@ pub step_fails : (kind : FaultKind) (shown old : PiecesState) (before after : Op
 step_fails kind shown old before after piece is consumed ends =
     (piece, subst (λ (s : PiecesState). Consumes (prepend_known s.ahead before) after piece) is consumed, (stops_of kind old.mode old.count piece (subst (λ (s : PiecesState). FrontEnds s.mode.layout (Err kind) piece) is ends), λ h. refl))
 
-stops_rest : (kind : FaultKind) (mode : Mode) (count : ℕ) (piece taken : List ℕ) → RestEnds mode (Err kind) piece taken → Stops kind mode count taken × ((kind ≡ NotARecording) ⊎ (kind ≡ Memory) → taken ≡ piece)
+stops_rest : (kind : FaultKind) (mode : Mode) (count : ℕ) (piece taken : List ℕ) → RestEnds mode.layout mode.interfaces (Err kind) piece taken → Stops kind mode count taken × ((kind ≡ NotARecording) ⊎ (kind ≡ Memory) → taken ≡ piece)
 stops_rest Truncated mode count piece taken h = (h, λ e. absurd (elim e as (λ _. ⊥) [ inl a ↦ (let x : ⊥ = cc in x) | inr a ↦ (let x : ⊥ = cc in x) ]))
 stops_rest Bad mode count piece taken h = (h, λ e. absurd (elim e as (λ _. ⊥) [ inl a ↦ (let x : ⊥ = cc in x) | inr a ↦ (let x : ⊥ = cc in x) ]))
 stops_rest Read mode count piece taken h = (h, λ e. absurd (elim e as (λ _. ⊥) [ inl a ↦ (let x : ⊥ = cc in x) | inr a ↦ (let x : ⊥ = cc in x) ]))
@@ -54,22 +54,22 @@ module _ (shown old : PiecesState) (before middle after : Option (List ℕ)) (fr
   all_of : Consumes (prepend_known old.ahead before) after (front ++ more)
   all_of = subst (λ (s : PiecesState). Consumes (prepend_known s.ahead before) after (front ++ more)) is (Consumes-trans (prepend_known shown.ahead before) middle after front more first second)
 
-  pub rest_fails : (kind : FaultKind) → RestEnds shown.mode (Err kind) piece (front ++ more)
+  pub rest_fails : (kind : FaultKind) → RestEnds shown.mode.layout shown.mode.interfaces (Err kind) piece (front ++ more)
       → (taken : List ℕ) × Consumes (prepend_known old.ahead before) after taken × (Stops kind old.mode old.count taken × ((kind ≡ NotARecording) ⊎ (kind ≡ Memory) → taken ≡ piece))
-  rest_fails kind ends = (front ++ more, all_of, stops_rest kind old.mode old.count piece (front ++ more) (subst (λ (s : PiecesState). RestEnds s.mode (Err kind) piece (front ++ more)) is ends))
+  rest_fails kind ends = (front ++ more, all_of, stops_rest kind old.mode old.count piece (front ++ more) (subst (λ (s : PiecesState). RestEnds s.mode.layout s.mode.interfaces (Err kind) piece (front ++ more)) is ends))
 
-  pub rest_full : (f : Found) → RestEnds shown.mode (Ok f) piece (front ++ more) → (interface : Interface) × (f ≡ found.Names interface)
+  pub rest_full : (f : Found) → RestEnds shown.mode.layout shown.mode.interfaces (Ok f) piece (front ++ more) → (interface : Interface) × (f ≡ found.Names interface)
       → (taken : List ℕ) × Consumes (prepend_known old.ahead before) after taken × (Stops Memory old.mode old.count taken × ((Memory ≡ NotARecording) ⊎ (Memory ≡ Memory) → taken ≡ piece))
   rest_full f (says, held) (interface, named) =
       let there = subst (λ (s : PiecesState). Says s.mode.layout s.mode.interfaces (front ++ more) (said_of f piece)) is says in
       (front ++ more, all_of, (inr (interface, subst (λ (g : Found). Says old.mode.layout old.mode.interfaces (front ++ more) (said_of g piece)) named there), λ e. no_skip f interface (front ++ more) piece named held))
 
-  pub rest_says : (f : Found) (new : PiecesState) → RestEnds shown.mode (Ok f) piece (front ++ more) → new.mode ≡ next_mode shown.mode (said_of f piece) → new.count ≡ shown.count + 1 → shown.count < 2 ^ 40
+  pub rest_says : (f : Found) (new : PiecesState) → RestEnds shown.mode.layout shown.mode.interfaces (Ok f) piece (front ++ more) → new.mode ≡ next_mode shown.mode (said_of f piece) → new.count ≡ shown.count + 1 → shown.count < 2 ^ 40
       → (taken : List ℕ) × Consumes (prepend_known old.ahead before) after taken × StepEnds old new (Ok (Some f)) piece taken
   rest_says f new ends mode count few =
       (front ++ more, all_of, subst (λ (s : PiecesState). StepEnds s new (Ok (Some f)) piece (front ++ more)) is (ends.0, mode, count, few))
 
-  pub rest_place : (room : ℕ) (f : Found) → RestEnds shown.mode (Ok f) piece (front ++ more) → (interface : Interface) × (f ≡ found.Names interface) → shown.room ≤ length shown.mode.interfaces → WantsMemory room old.room old.mode piece
+  pub rest_place : (room : ℕ) (f : Found) → RestEnds shown.mode.layout shown.mode.interfaces (Ok f) piece (front ++ more) → (interface : Interface) × (f ≡ found.Names interface) → shown.room ≤ length shown.mode.interfaces → WantsMemory room old.room old.mode piece
   rest_place room f (says, held) (interface, named) full =
       let there = subst (λ (l : List ℕ). Says shown.mode.layout shown.mode.interfaces l (said_of f piece)) (no_skip f interface (front ++ more) piece named held) says in
       let here : WantsMemory room shown.room shown.mode piece = inr (interface, subst (λ (g : Found). Says shown.mode.layout shown.mode.interfaces piece (said_of g piece)) named there, full) in

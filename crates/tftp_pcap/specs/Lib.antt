@@ -14,8 +14,8 @@ pub use Times.{time_of}
 pub use Frames.{FrameParts, FrameState, frame_at, longest_frame, no_frame}
 pub use Classic.{SpellsHeader, SpellsRecord, fraction_unit, magic, major}
 pub use Options.{BeginsWithOption, EndsOptions, OptionParts, SpellsOptions, first_value}
-pub use Blocks.{SpellsBlock, SpellsEnhanced, SpellsInterface, SpellsObsolete, SpellsPacket, SpellsSection, SpellsSimple, SpellsTimed, direction_by, kept, longest_block, offset_by, order_magic, section_type, units_by}
-pub use Pieces.{Announces, AnnouncesSection, BeginsAsOne, BlockSays, BodySays, Follows, IsRecording, IsSize, Mode, OpensAgain, OpensAs, Said, Says, Stands, front_of, given, next_mode, said_of, start}
+pub use Blocks.{SpellsBlock, SpellsEnhanced, SpellsInterface, SpellsObsolete, SpellsPacket, SpellsSection, SpellsSimple, SpellsTimed, count_said, damaged_by, direction_by, kept, longest_block, missed_by, offset_by, order_magic, section_type, units_by}
+pub use Pieces.{Announces, AnnouncesSection, BeginsAsOne, BlockSays, BodySays, Follows, IsRecording, IsSize, Mode, OpensAgain, OpensAs, Said, Says, Stands, front_of, given, named_in, next_mode, said_of, start}
 pub use Sizes.{BlockSizeTells, IsIrregular, IsTooLong, SizeTells}
 pub use Stopping.{EndReached, FrontEnds, IsBad, IsCut, IsLonger, IsPart, IsShort, IsSkipped, IsWhole, PiecesState, RestEnds, StepEnds, Stops, WantsMemory}
 pub use History.{Continues, EndsIn, FailsAs, FailsToBegin, FillTells, IsWrong, ReaderState, RunsOut, StandingTells, StandsFor}
@@ -27,6 +27,7 @@ pub use declared.found.Found.{Found}
 pub use declared.frame.Direction.{Direction}
 pub use declared.frame.Direction.TheVariants.{In, Out, Unknown}
 pub use declared.layout.Interface.{Interface}
+pub use declared.layout.NamedInterface.{NamedInterface}
 pub use declared.layout.Layout.{Layout}
 pub use declared.layout.Layout.TheVariants.{Unopened}
 pub use declared.numbers.Order.{Order}

@@ -7,6 +7,7 @@ use Rattle.tftp_pcap.specs.Classic.{magic, SpellsHeader, SpellsRecord}
 use Rattle.tftp_pcap.specs.Blocks.{SpellsBlock, SpellsSection, SpellsInterface, SpellsPacket, section_type, order_magic, longest_block, most_interfaces}
 use Rattle.tftp_pcap.specs.declared.numbers.Order.{Order}
 use Rattle.tftp_pcap.specs.declared.layout.Interface.{Interface}
+use Rattle.tftp_pcap.specs.declared.layout.NamedInterface.{NamedInterface}
 use Rattle.tftp_pcap.specs.declared.layout.Layout.{Layout}
 use Rattle.tftp_pcap.specs.declared.layout.Layout.TheVariants.{Unopened, Classic, Blocks}
 use Rattle.tftp_pcap.specs.declared.found.Found.{Found}
@@ -32,18 +33,18 @@ OpensAgain piece (Classic classic) = ⊥
 OpensAgain piece (Blocks order) = SpellsSection piece order
 
 -- what the body of a block says, by the block's type
-abbrev pub BodySays : Order → List Interface → ℕ → List ℕ → Said → Type 0
+abbrev pub BodySays : Order → List NamedInterface → ℕ → List ℕ → Said → Type 0
 BodySays order interfaces kind body (Opens layout) = ⊥
 BodySays order interfaces kind body (Names interface) = (kind ≡ 1) × SpellsInterface order body interface × (length interfaces < most_interfaces)
 BodySays order interfaces kind body (Gives frame) = SpellsPacket order interfaces kind body frame
 BodySays order interfaces kind body Skips = (kind ≢ 1) × (kind ≢ 2) × (kind ≢ 3) × (kind ≢ 6)
 
 -- a block that is no section header
-abbrev pub BlockSays : Order → List Interface → List ℕ → Said → Type 0
+abbrev pub BlockSays : Order → List NamedInterface → List ℕ → Said → Type 0
 BlockSays order interfaces piece said = (type body : List ℕ) × (kind : ℕ) × SpellsBlock order piece type body × (type ≢ section_type) × Spells order type (kind ∷ []) × BodySays order interfaces kind body said
 
 -- what a piece says, by the layout and the interfaces of the section so far
-abbrev pub Says : Layout → List Interface → List ℕ → Said → Type 0
+abbrev pub Says : Layout → List NamedInterface → List ℕ → Said → Type 0
 Says Unopened interfaces piece (Opens layout) = OpensAs piece layout
 Says Unopened interfaces piece _ = ⊥
 Says (Classic classic) interfaces piece (Gives frame) = SpellsRecord classic piece frame
@@ -53,17 +54,22 @@ Says (Blocks order) interfaces piece said = BlockSays order interfaces piece sai
 
 -- ---- pieces, one after another
 
--- what is known of the recording: its layout, and the interfaces of the section
+-- what is known of the recording: its layout, how many headers stood before, and the interfaces of the section
 pub record Mode : Type 0 where
   pub layout : Layout
-  pub interfaces : List Interface
+  pub sections : ℕ
+  pub interfaces : List NamedInterface
 
 abbrev pub start : Mode
-start = record { layout = Unopened; interfaces = [] }
+start = record { layout = Unopened; sections = 0; interfaces = [] }
+
+-- an interface has the number of those that its section named before it (section 4.2)
+abbrev pub named_in : Mode → Interface → NamedInterface
+named_in mode interface = record { described = interface; section = mode.sections; number = length mode.interfaces }
 
 abbrev pub next_mode : Mode → Said → Mode
-next_mode mode (Opens layout) = record { layout = layout; interfaces = [] }
-next_mode mode (Names interface) = record { layout = mode.layout; interfaces = mode.interfaces ++ interface ∷ [] }
+next_mode mode (Opens layout) = record { layout = layout; sections = mode.sections + 1; interfaces = [] }
+next_mode mode (Names interface) = record { layout = mode.layout; sections = mode.sections; interfaces = mode.interfaces ++ named_in mode interface ∷ [] }
 next_mode mode (Gives frame) = mode
 next_mode mode Skips = mode
 

@@ -1,14 +1,15 @@
 -- One frame of a TFTP transfer, an ACK, recorded by tcpdump, as editcap of Wireshark 4.0.17 writes it: as a classic
 -- recording and in blocks.
-use Rattle.std.specs.Prelude.{ℕ, List, [], ◌∷◌, ◌++◌, Some}
+use Rattle.std.specs.Prelude.{ℕ, false, List, [], ◌∷◌, ◌++◌, Some}
 use Rattle.tftp_pcap.specs.Frames.{FrameParts}
 use Rattle.tftp_pcap.specs.declared.frame.Direction.TheVariants.{Unknown}
 
 abbrev pub worked_bytes : List ℕ
 worked_bytes = 0 ∷ 0 ∷ 0 ∷ 0 ∷ 0 ∷ 0 ∷ 0 ∷ 0 ∷ 0 ∷ 0 ∷ 0 ∷ 0 ∷ 8 ∷ 0 ∷ 69 ∷ 0 ∷ 0 ∷ 32 ∷ 249 ∷ 118 ∷ 64 ∷ 0 ∷ 64 ∷ 17 ∷ 189 ∷ 83 ∷ 192 ∷ 0 ∷ 2 ∷ 1 ∷ 192 ∷ 0 ∷ 2 ∷ 1 ∷ 133 ∷ 8 ∷ 203 ∷ 5 ∷ 0 ∷ 12 ∷ 132 ∷ 32 ∷ 0 ∷ 4 ∷ 0 ∷ 1 ∷ []
 
-abbrev pub worked_frame : FrameParts
-worked_frame = record { link = 1; time = Some 1795415291790951000; direction = Unknown; original = 46; bytes = worked_bytes }
+-- the frame, at the first interface of a section, the first being 1; of section 0 in a classic recording
+abbrev pub worked_frame : ℕ → FrameParts
+worked_frame section = record { section = section; interface = 0; link = 1; time = Some 1795415291790951000; direction = Unknown; damaged = false; missed = 0; original = 46; bytes = worked_bytes }
 
 -- ---- a classic recording
 

@@ -22,6 +22,6 @@ pub fn fault_is_one()
 
 /// A worked frame, an ACK, recorded by tcpdump and written by editcap of Wireshark: as a classic recording, and in blocks.
 pub fn worked_recordings()
-    ensures classic { IsRecording worked_classic (worked_frame ∷ []) }
-    ensures blocks { IsRecording worked_blocks (worked_frame ∷ []) }
+    ensures classic { IsRecording worked_classic (worked_frame 0 ∷ []) }
+    ensures blocks { IsRecording worked_blocks (worked_frame 1 ∷ []) }
 {}

@@ -34,3 +34,14 @@ pub struct Interface {
     /// What is added to its times, in seconds: a signed number of 64 bits, as its bits are.
     pub offset: u64,
 }
+
+/// An interface of a section, which its block named there.
+#[derive(Clone, Copy, Debug, PartialEq, Eq)]
+pub struct NamedInterface {
+    /// What its block says.
+    pub described: Interface,
+    /// The section, the first of the recording being 1.
+    pub section: u64,
+    /// Its number in the section, the first being 0.
+    pub number: u64,
+}

@@ -27,6 +27,6 @@ pub use frame::{Direction, Frame};
 pub use laws::{
     fault_is_in_no_recording, fault_is_one, recording_has_one_reading, worked_recordings,
 };
-pub use layout::{Classic, Interface, Layout};
+pub use layout::{Classic, Interface, Layout, NamedInterface};
 pub use numbers::Order;
 pub use reader::FrameReader;

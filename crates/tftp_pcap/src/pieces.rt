@@ -13,7 +13,7 @@ use crate::blocks::{
 };
 use crate::classic::{header_of, record_of};
 use crate::found::Found;
-use crate::layout::{Interface, Layout};
+use crate::layout::{Layout, NamedInterface};
 use crate::numbers::Order;
 use crate::place::Place;
 use crate::sizes::{is_section, order_of};
@@ -68,7 +68,7 @@ fn moved(place: Place) -> Place
 }
 
 /// What a block says that is no section header and all of which is there; none where it is no block.
-fn block_of(order: Order, interfaces: &[Interface], piece: &[u8]) -> Option<Found>
+fn block_of(order: Order, interfaces: &[NamedInterface], piece: &[u8]) -> Option<Found>
     requires whole { length piece.now ≡ number_at order piece.now 4 }
     requires least { 12 ≤ length piece.now }
     requires words { length piece.now % 4 ≡ 0 }
@@ -118,7 +118,7 @@ pub fn skipped_in(layout: Layout, front: &[u8]) -> Option<Order>
 }
 
 /// The interface that the body of its block names, where there is room for one more; none where it is none.
-fn named_by(order: Order, interfaces: &[Interface], body: &[u8]) -> Option<Found>
+fn named_by(order: Order, interfaces: &[NamedInterface], body: &[u8]) -> Option<Found>
     ensures { MatchOption result ((said : Said) → BodySays order interfaces.now 1 body.now said → ⊥) (λ found. (interface : Interface) × (found ≡ Found.Names interface) × BodySays order interfaces.now 1 body.now (Said.Names interface)) }
 {
     if interfaces.len() >= MOST_INTERFACES {
@@ -131,7 +131,7 @@ fn named_by(order: Order, interfaces: &[Interface], body: &[u8]) -> Option<Found
 }
 
 /// What a piece says, all of which is there; none where it is no piece.
-pub fn said_by(layout: Layout, interfaces: &[Interface], piece: &[u8]) -> Option<Found>
+pub fn said_by(layout: Layout, interfaces: &[NamedInterface], piece: &[u8]) -> Option<Found>
     requires whole { Announces layout piece.now (length piece.now) }
     requires sized { IsSize layout (length piece.now) }
     ensures says { MatchOption result ((said : Said) → Says layout interfaces.now piece.now said → ⊥) (λ found. Says layout interfaces.now piece.now (said_of found piece.now)) }

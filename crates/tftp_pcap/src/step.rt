@@ -7,7 +7,7 @@ ghost use Rattle.tftp_pcap.specs.Stopping.{StepEnds, WantsMemory};
 
 use crate::fault::FaultKind;
 use crate::found::Found;
-use crate::layout::{Interface, Layout};
+use crate::layout::{Layout, NamedInterface};
 use crate::read::{read_front, read_rest};
 use std::alloc::{AllocError, Global};
 use std::io::Read;
@@ -22,7 +22,8 @@ const MOST_PIECES: u64 = 1 << 40;
 pub struct Pieces {
     ahead: ReadBuffer,
     layout: Layout,
-    interfaces: Vec<Interface>,
+    sections: u64,
+    interfaces: Vec<NamedInterface>,
     count: u64,
 }
 
@@ -32,9 +33,9 @@ impl Model for Pieces {
 
     ghost Value = { PiecesState };
 
-    ghost view = { λ p. record { ahead = p.ahead.bytes; mode = record { layout = p.layout; interfaces = p.interfaces.items }; count = p.count; room = vec_capacity p.interfaces } };
+    ghost view = { λ p. record { ahead = p.ahead.bytes; mode = record { layout = p.layout; sections = p.sections; interfaces = p.interfaces.items }; count = p.count; room = vec_capacity p.interfaces } };
 
-    ghost invariant = { λ p. p.count ≤ 2 ^ 40 };
+    ghost invariant = { λ p. (p.count ≤ 2 ^ 40) × (p.sections ≤ p.count) };
 }
 
 impl Pieces {
@@ -48,6 +49,7 @@ impl Pieces {
         Ok(Pieces {
             ahead,
             layout: Layout::Unopened,
+            sections: 0,
             interfaces: Vec::new(alloc),
             count: 0,
         })
@@ -68,10 +70,16 @@ impl Pieces {
         match found {
             Found::Opens(layout) => {
                 self.layout = layout;
+                self.sections += 1;
                 self.interfaces.clear();
             }
             Found::Names(interface) => {
-                if self.interfaces.push(interface).is_err() {
+                let named = NamedInterface {
+                    described: interface,
+                    section: self.sections,
+                    number: self.interfaces.len() as u64,
+                };
+                if self.interfaces.push(named).is_err() {
                     return false;
                 }
             }

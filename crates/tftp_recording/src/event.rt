@@ -103,8 +103,9 @@ impl Event {
         read_hosts(self.frame.link(), self.frame.bytes())
     }
 
-    /// Whether the frame is a copy of a frame before it, or what its sender repeated: its packet has no identification,
-    /// which would tell. It is not left out for that.
+    /// Whether the frame is a copy of a frame before it, recorded at another interface, or what its sender repeated: its packet
+    /// has no identification, which would tell. It is not left out for that. Of what comes twice at one interface nothing is
+    /// told: all frames of a classic recording are of one, but those of Linux cooked, version 2, whose header names it.
     #[inline]
     pub fn is_doubtful(&self) -> bool
         ensures { result ≡ is_doubtful self.now.likeness }
