@@ -2,7 +2,7 @@
 use Rattle.std.proofs.Common.{◌≡◌, inl, inr, ℕ, ◌+◌, ◌%◌, ◌<◌, ◌≤◌, List, [], ◌∷◌, ◌++◌, length, length-append, take, refl, sym, ap, ◌∙◌, subst, append_assoc, append-nil, arith, flat_map}
 use Rattle.std.specs.List.{slice_range}
 use Rattle.tftp_pcap.specs.{number_at, Spells, FrameParts, magic, major, SpellsHeader, SpellsRecord, SpellsSection, Said, Says, BodySays, BlockSays, OpensAs, OpensAgain, Mode, Announces, BeginsAsOne, IsSize, Follows, IsRecording, next_mode, given, start, IsIrregular, IsTooLong, IsPart, Stops, FailsAs, IsWrong, FaultKind, NotARecording, Truncated, Bad, TooLong, TooMany, Read, Memory, Order, Interface, NamedInterface, Layout, Unopened}
-use Rattle.tftp_pcap.specs.Pieces.Said.{Opens, Names, Gives, Skips}
+use Rattle.tftp_pcap.specs.Pieces.Said.{Opens, Names, Gives, Counts, Skips}
 use Rattle.tftp_pcap.specs.declared.layout.Classic.{Classic as Header}
 use Rattle.tftp_pcap.specs.declared.layout.Layout.TheVariants.{Classic, Blocks}
 use Rattle.tftp_pcap.proofs.Cuts.{cut_one}
@@ -10,6 +10,7 @@ use Rattle.tftp_pcap.proofs.Fours.{spells_length}
 use Rattle.tftp_pcap.proofs.Announced.{order_one, magic_other}
 use Rattle.tftp_pcap.proofs.Fronts.{announces_more, announces_one, announces_enough, begins_of, front_some, short_is_part}
 use Rattle.tftp_pcap.proofs.Whole.{block_known, section_known, body_of, body_says}
+use Rattle.tftp_pcap.proofs.Statistics.{statistics_one}
 use Rattle.tftp_pcap.proofs.OneFrame.{magic_length, major_length, header_one, record_one, interface_one, packet_one}
 
 -- ---- a piece announces its own length
@@ -73,6 +74,7 @@ says_announced (Classic classic) interfaces s (Gives frame) says = record_announ
 says_announced (Blocks own) interfaces s (Opens (Blocks order)) says = again_announced own s order says
 says_announced (Blocks own) interfaces s (Names interface) says = block_announced own interfaces s (Names interface) says
 says_announced (Blocks own) interfaces s (Gives frame) says = block_announced own interfaces s (Gives frame) says
+says_announced (Blocks own) interfaces s (Counts d) says = block_announced own interfaces s (Counts d) says
 says_announced (Blocks own) interfaces s Skips says = block_announced own interfaces s Skips says
 says_announced _ interfaces s _ says = absurd says
 
@@ -125,12 +127,23 @@ bodies_one order interfaces kind body (Names i) (Names j) x y = ap Names (interf
 bodies_one order interfaces kind body (Names i) (Gives g) x (inl y) = absurd (omega (arith, x.0, y.0))
 bodies_one order interfaces kind body (Names i) (Gives g) x (inr (inl y)) = absurd (omega (arith, x.0, y.0))
 bodies_one order interfaces kind body (Names i) (Gives g) x (inr (inr y)) = absurd (omega (arith, x.0, y.0))
+bodies_one order interfaces kind body (Names i) (Counts d) x y = absurd (omega (arith, x.0, y.0))
 bodies_one order interfaces kind body (Names i) Skips x y = absurd (y.0 x.0)
 bodies_one order interfaces kind body (Gives f) (Opens l) x y = absurd y
 bodies_one order interfaces kind body (Gives f) (Names j) (inl x) y = absurd (omega (arith, x.0, y.0))
 bodies_one order interfaces kind body (Gives f) (Names j) (inr (inl x)) y = absurd (omega (arith, x.0, y.0))
 bodies_one order interfaces kind body (Gives f) (Names j) (inr (inr x)) y = absurd (omega (arith, x.0, y.0))
 bodies_one order interfaces kind body (Gives f) (Gives g) x y = ap Gives (packet_one order interfaces kind body f g x y)
+bodies_one order interfaces kind body (Gives f) (Counts d) (inl x) y = absurd (omega (arith, x.0, y.0))
+bodies_one order interfaces kind body (Gives f) (Counts d) (inr (inl x)) y = absurd (omega (arith, x.0, y.0))
+bodies_one order interfaces kind body (Gives f) (Counts d) (inr (inr x)) y = absurd (omega (arith, x.0, y.0))
+bodies_one order interfaces kind body (Counts d) (Opens l) x y = absurd y
+bodies_one order interfaces kind body (Counts d) (Names j) x y = absurd (omega (arith, x.0, y.0))
+bodies_one order interfaces kind body (Counts d) (Gives g) x (inl y) = absurd (omega (arith, x.0, y.0))
+bodies_one order interfaces kind body (Counts d) (Gives g) x (inr (inl y)) = absurd (omega (arith, x.0, y.0))
+bodies_one order interfaces kind body (Counts d) (Gives g) x (inr (inr y)) = absurd (omega (arith, x.0, y.0))
+bodies_one order interfaces kind body (Counts d) (Counts e) x y = ap Counts (statistics_one order interfaces body d e x.1 y.1)
+bodies_one order interfaces kind body (Counts d) Skips x y = absurd (y.4 x.0)
 bodies_one order interfaces kind body (Gives f) Skips (inl x) y = absurd (y.3 x.0)
 bodies_one order interfaces kind body (Gives f) Skips (inr (inl x)) y = absurd (y.2 x.0)
 bodies_one order interfaces kind body (Gives f) Skips (inr (inr x)) y = absurd (y.1 x.0)
@@ -139,6 +152,7 @@ bodies_one order interfaces kind body Skips (Names j) x y = absurd (x.0 y.0)
 bodies_one order interfaces kind body Skips (Gives g) x (inl y) = absurd (x.3 y.0)
 bodies_one order interfaces kind body Skips (Gives g) x (inr (inl y)) = absurd (x.2 y.0)
 bodies_one order interfaces kind body Skips (Gives g) x (inr (inr y)) = absurd (x.1 y.0)
+bodies_one order interfaces kind body Skips (Counts e) x y = absurd (x.4 y.0)
 bodies_one order interfaces kind body Skips Skips x y = refl
 
 blocks_one : (order : Order) (interfaces : List NamedInterface) (p : List ℕ) (s t : Said) → BlockSays order interfaces p s → BlockSays order interfaces p t → s ≡ t
@@ -149,23 +163,29 @@ pub says_one : (layout : Layout) (interfaces : List NamedInterface) (p : List �
 says_one Unopened interfaces p (Opens l) (Opens m) x y = ap Opens (opens_one p l m x y)
 says_one Unopened interfaces p (Opens l) (Names j) x y = absurd y
 says_one Unopened interfaces p (Opens l) (Gives g) x y = absurd y
+says_one Unopened interfaces p (Opens l) (Counts e) x y = absurd y
 says_one Unopened interfaces p (Opens l) Skips x y = absurd y
 says_one Unopened interfaces p (Names i) t x y = absurd x
 says_one Unopened interfaces p (Gives f) t x y = absurd x
+says_one Unopened interfaces p (Counts d) t x y = absurd x
 says_one Unopened interfaces p Skips t x y = absurd x
 says_one (Classic classic) interfaces p (Gives f) (Gives g) x y = ap Gives (record_one classic p f g x y)
 says_one (Classic classic) interfaces p (Gives f) (Opens m) x y = absurd y
 says_one (Classic classic) interfaces p (Gives f) (Names j) x y = absurd y
+says_one (Classic classic) interfaces p (Gives f) (Counts e) x y = absurd y
 says_one (Classic classic) interfaces p (Gives f) Skips x y = absurd y
 says_one (Classic classic) interfaces p (Opens l) t x y = absurd x
 says_one (Classic classic) interfaces p (Names i) t x y = absurd x
+says_one (Classic classic) interfaces p (Counts d) t x y = absurd x
 says_one (Classic classic) interfaces p Skips t x y = absurd x
 says_one (Blocks order) interfaces p (Opens l) (Opens m) x y = ap Opens (again_one p l m x y)
 says_one (Blocks order) interfaces p (Opens l) (Names j) x y = absurd (again_or_block order interfaces p l (Names j) x y)
 says_one (Blocks order) interfaces p (Opens l) (Gives g) x y = absurd (again_or_block order interfaces p l (Gives g) x y)
+says_one (Blocks order) interfaces p (Opens l) (Counts e) x y = absurd (again_or_block order interfaces p l (Counts e) x y)
 says_one (Blocks order) interfaces p (Opens l) Skips x y = absurd (again_or_block order interfaces p l Skips x y)
 says_one (Blocks order) interfaces p (Names i) (Opens m) x y = absurd (again_or_block order interfaces p m (Names i) y x)
 says_one (Blocks order) interfaces p (Gives f) (Opens m) x y = absurd (again_or_block order interfaces p m (Gives f) y x)
+says_one (Blocks order) interfaces p (Counts d) (Opens m) x y = absurd (again_or_block order interfaces p m (Counts d) y x)
 says_one (Blocks order) interfaces p Skips (Opens m) x y = absurd (again_or_block order interfaces p m Skips y x)
 says_one (Blocks order) interfaces p (Names i) (Names j) x y = blocks_one order interfaces p (Names i) (Names j) x y
 says_one (Blocks order) interfaces p (Names i) (Gives g) x y = blocks_one order interfaces p (Names i) (Gives g) x y
@@ -173,6 +193,13 @@ says_one (Blocks order) interfaces p (Names i) Skips x y = blocks_one order inte
 says_one (Blocks order) interfaces p (Gives f) (Names j) x y = blocks_one order interfaces p (Gives f) (Names j) x y
 says_one (Blocks order) interfaces p (Gives f) (Gives g) x y = blocks_one order interfaces p (Gives f) (Gives g) x y
 says_one (Blocks order) interfaces p (Gives f) Skips x y = blocks_one order interfaces p (Gives f) Skips x y
+says_one (Blocks order) interfaces p (Names i) (Counts e) x y = blocks_one order interfaces p (Names i) (Counts e) x y
+says_one (Blocks order) interfaces p (Gives f) (Counts e) x y = blocks_one order interfaces p (Gives f) (Counts e) x y
+says_one (Blocks order) interfaces p Skips (Counts e) x y = blocks_one order interfaces p Skips (Counts e) x y
+says_one (Blocks order) interfaces p (Counts d) (Names j) x y = blocks_one order interfaces p (Counts d) (Names j) x y
+says_one (Blocks order) interfaces p (Counts d) (Gives g) x y = blocks_one order interfaces p (Counts d) (Gives g) x y
+says_one (Blocks order) interfaces p (Counts d) (Counts e) x y = blocks_one order interfaces p (Counts d) (Counts e) x y
+says_one (Blocks order) interfaces p (Counts d) Skips x y = blocks_one order interfaces p (Counts d) Skips x y
 says_one (Blocks order) interfaces p Skips (Names j) x y = blocks_one order interfaces p Skips (Names j) x y
 says_one (Blocks order) interfaces p Skips (Gives g) x y = blocks_one order interfaces p Skips (Gives g) x y
 says_one (Blocks order) interfaces p Skips Skips x y = refl
@@ -221,6 +248,7 @@ says_sized Unopened interfaces s (Opens (Classic classic)) says = let long = hea
 says_sized Unopened interfaces s (Opens (Blocks order)) says = (says.block.few, (omega (arith, (section_known s [] order says).4), says.block.words))
 says_sized Unopened interfaces s (Names interface) says = absurd says
 says_sized Unopened interfaces s (Gives frame) says = absurd says
+says_sized Unopened interfaces s (Counts dropped) says = absurd says
 says_sized Unopened interfaces s Skips says = absurd says
 says_sized (Classic classic) interfaces s (Gives frame) says =
     let long : length s ≡ length says.head + length frame.bytes = ap length says.are ∙ length-append says.head frame.bytes in
@@ -228,12 +256,14 @@ says_sized (Classic classic) interfaces s (Gives frame) says =
     (omega (arith, long, head, says.few), omega (arith, long, head))
 says_sized (Classic classic) interfaces s (Opens layout) says = absurd says
 says_sized (Classic classic) interfaces s (Names interface) says = absurd says
+says_sized (Classic classic) interfaces s (Counts dropped) says = absurd says
 says_sized (Classic classic) interfaces s Skips says = absurd says
 says_sized (Blocks own) interfaces s (Opens Unopened) says = absurd says
 says_sized (Blocks own) interfaces s (Opens (Classic classic)) says = absurd says
 says_sized (Blocks own) interfaces s (Opens (Blocks order)) says = (says.block.few, (omega (arith, (section_known s [] order says).4), says.block.words))
 says_sized (Blocks own) interfaces s (Names interface) (type, body, kind, block, plain, typed, says) = (block.few, ((block_known own s type body block).4, block.words))
 says_sized (Blocks own) interfaces s (Gives frame) (type, body, kind, block, plain, typed, says) = (block.few, ((block_known own s type body block).4, block.words))
+says_sized (Blocks own) interfaces s (Counts dropped) (type, body, kind, block, plain, typed, says) = (block.few, ((block_known own s type body block).4, block.words))
 says_sized (Blocks own) interfaces s Skips (type, body, kind, block, plain, typed, says) = (block.few, ((block_known own s type body block).4, block.words))
 
 -- a piece in front of some bytes announces its size there

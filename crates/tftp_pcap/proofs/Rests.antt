@@ -51,7 +51,7 @@ module _ (order : Order) (interfaces : List NamedInterface) (first more piece : 
 
   pub skip_says : (again : ℕ) → again ≡ number_at order piece 8 → again ≡ size → RestEnds (Blocks order) interfaces (Ok found.Skips) piece taken
   skip_says again at same = (
-    skipped order interfaces taken enough (plain_size order taken (length taken) there.0 whole.0) whole.1.1.1 whole.1.0 there.0 (number_at order taken 0) refl (reached.0 ∙ sym same ∙ at ∙ last) there.1
+    skipped order interfaces taken enough (plain_size order taken (length taken) there.0 whole.0) whole.1.1.1 whole.1.0 there.0 (number_at order taken 0) refl (reached.0 ∙ sym same ∙ at ∙ last) there.1 there.5
         (λ packet. elim packet as (λ _. ⊥) [ inl e ↦ there.4 e | inr (inl e) ↦ there.3 e | inr (inr e) ↦ there.2 e ]),
     inl refl,
   )

@@ -3,7 +3,7 @@ use Rattle.std.proofs.Common.{◌≡◌, ◌≤◌, ◌<◌, ◌^◌, inl, inr, 
 use Rattle.std.specs.Io.KnownBytes.{prepend_known, Consumes}
 use Rattle.std.proofs.KnownBytes.{Consumes-trans}
 use Rattle.std.proofs.lemmas.Grind.{flat_map-append}
-use Rattle.tftp_pcap.specs.{FrameParts, Said, Says, Mode, Follows, Stands, IsRecording, next_mode, given, said_of, FailsAs, RunsOut, IsLonger, FrontEnds, RestEnds, Stops, PiecesState, StepEnds, WantsMemory, Found, Interface, FaultKind, NotARecording, Truncated, Bad, TooMany, Read, Memory}
+use Rattle.tftp_pcap.specs.{FrameParts, Said, Says, Mode, Follows, Stands, IsRecordingTo, next_mode, given, said_of, FailsAs, RunsOut, IsLonger, FrontEnds, RestEnds, Stops, PiecesState, StepEnds, WantsMemory, Found, Interface, FaultKind, NotARecording, Truncated, Bad, TooMany, Read, Memory}
 use Rattle.tftp_pcap.specs.declared.found.Found.TheVariants as found
 
 pub stops_of : (kind : FaultKind) (mode : Mode) (count : ℕ) (part : List ℕ) → FrontEnds mode.layout (Err kind) part → Stops kind mode count part
@@ -99,10 +99,10 @@ module _ (bytes taken more piece : List ℕ) (frames : List FrameParts) (old new
       let there = subst (λ (m : Mode). Stands (bytes ++ (taken ++ more)) m (old.count + 1) (frames ++ given (said_of found piece))) (sym mode) here in
       (taken ++ more, both, subst (λ (n : ℕ). Stands (bytes ++ (taken ++ more)) new.mode n (frames ++ given (said_of found piece))) (sym count) there)
 
-  pub reach_none : StepEnds old new (Ok None) piece more → (all : List ℕ) × Consumes start end all × IsRecording (bytes ++ all) frames
+  pub reach_none : StepEnds old new (Ok None) piece more → (all : List ℕ) × Consumes start end all × IsRecordingTo new.mode (bytes ++ all) frames
   reach_none (none, opened, mode, count, few) =
       let same : bytes ++ taken ≡ bytes ++ (taken ++ more) = ap (λ l. bytes ++ l) (sym (append-nil taken) ∙ ap (λ l. taken ++ l) (sym none)) in
-      (taken ++ more, both, record { mode = old.mode; count = old.count; stands = subst (λ (b : List ℕ). Stands b old.mode old.count frames) same goes; opened = opened; few = few })
+      (taken ++ more, both, (record { mode = old.mode; count = old.count; stands = subst (λ (b : List ℕ). Stands b old.mode old.count frames) same goes; opened = opened; few = few }, sym mode))
 
   pub reach_short : (low room few places : ℕ) → low ≤ room → few ≤ places → more ≡ piece → WantsMemory room places old.mode piece → (all : List ℕ) × Consumes start end all × RunsOut low few (bytes ++ all) frames
   reach_short low room few places roomier further is wants = (

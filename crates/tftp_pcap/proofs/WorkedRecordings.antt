@@ -1,6 +1,6 @@
 -- The worked recordings are recordings of the worked frame.
-use Rattle.std.proofs.Common.{inl, ℕ, List, [], ◌∷◌, get_or, ap, arith, refl, lit≤, lit<, false}
-use Rattle.tftp_pcap.specs.{SpellsHeader, SpellsRecord, SpellsBlock, SpellsSection, SpellsInterface, SpellsEnhanced, IsRecording, worked_frame, worked_classic, worked_header, worked_record, worked_blocks, worked_section, worked_interface, worked_packet, Little, Interface, NamedInterface}
+use Rattle.std.proofs.Common.{inl, inr, ℕ, List, [], ◌∷◌, get_or, ap, arith, refl, lit≤, lit<, false}
+use Rattle.tftp_pcap.specs.{SpellsHeader, SpellsRecord, SpellsBlock, SpellsSection, SpellsInterface, SpellsEnhanced, SpellsStatistics, counted, statistics_body, worked_named, IsRecording, worked_frame, worked_classic, worked_header, worked_record, worked_blocks, worked_section, worked_interface, worked_packet, Little, Interface, NamedInterface}
 use Rattle.tftp_pcap.specs.Pieces.Said.{Opens, Names, Gives}
 use Rattle.tftp_pcap.specs.declared.layout.Layout.TheVariants.{Classic, Blocks}
 use Rattle.tftp_pcap.specs.declared.layout.Classic.{Classic as Header}
@@ -16,7 +16,7 @@ record_is = record { head = 251 ∷ 220 ∷ 3 ∷ 107 ∷ 167 ∷ 17 ∷ 12 ∷ 
 
 pub classic_is : IsRecording worked_classic (worked_frame 0 ∷ [])
 classic_is = record {
-  mode = record { layout = Classic header; sections = 1; interfaces = [] };
+  mode = record { layout = Classic header; sections = 1; before = 0; interfaces = [] };
   count = 2;
   stands = record { pieces = worked_header ∷ worked_record ∷ []; are = refl; follows = (Opens (Classic header), worked_frame 0 ∷ [], header_is, refl, (Gives (worked_frame 0), [], record_is, refl, (refl, refl))); counted = refl };
   opened = λ e. let x : ⊥ = cc in x;
@@ -39,7 +39,7 @@ abbrev interface : Interface
 interface = record { link = 1; longest = 262144; units = 1000000; offset = 0 }
 
 abbrev named : NamedInterface
-named = record { described = interface; section = 1; number = 0 }
+named = record { described = interface; section = 1; number = 0; reported = 0; missed = 0 }
 
 interface_block : SpellsBlock Little worked_interface (1 ∷ 0 ∷ 0 ∷ 0 ∷ []) (1 ∷ 0 ∷ 0 ∷ 0 ∷ 0 ∷ 0 ∷ 4 ∷ 0 ∷ [])
 interface_block = record { size = 20 ∷ 0 ∷ 0 ∷ 0 ∷ []; again = 20 ∷ 0 ∷ 0 ∷ 0 ∷ []; are = refl; typed = refl; size_is = (20, 0, 0, 0, _, refl, refl, refl); again_is = (20, 0, 0, 0, _, refl, refl, refl); words = refl; few = lit≤ tt }
@@ -64,7 +64,7 @@ packet_is = record {
 
 pub blocks_are : IsRecording worked_blocks (worked_frame 1 ∷ [])
 blocks_are = record {
-  mode = record { layout = Blocks Little; sections = 1; interfaces = named ∷ [] };
+  mode = record { layout = Blocks Little; sections = 1; before = 0; interfaces = named ∷ [] };
   count = 3;
   stands = record {
     pieces = worked_section ∷ worked_interface ∷ worked_packet ∷ [];
@@ -86,4 +86,26 @@ blocks_are = record {
   };
   opened = λ e. let x : ⊥ = cc in x;
   few = lit< tt;
+}
+
+pub statistics_is : SpellsStatistics Little (worked_named ∷ []) statistics_body (counted 5)
+statistics_is = record {
+  high = 0;
+  low = 0;
+  front = 0 ∷ 0 ∷ 0 ∷ 0 ∷ 0 ∷ 0 ∷ 0 ∷ 0 ∷ 0 ∷ 0 ∷ 0 ∷ 0 ∷ [];
+  options = 5 ∷ 0 ∷ 8 ∷ 0 ∷ 3 ∷ 0 ∷ 0 ∷ 0 ∷ 0 ∷ 0 ∷ 0 ∷ 0 ∷ 7 ∷ 0 ∷ 8 ∷ 0 ∷ 2 ∷ 0 ∷ 0 ∷ 0 ∷ 0 ∷ 0 ∷ 0 ∷ 0 ∷ 0 ∷ 0 ∷ 0 ∷ 0 ∷ [];
+  said = record { code = 5; value = 3 ∷ 0 ∷ 0 ∷ 0 ∷ 0 ∷ 0 ∷ 0 ∷ 0 ∷ [] } ∷ record { code = 7; value = 2 ∷ 0 ∷ 0 ∷ 0 ∷ 0 ∷ 0 ∷ 0 ∷ 0 ∷ [] } ∷ [];
+  are = refl;
+  numbers = (0, 0, 0, 0, _, refl, refl, (0, 0, 0, 0, _, refl, refl, (0, 0, 0, 0, _, refl, refl, refl)));
+  named = lit< tt;
+  options_are = (
+    7 ∷ 0 ∷ 8 ∷ 0 ∷ 2 ∷ 0 ∷ 0 ∷ 0 ∷ 0 ∷ 0 ∷ 0 ∷ 0 ∷ 0 ∷ 0 ∷ 0 ∷ 0 ∷ [],
+    record { a = 5; b = 0; c = 8; d = 0; padding = []; are = refl; code = refl; some = λ e. let x : ⊥ = omega (arith, e) in x; sized = refl; padded = (lit< tt, refl) },
+    (
+      0 ∷ 0 ∷ 0 ∷ 0 ∷ [],
+      record { a = 7; b = 0; c = 8; d = 0; padding = []; are = refl; code = refl; some = λ e. let x : ⊥ = omega (arith, e) in x; sized = refl; padded = (lit< tt, refl) },
+      inr (0, 0, 0, 0, [], refl, refl),
+    ),
+  );
+  count = refl;
 }

@@ -1,5 +1,5 @@
 -- Which bytes are a block (draft-ietf-opsawg-pcapng, sections 3 and 4), and what it says.
-use Rattle.std.specs.Prelude.{◌≡◌, ◌+◌, ◌*◌, ◌%◌, ◌^◌, ◌≤◌, ◌⊎◌, ◌==◌, min, nat_lt, ℕ, Bool, false, if◌then◌else◌, List, [], ◌∷◌, ◌++◌, length, Option, Some, None, slice_get, slice_index}
+use Rattle.std.specs.Prelude.{◌≡◌, ◌+◌, ◌*◌, ◌%◌, ◌^◌, ◌≤◌, ◌⊎◌, ◌==◌, ◌<◌, min, nat_lt, ℕ, Bool, false, if◌then◌else◌, List, [], ◌∷◌, ◌++◌, length, Option, Some, None, slice_get, slice_index}
 use Rattle.tftp_pcap.specs.Numbers.{two, number_at, Spells}
 use Rattle.tftp_pcap.specs.Times.{units_of, time_of}
 use Rattle.tftp_pcap.specs.Frames.{FrameParts, longest_frame}
@@ -7,6 +7,7 @@ use Rattle.tftp_pcap.specs.Options.{OptionParts, IsPadding, SpellsOptions, first
 use Rattle.tftp_pcap.specs.declared.numbers.Order.{Order}
 use Rattle.tftp_pcap.specs.declared.numbers.Order.TheVariants.{Big, Little}
 use Rattle.tftp_pcap.specs.declared.layout.Interface.{Interface}
+use Rattle.tftp_pcap.specs.declared.layout.Dropped.{Dropped}
 use Rattle.tftp_pcap.specs.declared.layout.NamedInterface.{NamedInterface}
 use Rattle.tftp_pcap.specs.declared.frame.Direction.{Direction}
 use Rattle.tftp_pcap.specs.declared.frame.Direction.TheVariants.{Unknown, In, Out}
@@ -186,3 +187,32 @@ pub record SpellsSimple (order : Order) (interfaces : List NamedInterface) (body
 abbrev pub SpellsPacket : Order → List NamedInterface → ℕ → List ℕ → FrameParts → Type 0
 SpellsPacket order interfaces kind body frame =
     ((kind ≡ 6) × SpellsEnhanced order interfaces body frame) ⊎ ((kind ≡ 3) × SpellsSimple order interfaces body frame) ⊎ ((kind ≡ 2) × SpellsObsolete order interfaces body frame)
+
+-- ---- statistics (section 4.6)
+
+-- the most that 64 bits can count
+abbrev pub most_counted : ℕ
+most_counted = 18446744073709551615
+
+-- a number, or the most that 64 bits can count
+abbrev pub capped : ℕ → ℕ
+capped n = min n most_counted
+
+-- how many packets a counter says, by its option
+abbrev pub counter_by : Order → Option (List ℕ) → ℕ
+counter_by order None = 0
+counter_by order (Some value) = long_at order value
+
+-- A statistics block: the interface, two halves of a time, and options. Since the capture began the interface dropped so many
+-- packets for want of room, by `isb_ifdrop`, and the operating system so many, by `isb_osdrop`.
+pub record SpellsStatistics (order : Order) (interfaces : List NamedInterface) (body : List ℕ) (dropped : Dropped) : Type 0 where
+  pub high : ℕ
+  pub low : ℕ
+  pub front : List ℕ
+  pub options : List ℕ
+  pub said : List OptionParts
+  pub are : body ≡ front ++ options
+  pub numbers : Spells order front (dropped.interface ∷ high ∷ low ∷ [])
+  pub named : dropped.interface < length interfaces
+  pub options_are : SpellsOptions order options said
+  pub count : dropped.count ≡ capped (counter_by order (first_value 5 8 said) + counter_by order (first_value 7 8 said))

@@ -30,11 +30,11 @@ IsCut layout part = IsShort layout part × (part ≢ []) × (layout ≡ Unopened
 abbrev pub IsWhole : Layout → List ℕ → Type 0
 IsWhole layout piece = Announces layout piece (length piece) × IsSize layout (length piece)
 
--- a block that says nothing that counts, by its type: it is no section, no interface and no packet block
+-- a block that says nothing that counts, by its type: it is no section, no interface, no packet and no statistics block
 abbrev pub IsSkipped : Layout → List ℕ → Type 0
 IsSkipped Unopened bytes = ⊥
 IsSkipped (Classic classic) bytes = ⊥
-IsSkipped (Blocks order) bytes = (take 4 bytes ≢ section_type) × (number_at order bytes 0 ≢ 1) × (number_at order bytes 0 ≢ 2) × (number_at order bytes 0 ≢ 3) × (number_at order bytes 0 ≢ 6)
+IsSkipped (Blocks order) bytes = (take 4 bytes ≢ section_type) × (number_at order bytes 0 ≢ 1) × (number_at order bytes 0 ≢ 2) × (number_at order bytes 0 ≢ 3) × (number_at order bytes 0 ≢ 6) × (number_at order bytes 0 ≢ 5)
 
 -- what reading the first bytes of a piece ends with: how many bytes it has, the end before it, or a fault
 abbrev pub FrontEnds : Layout → Result (Option ℕ) FaultKind → List ℕ → Type 0

@@ -1,10 +1,11 @@
 ghost use Rattle.std.specs.Prelude.{◌≡◌, ◌+◌, ◌≤◌, ◌<◌, ℕ, length, MatchOption, IfSome, drop, option_map};
-ghost use Rattle.tftp_pcap.specs.Blocks.{SpellsEnhanced, SpellsInterface, SpellsObsolete, SpellsPacket, SpellsSimple, SpellsTimed, count_said, damaged_by, direction_by, kept, long_at, missed_by, offset_by, units_by};
+ghost use Rattle.tftp_pcap.specs.Blocks.{SpellsEnhanced, SpellsInterface, SpellsObsolete, SpellsPacket, SpellsSimple, SpellsStatistics, SpellsTimed, count_said, counter_by, damaged_by, direction_by, kept, long_at, missed_by, offset_by, units_by};
 ghost use Rattle.tftp_pcap.specs.Frames.{FrameParts, frame_at};
+ghost use Rattle.tftp_pcap.specs.declared.layout.Dropped.{Dropped};
 ghost use Rattle.tftp_pcap.specs.declared.layout.Interface.{Interface};
 
 use crate::frame::Direction;
-use crate::layout::{Interface, NamedInterface};
+use crate::layout::{Dropped, Interface, NamedInterface};
 use crate::numbers::Order;
 use crate::options::find_option;
 use crate::place::Place;
@@ -24,6 +25,15 @@ pub const SIMPLE: u32 = 3;
 
 /// The type of an obsolete packet block.
 pub const OBSOLETE: u32 = 2;
+
+/// The type of a statistics block.
+pub const STATISTICS: u32 = 5;
+
+/// The code of the option `isb_ifdrop`.
+const INTERFACE_DROPS: u16 = 5;
+
+/// The code of the option `isb_osdrop`.
+const SYSTEM_DROPS: u16 = 7;
 
 /// The code of the option `if_tsresol`.
 const RESOLUTION: u16 = 9;
@@ -272,4 +282,33 @@ pub fn packet_of(
         OBSOLETE => obsolete_of(order, interfaces, body),
         _ => None,
     }
+}
+
+/// How many packets a counter says, by its option.
+fn counter_by(order: Order, value: Option<&[u8]>) -> u64
+    requires { IfSome (option_map (λ v. v.now) value) (λ v. length v ≡ 8) }
+    ensures { result ≡ counter_by order (option_map (λ v. v.now) value.entry) }
+{
+    match value {
+        Some(value) => long_at(order, value),
+        None => 0,
+    }
+}
+
+/// What the body of a statistics block says that its interface dropped; none where the body is none.
+pub fn dropped_of(order: Order, interfaces: &[NamedInterface], body: &[u8]) -> Option<Dropped>
+    ensures { MatchOption result ((dropped : Dropped) → SpellsStatistics order interfaces.now body.now dropped → ⊥) (SpellsStatistics order interfaces.now body.now) }
+{
+    if body.len() < 12 {
+        return None;
+    }
+    let interface = order.number(body, 0) as u64;
+    if interface >= interfaces.len() as u64 {
+        return None;
+    }
+    let options = &body[12..];
+    let by_interface = find_option(order, options, INTERFACE_DROPS, 8)?;
+    let by_system = find_option(order, options, SYSTEM_DROPS, 8)?;
+    let count = counter_by(order, by_interface).saturating_add(counter_by(order, by_system));
+    Some(Dropped { interface, count })
 }

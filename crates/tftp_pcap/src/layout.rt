@@ -44,4 +44,17 @@ pub struct NamedInterface {
     pub section: u64,
     /// Its number in the section, the first being 0.
     pub number: u64,
+    /// How many packets the statistics blocks say that it dropped: the greatest count.
+    pub reported: u64,
+    /// How many packets its packets' blocks say that it lost: their sum.
+    pub missed: u64,
+}
+
+/// What a statistics block says of an interface.
+#[derive(Clone, Copy, Debug, PartialEq, Eq)]
+pub struct Dropped {
+    /// The interface, by its number in the section.
+    pub interface: u64,
+    /// How many packets it and the operating system dropped since the capture began.
+    pub count: u64,
 }

@@ -4,12 +4,14 @@ ghost use Rattle.tftp_pcap.specs.Numbers.{number_at};
 ghost use Rattle.tftp_pcap.specs.Pieces.{Announces, AnnouncesSection, BlockSays, BodySays, IsSize, LiesWithin, OpensAs, Said, Says, front_of, said_of};
 ghost use Rattle.tftp_pcap.specs.Stopping.{IsSkipped};
 ghost use Rattle.tftp_pcap.specs.declared.layout.Layout.{Layout};
+ghost use Rattle.tftp_pcap.specs.declared.layout.Dropped.{Dropped};
 ghost use Rattle.tftp_pcap.specs.declared.layout.Interface.{Interface};
 ghost use Rattle.tftp_pcap.specs.declared.found.Found.{Found};
 ghost use Rattle.tftp_pcap.specs.declared.numbers.Order.{Order};
 
 use crate::blocks::{
-    ENHANCED, INTERFACE, MOST_INTERFACES, OBSOLETE, SIMPLE, interface_of, packet_of,
+    ENHANCED, INTERFACE, MOST_INTERFACES, OBSOLETE, SIMPLE, STATISTICS, dropped_of, interface_of,
+    packet_of,
 };
 use crate::classic::{header_of, record_of};
 use crate::found::Found;
@@ -86,6 +88,9 @@ fn block_of(order: Order, interfaces: &[NamedInterface], piece: &[u8]) -> Option
     if kind == INTERFACE {
         return named_by(order, interfaces, body);
     }
+    if kind == STATISTICS {
+        return counted_by(order, interfaces, body);
+    }
     if !is_packet(kind) {
         return Some(Found::Skips);
     }
@@ -111,7 +116,7 @@ pub fn skipped_in(layout: Layout, front: &[u8]) -> Option<Order>
         return None;
     };
     let kind = order.number(front, 0);
-    if is_section(front) || kind == INTERFACE || is_packet(kind) {
+    if is_section(front) || kind == INTERFACE || kind == STATISTICS || is_packet(kind) {
         return None;
     }
     Some(order)
@@ -126,6 +131,16 @@ fn named_by(order: Order, interfaces: &[NamedInterface], body: &[u8]) -> Option<
     }
     match interface_of(order, body) {
         Some(interface) => Some(Found::Names(interface)),
+        None => None,
+    }
+}
+
+/// What the body of a statistics block says that an interface dropped; none where it is none.
+fn counted_by(order: Order, interfaces: &[NamedInterface], body: &[u8]) -> Option<Found>
+    ensures { MatchOption result ((said : Said) → BodySays order interfaces.now 5 body.now said → ⊥) (λ found. (dropped : Dropped) × (found ≡ Found.Counts dropped) × BodySays order interfaces.now 5 body.now (Said.Counts dropped)) }
+{
+    match dropped_of(order, interfaces, body) {
+        Some(dropped) => Some(Found::Counts(dropped)),
         None => None,
     }
 }

@@ -80,6 +80,15 @@ impl Event {
         self.frame.time()
     }
 
+    /// Whether the frame was received with an error of its link, as a wrong checksum of Ethernet: the host that got it discarded
+    /// it. It is not left out for that (draft-ietf-opsawg-pcapng, section 4.3.1).
+    #[inline]
+    pub fn has_error(&self) -> bool
+        ensures { result ≡ self.now.frame.parts.damaged }
+    {
+        self.frame.is_damaged()
+    }
+
     /// What became of the frame. A datagram borrows its payload from the frame, or from the packet that was put together.
     #[inline]
     pub fn fate(&self) -> Fate<'_>
