@@ -10,12 +10,15 @@ from __future__ import annotations
 
 import argparse
 import dataclasses
+import itertools
 import pathlib
 import random
 import shutil
+import struct
 import subprocess
 import sys
 import tempfile
+from collections.abc import Callable
 
 import recorded
 from fuzzing import slow_reader
@@ -53,6 +56,51 @@ class Made:
     rows: list[str]
     left: list[int]
     is_compared: bool
+
+
+@dataclasses.dataclass
+class Twice:
+    """A way in which a packet is recorded twice: the link, what stands in front of the first and of the second, the file of
+    both frames, and whether they are of two interfaces."""
+
+    name: str
+    link: int
+    front: Callable[[int], bytes]
+    file: Callable[[list[Frame]], bytes]
+    is_elsewhere: bool
+
+
+def classic(frames: list[Frame]) -> bytes:
+    return recorded.pcap(frames, is_nano=True)
+
+
+def blocks(places: tuple[int, int], sections: int = 1) -> Callable[[list[Frame]], bytes]:
+    """A file in the format pcapng whose two frames are of these interfaces, in one section or in two."""
+
+    def file(frames: list[Frame]) -> bytes:
+        interfaces, chance = [Interface(frames[0].link, 9)] * 2, random.Random(1)
+        held: list[tuple[int, recorded.Block]] = [(place, frame) for place, frame in zip(places, frames)]
+        cuts = [held] if sections == 1 else [held[:1], held[1:]]
+        return b"".join(recorded.section("<", interfaces, cut, chance) for cut in cuts)
+
+    return file
+
+
+def cooked_two(numbers: tuple[int, int]) -> Callable[[int], bytes]:
+    """The head of Linux cooked, version 2, with these numbers of the interface."""
+    return lambda index: struct.pack("!HHIHBB8s", recorded.IPV4, 0, numbers[index], 1, 2, 6, bytes(8))
+
+
+COOKED_ONE = struct.pack("!HHH8sH", 2, 1, 6, bytes(8), recorded.IPV4)
+TWICE = (
+    Twice("in one classic recording", recorded.RAW, lambda _: b"", classic, False),
+    Twice("at one interface", recorded.RAW, lambda _: b"", blocks((1, 1)), False),
+    Twice("at two interfaces", recorded.RAW, lambda _: b"", blocks((0, 1)), True),
+    Twice("in two sections", recorded.RAW, lambda _: b"", blocks((0, 0), 2), True),
+    Twice("in Linux cooked", recorded.COOKED, lambda _: COOKED_ONE, classic, False),
+    Twice("in Linux cooked 2, of one interface", recorded.COOKED_2, cooked_two((3, 3)), classic, False),
+    Twice("in Linux cooked 2, of two interfaces", recorded.COOKED_2, cooked_two((3, 4)), classic, True),
+)
 
 
 def row(number: int, frame: Frame, it: Datagram) -> str:
@@ -255,17 +303,18 @@ class DatagramTrial(Trial):
         self.check(f"{name}, its end", (fault, status) == ends, (fault, status, ends))
 
     def try_copies(self) -> None:
-        """A datagram that stands twice: a copy is left out, and what its sender may have repeated is not."""
+        """A datagram that stands twice: what another interface recorded too is left out, but not what its sender may have
+        repeated, nor what one interface recorded twice."""
         it = Datagram("192.0.2.7", 40_000, "192.0.2.1", 69, b"\0\4\0\1")
-        first = recorded.FIRST_TIME
         cases = (7, 1_000_000, True), (0, 1_000_000, False), (7, 1_000_001, False), (0, 1_000_001, False)
-        for id, apart, is_left in cases:
-            left = [(2, "Copy")] if is_left else []
+        for (id, apart, is_near), way in itertools.product(cases, TWICE):
             packet = recorded.ipv4(it, recorded.udp(it), id=id)
-            frames = [Frame(recorded.RAW, packet, time) for time in (first, first + apart)]
+            frames = [Frame(way.link, way.front(index) + packet, recorded.FIRST_TIME + index * apart) for index in (0, 1)]
+            is_left = is_near and way.is_elsewhere
+            left = [(2, "Copy")] if is_left else []
             rows = [row(number, frame, it) for number, frame in enumerate(frames, 1) if number == 1 or not is_left]
-            got = self.run(recorded.pcap(frames, is_nano=True))
-            self.check(f"identification {id}, {apart} ns apart", got == (rows, left, "", 0), (got, rows, left))
+            got = self.run(way.file(frames))
+            self.check(f"identification {id}, {apart} ns apart, {way.name}", got == (rows, left, "", 0), (got, rows, left))
 
     def try_protocols(self) -> None:
         """A datagram of IPv6 in two fragments, of which the second names ICMP (RFC 8200, section 4.5), in both orders;

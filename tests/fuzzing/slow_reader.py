@@ -15,7 +15,7 @@ MAGICS: dict[bytes, tuple[Literal["little", "big"], int]] = {
 ORDERS: dict[bytes, Literal["little", "big"]] = {b"\x1a\x2b\x3c\x4d": "big", b"\x4d\x3c\x2b\x1a": "little"}
 LONGEST_FRAME, LONGEST_BLOCK, MOST_INTERFACES = 262_144, 16_777_216, 65_536
 SECOND, PATIENCE, MOST_TIME = 1_000_000_000, 30_000_000_000, 1 << 64
-# A copy of a packet is among so many after it, and no more nanoseconds from it.
+# A copy of a packet is at another interface, among so many after it, and no more nanoseconds from it.
 NEXT, NEAR = 16, 1_000_000
 ROOM, LONGEST_PACKET = 1 << 26, 65_535
 IPV4, IPV6 = 4, 6
@@ -29,8 +29,9 @@ FLAGS = {1: "in", 2: "out"}
 
 
 class Frame(NamedTuple):
-    """What a recording says of a frame."""
+    """What a recording says of a frame; where is its section and the number of its interface there."""
 
+    where: tuple[int, int]
     link: int
     time: Optional[int]
     way: str
@@ -84,13 +85,16 @@ def read_classic(file: bytes, frames: list[Frame]) -> None:
             raise Fault("TooLong")
         if len(file) - at - 16 < size:
             raise Fault("Truncated")
-        frames.append(Frame(link, seconds * SECOND + fraction * unit, "unknown", file[at + 16 : at + 16 + size]))
+        time = seconds * SECOND + fraction * unit
+        frames.append(Frame((0, 0), link, time, "unknown", file[at + 16 : at + 16 + size]))
         at += 16 + size
 
 
 class Interface(NamedTuple):
-    """An interface: its link type, how many bytes it keeps, units of time in a second (0: none), seconds to add."""
+    """An interface: its section and its number there, its link type, how many bytes it keeps, units of time in a second
+    (0: none), seconds to add."""
 
+    where: tuple[int, int]
     link: int
     snaplen: int
     units: int
@@ -105,7 +109,7 @@ class Interface(NamedTuple):
 
 def read_blocks(file: bytes, frames: list[Frame]) -> None:
     """Blocks, one after another; the first one is a section header."""
-    at = 0
+    at = sections = 0
     order: Literal["little", "big"] = "little"
     interfaces: list[Interface] = []
     while at < len(file):
@@ -129,21 +133,23 @@ def read_blocks(file: bytes, frames: list[Frame]) -> None:
         if is_section:
             if len(body) < 16 or int.from_bytes(body[4:6], order) != 1:
                 raise Fault("Bad")
-            interfaces = []
+            interfaces, sections = [], sections + 1
         else:
-            read_block(order, int.from_bytes(file[at : at + 4], order), body, interfaces, frames)
+            read_block(order, int.from_bytes(file[at : at + 4], order), body, sections, interfaces, frames)
         at += size
 
 
 Order = Literal["little", "big"]
 
 
-def read_block(order: Order, kind: int, body: bytes, interfaces: list[Interface], frames: list[Frame]) -> None:
+def read_block(
+    order: Order, kind: int, body: bytes, section: int, interfaces: list[Interface], frames: list[Frame]
+) -> None:
     """A block that is no section header: an interface, a frame, or what is skipped."""
     if kind == 1:
         if len(interfaces) == MOST_INTERFACES:
             raise Fault("Bad")
-        interfaces.append(interface_of(order, body))
+        interfaces.append(interface_of(order, (section, len(interfaces)), body))
     elif kind == 6:
         need(body, 4)
         frames.append(timed(order, named(interfaces, int.from_bytes(body[:4], order)), body[4:]))
@@ -157,7 +163,7 @@ def read_block(order: Order, kind: int, body: bytes, interfaces: list[Interface]
         need(body, 4 + kept + -kept % 4)
         if kept > LONGEST_FRAME:
             raise Fault("Bad")
-        frames.append(Frame(first.link, None, "unknown", body[4 : 4 + kept]))
+        frames.append(Frame(first.where, first.link, None, "unknown", body[4 : 4 + kept]))
 
 
 def need(body: bytes, size: int) -> None:
@@ -190,7 +196,7 @@ def first_of(told: list[tuple[int, bytes]], code: int, size: int) -> Optional[by
     return next((value for it, value in told if it == code and len(value) == size), None)
 
 
-def interface_of(order: Order, body: bytes) -> Interface:
+def interface_of(order: Order, where: tuple[int, int], body: bytes) -> Interface:
     need(body, 8)
     told = options_of(order, body[8:])
     unit, offset = first_of(told, 9, 1), first_of(told, 14, 8)
@@ -199,7 +205,7 @@ def interface_of(order: Order, body: bytes) -> Interface:
         units = 1 << (unit[0] & 127) if unit[0] & 128 else int(10 ** unit[0])
         units = units if units < MOST_TIME else 0
     seconds = int.from_bytes(offset, order, signed=True) if offset else 0
-    return Interface(int.from_bytes(body[:2], order), int.from_bytes(body[4:8], order), units, seconds)
+    return Interface(where, int.from_bytes(body[:2], order), int.from_bytes(body[4:8], order), units, seconds)
 
 
 def timed(order: Order, interface: Interface, body: bytes) -> Frame:
@@ -213,7 +219,7 @@ def timed(order: Order, interface: Interface, body: bytes) -> Frame:
         raise Fault("Bad")
     flags = first_of(told, 2, 4)
     way = FLAGS.get(int.from_bytes(flags, order) % 4, "unknown") if flags else "unknown"
-    return Frame(interface.link, interface.time((high << 32) + low), way, body[16 : 16 + size])
+    return Frame(interface.where, interface.link, interface.time((high << 32) + low), way, body[16 : 16 + size])
 
 
 # ---- frames
@@ -399,6 +405,15 @@ class Waiting:
         return self.end is not None and len(self.cells) == self.end
 
 
+# Where a frame was recorded: its section, its interface there, and the number that its link header names.
+Place = tuple[int, int, int]
+
+
+def place_of(frame: Frame) -> Place:
+    is_named = frame.link == 276 and len(frame.content) >= 20
+    return *frame.where, number(frame.content, 4, 4) if is_named else 0
+
+
 # The protocol tells packets of IPv4 apart alone (RFC 8200, section 4.5).
 Key = tuple[bytes, bytes, Optional[int], int]
 
@@ -408,7 +423,7 @@ class Reader:
 
     def __init__(self) -> None:
         self.waiting: dict[Key, Waiting] = {}
-        self.last: list[tuple[Optional[int], bytes]] = []
+        self.last: list[tuple[Place, Optional[int], bytes]] = []
         self.rows: list[str] = []
         self.left: list[tuple[int, str]] = []
 
@@ -419,8 +434,8 @@ class Reader:
         """A frame, by its number."""
         try:
             packet = packet_of(frame)
-            is_one = self.is_one(frame.time, packet.whole)
-            self.last = [*self.last, (frame.time, packet.whole)][-NEXT:]
+            is_one = self.is_one(place_of(frame), frame.time, packet.whole)
+            self.last = [*self.last, (place_of(frame), frame.time, packet.whole)][-NEXT:]
             if is_one and is_identified(packet):
                 raise Fault("Copy")
             if packet.part:
@@ -430,9 +445,9 @@ class Reader:
         except Fault as fault:
             self.leave([at], str(fault))
 
-    def is_one(self, time: Optional[int], whole: bytes) -> bool:
-        """Whether a packet is one with one of the last."""
-        times = [other for other, it in self.last if it == whole]
+    def is_one(self, place: Place, time: Optional[int], whole: bytes) -> bool:
+        """Whether a packet is one with one of the last, at another interface."""
+        times = [other for there, other, it in self.last if it == whole and there != place]
         return time is not None and any(other is not None and abs(other - time) <= NEAR for other in times)
 
     def take_part(self, at: int, frame: Frame, packet: Packet, part: Part) -> None:

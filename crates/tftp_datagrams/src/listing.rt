@@ -18,10 +18,12 @@ pub fn list(rt: HostRuntime) -> io::Result<bool> {
         match recording.next_into(alloc, &mut reader, &mut event) {
             Ok(true) => put_event(rt, &mut event)?,
             Ok(false) => {
+                put_lost(rt, recording.lost())?;
                 put_waiting(rt, recording.into_waiting(), "FragmentMissing")?;
                 return Ok(true);
             }
             Err(fault) => {
+                put_lost(rt, recording.lost())?;
                 put_waiting(rt, recording.into_waiting(), "FragmentMissing")?;
                 return put_fault(rt, fault);
             }
@@ -34,6 +36,14 @@ pub fn list(rt: HostRuntime) -> io::Result<bool> {
 fn put_fault(rt: HostRuntime, fault: PcapFault) -> io::Result<bool> {
     println!(rt; "fault {} {:?}", fault.frame, fault.kind)?;
     Ok(false)
+}
+
+/// How many packets the recorder says it lost, if any.
+fn put_lost(rt: HostRuntime, count: u64) -> io::Result<()> {
+    if count == 0 {
+        return Ok(());
+    }
+    println!(rt; "lost {count}")
 }
 
 /// The frames of fragments that are left out.
@@ -57,6 +67,9 @@ fn put_left(rt: HostRuntime, frames: &[u64], kind: &str) -> io::Result<()> {
 
 /// What became of a frame, and of which frames it decided.
 fn put_event(rt: HostRuntime, event: &mut Event) -> io::Result<()> {
+    if event.has_error() {
+        println!(rt; "damaged {}", event.number())?;
+    }
     put_left(rt, event.old(), "FragmentOld")?;
     put_waiting(rt, event.take_ousted(rt.alloc()), "FragmentFull")?;
     match event.fate() {

@@ -10,7 +10,7 @@ pub mod Faults
 pub mod Worked
 pub use Number.{at, pair}
 pub use Tag.{LeadsOver, LeadsTo, is_tag_type}
-pub use Link.{Carries, CarriesTyped, Linked, SpellsLink, direction_said, least, link_named, packet_direction, type_network}
+pub use Link.{Carries, CarriesTyped, Linked, SpellsLink, direction_said, index_of, least, link_named, packet_direction, type_network}
 pub use Extension.{IsSkipped, Reached, ReachesOver, Stops, StopsAfter, fragment_header, fragment_of, is_atomic, is_extension, skipped_size}
 pub use Ip.{HasHeader, Packet, Reaches, SpellsIp, held_of, is_identified, may_be_udp, packet_of, size_of, source_of, target_of, total_of}
 pub use Frame.{IsBetween, IsLinked, SpellsFrame}

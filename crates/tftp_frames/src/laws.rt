@@ -3,6 +3,7 @@ ghost use Rattle.std.specs.Net.Addr.{IsIpv4Addr, IsIpv6Addr, MatchIp};
 ghost use Rattle.std.specs.Net.Text.{ip_text};
 ghost use Rattle.std.specs.declared.net.ip_addr.IpAddr.{IpAddr};
 ghost use Rattle.std.specs.declared.net.ip_addr.IpAddr.TheVariants.{V4, V6};
+ghost use Rattle.tftp_frames.specs.Link.{index_of};
 ghost use Rattle.tftp_frames.specs.Ip.{Packet, is_identified};
 ghost use Rattle.tftp_frames.specs.Frame.{SpellsFrame};
 ghost use Rattle.tftp_frames.specs.Faults.{Holds, FirstFault};
@@ -77,6 +78,15 @@ pub fn worked_datagrams()
     ensures plain { SpellsUdp 17 (udp_bytes ++ 255 ∷ 255 ∷ []) acknowledgement }
     ensures behind { SpellsUdp 60 (17 ∷ 0 ∷ 1 ∷ 4 ∷ 0 ∷ 0 ∷ 0 ∷ 0 ∷ udp_bytes) acknowledgement }
     ensures port { HoldsUdp UdpFault.Port 17 (0 ∷ 0 ∷ drop 2 udp_bytes) }
+{}
+
+/// Worked examples: the number of the interface in a header of Linux cooked, version 2; one that is cut; version 1, which has
+/// none; and Ethernet.
+pub fn worked_indexes()
+    ensures cooked_two { index_of 276 (cooked_two_head ++ ipv4_bytes) ≡ 2 }
+    ensures cut { index_of 276 (take 19 cooked_two_head) ≡ 0 }
+    ensures cooked { index_of 113 (cooked_head ++ ipv4_bytes) ≡ 0 }
+    ensures ethernet { index_of 1 (two_tags ++ ipv4_bytes) ≡ 0 }
 {}
 
 /// Worked examples: a packet of IPv4, the same with identification 0, and a whole one and a fragment of IPv6.

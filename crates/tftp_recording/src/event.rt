@@ -80,6 +80,15 @@ impl Event {
         self.frame.time()
     }
 
+    /// Whether the frame was received with an error of its link, as a wrong checksum of Ethernet: the host that got it discarded
+    /// it. It is not left out for that (draft-ietf-opsawg-pcapng, section 4.3.1).
+    #[inline]
+    pub fn has_error(&self) -> bool
+        ensures { result ≡ self.now.frame.parts.damaged }
+    {
+        self.frame.is_damaged()
+    }
+
     /// What became of the frame. A datagram borrows its payload from the frame, or from the packet that was put together.
     #[inline]
     pub fn fate(&self) -> Fate<'_>
@@ -103,8 +112,9 @@ impl Event {
         read_hosts(self.frame.link(), self.frame.bytes())
     }
 
-    /// Whether the frame is a copy of a frame before it, or what its sender repeated: its packet has no identification,
-    /// which would tell. It is not left out for that.
+    /// Whether the frame is a copy of a frame before it, recorded at another interface, or what its sender repeated: its packet
+    /// has no identification, which would tell. It is not left out for that. Of what comes twice at one interface nothing is
+    /// told: all frames of a classic recording are of one, but those of Linux cooked, version 2, whose header names it.
     #[inline]
     pub fn is_doubtful(&self) -> bool
         ensures { result ≡ is_doubtful self.now.likeness }
