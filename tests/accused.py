@@ -111,11 +111,10 @@ CASES = (
     ),
     Case(
         "one-packet-dropped", "the recorder counts a packet that it dropped, and a block is missing",
-        (DROPPED.format(4, "1 packet"),), is_open=True,
+        (DROPPED.format(4, "1 packet"),),
     ),
     Case(
         "twenty-packets-dropped", "the recorder counts twenty that it dropped", (DROPPED.format(39, "20 packets"),),
-        is_open=True,
     ),
     Case(
         "a-wrong-checksum-then-the-right-one", "a host discards a block with a wrong checksum, and has it again",
@@ -123,7 +122,7 @@ CASES = (
     ),
     Case(
         "repeated-data-at-the-server", "toybox acknowledges a block of a write that came twice by the next block's ACK",
-        ("server 10.88.0.2:69 refused datagram 10 rule 26 AckAhead",), told="", is_open=True,
+        ("server 10.88.0.2:69 refused datagram 10 rule 26 AckAhead",), told="",
     ),
     Case(
         "repeated-data-at-the-client", "the same, recorded at the client",
@@ -131,7 +130,7 @@ CASES = (
     ),
     Case(
         "a-server-that-goes-back-at-once", "a server sends an earlier block again within a millisecond",
-        ("server .* refused datagram [0-9]+ rule 24 GoneBack",), ("server",), told="", is_open=True,
+        ("server .* refused datagram [0-9]+ rule 24 GoneBack",), ("server",), told="",
     ),
 )
 

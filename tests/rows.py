@@ -15,6 +15,7 @@ import os
 import pathlib
 import random
 import shlex
+import struct
 import subprocess
 import sys
 import tempfile
@@ -545,6 +546,23 @@ def try_final(trial: Trial, program: str) -> None:
         trial.check(f"{name}, whatever passes later", len(told) == 1, told)
 
 
+def try_dropped(trial: Trial, program: str) -> None:
+    """Packets that the recorder dropped, as it says at the end of a recording in blocks, make each refusal doubtful, also
+    that of a transfer that was over long before; they change nothing of what is accepted."""
+    passed = [*late_block()[:2], *from_client(ack(3)), *read("b", 50_000, 51_000, (THIRD, S))]
+    frames = framed(packets_of(passed), [0.0, 0.1, 0.2, 400.0, 400.1, 400.2])
+    interfaces, chance = [Interface(recorded.RAW, 9)], random.Random(1)
+    for order, (count, told) in itertools.product("<>", ((0, ""), (1, "1 packet"), (20, "20 packets"))):
+        counted = struct.pack(f"{order}III", 0, 0, 0) + recorded.options(order, (5, struct.pack(f"{order}Q", count)))
+        blocks: list[tuple[int, recorded.Block]] = [(0, frame) for frame in frames]
+        given = recorded.section(order, interfaces, [*blocks, (0, recorded.block(order, 5, counted))], chance)
+        rows, beside, status = checked(program, given)
+        doubts = (f"the recorder lost {told}",) if count else ()
+        wanted = [Row(1, "between", 3, refusal(3, Rule.ACK_AHEAD), doubts), dataclasses.replace(WHOLE, number=2)]
+        is_told = all(doubt in beside for doubt in doubts) and bool(beside) == bool(count)
+        trial.check(f"{count} packets dropped, {order}", rows == wanted and is_told and status == 1, (rows, beside))
+
+
 def try_words(trial: Trial, program: str) -> None:
     given = file_of(read("a", 40_000, 41_000))
     cases: tuple[tuple[str, list[str], bytes, str], ...] = (
@@ -645,8 +663,8 @@ def main(program: str, *refuse: str) -> int:
         try_growths(trial, program, one)
     for part in (
         try_examples, try_texts, try_links, try_fragments, try_losses, try_layers, try_sessions, try_live,
-        try_splitting, try_doubts, try_accused, try_final, try_between, try_words,
-        try_streams,
+        try_splitting, try_doubts, try_accused, try_final, try_dropped, try_between,
+        try_words, try_streams,
     ):
         part(trial, program)
     return trial.end()

@@ -19,6 +19,8 @@ pub struct Doubted {
     pub is_one_way: bool,
     /// The frame of a datagram that may be a copy of the one before.
     pub copied_from: Option<u64>,
+    /// The frame of a datagram that was received with an error.
+    pub damaged: Option<u64>,
     /// The frame of what was left out, and may be of it by its time.
     pub left_out: Option<u64>,
     /// Frames that may have been its client's, and are not there whole.
@@ -49,7 +51,9 @@ impl Doubted {
         let lost = up_to(self.missing.first, blamed.frame);
         put_some(reasons, lost.map(|frame| Reason::Lost(frame)))?;
         let copied = up_to(self.copied_from, blamed.frame);
-        put_some(reasons, copied.map(|frame| Reason::Copied(frame)))
+        put_some(reasons, copied.map(|frame| Reason::Copied(frame)))?;
+        let damaged = up_to(self.damaged, blamed.frame);
+        put_some(reasons, damaged.map(|frame| Reason::Damaged(frame)))
     }
 
     /// Adds why a transfer that stops early may have gone on.

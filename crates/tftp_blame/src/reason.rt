@@ -31,6 +31,8 @@ pub enum Reason {
     Lost(u64),
     /// The frame with this number, from 1, may be a copy.
     Copied(u64),
+    /// The frame with this number, from 1, was received with an error of its link.
+    Damaged(u64),
     /// The recorder says that it lost so many packets, at least 1.
     Dropped(u64),
 }
@@ -46,6 +48,12 @@ impl fmt::Display for Reason {
             }
             Reason::Lost(frame) => write!(f, "frame {frame} is not there whole"),
             Reason::Copied(frame) => write!(f, "frame {frame} may be a copy of the one before"),
+            Reason::Damaged(frame) => {
+                write!(
+                    f,
+                    "frame {frame} was received with an error, so that its host discarded it"
+                )
+            }
             Reason::Dropped(1) => f.write_str("the recorder lost 1 packet"),
             Reason::Dropped(count) => write!(f, "the recorder lost {count} packets"),
             reason => f.write_str(reason.words()),
@@ -75,7 +83,8 @@ impl Reason {
             }
             Reason::Stranger => "neither its client nor its server sent the datagram",
             Reason::Twice => "each of its datagrams stands beside its equal: recorded twice",
-            Reason::LeftOut(_) | Reason::Lost(_) | Reason::Copied(_) | Reason::Dropped(_) => "",
+            Reason::LeftOut(_) | Reason::Lost(_) | Reason::Copied(_) => "",
+            Reason::Damaged(_) | Reason::Dropped(_) => "",
         }
     }
 }

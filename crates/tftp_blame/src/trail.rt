@@ -37,6 +37,8 @@ pub struct Trail {
     twice: Twice,
     /// The frame of a datagram that may be a copy.
     copied_from: Option<u64>,
+    /// The frame of a datagram that was received with an error.
+    damaged: Option<u64>,
     blame: Blame,
 }
 
@@ -55,6 +57,7 @@ impl Trail {
             left_out: None,
             twice: Twice::new(alloc),
             copied_from: None,
+            damaged: None,
             blame: Blame::new(alloc),
         }
     }
@@ -71,6 +74,9 @@ impl Trail {
         }
         if passing.is_doubtful && self.copied_from.is_none() {
             self.copied_from = Some(passing.frame);
+        }
+        if passing.has_error && self.damaged.is_none() {
+            self.damaged = Some(passing.frame);
         }
         self.note_blame(found.place, passing, watched)
     }
@@ -132,6 +138,7 @@ impl Trail {
             begins: self.first,
             is_one_way: !self.is_answered,
             copied_from: self.copied_from,
+            damaged: self.damaged,
             left_out: self.left_out,
             missing,
         }

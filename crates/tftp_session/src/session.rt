@@ -121,6 +121,7 @@ impl Session {
             frame: event.number(),
             time: event.time(),
             is_doubtful: event.is_doubtful(),
+            has_error: event.has_error(),
             source: source.end,
             target: target.end,
             payload: datagram.payload,
