@@ -34,20 +34,43 @@ impl Doubted {
         reasons: &mut Vec<Reason>,
         blamed: &Blamed,
     ) -> Result<(), AllocError> {
-        let doubts = &self.doubts;
-        put_if(reasons, doubts.is_disordered(), Reason::Disordered)?;
-        put_some(reasons, self.left_out.map(|frame| Reason::LeftOut(frame)))?;
+        self.put_doubts(reasons)?;
+        put_if(reasons, blamed.is_late, Reason::Late)?;
+        put_if(reasons, blamed.is_beside, Reason::Beside)?;
+        put_if(reasons, self.is_led_astray(blamed), Reason::LedAstray)?;
+        put_if(reasons, blamed.is_unknown_id, Reason::UnknownId)?;
         put_if(
             reasons,
             self.is_one_way && blamed.frame != self.begins,
             Reason::OneWay,
         )?;
+        put_if(reasons, self.is_twice, Reason::Twice)?;
+        self.put_frames(reasons, blamed)
+    }
+
+    /// Adds the doubts of the whole transfer.
+    fn put_doubts(&self, reasons: &mut Vec<Reason>) -> Result<(), AllocError> {
+        let doubts = &self.doubts;
+        put_if(reasons, doubts.is_disordered(), Reason::Disordered)?;
+        put_some(reasons, self.left_out.map(|frame| Reason::LeftOut(frame)))?;
         put_if(reasons, doubts.is_asked_again(), Reason::AskedAgain)?;
         put_if(reasons, doubts.is_answered_apart(), Reason::AnsweredApart)?;
         put_if(reasons, doubts.goes_over(), Reason::GoesOver)?;
-        put_if(reasons, blamed.is_late, Reason::Late)?;
-        put_if(reasons, blamed.is_beside, Reason::Beside)?;
-        put_if(reasons, self.is_twice, Reason::Twice)?;
+        put_if(reasons, doubts.follows_strays(), Reason::FollowsStrays)?;
+        put_if(
+            reasons,
+            doubts.follows_unanswered(),
+            Reason::FollowsUnanswered,
+        )
+    }
+
+    /// Whether something had come to its client, which never went on with who sent it something first.
+    fn is_led_astray(&self, blamed: &Blamed) -> bool {
+        blamed.is_answered && !self.doubts.goes_on_with_first()
+    }
+
+    /// Adds the doubts that come with a frame up to the one that is refused.
+    fn put_frames(&self, reasons: &mut Vec<Reason>, blamed: &Blamed) -> Result<(), AllocError> {
         let lost = up_to(self.missing.first, blamed.frame);
         put_some(reasons, lost.map(|frame| Reason::Lost(frame)))?;
         let copied = up_to(self.copied_from, blamed.frame);

@@ -15,6 +15,16 @@ pub enum Reason {
     OneWay,
     /// The transfer before may go on in it.
     AskedAgain,
+    /// A transfer may have been under way whose request was not recorded.
+    FollowsStrays,
+    /// What comes may be the late answer to the client's request before.
+    FollowsUnanswered,
+    /// The client did not go on with who sent it something first.
+    LedAstray,
+    /// The datagram is an ERROR 5, "Unknown transfer ID" (RFC 1350, section 5).
+    UnknownId,
+    /// At the server: its client sent the datagram to where it had heard nothing from.
+    SpeaksFirst,
     /// Its first answer may be a datagram that is another transfer's.
     AnsweredApart,
     /// An earlier transfer of the client had the same server's endpoint.
@@ -73,6 +83,17 @@ impl Reason {
             Reason::AskedAgain => {
                 "its client had asked the same and sent nothing else since: the transfer before goes on"
             }
+            Reason::FollowsStrays => {
+                "something passed at its client's endpoint before its request: another transfer was under way, it may be"
+            }
+            Reason::FollowsUnanswered => {
+                "nobody had answered what its client asked for before: what comes may be the late answer"
+            }
+            Reason::LedAstray => "its client did not go on with who sent it something first",
+            Reason::UnknownId => {
+                "it is an ERROR 5, by which an end answers what is none of its transfer"
+            }
+            Reason::SpeaksFirst => "its client had heard nothing from there",
             Reason::AnsweredApart => {
                 "a DATA 1 from where an earlier transfer was served may be its answer"
             }

@@ -78,7 +78,7 @@ impl Trail {
         if passing.has_error && self.damaged.is_none() {
             self.damaged = Some(passing.frame);
         }
-        self.note_blame(found.place, passing, watched)
+        self.note_blame(found, passing, watched)
     }
 
     /// Notes a datagram at its client.
@@ -100,14 +100,18 @@ impl Trail {
     /// Notes at which frame it was refused.
     fn note_blame(
         &mut self,
-        place: Place,
+        found: &Attributed,
         passing: &Passing<'_>,
         watched: &Watched<RingDelivered>,
     ) -> Result<(), AllocError> {
+        let place = found.place;
         let blamed = Blamed {
             frame: passing.frame,
             is_late: watched.doubts().is_late(),
             is_beside: matches!(place, Place::Beside(_)),
+            is_answered: watched.doubts().comes_in(),
+            speaks_first: found.doubts.speaks_first,
+            is_unknown_id: matches!(passing.payload, [0, 5, 0, 5, ..]),
             source: passing.source,
         };
         let refused = refused_by(watched);

@@ -21,6 +21,8 @@ pub struct Viewed {
     blamed: Option<Blamed>,
     /// Whether it stops early, or an ERROR ended it.
     lacks: bool,
+    /// Whether it is the server's.
+    is_at_server: bool,
     /// Whether a request that did not pass there would explain it.
     may_be_asked: bool,
     line: String,
@@ -115,7 +117,7 @@ fn at_client(
     found: &Option<Result<Meaning, Refusal>>,
 ) -> Result<Option<Viewed>, AllocError> {
     match found {
-        Some(found) => Ok(Some(Viewed::at_end(alloc, found, trail.at_client())?)),
+        Some(found) => Ok(Some(Viewed::at_end(alloc, found, trail.at_client(), false)?)),
         None => Ok(None),
     }
 }
@@ -126,7 +128,7 @@ fn at_server(
     found: &Option<Result<Meaning, Refusal>>,
 ) -> Result<Option<Viewed>, AllocError> {
     match found {
-        Some(found) => Ok(Some(Viewed::at_end(alloc, found, trail.at_server(found))?)),
+        Some(found) => Ok(Some(Viewed::at_end(alloc, found, trail.at_server(found), true)?)),
         None => Ok(None),
     }
 }
@@ -171,6 +173,11 @@ impl Judged {
         match (&view.said, &view.blamed) {
             (Said::Refused(_, _), Some(blamed)) => {
                 put_if(reasons, view.may_be_asked, Reason::Unseen)?;
+                put_if(
+                    reasons,
+                    view.is_at_server && blamed.speaks_first,
+                    Reason::SpeaksFirst,
+                )?;
                 put_if(reasons, self.is_strangers(blamed), Reason::Stranger)?;
                 self.doubted.put_reasons(reasons, blamed)
             }
@@ -205,6 +212,7 @@ impl Viewed {
         alloc: Global,
         found: &Result<Meaning, Refusal>,
         blamed: Option<Blamed>,
+        is_at_server: bool,
     ) -> Result<Self, AllocError> {
         let line = match found {
             Ok(meaning) => accepted_line(alloc, meaning),
@@ -214,6 +222,7 @@ impl Viewed {
             said: Said::of(found, frame_of(&blamed)),
             blamed,
             lacks: matches!(found, Err(Refusal::Incomplete(_) | Refusal::Aborted(_, _))),
+            is_at_server,
             may_be_asked: false,
             line: line?,
         })
@@ -235,6 +244,7 @@ impl Viewed {
                 found,
                 Err(TapRefusal::Incomplete(_) | TapRefusal::Aborted(_, _))
             ),
+            is_at_server: false,
             may_be_asked: matches!(
                 found,
                 Err(TapRefusal::Unlawful(_, Rule::Port(PortRule::BadAnswer)))
