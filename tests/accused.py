@@ -110,8 +110,8 @@ CASES = (
         ("client 192.0.2.7:2070 refused .*",), is_open=True,
     ),
     Case(
-        "one-packet-dropped", "the recorder counts a packet that it dropped, and a block is missing",
-        (DROPPED.format(4, "1 packet"),),
+        "two-packets-dropped", "the recorder counts a packet that its interface dropped and one that its system did",
+        (DROPPED.format(4, "2 packets"),),
     ),
     Case(
         "twenty-packets-dropped", "the recorder counts twenty that it dropped", (DROPPED.format(39, "20 packets"),),
