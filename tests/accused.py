@@ -78,36 +78,34 @@ CASES = (
     ),
     Case(
         "a-late-oack-to-a-plain-request", "an OACK comes late, to a request that the client gave up for a plain one",
-        (NOBODY, NOBODY, NOBODY), is_open=True,
+        (NOBODY, NOBODY, NOBODY),
     ),
     Case(
         "a-late-answer-of-another-server", "the server that was asked first answers late", (NOBODY, NOBODY),
-        is_open=True,
     ),
     Case(
         "a-servers-port-for-another-client",
         "a server's port serves another client, and answers a late ACK of the first by ERROR 5 (RFC 1350, section 4)",
-        (NOBODY, NOBODY), is_open=True,
+        (NOBODY, NOBODY),
     ),
     Case(
         "a-request-spelled-otherwise", "a client repeats its request with the mode in capitals, which is the same",
-        (NOBODY, "(- .*)?"), is_open=True,
+        (NOBODY, "(- .*)?"),
     ),
     Case(
         "a-stray-that-spells-a-request", "a stray to the client spells a request, and the client answers ERROR 5",
-        (NOBODY, "(- .*)?"), is_open=True,
+        (NOBODY, "(- .*)?"),
     ),
     Case(
         "another-clients-frame-ahead", "a frame of another client is 1,000 s ahead", (NOBODY, NOBODY, "(- .*)?"),
-        is_open=True,
     ),
     Case(
         "a-scanner-at-the-service-port", "junk goes to port 69, then a request from the same port; each is refused",
-        ("- (doubtful refused .*|aborted .*)", ".*"), is_open=True,
+        ("- (doubtful refused .*|aborted .*)", ".*"),
     ),
     Case(
         "an-ack-to-the-service-port", "an ACK goes to port 69 in the middle of a transfer",
-        ("client 192.0.2.7:2070 refused .*",), is_open=True,
+        ("(client 192.0.2.7:2070|- doubtful) refused datagram 5 rule 2 WrongPort.*",),
     ),
     Case(
         "two-packets-dropped", "the recorder counts a packet that its interface dropped and one that its system did",

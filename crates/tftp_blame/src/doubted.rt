@@ -21,6 +21,8 @@ pub struct Doubted {
     pub copied_from: Option<u64>,
     /// The frame of a datagram that was received with an error.
     pub damaged: Option<u64>,
+    /// The frame of a datagram with a wrong checksum, whose sender also sent a right one.
+    pub discarded: Option<u64>,
     /// The frame of what was left out, and may be of it by its time.
     pub left_out: Option<u64>,
     /// Frames that may have been its client's, and are not there whole.
@@ -76,7 +78,9 @@ impl Doubted {
         let copied = up_to(self.copied_from, blamed.frame);
         put_some(reasons, copied.map(|frame| Reason::Copied(frame)))?;
         let damaged = up_to(self.damaged, blamed.frame);
-        put_some(reasons, damaged.map(|frame| Reason::Damaged(frame)))
+        put_some(reasons, damaged.map(|frame| Reason::Damaged(frame)))?;
+        let discarded = up_to(self.discarded, blamed.frame);
+        put_some(reasons, discarded.map(|frame| Reason::Discarded(frame)))
     }
 
     /// Adds why a transfer that stops early may have gone on.

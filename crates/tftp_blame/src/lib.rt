@@ -3,6 +3,7 @@
 
 mod blame;
 mod doubted;
+mod intact;
 mod missing;
 mod passing;
 mod reason;

@@ -43,6 +43,8 @@ pub enum Reason {
     Copied(u64),
     /// The frame with this number, from 1, was received with an error of its link.
     Damaged(u64),
+    /// The frame with this number, from 1, has a wrong checksum, and its sender also sent a right one.
+    Discarded(u64),
     /// The recorder says that it lost so many packets, at least 1.
     Dropped(u64),
 }
@@ -62,6 +64,12 @@ impl fmt::Display for Reason {
                 write!(
                     f,
                     "frame {frame} was received with an error, so that its host discarded it"
+                )
+            }
+            Reason::Discarded(frame) => {
+                write!(
+                    f,
+                    "frame {frame} has a wrong checksum, so that its host discarded it"
                 )
             }
             Reason::Dropped(1) => f.write_str("the recorder lost 1 packet"),
@@ -105,7 +113,7 @@ impl Reason {
             Reason::Stranger => "neither its client nor its server sent the datagram",
             Reason::Twice => "each of its datagrams stands beside its equal: recorded twice",
             Reason::LeftOut(_) | Reason::Lost(_) | Reason::Copied(_) => "",
-            Reason::Damaged(_) | Reason::Dropped(_) => "",
+            Reason::Damaged(_) | Reason::Discarded(_) | Reason::Dropped(_) => "",
         }
     }
 }

@@ -2,6 +2,7 @@
 
 use crate::blame::{Blame, Blamed, Refused};
 use crate::doubted::Doubted;
+use crate::intact::Intact;
 use crate::missing::Missing;
 use crate::passing::Passing;
 use crate::twice::Twice;
@@ -39,6 +40,10 @@ pub struct Trail {
     copied_from: Option<u64>,
     /// The frame of a datagram that was received with an error.
     damaged: Option<u64>,
+    /// What the checksums say of what its client sent.
+    from_client: Intact,
+    /// The same of what came to its client.
+    to_client: Intact,
     blame: Blame,
 }
 
@@ -58,6 +63,8 @@ impl Trail {
             twice: Twice::new(alloc),
             copied_from: None,
             damaged: None,
+            from_client: Intact::new(),
+            to_client: Intact::new(),
             blame: Blame::new(alloc),
         }
     }
@@ -86,7 +93,12 @@ impl Trail {
         self.count = self.count.saturating_add(1);
         self.last = passing.frame;
         self.last_time = self.last_time.max(passing.time.unwrap_or(0));
-        self.is_answered |= passing.target == self.transfer.client;
+        if passing.target == self.transfer.client {
+            self.is_answered = true;
+            self.to_client.note(passing.frame, passing.is_intact);
+        } else {
+            self.from_client.note(passing.frame, passing.is_intact);
+        }
         self.twice.note(passing)
     }
 
@@ -143,6 +155,7 @@ impl Trail {
             is_one_way: !self.is_answered,
             copied_from: self.copied_from,
             damaged: self.damaged,
+            discarded: least(self.from_client.discarded(), self.to_client.discarded()),
             left_out: self.left_out,
             missing,
         }
@@ -161,6 +174,15 @@ impl Trail {
     /// Where what passed between the ends was refused.
     pub fn between(&self, verdict: &Result<Meaning, TapRefusal>) -> Option<Blamed> {
         self.blame.between(verdict)
+    }
+}
+
+/// The lesser of two frames, where there is one.
+fn least(one: Option<u64>, other: Option<u64>) -> Option<u64> {
+    match (one, other) {
+        (Some(one), Some(other)) => Some(one.min(other)),
+        (one, None) => one,
+        (None, other) => other,
     }
 }
 

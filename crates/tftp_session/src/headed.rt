@@ -1,5 +1,7 @@
 //! How a file begins, and what it is where that is no recording.
 
+ghost use Rattle.std.specs.Io.{ReadsAtMost};
+
 use std::io;
 use std::io::Read;
 
@@ -48,15 +50,17 @@ impl<R: Drop> Headed<R> {
     }
 
     /// Hands out the byte that was read ahead.
-    fn hand_out(&mut self, byte: u8, buf: &mut [u8]) -> usize {
+    fn hand_out(&mut self, byte: u8, buf: &mut [u8]) -> io::Result<usize>
+        ensures { ReadsAtMost result buf.new }
+    {
         self.ahead = None;
         self.keep(&[byte]);
         match buf.first_mut() {
             Some(place) => {
                 *place = byte;
-                1
+                Ok(1)
             }
-            None => 0,
+            None => Ok(0),
         }
     }
 
@@ -75,7 +79,7 @@ impl<R: Drop> Headed<R> {
 impl<R: Read + Drop> Read for Headed<R> {
     fn read(&mut self, buf: &mut [u8]) -> io::Result<usize> {
         if let (Some(byte), false) = (self.ahead, buf.is_empty()) {
-            return Ok(self.hand_out(byte, buf));
+            return self.hand_out(byte, buf);
         }
         let result = self.inner.read(buf);
         if let Ok(count) = result {

@@ -122,6 +122,7 @@ impl Session {
             time: event.time(),
             is_doubtful: event.is_doubtful(),
             has_error: event.has_error(),
+            is_intact: None,
             source: source.end,
             target: target.end,
             payload: datagram.payload,
