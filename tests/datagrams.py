@@ -49,13 +49,28 @@ OTHERS = {
 
 @dataclasses.dataclass
 class Made:
-    """A recording, the lines of its datagrams, the numbers of the frames that are left out, and whether tshark reads
-    it as RFC 8200 has it."""
+    """A recording, the lines of its datagrams, the numbers of the frames that are left out, whether tshark reads it as
+    RFC 8200 has it, the frames that were received with an error, and how many packets were lost."""
 
     file: bytes
     rows: list[str]
     left: list[int]
     is_compared: bool
+    damaged: list[int]
+    lost: int
+
+
+@dataclasses.dataclass
+class Told:
+    """What the program tells: the lines of datagrams, the frames left out with their kinds, the line of a fault, the
+    status, the frames that were received with an error, and how many packets were lost."""
+
+    rows: list[str]
+    left: list[tuple[int, str]]
+    fault: str
+    status: int
+    damaged: list[int]
+    lost: int
 
 
 @dataclasses.dataclass
@@ -219,6 +234,7 @@ def made_pcap(chance: random.Random) -> Made:
 def made_pcapng(chance: random.Random) -> Made:
     """A file in the format pcapng, of one to three sections with one to three interfaces each."""
     file, everything, is_naming, first = b"", [], False, 1
+    lost = 0
     for _ in range(chance.randrange(1, 4)):
         links = [chance.choice(recorded.LINKS) for _ in range(chance.randrange(1, 4))]
         # No two packets of a file have one identification, also not in two sections.
@@ -235,15 +251,41 @@ def made_pcapng(chance: random.Random) -> Made:
             frame.is_timed = bool(place) or frame.original is not None or chance.random() < 0.8
             if not frame.is_timed:
                 frame.flags = "unknown"
+            elif frame.flags != "unknown":
+                frame.is_damaged = chance.random() < 0.1
             frame.time = rounded(interfaces[place], frame.time)
             blocks.append((place, frame))
             if chance.random() < 0.2:
                 blocks.append((0, recorded.other_block(order, chance)))
+        counted = [counted_at(order, place, blocks, chance) for place in range(len(links))]
+        lost += sum(it.lost for it in counted)
+        blocks += [(0, it) for one in counted for it in one.blocks]
         file += recorded.section(order, interfaces, blocks, chance)
         everything += taken
         is_naming |= maker.is_naming
         first = maker.id + 1
-    return listed(file, everything, not is_naming)
+    return listed(file, everything, not is_naming, lost)
+
+
+@dataclasses.dataclass
+class Counted:
+    """Statistics blocks of an interface, and how many packets it lost."""
+
+    blocks: list[bytes]
+    lost: int
+
+
+def counted_at(order: str, place: int, blocks: list[tuple[int, recorded.Block]], chance: random.Random) -> Counted:
+    """What an interface of a section lost: its packets' counts are chosen, and blocks of statistics, of which the greatest
+    counts."""
+    missed = 0
+    for at, it in blocks:
+        if at == place and not isinstance(it, bytes) and it.is_timed and chance.random() < 0.2:
+            it.missed = chance.choice((0, 1, 3, 65_534))
+            missed += it.missed
+    counts = [(chance.randrange(5), chance.randrange(5)) for _ in range(chance.choice((0, 0, 1, 2)))]
+    told = [recorded.statistics(order, place, dropped, system) for dropped, system in counts]
+    return Counted(told, max([missed, *(dropped + system for dropped, system in counts)]))
 
 
 def rounded(interface: Interface, time: int) -> int:
@@ -254,10 +296,11 @@ def rounded(interface: Interface, time: int) -> int:
     return since + interface.offset * 1_000_000_000
 
 
-def listed(file: bytes, taken: list[tuple[Frame, Datagram | None, bool]], is_compared: bool) -> Made:
+def listed(file: bytes, taken: list[tuple[Frame, Datagram | None, bool]], is_compared: bool, lost: int = 0) -> Made:
     numbered = list(enumerate(taken, 1))
     rows = [row(number, frame, it) for number, (frame, it, _) in numbered if it]
-    return Made(file, rows, [number for number, (_, _, is_left) in numbered if is_left], is_compared)
+    damaged = [number for number, (frame, _, _) in numbered if frame.is_damaged]
+    return Made(file, rows, [number for number, (_, _, is_left) in numbered if is_left], is_compared, damaged, lost)
 
 
 class DatagramTrial(Trial):
@@ -267,25 +310,37 @@ class DatagramTrial(Trial):
         super().__init__()
         self.program, self.tshark = program, shutil.which("tshark")
 
-    def run(self, file: bytes) -> tuple[list[str], list[tuple[int, str]], str, int]:
-        """The lines of datagrams, the frames left out with their kinds, the line of a fault, and the status."""
+    def tell(self, file: bytes) -> Told:
+        """All that the program says of a recording."""
         done = subprocess.run([self.program], input=file, capture_output=True, timeout=120)
-        rows, left, fault = [], [], done.stderr.decode()
+        told = Told([], [], done.stderr.decode(), done.returncode, [], 0)
         for line in done.stdout.decode().splitlines():
             word, _, rest = line.partition(" ")
             if word == "datagram":
-                rows.append(line)
+                told.rows.append(line)
             elif word == "left":
                 number, kind = rest.split(" ", 1)
-                left.append((int(number), kind))
+                told.left.append((int(number), kind))
+            elif word == "damaged":
+                told.damaged.append(int(rest))
+            elif word == "lost":
+                told.lost += int(rest)
             else:
-                fault += line
-        return rows, left, fault, done.returncode
+                told.fault += line
+        return told
+
+    def run(self, file: bytes) -> tuple[list[str], list[tuple[int, str]], str, int]:
+        """The lines of datagrams, the frames left out with their kinds, the line of a fault, and the status."""
+        told = self.tell(file)
+        return told.rows, told.left, told.fault, told.status
 
     def try_made(self, name: str, it: Made) -> None:
         """A generated recording: its datagrams, what is left out, and the same of its beginning."""
-        rows, left, fault, status = self.run(it.file)
+        told = self.tell(it.file)
+        rows, left, fault, status = told.rows, told.left, told.fault, told.status
         self.check(f"{name}, datagrams", rows == it.rows, difference(rows, it.rows))
+        self.check(f"{name}, received with an error", told.damaged == it.damaged, (told.damaged, it.damaged))
+        self.check(f"{name}, lost", told.lost == it.lost, (told.lost, it.lost))
         self.check(f"{name}, left out", sorted({frame for frame, _ in left}) == it.left, (left, it.left))
         counted = [int(row.split()[1]) for row in rows] + [frame for frame, _ in left]
         self.check(f"{name}, each frame once", len(set(counted)) == len(counted), sorted(counted))
@@ -295,8 +350,10 @@ class DatagramTrial(Trial):
 
     def try_changed(self, name: str, file: bytes) -> None:
         """A changed recording: all that the program says of it is what the slow reader says."""
-        rows, left, fault, status = self.run(file)
-        wanted = slow_reader.listing(file)
+        told, wanted = self.tell(file), slow_reader.listing(file)
+        rows, left, fault, status = told.rows, told.left, told.fault, told.status
+        seen = told.damaged, told.lost
+        self.check(f"{name}, errors and losses", seen == (wanted.damaged, wanted.lost), (seen, wanted))
         self.check(f"{name}, datagrams", rows == wanted.rows, difference(rows, wanted.rows))
         self.check(f"{name}, left out", sorted(left) == wanted.left, (sorted(left), wanted.left))
         ends = wanted.fault, 2 if wanted.fault else 0

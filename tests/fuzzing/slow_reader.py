@@ -29,13 +29,15 @@ FLAGS = {1: "in", 2: "out"}
 
 
 class Frame(NamedTuple):
-    """What a recording says of a frame; where is its section and the number of its interface there."""
+    """What a recording says of a frame; where is its section and the number of its interface there; is_damaged, whether it
+    was received with an error."""
 
     where: tuple[int, int]
     link: int
     time: Optional[int]
     way: str
     content: bytes
+    is_damaged: bool = False
 
 
 class Fault(Exception):
@@ -43,29 +45,51 @@ class Fault(Exception):
 
 
 class Listing(NamedTuple):
-    """The lines of datagrams, the frames that are left out with the reason, and the fault at the end."""
+    """The lines of datagrams, the frames that are left out with the reason, the fault at the end, the frames that were
+    received with an error, and how many packets the recorder lost."""
 
     rows: list[str]
     left: list[tuple[int, str]]
     fault: str
+    damaged: list[int]
+    lost: int
 
 
 # ---- files
 
 
-def frames_of(file: bytes) -> tuple[list[Frame], str]:
-    """The frames of a file, and the fault that it ends with."""
+def frames_of(file: bytes) -> tuple[list[Frame], str, int]:
+    """The frames of a file, the fault that it ends with, and how many packets the recorder lost."""
     frames: list[Frame] = []
+    counts = Counts()
     try:
         if file[:4] == SECTION:
-            read_blocks(file, frames)
+            read_blocks(file, frames, counts)
         elif file[:4] in MAGICS:
             read_classic(file, frames)
         else:
             raise Fault("NotARecording")
     except Fault as fault:
-        return frames, str(fault)
-    return frames, ""
+        return frames, str(fault), counts.lost()
+    return frames, "", counts.lost()
+
+
+class Counts:
+    """How many packets were lost, by interface: the greatest count of its statistics, and the sum of its packets' counts."""
+
+    def __init__(self) -> None:
+        self.reported: dict[tuple[int, int], int] = {}
+        self.missed: dict[tuple[int, int], int] = {}
+
+    def report(self, where: tuple[int, int], count: int) -> None:
+        self.reported[where] = max(self.reported.get(where, 0), count)
+
+    def miss(self, where: tuple[int, int], count: int) -> None:
+        self.missed[where] = self.missed.get(where, 0) + count
+
+    def lost(self) -> int:
+        places = self.reported.keys() | self.missed.keys()
+        return min(MOST_TIME - 1, sum(max(self.reported.get(it, 0), self.missed.get(it, 0)) for it in places))
 
 
 def read_classic(file: bytes, frames: list[Frame]) -> None:
@@ -107,7 +131,7 @@ class Interface(NamedTuple):
         return moment if 0 <= moment < MOST_TIME else None
 
 
-def read_blocks(file: bytes, frames: list[Frame]) -> None:
+def read_blocks(file: bytes, frames: list[Frame], counts: Counts) -> None:
     """Blocks, one after another; the first one is a section header."""
     at = sections = 0
     order: Literal["little", "big"] = "little"
@@ -135,7 +159,7 @@ def read_blocks(file: bytes, frames: list[Frame]) -> None:
                 raise Fault("Bad")
             interfaces, sections = [], sections + 1
         else:
-            read_block(order, int.from_bytes(file[at : at + 4], order), body, sections, interfaces, frames)
+            read_block(order, int.from_bytes(file[at : at + 4], order), body, sections, interfaces, frames, counts)
         at += size
 
 
@@ -143,19 +167,31 @@ Order = Literal["little", "big"]
 
 
 def read_block(
-    order: Order, kind: int, body: bytes, section: int, interfaces: list[Interface], frames: list[Frame]
+    order: Order, kind: int, body: bytes, section: int, interfaces: list[Interface], frames: list[Frame], counts: Counts
 ) -> None:
-    """A block that is no section header: an interface, a frame, or what is skipped."""
+    """A block that is no section header: an interface, a frame, what an interface lost, or what is skipped."""
     if kind == 1:
         if len(interfaces) == MOST_INTERFACES:
             raise Fault("Bad")
         interfaces.append(interface_of(order, (section, len(interfaces)), body))
     elif kind == 6:
         need(body, 4)
-        frames.append(timed(order, named(interfaces, int.from_bytes(body[:4], order)), body[4:]))
+        interface = named(interfaces, int.from_bytes(body[:4], order))
+        frame, told = timed(order, interface, body[4:])
+        frames.append(frame)
+        counts.miss(interface.where, counter_of(order, told, 4))
     elif kind == 2:
         need(body, 4)
-        frames.append(timed(order, named(interfaces, int.from_bytes(body[:2], order)), body[4:]))
+        interface, count = named(interfaces, int.from_bytes(body[:2], order)), int.from_bytes(body[2:4], order)
+        frame, _ = timed(order, interface, body[4:])
+        frames.append(frame)
+        counts.miss(interface.where, count if count != 0xFFFF else 0)
+    elif kind == 5:
+        need(body, 12)
+        interface = named(interfaces, int.from_bytes(body[:4], order))
+        told = options_of(order, body[12:])
+        both = counter_of(order, told, 5) + counter_of(order, told, 7)
+        counts.report(interface.where, min(MOST_TIME - 1, both))
     elif kind == 3:
         need(body, 4)
         first, size = named(interfaces, 0), int.from_bytes(body[:4], order)
@@ -196,6 +232,11 @@ def first_of(told: list[tuple[int, bytes]], code: int, size: int) -> Optional[by
     return next((value for it, value in told if it == code and len(value) == size), None)
 
 
+def counter_of(order: Order, told: list[tuple[int, bytes]], code: int) -> int:
+    """A counter of 64 bits; 0 where it is not there."""
+    return int.from_bytes(first_of(told, code, 8) or b"", order)
+
+
 def interface_of(order: Order, where: tuple[int, int], body: bytes) -> Interface:
     need(body, 8)
     told = options_of(order, body[8:])
@@ -208,8 +249,8 @@ def interface_of(order: Order, where: tuple[int, int], body: bytes) -> Interface
     return Interface(where, int.from_bytes(body[:2], order), int.from_bytes(body[4:8], order), units, seconds)
 
 
-def timed(order: Order, interface: Interface, body: bytes) -> Frame:
-    """Two halves of the time, the captured length, the original length, the frame, padding, and options."""
+def timed(order: Order, interface: Interface, body: bytes) -> tuple[Frame, list[tuple[int, bytes]]]:
+    """Two halves of the time, the captured length, the original length, the frame, padding, and options, which are told."""
     need(body, 16)
     high, low, size = (int.from_bytes(body[k : k + 4], order) for k in (0, 4, 8))
     end = 16 + size + -size % 4
@@ -218,8 +259,10 @@ def timed(order: Order, interface: Interface, body: bytes) -> Frame:
     if size > LONGEST_FRAME:
         raise Fault("Bad")
     flags = first_of(told, 2, 4)
-    way = FLAGS.get(int.from_bytes(flags, order) % 4, "unknown") if flags else "unknown"
-    return Frame(interface.where, interface.link, interface.time((high << 32) + low), way, body[16 : 16 + size])
+    flag = int.from_bytes(flags, order) if flags else 0
+    way, time = FLAGS.get(flag % 4, "unknown"), interface.time((high << 32) + low)
+    frame = Frame(interface.where, interface.link, time, way, body[16 : 16 + size], flag >= 1 << 16)
+    return frame, told
 
 
 # ---- frames
@@ -497,10 +540,12 @@ def written(address: bytes) -> str:
 
 def listing(file: bytes) -> Listing:
     """What a recording holds."""
-    frames, fault = frames_of(file)
+    frames, fault, lost = frames_of(file)
     reader = Reader()
     for at, frame in enumerate(frames, 1):
         reader.take(at, frame)
     for it in reader.waiting.values():
         reader.leave(it.frames, "FragmentMissing")
-    return Listing(reader.rows, sorted(reader.left), f"fault {len(frames) + 1} {fault}" if fault else "")
+    damaged = [at for at, frame in enumerate(frames, 1) if frame.is_damaged]
+    ends = f"fault {len(frames) + 1} {fault}" if fault else ""
+    return Listing(reader.rows, sorted(reader.left), ends, damaged, lost)

@@ -2,7 +2,7 @@ use std::alloc::Global;
 use std::io;
 use tftp_fragments::Fragments;
 use tftp_pcap::{Direction, PcapFault};
-use tftp_recording::{Datagram, Event, Fate, LeftOut, RecordingReader};
+use tftp_recording::{Checksum, Datagram, Event, Fate, LeftOut, RecordingReader};
 use tftp_streams::Latched;
 
 /// Lists what a recording has; whether it is one to its end.
@@ -73,7 +73,10 @@ fn put_event(rt: HostRuntime, event: &mut Event) -> io::Result<()> {
     put_left(rt, event.old(), "FragmentOld")?;
     put_waiting(rt, event.take_ousted(rt.alloc()), "FragmentFull")?;
     match event.fate() {
-        Fate::Datagram(datagram) => put_datagram(rt, event, &datagram),
+        Fate::Datagram(datagram) => {
+            put_checksum(rt, event)?;
+            put_datagram(rt, event, &datagram)
+        }
         Fate::Left(why) => put_left_out(rt, event, why),
         Fate::Waits => Ok(()),
     }
@@ -107,6 +110,15 @@ fn put_shared(rt: HostRuntime, event: &Event, kind: &str) -> io::Result<()> {
         put_left(rt, &[event.number()], kind)
     } else {
         put_left(rt, event.sharers(), kind)
+    }
+}
+
+/// What the checksums of a datagram say, unless they are right.
+fn put_checksum(rt: HostRuntime, event: &Event) -> io::Result<()> {
+    match event.checksum() {
+        Checksum::Right => Ok(()),
+        Checksum::Absent => println!(rt; "checksum {} absent", event.number()),
+        Checksum::Wrong => println!(rt; "checksum {} wrong", event.number()),
     }
 }
 

@@ -1,6 +1,7 @@
 pub mod Alike
 pub mod Brought
 pub mod Fates
+pub mod Checked
 pub mod History
 pub mod Accounts
 pub mod Contents
@@ -9,6 +10,7 @@ pub mod Worked
 pub use Alike.{Comes, IsLike, WantsToHold, interface_of, is_copy, likeness_by, recorded}
 pub use Brought.{BroughtState, DoesNothing, IsNoPart, IsPart, LetsGoOld, MakesRoom, Takes, TakesPart, Wants, WantsPart, arrival_of, key_of, key_protocol, nothing_brought}
 pub use Fates.{HasFault, IsDatagram, IsFate, IsFateOf, Says, content_of, direction_of, sharers}
+pub use Checked.{IsChecksum, IsChecksumOf}
 pub use History.{Continues, EventState, IsHistory, RecordingState, RefusedTells, StandsFor, Step, WantsNext, frames_of, packets_of, standing_of, waiting, with_step}
 pub use Accounts.{IsIn, IsSettled, IsTold, IsWaiting, NoneTwice, ToldOneWay, WaitsAt}
 pub use Contents.{IsBrought, IsPutTogether}
