@@ -44,6 +44,7 @@ LISTED = """number client server kind mode file options datagrams frames
 SOUND = "accepted get octet blocks 1 bytes 2"
 WHOLE = Row(1, "between", None, SOUND)
 ONE_WAY = "nothing that came to its client is there: one direction only"
+LED_ASTRAY = "its client did not go on with who sent it something first"
 AT_CLIENT, AT_SERVER, BETWEEN = ("--end", "client"), ("--end", "server"), ("--end", "between")
 
 
@@ -355,11 +356,11 @@ def try_doubts(trial: Trial, program: str) -> None:
         ("one host, between", at_one_host(late), BETWEEN, [Row(1, "between", None, sound)], 0),
         (
             "the same request again", asked_again(), AT_CLIENT,
-            [Row(1, "client", None, incomplete), Row(2, "client", 4, overrun, (again,))], 1,
+            [Row(1, "client", None, incomplete), Row(2, "client", 4, overrun, (again, LED_ASTRAY))], 1,
         ),
         (
             "the same request again, between", asked_again(), (),
-            [Row(1, "between", None, incomplete), Row(2, "between", 4, overrun, (again,))], 1,
+            [Row(1, "between", None, incomplete), Row(2, "between", 4, overrun, (again, LED_ASTRAY))], 1,
         ),
     )
     for name, passed, words, rows, status in cases:
@@ -380,6 +381,7 @@ class Passing(NamedTuple):
     between: str
     at_client: str = ""
     at_server: str = ""
+    doubts: tuple[str, ...] = ()
 
 
 def from_client(*packets: Packet) -> list[Datagram]:
@@ -415,7 +417,7 @@ def of_sending() -> Iterator[Passing]:
     written += from_client(last, first) + from_server(ack(2))
     back = refusal(6, Rule.GONE_BACK)
     yield Passing("a block of a write again, late", written, "accepted put octet blocks 2 bytes 513", at_client=back)
-    yield Passing("two blocks to one ACK", begun + from_server(first, last), refusal(3, Rule.WINDOW_OVERRUN))
+    yield Passing("two blocks to one ACK", begun + from_server(first, last), refusal(3, Rule.WINDOW_OVERRUN), doubts=(LED_ASTRAY,))
     changed = begun + from_server(first) + from_client(ack(1)) + from_server(data(1, b":" * 512))
     yield Passing("a changed block", changed, refusal(4, Rule.BLOCK_CHANGED))
     ahead = begun + from_server(first) + from_client(ack(3))
@@ -430,7 +432,7 @@ def of_errors() -> Iterator[Passing]:
     no, full, gone = error(1, "no"), error(3, "full"), refusal(3, Rule.AFTER_ERROR)
     yield Passing("a missing file", begun + from_server(no, no), "aborted by server code 1", "aborted by peer code 1",
                   "aborted by local code 1")
-    yield Passing("a second, other ERROR", begun + from_server(no, full), gone)
+    yield Passing("a second, other ERROR", begun + from_server(no, full), gone, doubts=(LED_ASTRAY,))
     stopped = begun + from_server(first) + from_client(full)
     yield Passing("a client that gives up", stopped, "aborted by client code 3", "aborted by local code 3",
                   "aborted by peer code 3")
@@ -456,7 +458,7 @@ def of_strays() -> Iterator[Passing]:
     yield Passing("a stray and an answer", passed, SOUND)
     asked = Datagram(S, 43_000, C, 40_000, data(1, b"ho")[0])
     yield Passing("the answer with which the client went on", [request, asked, block, answer], SOUND,
-                  at_client=refusal(4, Rule.STRAY_ANSWER))
+                  at_client=refusal(4, Rule.STRAY_ANSWER), doubts=(LED_ASTRAY,))
 
 
 def try_between(trial: Trial, program: str) -> None:
@@ -470,7 +472,8 @@ def try_between(trial: Trial, program: str) -> None:
             place = words[1] if words else "between"
             frame = int(verdict.split()[2]) if verdict.startswith("refused") else None
             got = checked(program, given, *words)
-            rows, status = [Row(1, place, frame, verdict)], int(not verdict.startswith("accepted"))
+            doubts = it.doubts if frame else ()
+            rows, status = [Row(1, place, frame, verdict, doubts)], int(not verdict.startswith("accepted"))
             trial.check(f"{it.name}, {' '.join(words) or 'no end'}", got == (rows, "", status), got)
     passed = [Datagram("192.0.2.53", 1234, "192.0.2.54", 53, b"?"), *late_block()[:2]]
     passed += [dataclasses.replace(passed[0], payload=b"!"), *from_client(ack(3))]
@@ -508,7 +511,7 @@ def try_accused(trial: Trial, program: str) -> None:
         trial.check(f"{name} is accused", [row.accused for row in rows][-1] == wanted, rows)
     strangers = checked(program, file_of(strays), *AT_CLIENT)[0][0]
     why = "neither its client nor its server sent the datagram"
-    trial.check("a stranger's datagram", strangers.doubts == (why,) and strangers.frame == 2, strangers)
+    trial.check("a stranger's datagram", strangers.doubts == (why, LED_ASTRAY) and strangers.frame == 2, strangers)
     six = read("a", 40_000, 41_000, (C_6, S_6))[:2] + [Datagram(C_6, 40_000, S_6, 41_000, ack(3)[0])]
     table = said(program, ["check", "-"], file_of(six))[0]
     cells = [" ".join(line.split()) for line in table.splitlines()]

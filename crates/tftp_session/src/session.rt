@@ -15,7 +15,7 @@ use tftp_blocks::RingDelivered;
 use tftp_lines::{Endpoint, Place, Transfer};
 use tftp_parties::party_of;
 use tftp_pcap::{FaultKind, PcapFault};
-use tftp_recording::{Datagram, Event, Fate, RecordingReader};
+use tftp_recording::{Checksum, Datagram, Event, Fate, RecordingReader};
 use tftp_recording_audit::{AuditFault, NextFrame, RecordingAudit};
 use tftp_recording_judge::{Judging, Watched};
 use tftp_streams::Latched;
@@ -122,7 +122,7 @@ impl Session {
             time: event.time(),
             is_doubtful: event.is_doubtful(),
             has_error: event.has_error(),
-            is_intact: None,
+            is_intact: intact_by(event.checksum()),
             source: source.end,
             target: target.end,
             payload: datagram.payload,
@@ -254,6 +254,15 @@ impl Session {
     /// How many transfers there are that were not handed out.
     pub fn count(&self) -> usize {
         self.trails.len()
+    }
+}
+
+/// Whether a datagram is as it was sent, where its checksums tell that.
+fn intact_by(checksum: Checksum) -> Option<bool> {
+    match checksum {
+        Checksum::Right => Some(true),
+        Checksum::Wrong => Some(false),
+        Checksum::Absent => None,
     }
 }
 
