@@ -417,7 +417,8 @@ def of_sending() -> Iterator[Passing]:
     written += from_client(last, first) + from_server(ack(2))
     back = refusal(6, Rule.GONE_BACK)
     yield Passing("a block of a write again, late", written, "accepted put octet blocks 2 bytes 513", at_client=back)
-    yield Passing("two blocks to one ACK", begun + from_server(first, last), refusal(3, Rule.WINDOW_OVERRUN), doubts=(LED_ASTRAY,))
+    overrun = refusal(3, Rule.WINDOW_OVERRUN)
+    yield Passing("two blocks to one ACK", begun + from_server(first, last), overrun, doubts=(LED_ASTRAY,))
     changed = begun + from_server(first) + from_client(ack(1)) + from_server(data(1, b":" * 512))
     yield Passing("a changed block", changed, refusal(4, Rule.BLOCK_CHANGED))
     ahead = begun + from_server(first) + from_client(ack(3))
@@ -524,8 +525,8 @@ def try_accused(trial: Trial, program: str) -> None:
 
 
 def try_final(trial: Trial, program: str) -> None:
-    """Whatever passes later, a row is the same: of a fragment that waits in vain, of one that comes in the end, and of a
-    frame that is cut."""
+    """Whatever passes later, a row is the same: of a fragment that waits in vain, of one that comes in the end, and of
+    a frame that is cut."""
     request, block, answer = read("a", 40_000, 41_000, content=b"." * 511)
     parts = recorded.parts_of(recorded.udp(block), 400, 9)
     one, other = [recorded.ipv4(block, content, part=part) for part, content in parts]
@@ -550,8 +551,8 @@ def try_final(trial: Trial, program: str) -> None:
 
 
 def try_dropped(trial: Trial, program: str) -> None:
-    """Packets that the recorder dropped, as it says at the end of a recording in blocks, make each refusal doubtful, also
-    that of a transfer that was over long before; they change nothing of what is accepted."""
+    """Packets that the recorder dropped, as it says at the end of a recording in blocks, make each refusal doubtful,
+    also that of a transfer that was over long before; they change nothing of what is accepted."""
     passed = [*late_block()[:2], *from_client(ack(3)), *read("b", 50_000, 51_000, (THIRD, S))]
     frames = framed(packets_of(passed), [0.0, 0.1, 0.2, 400.0, 400.1, 400.2])
     interfaces, chance = [Interface(recorded.RAW, 9)], random.Random(1)
