@@ -10,12 +10,15 @@ from __future__ import annotations
 
 import argparse
 import dataclasses
+import itertools
 import pathlib
 import random
 import shutil
+import struct
 import subprocess
 import sys
 import tempfile
+from collections.abc import Callable
 
 import recorded
 from fuzzing import slow_reader
@@ -46,13 +49,73 @@ OTHERS = {
 
 @dataclasses.dataclass
 class Made:
-    """A recording, the lines of its datagrams, the numbers of the frames that are left out, and whether tshark reads
-    it as RFC 8200 has it."""
+    """A recording, the lines of its datagrams, the numbers of the frames that are left out, whether tshark reads it as
+    RFC 8200 has it, the frames that were received with an error, and how many packets were lost."""
 
     file: bytes
     rows: list[str]
     left: list[int]
     is_compared: bool
+    damaged: list[int]
+    lost: int
+
+
+@dataclasses.dataclass
+class Told:
+    """What the program tells: the lines of datagrams, the frames left out with their kinds, the line of a fault, the
+    status, the frames that were received with an error, and how many packets were lost."""
+
+    rows: list[str]
+    left: list[tuple[int, str]]
+    fault: str
+    status: int
+    damaged: list[int]
+    lost: int
+
+
+@dataclasses.dataclass
+class Twice:
+    """A way in which a packet is recorded twice: the link, what stands in front of the first and of the second, the file of
+    both frames, and whether they are of two interfaces."""
+
+    name: str
+    link: int
+    front: Callable[[int], bytes]
+    file: Callable[[list[Frame]], bytes]
+    is_elsewhere: bool
+
+
+def classic(frames: list[Frame]) -> bytes:
+    return recorded.pcap(frames, is_nano=True)
+
+
+def blocks(places: tuple[int, int], sections: int = 1) -> Callable[[list[Frame]], bytes]:
+    """A file in the format pcapng whose two frames are of these interfaces, in one section or in two."""
+
+    def file(frames: list[Frame]) -> bytes:
+        interfaces, chance = [Interface(frames[0].link, 9)] * 2, random.Random(1)
+        held: list[tuple[int, recorded.Block]] = [(place, frame) for place, frame in zip(places, frames)]
+        cuts = [held] if sections == 1 else [held[:1], held[1:]]
+        return b"".join(recorded.section("<", interfaces, cut, chance) for cut in cuts)
+
+    return file
+
+
+def cooked_two(numbers: tuple[int, int]) -> Callable[[int], bytes]:
+    """The head of Linux cooked, version 2, with these numbers of the interface."""
+    return lambda index: struct.pack("!HHIHBB8s", recorded.IPV4, 0, numbers[index], 1, 2, 6, bytes(8))
+
+
+COOKED_ONE = struct.pack("!HHH8sH", 2, 1, 6, bytes(8), recorded.IPV4)
+TWICE = (
+    Twice("in one classic recording", recorded.RAW, lambda _: b"", classic, False),
+    Twice("at one interface", recorded.RAW, lambda _: b"", blocks((1, 1)), False),
+    Twice("at two interfaces", recorded.RAW, lambda _: b"", blocks((0, 1)), True),
+    Twice("in two sections", recorded.RAW, lambda _: b"", blocks((0, 0), 2), True),
+    Twice("in Linux cooked", recorded.COOKED, lambda _: COOKED_ONE, classic, False),
+    Twice("in Linux cooked 2, of one interface", recorded.COOKED_2, cooked_two((3, 3)), classic, False),
+    Twice("in Linux cooked 2, of two interfaces", recorded.COOKED_2, cooked_two((3, 4)), classic, True),
+)
 
 
 def row(number: int, frame: Frame, it: Datagram) -> str:
@@ -171,6 +234,7 @@ def made_pcap(chance: random.Random) -> Made:
 def made_pcapng(chance: random.Random) -> Made:
     """A file in the format pcapng, of one to three sections with one to three interfaces each."""
     file, everything, is_naming, first = b"", [], False, 1
+    lost = 0
     for _ in range(chance.randrange(1, 4)):
         links = [chance.choice(recorded.LINKS) for _ in range(chance.randrange(1, 4))]
         # No two packets of a file have one identification, also not in two sections.
@@ -187,15 +251,41 @@ def made_pcapng(chance: random.Random) -> Made:
             frame.is_timed = bool(place) or frame.original is not None or chance.random() < 0.8
             if not frame.is_timed:
                 frame.flags = "unknown"
+            elif frame.flags != "unknown":
+                frame.is_damaged = chance.random() < 0.1
             frame.time = rounded(interfaces[place], frame.time)
             blocks.append((place, frame))
             if chance.random() < 0.2:
                 blocks.append((0, recorded.other_block(order, chance)))
+        counted = [counted_at(order, place, blocks, chance) for place in range(len(links))]
+        lost += sum(it.lost for it in counted)
+        blocks += [(0, it) for one in counted for it in one.blocks]
         file += recorded.section(order, interfaces, blocks, chance)
         everything += taken
         is_naming |= maker.is_naming
         first = maker.id + 1
-    return listed(file, everything, not is_naming)
+    return listed(file, everything, not is_naming, lost)
+
+
+@dataclasses.dataclass
+class Counted:
+    """Statistics blocks of an interface, and how many packets it lost."""
+
+    blocks: list[bytes]
+    lost: int
+
+
+def counted_at(order: str, place: int, blocks: list[tuple[int, recorded.Block]], chance: random.Random) -> Counted:
+    """What an interface of a section lost: its packets' counts are chosen, and blocks of statistics, of which the greatest
+    counts."""
+    missed = 0
+    for at, it in blocks:
+        if at == place and not isinstance(it, bytes) and it.is_timed and chance.random() < 0.2:
+            it.missed = chance.choice((0, 1, 3, 65_534))
+            missed += it.missed
+    counts = [(chance.randrange(5), chance.randrange(5)) for _ in range(chance.choice((0, 0, 1, 2)))]
+    told = [recorded.statistics(order, place, dropped, system) for dropped, system in counts]
+    return Counted(told, max([missed, *(dropped + system for dropped, system in counts)]))
 
 
 def rounded(interface: Interface, time: int) -> int:
@@ -206,10 +296,11 @@ def rounded(interface: Interface, time: int) -> int:
     return since + interface.offset * 1_000_000_000
 
 
-def listed(file: bytes, taken: list[tuple[Frame, Datagram | None, bool]], is_compared: bool) -> Made:
+def listed(file: bytes, taken: list[tuple[Frame, Datagram | None, bool]], is_compared: bool, lost: int = 0) -> Made:
     numbered = list(enumerate(taken, 1))
     rows = [row(number, frame, it) for number, (frame, it, _) in numbered if it]
-    return Made(file, rows, [number for number, (_, _, is_left) in numbered if is_left], is_compared)
+    damaged = [number for number, (frame, _, _) in numbered if frame.is_damaged]
+    return Made(file, rows, [number for number, (_, _, is_left) in numbered if is_left], is_compared, damaged, lost)
 
 
 class DatagramTrial(Trial):
@@ -219,25 +310,37 @@ class DatagramTrial(Trial):
         super().__init__()
         self.program, self.tshark = program, shutil.which("tshark")
 
-    def run(self, file: bytes) -> tuple[list[str], list[tuple[int, str]], str, int]:
-        """The lines of datagrams, the frames left out with their kinds, the line of a fault, and the status."""
+    def tell(self, file: bytes) -> Told:
+        """All that the program says of a recording."""
         done = subprocess.run([self.program], input=file, capture_output=True, timeout=120)
-        rows, left, fault = [], [], done.stderr.decode()
+        told = Told([], [], done.stderr.decode(), done.returncode, [], 0)
         for line in done.stdout.decode().splitlines():
             word, _, rest = line.partition(" ")
             if word == "datagram":
-                rows.append(line)
+                told.rows.append(line)
             elif word == "left":
                 number, kind = rest.split(" ", 1)
-                left.append((int(number), kind))
+                told.left.append((int(number), kind))
+            elif word == "damaged":
+                told.damaged.append(int(rest))
+            elif word == "lost":
+                told.lost += int(rest)
             else:
-                fault += line
-        return rows, left, fault, done.returncode
+                told.fault += line
+        return told
+
+    def run(self, file: bytes) -> tuple[list[str], list[tuple[int, str]], str, int]:
+        """The lines of datagrams, the frames left out with their kinds, the line of a fault, and the status."""
+        told = self.tell(file)
+        return told.rows, told.left, told.fault, told.status
 
     def try_made(self, name: str, it: Made) -> None:
         """A generated recording: its datagrams, what is left out, and the same of its beginning."""
-        rows, left, fault, status = self.run(it.file)
+        told = self.tell(it.file)
+        rows, left, fault, status = told.rows, told.left, told.fault, told.status
         self.check(f"{name}, datagrams", rows == it.rows, difference(rows, it.rows))
+        self.check(f"{name}, received with an error", told.damaged == it.damaged, (told.damaged, it.damaged))
+        self.check(f"{name}, lost", told.lost == it.lost, (told.lost, it.lost))
         self.check(f"{name}, left out", sorted({frame for frame, _ in left}) == it.left, (left, it.left))
         counted = [int(row.split()[1]) for row in rows] + [frame for frame, _ in left]
         self.check(f"{name}, each frame once", len(set(counted)) == len(counted), sorted(counted))
@@ -247,25 +350,28 @@ class DatagramTrial(Trial):
 
     def try_changed(self, name: str, file: bytes) -> None:
         """A changed recording: all that the program says of it is what the slow reader says."""
-        rows, left, fault, status = self.run(file)
-        wanted = slow_reader.listing(file)
+        told, wanted = self.tell(file), slow_reader.listing(file)
+        rows, left, fault, status = told.rows, told.left, told.fault, told.status
+        seen = told.damaged, told.lost
+        self.check(f"{name}, errors and losses", seen == (wanted.damaged, wanted.lost), (seen, wanted))
         self.check(f"{name}, datagrams", rows == wanted.rows, difference(rows, wanted.rows))
         self.check(f"{name}, left out", sorted(left) == wanted.left, (sorted(left), wanted.left))
         ends = wanted.fault, 2 if wanted.fault else 0
         self.check(f"{name}, its end", (fault, status) == ends, (fault, status, ends))
 
     def try_copies(self) -> None:
-        """A datagram that stands twice: a copy is left out, and what its sender may have repeated is not."""
+        """A datagram that stands twice: what another interface recorded too is left out, but not what its sender may have
+        repeated, nor what one interface recorded twice."""
         it = Datagram("192.0.2.7", 40_000, "192.0.2.1", 69, b"\0\4\0\1")
-        first = recorded.FIRST_TIME
         cases = (7, 1_000_000, True), (0, 1_000_000, False), (7, 1_000_001, False), (0, 1_000_001, False)
-        for id, apart, is_left in cases:
-            left = [(2, "Copy")] if is_left else []
+        for (id, apart, is_near), way in itertools.product(cases, TWICE):
             packet = recorded.ipv4(it, recorded.udp(it), id=id)
-            frames = [Frame(recorded.RAW, packet, time) for time in (first, first + apart)]
+            frames = [Frame(way.link, way.front(index) + packet, recorded.FIRST_TIME + index * apart) for index in (0, 1)]
+            is_left = is_near and way.is_elsewhere
+            left = [(2, "Copy")] if is_left else []
             rows = [row(number, frame, it) for number, frame in enumerate(frames, 1) if number == 1 or not is_left]
-            got = self.run(recorded.pcap(frames, is_nano=True))
-            self.check(f"identification {id}, {apart} ns apart", got == (rows, left, "", 0), (got, rows, left))
+            got = self.run(way.file(frames))
+            self.check(f"identification {id}, {apart} ns apart, {way.name}", got == (rows, left, "", 0), (got, rows, left))
 
     def try_protocols(self) -> None:
         """A datagram of IPv6 in two fragments, of which the second names ICMP (RFC 8200, section 4.5), in both orders;

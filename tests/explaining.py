@@ -422,6 +422,7 @@ def try_recordings(trial: Trial, programs: Words, folder: pathlib.Path) -> None:
     begun, gone_back = late[:5], refusal(5, Rule.GONE_BACK)
     again = "Doubtful: its client had asked the same and sent nothing else since: the transfer before goes on"
     at_server, at_client = "out, from port 41000 of the server to", "in, from 192.0.2.1 port 42000 to port 40000 of the"
+    at_one_host = "Accused: the server at 192.0.2.1:41000, which sent the datagram."
     between = "Place: judged between the ends, by what passed there; the datagrams have the numbers that they have"
     has = "Has: blocks 1 to 2 passed; the highest ACK that passed is 1 in datagram 3 (line 10, frame 3)."
     other_port = at_another_port()
@@ -432,7 +433,7 @@ def try_recordings(trial: Trial, programs: Words, folder: pathlib.Path) -> None:
         ("incomplete between", made.file_of(begun), (), "incomplete after 5", (has, "the ACK of the last block, 2.")),
         ("between, named", made.file_of(made.at_one_host(late)), (1, "between"), sound, (between,)),
         ("refused at the end that is named", made.file_of(late), (1, "server"), gone_back, (at_server,)),
-        ("both ends at one host", made.file_of(made.at_one_host(late)), (), gone_back, (at_server,)),
+        ("both ends at one host", made.file_of(made.at_one_host(late)), (), gone_back, (at_server, at_one_host)),
         (
             "a doubt of a transfer", made.file_of(made.asked_again()), (2, "client"),
             refusal(2, Rule.WINDOW_OVERRUN), (at_client, again),
@@ -453,6 +454,8 @@ def try_recordings(trial: Trial, programs: Words, folder: pathlib.Path) -> None:
         wanted = 2 if not line else 0 if line.startswith("accepted") else 1
         holds = output.partition("\n")[0] == line and status == wanted
         holds = holds and ("Doubtful:" in output) == any("Doubtful:" in it for it in said)
+        is_accused = line.startswith("refused") and "Doubtful:" not in output
+        holds = holds and ("Accused:" in output) == is_accused
         trial.check(f"tftp-explain, {name_of_case}", holds, (output, errors, status))
         for it in said:
             trial.check(f"tftp-explain, {name_of_case}, {it}", it in plain(output + errors), (output, errors))

@@ -4,7 +4,7 @@ from __future__ import annotations
 import json
 import subprocess
 from collections.abc import Sequence
-from dataclasses import dataclass
+from dataclasses import dataclass, field
 
 import recorded
 import repository  # noqa: F401
@@ -35,13 +35,14 @@ def recording(datagrams: Sequence[Datagram]) -> bytes:
 
 @dataclass(frozen=True)
 class Row:
-    """A verdict on a transfer, as the program says it."""
+    """A verdict on a transfer, as the program says it; which end it accuses is no part of it, where rows are compared."""
 
     number: int
     place: str
     frame: int | None
     verdict: str
     doubts: tuple[str, ...] = ()
+    accused: str = field(default="", compare=False)
 
     def is_accused(self) -> bool:
         return self.verdict.startswith("refused") and not self.doubts
@@ -49,7 +50,14 @@ class Row:
 
 def row_of(line: str) -> Row:
     it = json.loads(line)
-    return Row(it["number"], it["place"], it["frame"], it["verdict"], tuple(it["doubts"]))
+    row = Row(it["number"], it["place"], it["frame"], it["verdict"], tuple(it["doubts"]), ended(it["accused"]))
+    assert bool(row.accused) == row.is_accused(), line
+    return row
+
+
+def ended(it: dict[str, str | int] | None) -> str:
+    """The role and the endpoint of an end that is accused; nothing where none is."""
+    return f"{it['role']} {it['host']}:{it['port']}" if it else ""
 
 
 def said(program: str, words: Sequence[str], given: bytes) -> tuple[str, str, int]:

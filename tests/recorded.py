@@ -55,7 +55,8 @@ class Fragment:
 
 @dataclasses.dataclass
 class Frame:
-    """A frame as it was recorded: its bytes, how many it had, its time in nanoseconds since 1970, and its direction."""
+    """A frame as it was recorded: its bytes, how many it had, its time in nanoseconds since 1970, its direction, whether it
+    was received with a wrong checksum of its link, and how many packets were lost before it."""
 
     link: int
     content: bytes
@@ -64,6 +65,8 @@ class Frame:
     original: Optional[int] = None
     flags: Direction = "unknown"
     is_timed: bool = True
+    is_damaged: bool = False
+    missed: int = 0
 
 
 def udp(it: Datagram, length: Optional[int] = None, surplus: bytes = b"") -> bytes:
@@ -188,6 +191,16 @@ class Interface:
 
 
 Block = Union[Frame, bytes]
+# The flag of a packet that was received with a wrong checksum of Ethernet (draft-ietf-opsawg-pcapng, section 4.3.1).
+CRC_ERROR = 1 << 24
+# In an obsolete packet block the count of what was lost, where nobody counted.
+NO_COUNT = 0xFFFF
+
+
+def statistics(order: str, place: int, dropped: int, system: int) -> bytes:
+    """A statistics block: what an interface and the operating system dropped since the capture began (section 4.6)."""
+    told = options(order, (5, struct.pack(f"{order}Q", dropped)), (7, struct.pack(f"{order}Q", system)))
+    return block(order, 5, struct.pack(f"{order}III", place, 0, 0) + told)
 
 
 def section(order: str, interfaces: list[Interface], blocks: list[tuple[int, Block]], chance: random.Random) -> bytes:
@@ -209,7 +222,9 @@ def packet_block(order: str, place: int, interface: Interface, it: Frame, chance
     high, low = divmod(interface.ticks(it.time), 1 << 32)
     sizes = high, low, len(it.content), original
     if it.flags == "unknown" and chance.random() < 0.2:
-        return block(order, 2, struct.pack(f"{order}HHIIII", place, 0, *sizes) + content)
-    told = [(2, struct.pack(f"{order}I", DIRECTIONS[it.flags]))] if it.flags != "unknown" else []
+        return block(order, 2, struct.pack(f"{order}HHIIII", place, it.missed or NO_COUNT, *sizes) + content)
+    flags = DIRECTIONS[it.flags] | (CRC_ERROR if it.is_damaged else 0)
+    told = [(2, struct.pack(f"{order}I", flags))] if it.flags != "unknown" else []
+    told += [(4, struct.pack(f"{order}Q", it.missed))] if it.missed else []
     told += [(1, b"seen")] if chance.random() < 0.2 else []
     return block(order, 6, struct.pack(f"{order}IIIII", place, *sizes) + content + options(order, *told))

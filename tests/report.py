@@ -171,12 +171,14 @@ def try_others(trial: Trial, programs: Words, folder: pathlib.Path) -> None:
     words = try_whole(trial, "signs of HTML", output).text()
     holds = "TFTP in " in words and "<script>alert(" in words and "<img src=x>" in words and "<script" not in output
     trial.check("signs of HTML, as words", holds and (errors, status) == ("", 1), (words, errors))
+    is_told = f"Accused the client at {made.C}:40000, which sent the datagram." in words
+    trial.check("who is accused", is_told, words)
     path.write_bytes(made.file_of(made.asked_again()))
     output, _, status = run([*programs, path])
     words = Page(output).text()
     is_told = f"doubtful: refused datagram 2 rule {Rule.WINDOW_OVERRUN}" in words
     is_told = is_told and "Doubtful its client had asked the same and sent nothing else since" in words
-    trial.check("a doubt", is_told and status == 1, words)
+    trial.check("a doubt", is_told and "Accused" not in words and status == 1, words)
     for place in ((), ("--end", "between")):
         path.write_bytes(made.file_of(made.late_block()))
         output, errors, status = run([*programs, *place, path])

@@ -15,6 +15,7 @@ import os
 import pathlib
 import random
 import shlex
+import struct
 import subprocess
 import sys
 import tempfile
@@ -42,6 +43,8 @@ LISTED = """number client server kind mode file options datagrams frames
 """
 SOUND = "accepted get octet blocks 1 bytes 2"
 WHOLE = Row(1, "between", None, SOUND)
+ONE_WAY = "nothing that came to its client is there: one direction only"
+LED_ASTRAY = "its client did not go on with who sent it something first"
 AT_CLIENT, AT_SERVER, BETWEEN = ("--end", "client"), ("--end", "server"), ("--end", "between")
 
 
@@ -150,7 +153,7 @@ def try_fragments(trial: Trial, program: str) -> None:
             trial.check(f"fragments from {block.source}, {len(order)}", got == ([sound], "", 0), got)
         # Without block 1 the client acknowledges at a port from which nothing came.
         got = checked(program, file_of_packets([first, *pieces[:2], last]), *AT_CLIENT)
-        wanted = Row(1, "client", 4, refusal(2, Rule.WRONG_PORT), ("frame 2 is not there whole",))
+        wanted = Row(1, "client", 4, refusal(2, Rule.WRONG_PORT), (ONE_WAY, "frame 2 is not there whole"))
         holds = (got[0], got[2]) == ([wanted], 2) and "2 datagrams not there whole" in got[1]
         trial.check(f"a lost fragment from {block.source}", holds, got)
     passed = read("a", 40_000, 41_000)
@@ -167,7 +170,7 @@ def try_losses(trial: Trial, program: str) -> None:
     for it in frames:
         it.original, it.content = len(it.content), it.content[:96]
     got = checked(program, recorded.pcap(frames, is_nano=True, snaplen=96), *AT_CLIENT)
-    wanted = Row(1, "client", 3, refusal(2, Rule.WRONG_PORT), ("frame 2 is not there whole",))
+    wanted = Row(1, "client", 3, refusal(2, Rule.WRONG_PORT), (ONE_WAY, "frame 2 is not there whole"))
     trial.check("a recording with a small snaplen", (got[0], got[2]) == ([wanted], 2) and "(frame 2)" in got[1], got)
     given = recorded.pcap(frames, is_nano=True)
     output, told, status = said(program, ["text", "1", "client", "-"], given)
@@ -353,11 +356,11 @@ def try_doubts(trial: Trial, program: str) -> None:
         ("one host, between", at_one_host(late), BETWEEN, [Row(1, "between", None, sound)], 0),
         (
             "the same request again", asked_again(), AT_CLIENT,
-            [Row(1, "client", None, incomplete), Row(2, "client", 4, overrun, (again,))], 1,
+            [Row(1, "client", None, incomplete), Row(2, "client", 4, overrun, (again, LED_ASTRAY))], 1,
         ),
         (
             "the same request again, between", asked_again(), (),
-            [Row(1, "between", None, incomplete), Row(2, "between", 4, overrun, (again,))], 1,
+            [Row(1, "between", None, incomplete), Row(2, "between", 4, overrun, (again, LED_ASTRAY))], 1,
         ),
     )
     for name, passed, words, rows, status in cases:
@@ -378,6 +381,7 @@ class Passing(NamedTuple):
     between: str
     at_client: str = ""
     at_server: str = ""
+    doubts: tuple[str, ...] = ()
 
 
 def from_client(*packets: Packet) -> list[Datagram]:
@@ -413,7 +417,8 @@ def of_sending() -> Iterator[Passing]:
     written += from_client(last, first) + from_server(ack(2))
     back = refusal(6, Rule.GONE_BACK)
     yield Passing("a block of a write again, late", written, "accepted put octet blocks 2 bytes 513", at_client=back)
-    yield Passing("two blocks to one ACK", begun + from_server(first, last), refusal(3, Rule.WINDOW_OVERRUN))
+    overrun = refusal(3, Rule.WINDOW_OVERRUN)
+    yield Passing("two blocks to one ACK", begun + from_server(first, last), overrun, doubts=(LED_ASTRAY,))
     changed = begun + from_server(first) + from_client(ack(1)) + from_server(data(1, b":" * 512))
     yield Passing("a changed block", changed, refusal(4, Rule.BLOCK_CHANGED))
     ahead = begun + from_server(first) + from_client(ack(3))
@@ -428,7 +433,7 @@ def of_errors() -> Iterator[Passing]:
     no, full, gone = error(1, "no"), error(3, "full"), refusal(3, Rule.AFTER_ERROR)
     yield Passing("a missing file", begun + from_server(no, no), "aborted by server code 1", "aborted by peer code 1",
                   "aborted by local code 1")
-    yield Passing("a second, other ERROR", begun + from_server(no, full), gone)
+    yield Passing("a second, other ERROR", begun + from_server(no, full), gone, doubts=(LED_ASTRAY,))
     stopped = begun + from_server(first) + from_client(full)
     yield Passing("a client that gives up", stopped, "aborted by client code 3", "aborted by local code 3",
                   "aborted by peer code 3")
@@ -454,7 +459,7 @@ def of_strays() -> Iterator[Passing]:
     yield Passing("a stray and an answer", passed, SOUND)
     asked = Datagram(S, 43_000, C, 40_000, data(1, b"ho")[0])
     yield Passing("the answer with which the client went on", [request, asked, block, answer], SOUND,
-                  at_client=refusal(4, Rule.STRAY_ANSWER))
+                  at_client=refusal(4, Rule.STRAY_ANSWER), doubts=(LED_ASTRAY,))
 
 
 def try_between(trial: Trial, program: str) -> None:
@@ -468,7 +473,8 @@ def try_between(trial: Trial, program: str) -> None:
             place = words[1] if words else "between"
             frame = int(verdict.split()[2]) if verdict.startswith("refused") else None
             got = checked(program, given, *words)
-            rows, status = [Row(1, place, frame, verdict)], int(not verdict.startswith("accepted"))
+            doubts = it.doubts if frame else ()
+            rows, status = [Row(1, place, frame, verdict, doubts)], int(not verdict.startswith("accepted"))
             trial.check(f"{it.name}, {' '.join(words) or 'no end'}", got == (rows, "", status), got)
     passed = [Datagram("192.0.2.53", 1234, "192.0.2.54", 53, b"?"), *late_block()[:2]]
     passed += [dataclasses.replace(passed[0], payload=b"!"), *from_client(ack(3))]
@@ -482,6 +488,83 @@ def try_between(trial: Trial, program: str) -> None:
     verdicts = [(row.place, row.verdict) for row in rows]
     two = [("between", "accepted get octet blocks 2 bytes 513"), ("between", "incomplete after 1")]
     trial.check("a request again, late, begins another transfer", verdicts == two, rows)
+
+
+def try_accused(trial: Trial, program: str) -> None:
+    """A refusal names the end that sent the refused datagram; a doubtful one, and a stranger's, names nobody."""
+    begun = late_block()[:2]
+    changed = begun + from_client(ack(1)) + from_server(data(1, b":" * 512))
+    stranger = Datagram(THIRD, 41_000, C, 40_000, b"junk")
+    unanswered = [Datagram(C, 40_000, S, 69, read_request("a", "octet")[0][:-1])]
+    strays = [begun[0], stranger, *read("a", 40_000, 41_000)[1:]]
+    cases: tuple[tuple[str, list[Datagram], tuple[str, ...], str], ...] = (
+        ("a client", begun + from_client(ack(3)), (), "client 192.0.2.7:40000"),
+        ("a client, at the server", begun + from_client(ack(3)), AT_SERVER, "client 192.0.2.7:40000"),
+        ("a server", changed, (), "server 192.0.2.1:41000"),
+        ("a server, at the client", changed, AT_CLIENT, "server 192.0.2.1:41000"),
+        ("a client that asks wrongly, and is not answered", unanswered, (), "client 192.0.2.7:40000"),
+        ("nobody, where nothing is refused", read("a", 40_000, 41_000), (), ""),
+        ("nobody, where a stranger sent it", strays, AT_CLIENT, ""),
+        ("nobody, where it is doubtful", asked_again(), (), ""),
+    )
+    for name, passed, words, wanted in cases:
+        rows = checked(program, file_of(passed), *words)[0]
+        trial.check(f"{name} is accused", [row.accused for row in rows][-1] == wanted, rows)
+    strangers = checked(program, file_of(strays), *AT_CLIENT)[0][0]
+    why = "neither its client nor its server sent the datagram"
+    trial.check("a stranger's datagram", strangers.doubts == (why, LED_ASTRAY) and strangers.frame == 2, strangers)
+    six = read("a", 40_000, 41_000, (C_6, S_6))[:2] + [Datagram(C_6, 40_000, S_6, 41_000, ack(3)[0])]
+    table = said(program, ["check", "-"], file_of(six))[0]
+    cells = [" ".join(line.split()) for line in table.splitlines()]
+    listed = ["file number place frame accused verdict"]
+    listed.append(f"- 1 between 3 client [{C_6}]:40000 {refusal(3, Rule.ACK_AHEAD)}")
+    trial.check("who is accused, in the table", cells == listed, table)
+    output = said(program, ["check", "--json", "-"], file_of(six))[0]
+    accused = {"role": "client", "host": C_6, "port": 40_000}
+    trial.check("who is accused, in JSON", json.loads(output)["accused"] == accused, output)
+
+
+def try_final(trial: Trial, program: str) -> None:
+    """Whatever passes later, a row is the same: of a fragment that waits in vain, of one that comes in the end, and of
+    a frame that is cut."""
+    request, block, answer = read("a", 40_000, 41_000, content=b"." * 511)
+    parts = recorded.parts_of(recorded.udp(block), 400, 9)
+    one, other = [recorded.ipv4(block, content, part=part) for part, content in parts]
+    first, _, last = packets_of([request, block, answer])
+    later = packets_of([*read("b", 50_000, 51_000, (THIRD, S))] * 3)
+    cases: tuple[tuple[str, list[tuple[bytes, float]]], ...] = (
+        ("a fragment waits in vain", [(first, 0.0), (one, 0.1), (last, 0.2)]),
+        ("a fragment waits after the end", [(first, 0.0), (one, 299.0)]),
+        ("a fragment comes after the end", [(first, 0.0), (one, 299.0), (other, 301.0)]),
+        ("a frame is cut after the end", [(first, 0.0), (last[:-4], 700.0)]),
+    )
+    for name, passed in cases:
+        told = set()
+        for times in ((), (400.0,), (800.0, 801.0), (302.0, 303.0, 331.0), (331.0, 332.0, 900.0)):
+            behind = [(packet, time) for packet, time in zip(later, times) if time >= passed[-1][1]]
+            whole = [*passed, *behind]
+            frames = framed([packet for packet, _ in whole], [time for _, time in whole])
+            for frame in frames:
+                frame.original = len(frame.content) + 4 if frame.content == last[:-4] else None
+            told.add(checked(program, recorded.pcap(frames, is_nano=True))[0][0])
+        trial.check(f"{name}, whatever passes later", len(told) == 1, told)
+
+
+def try_dropped(trial: Trial, program: str) -> None:
+    """Packets that the recorder dropped, as it says at the end of a recording in blocks, make each refusal doubtful,
+    also that of a transfer that was over long before; they change nothing of what is accepted."""
+    passed = [*late_block()[:2], *from_client(ack(3)), *read("b", 50_000, 51_000, (THIRD, S))]
+    frames = framed(packets_of(passed), [0.0, 0.1, 0.2, 400.0, 400.1, 400.2])
+    interfaces, chance = [Interface(recorded.RAW, 9)], random.Random(1)
+    for order, (count, told) in itertools.product("<>", ((0, ""), (1, "1 packet"), (20, "20 packets"))):
+        counted = struct.pack(f"{order}III", 0, 0, 0) + recorded.options(order, (5, struct.pack(f"{order}Q", count)))
+        blocks: list[tuple[int, recorded.Block]] = [(0, frame) for frame in frames]
+        given = recorded.section(order, interfaces, [*blocks, (0, recorded.block(order, 5, counted))], chance)
+        rows, beside, status = checked(program, given)
+        doubts = (f"the recorder lost {told}",) if count else ()
+        wanted = [Row(1, "between", 3, refusal(3, Rule.ACK_AHEAD), doubts), dataclasses.replace(WHOLE, number=2)]
+        is_told = all(doubt in beside for doubt in doubts) and bool(beside) == bool(count)
+        trial.check(f"{count} packets dropped, {order}", rows == wanted and is_told and status == 1, (rows, beside))
 
 
 def try_words(trial: Trial, program: str) -> None:
@@ -584,7 +667,8 @@ def main(program: str, *refuse: str) -> int:
         try_growths(trial, program, one)
     for part in (
         try_examples, try_texts, try_links, try_fragments, try_losses, try_layers, try_sessions, try_live,
-        try_splitting, try_doubts, try_between, try_words, try_streams,
+        try_splitting, try_doubts, try_accused, try_final, try_dropped, try_between,
+        try_words, try_streams,
     ):
         part(trial, program)
     return trial.end()

@@ -62,6 +62,9 @@ def try_session(trial: Trial, tshark: Tshark) -> None:
     refused = refusal(3, Rule.ACK_AHEAD)
     found = tshark.rows(session, "-Y", "tftp_audit.rule")
     trial.check("a filter by rule", found == [("17", "3", "both", refused, "26")], found)
+    found = tshark.rows(session, "-Y", "tftp_audit.accused", fields=("frame.number", "tftp_audit.accused"))
+    wanted = [(str(frame), "client 192.0.2.1:34056") for frame in frames[3]]
+    trial.check("who is accused", found == wanted, found)
     found = tshark.rows(session, "-Y", 'tftp_audit.verdict matches "^accepted put"')
     trial.check("a filter by verdict", [row[0] for row in found] == [str(frame) for frame in frames[5]], found)
     rule = Rule.ACK_AHEAD
@@ -85,6 +88,8 @@ def try_made(trial: Trial, tshark: Tshark, folder: pathlib.Path) -> None:
     shown = tshark.run(path, "-V", "-Y", "tftp_audit.rule")
     is_warning = f"[Expert Info (Warning/Protocol): doubtful: rule {Rule.WINDOW_OVERRUN}" in shown
     trial.check("a doubt is a warning", is_warning, shown[-900:])
+    found = tshark.rows(path, "-Y", "tftp_audit.accused")
+    trial.check("a doubtful refusal accuses nobody", found == [], found)
     path.write_bytes(made.file_of(made.at_one_host(made.late_block())))
     accepted, refused = "accepted get octet blocks 2 bytes 513", refusal(5, Rule.GONE_BACK)
     for place, verdict in (("between", accepted), ("server", refused)):

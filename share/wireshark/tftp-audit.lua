@@ -3,6 +3,7 @@
 --
 --   tshark -X lua_script:tftp-audit.lua -r boot.pcap -Y tftp_audit.rule
 --   tshark -X lua_script:tftp-audit.lua -r boot.pcap -Y 'tftp_audit.verdict matches "^refused"'
+--   tshark -X lua_script:tftp-audit.lua -r boot.pcap -Y 'tftp_audit.accused matches "^server"'
 --
 -- It judges nothing: the program is run once for a recording, on its file. A live recording has no whole file yet, and is
 -- audited once it is saved and opened again.
@@ -83,6 +84,7 @@ local fields = {
     name = ProtoField.string("tftp_audit.rule.name", "Rule's name"),
     says = ProtoField.string("tftp_audit.rule.says", "Rule"),
     whose = ProtoField.string("tftp_audit.rule.whose", "Whose rule"),
+    accused = ProtoField.string("tftp_audit.accused", "Accused"),
     doubt = ProtoField.string("tftp_audit.doubt", "Doubt"),
 }
 audit.fields = fields
@@ -179,13 +181,25 @@ local function strings_of(list)
     return found
 end
 
+-- An address and a port as the program writes them.
+local function endpoint(address, port)
+    local host = tostring(address)
+    return (host:find(":", 1, true) and "[" .. host .. "]" or host) .. ":" .. port
+end
+
+-- The end that a row accuses, if it accuses one.
+local function accused_of(line)
+    local role, host, port = line:match('"accused":{"role":"(.-)","host":"(.-)","port":(%d+)}')
+    return role and role .. " " .. endpoint(host, port)
+end
+
 -- A row of verdicts.
 local function row_of(line)
     local verdict = line:match('"verdict":"(.-)"')
     return {
         number = tonumber(line:match('"number":(%d+)')), place = line:match('"place":"(.-)"'), verdict = verdict,
         frame = tonumber(line:match('"frame":(%d+)')), doubts = strings_of(line:match('"doubts":%[(.*)%]') or ""),
-        rule = tonumber(verdict and verdict:match("rule (%d+)")),
+        rule = tonumber(verdict and verdict:match("rule (%d+)")), accused = accused_of(line),
     }
 end
 
@@ -255,12 +269,6 @@ local function knowledge()
     return known
 end
 
--- An address and a port as the program writes them.
-local function endpoint(address, port)
-    local host = tostring(address)
-    return (host:find(":", 1, true) and "[" .. host .. "]" or host) .. ":" .. port
-end
-
 -- The transfer that a frame is of.
 local function transfer_at(number, ends)
     for _, it in ipairs(ends) do
@@ -292,6 +300,9 @@ end
 local function add_row(tree, row, number)
     tree:add(fields.place, row.place):set_generated()
     tree:add(fields.verdict, row.verdict):set_generated()
+    if row.accused then
+        tree:add(fields.accused, row.accused):set_generated()
+    end
     for _, doubt in ipairs(row.doubts) do
         tree:add(fields.doubt, doubt):set_generated()
     end
@@ -339,7 +350,8 @@ local function show_rows()
     for _, number in ipairs(numbers) do
         for _, row in ipairs(knowledge().rows[number]) do
             local frame = row.frame and "frame " .. row.frame or "-"
-            window:append(table.concat({ number, row.place, frame, row.verdict, table.concat(row.doubts, "; ") }, "\t") .. "\n")
+            local told = row.accused or table.concat(row.doubts, "; ")
+            window:append(table.concat({ number, row.place, frame, row.verdict, told }, "\t") .. "\n")
         end
     end
 end

@@ -66,7 +66,7 @@ class Doubt(NamedTuple):
     """Of refusals of a transfer from this datagram on, and why."""
 
     since: int
-    word: Literal["over", "late", "disordered", "again", "apart", "loose", "elsewhere", "first"]
+    word: Literal["over", "late", "disordered", "again", "apart", "loose", "elsewhere", "first", "unanswered"]
     why: str
 
 
@@ -80,6 +80,10 @@ class Transfer:
     beside: list[tuple[Datagram, Endpoint]] = field(default_factory=list)
     answered: Optional[Endpoint] = None
     went_on: Optional[Endpoint] = None
+    # the greatest time of what passed at the client
+    last_time: int = 0
+    is_answered: bool = False
+    is_left_out: bool = False
     is_followed: bool = False
     doubts: list[Doubt] = field(default_factory=list)
 
@@ -102,8 +106,16 @@ class Transfer:
     def doubts_at(self, end: EndName, number: int) -> list[str]:
         """Why a refusal at this datagram is no accusation."""
         told = [doubt.why for doubt in self.doubts if doubt.since <= number and (doubt.word != "first" or end == "server")]
-        if self.answered and not self.is_followed:
+        if not self.is_answered and number != self.seen[0].number:
+            told.append("nothing that came to its client is there: one direction only")
+        if self.is_left_out:
+            told.append("a frame is out of order, and by its time may be of this transfer")
+        if any(it.number == number and it.source != self.client and not self.is_with_server(it) for it in self.seen):
+            told.append("neither its client nor its server sent the datagram")
+        if any(it.number <= number and it.target == self.client for it in self.seen) and not self.is_followed:
             told.append("its client did not go on with who answered first")
+        if any(it.number == number and it.payload[:4] == ERROR_5 for it in self.seen):
+            told.append("it is an ERROR 5, by which an end answers what is none of its transfer")
         if end == "server" and any(it.number == number for it, _ in self.beside):
             told.append("it passed with another than the client, whose request may not have been recorded")
         ways = [it.way() for it in self.seen]
@@ -144,6 +156,11 @@ class Attribution:
     def __init__(self, named: Iterable[int] = ()) -> None:
         self.services = {69, *named}
         self.clock, self.count = 0, 0
+        # the last datagram's time, and the greatest that two in a row have reached
+        self.last, self.reached = 0, 0
+        # of what is of no transfer the greatest time at each endpoint, and the newest transfer of each client
+        self.left_out: dict[Endpoint, int] = {}
+        self.newest: dict[Endpoint, Transfer] = {}
         self.lines: dict[Endpoint, Line] = {}
         self.loose: dict[Endpoint, int] = {}
         self.served: dict[Endpoint, tuple[Transfer, int]] = {}
@@ -152,8 +169,21 @@ class Attribution:
 
     def take(self, it: Datagram) -> None:
         self.clock = max(self.clock, it.nanoseconds())
+        self.reached = max(self.reached, min(self.last, it.nanoseconds()))
+        self.last = it.nanoseconds()
         self.places.append(self.place_of(it))
         self.count += 1
+        if self.places[-1].kind == "nowhere":
+            self.leave_out(it)
+
+    def leave_out(self, it: Datagram) -> None:
+        """By its time it may be of its client's newest transfer, or of one that is asked for behind it."""
+        for end in (it.source, it.target):
+            one = self.newest.get(end)
+            if one and max(it.nanoseconds(), self.reached) <= one.last_time + SILENCE:
+                one.is_left_out = True
+            if begins(it.payload, *range(1, 7)):
+                self.left_out[end] = max(self.left_out.get(end, 0), it.nanoseconds())
 
     def line(self, client: Endpoint) -> Optional[Line]:
         line = self.lines.get(client)
@@ -176,6 +206,8 @@ class Attribution:
         one.seen.append(it)
         if it.nanoseconds() < self.clock:
             one.doubts.append(Doubt(0, "disordered", "its datagrams are not in the order of their times"))
+        one.last_time = max(one.last_time, it.nanoseconds())
+        one.is_answered |= it.target == one.client
 
     def asks(self, it: Datagram) -> bool:
         line = self.line(it.source)
@@ -189,12 +221,16 @@ class Attribution:
             line.moment = self.clock
             return line.latest
         one = Transfer(self.count, it.source, it.target)
+        one.is_left_out = self.left_out.get(it.source, 0) > it.nanoseconds()
+        self.newest[it.source] = one
         self.transfers.append(one)
         if self.clock <= self.loose.get(it.source, -2 * SILENCE) + SILENCE:
             one.doubts.append(Doubt(0, "loose", "its client's endpoint had talked before its request"))
         if line is None:
             self.lines[it.source] = Line(one, self.clock, it)
             return one
+        if line.latest.answered is None:
+            one.doubts.append(Doubt(0, "unanswered", "nobody had answered what its client had asked for before"))
         if line.only_asked and line.request.target == it.target and asked_part(line.request.payload) == asked_part(it.payload):
             why = "its client had asked the same and sent nothing else since: the transfer before goes on"
             one.doubts.append(Doubt(0, "again", why))

@@ -352,8 +352,10 @@ class Between:
 
 
 def doubts_of(one: Transfer, line: str) -> list[str]:
-    """Why a refusal between the ends is no accusation."""
+    """Why a refusal between the ends is no accusation, and what stops early there may be whole."""
     words = line.split()
+    if words[0] in ("incomplete", "aborted") and one.is_left_out:
+        return ["a frame is out of order, and by its time may be of this transfer"]
     if words[0] != "refused":
         return []
     unseen = [UNSEEN] if words[5] == Rule.STRAY_ANSWER.printed else []

@@ -15,7 +15,7 @@ MAGICS: dict[bytes, tuple[Literal["little", "big"], int]] = {
 ORDERS: dict[bytes, Literal["little", "big"]] = {b"\x1a\x2b\x3c\x4d": "big", b"\x4d\x3c\x2b\x1a": "little"}
 LONGEST_FRAME, LONGEST_BLOCK, MOST_INTERFACES = 262_144, 16_777_216, 65_536
 SECOND, PATIENCE, MOST_TIME = 1_000_000_000, 30_000_000_000, 1 << 64
-# A copy of a packet is among so many after it, and no more nanoseconds from it.
+# A copy of a packet is at another interface, among so many after it, and no more nanoseconds from it.
 NEXT, NEAR = 16, 1_000_000
 ROOM, LONGEST_PACKET = 1 << 26, 65_535
 IPV4, IPV6 = 4, 6
@@ -29,12 +29,15 @@ FLAGS = {1: "in", 2: "out"}
 
 
 class Frame(NamedTuple):
-    """What a recording says of a frame."""
+    """What a recording says of a frame; where is its section and the number of its interface there; is_damaged, whether it
+    was received with an error."""
 
+    where: tuple[int, int]
     link: int
     time: Optional[int]
     way: str
     content: bytes
+    is_damaged: bool = False
 
 
 class Fault(Exception):
@@ -42,29 +45,51 @@ class Fault(Exception):
 
 
 class Listing(NamedTuple):
-    """The lines of datagrams, the frames that are left out with the reason, and the fault at the end."""
+    """The lines of datagrams, the frames that are left out with the reason, the fault at the end, the frames that were
+    received with an error, and how many packets the recorder lost."""
 
     rows: list[str]
     left: list[tuple[int, str]]
     fault: str
+    damaged: list[int]
+    lost: int
 
 
 # ---- files
 
 
-def frames_of(file: bytes) -> tuple[list[Frame], str]:
-    """The frames of a file, and the fault that it ends with."""
+def frames_of(file: bytes) -> tuple[list[Frame], str, int]:
+    """The frames of a file, the fault that it ends with, and how many packets the recorder lost."""
     frames: list[Frame] = []
+    counts = Counts()
     try:
         if file[:4] == SECTION:
-            read_blocks(file, frames)
+            read_blocks(file, frames, counts)
         elif file[:4] in MAGICS:
             read_classic(file, frames)
         else:
             raise Fault("NotARecording")
     except Fault as fault:
-        return frames, str(fault)
-    return frames, ""
+        return frames, str(fault), counts.lost()
+    return frames, "", counts.lost()
+
+
+class Counts:
+    """How many packets were lost, by interface: the greatest count of its statistics, and the sum of its packets' counts."""
+
+    def __init__(self) -> None:
+        self.reported: dict[tuple[int, int], int] = {}
+        self.missed: dict[tuple[int, int], int] = {}
+
+    def report(self, where: tuple[int, int], count: int) -> None:
+        self.reported[where] = max(self.reported.get(where, 0), count)
+
+    def miss(self, where: tuple[int, int], count: int) -> None:
+        self.missed[where] = self.missed.get(where, 0) + count
+
+    def lost(self) -> int:
+        places = self.reported.keys() | self.missed.keys()
+        return min(MOST_TIME - 1, sum(max(self.reported.get(it, 0), self.missed.get(it, 0)) for it in places))
 
 
 def read_classic(file: bytes, frames: list[Frame]) -> None:
@@ -84,13 +109,16 @@ def read_classic(file: bytes, frames: list[Frame]) -> None:
             raise Fault("TooLong")
         if len(file) - at - 16 < size:
             raise Fault("Truncated")
-        frames.append(Frame(link, seconds * SECOND + fraction * unit, "unknown", file[at + 16 : at + 16 + size]))
+        time = seconds * SECOND + fraction * unit
+        frames.append(Frame((0, 0), link, time, "unknown", file[at + 16 : at + 16 + size]))
         at += 16 + size
 
 
 class Interface(NamedTuple):
-    """An interface: its link type, how many bytes it keeps, units of time in a second (0: none), seconds to add."""
+    """An interface: its section and its number there, its link type, how many bytes it keeps, units of time in a second
+    (0: none), seconds to add."""
 
+    where: tuple[int, int]
     link: int
     snaplen: int
     units: int
@@ -103,9 +131,9 @@ class Interface(NamedTuple):
         return moment if 0 <= moment < MOST_TIME else None
 
 
-def read_blocks(file: bytes, frames: list[Frame]) -> None:
+def read_blocks(file: bytes, frames: list[Frame], counts: Counts) -> None:
     """Blocks, one after another; the first one is a section header."""
-    at = 0
+    at = sections = 0
     order: Literal["little", "big"] = "little"
     interfaces: list[Interface] = []
     while at < len(file):
@@ -129,27 +157,41 @@ def read_blocks(file: bytes, frames: list[Frame]) -> None:
         if is_section:
             if len(body) < 16 or int.from_bytes(body[4:6], order) != 1:
                 raise Fault("Bad")
-            interfaces = []
+            interfaces, sections = [], sections + 1
         else:
-            read_block(order, int.from_bytes(file[at : at + 4], order), body, interfaces, frames)
+            read_block(order, int.from_bytes(file[at : at + 4], order), body, sections, interfaces, frames, counts)
         at += size
 
 
 Order = Literal["little", "big"]
 
 
-def read_block(order: Order, kind: int, body: bytes, interfaces: list[Interface], frames: list[Frame]) -> None:
-    """A block that is no section header: an interface, a frame, or what is skipped."""
+def read_block(
+    order: Order, kind: int, body: bytes, section: int, interfaces: list[Interface], frames: list[Frame], counts: Counts
+) -> None:
+    """A block that is no section header: an interface, a frame, what an interface lost, or what is skipped."""
     if kind == 1:
         if len(interfaces) == MOST_INTERFACES:
             raise Fault("Bad")
-        interfaces.append(interface_of(order, body))
+        interfaces.append(interface_of(order, (section, len(interfaces)), body))
     elif kind == 6:
         need(body, 4)
-        frames.append(timed(order, named(interfaces, int.from_bytes(body[:4], order)), body[4:]))
+        interface = named(interfaces, int.from_bytes(body[:4], order))
+        frame, told = timed(order, interface, body[4:])
+        frames.append(frame)
+        counts.miss(interface.where, counter_of(order, told, 4))
     elif kind == 2:
         need(body, 4)
-        frames.append(timed(order, named(interfaces, int.from_bytes(body[:2], order)), body[4:]))
+        interface, count = named(interfaces, int.from_bytes(body[:2], order)), int.from_bytes(body[2:4], order)
+        frame, _ = timed(order, interface, body[4:])
+        frames.append(frame)
+        counts.miss(interface.where, count if count != 0xFFFF else 0)
+    elif kind == 5:
+        need(body, 12)
+        interface = named(interfaces, int.from_bytes(body[:4], order))
+        told = options_of(order, body[12:])
+        both = counter_of(order, told, 5) + counter_of(order, told, 7)
+        counts.report(interface.where, min(MOST_TIME - 1, both))
     elif kind == 3:
         need(body, 4)
         first, size = named(interfaces, 0), int.from_bytes(body[:4], order)
@@ -157,7 +199,7 @@ def read_block(order: Order, kind: int, body: bytes, interfaces: list[Interface]
         need(body, 4 + kept + -kept % 4)
         if kept > LONGEST_FRAME:
             raise Fault("Bad")
-        frames.append(Frame(first.link, None, "unknown", body[4 : 4 + kept]))
+        frames.append(Frame(first.where, first.link, None, "unknown", body[4 : 4 + kept]))
 
 
 def need(body: bytes, size: int) -> None:
@@ -190,7 +232,12 @@ def first_of(told: list[tuple[int, bytes]], code: int, size: int) -> Optional[by
     return next((value for it, value in told if it == code and len(value) == size), None)
 
 
-def interface_of(order: Order, body: bytes) -> Interface:
+def counter_of(order: Order, told: list[tuple[int, bytes]], code: int) -> int:
+    """A counter of 64 bits; 0 where it is not there."""
+    return int.from_bytes(first_of(told, code, 8) or b"", order)
+
+
+def interface_of(order: Order, where: tuple[int, int], body: bytes) -> Interface:
     need(body, 8)
     told = options_of(order, body[8:])
     unit, offset = first_of(told, 9, 1), first_of(told, 14, 8)
@@ -199,11 +246,11 @@ def interface_of(order: Order, body: bytes) -> Interface:
         units = 1 << (unit[0] & 127) if unit[0] & 128 else int(10 ** unit[0])
         units = units if units < MOST_TIME else 0
     seconds = int.from_bytes(offset, order, signed=True) if offset else 0
-    return Interface(int.from_bytes(body[:2], order), int.from_bytes(body[4:8], order), units, seconds)
+    return Interface(where, int.from_bytes(body[:2], order), int.from_bytes(body[4:8], order), units, seconds)
 
 
-def timed(order: Order, interface: Interface, body: bytes) -> Frame:
-    """Two halves of the time, the captured length, the original length, the frame, padding, and options."""
+def timed(order: Order, interface: Interface, body: bytes) -> tuple[Frame, list[tuple[int, bytes]]]:
+    """Two halves of the time, the captured length, the original length, the frame, padding, and options, which are told."""
     need(body, 16)
     high, low, size = (int.from_bytes(body[k : k + 4], order) for k in (0, 4, 8))
     end = 16 + size + -size % 4
@@ -212,8 +259,10 @@ def timed(order: Order, interface: Interface, body: bytes) -> Frame:
     if size > LONGEST_FRAME:
         raise Fault("Bad")
     flags = first_of(told, 2, 4)
-    way = FLAGS.get(int.from_bytes(flags, order) % 4, "unknown") if flags else "unknown"
-    return Frame(interface.link, interface.time((high << 32) + low), way, body[16 : 16 + size])
+    flag = int.from_bytes(flags, order) if flags else 0
+    way, time = FLAGS.get(flag % 4, "unknown"), interface.time((high << 32) + low)
+    frame = Frame(interface.where, interface.link, time, way, body[16 : 16 + size], flag >= 1 << 16)
+    return frame, told
 
 
 # ---- frames
@@ -399,6 +448,15 @@ class Waiting:
         return self.end is not None and len(self.cells) == self.end
 
 
+# Where a frame was recorded: its section, its interface there, and the number that its link header names.
+Place = tuple[int, int, int]
+
+
+def place_of(frame: Frame) -> Place:
+    is_named = frame.link == 276 and len(frame.content) >= 20
+    return *frame.where, number(frame.content, 4, 4) if is_named else 0
+
+
 # The protocol tells packets of IPv4 apart alone (RFC 8200, section 4.5).
 Key = tuple[bytes, bytes, Optional[int], int]
 
@@ -408,7 +466,7 @@ class Reader:
 
     def __init__(self) -> None:
         self.waiting: dict[Key, Waiting] = {}
-        self.last: list[tuple[Optional[int], bytes]] = []
+        self.last: list[tuple[Place, Optional[int], bytes]] = []
         self.rows: list[str] = []
         self.left: list[tuple[int, str]] = []
 
@@ -419,8 +477,8 @@ class Reader:
         """A frame, by its number."""
         try:
             packet = packet_of(frame)
-            is_one = self.is_one(frame.time, packet.whole)
-            self.last = [*self.last, (frame.time, packet.whole)][-NEXT:]
+            is_one = self.is_one(place_of(frame), frame.time, packet.whole)
+            self.last = [*self.last, (place_of(frame), frame.time, packet.whole)][-NEXT:]
             if is_one and is_identified(packet):
                 raise Fault("Copy")
             if packet.part:
@@ -430,9 +488,9 @@ class Reader:
         except Fault as fault:
             self.leave([at], str(fault))
 
-    def is_one(self, time: Optional[int], whole: bytes) -> bool:
-        """Whether a packet is one with one of the last."""
-        times = [other for other, it in self.last if it == whole]
+    def is_one(self, place: Place, time: Optional[int], whole: bytes) -> bool:
+        """Whether a packet is one with one of the last, at another interface."""
+        times = [other for there, other, it in self.last if it == whole and there != place]
         return time is not None and any(other is not None and abs(other - time) <= NEAR for other in times)
 
     def take_part(self, at: int, frame: Frame, packet: Packet, part: Part) -> None:
@@ -482,10 +540,12 @@ def written(address: bytes) -> str:
 
 def listing(file: bytes) -> Listing:
     """What a recording holds."""
-    frames, fault = frames_of(file)
+    frames, fault, lost = frames_of(file)
     reader = Reader()
     for at, frame in enumerate(frames, 1):
         reader.take(at, frame)
     for it in reader.waiting.values():
         reader.leave(it.frames, "FragmentMissing")
-    return Listing(reader.rows, sorted(reader.left), f"fault {len(frames) + 1} {fault}" if fault else "")
+    damaged = [at for at, frame in enumerate(frames, 1) if frame.is_damaged]
+    ends = f"fault {len(frames) + 1} {fault}" if fault else ""
+    return Listing(reader.rows, sorted(reader.left), ends, damaged, lost)

@@ -187,8 +187,7 @@ def pictures(it: Entry) -> str:
 
 def section(it: Entry, is_drawn: bool) -> str:
     """What is said of a transfer, with its pictures where they are drawn."""
-    told = explain(it.judged.verdict, it.judged.text, it.capture)
-    told = [*told, *(("Doubtful", doubt) for doubt in it.judged.doubts)]
+    told = [*explain(it.judged.verdict, it.judged.text, it.capture), *it.judged.told()]
     if it.file:
         told.append(("File", f"{it.file.told()}."))
     name = f"t{it.number()}"

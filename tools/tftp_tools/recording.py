@@ -28,6 +28,19 @@ NUMBERS = ("number", "datagrams", "first_frame", "last_frame")
 
 
 @dataclass(frozen=True)
+class Accused:
+    """The end that a refusal accuses: its role, and the host and the port from which it sent."""
+
+    role: str
+    host: str
+    port: int
+
+    def told(self) -> str:
+        host = f"[{self.host}]" if ":" in self.host else self.host
+        return f"the {self.role} at {host}:{self.port}, which sent the datagram"
+
+
+@dataclass(frozen=True)
 class Row:
     """What tftp-transfers says of a transfer at the place where it was recorded."""
 
@@ -36,6 +49,7 @@ class Row:
     verdict: str
     doubts: tuple[str, ...]
     frame: Optional[int] = None
+    accused: Optional[Accused] = None
 
     def is_refused(self) -> bool:
         return self.verdict.startswith("refused ")
@@ -80,6 +94,15 @@ class Judged:
     def is_between(self) -> bool:
         return self.place == "between"
 
+    def accused(self) -> Optional[Accused]:
+        """The end that the refusal accuses; a capture text does not tell where its own end is."""
+        return self.row.accused if self.row else None
+
+    def told(self) -> list[tuple[str, str]]:
+        """Whom the refusal accuses, or why it accuses nobody: pairs of a heading and words."""
+        accused = self.accused()
+        return ([("Accused", f"{accused.told()}.")] if accused else []) + [("Doubtful", doubt) for doubt in self.doubts]
+
     def capture(self) -> Capture:
         return read_capture(self.text, self.is_between())
 
@@ -89,10 +112,15 @@ def is_recording(begins: bytes) -> bool:
     return begins.startswith(MAGICS)
 
 
+def accused_of(it: Optional[dict[str, Any]]) -> Optional[Accused]:
+    return Accused(str(it["role"]), str(it["host"]), int(it["port"])) if it is not None else None
+
+
 def row_of(it: dict[str, Any]) -> Row:
     """A row of verdicts, which is an object of JSON."""
     frame = int(it["frame"]) if it["frame"] is not None else None
-    return Row(int(it["number"]), str(it["place"]), str(it["verdict"]), tuple(map(str, it["doubts"])), frame)
+    doubts, accused = tuple(map(str, it["doubts"])), accused_of(it["accused"])
+    return Row(int(it["number"]), str(it["place"]), str(it["verdict"]), doubts, frame, accused)
 
 
 def listed_of(it: dict[str, Any]) -> Listed:

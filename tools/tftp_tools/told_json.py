@@ -2,6 +2,7 @@
 from __future__ import annotations
 
 import json
+from dataclasses import asdict
 from typing import Any, Optional
 
 from .capture import Datagram
@@ -50,10 +51,10 @@ def what_if_object(it: Remarks) -> Object:
 
 def explained_object(path: str, judged: Judged, remarks: Optional[Remarks]) -> Object:
     capture, verdict, row = judged.capture(), judged.verdict, judged.row
-    found = verdict.refused()
+    found, accused = verdict.refused(), judged.accused()
     return {
         "file": path, "number": row.number if row else None, "end": judged.place, "verdict": verdict.line,
-        "status": verdict.status, "doubts": list(judged.doubts),
+        "status": verdict.status, "accused": asdict(accused) if accused else None, "doubts": list(judged.doubts),
         "refused": refused_object(capture.datagrams[found[0] - 1], verdict) if found else None,
         "told": told_objects(explain(verdict, judged.text, capture)),
         "what_if": what_if_object(remarks) if remarks else None,

@@ -16,6 +16,14 @@ pub struct Blamed {
     pub is_late: bool,
     /// Whether it passed with another than the client.
     pub is_beside: bool,
+    /// Whether something had come to the client by then.
+    pub is_answered: bool,
+    /// Whether its client sent it to where nothing had passed between the two.
+    pub speaks_first: bool,
+    /// Whether it is an ERROR 5, "Unknown transfer ID" (RFC 1350, section 5).
+    pub is_unknown_id: bool,
+    /// Where the datagram came from.
+    pub source: Endpoint,
 }
 
 /// What has been refused by now: the numbers of the datagrams, where judges have held some back till now.

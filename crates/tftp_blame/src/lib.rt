@@ -2,14 +2,17 @@
 #![tactic(auto)]
 
 mod blame;
+mod doubted;
+mod intact;
+mod missing;
 mod passing;
-mod reasons;
-mod span;
+mod reason;
 mod trail;
 mod twice;
 
 pub use blame::Blamed;
+pub use doubted::{Doubted, put_if};
+pub use missing::Missing;
 pub use passing::{Passing, about};
-pub use reasons::{Doubted, put_unseen};
-pub use span::Span;
+pub use reason::Reason;
 pub use trail::Trail;

@@ -11,6 +11,10 @@ pub struct Passing<'a> {
     pub time: Option<u64>,
     /// Whether it may be a copy of the datagram before it.
     pub is_doubtful: bool,
+    /// Whether it was received with an error of its link, so that its host discarded it.
+    pub has_error: bool,
+    /// Whether its checksums are right, where they are there (RFC 768; RFC 791, section 3.1).
+    pub is_intact: Option<bool>,
     /// Where it came from.
     pub source: Endpoint,
     /// Where it went.

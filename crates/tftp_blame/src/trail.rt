@@ -1,9 +1,10 @@
 //! What is kept of a transfer beside its judges.
 
 use crate::blame::{Blame, Blamed, Refused};
+use crate::doubted::Doubted;
+use crate::intact::Intact;
+use crate::missing::Missing;
 use crate::passing::Passing;
-use crate::reasons::Doubted;
-use crate::span::Span;
 use crate::twice::Twice;
 use std::alloc::{AllocError, Global};
 use tftp_blocks::RingDelivered;
@@ -26,10 +27,23 @@ pub struct Trail {
     pub last: u64,
     /// How many these are.
     pub count: u64,
-    ends: TransferEnds,
+    /// The greatest time of these, in nanoseconds since 1970; 0 where none is told.
+    pub last_time: u64,
+    /// Who its ends are, as far as it was read.
+    pub ends: TransferEnds,
+    /// Whether something came to the client.
+    is_answered: bool,
+    /// The frame of what was left out, and may be of it by its time.
+    left_out: Option<u64>,
     twice: Twice,
     /// The frame of a datagram that may be a copy.
     copied_from: Option<u64>,
+    /// The frame of a datagram that was received with an error.
+    damaged: Option<u64>,
+    /// What the checksums say of what its client sent.
+    from_client: Intact,
+    /// The same of what came to its client.
+    to_client: Intact,
     blame: Blame,
 }
 
@@ -42,9 +56,15 @@ impl Trail {
             first: frame,
             last: frame,
             count: 0,
+            last_time: 0,
             ends: TransferEnds::new(transfer.number),
+            is_answered: false,
+            left_out: None,
             twice: Twice::new(alloc),
             copied_from: None,
+            damaged: None,
+            from_client: Intact::new(),
+            to_client: Intact::new(),
             blame: Blame::new(alloc),
         }
     }
@@ -57,27 +77,54 @@ impl Trail {
         watched: &Watched<RingDelivered>,
     ) -> Result<(), AllocError> {
         if found.place.transfer().is_some() {
-            self.count = self.count.saturating_add(1);
-            self.last = passing.frame;
-            self.twice.note(passing)?;
+            self.note_own(passing)?;
         }
         if passing.is_doubtful && self.copied_from.is_none() {
             self.copied_from = Some(passing.frame);
         }
-        self.note_blame(found.place, passing, watched)
+        if passing.has_error && self.damaged.is_none() {
+            self.damaged = Some(passing.frame);
+        }
+        self.note_blame(found, passing, watched)
+    }
+
+    /// Notes a datagram at its client.
+    fn note_own(&mut self, passing: &Passing<'_>) -> Result<(), AllocError> {
+        self.count = self.count.saturating_add(1);
+        self.last = passing.frame;
+        self.last_time = self.last_time.max(passing.time.unwrap_or(0));
+        if passing.target == self.transfer.client {
+            self.is_answered = true;
+            self.to_client.note(passing.frame, passing.is_intact);
+        } else {
+            self.from_client.note(passing.frame, passing.is_intact);
+        }
+        self.twice.note(passing)
+    }
+
+    /// Notes that a datagram at its client's endpoint was left out, whose time is within the transfer's.
+    pub fn leave_out(&mut self, frame: u64) {
+        if self.left_out.is_none() {
+            self.left_out = Some(frame);
+        }
     }
 
     /// Notes at which frame it was refused.
     fn note_blame(
         &mut self,
-        place: Place,
+        found: &Attributed,
         passing: &Passing<'_>,
         watched: &Watched<RingDelivered>,
     ) -> Result<(), AllocError> {
+        let place = found.place;
         let blamed = Blamed {
             frame: passing.frame,
             is_late: watched.doubts().is_late(),
             is_beside: matches!(place, Place::Beside(_)),
+            is_answered: watched.doubts().comes_in(),
+            speaks_first: found.doubts.speaks_first,
+            is_unknown_id: matches!(passing.payload, [0, 5, 0, 5, ..]),
+            source: passing.source,
         };
         let refused = refused_by(watched);
         self.blame.note_client(blamed, &refused);
@@ -100,13 +147,17 @@ impl Trail {
     }
 
     /// What makes a verdict doubtful, beside its own doubts; of its client's datagrams these may be missing.
-    pub fn doubted(&self, doubts: TransferDoubts, lost: Option<Span>) -> Doubted {
+    pub fn doubted(&self, doubts: TransferDoubts, missing: Missing) -> Doubted {
         Doubted {
             doubts,
             is_twice: self.twice.are_all_twice(),
-            copied_from: self.copied_from,
             begins: self.first,
-            lost,
+            is_one_way: !self.is_answered,
+            copied_from: self.copied_from,
+            damaged: self.damaged,
+            discarded: least(self.from_client.discarded(), self.to_client.discarded()),
+            left_out: self.left_out,
+            missing,
         }
     }
 
@@ -123,6 +174,15 @@ impl Trail {
     /// Where what passed between the ends was refused.
     pub fn between(&self, verdict: &Result<Meaning, TapRefusal>) -> Option<Blamed> {
         self.blame.between(verdict)
+    }
+}
+
+/// The lesser of two frames, where there is one.
+fn least(one: Option<u64>, other: Option<u64>) -> Option<u64> {
+    match (one, other) {
+        (Some(one), Some(other)) => Some(one.min(other)),
+        (one, None) => one,
+        (None, other) => other,
     }
 }
 

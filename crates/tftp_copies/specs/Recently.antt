@@ -5,7 +5,7 @@ use Rattle.tftp_copies.specs.Copies.{Packet}
 use Rattle.tftp_copies.specs.declared.recent.Held.{Held}
 
 abbrev pub shown : Held → Packet
-shown h = record { time = h.time; bytes = h.bytes.items }
+shown h = record { interface = h.interface; time = h.time; bytes = h.bytes.items }
 
 -- the packets that are held, the last one first, and for how many bytes of the next one there is room
 pub record RecentState : Type 0 where

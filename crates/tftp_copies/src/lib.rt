@@ -1,8 +1,10 @@
-//! Copies of packets in a recording that was taken at several interfaces of a host.
+//! Copies of packets in a recording that was made at several interfaces of a host.
 #![tactic(auto)]
 
+mod interface;
 mod laws;
 mod recent;
 
+pub use interface::Interface;
 pub use laws::{copy_came_before, near_packet_is_told, worked_copies};
 pub use recent::Recent;

@@ -5,6 +5,7 @@ ghost use Rattle.tftp_copies.specs.Copies.{Packet, AreNear, AreOne, IsCopy};
 ghost use Rattle.tftp_copies.specs.Recently.{StandsFor, shown};
 ghost use Rattle.tftp_copies.specs.declared.recent.Held.{Held};
 
+use crate::interface::Interface;
 use std::alloc::{AllocError, Global};
 use std::collections::VecDeque;
 use std::marker::Model;
@@ -20,16 +21,17 @@ const NEAR: u64 = 1_000_000;
 /// A packet that is held.
 #[derive(Drop)]
 struct Held {
+    interface: Interface,
     time: Option<u64>,
     bytes: Vec<u8>,
 }
 
 impl Held {
     /// Whether it is one with a packet.
-    fn is_one_with(&self, time: Option<u64>, bytes: &[u8]) -> bool
-        ensures { IsTrue result ↔ AreOne (record { time = time; bytes = bytes.now }) (shown self.now) }
+    fn is_one_with(&self, interface: Interface, time: Option<u64>, bytes: &[u8]) -> bool
+        ensures { IsTrue result ↔ AreOne (record { interface = interface; time = time; bytes = bytes.now }) (shown self.now) }
     {
-        are_near(time, self.time) && self.bytes.as_slice() == bytes
+        interface != self.interface && are_near(time, self.time) && self.bytes.as_slice() == bytes
     }
 }
 
@@ -75,34 +77,44 @@ impl Recent {
         })
     }
 
-    /// Whether a packet is the copy of one of the 16 before it: the same bytes, from the IP header on, at times no more than
-    /// 1 ms apart. A packet without a time is none. The time counts nanoseconds. From now on it is held, copy or not.
+    /// Whether a packet is the copy of one of the 16 before it: the same bytes, from the IP header on, at another interface,
+    /// at times no more than 1 ms apart. A packet without a time is none. The time counts nanoseconds. From now on it is held,
+    /// copy or not.
     pub fn take(
         &mut self,
         alloc: Global,
+        interface: Interface,
         time: Option<u64>,
         bytes: &[u8],
     ) -> Result<bool, AllocError>
-        ensures copy { IfOk result (λ copy. (came : List Packet) → StandsFor self.old came → IsTrue copy ↔ IsCopy came (record { time = time; bytes = bytes.now })) }
-        ensures held { IfOk result (λ copy. (came : List Packet) → StandsFor self.old came → StandsFor self.new (record { time = time; bytes = bytes.now } ∷ came)) }
+        ensures copy { IfOk result (λ copy. (came : List Packet) → StandsFor self.old came → IsTrue copy ↔ IsCopy came (record { interface = interface; time = time; bytes = bytes.now })) }
+        ensures held { IfOk result (λ copy. (came : List Packet) → StandsFor self.old came → StandsFor self.new (record { interface = interface; time = time; bytes = bytes.now } ∷ came)) }
         ensures err { OnErr result (self.new ≡ self.old) }
         ensures wants { OnErr result (self.old.room < length bytes.now) }
     {
-        let copy = self.has_one_with(time, bytes);
-        self.hold(alloc, time, bytes)?;
+        let copy = self.has_one_with(interface, time, bytes);
+        self.hold(alloc, interface, time, bytes)?;
         Ok(copy)
     }
 
     /// Whether a packet that is held is one with it.
-    fn has_one_with(&self, time: Option<u64>, bytes: &[u8]) -> bool
-        ensures { IsTrue result ↔ Any (AreOne (record { time = time; bytes = bytes.now })) self.now.held }
+    fn has_one_with(&self, interface: Interface, time: Option<u64>, bytes: &[u8]) -> bool
+        ensures { IsTrue result ↔ Any (AreOne (record { interface = interface; time = time; bytes = bytes.now })) self.now.held }
     {
-        self.held.iter().any(|held| held.is_one_with(time, bytes))
+        self.held
+            .iter()
+            .any(|held| held.is_one_with(interface, time, bytes))
     }
 
     /// Holds a packet, in place of the oldest where there are 16.
-    fn hold(&mut self, alloc: Global, time: Option<u64>, bytes: &[u8]) -> Result<(), AllocError>
-        ensures held { OnOk result ((came : List Packet) → StandsFor self.old came → StandsFor self.new (record { time = time; bytes = bytes.now } ∷ came)) }
+    fn hold(
+        &mut self,
+        alloc: Global,
+        interface: Interface,
+        time: Option<u64>,
+        bytes: &[u8],
+    ) -> Result<(), AllocError>
+        ensures held { OnOk result ((came : List Packet) → StandsFor self.old came → StandsFor self.new (record { interface = interface; time = time; bytes = bytes.now } ∷ came)) }
         ensures err { OnErr result (self.new ≡ self.old) }
         ensures wants { OnErr result (self.old.room < length bytes.now) }
     {
@@ -111,6 +123,7 @@ impl Recent {
         self.spare.extend_from_slice(bytes)?;
         let next = memory_of_oldest(alloc, &mut self.held);
         self.held.push_front_reserved(Held {
+            interface,
             time,
             bytes: mem::replace(&mut self.spare, next),
         });

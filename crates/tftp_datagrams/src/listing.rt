@@ -2,7 +2,7 @@ use std::alloc::Global;
 use std::io;
 use tftp_fragments::Fragments;
 use tftp_pcap::{Direction, PcapFault};
-use tftp_recording::{Datagram, Event, Fate, LeftOut, RecordingReader};
+use tftp_recording::{Checksum, Datagram, Event, Fate, LeftOut, RecordingReader};
 use tftp_streams::Latched;
 
 /// Lists what a recording has; whether it is one to its end.
@@ -18,10 +18,12 @@ pub fn list(rt: HostRuntime) -> io::Result<bool> {
         match recording.next_into(alloc, &mut reader, &mut event) {
             Ok(true) => put_event(rt, &mut event)?,
             Ok(false) => {
+                put_lost(rt, recording.lost())?;
                 put_waiting(rt, recording.into_waiting(), "FragmentMissing")?;
                 return Ok(true);
             }
             Err(fault) => {
+                put_lost(rt, recording.lost())?;
                 put_waiting(rt, recording.into_waiting(), "FragmentMissing")?;
                 return put_fault(rt, fault);
             }
@@ -34,6 +36,14 @@ pub fn list(rt: HostRuntime) -> io::Result<bool> {
 fn put_fault(rt: HostRuntime, fault: PcapFault) -> io::Result<bool> {
     println!(rt; "fault {} {:?}", fault.frame, fault.kind)?;
     Ok(false)
+}
+
+/// How many packets the recorder says it lost, if any.
+fn put_lost(rt: HostRuntime, count: u64) -> io::Result<()> {
+    if count == 0 {
+        return Ok(());
+    }
+    println!(rt; "lost {count}")
 }
 
 /// The frames of fragments that are left out.
@@ -57,10 +67,16 @@ fn put_left(rt: HostRuntime, frames: &[u64], kind: &str) -> io::Result<()> {
 
 /// What became of a frame, and of which frames it decided.
 fn put_event(rt: HostRuntime, event: &mut Event) -> io::Result<()> {
+    if event.has_error() {
+        println!(rt; "damaged {}", event.number())?;
+    }
     put_left(rt, event.old(), "FragmentOld")?;
     put_waiting(rt, event.take_ousted(rt.alloc()), "FragmentFull")?;
     match event.fate() {
-        Fate::Datagram(datagram) => put_datagram(rt, event, &datagram),
+        Fate::Datagram(datagram) => {
+            put_checksum(rt, event)?;
+            put_datagram(rt, event, &datagram)
+        }
         Fate::Left(why) => put_left_out(rt, event, why),
         Fate::Waits => Ok(()),
     }
@@ -94,6 +110,15 @@ fn put_shared(rt: HostRuntime, event: &Event, kind: &str) -> io::Result<()> {
         put_left(rt, &[event.number()], kind)
     } else {
         put_left(rt, event.sharers(), kind)
+    }
+}
+
+/// What the checksums of a datagram say, unless they are right.
+fn put_checksum(rt: HostRuntime, event: &Event) -> io::Result<()> {
+    match event.checksum() {
+        Checksum::Right => Ok(()),
+        Checksum::Absent => println!(rt; "checksum {} absent", event.number()),
+        Checksum::Wrong => println!(rt; "checksum {} wrong", event.number()),
     }
 }
 

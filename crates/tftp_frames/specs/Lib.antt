@@ -5,19 +5,23 @@ pub mod Extension
 pub mod Ip
 pub mod Frame
 pub mod UdpDatagrams
+pub mod Checksums
 pub mod Parts
 pub mod Faults
 pub mod Worked
 pub use Number.{at, pair}
 pub use Tag.{LeadsOver, LeadsTo, is_tag_type}
-pub use Link.{Carries, CarriesTyped, Linked, SpellsLink, direction_said, least, link_named, packet_direction, type_network}
+pub use Link.{Carries, CarriesTyped, Linked, SpellsLink, direction_said, index_of, least, link_named, packet_direction, type_network}
 pub use Extension.{IsSkipped, Reached, ReachesOver, Stops, StopsAfter, fragment_header, fragment_of, is_atomic, is_extension, skipped_size}
 pub use Ip.{HasHeader, Packet, Reaches, SpellsIp, held_of, is_identified, may_be_udp, packet_of, size_of, source_of, target_of, total_of}
 pub use Frame.{IsBetween, IsLinked, SpellsFrame}
 pub use UdpDatagrams.{HasUdp, HoldsUdp, IsSized, IsSound, JudgesUdp, SpellsUdp, Udp, datagram}
+pub use Checksums.{address_bytes, checksum_of, in_ones_complement, is_headed_right, is_right, none_made, udp_checksum, udp_sum, verdict, word_sum}
 pub use Parts.{linked, reached, shown}
 pub use Faults.{FirstFault, FirstIpFault, Holds, HoldsIp, IsNotWhole, Judges, JudgesIp, place}
-pub use Worked.{acknowledgement, cooked_head, host, ipv4_bytes, ipv4_fragment, ipv4_packet, ipv4_with_options, ipv6_fragment, ipv6_fragment_of_icmp, ipv6_part, ipv6_with_extensions, two_tags, udp_bytes, udp_bytes_of_ipv6}
+pub use Worked.{acknowledgement, cooked_head, host, ipv4_bytes, ipv4_fragment, ipv4_packet, ipv4_with_options, ipv6_fragment, ipv6_fragment_of_icmp, ipv6_part, ipv6_with_extensions, two_tags, udp_bytes, udp_bytes_of_ipv6, udp_of_three}
+pub use declared.checksum.Checksum.{Checksum}
+pub use declared.checksum.Checksum.TheVariants.{Absent, Right, Wrong}
 pub use declared.extension.Upper.{Upper}
 pub use declared.fault.FrameFault.{FrameFault}
 pub use declared.fault.FrameFault.TheVariants.{Cut}

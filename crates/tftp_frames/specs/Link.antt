@@ -1,5 +1,5 @@
 -- How the frames of each link begin (tcpdump.org/linktypes.html), and what they carry.
-use Rattle.std.specs.Prelude.{◌≡◌, ◌+◌, ◌*◌, ◌/◌, ◌≤◌, ◌==◌, ◌||◌, ℕ, List, length, drop, Option, Some, None, if◌then◌else◌}
+use Rattle.std.specs.Prelude.{◌≡◌, ◌+◌, ◌*◌, ◌/◌, ◌≤◌, ◌==◌, ◌||◌, ◌&&◌, nat_lt, ℕ, List, length, drop, Option, Some, None, if◌then◌else◌}
 use Rattle.tftp_frames.specs.Number.{at, pair, four}
 use Rattle.tftp_frames.specs.Tag.{LeadsTo}
 use Rattle.tftp_frames.specs.declared.link.LinkType.{LinkType}
@@ -65,6 +65,10 @@ abbrev pub direction_said : LinkType → List ℕ → Direction
 direction_said Cooked frame = packet_direction (pair frame 0)
 direction_said CookedTwo frame = packet_direction (at frame 10)
 direction_said _ frame = Unknown
+
+-- the number of the interface in a link's header: Linux cooked, version 2, has one; 0 where there is none
+abbrev pub index_of : ℕ → List ℕ → ℕ
+index_of link frame = if (link == 276) && (nat_lt 19 (length frame)) then four frame 4 else 0
 
 -- what a frame carries; no network where it is not IP
 pub record Linked : Type 0 where

@@ -24,6 +24,10 @@ udp_bytes = 156 ∷ 64 ∷ 0 ∷ 69 ∷ 0 ∷ 12 ∷ 223 ∷ 66 ∷ 0 ∷ 4 ∷ 
 abbrev pub udp_bytes_of_ipv6 : List ℕ
 udp_bytes_of_ipv6 = 156 ∷ 64 ∷ 0 ∷ 69 ∷ 0 ∷ 12 ∷ 7 ∷ 210 ∷ 0 ∷ 4 ∷ 0 ∷ 1 ∷ []
 
+-- the same in IPv4, of three bytes; the checksum by Python's struct and RFC 1071, section 4.1
+abbrev pub udp_of_three : List ℕ
+udp_of_three = 156 ∷ 64 ∷ 0 ∷ 69 ∷ 0 ∷ 11 ∷ 214 ∷ 69 ∷ 0 ∷ 4 ∷ 9 ∷ []
+
 -- an IPv4 packet with identification 7
 abbrev pub ipv4_bytes : List ℕ
 ipv4_bytes = 69 ∷ 0 ∷ 0 ∷ 32 ∷ 0 ∷ 7 ∷ 0 ∷ 0 ∷ 64 ∷ 17 ∷ 246 ∷ 189 ∷ 192 ∷ 0 ∷ 2 ∷ 7 ∷ 192 ∷ 0 ∷ 2 ∷ 1 ∷ 156 ∷ 64 ∷ 0 ∷ 69 ∷ 0 ∷ 12 ∷ 223 ∷ 66 ∷ 0 ∷ 4 ∷ 0 ∷ 1 ∷ []

@@ -3,11 +3,14 @@ ghost use Rattle.std.specs.Net.Addr.{IsIpv4Addr, IsIpv6Addr, MatchIp};
 ghost use Rattle.std.specs.Net.Text.{ip_text};
 ghost use Rattle.std.specs.declared.net.ip_addr.IpAddr.{IpAddr};
 ghost use Rattle.std.specs.declared.net.ip_addr.IpAddr.TheVariants.{V4, V6};
+ghost use Rattle.tftp_frames.specs.Link.{index_of};
 ghost use Rattle.tftp_frames.specs.Ip.{Packet, is_identified};
 ghost use Rattle.tftp_frames.specs.Frame.{SpellsFrame};
+ghost use Rattle.tftp_frames.specs.Checksums.{checksum_of, in_ones_complement, word_sum};
+ghost use Rattle.tftp_frames.specs.declared.checksum.Checksum.{Checksum};
 ghost use Rattle.tftp_frames.specs.Faults.{Holds, FirstFault};
 ghost use Rattle.tftp_frames.specs.UdpDatagrams.{Udp, SpellsUdp, HoldsUdp};
-ghost use Rattle.tftp_frames.specs.Worked.{udp_bytes, ipv4_bytes, ipv4_with_options, ipv4_fragment, ipv6_with_extensions, ipv6_fragment, ipv6_fragment_of_icmp, two_tags, cooked_head, cooked_two_head, null_head, ipv4_packet, ipv4_part, ipv6_packet, ipv6_part, acknowledgement, host, host_of_ipv6};
+ghost use Rattle.tftp_frames.specs.Worked.{udp_bytes, ipv4_bytes, ipv4_with_options, ipv4_fragment, ipv6_with_extensions, ipv6_fragment, ipv6_fragment_of_icmp, two_tags, udp_bytes_of_ipv6, udp_of_three, cooked_head, cooked_two_head, null_head, ipv4_packet, ipv4_part, ipv6_packet, ipv6_part, acknowledgement, host, host_of_ipv6};
 ghost use Rattle.tftp_frames.specs.declared.fault.FrameFault.{FrameFault};
 ghost use Rattle.tftp_frames.specs.declared.fault.UdpFault.{UdpFault};
 ghost use Rattle.tftp_frames.specs.declared.packet.Direction.{Direction};
@@ -79,10 +82,32 @@ pub fn worked_datagrams()
     ensures port { HoldsUdp UdpFault.Port 17 (0 ∷ 0 ∷ drop 2 udp_bytes) }
 {}
 
+/// Worked examples: the number of the interface in a header of Linux cooked, version 2; one that is cut; version 1, which has
+/// none; and Ethernet.
+pub fn worked_indexes()
+    ensures cooked_two { index_of 276 (cooked_two_head ++ ipv4_bytes) ≡ 2 }
+    ensures cut { index_of 276 (take 19 cooked_two_head) ≡ 0 }
+    ensures cooked { index_of 113 (cooked_head ++ ipv4_bytes) ≡ 0 }
+    ensures ethernet { index_of 1 (two_tags ++ ipv4_bytes) ≡ 0 }
+{}
+
 /// Worked examples: a packet of IPv4, the same with identification 0, and a whole one and a fragment of IPv6.
 pub fn worked_identifications()
     ensures ipv4 { is_identified (ipv4_packet Direction.Unknown ipv4_bytes) ≡ true }
     ensures zero { is_identified (record (ipv4_packet Direction.Unknown ipv4_bytes) { identification = Some 0 }) ≡ false }
     ensures whole { is_identified ipv6_packet ≡ false }
     ensures part { is_identified ipv6_part ≡ true }
+{}
+
+/// Worked examples: the sum in RFC 1071, section 3; the acknowledgement over IPv4 and IPv6; one of three bytes; one whose last
+/// byte was changed on the way, whose packet's identification was, and without a checksum, which is one over IPv4 alone.
+pub fn worked_checksums()
+    ensures sum { in_ones_complement (word_sum (0 ∷ 1 ∷ 242 ∷ 3 ∷ 244 ∷ 245 ∷ 246 ∷ 247 ∷ [])) ≡ 56818 }
+    ensures ipv4 { checksum_of (ipv4_packet Direction.Unknown ipv4_bytes) udp_bytes ≡ Checksum.Right }
+    ensures ipv6 { checksum_of ipv6_packet udp_bytes_of_ipv6 ≡ Checksum.Right }
+    ensures odd { checksum_of (ipv4_packet Direction.Unknown ipv4_bytes) udp_of_three ≡ Checksum.Right }
+    ensures changed { checksum_of (ipv4_packet Direction.Unknown ipv4_bytes) (take 11 udp_bytes ++ 2 ∷ []) ≡ Checksum.Wrong }
+    ensures header { checksum_of (ipv4_packet Direction.Unknown (take 5 ipv4_bytes ++ 8 ∷ drop 6 ipv4_bytes)) udp_bytes ≡ Checksum.Wrong }
+    ensures absent { checksum_of (ipv4_packet Direction.Unknown ipv4_bytes) (take 6 udp_bytes ++ 0 ∷ 0 ∷ drop 8 udp_bytes) ≡ Checksum.Absent }
+    ensures none { checksum_of ipv6_packet (take 6 udp_bytes_of_ipv6 ++ 0 ∷ 0 ∷ drop 8 udp_bytes_of_ipv6) ≡ Checksum.Wrong }
 {}

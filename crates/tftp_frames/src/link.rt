@@ -1,5 +1,5 @@
 ghost use Rattle.std.specs.Prelude.{◌≡◌, ◌≤◌, length, MatchOption};
-ghost use Rattle.tftp_frames.specs.Link.{link_named, least, Linked, Carries, SpellsLink, CarriesTyped, packet_direction, type_network, family_network, version_network, null_network};
+ghost use Rattle.tftp_frames.specs.Link.{index_of, link_named, least, Linked, Carries, SpellsLink, CarriesTyped, packet_direction, type_network, family_network, version_network, null_network};
 ghost use Rattle.tftp_frames.specs.Parts.{linked};
 
 use crate::number::{four_at, pair_at};
@@ -62,6 +62,20 @@ pub fn link_type(number: u32) -> Option<LinkType>
         229 => Some(LinkType::RawIpv6),
         276 => Some(LinkType::CookedTwo),
         _ => None,
+    }
+}
+
+/// The number of the interface that a frame's link header names, by the number of the link type in the recording: that of
+/// Linux cooked, version 2, has one, of the host that recorded. It is 0 where the header is cut or names none, as that of
+/// version 1 (tcpdump.org/linktypes.html).
+#[inline]
+pub fn interface_index(link_number: u32, frame: &[u8]) -> u32
+    ensures { result ≡ index_of link_number frame.now }
+{
+    if link_number == 276 && frame.len() >= 20 {
+        four_at(frame, 4)
+    } else {
+        0
     }
 }
 

@@ -22,7 +22,7 @@ pub fn read_udp(protocol: u8, content: &[u8]) -> Result<UdpDatagram<'_>, UdpFaul
 
 /// The bytes of UDP in a content; none where it has none.
 #[inline]
-fn udp_bytes(protocol: u8, content: &[u8]) -> Option<&[u8]>
+pub(crate) fn udp_bytes(protocol: u8, content: &[u8]) -> Option<&[u8]>
     ensures { MatchOption result
         ((bytes : List ℕ) → HasUdp protocol content.now bytes → ⊥)
         (λ found. HasUdp protocol content.now found.now) }

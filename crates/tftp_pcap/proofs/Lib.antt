@@ -3,14 +3,15 @@ pub mod Bodies
 pub mod Cuts
 pub mod Fours
 pub mod Fronts
+pub mod OneFault
 pub mod OneFrame
 pub mod OneReading
 pub mod OptionCuts
 pub mod Packets
 pub mod Records
+pub mod Rests
 pub mod Standings
+pub mod Statistics
 pub mod Steps
 pub mod Whole
 pub mod WorkedRecordings
-pub mod OneFault
-pub mod Rests

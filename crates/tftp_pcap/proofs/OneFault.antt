@@ -33,14 +33,14 @@ module _ (mode : Mode) (part : List ℕ) where
   text_or_cut : Stops NotARecording mode 0 part → IsCut mode.layout part → ⊥
   text_or_cut text cut = text.1 (cut.2 text.0)
 
-  text_or_bad : Stops NotARecording mode 0 part → IsBad mode part → ⊥
+  text_or_bad : Stops NotARecording mode 0 part → IsBad mode.layout mode.interfaces part → ⊥
   text_or_bad text (inl irregular) = text.1 (irregular.2 text.0)
   text_or_bad text (inr (whole, never)) = text.1 (begins_of mode.layout part (length part) whole.0 text.0)
 
   text_or_long : Stops NotARecording mode 0 part → IsTooLong mode.layout part → ⊥
   text_or_long text (size, announced, long) = text.1 (begins_of mode.layout part size announced text.0)
 
-  cut_or_bad : IsCut mode.layout part → IsBad mode part → ⊥
+  cut_or_bad : IsCut mode.layout part → IsBad mode.layout mode.interfaces part → ⊥
   cut_or_bad (inl short, some, begins) (inl irregular) = omega (arith, short, irregular.0)
   cut_or_bad (inl short, some, begins) (inr (whole, never)) = omega (arith, short, announces_enough mode.layout part (length part) whole.0)
   cut_or_bad (inr (size, announced, sized, short), some, begins) (inl irregular) = (irregular.1 size announced).1 sized.1
@@ -50,7 +50,7 @@ module _ (mode : Mode) (part : List ℕ) where
   cut_or_long (inl short, some, begins) (size, announced, long) = omega (arith, short, announces_enough mode.layout part size announced)
   cut_or_long (inr (own, said, sized, short), some, begins) (size, announced, long) = omega (arith, sized.0, long, announces_one mode.layout part own size said announced)
 
-  bad_or_long : IsBad mode part → IsTooLong mode.layout part → ⊥
+  bad_or_long : IsBad mode.layout mode.interfaces part → IsTooLong mode.layout part → ⊥
   bad_or_long (inl irregular) (size, announced, long) = let few = (irregular.1 size announced).0 in omega (arith, few, long)
   bad_or_long (inr (whole, never)) (size, announced, long) = omega (arith, whole.1.0, long, announces_one mode.layout part (length part) size whole.0 announced)
 

@@ -1,14 +1,14 @@
 -- Bytes say one frame, one interface or one layout at most.
-use Rattle.std.proofs.Common.{◌≡◌, inl, inr, ℕ, ◌+◌, ◌*◌, ◌/◌, ◌%◌, ◌^◌, ◌<◌, List, [], ◌∷◌, ◌++◌, length, get_or, refl, sym, ap, ◌∙◌, subst, arith, Bool, true, false, Some, slice_get}
-use Rattle.tftp_pcap.specs.{two, Spells, time_of, FrameParts, magic, major, fraction_unit, SpellsHeader, SpellsRecord, OptionParts, SpellsOptions, first_value, SpellsInterface, SpellsTimed, SpellsEnhanced, SpellsObsolete, SpellsSimple, SpellsPacket, kept, units_by, offset_by, direction_by, Order, Big, Little, Interface}
+use Rattle.std.proofs.Common.{◌≡◌, inl, inr, ℕ, ◌+◌, ◌*◌, ◌/◌, ◌%◌, ◌^◌, ◌<◌, List, [], ◌∷◌, ◌++◌, length, get_or, refl, sym, ap, ◌∙◌, subst, arith, Bool, true, false, Option, Some, None, slice_get}
+use Rattle.tftp_pcap.specs.{two, Spells, time_of, FrameParts, magic, major, fraction_unit, SpellsHeader, SpellsRecord, OptionParts, SpellsOptions, first_value, SpellsInterface, SpellsTimed, SpellsEnhanced, SpellsObsolete, SpellsSimple, SpellsPacket, kept, units_by, offset_by, direction_by, count_said, damaged_by, missed_by, Order, Big, Little, Interface, NamedInterface}
 use Rattle.tftp_pcap.specs.declared.layout.Classic.{Classic as Header}
 use Rattle.tftp_pcap.proofs.Cuts.{cut_one}
 use Rattle.tftp_pcap.proofs.Fours.{spells_one}
 use Rattle.tftp_pcap.proofs.OptionCuts.{options_one}
 use Rattle.tftp_pcap.proofs.Packets.{padded_one}
 
-frame_of : (f g : FrameParts) → f.link ≡ g.link → f.time ≡ g.time → f.direction ≡ g.direction → f.original ≡ g.original → f.bytes ≡ g.bytes → f ≡ g
-frame_of f g a b c d e = λ i. record { link = a i; time = b i; direction = c i; original = d i; bytes = e i }
+frame_of : (f g : FrameParts) → f.section ≡ g.section → f.interface ≡ g.interface → f.link ≡ g.link → f.time ≡ g.time → f.direction ≡ g.direction → f.damaged ≡ g.damaged → f.missed ≡ g.missed → f.original ≡ g.original → f.bytes ≡ g.bytes → f ≡ g
+frame_of f g section interface link time direction damaged missed original bytes = λ i. record { section = section i; interface = interface i; link = link i; time = time i; direction = direction i; damaged = damaged i; missed = missed i; original = original i; bytes = bytes i }
 
 -- ---- classic recordings
 
@@ -55,7 +55,7 @@ pub record_one : (classic : Header) (bytes : List ℕ) (f g : FrameParts) → Sp
 record_one classic bytes f g p q =
     let same = spells_one classic.order p.head q.head f.bytes g.bytes (p.seconds ∷ p.fraction ∷ length f.bytes ∷ f.original ∷ []) (q.seconds ∷ q.fraction ∷ length g.bytes ∷ g.original ∷ []) p.numbers q.numbers refl (sym p.are ∙ q.are) in
     let time = ap (λ (l : List ℕ). Some (get_or l 0 0 * 1000000000 + get_or l 1 0 * fraction_unit classic.nano)) same.0 in
-    frame_of f g (p.link ∙ sym q.link) (p.time ∙ time ∙ sym q.time) (p.direction ∙ sym q.direction) (ap (λ (l : List ℕ). get_or l 3 0) same.0) same.2
+    frame_of f g (p.section ∙ sym q.section) (p.interface ∙ sym q.interface) (p.link ∙ sym q.link) (p.time ∙ time ∙ sym q.time) (p.direction ∙ sym q.direction) (p.damaged ∙ sym q.damaged) (p.missed ∙ sym q.missed) (ap (λ (l : List ℕ). get_or l 3 0) same.0) same.2
 
 -- ---- interfaces and packets
 
@@ -83,43 +83,48 @@ padded_cut a b x y r s sized lx px ly py e =
     let pads : length x ≡ length y = omega (arith, padded_one (length a) (length x) lx px, padded_one (length b) (length y) ly py, ap (λ n. (n + 3) / 4 * 4) sized, sized) in
     (first.0, (cut_one x y r s pads first.1).1)
 
-pub timed_one : (order : Order) (interface : Interface) (bytes : List ℕ) (f g : FrameParts) → SpellsTimed order interface bytes f → SpellsTimed order interface bytes g → f ≡ g
-timed_one order interface bytes f g p q =
+pub timed_one : (order : Order) (interface : NamedInterface) (count : Option ℕ) (bytes : List ℕ) (f g : FrameParts) → SpellsTimed order interface count bytes f → SpellsTimed order interface count bytes g → f ≡ g
+timed_one order interface count bytes f g p q =
     let same = spells_one order p.front q.front (f.bytes ++ (p.padding ++ p.options)) (g.bytes ++ (q.padding ++ q.options)) (p.high ∷ p.low ∷ length f.bytes ∷ f.original ∷ []) (q.high ∷ q.low ∷ length g.bytes ∷ g.original ∷ []) p.numbers q.numbers refl (sym p.are ∙ q.are) in
     let size = ap (λ (l : List ℕ). get_or l 2 0) same.0 in
     let rest = padded_cut f.bytes g.bytes p.padding q.padding p.options q.options size p.padded.0 p.padded.1 q.padded.0 q.padded.1 same.2 in
     let said = options_one order q.options p.said q.said (subst (λ (l : List ℕ). SpellsOptions order l p.said) rest.1 p.options_are) q.options_are in
-    frame_of f g (p.link ∙ sym q.link) (p.time ∙ ap (λ (l : List ℕ). time_of interface (get_or l 0 0 * 2 ^ 32 + get_or l 1 0)) same.0 ∙ sym q.time)
-    (p.direction ∙ ap (λ (l : List OptionParts). direction_by order (first_value 2 4 l)) said ∙ sym q.direction) (ap (λ (l : List ℕ). get_or l 3 0) same.0) rest.0
+    frame_of f g (p.section ∙ sym q.section) (p.number ∙ sym q.number) (p.link ∙ sym q.link) (p.time ∙ ap (λ (l : List ℕ). time_of interface.described (get_or l 0 0 * 2 ^ 32 + get_or l 1 0)) same.0 ∙ sym q.time)
+    (p.direction ∙ ap (λ (l : List OptionParts). direction_by order (first_value 2 4 l)) said ∙ sym q.direction) (p.damaged ∙ ap (λ (l : List OptionParts). damaged_by order (first_value 2 4 l)) said ∙ sym q.damaged)
+    (p.missed ∙ ap (λ (l : List OptionParts). missed_by order count (first_value 4 8 l)) said ∙ sym q.missed) (ap (λ (l : List ℕ). get_or l 3 0) same.0) rest.0
 
-same_interface : (interfaces : List Interface) (a b : ℕ) (x y : Interface) → slice_get interfaces a ≡ Some x → slice_get interfaces b ≡ Some y → a ≡ b → x ≡ y
+same_interface : (interfaces : List NamedInterface) (a b : ℕ) (x y : NamedInterface) → slice_get interfaces a ≡ Some x → slice_get interfaces b ≡ Some y → a ≡ b → x ≡ y
 same_interface interfaces a b x y p q e = let all : Some x ≡ Some y = sym p ∙ ap (slice_get interfaces) e ∙ q in cc
 
-pub enhanced_one : (order : Order) (interfaces : List Interface) (body : List ℕ) (f g : FrameParts) → SpellsEnhanced order interfaces body f → SpellsEnhanced order interfaces body g → f ≡ g
+pub enhanced_one : (order : Order) (interfaces : List NamedInterface) (body : List ℕ) (f g : FrameParts) → SpellsEnhanced order interfaces body f → SpellsEnhanced order interfaces body g → f ≡ g
 enhanced_one order interfaces body f g p q =
     let same = spells_one order p.front q.front p.rest q.rest (p.place ∷ []) (q.place ∷ []) p.place_is q.place_is refl (sym p.are ∙ q.are) in
     let interface = same_interface interfaces p.place q.place p.interface q.interface p.named q.named (ap (λ (l : List ℕ). get_or l 0 0) same.0) in
-    timed_one order q.interface q.rest f g (subst (λ (l : List ℕ). SpellsTimed order q.interface l f) same.2 (subst (λ (i : Interface). SpellsTimed order i p.rest f) interface p.timed)) q.timed
+    timed_one order q.interface None q.rest f g (subst (λ (l : List ℕ). SpellsTimed order q.interface None l f) same.2 (subst (λ (i : NamedInterface). SpellsTimed order i None p.rest f) interface p.timed)) q.timed
 
-pub obsolete_one : (order : Order) (interfaces : List Interface) (body : List ℕ) (f g : FrameParts) → SpellsObsolete order interfaces body f → SpellsObsolete order interfaces body g → f ≡ g
+pub obsolete_one : (order : Order) (interfaces : List NamedInterface) (body : List ℕ) (f g : FrameParts) → SpellsObsolete order interfaces body f → SpellsObsolete order interfaces body g → f ≡ g
 obsolete_one order interfaces body f g p q =
     let e = sym p.are ∙ q.are in
     let ea : p.a ≡ q.a = cc in
     let eb : p.b ≡ q.b = cc in
+    let ec : p.c ≡ q.c = cc in
+    let ed : p.d ≡ q.d = cc in
     let rest : p.rest ≡ q.rest = cc in
+    let count = ap count_said (two_one order p.c p.d q.c q.d ec ed) in
     let interface = same_interface interfaces (two order p.a p.b) (two order q.a q.b) p.interface q.interface p.named q.named (two_one order p.a p.b q.a q.b ea eb) in
-    timed_one order q.interface q.rest f g (subst (λ (l : List ℕ). SpellsTimed order q.interface l f) rest (subst (λ (i : Interface). SpellsTimed order i p.rest f) interface p.timed)) q.timed
+    timed_one order q.interface (Some (count_said (two order q.c q.d))) q.rest f g (subst (λ (l : List ℕ). SpellsTimed order q.interface (Some (count_said (two order q.c q.d))) l f) rest
+    (subst (λ (n : ℕ). SpellsTimed order q.interface (Some n) p.rest f) count (subst (λ (i : NamedInterface). SpellsTimed order i (Some (count_said (two order p.c p.d))) p.rest f) interface p.timed))) q.timed
 
-pub simple_one : (order : Order) (interfaces : List Interface) (body : List ℕ) (f g : FrameParts) → SpellsSimple order interfaces body f → SpellsSimple order interfaces body g → f ≡ g
+pub simple_one : (order : Order) (interfaces : List NamedInterface) (body : List ℕ) (f g : FrameParts) → SpellsSimple order interfaces body f → SpellsSimple order interfaces body g → f ≡ g
 simple_one order interfaces body f g p q =
     let same = spells_one order p.front q.front _ _ (f.original ∷ []) (g.original ∷ []) p.original q.original refl (sym p.are ∙ q.are) in
     let original = ap (λ (l : List ℕ). get_or l 0 0) same.0 in
     let interface = same_interface interfaces 0 0 p.interface q.interface p.named q.named refl in
-    let size : length f.bytes ≡ length g.bytes = p.sized ∙ (λ i. kept (interface i).longest (original i)) ∙ sym q.sized in
+    let size : length f.bytes ≡ length g.bytes = p.sized ∙ (λ i. kept (interface i).described.longest (original i)) ∙ sym q.sized in
     let rest = padded_cut f.bytes g.bytes p.padding q.padding p.rest q.rest size p.padded.0 p.padded.1 q.padded.0 q.padded.1 same.2 in
-    frame_of f g (p.link ∙ ap (λ (i : Interface). i.link) interface ∙ sym q.link) (p.time ∙ sym q.time) (p.direction ∙ sym q.direction) original rest.0
+    frame_of f g (p.section ∙ ap (λ (i : NamedInterface). i.section) interface ∙ sym q.section) (p.number ∙ ap (λ (i : NamedInterface). i.number) interface ∙ sym q.number) (p.link ∙ ap (λ (i : NamedInterface). i.described.link) interface ∙ sym q.link) (p.time ∙ sym q.time) (p.direction ∙ sym q.direction) (p.damaged ∙ sym q.damaged) (p.missed ∙ sym q.missed) original rest.0
 
-pub packet_one : (order : Order) (interfaces : List Interface) (kind : ℕ) (body : List ℕ) (f g : FrameParts) → SpellsPacket order interfaces kind body f → SpellsPacket order interfaces kind body g → f ≡ g
+pub packet_one : (order : Order) (interfaces : List NamedInterface) (kind : ℕ) (body : List ℕ) (f g : FrameParts) → SpellsPacket order interfaces kind body f → SpellsPacket order interfaces kind body g → f ≡ g
 packet_one order interfaces kind body f g (inl p) (inl q) = enhanced_one order interfaces body f g p.1 q.1
 packet_one order interfaces kind body f g (inr (inl p)) (inr (inl q)) = simple_one order interfaces body f g p.1 q.1
 packet_one order interfaces kind body f g (inr (inr p)) (inr (inr q)) = obsolete_one order interfaces body f g p.1 q.1

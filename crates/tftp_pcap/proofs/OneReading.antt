@@ -1,8 +1,8 @@
 -- Bytes are a recording in one way.
 use Rattle.std.proofs.Common.{◌≡◌, inl, inr, ℕ, ◌+◌, ◌%◌, ◌<◌, ◌≤◌, List, [], ◌∷◌, ◌++◌, length, length-append, take, refl, sym, ap, ◌∙◌, subst, append_assoc, append-nil, arith, flat_map}
 use Rattle.std.specs.List.{slice_range}
-use Rattle.tftp_pcap.specs.{number_at, Spells, FrameParts, magic, major, SpellsHeader, SpellsRecord, SpellsSection, Said, Says, BodySays, BlockSays, OpensAs, OpensAgain, Mode, Announces, BeginsAsOne, IsSize, Follows, IsRecording, next_mode, given, start, IsIrregular, IsTooLong, IsPart, Stops, FailsAs, IsWrong, FaultKind, NotARecording, Truncated, Bad, TooLong, TooMany, Read, Memory, Order, Interface, Layout, Unopened}
-use Rattle.tftp_pcap.specs.Pieces.Said.{Opens, Names, Gives, Skips}
+use Rattle.tftp_pcap.specs.{number_at, Spells, FrameParts, magic, major, SpellsHeader, SpellsRecord, SpellsSection, Said, Says, BodySays, BlockSays, OpensAs, OpensAgain, Mode, Announces, BeginsAsOne, IsSize, Follows, IsRecording, next_mode, given, start, IsIrregular, IsTooLong, IsPart, Stops, FailsAs, IsWrong, FaultKind, NotARecording, Truncated, Bad, TooLong, TooMany, Read, Memory, Order, Interface, NamedInterface, Layout, Unopened}
+use Rattle.tftp_pcap.specs.Pieces.Said.{Opens, Names, Gives, Counts, Skips}
 use Rattle.tftp_pcap.specs.declared.layout.Classic.{Classic as Header}
 use Rattle.tftp_pcap.specs.declared.layout.Layout.TheVariants.{Classic, Blocks}
 use Rattle.tftp_pcap.proofs.Cuts.{cut_one}
@@ -10,6 +10,7 @@ use Rattle.tftp_pcap.proofs.Fours.{spells_length}
 use Rattle.tftp_pcap.proofs.Announced.{order_one, magic_other}
 use Rattle.tftp_pcap.proofs.Fronts.{announces_more, announces_one, announces_enough, begins_of, front_some, short_is_part}
 use Rattle.tftp_pcap.proofs.Whole.{block_known, section_known, body_of, body_says}
+use Rattle.tftp_pcap.proofs.Statistics.{statistics_one}
 use Rattle.tftp_pcap.proofs.OneFrame.{magic_length, major_length, header_one, record_one, interface_one, packet_one}
 
 -- ---- a piece announces its own length
@@ -50,7 +51,7 @@ again_announced own s order p =
     let none = append-nil s in
     (omega (arith, known.4), inl (ap (take 4) (sym none) ∙ known.0, order, ap (λ l. slice_range l 8 12) (sym none) ∙ known.1, known.2 ∙ ap (λ l. number_at order l 4) none))
 
-block_announced : (order : Order) (interfaces : List Interface) (s : List ℕ) (said : Said) → BlockSays order interfaces s said → Announces (Blocks order) s (length s)
+block_announced : (order : Order) (interfaces : List NamedInterface) (s : List ℕ) (said : Said) → BlockSays order interfaces s said → Announces (Blocks order) s (length s)
 block_announced order interfaces s said (type, body, kind, block, plain, typed, says) =
     let known = block_known order s type body block in
     (known.4, inr ((λ e. plain (known.0 ∙ e)), known.2))
@@ -66,18 +67,19 @@ record_announced classic s frame p = go p.head p.numbers p.are
         let captured : length frame.bytes ≡ number_at classic.order s 8 = i2 ∙ ap (λ l. number_at classic.order l 8) (sym path) in
         (omega (arith, ap length path), omega (arith, ap length path, captured))
 
-pub says_announced : (layout : Layout) (interfaces : List Interface) (s : List ℕ) (said : Said) → Says layout interfaces s said → Announces layout s (length s)
+pub says_announced : (layout : Layout) (interfaces : List NamedInterface) (s : List ℕ) (said : Said) → Says layout interfaces s said → Announces layout s (length s)
 says_announced Unopened interfaces s (Opens (Classic classic)) says = header_announced s classic says
 says_announced Unopened interfaces s (Opens (Blocks order)) says = section_announced s order says
 says_announced (Classic classic) interfaces s (Gives frame) says = record_announced classic s frame says
 says_announced (Blocks own) interfaces s (Opens (Blocks order)) says = again_announced own s order says
 says_announced (Blocks own) interfaces s (Names interface) says = block_announced own interfaces s (Names interface) says
 says_announced (Blocks own) interfaces s (Gives frame) says = block_announced own interfaces s (Gives frame) says
+says_announced (Blocks own) interfaces s (Counts d) says = block_announced own interfaces s (Counts d) says
 says_announced (Blocks own) interfaces s Skips says = block_announced own interfaces s Skips says
 says_announced _ interfaces s _ says = absurd says
 
 -- so of two pieces in front of some bytes each is the other
-pub piece_one : (layout : Layout) (interfaces : List Interface) (p q more rest : List ℕ) (s t : Said) → Says layout interfaces p s → Says layout interfaces q t → p ++ more ≡ q ++ rest → (p ≡ q) × (more ≡ rest)
+pub piece_one : (layout : Layout) (interfaces : List NamedInterface) (p q more rest : List ℕ) (s t : Said) → Says layout interfaces p s → Says layout interfaces q t → p ++ more ≡ q ++ rest → (p ≡ q) × (more ≡ rest)
 piece_one layout interfaces p q more rest s t a b e =
     let one = announces_more layout p more (length p) (says_announced layout interfaces p s a) in
     let other = announces_more layout q rest (length q) (says_announced layout interfaces q t b) in
@@ -109,28 +111,39 @@ again_one s (Blocks o) (Classic d) x y = absurd y
 again_one s (Blocks o) (Blocks p) x y = ap Blocks (section_is_one s o p x y)
 
 -- a section header is no other block
-plain_section : (order own : Order) (interfaces : List Interface) (s : List ℕ) (said : Said) → BlockSays order interfaces s said → SpellsSection s own → ⊥
+plain_section : (order own : Order) (interfaces : List NamedInterface) (s : List ℕ) (said : Said) → BlockSays order interfaces s said → SpellsSection s own → ⊥
 plain_section order own interfaces s said (type, body, kind, block, plain, typed, says) x =
     plain ((block_known order s type body block).0 ∙ ap (take 4) (sym (append-nil s)) ∙ (section_known s [] own x).0)
 
-again_or_block : (order : Order) (interfaces : List Interface) (s : List ℕ) (layout : Layout) (said : Said) → OpensAgain s layout → BlockSays order interfaces s said → ⊥
+again_or_block : (order : Order) (interfaces : List NamedInterface) (s : List ℕ) (layout : Layout) (said : Said) → OpensAgain s layout → BlockSays order interfaces s said → ⊥
 again_or_block order interfaces s Unopened said x y = x
 again_or_block order interfaces s (Classic classic) said x y = x
 again_or_block order interfaces s (Blocks own) said x y = plain_section order own interfaces s said y x
 
-bodies_one : (order : Order) (interfaces : List Interface) (kind : ℕ) (body : List ℕ) (s t : Said) → BodySays order interfaces kind body s → BodySays order interfaces kind body t → s ≡ t
+bodies_one : (order : Order) (interfaces : List NamedInterface) (kind : ℕ) (body : List ℕ) (s t : Said) → BodySays order interfaces kind body s → BodySays order interfaces kind body t → s ≡ t
 bodies_one order interfaces kind body (Opens l) t x y = absurd x
 bodies_one order interfaces kind body (Names i) (Opens l) x y = absurd y
 bodies_one order interfaces kind body (Names i) (Names j) x y = ap Names (interface_one order body i j x.1 y.1)
 bodies_one order interfaces kind body (Names i) (Gives g) x (inl y) = absurd (omega (arith, x.0, y.0))
 bodies_one order interfaces kind body (Names i) (Gives g) x (inr (inl y)) = absurd (omega (arith, x.0, y.0))
 bodies_one order interfaces kind body (Names i) (Gives g) x (inr (inr y)) = absurd (omega (arith, x.0, y.0))
+bodies_one order interfaces kind body (Names i) (Counts d) x y = absurd (omega (arith, x.0, y.0))
 bodies_one order interfaces kind body (Names i) Skips x y = absurd (y.0 x.0)
 bodies_one order interfaces kind body (Gives f) (Opens l) x y = absurd y
 bodies_one order interfaces kind body (Gives f) (Names j) (inl x) y = absurd (omega (arith, x.0, y.0))
 bodies_one order interfaces kind body (Gives f) (Names j) (inr (inl x)) y = absurd (omega (arith, x.0, y.0))
 bodies_one order interfaces kind body (Gives f) (Names j) (inr (inr x)) y = absurd (omega (arith, x.0, y.0))
 bodies_one order interfaces kind body (Gives f) (Gives g) x y = ap Gives (packet_one order interfaces kind body f g x y)
+bodies_one order interfaces kind body (Gives f) (Counts d) (inl x) y = absurd (omega (arith, x.0, y.0))
+bodies_one order interfaces kind body (Gives f) (Counts d) (inr (inl x)) y = absurd (omega (arith, x.0, y.0))
+bodies_one order interfaces kind body (Gives f) (Counts d) (inr (inr x)) y = absurd (omega (arith, x.0, y.0))
+bodies_one order interfaces kind body (Counts d) (Opens l) x y = absurd y
+bodies_one order interfaces kind body (Counts d) (Names j) x y = absurd (omega (arith, x.0, y.0))
+bodies_one order interfaces kind body (Counts d) (Gives g) x (inl y) = absurd (omega (arith, x.0, y.0))
+bodies_one order interfaces kind body (Counts d) (Gives g) x (inr (inl y)) = absurd (omega (arith, x.0, y.0))
+bodies_one order interfaces kind body (Counts d) (Gives g) x (inr (inr y)) = absurd (omega (arith, x.0, y.0))
+bodies_one order interfaces kind body (Counts d) (Counts e) x y = ap Counts (statistics_one order interfaces body d e x.1 y.1)
+bodies_one order interfaces kind body (Counts d) Skips x y = absurd (y.4 x.0)
 bodies_one order interfaces kind body (Gives f) Skips (inl x) y = absurd (y.3 x.0)
 bodies_one order interfaces kind body (Gives f) Skips (inr (inl x)) y = absurd (y.2 x.0)
 bodies_one order interfaces kind body (Gives f) Skips (inr (inr x)) y = absurd (y.1 x.0)
@@ -139,33 +152,40 @@ bodies_one order interfaces kind body Skips (Names j) x y = absurd (x.0 y.0)
 bodies_one order interfaces kind body Skips (Gives g) x (inl y) = absurd (x.3 y.0)
 bodies_one order interfaces kind body Skips (Gives g) x (inr (inl y)) = absurd (x.2 y.0)
 bodies_one order interfaces kind body Skips (Gives g) x (inr (inr y)) = absurd (x.1 y.0)
+bodies_one order interfaces kind body Skips (Counts e) x y = absurd (x.4 y.0)
 bodies_one order interfaces kind body Skips Skips x y = refl
 
-blocks_one : (order : Order) (interfaces : List Interface) (p : List ℕ) (s t : Said) → BlockSays order interfaces p s → BlockSays order interfaces p t → s ≡ t
+blocks_one : (order : Order) (interfaces : List NamedInterface) (p : List ℕ) (s t : Said) → BlockSays order interfaces p s → BlockSays order interfaces p t → s ≡ t
 blocks_one order interfaces p s t x y =
     bodies_one order interfaces (number_at order p 0) (body_of p) s t (body_says order interfaces p (number_at order p 0) refl s x).0 (body_says order interfaces p (number_at order p 0) refl t y).0
 
-pub says_one : (layout : Layout) (interfaces : List Interface) (p : List ℕ) (s t : Said) → Says layout interfaces p s → Says layout interfaces p t → s ≡ t
+pub says_one : (layout : Layout) (interfaces : List NamedInterface) (p : List ℕ) (s t : Said) → Says layout interfaces p s → Says layout interfaces p t → s ≡ t
 says_one Unopened interfaces p (Opens l) (Opens m) x y = ap Opens (opens_one p l m x y)
 says_one Unopened interfaces p (Opens l) (Names j) x y = absurd y
 says_one Unopened interfaces p (Opens l) (Gives g) x y = absurd y
+says_one Unopened interfaces p (Opens l) (Counts e) x y = absurd y
 says_one Unopened interfaces p (Opens l) Skips x y = absurd y
 says_one Unopened interfaces p (Names i) t x y = absurd x
 says_one Unopened interfaces p (Gives f) t x y = absurd x
+says_one Unopened interfaces p (Counts d) t x y = absurd x
 says_one Unopened interfaces p Skips t x y = absurd x
 says_one (Classic classic) interfaces p (Gives f) (Gives g) x y = ap Gives (record_one classic p f g x y)
 says_one (Classic classic) interfaces p (Gives f) (Opens m) x y = absurd y
 says_one (Classic classic) interfaces p (Gives f) (Names j) x y = absurd y
+says_one (Classic classic) interfaces p (Gives f) (Counts e) x y = absurd y
 says_one (Classic classic) interfaces p (Gives f) Skips x y = absurd y
 says_one (Classic classic) interfaces p (Opens l) t x y = absurd x
 says_one (Classic classic) interfaces p (Names i) t x y = absurd x
+says_one (Classic classic) interfaces p (Counts d) t x y = absurd x
 says_one (Classic classic) interfaces p Skips t x y = absurd x
 says_one (Blocks order) interfaces p (Opens l) (Opens m) x y = ap Opens (again_one p l m x y)
 says_one (Blocks order) interfaces p (Opens l) (Names j) x y = absurd (again_or_block order interfaces p l (Names j) x y)
 says_one (Blocks order) interfaces p (Opens l) (Gives g) x y = absurd (again_or_block order interfaces p l (Gives g) x y)
+says_one (Blocks order) interfaces p (Opens l) (Counts e) x y = absurd (again_or_block order interfaces p l (Counts e) x y)
 says_one (Blocks order) interfaces p (Opens l) Skips x y = absurd (again_or_block order interfaces p l Skips x y)
 says_one (Blocks order) interfaces p (Names i) (Opens m) x y = absurd (again_or_block order interfaces p m (Names i) y x)
 says_one (Blocks order) interfaces p (Gives f) (Opens m) x y = absurd (again_or_block order interfaces p m (Gives f) y x)
+says_one (Blocks order) interfaces p (Counts d) (Opens m) x y = absurd (again_or_block order interfaces p m (Counts d) y x)
 says_one (Blocks order) interfaces p Skips (Opens m) x y = absurd (again_or_block order interfaces p m Skips y x)
 says_one (Blocks order) interfaces p (Names i) (Names j) x y = blocks_one order interfaces p (Names i) (Names j) x y
 says_one (Blocks order) interfaces p (Names i) (Gives g) x y = blocks_one order interfaces p (Names i) (Gives g) x y
@@ -173,13 +193,20 @@ says_one (Blocks order) interfaces p (Names i) Skips x y = blocks_one order inte
 says_one (Blocks order) interfaces p (Gives f) (Names j) x y = blocks_one order interfaces p (Gives f) (Names j) x y
 says_one (Blocks order) interfaces p (Gives f) (Gives g) x y = blocks_one order interfaces p (Gives f) (Gives g) x y
 says_one (Blocks order) interfaces p (Gives f) Skips x y = blocks_one order interfaces p (Gives f) Skips x y
+says_one (Blocks order) interfaces p (Names i) (Counts e) x y = blocks_one order interfaces p (Names i) (Counts e) x y
+says_one (Blocks order) interfaces p (Gives f) (Counts e) x y = blocks_one order interfaces p (Gives f) (Counts e) x y
+says_one (Blocks order) interfaces p Skips (Counts e) x y = blocks_one order interfaces p Skips (Counts e) x y
+says_one (Blocks order) interfaces p (Counts d) (Names j) x y = blocks_one order interfaces p (Counts d) (Names j) x y
+says_one (Blocks order) interfaces p (Counts d) (Gives g) x y = blocks_one order interfaces p (Counts d) (Gives g) x y
+says_one (Blocks order) interfaces p (Counts d) (Counts e) x y = blocks_one order interfaces p (Counts d) (Counts e) x y
+says_one (Blocks order) interfaces p (Counts d) Skips x y = blocks_one order interfaces p (Counts d) Skips x y
 says_one (Blocks order) interfaces p Skips (Names j) x y = blocks_one order interfaces p Skips (Names j) x y
 says_one (Blocks order) interfaces p Skips (Gives g) x y = blocks_one order interfaces p Skips (Gives g) x y
 says_one (Blocks order) interfaces p Skips Skips x y = refl
 
 -- ---- so pieces after one another lead to one mode and give one list of frames
 
-piece_some : (layout : Layout) (interfaces : List Interface) (p : List ℕ) (s : Said) → Says layout interfaces p s → 0 < length p
+piece_some : (layout : Layout) (interfaces : List NamedInterface) (p : List ℕ) (s : Said) → Says layout interfaces p s → 0 < length p
 piece_some layout interfaces p s says = some layout (says_announced layout interfaces p s says)
   where
     some : (l : Layout) → Announces l p (length p) → 0 < length p
@@ -215,12 +242,13 @@ follows_front mode (p ∷ ps) (q ∷ qs) one other fs gs part (s, fs', says, are
     (rest, later, goes, joined, are' ∙ ap (λ l. given t ++ l) grown ∙ sym (append_assoc (given t) fs' later) ∙ ap (λ l. l ++ later) (ap (λ x. given x ++ fs') (sym said) ∙ sym are))
 
 -- a piece has a size that pieces have
-says_sized : (layout : Layout) (interfaces : List Interface) (s : List ℕ) (said : Said) → Says layout interfaces s said → IsSize layout (length s)
+says_sized : (layout : Layout) (interfaces : List NamedInterface) (s : List ℕ) (said : Said) → Says layout interfaces s said → IsSize layout (length s)
 says_sized Unopened interfaces s (Opens Unopened) says = absurd says
 says_sized Unopened interfaces s (Opens (Classic classic)) says = let long = header_length s classic says in (omega (arith, long), (omega (arith, long), ap (λ n. n % 4) long))
 says_sized Unopened interfaces s (Opens (Blocks order)) says = (says.block.few, (omega (arith, (section_known s [] order says).4), says.block.words))
 says_sized Unopened interfaces s (Names interface) says = absurd says
 says_sized Unopened interfaces s (Gives frame) says = absurd says
+says_sized Unopened interfaces s (Counts dropped) says = absurd says
 says_sized Unopened interfaces s Skips says = absurd says
 says_sized (Classic classic) interfaces s (Gives frame) says =
     let long : length s ≡ length says.head + length frame.bytes = ap length says.are ∙ length-append says.head frame.bytes in
@@ -228,16 +256,18 @@ says_sized (Classic classic) interfaces s (Gives frame) says =
     (omega (arith, long, head, says.few), omega (arith, long, head))
 says_sized (Classic classic) interfaces s (Opens layout) says = absurd says
 says_sized (Classic classic) interfaces s (Names interface) says = absurd says
+says_sized (Classic classic) interfaces s (Counts dropped) says = absurd says
 says_sized (Classic classic) interfaces s Skips says = absurd says
 says_sized (Blocks own) interfaces s (Opens Unopened) says = absurd says
 says_sized (Blocks own) interfaces s (Opens (Classic classic)) says = absurd says
 says_sized (Blocks own) interfaces s (Opens (Blocks order)) says = (says.block.few, (omega (arith, (section_known s [] order says).4), says.block.words))
 says_sized (Blocks own) interfaces s (Names interface) (type, body, kind, block, plain, typed, says) = (block.few, ((block_known own s type body block).4, block.words))
 says_sized (Blocks own) interfaces s (Gives frame) (type, body, kind, block, plain, typed, says) = (block.few, ((block_known own s type body block).4, block.words))
+says_sized (Blocks own) interfaces s (Counts dropped) (type, body, kind, block, plain, typed, says) = (block.few, ((block_known own s type body block).4, block.words))
 says_sized (Blocks own) interfaces s Skips (type, body, kind, block, plain, typed, says) = (block.few, ((block_known own s type body block).4, block.words))
 
 -- a piece in front of some bytes announces its size there
-module _ (layout : Layout) (interfaces : List Interface) (q rest part : List ℕ) (said : Said) (says : Says layout interfaces q said) (are : q ++ rest ≡ part) where
+module _ (layout : Layout) (interfaces : List NamedInterface) (q rest part : List ℕ) (said : Said) (says : Says layout interfaces q said) (are : q ++ rest ≡ part) where
   announced_there : Announces layout part (length q)
   announced_there = subst (λ (l : List ℕ). Announces layout l (length q)) are (announces_more layout q rest (length q) (says_announced layout interfaces q said says))
 

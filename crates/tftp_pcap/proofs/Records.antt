@@ -1,5 +1,5 @@
 -- The header and a record of a classic recording, from the bytes at their places.
-use Rattle.std.proofs.Common.{◌≡◌, ℕ, ◌+◌, ◌-◌, ◌*◌, ◌%◌, ◌≤◌, List, [], ◌∷◌, ◌++◌, length, take, drop, refl, sym, ap, ◌∙◌, arith, Some}
+use Rattle.std.proofs.Common.{◌≡◌, ℕ, ◌+◌, ◌-◌, ◌*◌, ◌%◌, ◌≤◌, List, [], ◌∷◌, ◌++◌, length, take, drop, refl, sym, ap, ◌∙◌, arith, false, Some}
 use Rattle.tftp_pcap.specs.{four, number_at, magic, major, SpellsHeader, SpellsRecord, fraction_unit, FrameParts, longest_frame, Unknown}
 use Rattle.tftp_pcap.specs.declared.layout.Classic.{Classic}
 use Rattle.std.specs.List.{slice_range}
@@ -26,7 +26,7 @@ header_spelled _ classic link sized is_magic is_major is kind = absurd (omega ar
 pub record_spelled : (classic : Classic) (s : List ℕ) (seconds fraction original unit : ℕ) (frame : FrameParts)
     → length s ≡ 16 + number_at classic.order s 8 → length s ≤ 16 + longest_frame
     → seconds ≡ number_at classic.order s 0 → fraction ≡ number_at classic.order s 4 → original ≡ number_at classic.order s 12 → unit ≡ fraction_unit classic.nano
-    → frame ≡ record { link = classic.link; time = Some (seconds * 1000000000 + fraction * unit); direction = Unknown; original = original; bytes = slice_range s 16 (length s) }
+    → frame ≡ record { section = 0; interface = 0; link = classic.link; time = Some (seconds * 1000000000 + fraction * unit); direction = Unknown; damaged = false; missed = 0; original = original; bytes = slice_range s 16 (length s) }
     → SpellsRecord classic s frame
 record_spelled classic (b0 ∷ b1 ∷ b2 ∷ b3 ∷ b4 ∷ b5 ∷ b6 ∷ b7 ∷ b8 ∷ b9 ∷ b10 ∷ b11 ∷ b12 ∷ b13 ∷ b14 ∷ b15 ∷ rest) seconds fraction original unit frame sized few es ef eo eu is =
     let order = classic.order in
@@ -42,5 +42,9 @@ record_spelled classic (b0 ∷ b1 ∷ b2 ∷ b3 ∷ b4 ∷ b5 ∷ b6 ∷ b7 ∷ 
       link = ap (λ (f : FrameParts). f.link) is;
       time = ap (λ (f : FrameParts). f.time) is ∙ ap (λ u. Some (seconds * 1000000000 + fraction * u)) eu;
       direction = ap (λ (f : FrameParts). f.direction) is;
+      section = ap (λ (f : FrameParts). f.section) is;
+      interface = ap (λ (f : FrameParts). f.interface) is;
+      damaged = ap (λ (f : FrameParts). f.damaged) is;
+      missed = ap (λ (f : FrameParts). f.missed) is;
     }
 record_spelled classic _ seconds fraction original unit frame sized few es ef eo eu is = absurd (omega arith)

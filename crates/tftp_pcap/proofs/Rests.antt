@@ -1,28 +1,28 @@
 -- The rest of a piece, after its first bytes.
 use Rattle.std.proofs.Common.{◌≡◌, ◌≢◌, inl, inr, ℕ, ◌+◌, ◌-◌, ◌<◌, ◌≤◌, List, ◌++◌, length, length-append, take, drop, refl, sym, ap, ◌∙◌, append_assoc, arith, ◌⊎◌, Bool, true, false, Result, Ok, Err}
 use Rattle.std.proofs.lemmas.Grind.{common_steps}
-use Rattle.tftp_pcap.specs.{number_at, section_type, Announces, IsSize, Mode, Said, Says, front_of, EndReached, IsSkipped, IsWhole, RestEnds, Order, Interface, FaultKind, Truncated, Bad, Read, Memory}
+use Rattle.tftp_pcap.specs.{number_at, section_type, Announces, IsSize, Said, Says, front_of, EndReached, IsSkipped, IsWhole, RestEnds, Order, NamedInterface, Layout, FaultKind, Truncated, Bad, Read, Memory}
 use Rattle.tftp_pcap.specs.declared.layout.Layout.TheVariants.{Blocks}
 use Rattle.tftp_pcap.specs.declared.found.Found.TheVariants as found
 use Rattle.tftp_pcap.proofs.Whole.{number_dropped}
 use Rattle.tftp_pcap.proofs.Bodies.{skipped, wrong_end, block_none}
 use Rattle.tftp_pcap.proofs.Fronts.{front_some, grown_cut, grown_part, grown_whole, skipped_more}
 
-module _ (mode : Mode) (first bytes : List ℕ) (size : ℕ) (front : length first ≡ front_of mode.layout) (announced : Announces mode.layout first size) (sized : IsSize mode.layout size) where
-  pub rest_cut : (piece : List ℕ) → length (first ++ bytes) < size → RestEnds mode (Err Truncated) piece (first ++ bytes)
-  rest_cut piece short = grown_cut mode.layout first (first ++ bytes) bytes size refl announced (omega (arith, front)) (front_some mode.layout) sized short
+module _ (layout : Layout) (interfaces : List NamedInterface) (first bytes : List ℕ) (size : ℕ) (front : length first ≡ front_of layout) (announced : Announces layout first size) (sized : IsSize layout size) where
+  pub rest_cut : (piece : List ℕ) → length (first ++ bytes) < size → RestEnds layout interfaces (Err Truncated) piece (first ++ bytes)
+  rest_cut piece short = grown_cut layout first (first ++ bytes) bytes size refl announced (omega (arith, front)) (front_some layout) sized short
 
-  pub rest_whole : length (first ++ bytes) ≡ size → IsWhole mode.layout (first ++ bytes)
-  rest_whole whole = grown_whole mode.layout first (first ++ bytes) bytes size refl announced sized whole
+  pub rest_whole : length (first ++ bytes) ≡ size → IsWhole layout (first ++ bytes)
+  rest_whole whole = grown_whole layout first (first ++ bytes) bytes size refl announced sized whole
 
-  pub rest_failed : (kind : FaultKind) (piece : List ℕ) → piece ≡ first ++ bytes → (kind ≡ Read) ⊎ (kind ≡ Memory) → length (first ++ bytes) < size → RestEnds mode (Err kind) piece (first ++ bytes)
-  rest_failed kind piece are (inl is) short = rw is (grown_part mode.layout first (first ++ bytes) bytes size refl announced short)
-  rest_failed kind piece are (inr is) short = rw is (grown_part mode.layout first (first ++ bytes) bytes size refl announced short, sym are)
+  pub rest_failed : (kind : FaultKind) (piece : List ℕ) → piece ≡ first ++ bytes → (kind ≡ Read) ⊎ (kind ≡ Memory) → length (first ++ bytes) < size → RestEnds layout interfaces (Err kind) piece (first ++ bytes)
+  rest_failed kind piece are (inl is) short = rw is (grown_part layout first (first ++ bytes) bytes size refl announced short)
+  rest_failed kind piece are (inr is) short = rw is (grown_part layout first (first ++ bytes) bytes size refl announced short, sym are)
 
-  pub rest_read : (kind : FaultKind) (piece : List ℕ) → kind ≡ Read → length (first ++ bytes) < size → RestEnds mode (Err kind) piece (first ++ bytes)
-  rest_read kind piece is short = rw is (grown_part mode.layout first (first ++ bytes) bytes size refl announced short)
+  pub rest_read : (kind : FaultKind) (piece : List ℕ) → kind ≡ Read → length (first ++ bytes) < size → RestEnds layout interfaces (Err kind) piece (first ++ bytes)
+  rest_read kind piece is short = rw is (grown_part layout first (first ++ bytes) bytes size refl announced short)
 
-  pub rest_bad : (piece : List ℕ) → length (first ++ bytes) ≡ size → ((said : Said) → Says mode.layout mode.interfaces (first ++ bytes) said → ⊥) → RestEnds mode (Err Bad) piece (first ++ bytes)
+  pub rest_bad : (piece : List ℕ) → length (first ++ bytes) ≡ size → ((said : Said) → Says layout interfaces (first ++ bytes) said → ⊥) → RestEnds layout interfaces (Err Bad) piece (first ++ bytes)
   rest_bad piece whole never = inr (rest_whole whole, never)
 
 -- ---- a block that is skipped
@@ -31,13 +31,10 @@ plain_size : (order : Order) (s : List ℕ) (size : ℕ) → take 4 s ≢ sectio
 plain_size order s size plain (long, inl a) = absurd (plain a.0)
 plain_size order s size plain (long, inr a) = a.1
 
-module _ (order : Order) (interfaces : List Interface) (first more piece : List ℕ) (size : ℕ) (front : length first ≡ 12) (announced : Announces (Blocks order) first size) (sized : IsSize (Blocks order) size)
+module _ (order : Order) (interfaces : List NamedInterface) (first more piece : List ℕ) (size : ℕ) (front : length first ≡ 12) (announced : Announces (Blocks order) first size) (sized : IsSize (Blocks order) size)
     (other : IsSkipped (Blocks order) first) (reached : EndReached (Ok true) size (first ++ more) piece) where
   abbrev pub taken : List ℕ
   taken = first ++ more
-
-  abbrev pub mode : Mode
-  mode = record { layout = Blocks order; interfaces = interfaces }
 
   whole : IsWhole (Blocks order) taken
   whole = grown_whole (Blocks order) first (first ++ more) more size refl announced sized reached.0
@@ -52,14 +49,14 @@ module _ (order : Order) (interfaces : List Interface) (first more piece : List 
   last : number_at order piece 8 ≡ number_at order taken (length taken - 4)
   last = sym (number_dropped order piece 8) ∙ ap (λ l. number_at order l 0) reached.2 ∙ number_dropped order taken (size - 4) ∙ ap (λ (n : ℕ). number_at order taken (n - 4)) (sym reached.0)
 
-  pub skip_says : (again : ℕ) → again ≡ number_at order piece 8 → again ≡ size → RestEnds mode (Ok found.Skips) piece taken
+  pub skip_says : (again : ℕ) → again ≡ number_at order piece 8 → again ≡ size → RestEnds (Blocks order) interfaces (Ok found.Skips) piece taken
   skip_says again at same = (
-    skipped order interfaces taken enough (plain_size order taken (length taken) there.0 whole.0) whole.1.1.1 whole.1.0 there.0 (number_at order taken 0) refl (reached.0 ∙ sym same ∙ at ∙ last) there.1
+    skipped order interfaces taken enough (plain_size order taken (length taken) there.0 whole.0) whole.1.1.1 whole.1.0 there.0 (number_at order taken 0) refl (reached.0 ∙ sym same ∙ at ∙ last) there.1 there.5
         (λ packet. elim packet as (λ _. ⊥) [ inl e ↦ there.4 e | inr (inl e) ↦ there.3 e | inr (inr e) ↦ there.2 e ]),
     inl refl,
   )
 
-  pub skip_bad : (again : ℕ) → again ≡ number_at order piece 8 → again ≢ size → RestEnds mode (Err Bad) piece taken
+  pub skip_bad : (again : ℕ) → again ≡ number_at order piece 8 → again ≢ size → RestEnds (Blocks order) interfaces (Err Bad) piece taken
   skip_bad again at differs =
       inr (
         whole,

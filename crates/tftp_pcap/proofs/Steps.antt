@@ -3,7 +3,7 @@ use Rattle.std.proofs.Common.{◌≡◌, ◌≤◌, ◌<◌, ◌^◌, inl, inr, 
 use Rattle.std.specs.Io.KnownBytes.{prepend_known, Consumes}
 use Rattle.std.proofs.KnownBytes.{Consumes-trans}
 use Rattle.std.proofs.lemmas.Grind.{flat_map-append}
-use Rattle.tftp_pcap.specs.{FrameParts, Said, Says, Mode, Follows, Stands, IsRecording, next_mode, given, said_of, FailsAs, RunsOut, IsLonger, FrontEnds, RestEnds, Stops, PiecesState, StepEnds, WantsMemory, Found, Interface, FaultKind, NotARecording, Truncated, Bad, TooMany, Read, Memory}
+use Rattle.tftp_pcap.specs.{FrameParts, Said, Says, Mode, Follows, Stands, IsRecordingTo, next_mode, given, said_of, FailsAs, RunsOut, IsLonger, FrontEnds, RestEnds, Stops, PiecesState, StepEnds, WantsMemory, Found, Interface, FaultKind, NotARecording, Truncated, Bad, TooMany, Read, Memory}
 use Rattle.tftp_pcap.specs.declared.found.Found.TheVariants as found
 
 pub stops_of : (kind : FaultKind) (mode : Mode) (count : ℕ) (part : List ℕ) → FrontEnds mode.layout (Err kind) part → Stops kind mode count part
@@ -38,7 +38,7 @@ pub step_fails : (kind : FaultKind) (shown old : PiecesState) (before after : Op
 step_fails kind shown old before after piece is consumed ends =
     (piece, subst (λ (s : PiecesState). Consumes (prepend_known s.ahead before) after piece) is consumed, (stops_of kind old.mode old.count piece (subst (λ (s : PiecesState). FrontEnds s.mode.layout (Err kind) piece) is ends), λ h. refl))
 
-stops_rest : (kind : FaultKind) (mode : Mode) (count : ℕ) (piece taken : List ℕ) → RestEnds mode (Err kind) piece taken → Stops kind mode count taken × ((kind ≡ NotARecording) ⊎ (kind ≡ Memory) → taken ≡ piece)
+stops_rest : (kind : FaultKind) (mode : Mode) (count : ℕ) (piece taken : List ℕ) → RestEnds mode.layout mode.interfaces (Err kind) piece taken → Stops kind mode count taken × ((kind ≡ NotARecording) ⊎ (kind ≡ Memory) → taken ≡ piece)
 stops_rest Truncated mode count piece taken h = (h, λ e. absurd (elim e as (λ _. ⊥) [ inl a ↦ (let x : ⊥ = cc in x) | inr a ↦ (let x : ⊥ = cc in x) ]))
 stops_rest Bad mode count piece taken h = (h, λ e. absurd (elim e as (λ _. ⊥) [ inl a ↦ (let x : ⊥ = cc in x) | inr a ↦ (let x : ⊥ = cc in x) ]))
 stops_rest Read mode count piece taken h = (h, λ e. absurd (elim e as (λ _. ⊥) [ inl a ↦ (let x : ⊥ = cc in x) | inr a ↦ (let x : ⊥ = cc in x) ]))
@@ -54,22 +54,22 @@ module _ (shown old : PiecesState) (before middle after : Option (List ℕ)) (fr
   all_of : Consumes (prepend_known old.ahead before) after (front ++ more)
   all_of = subst (λ (s : PiecesState). Consumes (prepend_known s.ahead before) after (front ++ more)) is (Consumes-trans (prepend_known shown.ahead before) middle after front more first second)
 
-  pub rest_fails : (kind : FaultKind) → RestEnds shown.mode (Err kind) piece (front ++ more)
+  pub rest_fails : (kind : FaultKind) → RestEnds shown.mode.layout shown.mode.interfaces (Err kind) piece (front ++ more)
       → (taken : List ℕ) × Consumes (prepend_known old.ahead before) after taken × (Stops kind old.mode old.count taken × ((kind ≡ NotARecording) ⊎ (kind ≡ Memory) → taken ≡ piece))
-  rest_fails kind ends = (front ++ more, all_of, stops_rest kind old.mode old.count piece (front ++ more) (subst (λ (s : PiecesState). RestEnds s.mode (Err kind) piece (front ++ more)) is ends))
+  rest_fails kind ends = (front ++ more, all_of, stops_rest kind old.mode old.count piece (front ++ more) (subst (λ (s : PiecesState). RestEnds s.mode.layout s.mode.interfaces (Err kind) piece (front ++ more)) is ends))
 
-  pub rest_full : (f : Found) → RestEnds shown.mode (Ok f) piece (front ++ more) → (interface : Interface) × (f ≡ found.Names interface)
+  pub rest_full : (f : Found) → RestEnds shown.mode.layout shown.mode.interfaces (Ok f) piece (front ++ more) → (interface : Interface) × (f ≡ found.Names interface)
       → (taken : List ℕ) × Consumes (prepend_known old.ahead before) after taken × (Stops Memory old.mode old.count taken × ((Memory ≡ NotARecording) ⊎ (Memory ≡ Memory) → taken ≡ piece))
   rest_full f (says, held) (interface, named) =
       let there = subst (λ (s : PiecesState). Says s.mode.layout s.mode.interfaces (front ++ more) (said_of f piece)) is says in
       (front ++ more, all_of, (inr (interface, subst (λ (g : Found). Says old.mode.layout old.mode.interfaces (front ++ more) (said_of g piece)) named there), λ e. no_skip f interface (front ++ more) piece named held))
 
-  pub rest_says : (f : Found) (new : PiecesState) → RestEnds shown.mode (Ok f) piece (front ++ more) → new.mode ≡ next_mode shown.mode (said_of f piece) → new.count ≡ shown.count + 1 → shown.count < 2 ^ 40
+  pub rest_says : (f : Found) (new : PiecesState) → RestEnds shown.mode.layout shown.mode.interfaces (Ok f) piece (front ++ more) → new.mode ≡ next_mode shown.mode (said_of f piece) → new.count ≡ shown.count + 1 → shown.count < 2 ^ 40
       → (taken : List ℕ) × Consumes (prepend_known old.ahead before) after taken × StepEnds old new (Ok (Some f)) piece taken
   rest_says f new ends mode count few =
       (front ++ more, all_of, subst (λ (s : PiecesState). StepEnds s new (Ok (Some f)) piece (front ++ more)) is (ends.0, mode, count, few))
 
-  pub rest_place : (room : ℕ) (f : Found) → RestEnds shown.mode (Ok f) piece (front ++ more) → (interface : Interface) × (f ≡ found.Names interface) → shown.room ≤ length shown.mode.interfaces → WantsMemory room old.room old.mode piece
+  pub rest_place : (room : ℕ) (f : Found) → RestEnds shown.mode.layout shown.mode.interfaces (Ok f) piece (front ++ more) → (interface : Interface) × (f ≡ found.Names interface) → shown.room ≤ length shown.mode.interfaces → WantsMemory room old.room old.mode piece
   rest_place room f (says, held) (interface, named) full =
       let there = subst (λ (l : List ℕ). Says shown.mode.layout shown.mode.interfaces l (said_of f piece)) (no_skip f interface (front ++ more) piece named held) says in
       let here : WantsMemory room shown.room shown.mode piece = inr (interface, subst (λ (g : Found). Says shown.mode.layout shown.mode.interfaces piece (said_of g piece)) named there, full) in
@@ -99,10 +99,10 @@ module _ (bytes taken more piece : List ℕ) (frames : List FrameParts) (old new
       let there = subst (λ (m : Mode). Stands (bytes ++ (taken ++ more)) m (old.count + 1) (frames ++ given (said_of found piece))) (sym mode) here in
       (taken ++ more, both, subst (λ (n : ℕ). Stands (bytes ++ (taken ++ more)) new.mode n (frames ++ given (said_of found piece))) (sym count) there)
 
-  pub reach_none : StepEnds old new (Ok None) piece more → (all : List ℕ) × Consumes start end all × IsRecording (bytes ++ all) frames
+  pub reach_none : StepEnds old new (Ok None) piece more → (all : List ℕ) × Consumes start end all × IsRecordingTo new.mode (bytes ++ all) frames
   reach_none (none, opened, mode, count, few) =
       let same : bytes ++ taken ≡ bytes ++ (taken ++ more) = ap (λ l. bytes ++ l) (sym (append-nil taken) ∙ ap (λ l. taken ++ l) (sym none)) in
-      (taken ++ more, both, record { mode = old.mode; count = old.count; stands = subst (λ (b : List ℕ). Stands b old.mode old.count frames) same goes; opened = opened; few = few })
+      (taken ++ more, both, (record { mode = old.mode; count = old.count; stands = subst (λ (b : List ℕ). Stands b old.mode old.count frames) same goes; opened = opened; few = few }, sym mode))
 
   pub reach_short : (low room few places : ℕ) → low ≤ room → few ≤ places → more ≡ piece → WantsMemory room places old.mode piece → (all : List ℕ) × Consumes start end all × RunsOut low few (bytes ++ all) frames
   reach_short low room few places roomier further is wants = (

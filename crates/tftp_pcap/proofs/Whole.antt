@@ -4,7 +4,7 @@ use Rattle.std.specs.List.{slice_range}
 use Rattle.std.proofs.lemmas.List.Folds.{drop_split}
 use Rattle.std.proofs.lemmas.List.{length-take-le, length-drop, drop-take}
 use Rattle.std.proofs.lemmas.Grind.{common_steps}
-use Rattle.tftp_pcap.specs.{four, two, number_at, short_at, Spells, FrameParts, frame_at, SpellsBlock, SpellsSection, section_type, order_magic, longest_block, Said, BodySays, BlockSays, Interface, Big, Little, Order, Place}
+use Rattle.tftp_pcap.specs.{four, two, number_at, short_at, Spells, FrameParts, frame_at, SpellsBlock, SpellsSection, section_type, order_magic, longest_block, Said, BodySays, BlockSays, Interface, NamedInterface, Big, Little, Order, Place}
 use lib.Seq.{take-add}
 use Rattle.tftp_pcap.proofs.Cuts.{drop_twice, three_parts, length-slice_range, cut_one}
 use Rattle.tftp_pcap.proofs.Fours.{spells_one, spells_length}
@@ -161,7 +161,7 @@ section_other s order own x is =
 
 -- ---- any other block
 
-module _ (order : Order) (interfaces : List Interface) (s : List ℕ) where
+module _ (order : Order) (interfaces : List NamedInterface) (s : List ℕ) where
   pub block_says : 12 ≤ length s → length s ≡ number_at order s 4 → length s % 4 ≡ 0 → length s ≤ longest_block → take 4 s ≢ section_type → length s ≡ number_at order s (length s - 4)
       → (kind : ℕ) → kind ≡ number_at order s 0 → (said : Said) → BodySays order interfaces kind (body_of s) said → BlockSays order interfaces s said
   block_says enough sized words few other again kind is said says =
@@ -177,4 +177,4 @@ module _ (order : Order) (interfaces : List Interface) (s : List ℕ) where
   pub packet_moved : (place : Place) (frame : FrameParts) → place.start ≤ place.end → place.end ≤ length (body_of s) → 12 ≤ length s → frame_at (record place { start = 8 + place.start; end = 8 + place.end }) s ≡ frame_at place (body_of s)
   packet_moved place frame order_is within enough =
       let e = slice_range-slice_range place.start place.end (length s - 4) s order_is (omega (arith, within, length-slice_range 8 (length s - 4) s (omega arith))) (omega arith) in
-      λ i. record { link = place.link; time = place.time; direction = place.direction; original = place.original; bytes = e i }
+      λ i. record { section = place.section; interface = place.interface; link = place.link; time = place.time; direction = place.direction; damaged = place.damaged; missed = place.missed; original = place.original; bytes = e i }

@@ -37,7 +37,7 @@ pub record SpellsHeader (bytes : List ℕ) (classic : Classic) : Type 0 where
 abbrev pub fraction_unit : Bool → ℕ
 fraction_unit nano = if nano then 1 else 1000
 
--- a record: seconds, a fraction of a second, how many bytes of the frame follow, how many it had; and those bytes
+-- a record, of the one interface: seconds, a fraction of a second, how many bytes of the frame follow, how many it had; and those bytes
 pub record SpellsRecord (classic : Classic) (bytes : List ℕ) (frame : FrameParts) : Type 0 where
   pub head : List ℕ
   pub seconds : ℕ
@@ -48,3 +48,7 @@ pub record SpellsRecord (classic : Classic) (bytes : List ℕ) (frame : FramePar
   pub link : frame.link ≡ classic.link
   pub time : frame.time ≡ Some (seconds * 1000000000 + fraction * fraction_unit classic.nano)
   pub direction : frame.direction ≡ Unknown
+  pub section : frame.section ≡ 0
+  pub interface : frame.interface ≡ 0
+  pub damaged : frame.damaged ≡ false
+  pub missed : frame.missed ≡ 0

@@ -2,7 +2,7 @@
 use Rattle.std.specs.Prelude.{◌≡◌, ◌+◌, ◌≤◌, ◌⊎◌, ℕ, Bool, true, false, List, [], ◌∷◌, ◌++◌, length, Option, Some, None, Result, Ok, Err}
 use Rattle.std.specs.Io.KnownBytes.{Consumes, IsAtEnd}
 use Rattle.tftp_pcap.specs.Frames.{FrameParts, frame_at}
-use Rattle.tftp_pcap.specs.Pieces.{Mode, Stands, IsRecording}
+use Rattle.tftp_pcap.specs.Pieces.{Mode, Stands, IsRecordingTo}
 use Rattle.tftp_pcap.specs.Stopping.{PiecesState, Stops, WantsMemory}
 use Rattle.tftp_pcap.specs.declared.place.Place.{Place}
 use Rattle.tftp_pcap.specs.declared.fault.FaultKind.{FaultKind}
@@ -41,13 +41,13 @@ IsWrong Memory = ⊥
 -- what reading on to the next frame tells of the bytes that were taken with it and before it, and of the frames before it
 abbrev pub PlaceTells : Result (Option Place) FaultKind → PiecesState → List ℕ → List ℕ → List FrameParts → Type 0
 PlaceTells (Ok (Some place)) state piece bytes frames = Stands bytes state.mode state.count (frames ++ frame_at place piece ∷ [])
-PlaceTells (Ok None) state piece bytes frames = IsRecording bytes frames
+PlaceTells (Ok None) state piece bytes frames = IsRecordingTo state.mode bytes frames
 PlaceTells (Err kind) state piece bytes frames = FailsAs bytes frames kind
 
 -- the same, once the frame is in what the caller holds
 abbrev pub FillTells : Result Bool FaultKind → PiecesState → FrameParts → List ℕ → List FrameParts → Type 0
 FillTells (Ok true) state frame bytes frames = Stands bytes state.mode state.count (frames ++ frame ∷ [])
-FillTells (Ok false) state frame bytes frames = IsRecording bytes frames
+FillTells (Ok false) state frame bytes frames = IsRecordingTo state.mode bytes frames
 FillTells (Err kind) state frame bytes frames = FailsAs bytes frames kind
 
 -- ---- the reader
@@ -66,7 +66,7 @@ pub record FailsIn (bytes : List ℕ) (frames : List FrameParts) (fault : PcapFa
 -- what the reader took and gave, by whether it goes on
 abbrev pub StandingTells : Standing PcapFault → ReaderState → List ℕ → List FrameParts → Type 0
 StandingTells Open reader bytes frames = Stands bytes reader.pieces.mode reader.pieces.count frames × (reader.count ≡ length frames)
-StandingTells Over reader bytes frames = IsRecording bytes frames
+StandingTells Over reader bytes frames = IsRecordingTo reader.pieces.mode bytes frames
 StandingTells (Failed fault) reader bytes frames = FailsIn bytes frames fault
 
 -- The reader stands for a history: it took these bytes, and gave these frames, in order.

@@ -6,6 +6,7 @@ use Rattle.tftp_pcap.specs.Numbers.{number_at}
 use Rattle.tftp_pcap.specs.Blocks.{section_type}
 use Rattle.tftp_pcap.specs.Sizes.{IsIrregular, IsTooLong}
 use Rattle.tftp_pcap.specs.declared.layout.Interface.{Interface}
+use Rattle.tftp_pcap.specs.declared.layout.NamedInterface.{NamedInterface}
 use Rattle.tftp_pcap.specs.declared.found.Found.{Found}
 use Rattle.tftp_pcap.specs.declared.found.Found.TheVariants as found
 use Rattle.tftp_pcap.specs.declared.layout.Layout.{Layout}
@@ -29,11 +30,11 @@ IsCut layout part = IsShort layout part × (part ≢ []) × (layout ≡ Unopened
 abbrev pub IsWhole : Layout → List ℕ → Type 0
 IsWhole layout piece = Announces layout piece (length piece) × IsSize layout (length piece)
 
--- a block that says nothing that counts, by its type: it is no section, no interface and no packet block
+-- a block that says nothing that counts, by its type: it is no section, no interface, no packet and no statistics block
 abbrev pub IsSkipped : Layout → List ℕ → Type 0
 IsSkipped Unopened bytes = ⊥
 IsSkipped (Classic classic) bytes = ⊥
-IsSkipped (Blocks order) bytes = (take 4 bytes ≢ section_type) × (number_at order bytes 0 ≢ 1) × (number_at order bytes 0 ≢ 2) × (number_at order bytes 0 ≢ 3) × (number_at order bytes 0 ≢ 6)
+IsSkipped (Blocks order) bytes = (take 4 bytes ≢ section_type) × (number_at order bytes 0 ≢ 1) × (number_at order bytes 0 ≢ 2) × (number_at order bytes 0 ≢ 3) × (number_at order bytes 0 ≢ 6) × (number_at order bytes 0 ≢ 5)
 
 -- what reading the first bytes of a piece ends with: how many bytes it has, the end before it, or a fault
 abbrev pub FrontEnds : Layout → Result (Option ℕ) FaultKind → List ℕ → Type 0
@@ -65,15 +66,15 @@ EndReached _ size taken piece = length taken < size
 -- ---- one piece more
 
 -- bytes that begin with no piece: they are no size that pieces have, or whole, and say nothing
-abbrev pub IsBad : Mode → List ℕ → Type 0
-IsBad mode part = IsIrregular mode.layout part ⊎ (IsWhole mode.layout part × ((said : Said) → Says mode.layout mode.interfaces part said → ⊥))
+abbrev pub IsBad : Layout → List NamedInterface → List ℕ → Type 0
+IsBad layout interfaces part = IsIrregular layout part ⊎ (IsWhole layout part × ((said : Said) → Says layout interfaces part said → ⊥))
 
 -- What a fault says of the bytes that were read of a piece, after so many. Want of memory: the piece is not whole, or it
 -- names an interface.
 abbrev pub Stops : FaultKind → Mode → ℕ → List ℕ → Type 0
 Stops NotARecording mode count part = (mode.layout ≡ Unopened) × (BeginsAsOne part → ⊥)
 Stops Truncated mode count part = IsCut mode.layout part
-Stops Bad mode count part = IsBad mode part
+Stops Bad mode count part = IsBad mode.layout mode.interfaces part
 Stops TooLong mode count part = IsTooLong mode.layout part
 Stops TooMany mode count part = (count ≡ 2 ^ 40) × (part ≡ [])
 Stops Read mode count part = IsPart mode.layout part
@@ -87,13 +88,13 @@ WantsMemory room places mode part =
 
 -- What reading the rest of a piece ends with, by all its bytes that were taken, and by those that are held: of a block that is
 -- skipped they are fewer.
-abbrev pub RestEnds : Mode → Result Found FaultKind → List ℕ → List ℕ → Type 0
-RestEnds mode (Ok f) piece taken = Says mode.layout mode.interfaces taken (said_of f piece) × ((f ≡ found.Skips) ⊎ (taken ≡ piece))
-RestEnds mode (Err Truncated) piece taken = IsCut mode.layout taken
-RestEnds mode (Err Bad) piece taken = IsBad mode taken
-RestEnds mode (Err Read) piece taken = IsPart mode.layout taken
-RestEnds mode (Err Memory) piece taken = IsPart mode.layout taken × (taken ≡ piece)
-RestEnds mode (Err _) piece taken = ⊥
+abbrev pub RestEnds : Layout → List NamedInterface → Result Found FaultKind → List ℕ → List ℕ → Type 0
+RestEnds layout interfaces (Ok f) piece taken = Says layout interfaces taken (said_of f piece) × ((f ≡ found.Skips) ⊎ (taken ≡ piece))
+RestEnds layout interfaces (Err Truncated) piece taken = IsCut layout taken
+RestEnds layout interfaces (Err Bad) piece taken = IsBad layout interfaces taken
+RestEnds layout interfaces (Err Read) piece taken = IsPart layout taken
+RestEnds layout interfaces (Err Memory) piece taken = IsPart layout taken × (taken ≡ piece)
+RestEnds layout interfaces (Err _) piece taken = ⊥
 
 -- what is known between pieces: what was read ahead, the mode, and how many pieces there were
 pub record PiecesState : Type 0 where

@@ -71,9 +71,13 @@ pub fn record_of(classic: Classic, bytes: &[u8]) -> Place
     let fraction = order.number(bytes, 4) as u64;
     let unit = if classic.nano { 1 } else { 1000 };
     Place {
+        section: 0,
+        interface: 0,
         link: classic.link,
         time: Some(seconds * 1_000_000_000 + fraction * unit),
         direction: Direction::Unknown,
+        damaged: false,
+        missed: 0,
         original: order.number(bytes, 12),
         start: HEAD,
         end: bytes.len(),

@@ -1,4 +1,4 @@
-use crate::layout::{Interface, Layout};
+use crate::layout::{Dropped, Interface, Layout};
 use crate::place::Place;
 
 /// What a piece of a recording says.
@@ -10,6 +10,8 @@ pub enum Found {
     Names(Interface),
     /// A frame.
     Gives(Place),
+    /// What an interface dropped.
+    Counts(Dropped),
     /// Nothing that counts.
     Skips,
 }

@@ -52,9 +52,13 @@ impl Frame {
         Frame {
             number: 0,
             place: Place {
+                section: 0,
+                interface: 0,
                 link: 0,
                 time: None,
                 direction: Direction::Unknown,
+                damaged: false,
+                missed: 0,
                 original: 0,
                 start: 0,
                 end: 0,
@@ -108,6 +112,23 @@ impl Frame {
         self.number
     }
 
+    /// The section of the recording in which it stands, the first being 1; 0 in a classic recording, which has none.
+    #[inline]
+    pub fn section(&self) -> u64
+        ensures { result ≡ self.now.parts.section }
+    {
+        self.place.section
+    }
+
+    /// The number of the interface in its section at which it was recorded, the first being 0; 0 in a classic recording, which
+    /// numbers none.
+    #[inline]
+    pub fn interface(&self) -> u64
+        ensures { result ≡ self.now.parts.interface }
+    {
+        self.place.interface
+    }
+
     /// What its bytes are: the link type (tcpdump.org/linktypes.html).
     #[inline]
     pub fn link(&self) -> u32
@@ -131,6 +152,15 @@ impl Frame {
         ensures { result ≡ self.now.parts.direction }
     {
         self.place.direction
+    }
+
+    /// Whether it was received with an error of the link, as a wrong checksum of Ethernet: a host discards it
+    /// (draft-ietf-opsawg-pcapng, section 4.3.1).
+    #[inline]
+    pub fn is_damaged(&self) -> bool
+        ensures { result ≡ self.now.parts.damaged }
+    {
+        self.place.damaged
     }
 
     /// How many bytes it had, of which the recording may have fewer.

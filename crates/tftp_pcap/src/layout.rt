@@ -34,3 +34,27 @@ pub struct Interface {
     /// What is added to its times, in seconds: a signed number of 64 bits, as its bits are.
     pub offset: u64,
 }
+
+/// An interface of a section, which its block named there.
+#[derive(Clone, Copy, Debug, PartialEq, Eq)]
+pub struct NamedInterface {
+    /// What its block says.
+    pub described: Interface,
+    /// The section, the first of the recording being 1.
+    pub section: u64,
+    /// Its number in the section, the first being 0.
+    pub number: u64,
+    /// How many packets the statistics blocks say that it dropped: the greatest count.
+    pub reported: u64,
+    /// How many packets its packets' blocks say that it lost: their sum.
+    pub missed: u64,
+}
+
+/// What a statistics block says of an interface.
+#[derive(Clone, Copy, Debug, PartialEq, Eq)]
+pub struct Dropped {
+    /// The interface, by its number in the section.
+    pub interface: u64,
+    /// How many packets it and the operating system dropped since the capture began.
+    pub count: u64,
+}

@@ -10,6 +10,7 @@ mod frame;
 mod gather;
 mod laws;
 mod layout;
+mod losses;
 mod next;
 mod numbers;
 mod options;
@@ -25,8 +26,9 @@ mod times;
 pub use fault::{FaultKind, PcapFault};
 pub use frame::{Direction, Frame};
 pub use laws::{
-    fault_is_in_no_recording, fault_is_one, recording_has_one_reading, worked_recordings,
+    fault_is_in_no_recording, fault_is_one, recording_has_one_reading, worked_losses,
+    worked_recordings,
 };
-pub use layout::{Classic, Interface, Layout};
+pub use layout::{Classic, Dropped, Interface, Layout, NamedInterface};
 pub use numbers::Order;
 pub use reader::FrameReader;

@@ -19,7 +19,7 @@ fn place_of(found: Found) -> Option<Place>
 {
     match found {
         Found::Gives(place) => Some(place),
-        Found::Opens(_) | Found::Names(_) | Found::Skips => None,
+        Found::Opens(_) | Found::Names(_) | Found::Counts(_) | Found::Skips => None,
     }
 }
 

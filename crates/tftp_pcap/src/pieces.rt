@@ -4,16 +4,18 @@ ghost use Rattle.tftp_pcap.specs.Numbers.{number_at};
 ghost use Rattle.tftp_pcap.specs.Pieces.{Announces, AnnouncesSection, BlockSays, BodySays, IsSize, LiesWithin, OpensAs, Said, Says, front_of, said_of};
 ghost use Rattle.tftp_pcap.specs.Stopping.{IsSkipped};
 ghost use Rattle.tftp_pcap.specs.declared.layout.Layout.{Layout};
+ghost use Rattle.tftp_pcap.specs.declared.layout.Dropped.{Dropped};
 ghost use Rattle.tftp_pcap.specs.declared.layout.Interface.{Interface};
 ghost use Rattle.tftp_pcap.specs.declared.found.Found.{Found};
 ghost use Rattle.tftp_pcap.specs.declared.numbers.Order.{Order};
 
 use crate::blocks::{
-    ENHANCED, INTERFACE, MOST_INTERFACES, OBSOLETE, SIMPLE, interface_of, packet_of,
+    ENHANCED, INTERFACE, MOST_INTERFACES, OBSOLETE, SIMPLE, STATISTICS, dropped_of, interface_of,
+    packet_of,
 };
 use crate::classic::{header_of, record_of};
 use crate::found::Found;
-use crate::layout::{Interface, Layout};
+use crate::layout::{Layout, NamedInterface};
 use crate::numbers::Order;
 use crate::place::Place;
 use crate::sizes::{is_section, order_of};
@@ -68,7 +70,7 @@ fn moved(place: Place) -> Place
 }
 
 /// What a block says that is no section header and all of which is there; none where it is no block.
-fn block_of(order: Order, interfaces: &[Interface], piece: &[u8]) -> Option<Found>
+fn block_of(order: Order, interfaces: &[NamedInterface], piece: &[u8]) -> Option<Found>
     requires whole { length piece.now ≡ number_at order piece.now 4 }
     requires least { 12 ≤ length piece.now }
     requires words { length piece.now % 4 ≡ 0 }
@@ -85,6 +87,9 @@ fn block_of(order: Order, interfaces: &[Interface], piece: &[u8]) -> Option<Foun
     let kind = order.number(piece, 0);
     if kind == INTERFACE {
         return named_by(order, interfaces, body);
+    }
+    if kind == STATISTICS {
+        return counted_by(order, interfaces, body);
     }
     if !is_packet(kind) {
         return Some(Found::Skips);
@@ -111,14 +116,14 @@ pub fn skipped_in(layout: Layout, front: &[u8]) -> Option<Order>
         return None;
     };
     let kind = order.number(front, 0);
-    if is_section(front) || kind == INTERFACE || is_packet(kind) {
+    if is_section(front) || kind == INTERFACE || kind == STATISTICS || is_packet(kind) {
         return None;
     }
     Some(order)
 }
 
 /// The interface that the body of its block names, where there is room for one more; none where it is none.
-fn named_by(order: Order, interfaces: &[Interface], body: &[u8]) -> Option<Found>
+fn named_by(order: Order, interfaces: &[NamedInterface], body: &[u8]) -> Option<Found>
     ensures { MatchOption result ((said : Said) → BodySays order interfaces.now 1 body.now said → ⊥) (λ found. (interface : Interface) × (found ≡ Found.Names interface) × BodySays order interfaces.now 1 body.now (Said.Names interface)) }
 {
     if interfaces.len() >= MOST_INTERFACES {
@@ -130,8 +135,18 @@ fn named_by(order: Order, interfaces: &[Interface], body: &[u8]) -> Option<Found
     }
 }
 
+/// What the body of a statistics block says that an interface dropped; none where it is none.
+fn counted_by(order: Order, interfaces: &[NamedInterface], body: &[u8]) -> Option<Found>
+    ensures { MatchOption result ((said : Said) → BodySays order interfaces.now 5 body.now said → ⊥) (λ found. (dropped : Dropped) × (found ≡ Found.Counts dropped) × BodySays order interfaces.now 5 body.now (Said.Counts dropped)) }
+{
+    match dropped_of(order, interfaces, body) {
+        Some(dropped) => Some(Found::Counts(dropped)),
+        None => None,
+    }
+}
+
 /// What a piece says, all of which is there; none where it is no piece.
-pub fn said_by(layout: Layout, interfaces: &[Interface], piece: &[u8]) -> Option<Found>
+pub fn said_by(layout: Layout, interfaces: &[NamedInterface], piece: &[u8]) -> Option<Found>
     requires whole { Announces layout piece.now (length piece.now) }
     requires sized { IsSize layout (length piece.now) }
     ensures says { MatchOption result ((said : Said) → Says layout interfaces.now piece.now said → ⊥) (λ found. Says layout interfaces.now piece.now (said_of found piece.now)) }

@@ -6,7 +6,7 @@ ghost use Rattle.tftp_pcap.specs.Stopping.{FrontEnds, IsLonger, IsSkipped, RestE
 use crate::fault::FaultKind;
 use crate::found::Found;
 use crate::gather::gather;
-use crate::layout::{Interface, Layout};
+use crate::layout::{Layout, NamedInterface};
 use crate::pieces::{said_by, skipped_in};
 use crate::sizes::{begins_as_one, front_of, size_of};
 use crate::skip::skip_rest;
@@ -56,7 +56,7 @@ pub fn read_front<R: Read>(
 /// Reads the rest of a piece, and says what it says: a block that is skipped is not held.
 pub fn read_rest<R: Read>(
     layout: Layout,
-    interfaces: &[Interface],
+    interfaces: &[NamedInterface],
     ahead: &mut ReadBuffer,
     reader: &mut Latched<R>,
     piece: &mut Vec<u8>,
@@ -66,7 +66,7 @@ pub fn read_rest<R: Read>(
     requires announced { Announces layout piece.old.items size }
     requires sized { IsSize layout size }
     ensures ends { (more : List ℕ) × Consumes (prepend_known ahead.old.bytes (R.remaining reader.old.0)) (prepend_known ahead.new.bytes (R.remaining reader.new.0)) more
-        × RestEnds (record { layout = layout; interfaces = interfaces.now }) result piece.new.items (piece.old.items ++ more) }
+        × RestEnds layout interfaces.now result piece.new.items (piece.old.items ++ more) }
     ensures within { IfOk result (λ found. LiesWithin found piece.new.items) }
     ensures end { result ≡ Err FaultKind.Truncated → IsAtEnd (prepend_known ahead.new.bytes (R.remaining reader.new.0)) }
     ensures read { result ≡ Err FaultKind.Read → reader.new.1 ≡ true }

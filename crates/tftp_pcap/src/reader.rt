@@ -1,7 +1,7 @@
 ghost use Rattle.std.specs.Prelude.{◌≡◌, ◌≢◌, ◌+◌, ◌<◌, ◌≤◌, ◌⊎◌, ◌^◌, ◌++◌, ℕ, List, [], length, true, false, Ok, Err, IfOk, IfErr, OnOk};
 ghost use Rattle.std.specs.Io.KnownBytes.{prepend_known, Consumes, IsAtEnd};
 ghost use Rattle.tftp_pcap.specs.Frames.{FrameParts};
-ghost use Rattle.tftp_pcap.specs.Pieces.{start};
+ghost use Rattle.tftp_pcap.specs.Pieces.{lost_of, start};
 ghost use Rattle.tftp_pcap.specs.History.{Continues, FailsToBegin, RunsOut, StandsFor};
 ghost use Rattle.tftp_streams.specs.{KeepsAnswer, standing_after};
 
@@ -117,6 +117,17 @@ impl FrameReader {
                 Err(fault)
             }
         }
+    }
+
+    /// How many packets the recorder says it lost, of those that it should have recorded before the next frame, or before the
+    /// end: at each interface the greatest count of its statistics blocks (`isb_ifdrop` and `isb_osdrop`), or the sum of what
+    /// its packets' blocks say (`epb_dropcount`), whichever is more; 2^64-1 where they are more. A classic recording counts
+    /// none. Statistics mostly stand at the end of a recording: the number is whole once it has ended.
+    #[inline]
+    pub fn lost(&self) -> u64
+        ensures { result ≡ lost_of self.now.pieces.mode }
+    {
+        self.pieces.lost()
     }
 
     /// How many frames were read.

@@ -3,7 +3,7 @@ ghost use Rattle.std.specs.Io.KnownBytes.{prepend_known, Consumes, IsAtEnd};
 ghost use Rattle.tftp_pcap.specs.Pieces.{Announces, IsSize, LiesWithin};
 ghost use Rattle.tftp_pcap.specs.Stopping.{IsSkipped, RestEnds, EndReached, SkipEnds};
 ghost use Rattle.tftp_pcap.specs.declared.layout.Layout.{Layout};
-ghost use Rattle.tftp_pcap.specs.declared.layout.Interface.{Interface};
+ghost use Rattle.tftp_pcap.specs.declared.layout.NamedInterface.{NamedInterface};
 
 use crate::fault::FaultKind;
 use crate::found::Found;
@@ -83,8 +83,8 @@ pub fn skip_rest<R: Read>(
     requires announced { Announces (Layout.Blocks order) piece.old.items size }
     requires sized { IsSize (Layout.Blocks order) size }
     requires skipped { IsSkipped (Layout.Blocks order) piece.old.items }
-    ensures ends { (interfaces : List Interface) → (more : List ℕ) × Consumes (prepend_known ahead.old.bytes (R.remaining reader.old.0)) (prepend_known ahead.new.bytes (R.remaining reader.new.0)) more
-        × RestEnds (record { layout = Layout.Blocks order; interfaces = interfaces }) result piece.new.items (piece.old.items ++ more) }
+    ensures ends { (interfaces : List NamedInterface) → (more : List ℕ) × Consumes (prepend_known ahead.old.bytes (R.remaining reader.old.0)) (prepend_known ahead.new.bytes (R.remaining reader.new.0)) more
+        × RestEnds (Layout.Blocks order) interfaces result piece.new.items (piece.old.items ++ more) }
     ensures within { IfOk result (λ found. LiesWithin found piece.new.items) }
     ensures end { result ≡ Err FaultKind.Truncated → IsAtEnd (prepend_known ahead.new.bytes (R.remaining reader.new.0)) }
     ensures read { result ≡ Err FaultKind.Read → reader.new.1 ≡ true }

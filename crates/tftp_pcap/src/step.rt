@@ -2,12 +2,13 @@ ghost use Rattle.std.specs.Prelude.{◌≡◌, ◌≢◌, ◌+◌, ◌<◌, ◌�
 ghost use Rattle.std.specs.Io.KnownBytes.{prepend_known, Consumes, IsAtEnd};
 ghost use Rattle.tftp_pcap.specs.declared.layout.Interface.{Interface};
 ghost use Rattle.tftp_pcap.specs.declared.found.Found.{Found};
-ghost use Rattle.tftp_pcap.specs.Pieces.{LiesWithin, next_mode, said_of, start};
+ghost use Rattle.tftp_pcap.specs.Pieces.{LiesWithin, lost_of, next_mode, said_of, start};
 ghost use Rattle.tftp_pcap.specs.Stopping.{StepEnds, WantsMemory};
 
 use crate::fault::FaultKind;
 use crate::found::Found;
-use crate::layout::{Interface, Layout};
+use crate::layout::{Layout, NamedInterface};
+use crate::losses::{miss, report};
 use crate::read::{read_front, read_rest};
 use std::alloc::{AllocError, Global};
 use std::io::Read;
@@ -22,19 +23,24 @@ const MOST_PIECES: u64 = 1 << 40;
 pub struct Pieces {
     ahead: ReadBuffer,
     layout: Layout,
-    interfaces: Vec<Interface>,
+    sections: u64,
+    before: u64,
+    lost: u64,
+    interfaces: Vec<NamedInterface>,
     count: u64,
 }
 
 impl Model for Pieces {
-    ghost use Rattle.std.specs.Prelude.{◌≤◌, ◌^◌, vec_capacity};
+    ghost use Rattle.std.specs.Prelude.{◌≡◌, ◌+◌, ◌≤◌, ◌^◌, vec_capacity};
+    ghost use Rattle.tftp_pcap.specs.Blocks.{capped};
+    ghost use Rattle.tftp_pcap.specs.Losses.{lost_in};
     ghost use Rattle.tftp_pcap.specs.Stopping.{PiecesState};
 
     ghost Value = { PiecesState };
 
-    ghost view = { λ p. record { ahead = p.ahead.bytes; mode = record { layout = p.layout; interfaces = p.interfaces.items }; count = p.count; room = vec_capacity p.interfaces } };
+    ghost view = { λ p. record { ahead = p.ahead.bytes; mode = record { layout = p.layout; sections = p.sections; before = p.before; interfaces = p.interfaces.items }; count = p.count; room = vec_capacity p.interfaces } };
 
-    ghost invariant = { λ p. p.count ≤ 2 ^ 40 };
+    ghost invariant = { λ p. (p.count ≤ 2 ^ 40) × (p.sections ≤ p.count) × (p.lost ≡ capped (p.before + lost_in p.interfaces.items)) };
 }
 
 impl Pieces {
@@ -48,9 +54,20 @@ impl Pieces {
         Ok(Pieces {
             ahead,
             layout: Layout::Unopened,
+            sections: 0,
+            before: 0,
+            lost: 0,
             interfaces: Vec::new(alloc),
             count: 0,
         })
+    }
+
+    /// How many packets were lost up to here, as the recording says.
+    #[inline]
+    pub fn lost(&self) -> u64
+        ensures { result ≡ lost_of self.now.mode }
+    {
+        self.lost
     }
 
     /// Takes what a piece says; false where there is no memory for a further interface.
@@ -68,14 +85,31 @@ impl Pieces {
         match found {
             Found::Opens(layout) => {
                 self.layout = layout;
+                self.sections += 1;
+                self.before = self.lost;
                 self.interfaces.clear();
             }
             Found::Names(interface) => {
-                if self.interfaces.push(interface).is_err() {
+                let named = NamedInterface {
+                    described: interface,
+                    section: self.sections,
+                    number: self.interfaces.len() as u64,
+                    reported: 0,
+                    missed: 0,
+                };
+                if self.interfaces.push(named).is_err() {
                     return false;
                 }
             }
-            Found::Gives(_) | Found::Skips => {}
+            Found::Gives(place) => {
+                let more = miss(&mut self.interfaces, place.interface, place.missed);
+                self.lost = self.lost.saturating_add(more);
+            }
+            Found::Counts(dropped) => {
+                let more = report(&mut self.interfaces, dropped.interface, dropped.count);
+                self.lost = self.lost.saturating_add(more);
+            }
+            Found::Skips => {}
         }
         self.count += 1;
         true

@@ -1,10 +1,10 @@
 -- What a frame does among the fragments that wait.
 use Rattle.std.proofs.Common.{◌≡◌, ◌≢◌, ℕ, inr, List, [], Option, None, Result, Ok, Err, sym, ap, ◌∙◌, subst, arith}
 use Rattle.std.specs.Result.{IsOkAnd}
-use Rattle.tftp_frames.specs.{SpellsFrame, Packet, shown, HoldsUdp, SpellsUdp, Udp, FrameFault, UdpFault, IpPacket}
+use Rattle.tftp_frames.specs.{SpellsFrame, Packet, shown, HasUdp, HoldsUdp, SpellsUdp, Udp, FrameFault, UdpFault, IpPacket}
 use Rattle.tftp_fragments.specs.{Arrival, SetState, IsTried, MayBePut, PutEnds, Sets, room_of_all, Outcome, Full}
-use Rattle.tftp_fragments.specs.Whole.{Part}
-use Rattle.tftp_recording.specs.{MakesRoom}
+use Rattle.tftp_fragments.specs.Whole.{Content, Part}
+use Rattle.tftp_recording.specs.{MakesRoom, content_of}
 
 pub spells_here : (link other : ℕ) (bytes others : List ℕ) (p : Packet) → other ≡ link → others ≡ bytes → SpellsFrame link bytes p → SpellsFrame other others p
 spells_here link other bytes others p e f h = subst (λ (l : ℕ). SpellsFrame l others p) (sym e) (subst (λ (l : List ℕ). SpellsFrame link l p) (sym f) h)
@@ -14,6 +14,20 @@ spells_udp_here protocol other bytes others udp e f h = subst (λ (n : ℕ). Spe
 
 pub holds_udp_here : (fault : UdpFault) (protocol other : ℕ) (bytes others : List ℕ) → protocol ≡ other → bytes ≡ others → HoldsUdp fault protocol bytes → HoldsUdp fault other others
 holds_udp_here fault protocol other bytes others e f h = subst (λ (n : ℕ). HoldsUdp fault n others) e (subst (λ (l : List ℕ). HoldsUdp fault protocol l) f h)
+
+pub has_udp_here : (protocol other : ℕ) (bytes others found : List ℕ) → protocol ≡ other → bytes ≡ others → HasUdp other others found → HasUdp protocol bytes found
+has_udp_here protocol other bytes others found e f h = subst (λ (n : ℕ). HasUdp n bytes found) (sym e) (subst (λ (l : List ℕ). HasUdp other l found) (sym f) h)
+
+pub has_udp_of : (p q : Packet) (whole : Option Content) (found : List ℕ) → q ≡ p → HasUdp (content_of p whole).protocol (content_of p whole).bytes found → HasUdp (content_of q whole).protocol (content_of q whole).bytes found
+has_udp_of p q whole found same has = subst (λ (x : Packet). HasUdp (content_of x whole).protocol (content_of x whole).bytes found) (sym same) has
+
+-- the packet that was read is that of the frame
+pub packet_read : (r : Result IpPacket FrameFault) (p : Packet) (packet : IpPacket) → r ≡ Ok packet → IsOkAnd r (λ found. shown found ≡ p) → shown packet ≡ p
+packet_read r p packet is only = subst (λ (x : Result IpPacket FrameFault). IsOkAnd x (λ found. shown found ≡ p)) is only
+
+pub none_read : (r : Result IpPacket FrameFault) (p : Packet) (e : FrameFault) → r ≡ Err e → IsOkAnd r (λ found. shown found ≡ p) → ⊥
+none_read (Ok found) p e is only = cc
+none_read (Err f) p e is only = only
 
 -- a frame that is no packet, and one that is a whole one
 pub not_read : (r : Result IpPacket FrameFault) (p : Packet) (e : FrameFault) → r ≡ Err e → IsOkAnd r (λ found. shown found ≡ p) → ⊥

@@ -17,7 +17,7 @@ use Rattle.tftp_frames.specs.declared.fault.FrameFault.TheVariants.{Protocol}
 use Rattle.tftp_frames.specs.declared.fault.UdpFault.TheVariants.{Protocol as NotUdp}
 use Rattle.tftp_frames.proofs.FaultOrder.{packet_one}
 use Rattle.tftp_frames.proofs.Uppers.{spells_ip}
-use Rattle.tftp_recording.specs.{LetsGoOld, TakesPart, arrival_of, IsDatagram, IsFateOf, IsHistory, cooked_step, ethernet_step, first_bytes, first_part, first_set, first_step, icmp_content, icmp_frame, last_bytes, last_named, last_of_icmp, last_part, last_step, part_of_icmp, raw_frame, recorded_at, recorded_first, worked_content, worked_key, worked_time, Left, Frame, New}
+use Rattle.tftp_recording.specs.{LetsGoOld, TakesPart, arrival_of, IsDatagram, IsFateOf, IsHistory, cooked_step, ethernet_step, first_bytes, first_of, first_part, first_set, first_step, icmp_content, icmp_frame, last_bytes, last_named, last_of_icmp, last_part, last_step, part_of_icmp, raw_frame, recorded_at, recorded_first, worked_content, worked_key, worked_time, Left, Frame, New}
 use Rattle.tftp_recording.specs.declared.fate.Datagram.{Datagram as Given}
 use Rattle.tftp_recording.specs.declared.fate.Fate.TheVariants.{Datagram}
 use Rattle.tftp_recording.specs.declared.likeness.Likeness.TheVariants.{Copy}
@@ -73,23 +73,33 @@ ethernet_history : IsHistory (ethernet_step 1000000000 ∷ [])
 ethernet_history = (
   inl (is_whole 1 (two_tags ++ ipv4_bytes) (ipv4_packet Unknown ipv4_bytes) ethernet_spells refl, refl, refl),
   tt,
-  inr (ipv4_packet Unknown ipv4_bytes, ethernet_spells, none_before (recorded_at 1000000000), refl),
+  inr (ipv4_packet Unknown ipv4_bytes, ethernet_spells, none_before (recorded_at 0 1000000000), refl),
 )
 
-near_copy : IsCopy (recorded_at 1000000000 ∷ []) (recorded_at 1001000000)
+near_copy : IsCopy (recorded_at 0 1000000000 ∷ []) (recorded_at 1 1001000000)
 near_copy = search rules
 
-far_from : IsCopy (recorded_at 1000000000 ∷ []) (recorded_at 1001000001) → ⊥
+far_from : IsCopy (recorded_at 0 1000000000 ∷ []) (recorded_at 1 1001000001) → ⊥
 far_from copy = search rules
 
-pub copy_history : IsHistory (cooked_step Copy 1000000000 1001000000 ∷ ethernet_step 1000000000 ∷ [])
+no_copy_here : IsCopy (recorded_at 0 1000000000 ∷ []) (recorded_at 0 1001000000) → ⊥
+no_copy_here copy = search rules
+
+pub copy_history : IsHistory (cooked_step Copy 1 1000000000 1001000000 ∷ ethernet_step 1000000000 ∷ [])
 copy_history = (inl (tt, refl, refl), ethernet_history, inr (ipv4_packet Out ipv4_bytes, cooked_spells, (near_copy, refl), refl))
 
-pub later_history : IsHistory (cooked_step New 1000000000 1001000001 ∷ ethernet_step 1000000000 ∷ [])
+pub later_history : IsHistory (cooked_step New 1 1000000000 1001000001 ∷ ethernet_step 1000000000 ∷ [])
 later_history = (
   inl (is_whole 113 (cooked_head ++ ipv4_bytes) (ipv4_packet Out ipv4_bytes) cooked_spells refl, refl, refl),
   ethernet_history,
   inr (ipv4_packet Out ipv4_bytes, cooked_spells, far_from, refl),
+)
+
+pub here_history : IsHistory (cooked_step New 0 1000000000 1001000000 ∷ ethernet_step 1000000000 ∷ [])
+here_history = (
+  inl (is_whole 113 (cooked_head ++ ipv4_bytes) (ipv4_packet Out ipv4_bytes) cooked_spells refl, refl, refl),
+  ethernet_history,
+  inr (ipv4_packet Out ipv4_bytes, cooked_spells, no_copy_here, refl),
 )
 
 -- ---- what is held of the fragments
@@ -229,7 +239,7 @@ last_gives content e arrivals kept =
 not_full_whole : (content : Made) (frames : Vec ℕ Global) → Whole content frames ≡ Outcome.Full → ⊥
 not_full_whole content frames e = cc
 
-not_one : IsCopy (recorded_first ∷ []) (record { time = worked_time; bytes = last_bytes }) → ⊥
+not_one : IsCopy (recorded_first ∷ []) (record { interface = first_of 0; time = worked_time; bytes = last_bytes }) → ⊥
 not_one copy = search rules
 
 module _ (content : Made) (frames : Vec ℕ Global) (e : put_together content ≡ worked_content) (f : frames.items ≡ 1 ∷ 2 ∷ []) where

@@ -1,25 +1,29 @@
 -- Which packets are copies, by what is told of them.
 use Rattle.std.proofs.Common.{◌≡◌, ◌↔◌, ℕ, Bool, true, false, inr, List, ◌∷◌, Option, Some, IsTrue, refl, sym, subst, ap}
 use Rattle.std.proofs.lemmas.Bool.{false≢true}
-use Rattle.tftp_copies.specs.{Packet as Recorded, IsCopy, RecentState, StandsFor}
+use Rattle.tftp_copies.specs.{Interface, Packet as Recorded, IsCopy, RecentState, StandsFor}
 use Rattle.tftp_frames.specs.{Packet, is_identified, SpellsFrame, Fragment}
 use Rattle.tftp_fragments.specs.{Sets}
 use Rattle.tftp_pcap.specs.{FrameParts}
-use Rattle.tftp_recording.specs.{DoesNothing, IsNoPart, Wants, WantsPart, key_of, key_protocol, Comes, IsLike, likeness_by, recorded, Likeness}
+use Rattle.tftp_recording.specs.{DoesNothing, IsNoPart, Wants, WantsPart, key_of, key_protocol, Comes, IsLike, interface_of, likeness_by, recorded, Likeness}
 
-like_by : (came : List Recorded) (time : Option ℕ) (p : Packet) (one identified : Bool) → IsTrue one ↔ IsCopy came (recorded time p) → identified ≡ is_identified p → IsLike came time p (likeness_by one identified)
-like_by came time p false identified told e = λ copy. false≢true (told.1 copy)
-like_by came time p true false told e = (told.0 refl, sym e)
-like_by came time p true true told e = (told.0 refl, sym e)
+-- a packet that was recorded where and when a frame was
+pub recorded_there : (frame : FrameParts) (p : Packet) (there : Interface) (time : Option ℕ) → there ≡ interface_of frame → time ≡ frame.time → ◌≡◌ {A = Recorded} (record { interface = there; time = time; bytes = p.packet }) (recorded frame p)
+recorded_there frame p there time same moment = λ i. record { interface = same i; time = moment i; bytes = p.packet }
 
-pub like : (came : List Recorded) (time : Option ℕ) (p : Packet) (one identified : Bool) (l : Likeness) → IsTrue one ↔ IsCopy came (recorded time p) → identified ≡ is_identified p → l ≡ likeness_by one identified → IsLike came time p l
-like came time p one identified l told e is = subst (IsLike came time p) (sym is) (like_by came time p one identified told e)
+like_by : (came : List Recorded) (frame : FrameParts) (p : Packet) (one identified : Bool) → IsTrue one ↔ IsCopy came (recorded frame p) → identified ≡ is_identified p → IsLike came frame p (likeness_by one identified)
+like_by came frame p false identified told e = λ copy. false≢true (told.1 copy)
+like_by came frame p true false told e = (told.0 refl, sym e)
+like_by came frame p true true told e = (told.0 refl, sym e)
 
-pub coming : (old new : RecentState) (frame : FrameParts) (time : Option ℕ) (p : Packet) (l : Likeness) → time ≡ frame.time → SpellsFrame frame.link frame.bytes p
-    → ((came : List Recorded) → StandsFor old came → IsLike came time p l) → ((came : List Recorded) → StandsFor old came → StandsFor new (recorded time p ∷ came))
+pub like : (came : List Recorded) (frame : FrameParts) (p : Packet) (one identified : Bool) (l : Likeness) → IsTrue one ↔ IsCopy came (recorded frame p) → identified ≡ is_identified p → l ≡ likeness_by one identified → IsLike came frame p l
+like came frame p one identified l told e is = subst (IsLike came frame p) (sym is) (like_by came frame p one identified told e)
+
+pub coming : (old new : RecentState) (frame : FrameParts) (p : Packet) (l : Likeness) → SpellsFrame frame.link frame.bytes p
+    → ((came : List Recorded) → StandsFor old came → IsLike came frame p l) → ((came : List Recorded) → StandsFor old came → StandsFor new (recorded frame p ∷ came))
     → (before : List Recorded) → StandsFor old before → (came : List Recorded) × Comes before frame l came × StandsFor new came
-coming old new frame time p l e spells like held before stands =
-    (recorded time p ∷ before, inr (p, spells, subst (λ (t : Option ℕ). IsLike before t p l) e (like before stands), ap (λ (t : Option ℕ). recorded t p ∷ before) e), held before stands)
+coming old new frame p l spells like held before stands =
+    (recorded frame p ∷ before, inr (p, spells, like before stands, refl), held before stands)
 
 pub does_nothing : (b : Bool) (frame : FrameParts) → IsNoPart frame → DoesNothing b frame
 does_nothing true frame h = tt

@@ -20,14 +20,14 @@ use Rattle.tftp_recording.proofs.KeptOnce.{IsSame}
 
 -- ---- likeness
 
-like_one : (before : List Recorded) (time : Option ℕ) (p : Packet) (l m : Likeness) → IsLike before time p l → IsLike before time p m → l ≡ m
-like_one before time p likeness.New likeness.Doubtful a b = absurd (a b.0)
-like_one before time p likeness.New likeness.Copy a b = absurd (a b.0)
-like_one before time p likeness.Doubtful likeness.New a b = absurd (b a.0)
-like_one before time p likeness.Doubtful likeness.Copy a b = absurd (false≢true (sym a.1 ∙ b.1))
-like_one before time p likeness.Copy likeness.New a b = absurd (b a.0)
-like_one before time p likeness.Copy likeness.Doubtful a b = absurd (false≢true (sym b.1 ∙ a.1))
-like_one before time p _ _ a b = refl
+like_one : (before : List Recorded) (frame : FrameParts) (p : Packet) (l m : Likeness) → IsLike before frame p l → IsLike before frame p m → l ≡ m
+like_one before frame p likeness.New likeness.Doubtful a b = absurd (a b.0)
+like_one before frame p likeness.New likeness.Copy a b = absurd (a b.0)
+like_one before frame p likeness.Doubtful likeness.New a b = absurd (b a.0)
+like_one before frame p likeness.Doubtful likeness.Copy a b = absurd (false≢true (sym a.1 ∙ b.1))
+like_one before frame p likeness.Copy likeness.New a b = absurd (b a.0)
+like_one before frame p likeness.Copy likeness.Doubtful a b = absurd (false≢true (sym b.1 ∙ a.1))
+like_one before frame p _ _ a b = refl
 
 pub comes_one : (before : List Recorded) (frame : FrameParts) (l m : Likeness) (came now : List Recorded) → Comes before frame l came → Comes before frame m now → (l ≡ m) × (came ≡ now)
 comes_one before frame l m came now (inl a) (inl b) = (a.1 ∙ sym b.1, a.2 ∙ sym b.2)
@@ -35,7 +35,7 @@ comes_one before frame l m came now (inl a) (inr b) = absurd (a.0 b.0 b.1)
 comes_one before frame l m came now (inr a) (inl b) = absurd (b.0 a.0 a.1)
 comes_one before frame l m came now (inr a) (inr b) =
     let e : b.0 ≡ a.0 = packet_one frame.link frame.bytes b.0 a.0 b.1 a.1 in
-    (like_one before frame.time a.0 l m a.2 (subst (λ (x : Packet). IsLike before frame.time x m) e b.2), a.3 ∙ ap (λ (x : Packet). recorded frame.time x ∷ before) (sym e) ∙ sym b.3)
+    (like_one before frame a.0 l m a.2 (subst (λ (x : Packet). IsLike before frame x m) e b.2), a.3 ∙ ap (λ (x : Packet). recorded frame x ∷ before) (sym e) ∙ sym b.3)
 
 -- ---- what a frame says
 

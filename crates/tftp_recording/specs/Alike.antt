@@ -1,22 +1,26 @@
 -- Which frames are copies, and which may be (RFC 791, section 3.2; RFC 8200, section 4.5).
 use Rattle.std.specs.Prelude.{◌≡◌, ◌⊎◌, ◌<◌, ℕ, Bool, true, false, List, ◌∷◌, length, Option, Some}
 use Rattle.std.specs.List.{slice_get}
-use Rattle.tftp_copies.specs.{Packet as Recorded, IsCopy}
-use Rattle.tftp_frames.specs.{SpellsFrame, Packet, is_identified}
+use Rattle.tftp_copies.specs.{Interface, Packet as Recorded, IsCopy}
+use Rattle.tftp_frames.specs.{SpellsFrame, Packet, index_of, is_identified}
 use Rattle.tftp_pcap.specs.{FrameParts}
 use Rattle.tftp_recording.specs.declared.likeness.Likeness.{Likeness}
 use Rattle.tftp_recording.specs.declared.likeness.Likeness.TheVariants.{New, Doubtful, Copy}
 
--- a packet as it was recorded at a time: all its bytes, from the IP header on
-abbrev pub recorded : Option ℕ → Packet → Recorded
-recorded time p = record { time = time; bytes = p.packet }
+-- where a frame was recorded: the section, the number of the interface in it, and that in the link's header
+abbrev pub interface_of : FrameParts → Interface
+interface_of frame = record { section = frame.section; number = frame.interface; index = index_of frame.link frame.bytes }
 
--- A packet that is one with a packet before it is a copy where it has an identification. Where it has none, its sender may
--- have sent it twice.
-abbrev pub IsLike : List Recorded → Option ℕ → Packet → Likeness → Type 0
-IsLike before time p New = IsCopy before (recorded time p) → ⊥
-IsLike before time p Doubtful = IsCopy before (recorded time p) × (is_identified p ≡ false)
-IsLike before time p Copy = IsCopy before (recorded time p) × (is_identified p ≡ true)
+-- the packet of a frame as it was recorded: where, when, and all its bytes, from the IP header on
+abbrev pub recorded : FrameParts → Packet → Recorded
+recorded frame p = record { interface = interface_of frame; time = frame.time; bytes = p.packet }
+
+-- A packet that is one with a packet before it, of another interface, is a copy where it has an identification. Where it has
+-- none, its sender may have sent it twice.
+abbrev pub IsLike : List Recorded → FrameParts → Packet → Likeness → Type 0
+IsLike before frame p New = IsCopy before (recorded frame p) → ⊥
+IsLike before frame p Doubtful = IsCopy before (recorded frame p) × (is_identified p ≡ false)
+IsLike before frame p Copy = IsCopy before (recorded frame p) × (is_identified p ≡ true)
 
 -- by whether a packet is one with a packet before it, and whether it has an identification
 abbrev pub likeness_by : Bool → Bool → Likeness
@@ -42,7 +46,7 @@ IsNoPacket frame = (p : Packet) → SpellsFrame frame.link frame.bytes p → ⊥
 abbrev pub Comes : List Recorded → FrameParts → Likeness → List Recorded → Type 0
 Comes before frame likeness came =
     (IsNoPacket frame × (likeness ≡ New) × (came ≡ before))
-    ⊎ ((p : Packet) × SpellsFrame frame.link frame.bytes p × IsLike before frame.time p likeness × (came ≡ recorded frame.time p ∷ before))
+    ⊎ ((p : Packet) × SpellsFrame frame.link frame.bytes p × IsLike before frame p likeness × (came ≡ recorded frame p ∷ before))
 
 -- memory is wanted for the frame's packet, which is longer than the one that stands 17 before it, if there is one
 abbrev pub WantsToHold : List Recorded → FrameParts → Type 0

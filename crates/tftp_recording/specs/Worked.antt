@@ -1,7 +1,7 @@
 -- Frames for worked examples: the acknowledgement of the worked frames of tftp_frames, in two fragments, and recorded twice.
 use Rattle.std.specs.Prelude.{ℕ, List, [], ◌∷◌, ◌++◌, length, map, Option, Some, true, false}
 use Rattle.std.specs.Global.{Vec}
-use Rattle.tftp_copies.specs.{Packet as Recorded}
+use Rattle.tftp_copies.specs.{Interface, Packet as Recorded}
 use Rattle.tftp_fragments.specs.{SetState, Waits}
 use Rattle.tftp_fragments.specs.Whole.{Content}
 use Rattle.tftp_fragments.specs.declared.content.Content.{Content as Given}
@@ -32,8 +32,12 @@ last_part = record (ipv4_packet Unknown last_bytes) { fragment = Some (record { 
 abbrev pub worked_time : Option ℕ
 worked_time = Some 1000000000
 
+-- the first interface of a section, 0 in a classic recording
+abbrev pub first_of : ℕ → Interface
+first_of section = record { section = section; number = 0; index = 0 }
+
 abbrev pub raw_frame : List ℕ → FrameParts
-raw_frame bytes = record { link = 228; time = worked_time; direction = recorded.Unknown; original = length bytes; bytes = bytes }
+raw_frame bytes = record { section = 0; interface = 0; link = 228; time = worked_time; direction = recorded.Unknown; damaged = false; missed = 0; original = length bytes; bytes = bytes }
 
 abbrev pub worked_key : Key
 worked_key = record { source = host 7; target = host 1; protocol = Some 17; id = 7 }
@@ -43,7 +47,7 @@ abbrev pub first_set : SetState
 first_set = record { held = record { cells = map (λ b. Some b) first_part.content; ended = false; protocol = Some 17 }; frames = 1 ∷ []; began = worked_time; spoiled = false }
 
 abbrev pub recorded_first : Recorded
-recorded_first = record { time = worked_time; bytes = first_bytes }
+recorded_first = record { interface = first_of 0; time = worked_time; bytes = first_bytes }
 
 -- the first fragment waits
 abbrev pub first_step : Step
@@ -54,7 +58,7 @@ worked_content = record { protocol = 17; bytes = udp_bytes }
 
 -- the last one gives a content, of those frames, and none waits
 abbrev pub last_step : Given → Vec ℕ → Step
-last_step content frames = record { frame = raw_frame last_bytes; likeness = New; brought = record nothing_brought { outcome = Some (Whole content frames) }; waits = []; came = record { time = worked_time; bytes = last_bytes } ∷ recorded_first ∷ [] }
+last_step content frames = record { frame = raw_frame last_bytes; likeness = New; brought = record nothing_brought { outcome = Some (Whole content frames) }; waits = []; came = record { interface = first_of 0; time = worked_time; bytes = last_bytes } ∷ recorded_first ∷ [] }
 
 -- ---- the last fragment of a packet of IPv6, which names ICMP (58), of the link type of raw IPv6
 
@@ -73,31 +77,31 @@ abbrev pub part_of_udp : Packet
 part_of_udp = record part_of_icmp { protocol = 17 }
 
 abbrev pub icmp_frame : FrameParts
-icmp_frame = record { link = 229; time = worked_time; direction = recorded.Unknown; original = length last_of_icmp; bytes = last_of_icmp }
+icmp_frame = record { section = 0; interface = 0; link = 229; time = worked_time; direction = recorded.Unknown; damaged = false; missed = 0; original = length last_of_icmp; bytes = last_of_icmp }
 
 -- the content that is put together, where the first fragment names ICMP
 abbrev pub icmp_content : Content
 icmp_content = record { protocol = 58; bytes = udp_bytes }
 
--- ---- recorded at an interface of Ethernet, and then at one of Linux cooked
+-- ---- recorded at the first interface of a section, of Ethernet, and then at the second, of Linux cooked
 
-abbrev pub recorded_at : ℕ → Recorded
-recorded_at time = record { time = Some time; bytes = ipv4_bytes }
+abbrev pub recorded_at : ℕ → ℕ → Recorded
+recorded_at number time = record { interface = record (first_of 1) { number = number }; time = Some time; bytes = ipv4_bytes }
 
 abbrev pub ethernet_step : ℕ → Step
 ethernet_step time = record {
-  frame = record { link = 1; time = Some time; direction = recorded.Unknown; original = length (two_tags ++ ipv4_bytes); bytes = two_tags ++ ipv4_bytes };
+  frame = record { section = 1; interface = 0; link = 1; time = Some time; direction = recorded.Unknown; damaged = false; missed = 0; original = length (two_tags ++ ipv4_bytes); bytes = two_tags ++ ipv4_bytes };
   likeness = New;
   brought = nothing_brought;
   waits = [];
-  came = recorded_at time ∷ [];
+  came = recorded_at 0 time ∷ [];
 }
 
-abbrev pub cooked_step : Likeness → ℕ → ℕ → Step
-cooked_step likeness before time = record {
-  frame = record { link = 113; time = Some time; direction = recorded.Unknown; original = length (cooked_head ++ ipv4_bytes); bytes = cooked_head ++ ipv4_bytes };
+abbrev pub cooked_step : Likeness → ℕ → ℕ → ℕ → Step
+cooked_step likeness number before time = record {
+  frame = record { section = 1; interface = number; link = 113; time = Some time; direction = recorded.Unknown; damaged = false; missed = 0; original = length (cooked_head ++ ipv4_bytes); bytes = cooked_head ++ ipv4_bytes };
   likeness = likeness;
   brought = nothing_brought;
   waits = [];
-  came = recorded_at time ∷ recorded_at before ∷ [];
+  came = recorded_at number time ∷ recorded_at 0 before ∷ [];
 }

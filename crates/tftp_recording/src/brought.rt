@@ -71,7 +71,7 @@ pub(crate) fn take_frame(
     let Ok(packet) = read_frame(frame.link(), frame.bytes()) else {
         return Ok((Likeness::New, Brought::nothing(alloc)));
     };
-    let likeness = likeness_of(alloc, recent, frame.time(), &packet)?;
+    let likeness = likeness_of(alloc, recent, frame, &packet)?;
     if likeness.is_copy() {
         return Ok((likeness, Brought::nothing(alloc)));
     }

@@ -6,6 +6,7 @@ ghost use Rattle.tftp_pcap.specs.{no_frame};
 ghost use Rattle.tftp_recording.specs.Brought.{nothing_brought};
 ghost use Rattle.tftp_recording.specs.Fates.{content_of, direction_of, IsFate, IsFateOf, IsSoundFate, Says, sharers};
 ghost use Rattle.tftp_recording.specs.Alike.{is_doubtful};
+ghost use Rattle.tftp_recording.specs.Checked.{IsChecksum, IsChecksumOf};
 ghost use Rattle.tftp_recording.specs.declared.likeness.Likeness.{Likeness};
 
 use crate::brought::Brought;
@@ -17,7 +18,8 @@ use std::mem;
 use std::net::IpAddr;
 use tftp_fragments::{Content, Fragments, Outcome};
 use tftp_frames::{
-    Direction as LinkDirection, FrameFault, IpPacket, UdpFault, read_frame, read_hosts, read_udp,
+    Checksum, Direction as LinkDirection, FrameFault, IpPacket, UdpFault, read_frame, read_hosts,
+    read_udp,
 };
 use tftp_pcap::{Direction, Frame};
 
@@ -80,6 +82,15 @@ impl Event {
         self.frame.time()
     }
 
+    /// Whether the frame was received with an error of its link, as a wrong checksum of Ethernet: the host that got it discarded
+    /// it. It is not left out for that (draft-ietf-opsawg-pcapng, section 4.3.1).
+    #[inline]
+    pub fn has_error(&self) -> bool
+        ensures { result ≡ self.now.frame.parts.damaged }
+    {
+        self.frame.is_damaged()
+    }
+
     /// What became of the frame. A datagram borrows its payload from the frame, or from the packet that was put together.
     #[inline]
     pub fn fate(&self) -> Fate<'_>
@@ -89,6 +100,20 @@ impl Event {
         match self.likeness {
             Likeness::New | Likeness::Doubtful => fate_of(&self.frame, self.brought.outcome()),
             Likeness::Copy => Fate::Left(LeftOut::Copy),
+        }
+    }
+
+    /// What the checksums say of the datagram that the frame is, or that it made whole: the datagram's own, over all its bytes,
+    /// and that of the frame's IPv4 header. A host discards a datagram with a wrong one, unless none of what its sender sent
+    /// has a right one: then the recording was made before hardware made them. It is not left out for that. Of any other frame
+    /// it is Absent (RFC 768; RFC 791, section 3.1; RFC 8200, section 8.1).
+    pub fn checksum(&self) -> Checksum
+        ensures { IsChecksumOf self.now.frame.parts self.now.brought.outcome result }
+    {
+        match self.brought.outcome() {
+            None => checksum_of(&self.frame, None),
+            Some(Outcome::Whole { content, .. }) => checksum_of(&self.frame, Some(content)),
+            Some(_) => Checksum::Absent,
         }
     }
 
@@ -103,8 +128,9 @@ impl Event {
         read_hosts(self.frame.link(), self.frame.bytes())
     }
 
-    /// Whether the frame is a copy of a frame before it, or what its sender repeated: its packet has no identification,
-    /// which would tell. It is not left out for that.
+    /// Whether the frame is a copy of a frame before it, recorded at another interface, or what its sender repeated: its packet
+    /// has no identification, which would tell. It is not left out for that. Of what comes twice at one interface nothing is
+    /// told: all frames of a classic recording are of one, but those of Linux cooked, version 2, whose header names it.
     #[inline]
     pub fn is_doubtful(&self) -> bool
         ensures { result ≡ is_doubtful self.now.likeness }
@@ -187,6 +213,17 @@ fn says<'a>(frame: &'a Frame, whole: Option<&'a Content>) -> Fate<'a>
         Err(UdpFault::Protocol) => Fate::Left(LeftOut::Frame(FrameFault::Protocol)),
         Err(fault) => Fate::Left(LeftOut::Udp(fault)),
     }
+}
+
+/// What the checksums say of a frame's datagram, or of that of the packet of that content which it made whole.
+fn checksum_of(frame: &Frame, whole: Option<&Content>) -> Checksum
+    ensures { IsChecksum frame.now.parts (option_map (λ content. put_together content.now) whole.entry) result }
+{
+    let Ok(packet) = read_frame(frame.link(), frame.bytes()) else {
+        return Checksum::Absent;
+    };
+    let (protocol, content) = content_of(whole, &packet);
+    packet.checksum(protocol, content)
 }
 
 /// The content of a packet, with what it begins and its bytes: the one that was put together, or else the packet's own.

@@ -66,10 +66,11 @@ pub fn worked_protocols()
         → IsFateOf icmp_frame Likeness.New (Some (Outcome.Whole content frames)) (Fate.Left (LeftOut.Frame FrameFault.Protocol)) }
 {}
 
-/// Worked examples: a packet that is recorded in Ethernet, and 1 ms later at another interface, is a copy; one nanosecond
-/// later still it is a datagram again.
+/// Worked examples: a packet that is recorded in Ethernet, and 1 ms later at another interface, is a copy; at the same one, and
+/// one nanosecond later still, it is a datagram again.
 pub fn worked_copies()
-    ensures copy { IsHistory (cooked_step Likeness.Copy 1000000000 1001000000 ∷ ethernet_step 1000000000 ∷ []) }
-    ensures left { IsFateOf (cooked_step Likeness.Copy 1000000000 1001000000).frame Likeness.Copy (cooked_step Likeness.Copy 1000000000 1001000000).brought.outcome (Fate.Left LeftOut.Copy) }
-    ensures later { IsHistory (cooked_step Likeness.New 1000000000 1001000001 ∷ ethernet_step 1000000000 ∷ []) }
+    ensures copy { IsHistory (cooked_step Likeness.Copy 1 1000000000 1001000000 ∷ ethernet_step 1000000000 ∷ []) }
+    ensures left { IsFateOf (cooked_step Likeness.Copy 1 1000000000 1001000000).frame Likeness.Copy (cooked_step Likeness.Copy 1 1000000000 1001000000).brought.outcome (Fate.Left LeftOut.Copy) }
+    ensures here { IsHistory (cooked_step Likeness.New 0 1000000000 1001000000 ∷ ethernet_step 1000000000 ∷ []) }
+    ensures later { IsHistory (cooked_step Likeness.New 1 1000000000 1001000001 ∷ ethernet_step 1000000000 ∷ []) }
 {}

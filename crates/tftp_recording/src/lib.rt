@@ -15,3 +15,4 @@ pub use laws::{
     worked_copies, worked_fragments, worked_protocols,
 };
 pub use reader::RecordingReader;
+pub use tftp_frames::Checksum;

@@ -1,11 +1,12 @@
 ghost use Rattle.std.specs.Prelude.{◌≡◌, ◌<◌, ◌∷◌, List, length, IfOk, OnOk, OnErr};
 ghost use Rattle.tftp_copies.specs.{Packet as Recorded, StandsFor};
 ghost use Rattle.tftp_frames.specs.{shown};
-ghost use Rattle.tftp_recording.specs.Alike.{IsLike, is_copy, is_doubtful, likeness_by, recorded};
+ghost use Rattle.tftp_recording.specs.Alike.{IsLike, interface_of, is_copy, is_doubtful, likeness_by, recorded};
 
 use std::alloc::{AllocError, Global};
-use tftp_copies::Recent;
-use tftp_frames::IpPacket;
+use tftp_copies::{Interface, Recent};
+use tftp_frames::{IpPacket, interface_index};
+use tftp_pcap::Frame;
 
 /// Whether a frame's packet is one with a packet that came before.
 #[derive(Clone, Copy, Debug, PartialEq, Eq)]
@@ -42,19 +43,31 @@ impl Likeness {
     }
 }
 
-/// Whether a packet is one with a packet that came before. From now on it is held.
+/// Where a frame was recorded.
+#[inline]
+fn interface_of(frame: &Frame) -> Interface
+    ensures { result ≡ interface_of frame.now.parts }
+{
+    Interface {
+        section: frame.section(),
+        number: frame.interface(),
+        index: interface_index(frame.link(), frame.bytes()),
+    }
+}
+
+/// Whether the packet of a frame is one with a packet that came before. From now on it is held.
 #[inline]
 pub(crate) fn likeness_of(
     alloc: Global,
     recent: &mut Recent,
-    time: Option<u64>,
+    frame: &Frame,
     packet: &IpPacket<'_>,
 ) -> Result<Likeness, AllocError>
-    ensures like { IfOk result (λ likeness. (came : List Recorded) → StandsFor recent.old came → IsLike came time (shown packet.now) likeness) }
-    ensures held { OnOk result ((came : List Recorded) → StandsFor recent.old came → StandsFor recent.new (recorded time (shown packet.now) ∷ came)) }
+    ensures like { IfOk result (λ likeness. (came : List Recorded) → StandsFor recent.old came → IsLike came frame.now.parts (shown packet.now) likeness) }
+    ensures held { OnOk result ((came : List Recorded) → StandsFor recent.old came → StandsFor recent.new (recorded frame.now.parts (shown packet.now) ∷ came)) }
     ensures wants { OnErr result (recent.old.room < length packet.now.packet.now) }
 {
-    let is_one = recent.take(alloc, time, packet.packet)?;
+    let is_one = recent.take(alloc, interface_of(frame), frame.time(), packet.packet)?;
     Ok(likeness_by(is_one, packet.is_identified()))
 }
 

@@ -1,6 +1,6 @@
 ghost use Rattle.std.specs.Prelude.{◌≡◌, ◌≢◌, ◌+◌, ◌++◌, ℕ, List, [], true, false, None, Ok, Err, IfOk, IfErr, OnOk};
 ghost use Rattle.std.specs.Io.KnownBytes.{prepend_known, Consumes, IsAtEnd};
-ghost use Rattle.tftp_pcap.specs.{FailsToBegin, FaultKind};
+ghost use Rattle.tftp_pcap.specs.{FailsToBegin, FaultKind, lost_of};
 ghost use Rattle.tftp_streams.specs.{KeepsAnswer, Standing, standing_after};
 ghost use Rattle.tftp_recording.specs.History.{Continues, StandsFor, Step, standing_of};
 
@@ -104,6 +104,17 @@ impl RecordingReader {
                 Err(fault)
             }
         }
+    }
+
+    /// How many packets the recorder says it lost, of those that it should have recorded, at all its interfaces: what was read
+    /// up to here says so. Statistics mostly stand at the end of a recording, so the number is whole once it has ended. It is
+    /// 2^64-1 where there are more, and 0 in a classic recording, which does not count them (draft-ietf-opsawg-pcapng,
+    /// sections 4.3.1 and 4.6).
+    #[inline]
+    pub fn lost(&self) -> u64
+        ensures { result ≡ lost_of self.now.frames.pieces.mode }
+    {
+        self.frames.lost()
     }
 
     /// The fragments that still wait: at the end of the recording, or at its fault, those of packets that were never whole.

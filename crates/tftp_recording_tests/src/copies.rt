@@ -2,44 +2,63 @@
 
 use std::alloc::AllocError;
 use std::test::Fail;
-use tftp_copies::Recent;
+use tftp_copies::{Interface, Recent};
 
-/// A packet that is taken: its time, its bytes, and whether it is a copy.
-type Taken = (Option<u64>, &'static [u8], bool);
+/// A packet that is taken: its interface, its time, its bytes, and whether it is a copy.
+type Taken = (Interface, Option<u64>, &'static [u8], bool);
 
-/// Two interfaces of a host, and what looks like a copy and is none.
+/// An interface by its three numbers.
+const fn interface(section: u64, number: u64, index: u32) -> Interface {
+    Interface {
+        section,
+        number,
+        index,
+    }
+}
+
+/// Two interfaces of a host.
+const ONE: Interface = interface(1, 0, 0);
+
+const OTHER: Interface = interface(1, 1, 0);
+
+/// What is a copy, and what looks like one and is none.
 const TAKEN: &[Taken] = &[
-    (Some(5_000_000), b"first", false),
-    (Some(5_000_900), b"first", true),
-    (Some(5_001_000), b"second", false),
-    (Some(6_000_000), b"first", true),
-    (Some(7_000_001), b"first", false),
-    (Some(4_002_000), b"second", true),
-    (None, b"first", false),
-    (Some(4_001_000), b"first!", false),
-    (Some(4_001_000), b"", false),
+    (ONE, Some(5_000_000), b"first", false),
+    (ONE, Some(5_000_800), b"first", false),
+    (OTHER, Some(5_000_900), b"first", true),
+    (OTHER, Some(5_001_000), b"second", false),
+    (ONE, Some(6_000_000), b"first", true),
+    (OTHER, Some(7_000_001), b"first", false),
+    (ONE, Some(4_002_000), b"second", true),
+    (ONE, None, b"first", false),
+    (ONE, Some(4_001_000), b"first!", false),
+    (interface(2, 0, 0), Some(4_001_000), b"first!", true),
+    (interface(2, 0, 1), Some(4_001_000), b"first!", true),
+    (ONE, Some(4_001_000), b"", false),
 ];
 
 /// Takes a packet. It promises nothing.
 fn take_once(
     rt: &HostRuntime,
     recent: &mut Recent,
+    interface: Interface,
     time: Option<u64>,
     bytes: &[u8],
 ) -> Result<bool, AllocError> {
-    recent.take(rt.alloc(), time, bytes)
+    recent.take(rt.alloc(), interface, time, bytes)
 }
 
 /// Takes a packet. Where a growth is refused nothing may have changed, and it is taken again.
 fn take(
     rt: &HostRuntime,
     recent: &mut Recent,
+    interface: Interface,
     time: Option<u64>,
     bytes: &[u8],
 ) -> Result<bool, Fail> {
-    match take_once(rt, recent, time, bytes) {
+    match take_once(rt, recent, interface, time, bytes) {
         Ok(copy) => Ok(copy),
-        Err(_) => Ok(take_once(rt, recent, time, bytes)?),
+        Err(_) => Ok(take_once(rt, recent, interface, time, bytes)?),
     }
 }
 
@@ -47,32 +66,32 @@ fn take(
 #[test]
 fn copies_are_told(rt: HostRuntime) -> Result<(), Fail> {
     let mut recent = Recent::new(rt.alloc())?;
-    for (index, (time, bytes, copy)) in TAKEN.iter().enumerate() {
-        if take(&rt, &mut recent, *time, *bytes)? != *copy {
+    for (index, (interface, time, bytes, copy)) in TAKEN.iter().enumerate() {
+        if take(&rt, &mut recent, *interface, *time, *bytes)? != *copy {
             return Err(Fail::from(index));
         }
     }
     Ok(())
 }
 
-/// Packets of one byte that come at once, from one number up to another, and whether they are copies: of sixteen packets
-/// between a packet and its copy one is too many.
-const AT_ONCE: &[(u8, u8, bool)] = &[
-    (0, 1, false),
-    (1, 16, false),
-    (0, 1, true),
-    (16, 32, false),
-    (0, 1, false),
+/// Packets of one byte that come at once, at an interface, from one number up to another, and whether they are copies: of
+/// sixteen packets between a packet and its copy one is too many.
+const AT_ONCE: &[(Interface, u8, u8, bool)] = &[
+    (ONE, 0, 1, false),
+    (ONE, 1, 16, false),
+    (OTHER, 0, 1, true),
+    (ONE, 16, 32, false),
+    (ONE, 0, 1, false),
 ];
 
 /// Fails unless each of the packets is a copy, or none is.
 fn all_are(
     rt: &HostRuntime,
     recent: &mut Recent,
-    (from, until, copy): (u8, u8, bool),
+    (interface, from, until, copy): (Interface, u8, u8, bool),
 ) -> Result<(), Fail> {
     for number in from..until {
-        if take(rt, recent, Some(0), &[number])? != copy {
+        if take(rt, recent, interface, Some(0), &[number])? != copy {
             return Err(Fail::from(number));
         }
     }

@@ -13,6 +13,12 @@ pub fn shown(alloc: Global, end: Endpoint) -> Result<String, AllocError> {
     }
 }
 
+/// A host's address as it is shown.
+pub fn shown_host(alloc: Global, address: Address) -> Result<String, AllocError> {
+    let address = ip_of(address);
+    format!(in alloc; "{address}")
+}
+
 fn ip_of(address: Address) -> IpAddr {
     match address {
         Address::V4(bytes) => IpAddr::V4(Ipv4Addr::from(bytes)),

@@ -1,5 +1,7 @@
 //! How a file begins, and what it is where that is no recording.
 
+ghost use Rattle.std.specs.Io.{ReadsAtMost};
+
 use std::io;
 use std::io::Read;
 
@@ -12,16 +14,31 @@ pub struct Headed<R: Drop> {
     inner: R,
     head: [u8; MOST],
     count: usize,
+    /// The first byte, until it is handed out.
+    ahead: Option<u8>,
 }
 
-impl<R: Drop> Headed<R> {
-    /// Nothing was read.
-    pub fn new(inner: R) -> Self {
+impl<R: Read + Drop> Headed<R> {
+    /// Reads the first byte ahead. Where that fails, it is tried again at the first read.
+    pub fn begin(mut inner: R) -> Self {
+        let mut first = [0; 1];
+        let ahead = match inner.read(&mut first) {
+            Ok(1) => first.first().copied(),
+            _ => None,
+        };
         Headed {
             inner,
             head: [0; MOST],
             count: 0,
+            ahead,
         }
+    }
+}
+
+impl<R: Drop> Headed<R> {
+    /// Whether it may be a recording in blocks, pcapng, by its first byte, which is still ahead.
+    pub fn may_have_blocks(&self) -> bool {
+        !matches!(self.ahead, Some(0xa1 | 0xd4 | 0x4d))
     }
 
     /// The first bytes that were read.
@@ -29,6 +46,21 @@ impl<R: Drop> Headed<R> {
         match self.head.get(..self.count) {
             Some(head) => head,
             None => &self.head,
+        }
+    }
+
+    /// Hands out the byte that was read ahead.
+    fn hand_out(&mut self, byte: u8, buf: &mut [u8]) -> io::Result<usize>
+        ensures { ReadsAtMost result buf.new }
+    {
+        self.ahead = None;
+        self.keep(&[byte]);
+        match buf.first_mut() {
+            Some(place) => {
+                *place = byte;
+                Ok(1)
+            }
+            None => Ok(0),
         }
     }
 
@@ -46,6 +78,9 @@ impl<R: Drop> Headed<R> {
 
 impl<R: Read + Drop> Read for Headed<R> {
     fn read(&mut self, buf: &mut [u8]) -> io::Result<usize> {
+        if let (Some(byte), false) = (self.ahead, buf.is_empty()) {
+            return self.hand_out(byte, buf);
+        }
         let result = self.inner.read(buf);
         if let Ok(count) = result {
             self.keep(buf.get(..count).unwrap_or(&[]));

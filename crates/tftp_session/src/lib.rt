@@ -2,6 +2,7 @@
 //! that are wanted, and what is to be told of the recording as a whole.
 #![tactic(auto)]
 
+mod clock;
 mod endpoint;
 mod fault;
 mod headed;
@@ -14,8 +15,9 @@ mod requests;
 mod session;
 mod telling;
 mod text;
+mod unplaced;
 
-pub use endpoint::shown;
+pub use endpoint::{shown, shown_host};
 pub use fault::{ReadFault, TextFault};
 pub use headed::is_recording;
 pub use kept::{Kept, Wanted};

@@ -1,13 +1,12 @@
 //! What is to be told of a recording as a whole.
 
-use crate::losses::Losses;
+use crate::clock::Clock;
+use crate::losses::{Losses, SILENCE, WAIT};
 use crate::plain::put_number;
 use std::alloc::{AllocError, Global};
-use std::net::IpAddr;
-use tftp_blame::Passing;
+use tftp_blame::{Missing, Passing, Reason, Trail};
 use tftp_fragments::Fragments;
 use tftp_frames::{FrameFault, UdpFault};
-use tftp_lines::Address;
 use tftp_pcap::PcapFault;
 use tftp_recording::{Event, LeftOut};
 
@@ -72,7 +71,7 @@ pub struct Notes {
     /// Frames that may have been datagrams of UDP, or parts of such, and can't be read.
     lost: Frames,
     /// The same by their hosts.
-    pub(crate) losses: Losses,
+    losses: Losses,
     /// Frames whose link type is not known.
     other_links: Frames,
     /// Datagrams that were left out as copies.
@@ -85,7 +84,11 @@ pub struct Notes {
     backwards: Frames,
     /// Why it was read no further.
     pub(crate) fault: Option<PcapFault>,
-    last_time: u64,
+    pub(crate) clock: Clock,
+    /// Whether the recorder may still tell that it lost packets: as long as a recording in blocks is read.
+    pub may_lose: bool,
+    /// How many packets the recorder lost, as far as it has told that.
+    pub dropped: u64,
 }
 
 impl Notes {
@@ -100,74 +103,91 @@ impl Notes {
             asked: Vec::new(alloc),
             backwards: Frames::new(alloc),
             fault: None,
-            last_time: 0,
+            clock: Clock::new(),
+            may_lose: false,
+            dropped: 0,
         }
     }
 
     /// Notes a datagram's time.
     pub(crate) fn pass(&mut self, frame: u64, time: Option<u64>) -> Result<(), AllocError> {
-        let Some(time) = time else {
-            return Ok(());
-        };
-        let last = self.last_time;
-        self.last_time = time;
-        if time < last {
-            return self.backwards.add(frame);
+        match time {
+            Some(time) if self.clock.pass(time) => self.backwards.add(frame),
+            _ => Ok(()),
         }
-        Ok(())
+    }
+
+    /// Notes a client's request, in that frame, which opens a transfer.
+    pub(crate) fn ask(&mut self, alloc: Global, trail: &Trail) -> Result<(), AllocError> {
+        let host = trail.transfer.client.address;
+        self.losses.ask(alloc, host, trail.first)
+    }
+
+    /// Notes a frame that waits for others of its packet.
+    pub(crate) fn wait(&mut self, alloc: Global, event: &Event) -> Result<(), AllocError> {
+        let time = self.clock.moment_of(event.time());
+        self.losses.wait(alloc, event.number(), event.hosts(), time)
     }
 
     /// Notes frames for which no others are missing any more.
-    pub(crate) fn find(&mut self, frames: &[u64]) {
+    pub(crate) fn find(&mut self, alloc: Global, frames: &[u64]) -> Result<(), AllocError> {
         for frame in frames {
-            let _ = self.losses.find(*frame);
-        }
-    }
-
-    /// Notes frames that waited for others in vain.
-    pub(crate) fn lose(&mut self, frames: &[u64]) -> Result<(), AllocError> {
-        for frame in frames {
-            let hosts = self.losses.find(*frame);
-            self.lose_one(*frame, hosts)?;
+            self.losses.find(alloc, *frame, self.clock.reached)?;
         }
         Ok(())
     }
 
-    /// Notes a frame that can't be read, which went between these hosts.
-    fn lose_one(&mut self, frame: u64, hosts: Option<(IpAddr, IpAddr)>) -> Result<(), AllocError> {
+    /// Notes frames that waited for others in vain.
+    pub(crate) fn lose(&mut self, alloc: Global, frames: &[u64]) -> Result<(), AllocError> {
+        for frame in frames {
+            self.lost.add(*frame)?;
+            self.losses.give_up(alloc, *frame)?;
+        }
+        Ok(())
+    }
+
+    /// Notes a frame that can't be read, and those that share its fate, of which it may be one.
+    fn lose_with(&mut self, alloc: Global, event: &Event) -> Result<(), AllocError> {
+        let (frame, time) = (event.number(), self.clock.moment_of(event.time()));
+        for sharer in event.sharers() {
+            if *sharer != frame {
+                self.lose(alloc, &[*sharer])?;
+            }
+        }
         self.lost.add(frame)?;
-        self.losses.lose(frame, hosts)
+        self.losses.lose(alloc, frame, event.hosts(), time)
     }
 
     /// Notes fragments that were let go.
-    pub(crate) fn lose_all(&mut self, mut fragments: Fragments) -> Result<(), AllocError> {
+    pub(crate) fn lose_all(
+        &mut self,
+        alloc: Global,
+        mut fragments: Fragments,
+    ) -> Result<(), AllocError> {
         for _ in 0..u64::MAX {
             let Some((_, frames)) = fragments.let_go_any() else {
                 return Ok(());
             };
-            self.lose(frames.as_slice())?;
+            self.lose(alloc, frames.as_slice())?;
         }
         Ok(())
     }
 
     /// Notes a frame that is left out, and those that share its fate.
-    pub(crate) fn leave(&mut self, why: LeftOut, event: &Event) -> Result<(), AllocError> {
-        let (frame, sharers) = (event.number(), event.sharers());
+    pub(crate) fn leave(
+        &mut self,
+        alloc: Global,
+        why: LeftOut,
+        event: &Event,
+    ) -> Result<(), AllocError> {
         match why {
-            LeftOut::Copy => self.copies.add(frame),
-            LeftOut::Frame(FrameFault::Link) => self.other_links.add(frame),
+            LeftOut::Copy => self.copies.add(event.number()),
+            LeftOut::Frame(FrameFault::Link) => self.other_links.add(event.number()),
             LeftOut::Frame(FrameFault::Network | FrameFault::Protocol) => {
-                self.find(sharers);
-                Ok(())
+                self.find(alloc, event.sharers())
             }
-            LeftOut::Udp(UdpFault::Port) => {
-                self.find(sharers);
-                Ok(())
-            }
-            _ => {
-                self.lose(sharers)?;
-                self.lose_one(frame, event.hosts())
-            }
+            LeftOut::Udp(UdpFault::Port) => self.find(alloc, event.sharers()),
+            _ => self.lose_with(alloc, event),
         }
     }
 
@@ -181,9 +201,29 @@ impl Notes {
         self.of_none.add(passing.frame)
     }
 
-    /// Whether datagrams of this host may be missing.
-    pub(crate) fn may_lack(&self, host: Address) -> bool {
-        self.fault.is_some() || self.losses.of(host).is_some()
+    /// The frames that may have been of a transfer's client, and are not there whole.
+    pub(crate) fn missing_of(&self, trail: &Trail) -> Missing {
+        self.losses.of(trail)
+    }
+
+    /// Whether datagrams of a transfer's client may be missing.
+    pub(crate) fn may_lack(&self, trail: &Trail) -> bool {
+        let missing = self.missing_of(trail);
+        let is_before = match missing.first {
+            Some(frame) => frame <= trail.last,
+            None => false,
+        };
+        self.fault.is_some() || is_before || missing.within.is_some()
+    }
+
+    /// Whether the recording went on for more than 300 s after a transfer, and for 30 s more where a fragment waits that may be
+    /// of it: then nothing that comes later changes what is missing of it.
+    pub(crate) fn is_past(&self, trail: &Trail) -> bool {
+        let end = trail.last_time.saturating_add(SILENCE);
+        if self.losses.is_waiting(trail.transfer.client.address) {
+            return self.clock.reached > end.saturating_add(WAIT);
+        }
+        self.clock.reached > end
     }
 
     /// Whether the recording was read to its end and nothing is missing.
@@ -213,6 +253,10 @@ impl Notes {
             lines,
             "not there whole, so that datagrams may be missing",
         )?;
+        if self.dropped > 0 {
+            let dropped = Reason::Dropped(self.dropped);
+            lines.push(format!(in alloc; "{dropped}, so that datagrams may be missing")?)?;
+        }
         if let Some(fault) = &self.fault {
             let (frame, kind) = (fault.frame, fault.kind);
             lines.push(format!(in alloc; "frame {frame}: {kind}")?)?;

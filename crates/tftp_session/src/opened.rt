@@ -15,17 +15,22 @@ pub struct Opened<R: Read + Drop> {
     reader: Latched<Headed<R>>,
     recording: RecordingReader,
     event: Event,
+    /// Whether it may tell later on that its recorder lost packets.
+    may_lose: bool,
 }
 
 impl<R: Read + Drop> Opened<R> {
     /// Reads the file's beginning.
     pub fn begin(alloc: Global, reader: R) -> Result<Self, ReadFault> {
-        let mut reader = Latched::new(Headed::new(reader));
+        let headed = Headed::begin(reader);
+        let may_lose = headed.may_have_blocks();
+        let mut reader = Latched::new(headed);
         match RecordingReader::begin(alloc, &mut reader) {
             Ok(recording) => Ok(Opened {
                 reader,
                 recording,
                 event: Event::empty(alloc),
+                may_lose,
             }),
             Err(fault) => Err(refused(&fault, reader.into_inner())),
         }
@@ -33,6 +38,7 @@ impl<R: Read + Drop> Opened<R> {
 
     /// Reads the next frame; whether the recording goes on.
     pub fn next(&mut self, alloc: Global, session: &mut Session) -> Result<bool, ReadFault> {
+        session.notes.may_lose = self.may_lose;
         session.next(
             alloc,
             &mut self.reader,
@@ -41,9 +47,11 @@ impl<R: Read + Drop> Opened<R> {
         )
     }
 
-    /// Reads no further: the fragments that still wait belong to nothing.
-    pub fn close(self, session: &mut Session) -> Result<(), AllocError> {
-        session.notes.lose_all(self.recording.into_waiting())
+    /// Reads no further: the fragments that still wait belong to nothing, and the recorder has told how many packets it lost.
+    pub fn close(self, alloc: Global, session: &mut Session) -> Result<(), AllocError> {
+        session.notes.may_lose = false;
+        session.notes.dropped = self.recording.lost();
+        session.notes.lose_all(alloc, self.recording.into_waiting())
     }
 }
 
@@ -63,7 +71,7 @@ pub fn read_whole<R: Read + Drop>(
 ) -> Result<(), ReadFault> {
     let mut opened = Opened::begin(alloc, reader)?;
     let read = read_frames(alloc, &mut opened, session);
-    opened.close(session)?;
+    opened.close(alloc, session)?;
     read
 }
 

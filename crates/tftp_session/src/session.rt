@@ -4,16 +4,18 @@ ghost use Rattle.tftp_frames.specs.{IsSound};
 
 use crate::fault::{ReadFault, TextFault};
 use crate::kept::Kept;
+use crate::losses::SILENCE;
 use crate::notes::Notes;
+use crate::unplaced::Unplaced;
 use std::alloc::{AllocError, Global};
 use std::collections::BTreeMap;
 use std::io::Read;
-use tftp_blame::{Passing, Span, Trail, about};
+use tftp_blame::{Missing, Passing, Trail, about};
 use tftp_blocks::RingDelivered;
-use tftp_lines::{Place, Transfer};
+use tftp_lines::{Endpoint, Place, Transfer};
 use tftp_parties::party_of;
 use tftp_pcap::{FaultKind, PcapFault};
-use tftp_recording::{Datagram, Event, Fate, RecordingReader};
+use tftp_recording::{Checksum, Datagram, Event, Fate, RecordingReader};
 use tftp_recording_audit::{AuditFault, NextFrame, RecordingAudit};
 use tftp_recording_judge::{Judging, Watched};
 use tftp_streams::Latched;
@@ -25,6 +27,7 @@ use tftp_views::Fed;
 pub struct Session {
     audit: RecordingAudit<RingDelivered>,
     trails: BTreeMap<u64, Trail>,
+    unplaced: Unplaced,
     /// What is to be told of the recording as a whole.
     pub notes: Notes,
     /// The datagrams of the transfer whose text is wanted.
@@ -49,6 +52,7 @@ impl Session {
         Ok(Session {
             audit: RecordingAudit::new(alloc, services, judging)?,
             trails: BTreeMap::new(alloc),
+            unplaced: Unplaced::new(alloc),
             notes: Notes::new(alloc),
             kept,
         })
@@ -87,12 +91,12 @@ impl Session {
         event: &mut Event,
         found: Option<Attributed>,
     ) -> Result<bool, ReadFault> {
-        self.notes.lose(event.old())?;
-        self.notes.lose_all(event.take_ousted(alloc))?;
+        self.notes.lose(alloc, event.old())?;
+        self.notes.lose_all(alloc, event.take_ousted(alloc))?;
         match event.fate() {
             Fate::Datagram(datagram) => self.pass(alloc, event, &datagram, found)?,
-            Fate::Left(why) => self.notes.leave(why, event)?,
-            Fate::Waits => self.notes.losses.wait(event.number(), event.hosts())?,
+            Fate::Left(why) => self.notes.leave(alloc, why, event)?,
+            Fate::Waits => self.notes.wait(alloc, event)?,
         }
         Ok(true)
     }
@@ -110,13 +114,15 @@ impl Session {
         let Some(found) = found else {
             return Ok(());
         };
-        self.notes.find(event.sharers());
+        self.notes.find(alloc, event.sharers())?;
         let source = party_of(datagram.source, datagram.source_port);
         let target = party_of(datagram.target, datagram.target_port);
         let passing = Passing {
             frame: event.number(),
             time: event.time(),
             is_doubtful: event.is_doubtful(),
+            has_error: event.has_error(),
+            is_intact: intact_by(event.checksum()),
             source: source.end,
             target: target.end,
             payload: datagram.payload,
@@ -143,13 +149,23 @@ impl Session {
         request: &Passing<'_>,
     ) -> Result<(), AllocError> {
         let payload = Vec::from_slice(alloc, request.payload)?;
-        let trail = Trail::new(alloc, transfer, payload, request.frame);
+        let mut trail = Trail::new(alloc, transfer, payload, request.frame);
+        let time = self.notes.clock.time_of(request.time);
+        let later = self.unplaced.open(transfer.client, transfer.number, time);
+        let asked = self.notes.ask(alloc, &trail);
+        if let Ok(Some(frame)) = later {
+            trail.leave_out(frame);
+        }
         self.trails.insert(transfer.number, trail)?;
-        Ok(())
+        later?;
+        asked
     }
 
     /// Notes a datagram at the transfer that it is about.
     fn follow(&mut self, found: &Attributed, passing: &Passing<'_>) -> Result<(), AllocError> {
+        if let Place::Nowhere = found.place {
+            self.leave_out(passing)?;
+        }
         let Some(number) = about(&found.place) else {
             return self.notes.leave_out(passing);
         };
@@ -159,23 +175,48 @@ impl Session {
         }
     }
 
-    /// Whether there is a transfer, and no datagram joins the oldest any more.
+    /// Notes a datagram of no transfer where its time may be within one's.
+    fn leave_out(&mut self, passing: &Passing<'_>) -> Result<(), AllocError> {
+        let time = self.notes.clock.time_of(passing.time);
+        self.leave_out_at(passing.source, passing.frame, time);
+        self.leave_out_at(passing.target, passing.frame, time);
+        self.unplaced.note(passing, time)
+    }
+
+    /// Notes it at the newest transfer of a client with this endpoint, if its time is within the transfer's.
+    fn leave_out_at(&mut self, end: Endpoint, frame: u64, time: u64) {
+        let Some(number) = self.unplaced.newest(end) else {
+            return;
+        };
+        if let Some(trail) = self.trails.get_mut(&number) {
+            let silent = trail.last_time.saturating_add(SILENCE);
+            if time.max(self.notes.clock.reached) <= silent {
+                trail.leave_out(frame);
+            }
+        }
+    }
+
+    /// Whether there is a transfer, and nothing that comes later changes what is told of the oldest: no datagram joins it any
+    /// more, and no fragment of its client's host waits that may be of it.
     pub fn is_first_over(&self) -> bool {
         match self.trails.first_key_value() {
-            Some((_, trail)) => self.audit.is_over(&trail.transfer.client),
+            Some((_, trail)) => {
+                self.notes.is_past(trail) && self.audit.is_over(&trail.transfer.client)
+            }
             None => false,
         }
     }
 
     /// Hands out the oldest transfer.
     pub fn pop(&mut self) -> Option<Ended> {
-        let (_, trail) = self.trails.pop_first()?;
+        let (number, trail) = self.trails.pop_first()?;
+        self.unplaced.end(trail.transfer.client, number);
         joined(trail, self.audit.pop_first())
     }
 
     /// The frames that may have been of the client of this transfer, and are not there whole.
-    pub fn lost_of(&self, ended: &Ended) -> Option<Span> {
-        self.notes.losses.of(ended.trail.transfer.client.address)
+    pub fn missing_of(&self, ended: &Ended) -> Missing {
+        self.notes.missing_of(&ended.trail)
     }
 
     /// The transfer of which so many datagrams came before the first.
@@ -204,7 +245,7 @@ impl Session {
 
     /// Whether datagrams of the client of this transfer may be missing.
     pub(crate) fn may_lack(&self, trail: &Trail) -> bool {
-        self.notes.may_lack(trail.transfer.client.address)
+        self.notes.may_lack(trail)
     }
 
     /// Lets all that is kept go.
@@ -213,6 +254,15 @@ impl Session {
     /// How many transfers there are that were not handed out.
     pub fn count(&self) -> usize {
         self.trails.len()
+    }
+}
+
+/// Whether a datagram is as it was sent, where its checksums tell that.
+fn intact_by(checksum: Checksum) -> Option<bool> {
+    match checksum {
+        Checksum::Right => Some(true),
+        Checksum::Wrong => Some(false),
+        Checksum::Absent => None,
     }
 }
 

@@ -11,7 +11,7 @@ use tftp_words::{CheckRequest, Point};
 /// Judges the transfers of recordings. A recording that can't be read does not end it.
 pub fn check(rt: HostRuntime, asked: &CheckRequest<'_>) -> Result<u8> {
     let width = widest(asked.files.as_slice());
-    let mut teller = Teller::new(What::Check, asked.json, width);
+    let mut teller = Teller::new(rt.alloc(), What::Check, asked.json, width);
     for file in asked.files.iter() {
         let checked = check_file(rt, *file, asked, &mut teller);
         if told(rt, PROGRAM, *file, checked)?.is_none() {
@@ -61,7 +61,9 @@ pub fn tell_session(
     session: &mut Session,
     teller: &mut Teller<'_>,
 ) -> Result<()> {
-    read_file(rt, file, session, teller)?;
+    let read = read_file(rt, file, session, teller);
+    teller.tell_held(rt, session)?;
+    read?;
     teller.tell_all(rt, session)?;
     tell_notes(rt, PROGRAM, file, &session.notes)?;
     if !session.notes.is_whole() {

@@ -32,7 +32,7 @@ pub fn list(rt: HostRuntime, asked: &ListRequest<'_>) -> Result<u8> {
     let services = asked.services.as_slice();
     let kept = Kept::new(rt.alloc(), Wanted::Nothing);
     let mut session = Session::new(rt.alloc(), services, Judging::Nowhere, kept)?;
-    let mut teller = Teller::new(What::List, asked.json, 0);
+    let mut teller = Teller::new(rt.alloc(), What::List, asked.json, 0);
     let told = tell_session(rt, asked.file, &mut session, &mut teller);
     session.let_go();
     told?;

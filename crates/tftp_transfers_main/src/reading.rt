@@ -29,7 +29,7 @@ fn read_from<R: Read + Drop>(
 ) -> Result<()> {
     let mut opened = Opened::begin(rt.alloc(), reader)?;
     let read = read_frames(rt, &mut opened, session, teller);
-    let closed = opened.close(session);
+    let closed = opened.close(rt.alloc(), session);
     read?;
     closed?;
     Ok(())

@@ -5,10 +5,12 @@ use crate::listing::{ListRow, put_list_head, put_list_row};
 use crate::verdicts::{Judged, Told};
 use anyhow::Result;
 use serde::Serialize;
-use std::alloc::AllocError;
-use tftp_blame::Span;
-use tftp_session::{Ended, Session, put_plain};
-use tftp_verdict_rows::Row;
+use std::alloc::{AllocError, Global};
+use std::mem;
+use tftp_blame::{Missing, Reason};
+use tftp_packet::End;
+use tftp_session::{Ended, Session, put_number, put_plain, shown_host};
+use tftp_verdict_rows::{Accused, Row};
 
 /// What is told of each transfer.
 #[derive(Clone, Copy)]
@@ -24,14 +26,24 @@ pub enum What {
 struct VerdictRow<'a> {
     file: &'a str,
     number: u64,
-    place: &'a str,
+    place: &'static str,
+    /// That of the datagram that is refused; none where none is.
     frame: Option<u64>,
-    verdict: &'a str,
+    verdict: String,
+    accused: Option<AccusedEnd>,
     doubts: Vec<String>,
 }
 
-/// Tells transfers, each as soon as no datagram joins it any more.
-#[derive(Clone, Copy)]
+/// The end that a refusal accuses.
+#[derive(Drop, Serialize)]
+struct AccusedEnd {
+    role: &'static str,
+    host: String,
+    port: u16,
+}
+
+/// Tells transfers, each as soon as nothing that comes later changes what is told of it.
+#[derive(Drop)]
 pub struct Teller<'a> {
     what: What,
     is_json: bool,
@@ -43,11 +55,16 @@ pub struct Teller<'a> {
     /// 0 where all were accepted, else 1, or 2 after a fault.
     pub status: u8,
     is_headed: bool,
+    /// From the first refusal on, while the recorder may still tell that it lost packets.
+    held: Vec<VerdictRow<'a>>,
+    may_lose: bool,
+    /// How many packets the recorder lost.
+    dropped: u64,
 }
 
 impl<'a> Teller<'a> {
     /// Nothing was told.
-    pub fn new(what: What, is_json: bool, width: usize) -> Self {
+    pub fn new(alloc: Global, what: What, is_json: bool, width: usize) -> Self {
         Teller {
             what,
             is_json,
@@ -56,6 +73,9 @@ impl<'a> Teller<'a> {
             told: 0,
             status: 0,
             is_headed: false,
+            held: Vec::new(alloc),
+            may_lose: false,
+            dropped: 0,
         }
     }
 
@@ -63,15 +83,28 @@ impl<'a> Teller<'a> {
     pub fn begin(&mut self, file: &'a str) {
         self.file = file;
         self.told = 0;
+        self.dropped = 0;
     }
 
     /// Tells the transfers of which all is known, from the oldest on.
     pub fn tell_over(&mut self, rt: HostRuntime, session: &mut Session) -> Result<()> {
+        self.may_lose = session.notes.may_lose;
         for _ in 0..session.count() {
             if !session.is_first_over() {
                 return Ok(());
             }
             self.tell_oldest(rt, session)?;
+        }
+        Ok(())
+    }
+
+    /// Tells what was held back, where the recording is read no further.
+    pub fn tell_held(&mut self, rt: HostRuntime, session: &Session) -> Result<()> {
+        self.may_lose = false;
+        self.dropped = session.notes.dropped;
+        let held = mem::replace(&mut self.held, Vec::new(rt.alloc()));
+        for row in held {
+            self.tell_row(rt, row)?;
         }
         Ok(())
     }
@@ -90,19 +123,19 @@ impl<'a> Teller<'a> {
     fn tell_oldest(&mut self, rt: HostRuntime, session: &mut Session) -> Result<()> {
         match session.pop() {
             Some(ended) => {
-                let lost = session.lost_of(&ended);
-                self.tell(rt, ended, lost)
+                let missing = session.missing_of(&ended);
+                self.tell(rt, ended, missing)
             }
             None => Ok(()),
         }
     }
 
     /// Tells a transfer, of whose client's datagrams these may be missing.
-    fn tell(&mut self, rt: HostRuntime, ended: Ended, lost: Option<Span>) -> Result<()> {
+    fn tell(&mut self, rt: HostRuntime, ended: Ended, missing: Missing) -> Result<()> {
         self.told = self.told.saturating_add(1);
         match self.what {
             What::List => self.tell_request(rt, ended),
-            What::Check => self.tell_verdict(rt, ended, lost),
+            What::Check => self.tell_verdict(rt, ended, missing),
         }
     }
 
@@ -112,8 +145,8 @@ impl<'a> Teller<'a> {
         self.tell_listed(rt, &row?)
     }
 
-    fn tell_verdict(&mut self, rt: HostRuntime, ended: Ended, lost: Option<Span>) -> Result<()> {
-        let judged = Judged::new(rt.alloc(), ended, lost)?;
+    fn tell_verdict(&mut self, rt: HostRuntime, ended: Ended, missing: Missing) -> Result<()> {
+        let judged = Judged::new(rt.alloc(), ended, missing)?;
         self.tell_judged(rt, &judged)
     }
 
@@ -156,27 +189,46 @@ impl<'a> Teller<'a> {
     }
 
     fn tell_one(&mut self, rt: HostRuntime, judged: &Judged, told: &Told<'_>) -> Result<()> {
-        let mut doubts = Vec::new(rt.alloc());
-        let put = told.put_reasons(rt.alloc(), &mut doubts, &judged.doubted);
-        put?;
+        let row = self.row_of(rt.alloc(), judged, told)?;
         self.status = self.status.max(told.view.status());
-        let row = VerdictRow {
+        let is_next = self.held.is_empty() && row.frame.is_none();
+        if self.may_lose && !is_next {
+            self.held.push(row)?;
+            return Ok(());
+        }
+        self.tell_row(rt, row)
+    }
+
+    fn row_of(
+        &self,
+        alloc: Global,
+        judged: &Judged,
+        told: &Told<'_>,
+    ) -> Result<VerdictRow<'a>, AllocError> {
+        let reasons = judged.reasons(alloc, told)?;
+        Ok(VerdictRow {
             file: self.file,
             number: self.told,
             place: told.place,
             frame: told.view.frame(),
-            verdict: told.view.line(),
-            doubts,
-        };
-        self.tell_row(rt, &row)
+            verdict: String::from_str(alloc, told.view.line())?,
+            accused: AccusedEnd::of(alloc, judged.accused(told, reasons.as_slice()))?,
+            doubts: written(alloc, reasons.as_slice())?,
+        })
     }
 
-    fn tell_row(&mut self, rt: HostRuntime, row: &VerdictRow<'_>) -> Result<()> {
+    /// Tells a row. A refusal is doubtful where the recorder lost packets.
+    fn tell_row(&mut self, rt: HostRuntime, mut row: VerdictRow<'a>) -> Result<()> {
+        if self.dropped > 0 && row.frame.is_some() {
+            let dropped = Reason::Dropped(self.dropped);
+            row.doubts.push(format!(in rt.alloc(); "{dropped}")?)?;
+            row.accused = None;
+        }
         if self.is_json {
-            return print_json(rt, row);
+            return print_json(rt, &row);
         }
         let mut line = String::new(rt.alloc());
-        let put = self.put_row(&mut line, row);
+        let put = self.put_row(&mut line, &row);
         put?;
         println!(rt; "{line}")?;
         Ok(())
@@ -185,7 +237,7 @@ impl<'a> Teller<'a> {
     fn put_row(&mut self, line: &mut String, row: &VerdictRow<'_>) -> Result<(), AllocError> {
         if !self.is_headed {
             put_cell(line, "file", self.width)?;
-            line.push_str("number  place    frame     verdict\n")?;
+            line.push_str("number  place    frame     accused                 verdict\n")?;
             self.is_headed = true;
         }
         let start = line.len();
@@ -197,18 +249,65 @@ impl<'a> Teller<'a> {
             Some(frame) => put_number_cell(line, frame, 8)?,
             None => put_cell(line, "-", 8)?,
         }
+        put_accused(line, row)?;
         put_verdict(line, row)
     }
 }
 
+impl AccusedEnd {
+    /// The end that is accused, if one is.
+    fn of(alloc: Global, accused: Option<Accused>) -> Result<Option<Self>, AllocError> {
+        let Some(Accused { role, end }) = accused else {
+            return Ok(None);
+        };
+        Ok(Some(AccusedEnd {
+            role: match role {
+                End::Client => "client",
+                End::Server => "server",
+            },
+            host: shown_host(alloc, end.address)?,
+            port: end.port,
+        }))
+    }
+
+    /// Puts the role and the endpoint, an IPv6 address in brackets (RFC 3986, section 3.2.2).
+    fn put(&self, line: &mut String) -> Result<(), AllocError> {
+        let is_ipv6 = self.host.as_str().contains(':');
+        line.push_str(self.role)?;
+        line.push_str(if is_ipv6 { " [" } else { " " })?;
+        line.push_str(self.host.as_str())?;
+        line.push_str(if is_ipv6 { "]:" } else { ":" })?;
+        put_number(line, u64::from(self.port))
+    }
+}
+
 fn let_go(_ended: Ended) {}
+
+/// What each reason says.
+fn written(alloc: Global, reasons: &[Reason]) -> Result<Vec<String>, AllocError> {
+    let mut words = Vec::new(alloc);
+    for reason in reasons {
+        words.push(format!(in alloc; "{reason}")?)?;
+    }
+    Ok(words)
+}
+
+/// Puts who is accused as a cell.
+fn put_accused(line: &mut String, row: &VerdictRow<'_>) -> Result<(), AllocError> {
+    let start = line.len();
+    match &row.accused {
+        Some(accused) => accused.put(line)?,
+        None => line.push('-')?,
+    }
+    pad(line, line.len().saturating_sub(start), 22)
+}
 
 /// Puts the verdict, and where it is doubtful why.
 fn put_verdict(line: &mut String, row: &VerdictRow<'_>) -> Result<(), AllocError> {
     if !row.doubts.is_empty() {
         line.push_str("doubtful ")?;
     }
-    line.push_str(row.verdict)?;
+    line.push_str(row.verdict.as_str())?;
     for (place, why) in row.doubts.iter().enumerate() {
         line.push_str(if place == 0 { ": " } else { "; " })?;
         line.push_str(why.as_str())?;

@@ -1,16 +1,18 @@
 //! The verdict on a transfer at each point where it was judged.
 
 use std::alloc::{AllocError, Global};
-use tftp_blame::{Blamed, Doubted, Span, Trail, put_unseen};
+use tftp_blame::{Blamed, Doubted, Missing, Reason, Trail, put_if};
 use tftp_commands::{say_accepted, say_verdict};
 use tftp_judge::{Meaning, Refusal, Rule, Verdict};
+use tftp_lines::Transfer;
 use tftp_packet::End;
 use tftp_recording_judge::Verdicts;
 use tftp_rules::PortRule;
 use tftp_session::Ended;
 use tftp_streams::LineWriter;
 use tftp_tap_judge::TapRefusal;
-use tftp_verdict_rows::{Place, Point, Row, Rows, Said, rows_told};
+use tftp_transfers::TransferEnds;
+use tftp_verdict_rows::{Accused, Place, Point, Row, Rows, Said, accused_by, role_at, rows_told};
 
 /// The verdict at a point.
 #[derive(Drop)]
@@ -19,6 +21,8 @@ pub struct Viewed {
     blamed: Option<Blamed>,
     /// Whether it stops early, or an ERROR ended it.
     lacks: bool,
+    /// Whether it is the server's.
+    is_at_server: bool,
     /// Whether a request that did not pass there would explain it.
     may_be_asked: bool,
     line: String,
@@ -30,8 +34,11 @@ pub struct Judged {
     client: Option<Viewed>,
     server: Option<Viewed>,
     between: Option<Viewed>,
+    transfer: Transfer,
+    /// Who its ends are.
+    ends: TransferEnds,
     /// What makes a refusal doubtful.
-    pub doubted: Doubted,
+    doubted: Doubted,
 }
 
 /// What is said of a transfer in one row.
@@ -44,9 +51,9 @@ pub struct Told<'a> {
 
 impl Judged {
     /// What there is to say of a transfer that has ended, of whose client's datagrams these may be missing.
-    pub fn new(alloc: Global, ended: Ended, lost: Option<Span>) -> Result<Self, AllocError> {
+    pub fn new(alloc: Global, ended: Ended, missing: Missing) -> Result<Self, AllocError> {
         let Ended { trail, watched } = ended;
-        let doubted = trail.doubted(watched.doubts(), lost);
+        let doubted = trail.doubted(watched.doubts(), missing);
         let verdicts = watched.finish(alloc);
         let judged = Judged::of(alloc, &trail, &verdicts, doubted);
         let_go(trail, verdicts);
@@ -63,6 +70,8 @@ impl Judged {
             client: at_client(alloc, trail, &verdicts.client)?,
             server: at_server(alloc, trail, &verdicts.server)?,
             between: between(alloc, trail, &verdicts.between)?,
+            transfer: trail.transfer,
+            ends: trail.ends,
             doubted,
         })
     }
@@ -108,7 +117,7 @@ fn at_client(
     found: &Option<Result<Meaning, Refusal>>,
 ) -> Result<Option<Viewed>, AllocError> {
     match found {
-        Some(found) => Ok(Some(Viewed::at_end(alloc, found, trail.at_client())?)),
+        Some(found) => Ok(Some(Viewed::at_end(alloc, found, trail.at_client(), false)?)),
         None => Ok(None),
     }
 }
@@ -119,7 +128,7 @@ fn at_server(
     found: &Option<Result<Meaning, Refusal>>,
 ) -> Result<Option<Viewed>, AllocError> {
     match found {
-        Some(found) => Ok(Some(Viewed::at_end(alloc, found, trail.at_server(found))?)),
+        Some(found) => Ok(Some(Viewed::at_end(alloc, found, trail.at_server(found), true)?)),
         None => Ok(None),
     }
 }
@@ -151,21 +160,49 @@ fn word_of(place: Place) -> &'static str {
     }
 }
 
-impl<'a> Told<'a> {
-    /// Adds why a refusal is no accusation, and why what is not whole here may be whole.
-    pub fn put_reasons(
-        &self,
-        alloc: Global,
-        reasons: &mut Vec<String>,
-        doubted: &Doubted,
-    ) -> Result<(), AllocError> {
-        match (&self.view.said, &self.view.blamed) {
+impl Judged {
+    /// Why a refusal in a row is no accusation, and why what is not whole there may be whole.
+    pub fn reasons(&self, alloc: Global, told: &Told<'_>) -> Result<Vec<Reason>, AllocError> {
+        let mut reasons = Vec::new(alloc);
+        let put = self.put_reasons(&mut reasons, told.view);
+        put?;
+        Ok(reasons)
+    }
+
+    fn put_reasons(&self, reasons: &mut Vec<Reason>, view: &Viewed) -> Result<(), AllocError> {
+        match (&view.said, &view.blamed) {
             (Said::Refused(_, _), Some(blamed)) => {
-                put_unseen(alloc, reasons, self.view.may_be_asked)?;
-                doubted.put_reasons(alloc, reasons, blamed)
+                put_if(reasons, view.may_be_asked, Reason::Unseen)?;
+                put_if(
+                    reasons,
+                    view.is_at_server && blamed.speaks_first,
+                    Reason::SpeaksFirst,
+                )?;
+                put_if(reasons, self.is_strangers(blamed), Reason::Stranger)?;
+                self.doubted.put_reasons(reasons, blamed)
             }
-            (Said::NotWhole, _) if self.view.lacks => doubted.put_lacks(alloc, reasons),
+            (Said::NotWhole, _) if view.lacks => self.doubted.put_missing(reasons),
             _ => Ok(()),
+        }
+    }
+
+    /// Whether neither end sent the datagram, which passed at the client.
+    fn is_strangers(&self, blamed: &Blamed) -> bool {
+        !blamed.is_beside && role_at(&self.transfer, &self.ends, blamed.source).is_none()
+    }
+
+    /// Whom a row accuses, with these reasons for doubt.
+    pub fn accused(&self, told: &Told<'_>, reasons: &[Reason]) -> Option<Accused> {
+        match (&told.view.said, &told.view.blamed) {
+            (Said::Refused(_, _), Some(blamed)) => {
+                accused_by(
+                    &self.transfer,
+                    &self.ends,
+                    blamed.source,
+                    !reasons.is_empty(),
+                )
+            }
+            _ => None,
         }
     }
 }
@@ -175,6 +212,7 @@ impl Viewed {
         alloc: Global,
         found: &Result<Meaning, Refusal>,
         blamed: Option<Blamed>,
+        is_at_server: bool,
     ) -> Result<Self, AllocError> {
         let line = match found {
             Ok(meaning) => accepted_line(alloc, meaning),
@@ -184,6 +222,7 @@ impl Viewed {
             said: Said::of(found, frame_of(&blamed)),
             blamed,
             lacks: matches!(found, Err(Refusal::Incomplete(_) | Refusal::Aborted(_, _))),
+            is_at_server,
             may_be_asked: false,
             line: line?,
         })
@@ -205,6 +244,7 @@ impl Viewed {
                 found,
                 Err(TapRefusal::Incomplete(_) | TapRefusal::Aborted(_, _))
             ),
+            is_at_server: false,
             may_be_asked: matches!(
                 found,
                 Err(TapRefusal::Unlawful(_, Rule::Port(PortRule::BadAnswer)))

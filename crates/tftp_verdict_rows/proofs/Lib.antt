@@ -1,1 +1,2 @@
+mod Accusing
 pub mod Telling

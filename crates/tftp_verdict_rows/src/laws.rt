@@ -1,8 +1,14 @@
 //! Laws of the definitions in `specs/`. Each is the contract of a function that does nothing.
 
-ghost use Rattle.std.specs.Prelude.{◌≡◌, ◌∷◌, [], Any, Bool, IsSome, None, Option, Some, true, false};
+ghost use Rattle.std.specs.Prelude.{◌≡◌, ◌∷◌, ◌||◌, [], List, Any, Bool, IsSome, None, Option, Some, true, false};
+ghost use Rattle.tftp_lines.specs.{Place, Placed, Transfer, same_endpoint};
+ghost use Rattle.tftp_packet.specs.declared.kinds.End.TheVariants as end;
 ghost use Rattle.tftp_rules.specs.{EndRule};
 ghost use Rattle.tftp_law.specs.{Block};
+ghost use Rattle.tftp_transfers.specs.{asked_twice, client, service};
+ghost use Rattle.tftp_transfers.specs.Worked.{at, passes};
+ghost use Rattle.tftp_verdict_rows.specs.Accused.{accused_in, accused_of, is_servers};
+ghost use Rattle.tftp_verdict_rows.specs.declared.accused.Accused.{Accused};
 ghost use Rattle.tftp_verdict_rows.specs.Told.{Tells, both_row, plain_row, rows_told, said_at};
 ghost use Rattle.tftp_verdict_rows.specs.declared.row.Point.{Point as PointKind};
 ghost use Rattle.tftp_verdict_rows.specs.declared.row.Point.TheVariants.{Client, Server, Between};
@@ -21,4 +27,22 @@ pub fn worked_rows()
     ensures alike { rows_told (Some (Refused (Block EndRule.BlockSkipped) (Some 5))) (Some (Refused (Block EndRule.BlockSkipped) (Some 5))) None true ≡ both_row ∷ [] }
     ensures between { rows_told None None (Some Accepted) true ≡ plain_row Between ∷ [] }
     ensures nowhere { rows_told None None None true ≡ [] }
+{}
+
+/// Only an end of the transfer is accused, by what it sent itself, and only without a doubt.
+pub fn an_end_is_accused_by_its_own_datagram()
+    ensures sent { (x : Transfer) (whole : List Placed) (p : Placed) (doubtful : Bool) (a : Accused) → accused_of x whole p doubtful ≡ Some a
+        → a.end ≡ p.datagram.source }
+    ensures sure { (x : Transfer) (whole : List Placed) (p : Placed) (doubtful : Bool) (a : Accused) → accused_of x whole p doubtful ≡ Some a
+        → doubtful ≡ false }
+    ensures ends { (x : Transfer) (whole : List Placed) (p : Placed) (doubtful : Bool) (a : Accused) → accused_of x whole p doubtful ≡ Some a
+        → (same_endpoint a.end x.client || is_servers x whole a.end) ≡ true }
+{}
+
+/// A client asks twice, is answered by a server and by a stranger, and acknowledges: the stranger's datagram accuses nobody.
+pub fn worked_accusations()
+    ensures whom { accused_in (record { number = 0; client = client; asked = service }) asked_twice
+        ≡ Some (record { role = end.Client; end = client }) ∷ None ∷ Some (record { role = end.Server; end = at 1 41000 })
+        ∷ Some (record { role = end.Client; end = client }) ∷ Some (record { role = end.Client; end = client }) ∷ [] }
+    ensures doubtful { accused_of (record { number = 0; client = client; asked = service }) [] (record { datagram = passes 0 client service []; moment = 0; place = Place.Nowhere }) true ≡ None }
 {}

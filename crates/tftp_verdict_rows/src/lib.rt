@@ -1,9 +1,11 @@
-//! Which verdicts are told of a transfer, by the points at which it was judged.
+//! Which verdicts are told of a transfer, by the points at which it was judged, and whom a refusal accuses.
 #![tactic(auto)]
 
+mod accused;
 pub mod laws;
 mod row;
 mod said;
 
+pub use accused::{Accused, accused_by, role_at};
 pub use row::{Place, Point, Row, Rows, rows_told};
 pub use said::Said;

@@ -12,13 +12,13 @@ pub returns-in-Ok-false-clause-ends : goal.returns-in-Ok-false-clause-ends
 returns-in-Ok-false-clause-ends g c =
     let (bytes, consumed, are) = c.in-Ok-false.ensures.gathers in
     let short = c.in-Ok-false.ensures.part (λ e. false≢true (sym c.in-Ok-false.field-0-test ∙ ok_one _ _ e)) in
-    (bytes, consumed, rest_cut (record { layout = c.args.layout; interfaces = c.args.interfaces.now }) c.args.piece.now.items bytes c.args.size c.requires.front c.requires.announced c.requires.sized c.gather.new.piece.items (omega (arith, short, ap length are)))
+    (bytes, consumed, rest_cut c.args.layout c.args.interfaces.now c.args.piece.now.items bytes c.args.size c.requires.front c.requires.announced c.requires.sized c.gather.new.piece.items (omega (arith, short, ap length are)))
 
 pub returns-in-Err-clause-ends : goal.returns-in-Err-clause-ends
 returns-in-Err-clause-ends g c =
     let (bytes, consumed, are) = c.in-Err.ensures.gathers in
     let short = c.in-Err.ensures.part (λ e. let x : ⊥ = cc in x) in
-    (bytes, consumed, rest_failed (record { layout = c.args.layout; interfaces = c.args.interfaces.now }) c.args.piece.now.items bytes c.args.size c.requires.front c.requires.announced c.requires.sized c.in-Err.kind c.gather.new.piece.items are c.in-Err.ensures.kinds (omega (arith, short, ap length are)))
+    (bytes, consumed, rest_failed c.args.layout c.args.interfaces.now c.args.piece.now.items bytes c.args.size c.requires.front c.requires.announced c.requires.sized c.in-Err.kind c.gather.new.piece.items are c.in-Err.ensures.kinds (omega (arith, short, ap length are)))
 
 pub returns-in-Err-clause-memory : goal.returns-in-Err-clause-memory
 returns-in-Err-clause-memory g c = λ h.
@@ -37,7 +37,7 @@ returns-in-None-clause-ends g c =
     let (bytes, consumed, are) = c.in-Ok-true.ensures.gathers in
     let whole = c.in-Ok-true.ensures.whole (ap Ok c.in-Ok-true.field-0-test) in
     let never = rw c.deref-2.ensures.value at c.in-None.ensures.says in
-    (bytes, consumed, rest_bad (record { layout = c.args.layout; interfaces = c.args.interfaces.now }) c.args.piece.now.items bytes c.args.size c.requires.front c.requires.announced c.requires.sized c.gather.new.piece.items (sym (ap length are) ∙ whole) (λ said says. never said (subst (λ (l : List ℕ). Says c.args.layout c.args.interfaces.now l said) (sym {A = List ℕ} are) says)))
+    (bytes, consumed, rest_bad c.args.layout c.args.interfaces.now c.args.piece.now.items bytes c.args.size c.requires.front c.requires.announced c.requires.sized c.gather.new.piece.items (sym (ap length are) ∙ whole) (λ said says. never said (subst (λ (l : List ℕ). Says c.args.layout c.args.interfaces.now l said) (sym {A = List ℕ} are) says)))
 
 pub returns-in-Some-said_by-clause-ends : goal.returns-in-Some-said_by-clause-ends
 returns-in-Some-said_by-clause-ends g c =

@@ -5,7 +5,7 @@ use Rattle.tftp_pcap.proofs.skip.skip_rest.Goals as goal
 pub returns-then-not-branch-clause-ends : goal.returns-then-not-branch-clause-ends
 returns-then-not-branch-clause-ends g c = λ interfaces.
     let (more, consumed, short) = rw c.if-not-branch.true at c.in_ok-skip_to_end.ensures.skips in
-    (more, consumed, rest_cut (record { layout = Blocks c.args.order; interfaces = interfaces }) c.args.piece.now.items more c.args.size c.requires.front c.requires.announced c.requires.sized c.skip_to_end.new.piece.items short)
+    (more, consumed, rest_cut (Blocks c.args.order) interfaces c.args.piece.now.items more c.args.size c.requires.front c.requires.announced c.requires.sized c.skip_to_end.new.piece.items short)
 
 pub returns-then-number-size-clause-ends : goal.returns-then-number-size-clause-ends
 returns-then-number-size-clause-ends g c = λ interfaces.

@@ -1,5 +1,5 @@
 use Rattle.std.proofs.Common.{◌≡◌, ap, refl, subst, ◌++◌, List, Err, arith}
-use Rattle.tftp_pcap.specs.{Interface, RestEnds, Memory}
+use Rattle.tftp_pcap.specs.{NamedInterface, RestEnds, Memory}
 use Rattle.tftp_pcap.proofs.Steps.{step_fails, rest_fails, rest_full, rest_place, rest_says, wants_bytes}
 use Rattle.tftp_pcap.proofs.step.Pieces.step.Goals as goal
 
@@ -12,7 +12,7 @@ returns-in-Err-clause-memory g c = λ h. let kind : c.in-Err.kind ≡ Memory = c
 pub returns-in-Err-read_rest-clause-ends : goal.returns-in-Err-read_rest-clause-ends
 returns-in-Err-read_rest-clause-ends g c =
     let (more, consumed, ends) = c.in-Err-read_rest.ensures.ends in
-    rest_fails _ c.args.self.now (g.R.Read.remaining c.args.reader.now.0) _ _ c.read_front.new.piece.items more c.read_rest.new.piece.items c.self.view_is c.in-Ok-Some.ensures.taken consumed c.in-Err-read_rest.kind (subst (λ (l : List Interface). RestEnds (record { layout = c.self.inside.layout; interfaces = l }) (Err c.in-Err-read_rest.kind) c.read_rest.new.piece.items (c.read_front.new.piece.items ++ more)) c.deref.ensures.value ends)
+    rest_fails _ c.args.self.now (g.R.Read.remaining c.args.reader.now.0) _ _ c.read_front.new.piece.items more c.read_rest.new.piece.items c.self.view_is c.in-Ok-Some.ensures.taken consumed c.in-Err-read_rest.kind (subst (λ (l : List NamedInterface). RestEnds c.self.inside.layout l (Err c.in-Err-read_rest.kind) c.read_rest.new.piece.items (c.read_front.new.piece.items ++ more)) c.deref.ensures.value ends)
 
 pub returns-in-Err-read_rest-clause-memory : goal.returns-in-Err-read_rest-clause-memory
 returns-in-Err-read_rest-clause-memory g c = λ h.

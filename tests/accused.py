@@ -1,0 +1,185 @@
+"""Recordings of which it is known whom a refusal may accuse: in most of them nobody.
+
+    accused.py TRANSFERS MATCH
+
+Each recording of tests/data/ was once judged wrongly, or would be by a careless reader. CASES says of each what passed,
+and what must be said of its transfers. A case that is open is one that is not judged so yet: it is named and does not
+fail, but it fails once it is judged so, and its mark is then to be taken away. Prints each case that is not as it
+should be, then 'N passed, M failed'; status 1 if any failed.
+"""
+from __future__ import annotations
+
+import pathlib
+import re
+import subprocess
+import sys
+from dataclasses import dataclass
+
+from judged import CAN_TAKE, Row, checked
+from trial import Trial
+
+DATA = pathlib.Path(__file__).resolve().parent / "data"
+# Where recordings are judged: where no place is named, and at each place that can be.
+ENDS = ("", "client", "server", "between")
+# Of each transfer, whom it accuses and what is said, as regular expressions: nobody is accused.
+NOBODY = r"- .*"
+DOUBTFUL = r"- doubtful refused .*: .*"
+
+
+@dataclass(frozen=True)
+class Case:
+    """What passed in a recording, what must be said of its transfers in their order, and what is told of the whole."""
+
+    name: str
+    passed: str
+    rows: tuple[str, ...]
+    ends: tuple[str, ...] = ENDS
+    told: str = ".*"
+    is_open: bool = False
+
+
+LOST, CUT = "frame 4 is not there whole", "1 datagram not there whole.*"
+DROPPED = r"- doubtful refused datagram {} rule 26 AckAhead: .*the recorder lost {}"
+CASES = (
+    Case(
+        "a-lost-fragment-then-silence", "one of two fragments of a block is missing, and something passes 301 s later",
+        (f"- doubtful refused datagram 4 rule 26 AckAhead: {LOST}", "- incomplete after 1"),
+        told=".*1 datagram not there whole.*(frame 4).*",
+    ),
+    Case(
+        "cut-fragments-of-other-hosts", "a client acknowledges too much, and fragments of two other hosts are cut",
+        ("client 192.0.2.7:40000 refused datagram 3 rule 26 AckAhead",),
+        told=r".*: 2 datagrams not there whole[^\n]*\(frames 1, 2\)\n",
+    ),
+    Case(
+        "a-cut-frame-long-after-the-first", "a transfer stops, and 600 s later a frame of its client's host is cut",
+        ("- incomplete after 3", "- incomplete after 11"), told=f".*{CUT}",
+    ),
+    Case(
+        "a-cut-frame-long-after-the-second", "the same, but that the other client asked first",
+        ("- incomplete after 11", "- incomplete after 3"), told=f".*{CUT}",
+    ),
+    Case(
+        "an-answer-before-its-request", "the answer stands before its request, and their times tell that",
+        ("- doubtful refused .*: .*frame 1 is out of order.*",),
+    ),
+    Case(
+        "a-strange-frame-ahead", "one frame of others is 301 s ahead of all that passes",
+        ("- (accepted get .*|doubtful incomplete after 4: .*out of order.*)",),
+    ),
+    Case("one-direction-only", "a recorder was asked for one direction", ("- doubtful refused .*: .*one direction.*",)),
+    Case("a-stranger-before-the-answer", "a stranger's datagram comes before the answer", (NOBODY,)),
+    Case(
+        "a-second-client-at-the-first-ones-port", "a second client sends ACK 1 to the port that serves the first",
+        (NOBODY, DOUBTFUL), ("server",),
+    ),
+    Case(
+        "a-late-ack-0-to-a-read", "ACK 0 comes late, to a write that the client gave up for a read", (NOBODY, NOBODY),
+    ),
+    Case(
+        "a-late-oack-to-a-plain-request", "an OACK comes late, to a request that the client gave up for a plain one",
+        (NOBODY, NOBODY, NOBODY),
+    ),
+    Case(
+        "a-late-answer-of-another-server", "the server that was asked first answers late", (NOBODY, NOBODY),
+    ),
+    Case(
+        "a-servers-port-for-another-client",
+        "a server's port serves another client, and answers a late ACK of the first by ERROR 5 (RFC 1350, section 4)",
+        (NOBODY, NOBODY),
+    ),
+    Case(
+        "a-request-spelled-otherwise", "a client repeats its request with the mode in capitals, which is the same",
+        (NOBODY, "(- .*)?"),
+    ),
+    Case(
+        "a-stray-that-spells-a-request", "a stray to the client spells a request, and the client answers ERROR 5",
+        (NOBODY, "(- .*)?"),
+    ),
+    Case(
+        "another-clients-frame-ahead", "a frame of another client is 1,000 s ahead", (NOBODY, NOBODY, "(- .*)?"),
+    ),
+    Case(
+        "a-scanner-at-the-service-port", "junk goes to port 69, then a request from the same port; each is refused",
+        ("- (doubtful refused .*|aborted .*)", ".*"),
+    ),
+    Case(
+        "an-ack-to-the-service-port", "an ACK goes to port 69 in the middle of a transfer",
+        ("(client 192.0.2.7:2070|- doubtful) refused datagram 5 rule 2 WrongPort.*",),
+    ),
+    Case(
+        "two-packets-dropped", "the recorder counts a packet that its interface dropped and one that its system did",
+        (DROPPED.format(4, "2 packets"),),
+    ),
+    Case(
+        "twenty-packets-dropped", "the recorder counts twenty that it dropped", (DROPPED.format(39, "20 packets"),),
+    ),
+    Case(
+        "a-wrong-checksum-then-the-right-one", "a host discards a block with a wrong checksum, and has it again",
+        ("- accepted .*",), is_open=True,
+    ),
+    Case(
+        "repeated-data-at-the-server", "toybox acknowledges a block of a write that came twice by the next block's ACK",
+        ("server 10.88.0.2:69 refused datagram 10 rule 26 AckAhead",), told="",
+    ),
+    Case(
+        "repeated-data-at-the-client", "the same, recorded at the client",
+        ("server 10.88.0.2:69 refused datagram 9 rule 26 AckAhead",),
+    ),
+    Case(
+        "a-server-that-goes-back-at-once", "a server sends an earlier block again within a millisecond",
+        ("server .* refused datagram [0-9]+ rule 24 GoneBack",), ("server",), told="",
+    ),
+)
+
+
+def told(row: Row) -> str:
+    """Whom a row accuses, and what it says."""
+    why = f": {'; '.join(row.doubts)}" if row.doubts else ""
+    return f"{row.accused or '-'} {'doubtful ' if row.doubts else ''}{row.verdict}{why}"
+
+
+def wrong(transfers: str, case: Case) -> list[object]:
+    """What is not said as it must be, at each place."""
+    found: list[object] = []
+    [path] = DATA.glob(f"{case.name}.*")
+    for end in case.ends:
+        rows, beside, _ = checked(transfers, path.read_bytes(), *(("--end", end) if end else ()))
+        said = [told(row) for row in rows]
+        pairs = zip(said + [""] * len(case.rows), case.rows)
+        holds = len(said) <= len(case.rows) and all(re.fullmatch(wanted, it) for it, wanted in pairs)
+        if not holds or not re.fullmatch(case.told, beside, re.DOTALL):
+            found.append((end or "no end", said, beside))
+    return found
+
+
+def repeated(match: str) -> str:
+    """What is said of a read of which the network repeated a datagram on its way to the client."""
+    pair = [str(DATA / f"repeated-by-the-network-{end}.pcap") for end in ("client", "server")]
+    return subprocess.run([match, *pair], capture_output=True, text=True, timeout=CAN_TAKE).stdout.strip()
+
+
+def main(transfers: str, match: str) -> int:
+    trial, still = Trial(), []
+    for case in CASES:
+        found = wrong(transfers, case)
+        if case.is_open and found:
+            still.append(case.name)
+        else:
+            got = found or "it holds, and so is open no more"
+            trial.check(f"{case.name} ({case.passed})", not found and not case.is_open, got)
+    said = repeated(match)
+    if said.startswith("matched lost 0 repeated 0"):
+        still.append("repeated-by-the-network")
+    else:
+        trial.check("repeated-by-the-network", said.startswith("matched lost 0 repeated 1"), said)
+    names = {case.name for case in CASES} | {f"repeated-by-the-network-{end}" for end in ("client", "server")}
+    left = {path.stem for path in DATA.glob("*.pcap*")} ^ names
+    trial.check("each recording has its case", not left, left)
+    if still:
+        print(f"{len(still)} not judged so yet: {', '.join(still)}")
+    return trial.end()
+
+
+if __name__ == "__main__":
+    sys.exit(main(*sys.argv[1:]))
