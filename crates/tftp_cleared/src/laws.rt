@@ -1,0 +1,23 @@
+//! Laws of the definitions in `specs/`. Each is the contract of a function that does nothing.
+
+ghost use Rattle.std.specs.Prelude.{◌≡◌, ℕ, List};
+ghost use Rattle.tftp_model.specs.{Meaning};
+ghost use Rattle.tftp_law.specs.{OneEnded, Meant};
+ghost use Rattle.tftp_parties.specs.{host_name};
+ghost use Rattle.tftp_lines.specs.{Transfer, Recorded};
+ghost use Rattle.tftp_transfers.specs.{placed};
+ghost use Rattle.tftp_views.specs.{client_capture, client_header};
+ghost use Rattle.tftp_tap.specs.{BreaksNoTapRule, ShowsBetween};
+ghost use Rattle.tftp_between.specs.{between_capture, sides_of};
+ghost use Rattle.tftp_cleared.specs.Cleared.{IsTransferIn};
+
+/// Where no datagram of a transfer breaks a rule at its client, none breaks a rule between the ends (RFC 1350, section 4); and
+/// what is whole at the client means the same between.
+pub fn client_clears()
+    ensures rules { (named : List ℕ) (recorded : List Recorded) (x : Transfer) → IsTransferIn x named recorded
+        → OneEnded (client_header x) (client_capture host_name x (placed named recorded))
+        → BreaksNoTapRule (sides_of x (placed named recorded)) (between_capture x (placed named recorded)) }
+    ensures accepted { (named : List ℕ) (recorded : List Recorded) (x : Transfer) → IsTransferIn x named recorded
+        → (m : Meaning) → Meant (client_header x) (client_capture host_name x (placed named recorded)) m
+        → (wire : List ℕ) × ShowsBetween (sides_of x (placed named recorded)) m wire (between_capture x (placed named recorded)) }
+{}
