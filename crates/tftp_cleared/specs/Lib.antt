@@ -1,2 +1,3 @@
 pub mod Cleared
+pub mod Worked
 pub use Cleared.{HasAddresses, IsOpenedIn, IsTransferIn}

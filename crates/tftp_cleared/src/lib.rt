@@ -2,3 +2,4 @@
 #![tactic(auto)]
 
 pub mod laws;
+pub mod worked;
