@@ -6,3 +6,6 @@ mod Server
 mod There
 mod Law
 mod Named
+mod Merged
+mod ServerLaw
+mod Seated

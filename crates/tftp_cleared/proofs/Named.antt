@@ -23,14 +23,14 @@ use Rattle.tftp_cleared.proofs.Law.{AreOwn, breaks_none, shows_same}
 
 -- ---- names tell addresses
 
-named_same : (one other : Endpoint) → IsAddress one.address → IsAddress other.address → same_endpoint one other ≡ false → side one ≡ side other → ⊥
+pub named_same : (one other : Endpoint) → IsAddress one.address → IsAddress other.address → same_endpoint one other ≡ false → side one ≡ side other → ⊥
 named_same one other here there off same = false≢true (sym off ∙ and_from (one.port == other.port) (same_address one.address other.address)
     (eq-eqb one.port other.port (ap (λ (p : PeerId). p.port) same))
     ((called_one one.address other.address here there).1 (ap (λ (p : PeerId). p.host) same)))
 
 -- ---- the addresses of a transfer's datagrams
 
-placed_addresses : (named : List ℕ) (recorded : List Recorded) → AllByRecursion HasAddresses recorded → AllByRecursion (λ p. HasAddresses p.datagram) (placed named recorded)
+pub placed_addresses : (named : List ℕ) (recorded : List Recorded) → AllByRecursion HasAddresses recorded → AllByRecursion (λ p. HasAddresses p.datagram) (placed named recorded)
 placed_addresses named [] all = tt
 placed_addresses named (d ∷ recorded) all = (all.0, placed_addresses named recorded all.1)
 
@@ -41,7 +41,7 @@ kept_all P test (p ∷ ps) all = by_test (test p)
     (λ off. subst (AllByRecursion P) (sym (ap (λ b. cond b (p ∷ filter test ps) (filter test ps)) off)) (kept_all P test ps all.1))
 
 -- the client's, and where it asks
-opening_addresses : (x : Transfer) (ps : List Placed) → AllByRecursion (IsOwn x) ps → AllByRecursion (λ p. HasAddresses p.datagram) ps → IsOpenedIn x ps → IsAddress x.client.address × IsAddress x.asked.address
+pub opening_addresses : (x : Transfer) (ps : List Placed) → AllByRecursion (IsOwn x) ps → AllByRecursion (λ p. HasAddresses p.datagram) ps → IsOpenedIn x ps → IsAddress x.client.address × IsAddress x.asked.address
 opening_addresses x [] own all is = absurd (any_none (λ (p : Placed). p.place ≡ Opens x) is)
 opening_addresses x (p ∷ ps) own all is = elim (any_cases (λ (q : Placed). q.place ≡ Opens x) p ps is) [
   | inl now ↦ by own.0 now
@@ -49,7 +49,7 @@ opening_addresses x (p ∷ ps) own all is = elim (any_cases (λ (q : Placed). q.
 ]
   where
     by : IsOwn x p → p.place ≡ Opens x → IsAddress x.client.address × IsAddress x.asked.address
-    by (as_request is begins source to) now = (subst (λ (e : Endpoint). IsAddress e.address) source all.0.0, subst (λ (e : Endpoint). IsAddress e.address) (to now) all.0.1)
+    by (as_request is begins source to) now = (subst (λ (e : Endpoint). IsAddress e.address) source all.0.0, subst (λ (e : Endpoint). IsAddress e.address) to all.0.1)
     by (as_talk at ends asks) now = let both : Opens x ≡ Talks x = sym now ∙ at in absurd (cc)
 
 apart_all : (x : Transfer) → IsAddress x.client.address → (ps : List Placed) → AllByRecursion (λ p. HasAddresses p.datagram) ps → AllByRecursion (IsNamedApart x) ps

@@ -1,13 +1,15 @@
 -- What the datagrams of a transfer at its client are: its requests, which the client sent, and what passed between the client
 -- and another, of which none is a request to the port where the client asks.
-use Rattle.std.proofs.Common.{◌≡◌, ◌⊎◌, ◌≤◌, ℕ, true, false, cond, List, [], ◌∷◌, Option, Some, None, inl, inr, refl, sym, ap, subst, arith, ◌∙◌, ◌==◌, ◌&&◌, ◌||◌, not, max, is_some, length, if◌then◌else◌}
+use Rattle.std.proofs.Common.{◌≡◌, ◌⊎◌, ◌+◌, ◌≤◌, ℕ, Bool, true, false, cond, List, [], ◌∷◌, Option, Some, None, inl, inr, refl, sym, ap, subst, arith, ◌∙◌, ◌==◌, ◌&&◌, ◌||◌, not, max, nat_le, bytes_eq, is_some, length, if◌then◌else◌}
 use Rattle.std.specs.List.{AllByRecursion, list_any}
 use Rattle.std.proofs.lemmas.Bool.{false≢true, eqb-true, eq-eqb, and_from, and_parts, or_left, or_right}
 use Rattle.std.proofs.lemmas.List.Elements.{recursion_from_All}
 use Rattle.tftp_law.proofs.Division.Divided.{any_none, any_cases, any_first, any_later}
-use Rattle.tftp_lines.specs.{Endpoint, Place, Opens, Repeats, Talks, Transfer, Recorded, begins_request, is_again, Placed, clock, is_apart, is_of, is_request, line, live, newest_of, asked_after, opened_by, talk_in}
+use Rattle.tftp_lines.specs.{Endpoint, Place, Opens, Repeats, Talks, Transfer, Recorded, begins_request, is_again, goes, same_endpoint, silence, Placed, clock, is_apart, is_at, is_of, is_request, line, live, newest_of, asked_after, opened_by, talk_in}
 use Rattle.tftp_transfers.specs.{asks, at_client, beside, client_view, is_about, is_nowhere, is_service, place_of, placed, served_at}
+use Rattle.tftp_lines.proofs.Endpoints.{is_same}
 use Rattle.tftp_lines.proofs.Lines.{by_test}
+use Rattle.tftp_transfers.proofs.AllLines.{line_here, line_elsewhere}
 use Rattle.tftp_transfers.proofs.Ends.{asked_place, asked_as, opened, again, placed_where, IsEndAt, beside_end, client_end}
 use Rattle.tftp_transfers.proofs.Numbers.{length_placed, none_before, opening_number}
 use Rattle.tftp_cleared.specs.{IsOpenedIn}
@@ -15,7 +17,7 @@ use Rattle.tftp_cleared.proofs.Opened.{IsHeld, all_opened, opened_one}
 
 -- a datagram of the transfer, as it passed at the client
 pub data IsOwn (x : Transfer) (p : Placed) : Type 0 where
-  as_request : is_request p ≡ true → begins_request p.datagram.payload ≡ true → p.datagram.source ≡ x.client → (p.place ≡ Opens x → p.datagram.target ≡ x.asked) → IsOwn x p
+  as_request : is_request p ≡ true → begins_request p.datagram.payload ≡ true → p.datagram.source ≡ x.client → p.datagram.target ≡ x.asked → IsOwn x p
   as_talk : p.place ≡ Talks x → (x.client ≡ p.datagram.source) ⊎ (x.client ≡ p.datagram.target)
       → (begins_request p.datagram.payload ≡ true → p.datagram.target.port ≡ x.asked.port → ⊥) → IsOwn x p
 
@@ -70,6 +72,64 @@ requested named (d ∷ recorded) x is = elim (any_cases (λ (q : Placed). q.plac
 service_opened : (named : List ℕ) (recorded : List Recorded) (x : Transfer) → IsOpenedIn x (placed named recorded) → is_service named (placed named recorded) x.asked.port ≡ true
 service_opened named recorded x is = or_right ((x.asked.port == 69) || list_any (λ n. n == x.asked.port) named) _ (requested named recorded x is)
 
+-- ---- each request of a transfer goes where its client asks
+
+module _ (P : Placed → Type 0) where
+  live_all : (now : ℕ) (ps : List Placed) → AllByRecursion P ps → AllByRecursion P (live now ps)
+  live_all now [] all = tt
+  live_all now (p ∷ ps) all = by_test (nat_le now (p.moment + silence))
+      (λ is. subst (AllByRecursion P) (sym (ap (λ b. if b then p ∷ ps else []) is)) all)
+      (λ off. subst (AllByRecursion P) (sym (ap (λ b. if b then p ∷ ps else []) off)) tt)
+
+  line_all : (c : Endpoint) (older : List Placed) → AllByRecursion P older → AllByRecursion P (line c older)
+  line_all c [] all = tt
+  line_all c (p ∷ older) all = by_test (is_at c p)
+      (λ is. subst (AllByRecursion P) (sym (line_here c p older is)) (all.0, live_all p.moment (line c older) (line_all c older all.1)))
+      (λ off. subst (AllByRecursion P) (sym (line_elsewhere c p older off)) (line_all c older all.1))
+
+  newest_all : (test : Placed → Bool) (ps : List Placed) (p : Placed) → AllByRecursion P ps → newest_of test ps ≡ Some p → P p
+  newest_all test [] p all found = absurd (cc)
+  newest_all test (q ∷ ps) p all found = by_test (test q)
+      (λ is. let same : Some q ≡ Some p = sym (ap (λ b. if b then Some q else newest_of test ps) is) ∙ found in
+      let this : q ≡ p = cc in subst P this all.0)
+      (λ off. newest_all test ps p all.1 (sym (ap (λ b. if b then Some q else newest_of test ps) off) ∙ found))
+
+-- it is a request of the transfer
+abbrev AsksIn : Placed → Transfer → Type 0
+AsksIn p y = (p.place ≡ Opens y) ⊎ (p.place ≡ Repeats y)
+
+abbrev GoesThere : Placed → Type 0
+GoesThere p = (y : Transfer) → AsksIn p y → p.datagram.target ≡ y.asked
+
+-- a request that repeats goes where that one went
+repeats_as : (place : Place) (y : Transfer) (b : Bool) (number : ℕ) (d : Recorded) → asked_after (opened_by number d) place b ≡ Repeats y → (b ≡ true) × ((place ≡ Opens y) ⊎ (place ≡ Repeats y))
+repeats_as (Opens z) y true number d is = (refl, inl (let same : z ≡ y = cc in ap Opens same))
+repeats_as (Repeats z) y true number d is = (refl, inr (let same : z ≡ y = cc in ap Repeats same))
+repeats_as _ y b number d is = absurd (cc)
+
+again_there : (p : Placed) (d : Recorded) → is_again p.datagram d ≡ true → d.target ≡ p.datagram.target
+again_there p d is =
+    let ways = (and_parts (bytes_eq p.datagram.payload d.payload) (goes d.source d.target p.datagram) is).1 in
+    sym (is_same p.datagram.target d.target (and_parts (same_endpoint p.datagram.source d.source) (same_endpoint p.datagram.target d.target) ways).1)
+
+repeated_there : (older : List Placed) (now : ℕ) (d : Recorded) (y : Transfer) → AllByRecursion GoesThere older → asked_place older now d ≡ Repeats y → d.target ≡ y.asked
+repeated_there older now d y all is = by (newest_of (λ p. not (is_apart p)) (live now (line d.source older))) refl where
+  by : (found : Option Placed) → newest_of (λ p. not (is_apart p)) (live now (line d.source older)) ≡ found → d.target ≡ y.asked
+  by None none = let both : opened_by (length older) d ≡ Repeats y = rw none at is in absurd (cc)
+  by (Some p) found =
+      let after : asked_after (opened_by (length older) d) p.place (is_again p.datagram d) ≡ Repeats y = rw found at is in
+      let both = repeats_as p.place y (is_again p.datagram d) (length older) d after in
+      again_there p d both.0 ∙ newest_all GoesThere (λ q. not (is_apart q)) (live now (line d.source older)) p (live_all GoesThere now (line d.source older) (line_all GoesThere d.source older all)) found y both.1
+
+all_there : (named : List ℕ) (recorded : List Recorded) → AllByRecursion GoesThere (placed named recorded)
+all_there named [] = tt
+all_there named (d ∷ recorded) = (here_there named recorded d (all_there named recorded), all_there named recorded) where
+  here_there : (named : List ℕ) (recorded : List Recorded) (d : Recorded) → AllByRecursion GoesThere (placed named recorded)
+      → GoesThere (record { datagram = d; moment = max d.time (clock (placed named recorded)); place = place_of named (placed named recorded) (max d.time (clock (placed named recorded))) d })
+  here_there named recorded d all y (inl opens) = sym (asked_there named (placed named recorded) (max d.time (clock (placed named recorded))) d y opens).1
+  here_there named recorded d all y (inr repeats) = repeated_there (placed named recorded) (max d.time (clock (placed named recorded))) d y all
+      ((placed_where named (placed named recorded) (max d.time (clock (placed named recorded))) d).repeats y repeats).1
+
 -- ---- one datagram
 
 module _ (named : List ℕ) (recorded : List Recorded) (d : Recorded) (x : Transfer) where
@@ -99,11 +159,11 @@ module _ (named : List ℕ) (recorded : List Recorded) (d : Recorded) (x : Trans
         let begins : begins_request d.payload ≡ true = request_begins named older now d (λ off. (ends_there named older now d off).opens y at) in
         let same : y ≡ x = same_one is y held of in
         let ends = asked_there named older now d y at in
-        as_request (rw at refl) begins (sym ends.0 ∙ ap (λ (z : Transfer). z.client) same) (λ e. sym ends.1 ∙ ap (λ (z : Transfer). z.asked) same)
+        as_request (rw at refl) begins (sym ends.0 ∙ ap (λ (z : Transfer). z.client) same) (sym ends.1 ∙ ap (λ (z : Transfer). z.asked) same)
     by (Repeats y) at of held =
         let begins : begins_request d.payload ≡ true = request_begins named older now d (λ off. (ends_there named older now d off).repeats y at) in
         let same : y ≡ x = same_one is y held of in
-        as_request (rw at refl) begins (sym ((placed_where named older now d).repeats y at).0 ∙ ap (λ (z : Transfer). z.client) same) (λ e. let both : Repeats y ≡ Opens x = sym at ∙ e in absurd (cc))
+        as_request (rw at refl) begins (sym ((placed_where named older now d).repeats y at).0 ∙ ap (λ (z : Transfer). z.client) same) ((all_there named (d ∷ recorded)).0 y (inr at) ∙ ap (λ (z : Transfer). z.asked) same)
     by (Talks y) at of held = talk_own is (at ∙ ap Talks (same_one is y held of))
     by _ at of held = absurd (false≢true of)
 

@@ -154,7 +154,7 @@ module _ (x : Transfer) (m : Meaning) (wire : List ℕ) (ids : TransferIds) wher
   asked_here q earlier (as_talk at ends asks) told opens = let both : Opens x ≡ Talks x = sym opens ∙ at in absurd (cc)
   asked_here q earlier (as_request is begins source to) told opens = by told where
     out : GoesOut x m wire ids earlier q.placed.datagram q.label → ids.asked ≡ host_name x.asked.address
-    out (asking is port host says) = sym host ∙ ap (λ (e : Endpoint). host_name e.address) (to opens)
+    out (asking is port host says) = sym host ∙ ap (λ (e : Endpoint). host_name e.address) to
     out (going_on packet is other there before says) = absurd (false≢true (sym ((told_of m wire).other packet other q.placed.datagram.payload says) ∙ begins))
     out (answering is before text spells) = absurd (false≢true (sym (error_begins (captured host_name Out q.placed.datagram) 5 text spells).0 ∙ begins))
 

@@ -1,3 +1,3 @@
 pub mod Cleared
 pub mod Worked
-pub use Cleared.{HasAddresses, IsOpenedIn, IsTransferIn}
+pub use Cleared.{BothSaw, HasAddresses, IsBesideOther, IsOpenedIn, IsServedIn, IsTransferIn, IsWith}
