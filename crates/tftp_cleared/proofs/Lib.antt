@@ -9,3 +9,4 @@ mod Named
 mod Merged
 mod ServerLaw
 mod Seated
+mod Besides

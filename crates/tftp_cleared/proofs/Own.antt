@@ -181,6 +181,12 @@ none_of : (n : ℕ) (ps : List Placed) → AllByRecursion (λ p. is_about n p �
 none_of n [] none = refl
 none_of n (p ∷ ps) none = ap (λ b. cond b (p ∷ client_view n ps) (client_view n ps)) (not_of n p none.0) ∙ none_of n ps none.1
 
+pub opened_after : (named : List ℕ) (recorded : List Recorded) (d : Recorded) (x : Transfer) → place_of named (placed named recorded) (max d.time (clock (placed named recorded))) d ≡ Opens x → length recorded ≤ x.number
+opened_after named recorded d x opens =
+    let number : x.number ≡ length (placed named recorded) = opening_number named (placed named recorded) (max d.time (clock (placed named recorded))) d x opens in
+    let count : length (placed named recorded) ≡ length recorded = length_placed named recorded in
+    omega arith
+
 pub own_all : (named : List ℕ) (recorded : List Recorded) (x : Transfer) → IsOpenedIn x (placed named recorded) → AllByRecursion (IsOwn x) (client_view x.number (placed named recorded))
 own_all named [] x is = absurd (any_none (λ (q : Placed). q.place ≡ Opens x) is)
 own_all named (d ∷ recorded) x is = elim (any_cases (λ (q : Placed). q.place ≡ Opens x) (here named recorded d x) (placed named recorded) is) [
@@ -189,12 +195,6 @@ own_all named (d ∷ recorded) x is = elim (any_cases (λ (q : Placed). q.place 
   | inr before ↦ with_this named recorded d x is (own_all named recorded x before)
 ]
   where
-    opened_after : (named : List ℕ) (recorded : List Recorded) (d : Recorded) (x : Transfer) → (here named recorded d x).place ≡ Opens x → length recorded ≤ x.number
-    opened_after named recorded d x opens =
-        let number : x.number ≡ length (placed named recorded) = opening_number named (placed named recorded) (now named recorded d x) d x opens in
-        let count : length (placed named recorded) ≡ length recorded = length_placed named recorded in
-        omega arith
-
     with_this : (named : List ℕ) (recorded : List Recorded) (d : Recorded) (x : Transfer) → IsOpenedIn x (placed named (d ∷ recorded)) → AllByRecursion (IsOwn x) (client_view x.number (placed named recorded))
         → AllByRecursion (IsOwn x) (client_view x.number (placed named (d ∷ recorded)))
     with_this named recorded d x is before = by_test (is_of x.number (here named recorded d x))

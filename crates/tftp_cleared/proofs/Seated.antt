@@ -1,7 +1,7 @@
 -- Of a recording: where each datagram passed, between the client and its server, between one of them and another, or elsewhere.
-use Rattle.std.proofs.Common.{◌≡◌, ◌⊎◌, ◌==◌, ◌&&◌, ◌||◌, ◌++◌, ℕ, Bool, true, false, cond, List, [], ◌∷◌, Option, Some, None, inl, inr, refl, sym, ap, subst, ◌∙◌, filter, max, option_map, if◌then◌else◌}
+use Rattle.std.proofs.Common.{◌≡◌, ◌⊎◌, ◌==◌, ◌&&◌, ◌||◌, ◌++◌, ℕ, Bool, true, false, cond, List, [], ◌∷◌, All, Option, Some, None, inl, inr, refl, sym, ap, subst, ◌∙◌, filter, max, option_map, if◌then◌else◌}
 use Rattle.std.specs.List.{AllByRecursion}
-use Rattle.std.proofs.lemmas.Bool.{false≢true, eq-eqb, and_from, or_left, or_right}
+use Rattle.std.proofs.lemmas.Bool.{false≢true, eq-eqb, and_from, and_parts, or_left, or_right}
 use Rattle.std.proofs.lemmas.List.Elements.{recursion_from_All}
 use Rattle.tftp_hosts.specs.{In, Out, Datagram}
 use Rattle.tftp_law.specs.{OneEnded, Rule}
@@ -10,17 +10,18 @@ use Rattle.tftp_lines.specs.{Endpoint, Place, Opens, Repeats, Talks, Beside, Tra
 use Rattle.tftp_lines.proofs.Endpoints.{is_same, address_itself}
 use Rattle.tftp_lines.proofs.Lines.{by_test}
 use Rattle.tftp_transfers.specs.{answered_by, asked_of, client_view, comes, goes_on, has_host, has_port, is_at_server, is_end, is_server, place_of, placed, server_of, went_on_with}
-use Rattle.tftp_tap.specs.{IsTapRefused}
+use Rattle.tftp_tap.specs.{BreaksNoTapRule, IsTapRefused}
 use Rattle.tftp_tap.proofs.TapBefore.{first_holds}
-use Rattle.tftp_cleared.specs.{BothSaw, HasAddresses, IsBesideOther, IsServedIn, IsWith}
+use Rattle.tftp_cleared.specs.{BothSaw, HasAddresses, IsSentThere, IsServedIn, IsWith}
 use Rattle.tftp_views.specs.{captured, captured_at_server, server_capture, server_header}
 use Rattle.tftp_parties.specs.{IsAddress, host_name}
 use Rattle.tftp_between.specs.{passed_of, peer_of as side, sides_of, sides_with, between_capture}
 use Rattle.tftp_cleared.proofs.Own.{IsOwn, as_request, as_talk, own_all, opened_own}
+use Rattle.tftp_cleared.proofs.Besides.{IsAsideOther, besides_all}
 use Rattle.tftp_cleared.proofs.Pairs.{came_to, at_all}
 use Rattle.tftp_cleared.proofs.Named.{named_same, placed_addresses, kept_all, opening_addresses}
 use Rattle.tftp_cleared.proofs.Merged.{Seat, both, own, aside, neither, asks, to_server, from_server, sends, gets}
-use Rattle.tftp_cleared.proofs.ServerLaw.{Opening, IsSeenOpening, not_refused}
+use Rattle.tftp_cleared.proofs.ServerLaw.{Opening, IsSeenOpening, none_sent, not_refused, server_breaks_none}
 
 -- ---- lists
 
@@ -33,6 +34,10 @@ guarded P test (q ∷ qs) all = by_test (test q)
 all_later : (P : Recorded → Type 0) (more part : List Recorded) → AllByRecursion P (more ++ part) → AllByRecursion P part
 all_later P [] part all = all
 all_later P (d ∷ more) part all = all_later P more part all.1
+
+-- ends that are not the same are told apart
+differ : (one other : Endpoint) → (one ≡ other → ⊥) → same_endpoint one other ≡ false
+differ one other apart = by_test (same_endpoint one other) (λ is. absurd (apart (is_same one other is))) (λ off. off)
 
 -- ---- who the server is
 
@@ -147,24 +152,29 @@ module _ (x : Transfer) (server : Endpoint) (whole : List Placed) (known : serve
     by (Beside y) at off is = (y, at)
     by _ at off is = absurd (false≢true is)
 
-  seat_other : (p : Placed) → is_of x.number p ≡ false → HasAddresses p.datagram → IsBesideOther x whole p → Seats p
+  number_of_aside : (p : Placed) (y : Transfer) → p.place ≡ Beside y → sees p ≡ true → (y.number == x.number) ≡ true
+  number_of_aside p y at is =
+      let both : ((y.number == x.number) && (is_end p.datagram.source (server_of x.number whole) || is_end p.datagram.target (server_of x.number whole))) ≡ true = rw at at is in
+      (and_parts (y.number == x.number) (is_end p.datagram.source (server_of x.number whole) || is_end p.datagram.target (server_of x.number whole)) both).0
+
+  seat_other : (p : Placed) → is_of x.number p ≡ false → HasAddresses p.datagram → IsAsideOther x p → Seats p
   seat_other p off hosts others = by_test (sees p) seen (λ unseen. neither off unseen) where
     seen : sees p ≡ true → Seats p
     seen is =
         let (y, at) = is_aside p off is in
-        let ends = others (rw at refl) is in
+        let ends = others y at (number_of_aside p y at is) in
         aside off is (record {
-          source = named_same p.datagram.source x.client hosts.0 client_at ends.0;
-          target = named_same p.datagram.target x.client hosts.1 client_at ends.1;
+          source = named_same p.datagram.source x.client hosts.0 client_at (differ p.datagram.source x.client ends.0);
+          target = named_same p.datagram.target x.client hosts.1 client_at (differ p.datagram.target x.client ends.1);
           captured_so = aside_way p y at;
         })
 
-  seat : (p : Placed) → (is_of x.number p ≡ true → IsOwn x p) → HasAddresses p.datagram → IsWith x server whole p → IsBesideOther x whole p → Seats p
+  seat : (p : Placed) → (is_of x.number p ≡ true → IsOwn x p) → HasAddresses p.datagram → IsWith x server whole p → IsAsideOther x p → Seats p
   seat p is_own hosts one others = by_test (is_of x.number p)
       (λ of. seat_own p of (is_own of) hosts one)
       (λ off. seat_other p off hosts others)
 
-  seats : (qs : List Placed) → AllByRecursion (λ q. is_of x.number q ≡ true → IsOwn x q) qs → AllByRecursion (λ q. HasAddresses q.datagram) qs → AllByRecursion (IsWith x server whole) qs → AllByRecursion (IsBesideOther x whole) qs
+  seats : (qs : List Placed) → AllByRecursion (λ q. is_of x.number q ≡ true → IsOwn x q) qs → AllByRecursion (λ q. HasAddresses q.datagram) qs → AllByRecursion (IsWith x server whole) qs → AllByRecursion (IsAsideOther x) qs
       → AllByRecursion (Seat x server sees cap) qs
   seats [] is_own hosts one others = tt
   seats (p ∷ qs) is_own hosts one others = (seat p is_own.0 hosts.0 one.0 others.0, seats qs is_own.1 hosts.1 one.1 others.1)
@@ -185,41 +195,56 @@ module _ (x : Transfer) (server : Endpoint) (whole : List Placed) (known : serve
 
 -- ---- the law
 
-module _ (x : Transfer) (server : Endpoint) (named : List ℕ) (more rest : List Recorded) (d : Recorded) (one : IsServedIn x server named more (d ∷ rest)) where
-  abbrev whole : List Placed
-  whole = placed named (more ++ d ∷ rest)
+module _ (x : Transfer) (server : Endpoint) (named : List ℕ) (more part : List Recorded) (one : IsServedIn x server named more part) where
+  all_addresses : AllByRecursion HasAddresses (more ++ part)
+  all_addresses = recursion_from_All HasAddresses (more ++ part) one.addresses
 
-  abbrev part : List Placed
-  part = placed named (d ∷ rest)
+  part_addresses : AllByRecursion (λ p. HasAddresses p.datagram) (placed named part)
+  part_addresses = placed_addresses named part (all_later HasAddresses more part all_addresses)
 
-  all_addresses : AllByRecursion HasAddresses (more ++ d ∷ rest)
-  all_addresses = recursion_from_All HasAddresses (more ++ d ∷ rest) one.addresses
+  own_part : AllByRecursion (IsOwn x) (client_view x.number (placed named part))
+  own_part = own_all named part x one.opened
 
-  part_addresses : AllByRecursion (λ p. HasAddresses p.datagram) (placed named (d ∷ rest))
-  part_addresses = placed_addresses named (d ∷ rest) (all_later HasAddresses more (d ∷ rest) all_addresses)
-
-  own_part : AllByRecursion (IsOwn x) (client_view x.number (placed named (d ∷ rest)))
-  own_part = own_all named (d ∷ rest) x one.opened
+  guards : AllByRecursion (λ q. is_of x.number q ≡ true → IsOwn x q) (placed named part)
+  guards = guarded (IsOwn x) (is_of x.number) (placed named part) own_part
 
   ends : IsAddress x.client.address × IsAddress x.asked.address
-  ends = opening_addresses x (client_view x.number (placed named (d ∷ rest))) own_part
-      (kept_all (λ p. HasAddresses p.datagram) (is_of x.number) (placed named (d ∷ rest)) part_addresses) (opened_own x (placed named (d ∷ rest)) one.opened)
+  ends = opening_addresses x (client_view x.number (placed named part)) own_part (kept_all (λ p. HasAddresses p.datagram) (is_of x.number) (placed named part) part_addresses) (opened_own x (placed named part) one.opened)
 
   server_at : IsAddress server.address
-  server_at = server_address x.number (placed named (more ++ d ∷ rest)) server (placed_addresses named (more ++ d ∷ rest) all_addresses) one.known
+  server_at = server_address x.number (placed named (more ++ part)) server (placed_addresses named (more ++ part) all_addresses) one.known
 
   client_apart : side x.client ≡ side server → ⊥
   client_apart = named_same x.client server ends.0 server_at one.not_itself
 
-  pub server_cleared : BothSaw x (placed named (more ++ d ∷ rest)) (placed named (d ∷ rest))
-      → OneEnded (server_header x) (server_capture host_name x (placed named (more ++ d ∷ rest)) (placed named (d ∷ rest)))
-      → (rule : Rule) → IsTapRefused (sides_of x (placed named (more ++ d ∷ rest))) (between_capture x (placed named rest)) (passed_of d) rule → ⊥
-  server_cleared saw lawful rule refused =
-      let guards = guarded (IsOwn x) (is_of x.number) (placed named (d ∷ rest)) own_part in
-      not_refused x server (sees x server (placed named (more ++ d ∷ rest)) one.known ends.0 server_at) (cap x server (placed named (more ++ d ∷ rest)) one.known ends.0 server_at) client_apart
-      (named_same x.client x.asked ends.0 ends.1 one.apart) (record { datagram = d; moment = max d.time (clock (placed named rest)); place = place_of named (placed named rest) (max d.time (clock (placed named rest))) d }) (placed named rest)
-      (seats x server (placed named (more ++ d ∷ rest)) one.known ends.0 server_at (placed named (d ∷ rest)) guards part_addresses
-      (recursion_from_All (IsWith x server (placed named (more ++ d ∷ rest))) (placed named (d ∷ rest)) one.one)
-      (recursion_from_All (IsBesideOther x (placed named (more ++ d ∷ rest))) (placed named (d ∷ rest)) one.beside))
-      (openings x server (placed named (more ++ d ∷ rest)) one.known ends.0 server_at client_apart (placed named (d ∷ rest)) guards)
-      one.opened saw.0 saw.1 lawful rule (subst (λ o. IsTapRefused (sides_with x o) (between_capture x (placed named rest)) (passed_of d) rule) one.known refused)
+  asked_apart : side x.client ≡ side x.asked → ⊥
+  asked_apart = named_same x.client x.asked ends.0 ends.1 one.apart
+
+  abbrev Sees : Placed → Bool
+  Sees p = is_at_server x.number (placed named (more ++ part)) p
+
+  abbrev Cap : Placed → Datagram
+  Cap p = captured_at_server host_name x (placed named (more ++ part)) p
+
+  all_seats : AllByRecursion (Seat x server Sees Cap) (placed named part)
+  all_seats = seats x server (placed named (more ++ part)) one.known ends.0 server_at (placed named part) guards part_addresses
+      (recursion_from_All (IsWith x server (placed named (more ++ part))) (placed named part) one.one) (besides_all named part x one.opened)
+
+  all_openings : AllByRecursion (IsSeenOpening x server Sees Cap client_apart) (placed named part)
+  all_openings = openings x server (placed named (more ++ part)) one.known ends.0 server_at client_apart (placed named part) guards
+
+  pub rules_at_server : All (IsSentThere x (placed named (more ++ part))) (placed named part) → OneEnded (server_header x) (server_capture host_name x (placed named (more ++ part)) (placed named part))
+      → BreaksNoTapRule (sides_of x (placed named (more ++ part))) (between_capture x (placed named part))
+  rules_at_server sent lawful = subst (λ o. BreaksNoTapRule (sides_with x o) (between_capture x (placed named part))) (sym one.known)
+      (server_breaks_none x server Sees Cap client_apart asked_apart (placed named part) all_seats all_openings one.opened
+      (none_sent x server Sees Cap client_apart asked_apart (placed named part) (recursion_from_All (IsSentThere x (placed named (more ++ part))) (placed named part) sent)) lawful)
+
+pub server_cleared : (x : Transfer) (server : Endpoint) (named : List ℕ) (more rest : List Recorded) (d : Recorded) → IsServedIn x server named more (d ∷ rest)
+    → BothSaw x (placed named (more ++ d ∷ rest)) (placed named (d ∷ rest))
+    → OneEnded (server_header x) (server_capture host_name x (placed named (more ++ d ∷ rest)) (placed named (d ∷ rest)))
+    → (rule : Rule) → IsTapRefused (sides_of x (placed named (more ++ d ∷ rest))) (between_capture x (placed named rest)) (passed_of d) rule → ⊥
+server_cleared x server named more rest d one saw lawful rule refused =
+    not_refused x server (Sees x server named more (d ∷ rest) one) (Cap x server named more (d ∷ rest) one) (client_apart x server named more (d ∷ rest) one) (asked_apart x server named more (d ∷ rest) one)
+    (record { datagram = d; moment = max d.time (clock (placed named rest)); place = place_of named (placed named rest) (max d.time (clock (placed named rest))) d }) (placed named rest)
+    (all_seats x server named more (d ∷ rest) one) (all_openings x server named more (d ∷ rest) one) one.opened saw.0 saw.1 lawful rule
+    (subst (λ o. IsTapRefused (sides_with x o) (between_capture x (placed named rest)) (passed_of d) rule) one.known refused)

@@ -173,3 +173,8 @@ module _ (x : Transfer) (server : Endpoint) (seen : Placed → Bool) (cap : Plac
         let answers : Answered x server seen cap (p ∷ older) = (λ is off. absurd (true≢false (sym sees ∙ off)), before) in
         let all = subst (λ l. BreaksNoTapRule s (passed_all l)) (kept_first (is_of x.number) p older of) (server_breaks_none (p ∷ older) seats openings opened answers one) in
         all.0.lawful rule refused.refused.breaks
+
+    -- what the client sent to none but the server needs no answer
+    pub none_sent : (qs : List Placed) → AllByRecursion (λ p. is_of x.number p ≡ true → p.datagram.source ≡ x.client → seen p ≡ true) qs → Answered x server seen cap qs
+    none_sent [] all = tt
+    none_sent (p ∷ qs) all = (λ of off source. absurd (true≢false (sym (all.0 of source) ∙ off)), none_sent qs all.1)

@@ -2,7 +2,7 @@
 use Rattle.std.specs.Prelude.{◌≡◌, ◌++◌, ℕ, true, false, List, [], ◌∷◌, All, Any, Some}
 use Rattle.tftp_parties.specs.{IsAddress}
 use Rattle.tftp_lines.specs.{Endpoint, Transfer, Opens, Talks, Recorded, other_of, same_endpoint, Placed, is_of}
-use Rattle.tftp_transfers.specs.{is_at_server, is_beside, placed, server_of}
+use Rattle.tftp_transfers.specs.{is_at_server, placed, server_of}
 
 -- its hosts are at addresses of IPv4 or of IPv6
 abbrev pub HasAddresses : Recorded → Type 0
@@ -24,10 +24,9 @@ pub record IsTransferIn (x : Transfer) (named : List ℕ) (recorded : List Recor
 abbrev pub IsWith : Transfer → Endpoint → List Placed → Placed → Type 0
 IsWith x server whole p = p.place ≡ Talks x → is_at_server x.number whole p ≡ true → other_of x.client p.datagram ≡ server
 
--- if it passed beside the server, it passed with another than the client
-abbrev pub IsBesideOther : Transfer → List Placed → Placed → Type 0
-IsBesideOther x whole p = is_beside p ≡ true → is_at_server x.number whole p ≡ true
-    → (same_endpoint p.datagram.source x.client ≡ false) × (same_endpoint p.datagram.target x.client ≡ false)
+-- if the client sent this datagram of the transfer, the server saw it
+abbrev pub IsSentThere : Transfer → List Placed → Placed → Type 0
+IsSentThere x whole p = is_of x.number p ≡ true → p.datagram.source ≡ x.client → is_at_server x.number whole p ≡ true
 
 -- It is a transfer of this part of a recording, which more follows; all of it tells who the server is, and what the server saw
 -- passed with that one endpoint.
@@ -38,7 +37,6 @@ pub record IsServedIn (x : Transfer) (server : Endpoint) (named : List ℕ) (mor
   pub apart : same_endpoint x.client x.asked ≡ false
   pub not_itself : same_endpoint x.client server ≡ false
   pub one : All (IsWith x server (placed named (more ++ part))) (placed named part)
-  pub beside : All (IsBesideOther x (placed named (more ++ part))) (placed named part)
 
 -- the newest datagram passed at the client, and the server saw it
 abbrev pub BothSaw : Transfer → List Placed → List Placed → Type 0
