@@ -81,6 +81,8 @@ def accusations(
 ) -> Iterator[Accusation]:
     """Who sends strays is not innocent in a transfer that a stray opened, or in which a client went on with it."""
     for told in all_told(recording.place, recording.datagrams, named, divide):
+        if recording.place == "server" and told.one.client.host == recording.host:
+            continue
         ends = {told.one.client, told.one.went_on} & strangers
         if told.is_accused() and not (told.refused and told.refused.source in ends):
             yield Accusation(recording.place, recording.host, told)
@@ -108,8 +110,8 @@ def is_lawful(world: Drawn, recording: Recording) -> bool:
 
 
 def shrunk(world: Drawn, found: Accusation, recording: Recording, divide: Division = attributed) -> Recording:
-    """The recording at a host without what may be left out: one is accused by the same rule. Between hosts the end alone
-    is left out."""
+    """The recording at a host without what came in and may be left out, and ERRORs that went out: one is accused by the
+    same rule. What an end sent stays, since the other may have answered it. Between hosts the end alone is left out."""
     def is_still(one: Recording) -> bool:
         lawful = recording.place == "between" or is_lawful(world, one)
         again = accusations(one, world.named(), world.strangers, divide) if lawful else ()
@@ -124,6 +126,9 @@ def shrunk(world: Drawn, found: Accusation, recording: Recording, divide: Divisi
     if "starts_late" in world.kinds or "ends_early" in world.kinds:
         return recording
     for place in reversed(range(size)):
+        it = recording.datagrams[place]
+        if it.source.host == recording.host and it.payload[:2] != b"\0\5" and place + 1 < len(recording.datagrams):
+            continue
         shorter = without(recording, {place})
         recording = shorter if is_still(shorter) else recording
     return recording

@@ -32,12 +32,15 @@ class World(Protocol):
     unlawful: list[str]
     recorded: dict[str, list[Datagram]]
     witnesses: list[Witness]
+    wishes: int
+    arrived: int
+    begun: int
 
     def has(self, kind: str) -> bool: ...
 
     def often(self, kind: str, chance: float) -> bool: ...
 
-    def send(self, source: Endpoint, target: Endpoint, payload: bytes) -> None: ...
+    def send(self, source: Endpoint, target: Endpoint, payload: bytes, transfer: int = 0) -> None: ...
 
     def later(self, delay: float, deed: Callable[[], None]) -> None: ...
 
@@ -92,6 +95,8 @@ class End:
 
     def __init__(self, world: World, own: Endpoint) -> None:
         self.world, self.own, self.age, self.again = world, own, 0, 0
+        # which transfer it is in, of all that clients have begun, from 1
+        self.transfer = 0
         self.half: Optional[Union[Receiver, Sender]] = None
         self.last: tuple[Endpoint, list[bytes]] = own, []
         self.told: Optional[bytes] = None
@@ -102,7 +107,7 @@ class End:
     def put(self, target: Endpoint, payload: bytes) -> None:
         if self.witness:
             self.witness.note(True, self.own, target, payload)
-        self.world.send(self.own, target, payload)
+        self.world.send(self.own, target, payload, self.transfer)
 
     def say(self, target: Endpoint, payloads: list[bytes]) -> None:
         if not payloads:
@@ -185,14 +190,20 @@ class Client(End):
     def __init__(self, world: World, own: Endpoint) -> None:
         super().__init__(world, own)
         self.asked, self.peer = own, own
-        self.is_answered = self.is_busy = self.is_over = False
+        self.is_answered = self.is_busy = self.is_over = self.is_refused = False
         self.wish = Wish("get", b"", b"octet", {})
 
     def ask(self) -> None:
         world = self.world
+        if not world.wishes:
+            return
+        world.wishes -= 1
+        world.begun += 1
+        self.transfer = world.begun
         self.own, self.asked = world.own_port(self), world.service_of(self)
-        if not self.wish.name or self.is_over or world.often("changed", 0.5):
+        if not self.wish.name or self.is_over or self.is_refused or world.often("changed", 0.5):
             self.wish = wish_of(world)
+        self.is_refused = False
         self.is_answered, self.is_busy, self.is_over, self.half, self.again = False, True, False, None, 0
         self.told, self.witness = None, Witness(world, "client", self.asked.port)
         self.aborted = set()
@@ -262,6 +273,7 @@ class Client(End):
         code = opcode(payload)
         if code == 5:
             if not self.is_over:
+                self.is_refused = not self.world.often("asks_again", 0.5)
                 self.rest(self.world.drawn.choice((0.01, 1, 5)))
         elif self.half is None:
             self.begin(payload)
@@ -333,7 +345,7 @@ class Session(End):
     def __init__(self, server: Server, own: Endpoint, client: Endpoint, payload: bytes, request: Request) -> None:
         super().__init__(server.world, own)
         self.server, self.client, self.payload, self.request = server, client, payload, request
-        self.is_over, self.oack = False, b""
+        self.is_over, self.oack, self.transfer = False, b"", server.world.arrived
         self.witness = Witness(self.world, "server", server.service.port)
         self.witness.note(False, server.service, client, payload)
 

@@ -11,7 +11,7 @@ from dataclasses import dataclass, field
 from typing import Literal, NamedTuple
 
 from fuzzing.attribution import Datagram, Endpoint
-from fuzzing.halves import ack, data, error
+from fuzzing.halves import ack, data, error, opcode
 from fuzzing.parties import Client, Server, Witness
 
 Place = Literal["client", "server", "between"]
@@ -27,6 +27,7 @@ KINDS: dict[str, str] = {
     "agrees_to_some": "servers agree to some of them",
     "missing": "files that are not there",
     "changed": "after giving up a client asks for another file",
+    "asks_again": "and for the same after an ERROR",
     "respelled": "a request is repeated in other letters and order",
     "hasty": "a client repeats its request after the first answer",
     "resets": "a client gives up at any time, with ERROR or without a word",
@@ -82,6 +83,14 @@ class Drawn:
     unlawful: list[str] = field(default_factory=list)
     witnesses: list[Witness] = field(default_factory=list)
     strangers: set[Endpoint] = field(default_factory=set)
+    # of each place, which transfer each datagram is of, by who sent it
+    of: dict[str, list[int]] = field(default_factory=dict)
+    # how many transfers clients may still begin, how many they have begun, and of which the one is that comes now
+    wishes: int = 1_000_000
+    # how long each takes, where all take as long
+    steady: float = 0
+    begun: int = 0
+    arrived: int = 0
     clients: list[Client] = field(default_factory=list)
     servers: list[Server] = field(default_factory=list)
     sockets: dict[Endpoint, Client] = field(default_factory=dict)
@@ -148,35 +157,39 @@ class Drawn:
         self.count += 1
         heapq.heappush(self.queue, (self.now + delay, self.count, deed))
 
-    def note(self, place: str, source: Endpoint, target: Endpoint, payload: bytes) -> None:
+    def note(self, place: str, source: Endpoint, target: Endpoint, payload: bytes, transfer: int) -> None:
         there = self.recorded.setdefault(place, [])
         there.append(Datagram(len(there), round(self.now, 9), source, target, payload))
+        self.of.setdefault(place, []).append(transfer)
 
     def delay(self) -> float:
         drawn = self.drawn
+        if self.steady:
+            return self.steady
         if drawn.random() < self.very_slow:
             return drawn.uniform(5, 200)
         return drawn.uniform(0.5, 4) if drawn.random() < self.slow else drawn.uniform(0.0005, 0.02)
 
-    def send(self, source: Endpoint, target: Endpoint, payload: bytes) -> None:
-        self.note(source.host, source, target, payload)
+    def send(self, source: Endpoint, target: Endpoint, payload: bytes, transfer: int = 0) -> None:
+        self.note(source.host, source, target, payload, transfer)
         for _ in range(1 + (self.drawn.random() < self.twice)):
             delay = self.delay()
             first = delay * self.drawn.random()
             if self.drawn.random() >= self.loss / 2:
                 is_lost = self.drawn.random() < self.loss / 2
-                self.later(first, self.half_way(delay - first, is_lost, source, target, payload))
+                self.later(first, self.half_way(delay - first, is_lost, (source, target, payload, transfer)))
 
-    def half_way(
-        self, rest: float, is_lost: bool, source: Endpoint, target: Endpoint, payload: bytes
-    ) -> Callable[[], None]:
+    def half_way(self, rest: float, is_lost: bool, it: tuple[Endpoint, Endpoint, bytes, int]) -> Callable[[], None]:
+        source, target, payload, transfer = it
+
         def passes() -> None:
-            self.note("between", source, target, payload)
+            self.note("between", *it)
             if not is_lost:
                 self.later(rest, arrives)
 
         def arrives() -> None:
-            self.note(target.host, source, target, payload)
+            self.note(target.host, *it)
+            self.arrived = transfer
             self.comes(source, target, payload)
 
         return passes
@@ -239,7 +252,7 @@ class Drawn:
         found = []
         for place, host in places:
             datagrams = self.recorded.get(host or "between", [])
-            cut = self.as_recorded(datagrams) if datagrams else []
+            cut = self.as_recorded(datagrams, self.of[host or "between"]) if datagrams else []
             if cut:
                 found.append(Recording(place, host, renumbered(cut), [it.number for it in cut]))
         return found
@@ -251,9 +264,11 @@ class Drawn:
         """The service ports that a user would name."""
         return sorted({it.port for it in self.services()} - {69})
 
-    def as_recorded(self, datagrams: list[Datagram]) -> list[Datagram]:
+    def as_recorded(self, datagrams: list[Datagram], of: list[int]) -> list[Datagram]:
         drawn = random.Random(self.seed + len(datagrams))
         first = drawn.randrange(len(datagrams)) if self.has("starts_late") else 0
+        while not is_traced(datagrams, of, first):
+            first -= 1
         end = drawn.randint(first, len(datagrams)) if self.has("ends_early") else len(datagrams)
         cut = datagrams[first:end]
         if cut and self.has("clock_ahead"):
@@ -261,6 +276,22 @@ class Drawn:
         if cut and self.has("clock_back"):
             cut = set_back(drawn, cut)
         return cut
+
+
+def is_traced(datagrams: list[Datagram], of: list[int], first: int) -> bool:
+    """Whether a recording that begins there shows what was under way: where something of a transfer that began before
+    passes after the next request of its client, something between the two had passed before that."""
+    begun = set(of[:first])
+    seen: set[frozenset[Endpoint]] = set()
+    asked: set[Endpoint] = set()
+    for it, its in zip(datagrams[first:], of[first:]):
+        both = frozenset((it.source, it.target))
+        if its in begun and its and both & asked and both not in seen:
+            return False
+        seen.add(both)
+        if opcode(it.payload) in (1, 2) and its not in begun:
+            asked.add(it.source)
+    return True
 
 
 def renumbered(datagrams: Iterable[Datagram]) -> list[Datagram]:

@@ -1,0 +1,143 @@
+"""The price of caution: how much of what is truly broken is told without a doubt, and in how much that is lawful a
+refusal would be doubtful. Sessions of lawful ends are drawn, undisturbed but for a few losses; one datagram of one
+transfer is changed so that its sender breaks a rule, which the transfer alone shows, and the whole recording is judged."""
+from __future__ import annotations
+
+import collections
+import random
+from collections.abc import Iterable, Iterator
+from typing import NamedTuple, Optional
+
+from fuzzing.attribution import Datagram, attributed
+from fuzzing.changes import changed_bytes, changed_number, changed_opcode
+from fuzzing.innocents import Division, Told, all_told
+from fuzzing.worlds import Drawn, Place, Recording, renumbered
+
+# Each form of a session: what every one of it has, how many transfers it has, and the least share that is to be told.
+SINGLE, FORKING, FIRMWARE = "one transfer", "one client port, a server port for each", "one client port, one server port"
+FORMS: dict[str, tuple[frozenset[str], tuple[int, ...], float]] = {
+    SINGLE: (frozenset(), (1,), 0.9),
+    FORKING: (frozenset(), (2, 3, 4), 0.9),
+    FIRMWARE: (frozenset(("one",)), (2, 3, 4), 0.85),
+}
+# The most of the lawful transfers in which a refusal would be doubtful.
+MOST_DOUBTED = {SINGLE: 0.01, FORKING: 0.01, FIRMWARE: 0.2}
+PERHAPS = ("writes", "options", "agrees_to_some", "missing", "other_port")
+LONG = 600
+
+
+class Session(NamedTuple):
+    """A recording at a place, and which transfer each datagram is of."""
+
+    recording: Recording
+    of: list[int]
+    named: list[int]
+
+
+def sessions(form: str, seed: int, is_lossy: bool) -> Iterator[Session]:
+    kinds, counts, _ = FORMS[form]
+    drawn = random.Random(seed)
+    others = {kind for kind in PERHAPS if drawn.random() < 0.4} | ({"loss"} if is_lossy else set())
+    world = Drawn(seed, kinds | others)
+    world.most, world.wishes = LONG, drawn.choice(counts)
+    world.loss, world.steady = 0.06 if is_lossy else 0, 0.005
+    world.run()
+    for recording in () if world.unlawful else world.recordings():
+        of = world.of[recording.host or "between"]
+        yield Session(recording, [of[place] for place in recording.places], world.named())
+
+
+class Breach(NamedTuple):
+    """A session in which this datagram breaks a rule, by which the transfer that it is of is refused there, alone."""
+
+    session: Session
+    place: int
+    rule: str
+
+
+def told_of(place: Place, datagrams: Iterable[Datagram], named: list[int], divide: Division) -> list[Told]:
+    return list(all_told(place, renumbered(datagrams), named, divide))
+
+
+def changed(drawn: random.Random, it: Datagram, others: list[Datagram]) -> Datagram:
+    way = drawn.choice(("number",) * 3 + ("other",) * 3 + ("bytes", "opcode", "port"))
+    if way == "number":
+        return it._replace(payload=changed_number(drawn, it.payload))
+    if way == "other":
+        return it._replace(payload=drawn.choice(others).payload)
+    if way == "bytes":
+        return it._replace(payload=changed_bytes(drawn, it.payload)[:1_500])
+    if way == "opcode":
+        return it._replace(payload=changed_opcode(drawn, it.payload))
+    return it._replace(source=it.source._replace(port=drawn.choice((it.source.port + 1, 50_000))))
+
+
+def breach_of(session: Session, seed: int) -> Optional[Breach]:
+    """One breach of some transfer of the session, if that which is drawn is one."""
+    drawn, datagrams = random.Random(seed), session.recording.datagrams
+    at = drawn.randrange(len(datagrams))
+    mine = [it for it, of in zip(datagrams, session.of) if of == session.of[at]]
+    now = changed(drawn, datagrams[at], mine)
+    if now.payload == datagrams[at].payload and now.source == datagrams[at].source or session.of[at] == 0:
+        return None
+    is_more = drawn.random() < 0.3
+    with_it = [*datagrams[:at], *([datagrams[at]] if is_more else []), now, *datagrams[at + 1 :]]
+    of = [*session.of[:at], *([session.of[at]] if is_more else []), *session.of[at:]]
+    alone = [it for it, its in zip(with_it, of) if its == session.of[at]]
+    place = alone.index(now)
+    for told in told_of(session.recording.place, alone, session.named, attributed)[:1]:
+        if told.refused and told.refused.number == place:
+            there = Session(session.recording._replace(datagrams=renumbered(with_it)), of, session.named)
+            return Breach(there, at + is_more, told.rule())
+    return None
+
+
+def is_told(breach: Breach, divide: Division) -> str:
+    """Whether it is told without a doubt, or how else."""
+    it = breach.session.recording
+    for told in all_told(it.place, it.datagrams, breach.session.named, divide):
+        if told.refused and told.refused.number == breach.place:
+            return "doubtful" if told.doubts else "refused"
+    return "not told"
+
+
+def is_doubted(told: Told, place: Place) -> bool:
+    """Whether a refusal of its last datagram would be doubtful."""
+    view = told.one.view("client" if place == "between" else place)
+    return bool(view) and bool(told.one.doubts_at("client" if place == "between" else place, view[-1].number))
+
+
+Count = collections.Counter[tuple[str, Place, str]]
+
+
+class Price:
+    def __init__(self, divide: Division = attributed) -> None:
+        self.divide = divide
+        self.breaches: Count = collections.Counter()
+        self.rows: Count = collections.Counter()
+
+    def try_session(self, form: str, seed: int) -> None:
+        for session in sessions(form, seed, is_lossy=False):
+            it = session.recording
+            for told in all_told(it.place, it.datagrams, session.named, self.divide):
+                word = "doubted" if is_doubted(told, it.place) else "sure"
+                self.rows[form, it.place, word] += 1
+        for session in sessions(form, seed, is_lossy=seed % 2 == 0):
+            found = (breach_of(session, seed * 8 + k) for k in range(8))
+            breach = next((it for it in found if it), None)
+            if breach:
+                self.breaches[form, session.recording.place, is_told(breach, self.divide)] += 1
+
+    def rows_of(self) -> Iterator[str]:
+        places: tuple[Place, ...] = ("client", "server", "between")
+        yield f"{'session':42} {'place':8} {'breaches':>8} {'refused':>8} {'doubtful':>8} {'not told':>8} {'lawful':>7} doubted"
+        for form in FORMS:
+            for place in places:
+                counts = [self.breaches[form, place, word] for word in ("refused", "doubtful", "not told")]
+                rows = [self.rows[form, place, word] for word in ("doubted", "sure")]
+                shares = " ".join(f"{share(it, sum(counts)):>8}" for it in counts)
+                yield f"{form:42} {place:8} {sum(counts):8} {shares} {sum(rows):7} {share(rows[0], sum(rows)):>7}"
+
+
+def share(part: int, whole: int) -> str:
+    return f"{100 * part / whole:.1f} %" if whole else "-"
