@@ -35,6 +35,7 @@ class World(Protocol):
     wishes: int
     arrived: int
     begun: int
+    mistaken: set[int]
 
     def has(self, kind: str) -> bool: ...
 
@@ -245,6 +246,8 @@ class Client(End):
                     self.witness = witness
                 return
             self.peer, self.is_answered = source, True
+            if self.world.arrived != self.transfer:
+                self.world.mistaken.add(self.transfer)
         self.took(source, payload)
         if source == self.peer:
             self.go_on(payload)

@@ -85,6 +85,8 @@ class Drawn:
     strangers: set[Endpoint] = field(default_factory=set)
     # of each place, which transfer each datagram is of, by who sent it
     of: dict[str, list[int]] = field(default_factory=dict)
+    # those in which a client took what was sent in another for the answer
+    mistaken: set[int] = field(default_factory=set)
     # how many transfers clients may still begin, how many they have begun, and of which the one is that comes now
     wishes: int = 1_000_000
     # how long each takes, where all take as long
@@ -253,9 +255,20 @@ class Drawn:
         for place, host in places:
             datagrams = self.recorded.get(host or "between", [])
             cut = self.as_recorded(datagrams, self.of[host or "between"]) if datagrams else []
-            if cut:
+            if cut and self.shows_requests(host or "between"):
                 found.append(Recording(place, host, renumbered(cut), [it.number for it in cut]))
         return found
+
+    def shows_requests(self, place: str) -> bool:
+        """Whether each client that took a late answer of another transfer for its own is seen to have asked before it
+        goes on."""
+        asked: set[int] = set()
+        for it, its in zip(self.recorded[place], self.of[place]):
+            if opcode(it.payload) in (1, 2):
+                asked.add(its)
+            elif its in self.mistaken and its not in asked and it.source in self.sockets:
+                return False
+        return True
 
     def services(self) -> list[Endpoint]:
         return [server.service for server in self.servers]
@@ -286,11 +299,12 @@ def is_traced(datagrams: list[Datagram], of: list[int], first: int) -> bool:
     asked: set[Endpoint] = set()
     for it, its in zip(datagrams[first:], of[first:]):
         both = frozenset((it.source, it.target))
+        if opcode(it.payload) in (1, 2):
+            asked.add(it.source)
+            continue
         if its in begun and its and both & asked and both not in seen:
             return False
         seen.add(both)
-        if opcode(it.payload) in (1, 2) and its not in begun:
-            asked.add(it.source)
     return True
 
 
