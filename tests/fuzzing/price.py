@@ -101,6 +101,11 @@ def is_told(breach: Breach, divide: Division) -> str:
     return "not told"
 
 
+def is_gone_on(told: Told) -> bool:
+    """Whether its client went on with somebody: of a file that is not there nothing but an ERROR comes."""
+    return told.one.went_on is not None
+
+
 def is_doubted(told: Told, place: Place) -> bool:
     """Whether a refusal of its last datagram would be doubtful."""
     view = told.one.view("client" if place == "between" else place)
@@ -121,6 +126,7 @@ class Price:
             it = session.recording
             for told in all_told(it.place, it.datagrams, session.named, self.divide):
                 word = "doubted" if is_doubted(told, it.place) else "sure"
+                word = word if is_gone_on(told) else f"{word}, no file"
                 self.rows[form, it.place, word] += 1
         for session in sessions(form, seed, is_lossy=seed % 2 == 0):
             found = (breach_of(session, seed * 8 + k) for k in range(8))
@@ -130,13 +136,19 @@ class Price:
 
     def rows_of(self) -> Iterator[str]:
         places: tuple[Place, ...] = ("client", "server", "between")
-        yield f"{'session':42} {'place':8} {'breaches':>8} {'refused':>8} {'doubtful':>8} {'not told':>8} {'lawful':>7} doubted"
+        words = ("breaches", "refused", "doubtful", "not told", "lawful", "doubted", "no file", "doubted")
+        yield f"{'session':42} {'place':8} " + " ".join(f"{word:>8}" for word in words)
         for form in FORMS:
             for place in places:
                 counts = [self.breaches[form, place, word] for word in ("refused", "doubtful", "not told")]
-                rows = [self.rows[form, place, word] for word in ("doubted", "sure")]
                 shares = " ".join(f"{share(it, sum(counts)):>8}" for it in counts)
-                yield f"{form:42} {place:8} {sum(counts):8} {shares} {sum(rows):7} {share(rows[0], sum(rows)):>7}"
+                lawful = " ".join(self.lawful(form, place, end) for end in ("", ", no file"))
+                yield f"{form:42} {place:8} {sum(counts):8} {shares} {lawful}"
+
+    def lawful(self, form: str, place: Place, end: str) -> str:
+        """How many lawful transfers there were, and in how many of them a refusal would be doubtful."""
+        doubted, sure = (self.rows[form, place, f"{word}{end}"] for word in ("doubted", "sure"))
+        return f"{doubted + sure:8} {share(doubted, doubted + sure):>8}"
 
 
 def share(part: int, whole: int) -> str:
