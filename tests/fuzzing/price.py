@@ -24,6 +24,11 @@ FORMS: dict[str, tuple[frozenset[str], tuple[int, ...], float]] = {
 MOST_DOUBTED = {SINGLE: 0.01, FORKING: 0.01, FIRMWARE: 0.2}
 PERHAPS = ("writes", "options", "agrees_to_some", "missing", "other_port")
 LONG = 600
+PLACES: tuple[Place, ...] = ("client", "server", "between")
+# How a breach is told.
+WORDS = ("refused", "doubtful", "not told")
+# Of the files, in bytes.
+LENGTHS = (100, 511, 1_300, 2_600, 9_000, 20_000)
 
 
 class Session(NamedTuple):
@@ -39,6 +44,7 @@ def sessions(form: str, seed: int, is_lossy: bool) -> Iterator[Session]:
     drawn = random.Random(seed)
     others = {kind for kind in PERHAPS if drawn.random() < 0.4} | ({"loss"} if is_lossy else set())
     world = Drawn(seed, kinds | others)
+    world.files = {name: drawn.randbytes(drawn.choice(LENGTHS)) for name in world.files}
     world.most, world.wishes = LONG, drawn.choice(counts)
     world.loss, world.steady = 0.06 if is_lossy else 0, 0.005
     world.run()
@@ -134,13 +140,34 @@ class Price:
             if breach:
                 self.breaches[form, session.recording.place, is_told(breach, self.divide)] += 1
 
+    def add(self, other: Price) -> None:
+        self.breaches.update(other.breaches)
+        self.rows.update(other.rows)
+
+    def too_dear(self) -> list[str]:
+        """Where less is told than should be, or more is doubted."""
+        found = []
+        for form, (_, _, least) in FORMS.items():
+            for place in PLACES:
+                told, tried = self.breaches[form, place, "refused"], self.tried(form, place)
+                if told < least * tried:
+                    found.append(f"{form}, {place}: {share(told, tried)} of the breaches told, not {share(int(100 * least), 100)}")
+                doubted = self.rows[form, place, "doubted"]
+                rows = doubted + self.rows[form, place, "sure"]
+                if doubted > MOST_DOUBTED[form] * rows:
+                    most = share(int(100 * MOST_DOUBTED[form]), 100)
+                    found.append(f"{form}, {place}: {share(doubted, rows)} of the lawful transfers doubted, not {most}")
+        return found
+
+    def tried(self, form: str, place: Place) -> int:
+        return sum(self.breaches[form, place, word] for word in WORDS)
+
     def rows_of(self) -> Iterator[str]:
-        places: tuple[Place, ...] = ("client", "server", "between")
         words = ("breaches", "refused", "doubtful", "not told", "lawful", "doubted", "no file", "doubted")
         yield f"{'session':42} {'place':8} " + " ".join(f"{word:>8}" for word in words)
         for form in FORMS:
-            for place in places:
-                counts = [self.breaches[form, place, word] for word in ("refused", "doubtful", "not told")]
+            for place in PLACES:
+                counts = [self.breaches[form, place, word] for word in WORDS]
                 shares = " ".join(f"{share(it, sum(counts)):>8}" for it in counts)
                 lawful = " ".join(self.lawful(form, place, end) for end in ("", ", no file"))
                 yield f"{form:42} {place:8} {sum(counts):8} {shares} {lawful}"

@@ -176,7 +176,7 @@ class Drawn:
         self.note(source.host, source, target, payload, transfer)
         for _ in range(1 + (self.drawn.random() < self.twice)):
             delay = self.delay()
-            first = delay * self.drawn.random()
+            first = delay * (0.5 if self.steady else self.drawn.random())
             if self.drawn.random() >= self.loss / 2:
                 is_lost = self.drawn.random() < self.loss / 2
                 self.later(first, self.half_way(delay - first, is_lost, (source, target, payload, transfer)))
@@ -304,7 +304,8 @@ def is_traced(datagrams: list[Datagram], of: list[int], first: int) -> bool:
             continue
         if its in begun and its and both & asked and both not in seen:
             return False
-        seen.add(both)
+        if not both & asked:
+            seen.add(both)
     return True
 
 
