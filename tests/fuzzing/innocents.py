@@ -79,12 +79,16 @@ def all_told(place: Place, datagrams: Sequence[Datagram], named: Iterable[int], 
 def accusations(
     recording: Recording, named: Iterable[int], strangers: set[Endpoint], divide: Division = attributed
 ) -> Iterator[Accusation]:
-    """Who sends strays is not innocent in a transfer that a stray opened, or in which a client went on with it."""
+    """Who sends strays is not innocent in a transfer that a stray opened, or in which a client went on with it; nor is,
+    at its own host, another endpoint of a server's."""
     for told in all_told(recording.place, recording.datagrams, named, divide):
         if recording.place == "server" and told.one.client.host == recording.host:
             continue
         ends = {told.one.client, told.one.went_on} & strangers
-        if told.is_accused() and not (told.refused and told.refused.source in ends):
+        source = told.refused.source if told.refused else None
+        if recording.place == "server" and source in strangers and source and source.host == recording.host:
+            continue
+        if told.is_accused() and source not in ends:
             yield Accusation(recording.place, recording.host, told)
 
 
