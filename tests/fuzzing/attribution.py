@@ -10,7 +10,7 @@ from typing import Literal, NamedTuple, Optional
 EndName = Literal["client", "server"]
 # In nanoseconds; above 255 s, the longest timeout that two ends can agree on (RFC 2349).
 SILENCE = 300 * 10**9
-ACK_0, DATA_1 = b"\0\4\0\0", b"\0\3\0\1"
+ACK_0, DATA_1, ERROR_5 = b"\0\4\0\0", b"\0\3\0\1", b"\0\5\0\5"
 MODES = (b"octet", b"netascii", b"mail")
 
 
@@ -53,11 +53,20 @@ def is_answer(payload: bytes) -> bool:
     return begins(payload, 5, 6) or payload == ACK_0 or payload[:4] == DATA_1
 
 
+def asked_part(payload: bytes) -> bytes:
+    """Of a request the side and the file's name."""
+    return payload[:2] + payload[2:].split(b"\0")[0]
+
+
+def begins_packet(payload: bytes) -> bool:
+    return begins(payload, 1, 2, 3, 4, 5, 6)
+
+
 class Doubt(NamedTuple):
     """Of refusals of a transfer from this datagram on, and why."""
 
     since: int
-    word: Literal["over", "late", "disordered", "again", "apart"]
+    word: Literal["over", "late", "disordered", "again", "apart", "loose", "elsewhere", "first"]
     why: str
 
 
@@ -71,7 +80,7 @@ class Transfer:
     beside: list[tuple[Datagram, Endpoint]] = field(default_factory=list)
     answered: Optional[Endpoint] = None
     went_on: Optional[Endpoint] = None
-    newest: int = 0
+    is_followed: bool = False
     doubts: list[Doubt] = field(default_factory=list)
 
     def server(self) -> Optional[Endpoint]:
@@ -87,12 +96,14 @@ class Transfer:
     def view(self, end: EndName) -> list[Datagram]:
         if end == "client":
             return self.seen
-        own = [it for it in self.seen if it.number in self.requests or self.is_with_server(it)]
+        own = [it for it in self.seen if it.number in self.requests or it.target == self.asked or self.is_with_server(it)]
         return sorted(own + [it for it, at in self.beside if at == self.server()])
 
     def doubts_at(self, end: EndName, number: int) -> list[str]:
         """Why a refusal at this datagram is no accusation."""
-        told = [doubt.why for doubt in self.doubts if doubt.since <= number]
+        told = [doubt.why for doubt in self.doubts if doubt.since <= number and (doubt.word != "first" or end == "server")]
+        if self.answered and not self.is_followed:
+            told.append("its client did not go on with who answered first")
         if end == "server" and any(it.number == number for it, _ in self.beside):
             told.append("it passed with another than the client, whose request may not have been recorded")
         ways = [it.way() for it in self.seen]
@@ -134,6 +145,7 @@ class Attribution:
         self.services = {69, *named}
         self.clock, self.count = 0, 0
         self.lines: dict[Endpoint, Line] = {}
+        self.loose: dict[Endpoint, int] = {}
         self.served: dict[Endpoint, tuple[Transfer, int]] = {}
         self.transfers: list[Transfer] = []
         self.places: list[Place] = []
@@ -153,17 +165,21 @@ class Attribution:
             self.keep(one, it)
             one.requests.add(it.number)
             return Place("request", one.number)
-        return self.at_client(it) or self.beside(it) or Place("nowhere")
+        place = self.at_client(it)
+        if place:
+            return place
+        if begins_packet(it.payload) or it.target.port in self.services:
+            self.loose[it.source] = self.loose[it.target] = self.clock
+        return self.beside(it) or Place("nowhere")
 
     def keep(self, one: Transfer, it: Datagram) -> None:
         one.seen.append(it)
-        if it.nanoseconds() < one.newest:
+        if it.nanoseconds() < self.clock:
             one.doubts.append(Doubt(0, "disordered", "its datagrams are not in the order of their times"))
-        one.newest = max(one.newest, it.nanoseconds())
 
     def asks(self, it: Datagram) -> bool:
         line = self.line(it.source)
-        is_found = spells_request(it.payload) and not (line and it.target in line.talks)
+        is_found = spells_request(it.payload) and not (line and it.target in line.talks) and not self.line(it.target)
         return begins(it.payload, 1, 2) and (it.target.port in self.services or is_found)
 
     def asked(self, it: Datagram) -> Transfer:
@@ -174,10 +190,12 @@ class Attribution:
             return line.latest
         one = Transfer(self.count, it.source, it.target)
         self.transfers.append(one)
+        if self.clock <= self.loose.get(it.source, -2 * SILENCE) + SILENCE:
+            one.doubts.append(Doubt(0, "loose", "its client's endpoint had talked before its request"))
         if line is None:
             self.lines[it.source] = Line(one, self.clock, it)
             return one
-        if line.only_asked and line.request.way() == it.way():
+        if line.only_asked and line.request.target == it.target and asked_part(line.request.payload) == asked_part(it.payload):
             why = "its client had asked the same and sent nothing else since: the transfer before goes on"
             one.doubts.append(Doubt(0, "again", why))
         line.latest, line.moment, line.request = one, self.clock, it
@@ -222,6 +240,11 @@ class Attribution:
         one = talk.transfer
         if one is None:
             return None
+        if it.source == client and other not in line.talks:
+            one.doubts.append(Doubt(it.number, "first", "its client had heard nothing from there"))
+        served, moment = self.served.get(other, (None, 0))
+        if it.source == other and it.payload[:4] == ERROR_5 and served and served.client != client and self.clock <= moment + SILENCE:
+            one.doubts.append(Doubt(it.number, "elsewhere", "its server's endpoint had served another client"))
         line.talks[other], line.moment, line.ends_in_request = talk, self.clock, False
         if one is not line.latest:
             one.doubts.append(Doubt(it.number, "late", "its client's endpoint had asked again"))
@@ -233,6 +256,7 @@ class Attribution:
             if not begins(it.payload, 5):
                 line.only_asked = False
                 one.went_on = one.went_on or other
+                one.is_followed = one.is_followed or (one is line.latest and one.answered == other)
         self.keep(one, it)
         return Place("client", one.number)
 

@@ -6,7 +6,7 @@ use Rattle.std.specs.BTreeMap.{get, BTreeMap}
 use Rattle.std.specs.Ordering.{is_eq, nat_cmp}
 use Rattle.std.proofs.lemmas.Bool.{false≢true, and_parts, or_cases}
 use Rattle.tftp_rules.specs.{first_of, or_this}
-use Rattle.tftp_lines.specs.{Endpoint, Opens, Repeats, Transfer, Line, Recorded, same_endpoint, endpoint_cmp, is_ack_0, goes, is_between, Placed, opens, is_request, newest_of, latest_in, reach, answers, answered_in, talked_of, talk_in, last_was_ack_0, place_asked, IsLineOf, seen_of, asked_by, place_of_talk, comes_to, talk_after, ends_after, went_on_after, AreTimed, is_past, acked_0_in, says_more, repeats_in, is_later}
+use Rattle.tftp_lines.specs.{Endpoint, Opens, Repeats, Transfer, Line, Recorded, same_endpoint, endpoint_cmp, is_ack_0, goes, is_between, Placed, opens, is_request, newest_of, latest_in, reach, answers, answered_in, talked_of, talk_in, last_was_ack_0, place_asked, IsLineOf, seen_of, asked_by, place_of_talk, comes_to, talk_after, ends_after, went_on_after, AreTimed, is_past, acked_0_in, asked_part, says_more, is_alike_in, is_later}
 use Rattle.tftp_lines.proofs.Endpoints.{same_by_order, is_same, same_itself}
 
 pub by_test : {P : Type 0} (b : Bool) → (b ≡ true → P) → (b ≡ false → P) → P
@@ -193,9 +193,9 @@ note_stands old new o talked d now line noted between stands =
           (Some (talk_after old.latest.client o (sym (talked_again old.latest.client talked) i) (seen_of d) (stands.talks o i))) (stands.talks q i))
           ∙ sym (talk_more old.latest.client o q p line plain between)
           ∙ ap (λ x. talk_in x.client q (p ∷ line)) (sym noted.latest);
-      again = λ e from. ap (λ b. repeats_in e (if b then Some p else newest_of is_request line)) plain
+      again = λ e from. ap (λ b. is_alike_in e (if b then Some p else newest_of is_request line)) plain
           ∙ stands.again e (from ∙ ap (λ x. x.client) noted.latest)
-          ∙ (λ i. bytes_eq (sym noted.request i) e.payload && same_endpoint (sym noted.latest i).asked e.target);
+          ∙ (λ i. bytes_eq (asked_part (sym noted.request i)) (asked_part e.payload) && same_endpoint (sym noted.latest i).asked e.target);
       went_on = ap (λ b. list_any says_more (if b then [] else p ∷ reach line)) shut
           ∙ says_after old.latest.client talked d now (list_any says_more (reach line))
           ∙ ap (went_on_after talked (seen_of d)) stands.went_on ∙ sym noted.went_on;

@@ -5,7 +5,7 @@ use Rattle.std.specs.BTreeMap.{BTreeMap}
 use Rattle.std.proofs.lemmas.Bool.{and_parts}
 use Rattle.std.proofs.lemmas.Slice.Eq.{bytes_eq-Decides}
 use Rattle.tftp_rules.specs.{or_this}
-use Rattle.tftp_lines.specs.{Endpoint, Place, Opens, Repeats, Transfer, Line, Recorded, same_endpoint, is_again, Placed, answered_in, place_asked, IsLineOf, IsTimed}
+use Rattle.tftp_lines.specs.{Endpoint, Place, Opens, Repeats, Transfer, Line, Recorded, asked_part, asks_alike, same_endpoint, is_again, Placed, answered_in, place_asked, IsLineOf, IsRequestOf, IsTimed}
 use Rattle.tftp_lines.proofs.Endpoints.{is_same, same_itself}
 use Rattle.tftp_lines.proofs.Lines.{answered_more}
 
@@ -15,6 +15,13 @@ again_is : (c t : Endpoint) (payload : List ℕ) (d e : Recorded) → d.source �
 again_is c t payload d e source target same from =
     let one : same_endpoint d.source e.source ≡ true = subst (λ s. same_endpoint d.source s ≡ true) (source ∙ sym from) (same_itself d.source) in
     (rw one refl) ∙ (λ i. bytes_eq (same i) e.payload && same_endpoint (target i) e.target)
+
+-- or asks for the same file
+alike_is : (c t : Endpoint) (payload : List ℕ) (d e : Recorded) → d.source ≡ c → d.target ≡ t → d.payload ≡ payload → e.source ≡ c
+    → asks_alike d e ≡ (bytes_eq (asked_part payload) (asked_part e.payload) && same_endpoint t e.target)
+alike_is c t payload d e source target same from =
+    let one : same_endpoint d.source e.source ≡ true = subst (λ s. same_endpoint d.source s ≡ true) (source ∙ sym from) (same_itself d.source) in
+    (rw one refl) ∙ (λ i. bytes_eq (asked_part (same i)) (asked_part e.payload) && same_endpoint (target i) e.target)
 
 abbrev chosen : Bool → Transfer → ℕ → Recorded → Place
 chosen again x number e = if again then Repeats x else Opens (record { number = number; client = e.source; asked = e.target })
@@ -48,7 +55,7 @@ repeated_stands old new times line d number x time now stands from is after time
           (again_is old.latest.client old.latest.asked old.request.items d e from (sym (is_same old.latest.asked d.target both.1)) (sym ((bytes_eq-Decides old.request.items d.payload).0 ended.1)) that)
           ∙ (λ i. chosen (sym ended.0 i && bytes_eq old.request.items e.payload && same_endpoint old.latest.asked e.target) (sym known.1 i) n e);
       talks = stands.talks;
-      again = λ e that. again_is old.latest.client old.latest.asked old.request.items d e from (sym (is_same old.latest.asked d.target both.1)) (sym ((bytes_eq-Decides old.request.items d.payload).0 ended.1)) that;
+      again = λ e that. alike_is old.latest.client old.latest.asked old.request.items d e from (sym (is_same old.latest.asked d.target both.1)) (sym ((bytes_eq-Decides old.request.items d.payload).0 ended.1)) that;
       went_on = stands.went_on;
       newest = λ n at. (λ i. (((sym known.1 i).number == n) && nat_lt at (passed i)) || stands.newest n at i) ∙ sym (timed n at);
     })
@@ -61,3 +68,9 @@ asked_is l line number d payload target again stands from to same is = stands.as
     ∙ (λ i. if l.ends_in_request && bytes_eq l.request.items (same i) && same_endpoint l.latest.asked (to i) then Repeats l.latest
     else Opens (record { number = number; client = from i; asked = to i }))
     ∙ ap (λ b. if b then Repeats l.latest else Opens (record { number = number; client = l.latest.client; asked = target })) is
+
+-- ---- a request that opens a transfer
+
+pub opened_alike : (x : Transfer) (payload : List ℕ) (time : ℕ) (d e : Recorded) → IsRequestOf x payload time d → e.source ≡ x.client
+    → asks_alike d e ≡ (bytes_eq (asked_part payload) (asked_part e.payload) && same_endpoint x.asked e.target)
+opened_alike x payload time d e is that = alike_is x.client x.asked payload d e is.source is.target is.same that

@@ -1,15 +1,15 @@
 -- What a datagram makes doubtful: when a refusal is no accusation. Lists have the newest first; a transfer is known by its
 -- number.
-use Rattle.std.specs.Prelude.{ℕ, ◌==◌, ◌&&◌, not, nat_lt, Bool, false, List, Option, Some, None, if◌then◌else◌}
+use Rattle.std.specs.Prelude.{ℕ, ◌+◌, ◌==◌, ◌&&◌, ◌||◌, not, nat_le, nat_lt, Bool, true, false, List, Option, Some, None, is_some, if◌then◌else◌}
 use Rattle.std.specs.List.{list_any}
 use Rattle.tftp_lines.specs.declared.endpoint.Endpoint.{Endpoint}
 use Rattle.tftp_lines.specs.declared.line.Talk.{Talk}
 use Rattle.tftp_lines.specs.declared.place.Place.{Place}
-use Rattle.tftp_lines.specs.declared.place.Place.TheVariants.{Opens, Talks}
+use Rattle.tftp_lines.specs.declared.place.Place.TheVariants.{Opens, Repeats, Talks, Beside, Nowhere}
 use Rattle.tftp_lines.specs.declared.place.Transfer.{Transfer}
 use Rattle.tftp_lines.specs.declared.doubts.Doubts.{Doubts}
-use Rattle.tftp_lines.specs.Recording.{Recorded, same_endpoint, other_of, begins_error, is_data_1, is_again}
-use Rattle.tftp_lines.specs.Places.{Placed, is_request, is_of, newest_of, live, line, transfer_of, latest_in, reach, talk_in, answered_in, may_answer}
+use Rattle.tftp_lines.specs.Recording.{Recorded, same_endpoint, other_of, begins_error, begins_request, begins_packet, begins_unknown_id, is_data_1, asks_alike}
+use Rattle.tftp_lines.specs.Places.{Placed, is_request, is_of, newest_of, live, line, silence, transfer_of, latest_in, reach, talk_in, answered_in, may_answer}
 
 -- the client's line as the datagram came
 abbrev pub line_before : Endpoint → Placed → List Placed → List Placed
@@ -48,12 +48,17 @@ is_late p older = by p.place where
 abbrev pub is_later : ℕ → ℕ → Placed → Bool
 is_later n time q = is_of n q && nat_lt time q.datagram.time
 
--- it is older than one of the transfer before it
+-- it is older than one of the transfer before it; or it opens the transfer, and is older than one before it in the recording
 abbrev pub is_disordered : Placed → List Placed → Bool
-is_disordered p older = by (transfer_of p.place) where
-  by : Option Transfer → Bool
-  by None = false
-  by (Some x) = list_any (is_later x.number p.datagram.time) (line_before x.client p older)
+is_disordered p older = by p.place where
+  is_behind : Transfer → Bool
+  is_behind x = list_any (is_later x.number p.datagram.time) (line_before x.client p older)
+
+  by : Place → Bool
+  by (Opens x) = nat_lt p.datagram.time p.moment
+  by (Repeats x) = is_behind x
+  by (Talks x) = is_behind x
+  by _ = false
 
 -- the client sent what is no request and no ERROR
 abbrev pub says_more : Placed → Bool
@@ -62,18 +67,93 @@ says_more p = by p.place where
   by (Talks x) = same_endpoint p.datagram.source x.client && not (begins_error p.datagram.payload)
   by _ = false
 
-abbrev pub repeats_in : Recorded → Option Placed → Bool
-repeats_in d None = false
-repeats_in d (Some q) = is_again q.datagram d
+abbrev pub is_alike_in : Recorded → Option Placed → Bool
+is_alike_in d None = false
+is_alike_in d (Some q) = asks_alike q.datagram d
 
--- it was opened by the same request as the transfer before, whose client had sent nothing since but requests and
--- ERRORs: it may be that transfer still
+-- it was opened by a request for the same file as the transfer before, whose client had sent nothing since but requests
+-- and ERRORs: it may be that transfer still
 abbrev pub is_asked_again : Placed → List Placed → Bool
 is_asked_again p older = by p.place where
   by : Place → Bool
   by (Opens x) =
-      repeats_in p.datagram (newest_of is_request (line_before x.client p older))
+      is_alike_in p.datagram (newest_of is_request (line_before x.client p older))
       && not (list_any says_more (reach (line_before x.client p older)))
+  by _ = false
+
+-- ---- with whom a client goes on
+
+-- it comes to its client
+abbrev pub comes_in : Placed → List Placed → Bool
+comes_in p older = by p.place where
+  by : Place → Bool
+  by (Talks x) = same_endpoint p.datagram.target x.client
+  by _ = false
+
+abbrev pub is_the_one : Endpoint → Option Endpoint → Bool
+is_the_one o None = false
+is_the_one o (Some first) = same_endpoint o first
+
+-- who first sent a client something in its latest transfer
+abbrev pub answered_last : List Placed → Option Endpoint
+answered_last line = by (latest_in line) where
+  by : Option Transfer → Option Endpoint
+  by None = None
+  by (Some x) = answered_in x line
+
+-- With it the client goes on with who sent it something first in the transfer, and has not asked for another by then. ERROR 5,
+-- "Unknown transfer ID", is what a client sends to a stray (RFC 1350, section 4); any other ERROR it sends to its server.
+abbrev pub goes_on_with_first : Placed → List Placed → Bool
+goes_on_with_first p older = by p.place where
+  by : Place → Bool
+  by (Talks x) =
+      same_endpoint p.datagram.source x.client && not (begins_unknown_id p.datagram.payload) && not (is_late p older)
+      && is_the_one p.datagram.target (answered_last (line_before x.client p older))
+  by _ = false
+
+-- its client sent it to where nothing had passed between the two
+abbrev pub speaks_first : Placed → List Placed → Bool
+speaks_first p older = by p.place where
+  by : Place → Bool
+  by (Talks x) = same_endpoint p.datagram.source x.client && not (is_some (talk_in x.client (other_of x.client p.datagram) (line_before x.client p older)))
+  by _ = false
+
+-- ---- what else passed at an endpoint of the recording
+
+-- it begins as a packet of TFTP does, or goes to where requests go
+abbrev pub may_be_tftp : Recorded → Bool
+may_be_tftp d = begins_packet d.payload || (d.target.port == 69)
+
+-- it is of no client's line
+abbrev pub is_apart_from_lines : Place → Bool
+is_apart_from_lines (Beside x) = true
+is_apart_from_lines Nowhere = true
+is_apart_from_lines _ = false
+
+-- it passed at this endpoint, of no client's line
+abbrev pub is_stray_at : Endpoint → Placed → Bool
+is_stray_at e p =
+    is_apart_from_lines p.place && may_be_tftp p.datagram
+    && (same_endpoint p.datagram.source e || same_endpoint p.datagram.target e)
+
+-- no more than 300 s ago
+abbrev pub is_near : ℕ → Option Placed → Bool
+is_near now None = false
+is_near now (Some q) = nat_le now (q.moment + silence)
+
+-- It opens a transfer at an endpoint at which such a datagram passed in the last 300 s: of a transfer, it may be, whose
+-- request was not recorded.
+abbrev pub follows_strays : Placed → List Placed → Bool
+follows_strays p older = by p.place where
+  by : Place → Bool
+  by (Opens x) = is_near p.moment (newest_of (is_stray_at x.client) older)
+  by _ = false
+
+-- its client had asked for another before, and nobody had answered that: what comes may be the late answer
+abbrev pub follows_unanswered : Placed → List Placed → Bool
+follows_unanswered p older = by p.place where
+  by : Place → Bool
+  by (Opens x) = is_some (latest_in (line_before x.client p older)) && not (is_some (answered_last (line_before x.client p older)))
   by _ = false
 
 -- ---- and in another
@@ -103,4 +183,9 @@ doubts_of p older = record {
   is_disordered = is_disordered p older;
   is_asked_again = is_asked_again p older;
   may_be_answer_of = may_be_answer_of p older;
+  comes_in = comes_in p older;
+  goes_on_with_first = goes_on_with_first p older;
+  speaks_first = speaks_first p older;
+  follows_strays = follows_strays p older;
+  follows_unanswered = follows_unanswered p older;
 }

@@ -12,15 +12,17 @@ use Rattle.tftp_lines.specs.declared.kind.Kind.{Kind}
 use Rattle.tftp_lines.specs.declared.kind.Seen.{Seen}
 use Rattle.tftp_lines.specs.declared.line.Line.{Line}
 use Rattle.tftp_lines.specs.declared.line.Talk.{Talk}
-use Rattle.tftp_lines.specs.Recording.{Recorded, same_endpoint, endpoint_cmp, begins_request, begins_error, is_ack_0, is_data_1, is_answer}
+use Rattle.tftp_lines.specs.Recording.{Recorded, same_endpoint, endpoint_cmp, asked_part, begins_request, begins_error, begins_packet, begins_unknown_id, is_ack_0, is_data_1, is_answer}
 use Rattle.tftp_lines.specs.Places.{Placed, is_request, newest_of, clock, live, line, reach, latest_in, answered_in, talk_in, place_asked}
-use Rattle.tftp_lines.specs.Doubting.{acked_0_in, says_more, repeats_in, is_later}
+use Rattle.tftp_lines.specs.Doubting.{acked_0_in, says_more, is_alike_in, is_later}
 
 -- what is looked at of a payload
 abbrev pub kind_of : List ℕ → Kind
 kind_of payload = record {
   begins_request = begins_request payload;
   begins_error = begins_error payload;
+  begins_packet = begins_packet payload;
+  begins_unknown_id = begins_unknown_id payload;
   is_ack_0 = is_ack_0 payload;
   is_data_1 = is_data_1 payload;
   is_answer = is_answer payload;
@@ -54,7 +56,7 @@ pub record IsLineOf (l : Line) (line : List Placed) : Type 0 where
   pub asked : (number : ℕ) (d : Recorded) → d.source ≡ l.latest.client → place_asked number d line ≡ asked_by l number d
   pub talks : (o : Endpoint) → get endpoint_cmp l.talks o ≡ talk_in l.latest.client o line
   pub again : (d : Recorded) → d.source ≡ l.latest.client
-      → repeats_in d (newest_of is_request line) ≡ (bytes_eq l.request.items d.payload && same_endpoint l.latest.asked d.target)
+      → is_alike_in d (newest_of is_request line) ≡ (bytes_eq (asked_part l.request.items) (asked_part d.payload) && same_endpoint l.latest.asked d.target)
   pub went_on : list_any says_more (reach line) ≡ l.went_on
   pub newest : (n time : ℕ) → list_any (is_later n time) line ≡ is_past time (get nat_cmp l.newest n)
 

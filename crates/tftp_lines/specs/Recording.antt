@@ -1,5 +1,5 @@
 -- A recording: whole UDP datagrams, the newest first, and what is asked of one.
-use Rattle.std.specs.Prelude.{ℕ, ◌==◌, ◌&&◌, ◌||◌, Bool, List, [], ◌∷◌, nat_eq, if◌then◌else◌}
+use Rattle.std.specs.Prelude.{ℕ, ◌+◌, ◌==◌, ◌&&◌, ◌||◌, Bool, List, [], ◌∷◌, nat_eq, nat_le, take, drop, position, Option, Some, None, if◌then◌else◌}
 use Rattle.std.specs.List.{starts_with}
 use Rattle.std.specs.Str.{bytes_eq}
 use Rattle.std.specs.declared.cmp.Ordering.{Ordering}
@@ -57,6 +57,21 @@ is_ack_0 payload = bytes_eq payload (0 ∷ 4 ∷ 0 ∷ 0 ∷ [])
 abbrev pub is_data_1 : List ℕ → Bool
 is_data_1 payload = starts_with nat_eq payload (0 ∷ 3 ∷ 0 ∷ 1 ∷ [])
 
+-- it begins as a packet of TFTP does
+abbrev pub begins_packet : List ℕ → Bool
+begins_packet payload = nat_le 1 (opcode_of payload) && nat_le (opcode_of payload) 6
+
+-- ERROR 5, "Unknown transfer ID": the answer to what came from another transfer (RFC 1350, section 4)
+abbrev pub begins_unknown_id : List ℕ → Bool
+begins_unknown_id payload = starts_with nat_eq payload (0 ∷ 5 ∷ 0 ∷ 5 ∷ [])
+
+-- of a request its side and the name of its file: what stands before the zero that ends the name
+abbrev pub asked_part : List ℕ → List ℕ
+asked_part payload = by (position (λ b. b == 0) (drop 2 payload)) where
+  by : Option ℕ → List ℕ
+  by None = payload
+  by (Some k) = take (k + 2) payload
+
 -- what a server may send first: OACK, ERROR, ACK 0 or DATA 1
 abbrev pub is_answer : List ℕ → Bool
 is_answer payload = (opcode_of payload == 6) || begins_error payload || is_ack_0 payload || is_data_1 payload
@@ -76,3 +91,7 @@ other_of c d = if same_endpoint d.source c then d.target else d.source
 -- the same payload, from and to the same endpoints
 abbrev pub is_again : Recorded → Recorded → Bool
 is_again before d = bytes_eq before.payload d.payload && goes d.source d.target before
+
+-- a request for the same file on the same side, from and to the same endpoints: its mode and options may be spelled otherwise
+abbrev pub asks_alike : Recorded → Recorded → Bool
+asks_alike before d = bytes_eq (asked_part before.payload) (asked_part d.payload) && goes d.source d.target before

@@ -1,40 +1,51 @@
 //! What a datagram makes doubtful: when a refusal of a transfer is no accusation.
 
-ghost use Rattle.std.specs.Prelude.{◌≡◌, ◌&&◌, ◌||◌, not, ℕ, List, None, Some, false, bytes_eq, if◌then◌else◌};
+ghost use Rattle.std.specs.Prelude.{◌≡◌, ◌&&◌, ◌||◌, not, ℕ, List, None, Some, false, bytes_eq, is_some, nat_lt, if◌then◌else◌};
 ghost use Rattle.std.specs.BTreeMap.{get};
 ghost use Rattle.std.specs.Ordering.{nat_cmp};
-ghost use Rattle.tftp_lines.specs.Recording.{Recorded, same_endpoint, endpoint_cmp};
+ghost use Rattle.tftp_lines.specs.Recording.{Recorded, asked_part, same_endpoint, endpoint_cmp};
 ghost use Rattle.tftp_lines.specs.Places.{Placed, live, line, transfer_of, may_answer};
-ghost use Rattle.tftp_lines.specs.Doubting.{is_another, talked_in, acked_0_in, doubts_of};
+ghost use Rattle.tftp_lines.specs.Doubting.{is_another, is_the_one, talked_in, acked_0_in, doubts_of, follows_strays};
 ghost use Rattle.tftp_lines.specs.Kept.{IsLineOf, seen_of, is_past};
 ghost use Rattle.tftp_lines.specs.declared.place.Place.{Place};
 ghost use Rattle.tftp_lines.specs.declared.place.Transfer.{Transfer};
 
 use crate::endpoint::Endpoint;
-use crate::kind::{Seen, other_end};
+use crate::kind::{Seen, asked_part, other_end};
 use crate::line::{Line, was_acked_0};
 use crate::place::{Place, Transfer};
 
-/// What one datagram makes doubtful. All but the last are of its own transfer.
+/// What one datagram makes doubtful, and with whom its client goes on. All but `may_be_answer_of` are of its own transfer.
 #[derive(Clone, Copy, Debug, PartialEq, Eq)]
 pub struct Doubts {
     /// Its server's endpoint was that of another transfer before.
     pub goes_over: bool,
     /// Its client had asked for another by then: a refusal from here on is doubtful.
     pub is_late: bool,
-    /// It is older than one of the transfer before it.
+    /// It is older than one of the transfer before it, or opens the transfer and is older than one of the recording before it.
     pub is_disordered: bool,
-    /// It is a request that the client sent before, and since then it has sent requests and ERRORs only: the transfer
-    /// before may go on.
+    /// It is a request for the same file as the one before, and since then its client has sent requests and ERRORs only:
+    /// the transfer before may go on.
     pub is_asked_again: bool,
     /// The number of the client's latest transfer, where this datagram of another one may be its first answer.
     pub may_be_answer_of: Option<u64>,
+    /// It comes to its client.
+    pub comes_in: bool,
+    /// With it its client goes on with who sent it something first in the transfer, the latest one.
+    pub goes_on_with_first: bool,
+    /// Its client sent it to where nothing had passed between the two.
+    pub speaks_first: bool,
+    /// It opens the transfer where, in the last 300 s, something passed at its client's endpoint that is of no line, though it
+    /// begins as a packet of TFTP does or went to port 69.
+    pub follows_strays: bool,
+    /// It opens the transfer, and nobody had answered what its client had asked for before.
+    pub follows_unanswered: bool,
 }
 
 impl Doubts {
     /// Nothing is doubtful.
     pub fn none() -> Self
-        ensures { result ≡ record { goes_over = false; is_late = false; is_disordered = false; is_asked_again = false; may_be_answer_of = None } }
+        ensures { result ≡ record { goes_over = false; is_late = false; is_disordered = false; is_asked_again = false; may_be_answer_of = None; comes_in = false; goes_on_with_first = false; speaks_first = false; follows_strays = false; follows_unanswered = false } }
     {
         Doubts {
             goes_over: false,
@@ -42,37 +53,73 @@ impl Doubts {
             is_disordered: false,
             is_asked_again: false,
             may_be_answer_of: None,
+            comes_in: false,
+            goes_on_with_first: false,
+            speaks_first: false,
+            follows_strays: false,
+            follows_unanswered: false,
+        }
+    }
+
+    /// What a datagram makes doubtful that opens a transfer where no line goes on, by whether it is older than one before it in
+    /// the recording.
+    pub fn of_first(is_disordered: bool, is_after_strays: bool) -> Self
+        ensures { result ≡ record { goes_over = false; is_late = false; is_disordered = is_disordered; is_asked_again = false; may_be_answer_of = None; comes_in = false; goes_on_with_first = false; speaks_first = false; follows_strays = is_after_strays; follows_unanswered = false } }
+    {
+        Doubts {
+            is_disordered,
+            follows_strays: is_after_strays,
+            ..Doubts::none()
         }
     }
 }
 
 impl Line {
-    /// What a datagram makes doubtful that belongs there, in a transfer of this line's client.
-    pub fn doubts(&self, place: &Place, seen: &Seen, payload: &[u8]) -> Doubts
-        ensures { (d : Recorded) (now : ℕ) (older : List Placed)
+    /// What a datagram makes doubtful that belongs there, in a transfer of this line's client; `now` is the greatest time up to it,
+    /// in nanoseconds.
+    pub fn doubts(
+        &self,
+        place: &Place,
+        seen: &Seen,
+        payload: &[u8],
+        now: u64,
+        is_after_strays: bool,
+    ) -> Doubts
+        ensures { (d : Recorded) (older : List Placed)
             → ((x : Transfer) → transfer_of place.now ≡ Some x → (self.now.latest.client ≡ x.client) × IsLineOf self.now (live now (line x.client older)))
             → ((x : Transfer) → place.now ≡ Place.Opens x → d.source ≡ x.client)
             → seen.now ≡ seen_of d → d.payload ≡ payload.now
+            → ((x : Transfer) → place.now ≡ Place.Opens x → is_after_strays ≡ follows_strays (record { datagram = d; moment = now; place = Place.Opens x }) older)
             → result ≡ doubts_of (record { datagram = d; moment = now; place = place.now }) older }
     {
         match place {
-            Place::Opens(transfer) => self.doubts_of_opening(transfer, seen, payload),
+            Place::Opens(transfer) => {
+                self.doubts_of_opening(transfer, seen, payload, now, is_after_strays)
+            }
             Place::Repeats(transfer) => self.doubts_of_repeat(transfer, seen),
             Place::Talks(transfer) => self.doubts_of_talk(transfer, seen),
             _ => Doubts::none(),
         }
     }
 
-    fn doubts_of_opening(&self, transfer: &Transfer, seen: &Seen, payload: &[u8]) -> Doubts
-        ensures { (d : Recorded) (now : ℕ) (older : List Placed) → self.now.latest.client ≡ transfer.now.client
+    fn doubts_of_opening(
+        &self,
+        transfer: &Transfer,
+        seen: &Seen,
+        payload: &[u8],
+        now: u64,
+        is_after_strays: bool,
+    ) -> Doubts
+        ensures { (d : Recorded) (older : List Placed) → self.now.latest.client ≡ transfer.now.client
             → IsLineOf self.now (live now (line transfer.now.client older)) → d.source ≡ transfer.now.client
             → seen.now ≡ seen_of d → d.payload ≡ payload.now
+            → is_after_strays ≡ follows_strays (record { datagram = d; moment = now; place = Place.Opens transfer.now }) older
             → result ≡ doubts_of (record { datagram = d; moment = now; place = Place.Opens transfer.now }) older }
     {
         Doubts {
-            is_disordered: self.has_later(transfer.number, seen.time),
             is_asked_again: self.is_asked_again(seen.target, payload),
-            ..Doubts::none()
+            follows_unanswered: self.answered.is_none(),
+            ..Doubts::of_first(seen.time < now, is_after_strays)
         }
     }
 
@@ -99,6 +146,37 @@ impl Line {
             is_disordered: self.has_later(transfer.number, seen.time),
             is_asked_again: false,
             may_be_answer_of: self.answers_instead(transfer, other, seen),
+            comes_in: seen.target == transfer.client,
+            goes_on_with_first: self.goes_on_with_first(transfer, seen),
+            speaks_first: self.speaks_first(transfer, other, seen),
+            follows_strays: false,
+            follows_unanswered: false,
+        }
+    }
+
+    /// Whether its client goes on with who first sent it something in this transfer, and has not asked for another.
+    fn goes_on_with_first(&self, transfer: &Transfer, seen: &Seen) -> bool
+        ensures { result ≡ ((same_endpoint seen.now.source transfer.now.client && not seen.now.kind.begins_unknown_id)
+            && not (is_another transfer.now (Some self.now.latest)) && is_the_one seen.now.target self.now.answered) }
+    {
+        let is_own = seen.source == transfer.client && !seen.kind.begins_unknown_id;
+        is_own && !self.is_behind(transfer) && self.was_first(seen.target)
+    }
+
+    /// Whether the client sends to where nothing had passed between the two.
+    fn speaks_first(&self, transfer: &Transfer, other: Endpoint, seen: &Seen) -> bool
+        ensures { result ≡ (same_endpoint seen.now.source transfer.now.client && not (is_some (get endpoint_cmp self.now.talks other))) }
+    {
+        seen.source == transfer.client && !self.talks_with(&other)
+    }
+
+    /// Whether it first sent the client a datagram of the latest transfer.
+    fn was_first(&self, other: Endpoint) -> bool
+        ensures { result ≡ is_the_one other self.now.answered }
+    {
+        match &self.answered {
+            None => false,
+            Some(first) => other == *first,
         }
     }
 
@@ -132,11 +210,11 @@ impl Line {
         }
     }
 
-    /// Whether a request is the newest one again, and the client has sent requests and ERRORs only.
+    /// Whether a request is for the same file as the newest one, and the client has sent requests and ERRORs only.
     fn is_asked_again(&self, target: Endpoint, payload: &[u8]) -> bool
-        ensures { result ≡ ((bytes_eq self.now.request.items payload.now && same_endpoint self.now.latest.asked target) && not self.now.went_on) }
+        ensures { result ≡ ((bytes_eq (asked_part self.now.request.items) (asked_part payload.now) && same_endpoint self.now.latest.asked target) && not self.now.went_on) }
     {
-        let is_same = self.request.as_slice() == payload;
+        let is_same = asked_part(self.request.as_slice()) == asked_part(payload);
         is_same && self.latest.asked == target && !self.went_on
     }
 
@@ -166,7 +244,7 @@ impl Line {
     }
 
     /// Whether nobody has answered the latest request, and this answers one.
-    fn may_answer(&self, client: Endpoint, other: Endpoint, seen: &Seen) -> bool
+    pub(crate) fn may_answer(&self, client: Endpoint, other: Endpoint, seen: &Seen) -> bool
         ensures { (d : Recorded) → seen.now ≡ seen_of d → result ≡ may_answer client other self.now.answered d }
     {
         let comes = seen.source == other && seen.target == client;

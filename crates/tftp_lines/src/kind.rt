@@ -1,8 +1,9 @@
 //! What is looked at of a datagram.
 
-ghost use Rattle.std.specs.Prelude.{◌≡◌, ◌==◌, ◌||◌, true};
+ghost use Rattle.std.specs.Prelude.{◌≡◌, ◌==◌, ◌||◌, position, true};
 ghost use Rattle.tftp_packet.specs.{Message, RequestParts, Spells, meaning};
 ghost use Rattle.tftp_lines.specs.Kept.{kind_of, other_end};
+ghost use Rattle.tftp_lines.specs.Recording.{asked_part};
 
 use crate::endpoint::Endpoint;
 use tftp_packet::{Packet, opcode, read_packet};
@@ -14,6 +15,10 @@ pub struct Kind {
     pub begins_request: bool,
     /// Its opcode is that of ERROR.
     pub begins_error: bool,
+    /// Its opcode is one of TFTP's: 1 to 6.
+    pub begins_packet: bool,
+    /// It begins as ERROR 5 does, "Unknown transfer ID".
+    pub begins_unknown_id: bool,
     /// It is ACK 0, and nothing more.
     pub is_ack_0: bool,
     /// It begins as DATA 1 does.
@@ -50,6 +55,8 @@ const ACK_0: [u8; 4] = [0, 4, 0, 0];
 
 const DATA_1: [u8; 4] = [0, 3, 0, 1];
 
+const ERROR_5: [u8; 4] = [0, 5, 0, 5];
+
 fn is_request_code(opcode: u16) -> bool
     ensures { result ≡ ((opcode == 1) || (opcode == 2)) }
 {
@@ -73,11 +80,33 @@ impl Kind {
         Kind {
             begins_request: is_request_code(opcode(payload)),
             begins_error: opcode(payload) == 5,
+            begins_packet: opcode(payload) >= 1 && opcode(payload) <= 6,
+            begins_unknown_id: payload.starts_with(ERROR_5.as_slice()),
             is_ack_0,
             is_data_1,
             is_answer: is_answer_code(opcode(payload)) || is_ack_0 || is_data_1,
         }
     }
+}
+
+/// Of a request its side and the name of its file: what stands before the zero that ends the name (RFC 1350, section 5).
+pub(crate) fn asked_part(payload: &[u8]) -> &[u8]
+    ensures { result.now ≡ asked_part payload.now }
+{
+    let Some(rest) = payload.get(2..) else {
+        return payload;
+    };
+    match zero_in(rest) {
+        Some(length) => &payload[..length + 2],
+        None => payload,
+    }
+}
+
+/// Where the first zero stands.
+fn zero_in(bytes: &[u8]) -> Option<usize>
+    ensures { result ≡ position (λ b. b == 0) bytes.now }
+{
+    bytes.iter().position(|byte| *byte == 0)
 }
 
 /// Whether the payload spells a request from its first byte to its last (RFC 1350, section 5; RFC 2347).

@@ -153,8 +153,8 @@ impl Line {
     fn goes_over(&self, other: Endpoint, acked_0: bool, seen: &Seen) -> bool
         ensures { (d : Recorded) → seen.now ≡ seen_of d → result ≡ (may_answer self.now.latest.client other self.now.answered d && not (seen.now.kind.is_data_1 && acked_0)) }
     {
-        let comes = seen.source == other && seen.target == self.latest.client;
-        self.answered.is_none() && comes && seen.kind.is_answer && !(seen.kind.is_data_1 && acked_0)
+        let answers = self.may_answer(self.latest.client, other, seen);
+        answers && !(seen.kind.is_data_1 && acked_0)
     }
 
     /// A line that begins with this transfer's request.

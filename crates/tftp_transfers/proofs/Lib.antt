@@ -2,6 +2,7 @@ pub mod AllLines
 pub mod Ends
 pub mod Serving
 pub mod Forgetting
+pub mod Straying
 pub mod Doubting
 pub mod Seeing
 pub mod OwnDatagrams

@@ -3,7 +3,7 @@ use Rattle.std.proofs.Common.{◌≡◌, ℕ, Bool, false, cond, List, [], ◌�
 use Rattle.std.proofs.lemmas.List.Elements.{filter_agree}
 use Rattle.tftp_rules.specs.{first_of, or_this}
 use Rattle.tftp_lines.specs.{Endpoint, Place, Opens, Repeats, Talks, Apart, Beside, Nowhere, Recorded, begins_error, other_of, same_endpoint, Placed, is_of}
-use Rattle.tftp_transfers.specs.{is_settled, answered_by, asked_of, client_view, comes, goes_on, has_host, has_port, is_about, is_at_server, is_end, is_server, opened_it, server_of, server_view, went_on_with}
+use Rattle.tftp_transfers.specs.{is_settled, answered_by, asked_of, client_view, comes, goes_on, goes_to_asked, has_host, has_port, is_about, is_at_server, is_end, is_server, opened_it, server_of, server_view, went_on_with}
 use Rattle.tftp_lines.proofs.Lines.{by_test}
 
 -- ---- the same ends, the same server and the same view of it
@@ -26,7 +26,7 @@ module _ (n : ℕ) (one other : List Placed) (asked : asked_of n one ≡ asked_o
       ∙ ap (λ s. has_port o (server_of n other) && (has_host o (asked_of n other) || has_host o (answered_by n other) || has_host o s)) went_on
 
   at_place : (d : Recorded) (now : ℕ) (place : Place) → is_at_server n one (record { datagram = d; moment = now; place = place }) ≡ is_at_server n other (record { datagram = d; moment = now; place = place })
-  at_place d now (Talks x) = ap (λ b. (x.number == n) && b) (is_server_same (other_of x.client d))
+  at_place d now (Talks x) = ap (λ b. (x.number == n) && (b || goes_to_asked x d)) (is_server_same (other_of x.client d))
   at_place d now (Beside x) = ap (λ s. (x.number == n) && (is_end d.source s || is_end d.target s)) server_same
   at_place d now _ = refl
 
@@ -81,7 +81,7 @@ module _ (n : ℕ) (d : Recorded) (now : ℕ) where
   not_seen : (placed : List Placed) (place : Place) → is_about n (record { datagram = d; moment = now; place = place }) ≡ false → is_at_server n placed (record { datagram = d; moment = now; place = place }) ≡ false
   not_seen placed (Opens x) off = off
   not_seen placed (Repeats x) off = off
-  not_seen placed (Talks x) off = ap (λ b. b && is_server n placed (other_of x.client d)) off
+  not_seen placed (Talks x) off = ap (λ b. b && (is_server n placed (other_of x.client d) || goes_to_asked x d)) off
   not_seen placed (Beside x) off = ap (λ b. b && (is_end d.source (server_of n placed) || is_end d.target (server_of n placed))) off
   not_seen placed _ off = refl
 

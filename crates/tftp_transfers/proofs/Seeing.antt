@@ -2,7 +2,7 @@
 use Rattle.std.proofs.Common.{◌≡◌, ◌⊎◌, ℕ, Bool, true, List, inl, inr, refl, sym, ◌∙◌, ◌==◌, ◌&&◌, ◌||◌}
 use Rattle.std.proofs.lemmas.Bool.{and_parts, eqb-true}
 use Rattle.tftp_lines.specs.{Place, Opens, Repeats, Talks, Apart, Beside, Nowhere, Recorded, other_of, Placed, is_of}
-use Rattle.tftp_transfers.specs.{is_at_server, is_server, is_end, server_of, is_beside}
+use Rattle.tftp_transfers.specs.{goes_to_asked, is_at_server, is_server, is_end, server_of, is_beside}
 
 one_number : (n m k : ℕ) → (k == n) ≡ true → (k == m) ≡ true → n ≡ m
 one_number n m k is also = sym (eqb-true k n is) ∙ eqb-true k m also
@@ -25,8 +25,8 @@ at_server : (n m : ℕ) (one other : List Placed) (d : Recorded) (now : ℕ) (pl
 at_server n m one other d now (Opens x) is also = one_number n m x.number is also
 at_server n m one other d now (Repeats x) is also = one_number n m x.number is also
 at_server n m one other d now (Talks x) is also =
-    one_number n m x.number (first_part (x.number == n) (is_server n one (other_of x.client d)) is)
-    (first_part (x.number == m) (is_server m other (other_of x.client d)) also)
+    one_number n m x.number (first_part (x.number == n) (is_server n one (other_of x.client d) || goes_to_asked x d) is)
+    (first_part (x.number == m) (is_server m other (other_of x.client d) || goes_to_asked x d) also)
 at_server n m one other d now (Apart c) is also = absurd (cc)
 at_server n m one other d now (Beside x) is also =
     one_number n m x.number (first_part (x.number == n) (is_end d.source (server_of n one) || is_end d.target (server_of n one)) is)
@@ -40,7 +40,7 @@ of_client : (n : ℕ) (placed : List Placed) (d : Recorded) (now : ℕ) (place :
     → (is_of n (record { datagram = d; moment = now; place = place }) ≡ true) ⊎ (is_beside (record { datagram = d; moment = now; place = place }) ≡ true)
 of_client n placed d now (Opens x) is = inl is
 of_client n placed d now (Repeats x) is = inl is
-of_client n placed d now (Talks x) is = inl (first_part (x.number == n) (is_server n placed (other_of x.client d)) is)
+of_client n placed d now (Talks x) is = inl (first_part (x.number == n) (is_server n placed (other_of x.client d) || goes_to_asked x d) is)
 of_client n placed d now (Beside x) is = inr refl
 of_client n placed d now _ is = absurd (cc)
 

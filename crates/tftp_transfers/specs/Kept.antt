@@ -1,11 +1,12 @@
 -- What one pass keeps of the datagrams before: of each client's line, and of each endpoint that served.
-use Rattle.std.specs.Prelude.{◌≡◌, ◌⊎◌, ◌+◌, ℕ, Bool, true, false, List, length, Option, Some, None, IsSomeAnd, nat_le}
+use Rattle.std.specs.Prelude.{◌≡◌, ◌⊎◌, ◌+◌, ℕ, Bool, true, false, List, length, Option, Some, None, option_map, IsSomeAnd, nat_le}
 use Rattle.std.specs.BTreeMap.{get, BTreeMap}
 use Rattle.std.specs.List.{list_any}
 use Rattle.std.specs.Ordering.{nat_cmp, is_eq}
-use Rattle.tftp_lines.specs.{Endpoint, Place, Opens, Repeats, Beside, Nowhere, Recorded, endpoint_cmp, Placed, clock, silence, AreLinesOf, goes_over, is_late, is_disordered, is_asked_again}
+use Rattle.tftp_lines.specs.{Endpoint, Place, Opens, Repeats, Beside, Nowhere, Recorded, endpoint_cmp, Placed, clock, newest_of, silence, AreLinesOf, comes_in, follows_strays, follows_unanswered, goes_on_with_first, goes_over, is_late, is_disordered, is_asked_again, is_near, is_stray_at, may_be_tftp}
 use Rattle.tftp_transfers.specs.declared.attribution.Attribution.{Attribution}
 use Rattle.tftp_transfers.specs.declared.attribution.Served.{Served}
+use Rattle.tftp_transfers.specs.declared.attribution.Strayed.{Strayed}
 use Rattle.tftp_transfers.specs.declared.doubted.TransferDoubts.{TransferDoubts}
 use Rattle.tftp_transfers.specs.declared.views.TransferEnds.{TransferEnds}
 use Rattle.tftp_transfers.specs.Places.{is_service, last_served, served_by}
@@ -25,6 +26,15 @@ IsServedKept o older (Some s) = last_served o older ≡ Some s
 abbrev pub AreServed : BTreeMap Endpoint Served → List Placed → Type 0
 AreServed served older = (o : Endpoint) → IsServedKept o older (get endpoint_cmp served o)
 
+-- What is kept of when something of no line passed at an endpoint. None is kept only where nothing did in the last 300 s.
+abbrev pub IsStrayKept : Endpoint → List Placed → Option Strayed → Type 0
+IsStrayKept e older None = is_near (clock older) (newest_of (is_stray_at e) older) ≡ false
+IsStrayKept e older (Some s) = option_map (λ q. q.moment) (newest_of (is_stray_at e) older) ≡ Some s.moment
+
+-- at which endpoints something of no line passed
+abbrev pub AreStrays : BTreeMap Endpoint Strayed → List Placed → Type 0
+AreStrays strays older = (e : Endpoint) → IsStrayKept e older (get endpoint_cmp strays e)
+
 -- What is kept of an endpoint stays, or it is let go: its newest datagram is older than 300 s.
 abbrev pub Forgets : {V : Type 0} → (V → ℕ) → ℕ → BTreeMap Endpoint V → BTreeMap Endpoint V → Type 0
 Forgets moment now kept left = (o : Endpoint) → (get endpoint_cmp left o ≡ get endpoint_cmp kept o)
@@ -38,6 +48,7 @@ pub record IsAfter (a : Attribution) (named : List ℕ) (older : List Placed) : 
   pub services : AreServices a.services.keys named older
   pub lines : AreLinesOf a.lines older
   pub served : AreServed a.served older
+  pub strays : AreStrays a.strays older
 
 abbrev pub is_asked : Place → Bool
 is_asked (Opens x) = true
@@ -52,11 +63,11 @@ pub record IsRecorded (d : Recorded) (at : ℕ) (from to : Endpoint) (bytes : Li
   pub payload : d.payload ≡ bytes
   pub is_spelled : d.is_spelled ≡ spelled
 
--- what is of no client's line takes no memory
-abbrev pub takes_memory : Place → Bool
-takes_memory (Beside x) = false
-takes_memory Nowhere = false
-takes_memory place = true
+-- what is of no client's line takes no memory, unless it looks as if it were of a transfer
+abbrev pub takes_memory : Place → Recorded → Bool
+takes_memory (Beside x) d = may_be_tftp d
+takes_memory Nowhere d = may_be_tftp d
+takes_memory place d = true
 
 -- ---- the doubts of a transfer
 
@@ -67,6 +78,10 @@ pub record IsDoubtedAfter (t : TransferDoubts) (placed : List Placed) : Type 0 w
   pub is_disordered : t.is_disordered ≡ some_of t.number is_disordered placed
   pub is_asked_again : t.is_asked_again ≡ some_of t.number is_asked_again placed
   pub is_answered_apart : t.is_answered_apart ≡ is_answered_apart t.number placed
+  pub follows_strays : t.follows_strays ≡ some_of t.number follows_strays placed
+  pub follows_unanswered : t.follows_unanswered ≡ some_of t.number follows_unanswered placed
+  pub comes_in : t.comes_in ≡ some_of t.number comes_in placed
+  pub goes_on_with_first : t.goes_on_with_first ≡ some_of t.number goes_on_with_first placed
 
 -- ---- the ends of a transfer
 

@@ -2,7 +2,7 @@
 -- before it alone, so the place of each is known when it passes.
 use Rattle.std.specs.Prelude.{ℕ, ◌+◌, ◌==◌, ◌&&◌, ◌||◌, not, nat_le, max, Bool, true, false, List, [], ◌∷◌, length, Option, Some, None, is_some, if◌then◌else◌}
 use Rattle.std.specs.List.{list_any}
-use Rattle.tftp_lines.specs.{Endpoint, Place, Talks, Beside, Nowhere, Transfer, Recorded, begins_request, goes, Placed, is_request, silence, live, line, talk_in, place_asked, place_at, clock}
+use Rattle.tftp_lines.specs.{Endpoint, Place, Talks, Beside, Nowhere, Transfer, Recorded, begins_request, goes, Placed, is_request, silence, live, line, latest_in, talk_in, place_asked, place_at, clock}
 use Rattle.tftp_transfers.specs.declared.attribution.Served.{Served}
 
 -- ---- requests
@@ -12,13 +12,17 @@ abbrev pub is_service : List ℕ → List Placed → ℕ → Bool
 is_service named older port =
     (port == 69) || list_any (λ n. n == port) named || list_any (λ p. is_request p && (p.datagram.target.port == port)) older
 
+-- it has asked, and has not been silent for 300 s since
+abbrev pub is_client : List Placed → ℕ → Endpoint → Bool
+is_client older now e = is_some (latest_in (live now (line e older)))
+
 -- A request goes to a service port; or it is one from its first byte to its last, and goes to an endpoint with which its
--- client does not talk.
+-- client does not talk, and which is no client itself.
 abbrev pub asks : List ℕ → List Placed → ℕ → Recorded → Bool
 asks named older now d =
     begins_request d.payload
     && (is_service named older d.target.port
-    || (d.is_spelled && not (is_some (talk_in d.source d.target (live now (line d.source older))))))
+    || (d.is_spelled && not (is_some (talk_in d.source d.target (live now (line d.source older)))) && not (is_client older now d.target)))
 
 -- ---- what passes between a client and another endpoint, and is no request
 

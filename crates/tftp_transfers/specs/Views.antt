@@ -1,7 +1,7 @@
 -- What each end of a transfer saw of it. Lists have the newest first; a transfer is known by its number.
 use Rattle.std.specs.Prelude.{ℕ, ◌==◌, ◌&&◌, ◌||◌, not, Bool, false, List, filter, Option, Some, None, option_map}
 use Rattle.tftp_rules.specs.{first_of}
-use Rattle.tftp_lines.specs.{Endpoint, Place, Opens, Repeats, Talks, Apart, Beside, Nowhere, same_address, same_endpoint, other_of, begins_error, Placed, is_of}
+use Rattle.tftp_lines.specs.{Endpoint, Transfer, Recorded, Place, Opens, Repeats, Talks, Apart, Beside, Nowhere, same_address, same_endpoint, other_of, begins_error, Placed, is_of}
 
 abbrev pub client_view : ℕ → List Placed → List Placed
 client_view n placed = filter (is_of n) placed
@@ -62,13 +62,18 @@ is_server n placed o =
     has_port o (server_of n placed)
     && (has_host o (asked_of n placed) || has_host o (answered_by n placed) || has_host o (went_on_with n placed))
 
--- The requests, what passed between the client and the server, and what passed between the server and others.
+-- the client sent it to where it had asked
+abbrev pub goes_to_asked : Transfer → Recorded → Bool
+goes_to_asked x d = same_endpoint d.source x.client && same_endpoint d.target x.asked
+
+-- The requests, what passed between the client and the server, what else the client sent to where it had asked, and what passed
+-- between the server and others.
 abbrev pub is_at_server : ℕ → List Placed → Placed → Bool
 is_at_server n placed p = by p.place where
   by : Place → Bool
   by (Opens x) = x.number == n
   by (Repeats x) = x.number == n
-  by (Talks x) = (x.number == n) && is_server n placed (other_of x.client p.datagram)
+  by (Talks x) = (x.number == n) && (is_server n placed (other_of x.client p.datagram) || goes_to_asked x p.datagram)
   by (Beside x) = (x.number == n) && (is_end p.datagram.source (server_of n placed) || is_end p.datagram.target (server_of n placed))
   by (Apart c) = false
   by Nowhere = false

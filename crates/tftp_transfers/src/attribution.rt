@@ -2,9 +2,9 @@
 
 ghost use Rattle.std.specs.Prelude.{◌≡◌, ◌≢◌, ◌≤◌, ◌+◌, ◌∷◌, ℕ, List, [], MatchBool, OnOk, IfOk, IsOk, Err, ◌^◌, ◌<◌, max, true, false, ◌&&◌, ◌||◌, not, is_some, nat_le, MatchOption, IfSome, Some, None, if◌then◌else◌};
 ghost use Rattle.std.specs.BTreeMap.{get};
-ghost use Rattle.tftp_lines.specs.{Recorded, endpoint_cmp, Placed, live, line, clock, silence, talk_in, place_asked, place_at, IsLineOf, AreLinesOf, seen_of, doubts_of, Place};
-ghost use Rattle.tftp_transfers.specs.Places.{is_service, asks, either, at_client, served_by, served_at, beside, beside_by, is_nowhere, or_talks, place_of, and_then};
-ghost use Rattle.tftp_transfers.specs.Kept.{IsAfter, AreServed, AreServices, IsRecorded, is_asked, takes_memory};
+ghost use Rattle.tftp_lines.specs.{Recorded, endpoint_cmp, Placed, live, line, clock, newest_of, silence, talk_in, place_asked, place_at, IsLineOf, AreLinesOf, seen_of, doubts_of, is_apart_from_lines, is_near, is_stray_at, may_be_tftp, Place, Transfer};
+ghost use Rattle.tftp_transfers.specs.Places.{is_client, is_service, asks, either, at_client, served_by, served_at, beside, beside_by, is_nowhere, or_talks, place_of, and_then};
+ghost use Rattle.tftp_transfers.specs.Kept.{IsAfter, AreServed, AreServices, AreStrays, IsRecorded, is_asked, takes_memory};
 ghost use Rattle.tftp_transfers.specs.declared.attribution.AttributionFault.{AttributionFault};
 
 use crate::all_lines::{note, open, repeat};
@@ -59,19 +59,34 @@ impl Dated for Served {
     }
 }
 
+/// When something of no line passed last at an endpoint.
+#[derive(Clone, Copy)]
+pub(crate) struct Strayed {
+    pub moment: u64,
+}
+
+impl Dated for Strayed {
+    ghost moment = { λ strayed. strayed.moment };
+
+    fn moment(&self) -> u64 {
+        self.moment
+    }
+}
+
 /// What is kept of the datagrams before: the lines of the clients, and who served them.
 #[derive(Drop)]
 pub struct Attribution {
     services: BTreeSet<u16>,
     lines: BTreeMap<Endpoint, Line>,
     served: BTreeMap<Endpoint, Served>,
+    strays: BTreeMap<Endpoint, Strayed>,
     /// The greatest time up to here.
     clock: u64,
     /// How many datagrams have passed.
     count: u64,
     /// Memory was wanting: it stands for no datagrams any more.
     failed: bool,
-    /// The line that was looked at last, and the endpoint that served: whether they are to be let go.
+    /// The line that was looked at last, and the endpoints of the other two: whether they are to be let go.
     looked_at: LookedAt,
 }
 
@@ -80,6 +95,15 @@ pub struct Attribution {
 pub(crate) struct LookedAt {
     pub line: Endpoint,
     pub served: Endpoint,
+    pub stray: Endpoint,
+}
+
+/// How many of each are kept.
+#[derive(Clone, Copy)]
+pub(crate) struct Counts {
+    pub lines: usize,
+    pub served: usize,
+    pub strays: usize,
 }
 
 const FIRST: Endpoint = Endpoint {
@@ -96,12 +120,14 @@ impl Attribution {
             services: services_of(alloc, named)?,
             lines: BTreeMap::new(alloc),
             served: BTreeMap::new(alloc),
+            strays: BTreeMap::new(alloc),
             clock: 0,
             count: 0,
             failed: false,
             looked_at: LookedAt {
                 line: FIRST,
                 served: FIRST,
+                stray: FIRST,
             },
         })
     }
@@ -130,7 +156,7 @@ impl Attribution {
         ensures memory { result ≡ Err AttributionFault.Memory → self.new.failed ≡ true }
         ensures spare { (named : List ℕ) (older : List Placed) (d : Recorded) → IsAfter self.old named older
             → IsRecorded d time source target payload.now is_spelled
-            → takes_memory (place_of named older (max time (clock older)) d) ≡ false → result ≢ Err AttributionFault.Memory }
+            → takes_memory (place_of named older (max time (clock older)) d) d ≡ false → result ≢ Err AttributionFault.Memory }
         ensures for_good { self.old.failed ≡ true → result ≡ Err AttributionFault.Memory }
     {
         if self.failed {
@@ -149,10 +175,14 @@ impl Attribution {
         };
         let place = self.place_of(&seen, payload, is_spelled, now);
         let doubts = self.doubts(&place, &seen, payload, now);
-        let (lines, served) = (self.lines.len(), self.served.len());
+        let before = Counts {
+            lines: self.lines.len(),
+            served: self.served.len(),
+            strays: self.strays.len(),
+        };
         match self.keep(alloc, &place, &seen, payload, now) {
             Ok(()) => {
-                self.let_go(lines, served);
+                self.let_go(&before);
                 Ok(Attributed { place, doubts })
             }
             Err(_) => {
@@ -163,13 +193,15 @@ impl Attribution {
     }
 
     /// Lets go of what has been silent for more than 300 s: looks at two lines where there is one more than there were,
-    /// and at two endpoints that served likewise. So there are at most about twice as many as were not silent.
-    fn let_go(&mut self, lines: usize, served: usize)
+    /// and at two endpoints that served, or at which something of no line passed, likewise. So there are at most about twice
+    /// as many as were not silent.
+    fn let_go(&mut self, before: &Counts)
         ensures { (named : List ℕ) (older : List Placed) → IsAfter self.old named older → IsAfter self.new named older }
     {
-        let (line, other) = (&mut self.looked_at.line, &mut self.looked_at.served);
-        let_some_go(&mut self.lines, lines, line, self.clock);
-        let_some_go(&mut self.served, served, other, self.clock);
+        let at = &mut self.looked_at;
+        let_some_go(&mut self.lines, before.lines, &mut at.line, self.clock);
+        let_some_go(&mut self.served, before.served, &mut at.served, self.clock);
+        let_some_go(&mut self.strays, before.strays, &mut at.stray, self.clock);
     }
 
     /// Keeps a datagram that belongs there.
@@ -185,10 +217,11 @@ impl Attribution {
         ensures stands { (named : List ℕ) (older : List Placed) (d : Recorded) → IsAfter self.old named older → clock older ≤ now
             → seen.now ≡ seen_of d → d.payload ≡ payload.now → place.now ≡ place_of named older now d
             → OnOk result (IsAfter self.new named (record { datagram = d; moment = now; place = place.now } ∷ older)) }
-        ensures spare { takes_memory place.now ≡ false → IsOk result }
+        ensures spare { (d : Recorded) → seen.now ≡ seen_of d → takes_memory place.now d ≡ false → IsOk result }
     {
         self.keep_line(alloc, place, seen, payload, now)?;
         keep_served(&mut self.served, place, seen, now)?;
+        keep_strays(&mut self.strays, place, seen, now)?;
         keep_service(&mut self.services, place, seen.target.port)?;
         self.clock = now;
         self.count += 1;
@@ -230,6 +263,17 @@ impl Attribution {
         }
     }
 
+    /// Whether the endpoint is a client's that has asked, and has not been silent since.
+    fn is_client(&self, end: &Endpoint, now: u64) -> bool
+        ensures { (named : List ℕ) (older : List Placed) → IsAfter self.now named older → clock older ≤ now
+            → result ≡ is_client older now end.now }
+    {
+        match self.line(end, now) {
+            None => false,
+            Some(_) => true,
+        }
+    }
+
     /// Whether it is a request.
     fn asks(&self, seen: &Seen, is_spelled: bool, now: u64) -> bool
         ensures { (named : List ℕ) (older : List Placed) (d : Recorded) → IsAfter self.now named older → clock older ≤ now
@@ -240,7 +284,8 @@ impl Attribution {
         }
         let is_service = self.is_service(seen.target.port);
         let talks = self.talks(&seen.source, &seen.target, now);
-        goes_to_service(is_service, is_spelled, talks)
+        let is_client = self.is_client(&seen.target, now);
+        goes_to_service(is_service, is_spelled, talks, is_client)
     }
 
     /// Where a request belongs.
@@ -357,9 +402,38 @@ impl Attribution {
         match place.transfer() {
             None => Doubts::none(),
             Some(transfer) => match self.line(&transfer.client, now) {
-                None => Doubts::none(),
-                Some(line) => line.doubts(place, seen, payload),
+                None => self.doubts_of_first(place, seen, now),
+                Some(line) => {
+                    let is_after_strays = self.is_after_strays(&transfer.client, now);
+                    line.doubts(place, seen, payload, now, is_after_strays)
+                }
             },
+        }
+    }
+
+    /// The same where no line goes on: then it opens the transfer.
+    fn doubts_of_first(&self, place: &Place, seen: &Seen, now: u64) -> Doubts
+        ensures { (named : List ℕ) (older : List Placed) (d : Recorded) (x : Transfer) → IsAfter self.now named older → clock older ≤ now
+            → seen.now ≡ seen_of d → place.now ≡ Place.Opens x → live now (line x.client older) ≡ []
+            → result ≡ doubts_of (record { datagram = d; moment = now; place = Place.Opens x }) older }
+    {
+        match place {
+            Place::Opens(transfer) => {
+                let is_after_strays = self.is_after_strays(&transfer.client, now);
+                Doubts::of_first(seen.time < now, is_after_strays)
+            }
+            _ => Doubts::none(),
+        }
+    }
+
+    /// Whether something of no line passed at the endpoint in the last 300 s.
+    fn is_after_strays(&self, client: &Endpoint, now: u64) -> bool
+        ensures { (named : List ℕ) (older : List Placed) → IsAfter self.now named older → clock older ≤ now
+            → result ≡ is_near now (newest_of (is_stray_at client.now) older) }
+    {
+        match self.strays.get(client) {
+            Some(last) => is_recent(last.moment, now),
+            None => false,
         }
     }
 
@@ -376,7 +450,7 @@ impl Attribution {
             → seen.now ≡ seen_of d → d.payload ≡ payload.now → place.now ≡ place_of named older now d
             → OnOk result (AreLinesOf self.new.lines (record { datagram = d; moment = now; place = place.now } ∷ older)) }
         ensures others { self.new ≡ record self.old { lines = self.new.lines } }
-        ensures spare { takes_memory place.now ≡ false → IsOk result }
+        ensures spare { is_apart_from_lines place.now ≡ true → IsOk result }
     {
         match place {
             Place::Opens(transfer) => {
@@ -404,6 +478,43 @@ impl Attribution {
     }
 }
 
+/// Keeps that something of no line passed at both its endpoints.
+fn keep_strays(
+    strays: &mut BTreeMap<Endpoint, Strayed>,
+    place: &Place,
+    seen: &Seen,
+    now: u64,
+) -> Result<(), AllocError>
+    ensures spare { (d : Recorded) → seen.now ≡ seen_of d → takes_memory place.now d ≡ false → IsOk result }
+    ensures strays { (older : List Placed) (d : Recorded) → AreStrays strays.old older → clock older ≤ now → seen.now ≡ seen_of d
+        → OnOk result (AreStrays strays.new (record { datagram = d; moment = now; place = place.now } ∷ older)) }
+{
+    if is_apart_from_lines(place) && may_be_tftp(seen) {
+        let last = Strayed { moment: now };
+        strays.insert(seen.source, last)?;
+        strays.insert(seen.target, last)?;
+    }
+    Ok(())
+}
+
+/// Whether it begins as a packet of TFTP does, or goes to port 69 (RFC 1350, section 4).
+fn may_be_tftp(seen: &Seen) -> bool
+    ensures { (d : Recorded) → seen.now ≡ seen_of d → result ≡ may_be_tftp d }
+{
+    seen.kind.begins_packet || seen.target.port == 69
+}
+
+/// Whether what belongs there is of no line.
+fn is_apart_from_lines(place: &Place) -> bool
+    ensures { result ≡ is_apart_from_lines place.now }
+{
+    match place {
+        Place::Beside(_) => true,
+        Place::Nowhere => true,
+        _ => false,
+    }
+}
+
 /// Keeps that an endpoint sent to a client.
 fn keep_served(
     served: &mut BTreeMap<Endpoint, Served>,
@@ -411,7 +522,7 @@ fn keep_served(
     seen: &Seen,
     now: u64,
 ) -> Result<(), AllocError>
-    ensures spare { takes_memory place.now ≡ false → IsOk result }
+    ensures spare { is_apart_from_lines place.now ≡ true → IsOk result }
     ensures served { (older : List Placed) (d : Recorded) → AreServed served.old older → clock older ≤ now → seen.now ≡ seen_of d
         → OnOk result (AreServed served.new (record { datagram = d; moment = now; place = place.now } ∷ older)) }
 {
@@ -436,7 +547,7 @@ fn keep_served(
 
 /// Keeps to which port a request went.
 fn keep_service(services: &mut BTreeSet<u16>, place: &Place, port: u16) -> Result<(), AllocError>
-    ensures spare { takes_memory place.now ≡ false → IsOk result }
+    ensures spare { is_apart_from_lines place.now ≡ true → IsOk result }
     ensures services { (named : List ℕ) (older : List Placed) (d : Recorded) (now : ℕ) → AreServices services.old.keys named older → d.target.port ≡ port
         → OnOk result (AreServices services.new.keys named (record { datagram = d; moment = now; place = place.now } ∷ older)) }
 {
@@ -507,8 +618,8 @@ fn beside_by(one: Option<Transfer>, other: Option<Transfer>) -> Place
     }
 }
 
-fn goes_to_service(is_service: bool, is_spelled: bool, talks: bool) -> bool
-    ensures { result ≡ (is_service || (is_spelled && not talks)) }
+fn goes_to_service(is_service: bool, is_spelled: bool, talks: bool, is_client: bool) -> bool
+    ensures { result ≡ (is_service || (is_spelled && not talks && not is_client)) }
 {
-    is_service || (is_spelled && !talks)
+    is_service || (is_spelled && !talks && !is_client)
 }

@@ -1,7 +1,7 @@
 //! The doubts of one transfer, of all its datagrams.
 
 ghost use Rattle.std.specs.Prelude.{◌≡◌, ◌∷◌, ℕ, List, []};
-ghost use Rattle.tftp_lines.specs.{Placed, doubts_of, goes_over, is_late, is_disordered, is_asked_again};
+ghost use Rattle.tftp_lines.specs.{Placed, comes_in, doubts_of, follows_strays, follows_unanswered, goes_on_with_first, goes_over, is_late, is_disordered, is_asked_again};
 ghost use Rattle.tftp_transfers.specs.Doubts.{is_answered_apart, is_doubted, some_of};
 ghost use Rattle.tftp_transfers.specs.Kept.{IsDoubtedAfter};
 
@@ -16,6 +16,10 @@ pub struct TransferDoubts {
     is_disordered: bool,
     is_asked_again: bool,
     is_answered_apart: bool,
+    follows_strays: bool,
+    follows_unanswered: bool,
+    comes_in: bool,
+    goes_on_with_first: bool,
 }
 
 impl TransferDoubts {
@@ -31,6 +35,10 @@ impl TransferDoubts {
             is_disordered: false,
             is_asked_again: false,
             is_answered_apart: false,
+            follows_strays: false,
+            follows_unanswered: false,
+            comes_in: false,
+            goes_on_with_first: false,
         }
     }
 
@@ -46,6 +54,10 @@ impl TransferDoubts {
             self.is_late = doubts.is_late || self.is_late;
             self.is_disordered = doubts.is_disordered || self.is_disordered;
             self.is_asked_again = doubts.is_asked_again || self.is_asked_again;
+            self.follows_strays = doubts.follows_strays || self.follows_strays;
+            self.follows_unanswered = doubts.follows_unanswered || self.follows_unanswered;
+            self.comes_in = doubts.comes_in || self.comes_in;
+            self.goes_on_with_first = doubts.goes_on_with_first || self.goes_on_with_first;
         }
         if doubts.may_be_answer_of == Some(self.number) {
             self.is_answered_apart = true;
@@ -63,7 +75,12 @@ impl TransferDoubts {
     pub fn is_doubted(&self) -> bool
         ensures { (placed : List Placed) → IsDoubtedAfter self.now placed → result ≡ is_doubted self.now.number placed }
     {
-        self.goes_over || self.is_disordered || self.is_asked_again || self.is_answered_apart
+        self.goes_over
+            || self.is_disordered
+            || self.is_asked_again
+            || self.is_answered_apart
+            || self.follows_strays
+            || self.follows_unanswered
     }
 
     /// Whether a refusal at the datagram that was noted last, or at a later one, is doubtful at least.
@@ -99,5 +116,35 @@ impl TransferDoubts {
         ensures { (placed : List Placed) → IsDoubtedAfter self.now placed → result ≡ is_answered_apart self.now.number placed }
     {
         self.is_answered_apart
+    }
+
+    /// Whether something of no line passed at its client's endpoint in the 300 s before its request: a transfer may have been under
+    /// way whose request was not recorded.
+    pub fn follows_strays(&self) -> bool
+        ensures { (placed : List Placed) → IsDoubtedAfter self.now placed → result ≡ some_of self.now.number follows_strays placed }
+    {
+        self.follows_strays
+    }
+
+    /// Whether nobody had answered what its client had asked for before: what comes may be the late answer.
+    pub fn follows_unanswered(&self) -> bool
+        ensures { (placed : List Placed) → IsDoubtedAfter self.now placed → result ≡ some_of self.now.number follows_unanswered placed }
+    {
+        self.follows_unanswered
+    }
+
+    /// Whether something came to its client, up to the datagram that was noted last.
+    pub fn comes_in(&self) -> bool
+        ensures { (placed : List Placed) → IsDoubtedAfter self.now placed → result ≡ some_of self.now.number comes_in placed }
+    {
+        self.comes_in
+    }
+
+    /// Whether its client went on with who first sent it something; a refusal of a transfer in which it never did, once something has come, is
+    /// doubtful.
+    pub fn goes_on_with_first(&self) -> bool
+        ensures { (placed : List Placed) → IsDoubtedAfter self.now placed → result ≡ some_of self.now.number goes_on_with_first placed }
+    {
+        self.goes_on_with_first
     }
 }

@@ -2,12 +2,12 @@
 
 ghost use Rattle.std.specs.Prelude.{◌≡◌, ◌∷◌, ℕ, List, [], false};
 ghost use Rattle.tftp_rules.specs.{or_this};
-ghost use Rattle.tftp_lines.specs.{Placed, is_of};
-ghost use Rattle.tftp_transfers.specs.Views.{is_about, opened_it, comes, goes_on, server_of, has_host, has_port, is_end, is_server, is_at_server};
+ghost use Rattle.tftp_lines.specs.{Placed, Recorded, is_of};
+ghost use Rattle.tftp_transfers.specs.Views.{is_about, opened_it, comes, goes_on, goes_to_asked, server_of, has_host, has_port, is_end, is_server, is_at_server};
 ghost use Rattle.tftp_transfers.specs.Kept.{AreEndsAfter};
 ghost use Rattle.tftp_transfers.specs.Settled.{is_settled};
 
-use tftp_lines::{Endpoint, Place};
+use tftp_lines::{Endpoint, Place, Transfer};
 use tftp_packet::opcode;
 
 /// Whom a transfer's client asked, who answered it, and with whom it went on, by the datagrams that have been noted.
@@ -132,7 +132,9 @@ impl TransferEnds {
             Place::Opens(transfer) => transfer.number == self.number,
             Place::Repeats(transfer) => transfer.number == self.number,
             Place::Talks(transfer) => {
-                transfer.number == self.number && self.is_server(transfer.peer(source, target))
+                let is_asked = goes_to_asked(transfer, source, target);
+                let is_server = self.is_server(transfer.peer(source, target));
+                transfer.number == self.number && (is_server || is_asked)
             }
             Place::Beside(transfer) => {
                 let server = self.server();
@@ -150,6 +152,13 @@ impl TransferEnds {
         let answers = has_host(end, self.answered) || has_host(end, self.went_on);
         has_port(end, self.server()) && (has_host(end, self.asked) || answers)
     }
+}
+
+/// Whether the client sent it to where it had asked.
+fn goes_to_asked(transfer: &Transfer, source: Endpoint, target: Endpoint) -> bool
+    ensures { (d : Recorded) → d.source ≡ source → d.target ≡ target → result ≡ goes_to_asked transfer.now d }
+{
+    source == transfer.client && target == transfer.asked
 }
 
 /// The first end that was noted, after one datagram more.

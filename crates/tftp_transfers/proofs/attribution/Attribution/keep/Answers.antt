@@ -1,5 +1,5 @@
 use Rattle.std.proofs.Common.{◌+◌, length, refl, sym, ap, subst, add-one, ◌∙◌}
-use Rattle.tftp_transfers.specs.{AreServices, AreServed}
+use Rattle.tftp_transfers.specs.{AreServices, AreServed, AreStrays}
 use Rattle.tftp_transfers.proofs.attribution.Attribution.keep.Goals as goal
 
 pub returns-clause-stands : goal.returns-clause-stands
@@ -11,4 +11,5 @@ returns-clause-stands c named older d after later seen same placed = record {
       (subst (λ a. AreServices a.services.keys named older) (sym c.in_ok-keep_line.ensures.others) after.services) (sym (ap (λ s. s.target.port) seen));
   lines = c.in_ok-keep_line.ensures.lines named older d after later seen same placed;
   served = c.in_ok-keep_served.ensures.served older d (subst (λ a. AreServed a.served older) (sym c.in_ok-keep_line.ensures.others) after.served) later seen;
+  strays = c.in_ok-keep_strays.ensures.strays older d (subst (λ a. AreStrays a.strays older) (sym c.in_ok-keep_line.ensures.others) after.strays) later seen;
 }

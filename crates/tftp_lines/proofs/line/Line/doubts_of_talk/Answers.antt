@@ -1,0 +1,33 @@
+use Rattle.std.proofs.Common.{◌≡◌, false, List, Option, Some, None, sym, ap, ◌∙◌, ◌&&◌, not, is_some, if◌then◌else◌}
+use Rattle.std.specs.BTreeMap.{get}
+use Rattle.std.specs.Ordering.{nat_cmp}
+use Rattle.tftp_lines.specs.{Endpoint, Line, Placed, Talk, Transfer, same_endpoint, endpoint_cmp, other_of, other_end, live, line, latest_in, answered_in, may_answer, talk_in, is_another, is_past, is_the_one, acked_0_in, answer_of, answered_last, IsLineOf}
+use Rattle.tftp_lines.specs.Doubting.{talked_in}
+use Rattle.tftp_lines.proofs.line.Line.doubts_of_talk.Goals as goal
+
+last_by : (ps : List Placed) (l : Line) → IsLineOf l ps → l.answered ≡ answered_last ps
+last_by ps l stands = rw stands.latest (sym stands.answered)
+
+pub returns : goal.returns
+returns c d now older client stands seen =
+    let x : Transfer = c.args.transfer.now in
+    let l : Line = c.args.self.now in
+    let before : List Placed = live now (line c.args.transfer.now.client older) in
+    let other : c.other_end-other.result ≡ other_of c.args.transfer.now.client d = c.other_end-other.ensures ∙ ap (other_end c.args.transfer.now.client) seen in
+    let talk : get endpoint_cmp c.args.self.now.talks c.other_end-other.result ≡ talk_in c.args.transfer.now.client (other_of c.args.transfer.now.client d) (live now (line c.args.transfer.now.client older)) =
+        stands.talks c.other_end-other.result ∙ (λ i. talk_in (client i) (other i) (live now (line c.args.transfer.now.client older))) in
+    λ i. record {
+      goes_over = (c.has_other.ensures ∙ ap (λ t. is_another c.args.transfer.now (talked_in t)) talk) i;
+      is_late = (c.is_behind.ensures ∙ ap (is_another c.args.transfer.now) (sym stands.latest)) i;
+      is_disordered = (c.has_later.ensures ∙ ap (λ s. is_past s.time (get nat_cmp c.args.self.now.newest c.args.transfer.now.number)) seen ∙ sym (stands.newest c.args.transfer.now.number d.time)) i;
+      is_asked_again = false;
+      may_be_answer_of = (c.answers_instead.ensures d seen
+          ∙ (λ j. if is_another c.args.transfer.now (Some c.args.self.now.latest) && (may_answer c.args.transfer.now.client (other j) (sym stands.answered j) d && ((seen j).kind.is_data_1 && acked_0_in (talk j))) then Some c.args.self.now.latest.number else None)
+          ∙ sym (ap (answer_of c.args.transfer.now (other_of c.args.transfer.now.client d) (live now (line c.args.transfer.now.client older)) d) stands.latest)) i;
+      comes_in = (c.eq.ensures ∙ ap (λ s. same_endpoint s.target c.args.transfer.now.client) seen) i;
+      goes_on_with_first = (c.goes_on_with_first.ensures
+          ∙ (λ j. (same_endpoint (seen j).source c.args.transfer.now.client && not (seen j).kind.begins_unknown_id) && not (is_another c.args.transfer.now (sym stands.latest j)) && is_the_one (seen j).target (last_by before l stands j))) i;
+      speaks_first = (c.speaks_first.ensures ∙ (λ j. same_endpoint (seen j).source c.args.transfer.now.client && not (is_some (talk j)))) i;
+      follows_strays = false;
+      follows_unanswered = false;
+    }
