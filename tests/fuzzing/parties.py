@@ -401,6 +401,7 @@ class Session(End):
         self.close()
 
     def take(self, payload: bytes) -> None:
+        self.server.in_vain.setdefault(self.client, set()).discard(self.own.port)
         self.witness_take(payload)
         code = opcode(payload)
         if code == 5:
@@ -453,16 +454,19 @@ class Server:
     sessions: dict[tuple[Endpoint, Endpoint], Session] = field(default_factory=dict)
     aborted: set[Endpoint] = field(default_factory=set)
     agreed: dict[bytes, dict[bytes, int]] = field(default_factory=dict)
+    # of each client the ports from which nothing was taken up: answers to a request that was repeated
+    in_vain: dict[Endpoint, set[int]] = field(default_factory=dict)
     next: int = 0
 
-    def port(self) -> Endpoint:
+    def port(self, client: Endpoint) -> Endpoint:
         if self.kind == "service":
             return self.service
         if self.kind == "one":
             return Endpoint(self.service.host, self.ports[0])
         busy = {own.port for own, _ in self.sessions}
         if self.world.has("reused"):
-            free = [port for port in self.ports if port not in busy]
+            in_vain = () if self.world.has("reused_in_vain") else self.in_vain.get(client, ())
+            free = [port for port in self.ports if port not in busy and port not in in_vain]
             if free:
                 return Endpoint(self.service.host, free[0])
         self.next += 1
@@ -516,10 +520,11 @@ class Server:
                 if one.witness:
                     one.witness.note(False, self.service, source, payload)
             return
-        one = Session(self, self.port(), source, payload, request)
+        one = Session(self, self.port(source), source, payload, request)
         former = self.sessions.get((one.own, source))
         if former:
             former.age += 1
         self.sessions[one.own, source] = one
+        self.in_vain.setdefault(source, set()).add(one.own.port)
         self.aborted.discard(source)
         one.begin()

@@ -37,6 +37,7 @@ KINDS: dict[str, str] = {
     "one": "a server of one port beside the service port",
     "service": "a server that answers from the service port",
     "reused": "a server's port is used again at once",
+    "reused_in_vain": "and for the same client, though an answer from it to a repeated request may be under way",
     "restarts": "a server answers each copy of a request anew",
     "new_ports": "a client takes a new port for each transfer",
     "own_again": "a client takes one of two ports for each transfer",
@@ -54,6 +55,9 @@ KINDS: dict[str, str] = {
     "clock_ahead": "a foreign frame is ahead of the clock",
     "clock_back": "the recorder's clock is set back",
 }
+# What the definition does not carry yet: drawn only where it is named.
+OPEN = frozenset(("reused_in_vain",))
+DRAWN = tuple(kind for kind in KINDS if kind not in OPEN)
 STRANGER, FOREIGN = "10.3.0.9", "10.4.0.1"
 LONGEST = 70
 JUNK = (b"", b"?", b"\0", b"\0\4", b"\0\3\0", b"\0\0\0\0", b"\0\7", b"\0\5\0\1", b"\xff" * 9)
@@ -336,7 +340,7 @@ ALWAYS = frozenset(("loss",))
 APART = (("new_ports", "own_again"), ("one", "service", "reused"), ("shared_host", "hairpin"))
 
 
-def drawn_kinds(seed: int, allowed: Iterable[str] = KINDS) -> frozenset[str]:
+def drawn_kinds(seed: int, allowed: Iterable[str] = DRAWN) -> frozenset[str]:
     """Some of the kinds, of those that are allowed."""
     drawn, names = random.Random(seed ^ 0x5EED), sorted(allowed)
     chance = drawn.choice((0.1, 0.25, 0.5))
@@ -348,5 +352,5 @@ def drawn_kinds(seed: int, allowed: Iterable[str] = KINDS) -> frozenset[str]:
     return frozenset(found)
 
 
-def world_of(seed: int, allowed: Iterable[str] = KINDS) -> Drawn:
+def world_of(seed: int, allowed: Iterable[str] = DRAWN) -> Drawn:
     return Drawn(seed, drawn_kinds(seed, allowed)).run()
