@@ -86,7 +86,10 @@ class Transfer:
     beside: list[tuple[Datagram, Endpoint]] = field(default_factory=list)
     answered: Optional[Endpoint] = None
     went_on: Optional[Endpoint] = None
+    # the greatest time of what passed at the client, whether something came to it, and whether something is out of order
     newest: int = 0
+    is_answered: bool = False
+    is_left_out: bool = False
     # whether the client went on with who first sent it something, and those that it sent to where nothing had passed
     is_followed: bool = False
     spoken_first: set[int] = field(default_factory=set)
@@ -124,6 +127,12 @@ class Transfer:
             told.append("ERROR 5 may answer what came late")
         if end == "server" and number in self.spoken_first:
             told.append("nothing had passed there between the two")
+        if not self.is_answered and number != self.seen[0].number:
+            told.append("nothing that came to its client is there: one direction only")
+        if self.is_left_out:
+            told.append("a frame is out of order, and by its time may be of this transfer")
+        if any(it.number == number and it.source != self.client and not self.is_with_server(it) for it in self.seen):
+            told.append("neither its client nor its server sent the datagram")
         if end == "server" and any(it.number == number for it, _ in self.beside):
             told.append("it passed with another than the client, whose request may not have been recorded")
         ways = [it.way() for it in self.seen]
@@ -164,6 +173,11 @@ class Attribution:
     def __init__(self, named: Iterable[int] = ()) -> None:
         self.services = {TFTP, *named}
         self.clock, self.count = 0, 0
+        # the last datagram's time, and the greatest that two in a row have reached
+        self.last, self.reached = 0, 0
+        # of what is of no transfer the greatest time at each endpoint, and the newest transfer of each client
+        self.left_out: dict[Endpoint, int] = {}
+        self.newest: dict[Endpoint, Transfer] = {}
         self.lines: dict[Endpoint, Line] = {}
         self.loose: dict[Endpoint, int] = {}
         self.served: dict[Endpoint, tuple[Transfer, int]] = {}
@@ -172,8 +186,21 @@ class Attribution:
 
     def take(self, it: Datagram) -> None:
         self.clock = max(self.clock, it.nanoseconds())
+        self.reached = max(self.reached, min(self.last, it.nanoseconds()))
+        self.last = it.nanoseconds()
         self.places.append(self.place_of(it))
         self.count += 1
+        if self.places[-1].kind == "nowhere":
+            self.leave_out(it)
+
+    def leave_out(self, it: Datagram) -> None:
+        """By its time it may be of its client's newest transfer, or of one that is asked for behind it."""
+        for end in (it.source, it.target):
+            one = self.newest.get(end)
+            if one and max(it.nanoseconds(), self.reached) <= one.newest + SILENCE:
+                one.is_left_out = True
+            if begins_packet(it.payload):
+                self.left_out[end] = max(self.left_out.get(end, 0), it.nanoseconds())
 
     def line(self, client: Endpoint) -> Optional[Line]:
         line = self.lines.get(client)
@@ -196,6 +223,7 @@ class Attribution:
         if it.nanoseconds() < (one.newest if one.seen else self.clock):
             one.doubts.append(Doubt(0, "disordered", "its datagrams are not in the order of their times"))
         one.newest = max(one.newest, it.nanoseconds())
+        one.is_answered |= it.target == one.client
         one.seen.append(it)
 
     def asks(self, it: Datagram) -> bool:
@@ -210,6 +238,8 @@ class Attribution:
             line.moment = self.clock
             return line.latest
         one = Transfer(self.count, it.source, it.target)
+        one.is_left_out = self.left_out.get(it.source, 0) > it.nanoseconds()
+        self.newest[it.source] = one
         self.transfers.append(one)
         if self.clock <= self.loose.get(it.source, -2 * SILENCE) + SILENCE:
             one.doubts.append(Doubt(0, "strays", "something of no transfer had passed at its client's endpoint"))
