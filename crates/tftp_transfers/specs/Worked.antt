@@ -1,6 +1,6 @@
 -- Recordings, the newest datagram first, with times in seconds.
-use Rattle.std.specs.Prelude.{ℕ, ◌*◌, Bool, true, false, List, [], ◌∷◌, ◌++◌, map, codes}
-use Rattle.tftp_lines.specs.{V4, Endpoint, Recorded, Place, Placed, is_late}
+use Rattle.std.specs.Prelude.{ℕ, ◌*◌, ◌&&◌, not, Bool, true, false, List, [], ◌∷◌, ◌++◌, map, codes}
+use Rattle.tftp_lines.specs.{V4, Endpoint, Recorded, Place, Placed, comes_in, follows_strays, follows_unanswered, goes_on_with_first, is_late, speaks_first}
 use Rattle.tftp_transfers.specs.Places.{placed}
 use Rattle.tftp_transfers.specs.Views.{client_view, server_view}
 use Rattle.tftp_transfers.specs.Doubts.{is_doubted, some_of}
@@ -154,6 +154,60 @@ other_service =
     ∷ requests 0 client (at 1 1069) (codes "f")
     ∷ []
 
+-- The client asks for the same file once more, and spells the mode in capitals.
+abbrev pub respelled : List Recorded
+respelled =
+    passes 3 client server (ack_of 1)
+    ∷ passes 2 server client (data_of 1)
+    ∷ record { time = second; source = client; target = service; payload = 0 ∷ 1 ∷ codes "f" ++ 0 ∷ codes "OCTET" ++ 0 ∷ []; is_spelled = true }
+    ∷ requests 0 client service (codes "f")
+    ∷ []
+
+-- The client gives up a request for another, and the answer to the first comes late; it goes on with who answers the other.
+abbrev pub late_answer : List Recorded
+late_answer =
+    passes 5 client next_server (ack_of 1)
+    ∷ passes 4 next_server client (data_of 1)
+    ∷ passes 3 client server (error_of 5)
+    ∷ passes 2 server client (data_of 1)
+    ∷ requests 1 client service (codes "g")
+    ∷ requests 0 client service (codes "f")
+    ∷ []
+
+-- A stranger sends the client a whole request, and is told so.
+abbrev pub stray_request : List Recorded
+stray_request =
+    passes 3 client stranger (error_of 5)
+    ∷ requests 2 stranger client (codes "h")
+    ∷ passes 1 server client (data_of 1)
+    ∷ requests 0 client service (codes "f")
+    ∷ []
+
+-- The recording begins in the middle of a transfer, behind which the client asks for another.
+abbrev pub begun_late : List Recorded
+begun_late =
+    passes 2 server client (data_of 1)
+    ∷ requests 1 client service (codes "g")
+    ∷ passes 0 server client (data_of 9)
+    ∷ []
+
+-- The same, 301 s later.
+abbrev pub begun_long_ago : List Recorded
+begun_long_ago =
+    requests 301 client service (codes "g")
+    ∷ passes 0 server client (data_of 9)
+    ∷ []
+
+-- The client sends an ACK to the port that it had asked, and one to a port from which it had heard nothing.
+abbrev pub wrong_ports : List Recorded
+wrong_ports =
+    passes 4 client next_server (ack_of 1)
+    ∷ passes 3 client service (ack_of 1)
+    ∷ passes 2 client server (ack_of 1)
+    ∷ passes 1 server client (data_of 1)
+    ∷ requests 0 client service (codes "f")
+    ∷ []
+
 -- ---- views and doubts, by the payloads
 
 abbrev pub seen_by_client : ℕ → List Recorded → List (List ℕ)
@@ -167,3 +221,18 @@ is_doubted_in n recorded = is_doubted n (placed [] recorded)
 
 abbrev pub is_late_in : ℕ → List Recorded → Bool
 is_late_in n recorded = some_of n is_late (placed [] recorded)
+
+-- something came to its client, which did not go on with who sent it first
+abbrev pub is_astray_in : ℕ → List Recorded → Bool
+is_astray_in n recorded = some_of n comes_in (placed [] recorded) && not (some_of n goes_on_with_first (placed [] recorded))
+
+abbrev pub follows_strays_in : ℕ → List Recorded → Bool
+follows_strays_in n recorded = some_of n follows_strays (placed [] recorded)
+
+abbrev pub follows_unanswered_in : ℕ → List Recorded → Bool
+follows_unanswered_in n recorded = some_of n follows_unanswered (placed [] recorded)
+
+-- of each datagram whether its client spoke first by it
+abbrev pub first_words : List Placed → List Bool
+first_words [] = []
+first_words (p ∷ older) = speaks_first p older ∷ first_words older

@@ -2,7 +2,7 @@
 
 ghost use Rattle.std.specs.Prelude.{◌≡◌, ◌≢◌, ◌⊎◌, ◌≤◌, ℕ, List, true, false, [], ◌∷◌, codes, filter, length};
 ghost use Rattle.std.specs.List.{All};
-ghost use Rattle.tftp_lines.specs.{Recorded, Placed, live, line, is_of, Place, Transfer};
+ghost use Rattle.tftp_lines.specs.{Recorded, Placed, asked_part, live, line, is_of, Place, Transfer};
 ghost use Rattle.tftp_transfers.specs.Places.{place_of, placed};
 ghost use Rattle.tftp_transfers.specs.Settled.{is_settled};
 ghost use Rattle.tftp_transfers.specs.Views.{client_view, is_about, is_at_server, server_of, server_view};
@@ -26,6 +26,16 @@ ghost use Rattle.tftp_transfers.specs.Worked.{
   seen_by_server,
   is_doubted_in,
   is_late_in,
+  respelled,
+  late_answer,
+  stray_request,
+  begun_late,
+  begun_long_ago,
+  wrong_ports,
+  is_astray_in,
+  follows_strays_in,
+  follows_unanswered_in,
+  first_words,
 };
 
 /// A request that stands beside its equal repeats, and a stray is of the transfer at its client.
@@ -90,6 +100,30 @@ pub fn doubts_are_where_transfers_meet()
     ensures reset { is_doubted_in 3 reset ≡ false }
     ensures late { is_late_in 0 reset ≡ true }
     ensures in_time { is_late_in 3 reset ≡ false }
+{}
+
+/// What comes to a client's own port is no request, whatever it spells.
+pub fn a_client_is_asked_for_nothing()
+    ensures { where_all stray_request ≡ Where.Client 0 ∷ Where.Client 0 ∷ Where.Client 0 ∷ Where.Opens 0 ∷ [] }
+{}
+
+/// A request for the same file may be a retransmission, in whatever spelling; and what may be answered late, or was under way
+/// before, makes a refusal doubtful.
+pub fn doubts_are_where_answers_may_be_late()
+    ensures part { asked_part (read_of (codes "f")) ≡ 0 ∷ 1 ∷ codes "f" }
+    ensures respelled { is_doubted_in 1 respelled ≡ true }
+    ensures unanswered { follows_unanswered_in 1 late_answer ≡ true }
+    ensures answered { follows_unanswered_in 3 reset ≡ false }
+    ensures astray { is_astray_in 1 late_answer ≡ true }
+    ensures followed { is_astray_in 0 asked_twice ≡ false }
+    ensures begun { follows_strays_in 1 begun_late ≡ true }
+    ensures long_ago { follows_strays_in 1 begun_long_ago ≡ false }
+    ensures spoken { first_words (placed [] wrong_ports) ≡ true ∷ true ∷ false ∷ false ∷ false ∷ [] }
+{}
+
+/// The server sees what its client sends to the port that it had asked.
+pub fn the_server_sees_its_service_port()
+    ensures { seen_by_server 0 wrong_ports ≡ ack_of 1 ∷ ack_of 1 ∷ data_of 1 ∷ read_of (codes "f") ∷ [] }
 {}
 
 /// Where a client's line has been silent for more than 300 s, no datagram joins a transfer of that client.

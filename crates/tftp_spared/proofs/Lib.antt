@@ -1,0 +1,16 @@
+pub mod Basics
+pub mod Stands
+pub mod Places
+pub mod Talks
+pub mod Requests
+pub mod Recordings
+pub mod Owned
+pub mod Clients
+pub mod Views
+pub mod Repeated
+pub mod Rules
+pub mod Alike
+pub mod Begun
+pub mod Lawful
+pub mod Spared
+pub mod Whole

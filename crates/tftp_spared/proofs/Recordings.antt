@@ -1,0 +1,229 @@
+-- A whole recording at one client, whose captures follow one another.
+use Rattle.std.proofs.Common.{◌≡◌, ◌≤◌, ℕ, ◌+◌, Bool, true, false, List, [], ◌∷◌, ◌++◌, refl, sym, ap, subst, ◌∙◌, ◌==◌, ◌&&◌, ◌||◌, not, map, length, nat_le, max, is_some, ne_eqb, arith, if◌then◌else◌}
+use Rattle.std.specs.List.{list_any, AllByRecursion}
+use Rattle.std.proofs.lemmas.Bool.{or_left, and_from, and_parts, eq-eqb, le-leb}
+use Rattle.tftp_lines.specs.{Address, Endpoint, Place, Opens, Repeats, Talks, Transfer, Recorded, Placed, same_endpoint, other_of, is_of, is_request, is_at, live, line, latest_in, clock, silence, begins_request, place_asked, place_at, talk_in, goes}
+use Rattle.tftp_transfers.specs.{asks, at_client, beside, either, is_client, is_nowhere, is_service, place_of, placed}
+use Rattle.tftp_lines.proofs.Endpoints.{is_same}
+use Rattle.tftp_lines.proofs.Lines.{by_test}
+use Rattle.tftp_lines.proofs.Silences.{live_is, live_not}
+use Rattle.tftp_transfers.proofs.AllLines.{line_here, line_elsewhere}
+use Rattle.tftp_transfers.proofs.Numbers.{AreBelow, IsBelow, placed_below, length_placed}
+use Rattle.tftp_spared.specs.{AreCaptures, AreInOrder, Follow, Follows, begins, goes_on, asks_from, goes_from}
+use Rattle.tftp_spared.proofs.Places.{comes_to_it}
+use Rattle.tftp_spared.proofs.Stands.{new, Has}
+use Rattle.tftp_spared.proofs.Talks.{talk_step, no_begin}
+use Rattle.tftp_spared.proofs.Requests.{request_step, begin_step, next_step}
+
+-- ---- an endpoint at which none passed has no line
+
+pub no_line : (e : Endpoint) (older : List Placed) → AllByRecursion (λ q. is_at e q ≡ false) older → line e older ≡ []
+no_line e [] none = refl
+no_line e (q ∷ older) none = line_elsewhere e q older none.0 ∙ no_line e older none.1
+
+-- ---- what holds of all holds of a line
+
+live_all : (P : Placed → Type 0) (now : ℕ) (ps : List Placed) → AllByRecursion P ps → AllByRecursion P (live now ps)
+live_all P now [] all = tt
+live_all P now (p ∷ ps) all = by_test (nat_le now (p.moment + silence))
+    (λ is. subst (AllByRecursion P) (sym (ap (λ b. if b then p ∷ ps else []) is)) all)
+    (λ off. subst (AllByRecursion P) (sym (ap (λ b. if b then p ∷ ps else []) off)) tt)
+
+pub line_all : (P : Placed → Type 0) (c : Endpoint) (older : List Placed) → AllByRecursion P older → AllByRecursion P (line c older)
+line_all P c [] all = tt
+line_all P c (p ∷ older) all = by_test (is_at c p)
+    (λ is. subst (AllByRecursion P) (sym (line_here c p older is)) (all.0, live_all P p.moment (line c older) (line_all P c older all.1)))
+    (λ off. subst (AllByRecursion P) (sym (line_elsewhere c p older off)) (line_all P c older all.1))
+
+live_either : {P : Type 0} (now : ℕ) (ps : List Placed) → (live now ps ≡ [] → P) → (live now ps ≡ ps → P) → P
+live_either now ps if_silent if_live = by_test (nat_le now (clock ps + silence)) (λ is. if_live (live_is now ps is)) (λ off. if_silent (live_not now ps off))
+
+-- ---- no datagram has the number of the next
+
+below_is : (bound n : ℕ) (d : Recorded) (now : ℕ) (place : Place) → bound ≤ n → IsBelow bound place → is_of n (new d now place) ≡ false
+below_is bound n d now (Opens x) up below = ne_eqb x.number n (λ e. omega arith)
+below_is bound n d now (Repeats x) up below = ne_eqb x.number n (λ e. omega arith)
+below_is bound n d now (Talks x) up below = ne_eqb x.number n (λ e. omega arith)
+below_is bound n d now _ up below = refl
+
+all_fresh : (bound n : ℕ) → bound ≤ n → (ps : List Placed) → AreBelow bound ps → AllByRecursion (λ q. is_of n q ≡ false) ps
+all_fresh bound n up [] all = tt
+all_fresh bound n up (p ∷ ps) all = (below_is bound n p.datagram p.moment p.place up all.0, all_fresh bound n up ps all.1)
+
+pub fresh : (ds : List Recorded) → AllByRecursion (λ q. is_of (length (placed [] ds)) q ≡ false) (placed [] ds)
+fresh ds = all_fresh (length ds) (length (placed [] ds)) (rw (length_placed [] ds) (omega arith)) (placed [] ds) (placed_below [] ds)
+
+-- ---- places
+
+service_is : (older : List Placed) (port : ℕ) → port ≡ 69 → is_service [] older port ≡ true
+service_is older port is = or_left ((port == 69) || list_any (λ n. n == port) []) (list_any (λ p. is_request p && (p.datagram.target.port == port)) older)
+    (or_left (port == 69) (list_any (λ n. n == port) []) (eq-eqb port 69 is))
+
+pub request_place : (c : Endpoint) (older : List Placed) (now : ℕ) (d : Recorded) → asks_from c d ≡ true → d.target.port ≡ 69 → place_of [] older now d ≡ place_asked (length older) d (live now (line c older))
+request_place c older now d is service =
+    let parts = and_parts (goes_from c d) (begins_request d.payload) is in
+    let asked : asks [] older now d ≡ true = and_from (begins_request d.payload) (is_service [] older d.target.port || (d.is_spelled && not (is_some (talk_in d.source d.target (live now (line d.source older)))) && not (is_client older now d.target))) parts.1
+    (or_left (is_service [] older d.target.port) (d.is_spelled && not (is_some (talk_in d.source d.target (live now (line d.source older)))) && not (is_client older now d.target)) (service_is older d.target.port service)) in
+    ap (λ b. if b then place_asked (length older) d (live now (line d.source older)) else if is_nowhere (at_client older now d) then beside [] older now d else at_client older now d) asked
+    ∙ ap (λ e. place_asked (length older) d (live now (line e older))) (is_same d.source c parts.0)
+
+client_sent : (c : Endpoint) (older : List Placed) (now : ℕ) (d : Recorded) (y : Transfer) → goes_from c d ≡ true → place_at c (other_of c d) (live now (line c older)) d ≡ Talks y → at_client older now d ≡ Talks y
+client_sent c older now d y from place =
+    let there = place_at d.target d.source (live now (line d.target older)) d in
+    ap (λ e. either (place_at e d.target (live now (line e older)) d) (place_at d.target d.source (live now (line d.target older)) d)) (is_same d.source c from)
+    ∙ ap (λ o. either (place_at c o (live now (line c older)) d) (place_at d.target d.source (live now (line d.target older)) d)) (sym (ap (λ b. if b then d.target else d.source) from))
+    ∙ ap (λ p. either p (place_at d.target d.source (live now (line d.target older)) d)) place
+
+client_took : (c : Endpoint) (older : List Placed) (now : ℕ) (d : Recorded) (y : Transfer) → line d.source older ≡ [] → goes_from c d ≡ false → goes (other_of c d) c d ≡ true
+    → place_at c (other_of c d) (live now (line c older)) d ≡ Talks y → at_client older now d ≡ Talks y
+client_took c older now d y none off came place =
+    let to = and_parts (same_endpoint d.source (other_of c d)) (same_endpoint d.target c) came in
+    ap (λ l. either (place_at d.source d.target (live now l) d) (place_at d.target d.source (live now (line d.target older)) d)) none
+    ∙ ap (λ e. place_at e d.source (live now (line e older)) d) (is_same d.target c to.1)
+    ∙ ap (λ o. place_at c o (live now (line c older)) d) (sym (ap (λ b. if b then d.target else d.source) off))
+    ∙ place
+
+pub talk_place : (c : Endpoint) (older : List Placed) (now : ℕ) (d : Recorded) (y : Transfer) → (goes_from c d ≡ false → line d.source older ≡ []) → asks [] older now d ≡ false
+    → (goes_from c d ≡ false → goes (other_of c d) c d ≡ true) → place_at c (other_of c d) (live now (line c older)) d ≡ Talks y → place_of [] older now d ≡ Talks y
+talk_place c older now d y none plain came place =
+    let at : at_client older now d ≡ Talks y = by_test (goes_from c d) (λ from. client_sent c older now d y from place) (λ off. client_took c older now d y (none off) off (came off) place) in
+    ap (λ b. if b then place_asked (length older) d (live now (line d.source older)) else if is_nowhere (at_client older now d) then beside [] older now d else at_client older now d) plain
+    ∙ ap (λ p. if is_nowhere p then beside [] older now d else p) at
+
+-- ---- what does not ask
+
+-- requests go to the service port
+abbrev pub AreServed69 : List Placed → Type 0
+AreServed69 older = AllByRecursion (λ q. is_request q ≡ true → q.datagram.target.port ≡ 69) older
+
+none_to : (port : ℕ) (older : List Placed) → (port ≡ 69 → ⊥) → AreServed69 older → list_any (λ p. is_request p && (p.datagram.target.port == port)) older ≡ false
+none_to port [] other served = refl
+none_to port (q ∷ older) other served =
+    let off : (is_request q && (q.datagram.target.port == port)) ≡ false = by_test (is_request q)
+    (λ is. ap (λ b. b && (q.datagram.target.port == port)) is ∙ ne_eqb q.datagram.target.port port (λ same. other (sym same ∙ served.0 is)))
+    (λ no. ap (λ b. b && (q.datagram.target.port == port)) no) in
+    ap (λ b. b || list_any (λ p. is_request p && (p.datagram.target.port == port)) older) off ∙ none_to port older other served.1
+
+no_service : (port : ℕ) (older : List Placed) → (port ≡ 69 → ⊥) → AreServed69 older → is_service [] older port ≡ false
+no_service port older other served =
+    ap (λ b. (b || list_any (λ n. n == port) []) || list_any (λ p. is_request p && (p.datagram.target.port == port)) older) (ne_eqb port 69 other) ∙ none_to port older other served
+
+-- what says no request
+plain_asks : (older : List Placed) (now : ℕ) (d : Recorded) → begins_request d.payload ≡ false → asks [] older now d ≡ false
+plain_asks older now d plain =
+    ap (λ b. b && (is_service [] older d.target.port || (d.is_spelled && not (is_some (talk_in d.source d.target (live now (line d.source older)))) && not (is_client older now d.target)))) plain
+
+and_none : (b : Bool) → (b && false) ≡ false
+and_none true = refl
+and_none false = refl
+
+-- what comes to a client whose line goes on
+came_asks : (c : Endpoint) (older : List Placed) (now : ℕ) (d : Recorded) → (c.port ≡ 69 → ⊥) → AreServed69 older → d.target ≡ c → is_client older now c ≡ true → asks [] older now d ≡ false
+came_asks c older now d other served to client =
+    let service : is_service [] older d.target.port ≡ false = ap (λ e. is_service [] older e.port) to ∙ no_service c.port older other served in
+    let there : is_client older now d.target ≡ true = ap (is_client older now) to ∙ client in
+    (λ i. begins_request d.payload && (service i || (d.is_spelled && not (is_some (talk_in d.source d.target (live now (line d.source older)))) && not (there i))))
+    ∙ ap (λ b. begins_request d.payload && b) (and_none (d.is_spelled && not (is_some (talk_in d.source d.target (live now (line d.source older))))))
+    ∙ and_none (begins_request d.payload)
+
+-- ---- the recording
+
+abbrev pub IsOnTime : Placed → Type 0
+IsOnTime q = q.moment ≡ q.datagram.time
+
+pub data Standing (c : Endpoint) (k : List Recorded) (older : List Placed) : Type 0 where
+  nothing : line c older ≡ [] → k ≡ [] → Standing c k older
+  standing : (kp rest : List Placed) (x : Transfer) → Has c k older kp rest x → Standing c k older
+
+cons_first : (x y : Recorded) (xs ys : List Recorded) → x ∷ xs ≡ y ∷ ys → x ≡ y
+cons_first x y xs ys e = cc
+
+-- the newest of the line is the newest of the capture
+live_on : (c : Endpoint) (e : Recorded) (k : List Recorded) (older kp rest : List Placed) (x : Transfer) (now : ℕ) → Has c (e ∷ k) older kp rest x → AllByRecursion IsOnTime older → now ≤ e.time + silence
+    → live now (line c older) ≡ line c older
+live_on c e k older [] rest x now has clear near = absurd (has.some refl)
+live_on c e k older (q ∷ ps) rest x now has clear near =
+    let this : q.datagram ≡ e = cons_first q.datagram e (map (λ p. p.datagram) ps) k has.are in
+    let all : AllByRecursion IsOnTime (q ∷ ps ++ rest) = subst (AllByRecursion IsOnTime) has.whole (line_all IsOnTime c older clear) in
+    let moment : q.moment ≡ e.time = all.0 ∙ ap (λ d. d.time) this in
+    live_is now (line c older) (ap (λ l. nat_le now (clock l + silence)) has.whole ∙ ap (λ m. nat_le now (m + silence)) moment ∙ le-leb now (e.time + silence) near)
+
+-- ---- the times
+
+later : (d : Recorded) (at : ℕ) → at ≤ d.time → max d.time at ≡ d.time
+later d at below = omega arith
+
+clock_on : (d : Recorded) (ds : List Recorded) → AreInOrder (d ∷ ds) → AllByRecursion IsOnTime (placed [] ds) → max d.time (clock (placed [] ds)) ≡ d.time
+clock_on d [] order on_time = later d 0 (omega arith)
+clock_on d (e ∷ ds) order on_time = ap (λ t. max d.time t) on_time.0 ∙ later d e.time order.0
+
+pub order_rest : (d : Recorded) (ds : List Recorded) → AreInOrder (d ∷ ds) → AreInOrder ds
+order_rest d [] order = tt
+order_rest d (e ∷ ds) order = order.1
+
+pub on_time : (ds : List Recorded) → AreInOrder ds → AllByRecursion IsOnTime (placed [] ds)
+on_time [] order = tt
+on_time (d ∷ ds) order = let before = on_time ds (order_rest d ds order) in (clock_on d ds order before, before)
+
+pub clock_now : (d : Recorded) (ds : List Recorded) → AreInOrder (d ∷ ds) → max d.time (clock (placed [] ds)) ≡ d.time
+clock_now d ds order = clock_on d ds order (on_time ds (order_rest d ds order))
+
+-- ---- each of a capture, after those before it
+
+module _ (write : Address → List ℕ) (c : Endpoint) where
+  pub captures_follow : (ds k : List Recorded) → AreCaptures write c ds k → Follow c k
+  captures_follow [] k is = subst (Follow c) (sym is) tt
+  captures_follow (d ∷ ds) k (begins k0 before follows lawful is) = subst (Follow c) (sym is) (follows, tt)
+  captures_follow (d ∷ ds) k (goes_on e k0 before follows near lawful is) = subst (Follow c) (sym is) (follows, captures_follow ds (e ∷ k0) before)
+
+  abbrev pub Next : List Recorded → Recorded → List Placed → ℕ → Place → Type 0
+  Next k d older now place = (kp rest : List Placed) × (x : Transfer) × Has c (d ∷ k) (new d now place ∷ older) (new d now place ∷ kp) rest x
+
+  -- the first of a capture
+  pub first_next : (ds k0 : List Recorded) (d : Recorded) → Follow c k0 → Follows c [] d → Standing c k0 (placed [] ds)
+      → (now : ℕ) → Next [] d (placed [] ds) now (place_of [] (placed [] ds) now d)
+  first_next ds k0 d before follows stands now = subst (Next [] d (placed [] ds) now) (sym (request_place c (placed [] ds) now d is (follows.service is))) (live_either now (line c (placed [] ds)) silent live_case) where
+    is : asks_from c d ≡ true
+    is = follows.first refl
+
+    Goal : Type 0
+    Goal = Next [] d (placed [] ds) now (place_asked (length (placed [] ds)) d (live now (line c (placed [] ds))))
+
+    silent : live now (line c (placed [] ds)) ≡ [] → Goal
+    silent none = let (rest, y, has) = begin_step c (placed [] ds) d now follows none (fresh ds) in ([], rest, y, has)
+
+    by : live now (line c (placed [] ds)) ≡ line c (placed [] ds) → Standing c k0 (placed [] ds) → Goal
+    by lived (nothing none empty) = silent (ap (live now) none)
+    by lived (standing kp rest x has) =
+        let (more, y, next) = next_step c k0 (placed [] ds) kp rest x d now has before follows lived (fresh ds)
+        (line_all (λ q. is_of (length (placed [] ds)) q ≡ false) c (placed [] ds) (fresh ds)) in
+        ([], more, y, subst (λ l. Has c (d ∷ []) (new d now (place_asked (length (placed [] ds)) d l) ∷ placed [] ds) (new d now (place_asked (length (placed [] ds)) d l) ∷ []) more y) (sym lived) next)
+
+    live_case : live now (line c (placed [] ds)) ≡ line c (placed [] ds) → Goal
+    live_case lived = by lived stands
+
+  -- of a capture that goes on, what is no request of its client does not ask
+  pub asks_not : (ds k0 : List Recorded) (e d : Recorded) → Follows c (e ∷ k0) d → Standing c (e ∷ k0) (placed [] ds) → AllByRecursion IsOnTime (placed [] ds) → (c.port ≡ 69 → ⊥) → AreServed69 (placed [] ds)
+      → (now : ℕ) → now ≤ e.time + silence → asks_from c d ≡ false → asks [] (placed [] ds) now d ≡ false
+  asks_not ds k0 e d follows (nothing none empty) clear other served now near off = absurd (cc)
+  asks_not ds k0 e d follows (standing kp rest x has) clear other served now near off = by_test (goes_from c d)
+      (λ from. plain_asks (placed [] ds) now d (no_begin c d off from))
+      (λ came.
+      let lived = live_on c e k0 (placed [] ds) kp rest x now has clear near in
+      let to = and_parts (same_endpoint d.source (other_of c d)) (same_endpoint d.target c) (comes_to_it c d came follows.here) in
+      came_asks c (placed [] ds) now d other served (is_same d.target c to.1)
+      (ap (λ l. is_some (latest_in l)) (lived ∙ has.whole) ∙ ap is_some has.latest))
+
+  -- one more of it
+  pub more_next : (ds k0 : List Recorded) (e d : Recorded) → Follows c (e ∷ k0) d → Standing c (e ∷ k0) (placed [] ds) → AllByRecursion IsOnTime (placed [] ds) → (c.port ≡ 69 → ⊥) → AreServed69 (placed [] ds) → (goes_from c d ≡ false → line d.source (placed [] ds) ≡ [])
+      → (now : ℕ) → now ≤ e.time + silence → Next (e ∷ k0) d (placed [] ds) now (place_of [] (placed [] ds) now d)
+  more_next ds k0 e d follows (nothing none empty) clear other served alone now near = absurd (cc)
+  more_next ds k0 e d follows (standing kp rest x has) clear other served alone now near =
+      let lived = live_on c e k0 (placed [] ds) kp rest x now has clear near in
+      by_test (asks_from c d)
+      (λ is. let (y, next) = request_step c (e ∷ k0) (placed [] ds) kp rest x d now has follows is lived in
+      subst (Next (e ∷ k0) d (placed [] ds) now) (ap (place_asked (length (placed [] ds)) d) (sym lived) ∙ sym (request_place c (placed [] ds) now d is (follows.service is))) (kp, rest, y, next))
+      (λ off. let (y, client, place, next) = talk_step c (e ∷ k0) (placed [] ds) kp rest x d now has follows off lived in
+      let plain : asks [] (placed [] ds) now d ≡ false = asks_not ds k0 e d follows (standing kp rest x has) clear other served now near off in
+      subst (Next (e ∷ k0) d (placed [] ds) now) (sym (talk_place c (placed [] ds) now d y alone plain (λ came. comes_to_it c d came follows.here)
+      (ap (λ l. place_at c (other_of c d) l d) lived ∙ place))) (kp, rest, x, next))

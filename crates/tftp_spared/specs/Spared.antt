@@ -1,0 +1,52 @@
+-- What holds of every recording in which captures of lawful transfers are interleaved. Lists have the newest first.
+use Rattle.std.specs.Prelude.{◌≡◌, ℕ, ◌||◌, Bool, true, false, List, [], ◌∷◌, ◌++◌, map, reverse, filter, All, Contains, Some}
+use Rattle.std.specs.List.{flat_map}
+use Rattle.tftp_law.specs.{IsLawful, IsRefused, Rule}
+use Rattle.tftp_lines.specs.{Address, Endpoint, Transfer, Recorded, Placed, transfer_of, is_asked_again, is_late}
+use Rattle.tftp_transfers.specs.Places.{placed}
+use Rattle.tftp_transfers.specs.Views.{client_view}
+use Rattle.tftp_transfers.specs.Doubts.{is_answered_apart, is_doubtful, some_of}
+use Rattle.tftp_spared.specs.Seen.{as_seen_by, at_client_of, is_with, HasNoSilence}
+use Rattle.tftp_spared.specs.Captures.{AreInOrder}
+
+-- All that passed at a client while it took part in one lawful transfer.
+pub record IsWholeCapture (write : Address → List ℕ) (c : Endpoint) (capture : List Recorded) : Type 0 where
+  pub lawful : IsLawful (at_client_of 69) (map (as_seen_by write c) (reverse capture))
+  pub steady : HasNoSilence capture
+
+-- At each client's endpoint one whole capture follows the other; each datagram is at one client's endpoint, and at no
+-- other one's; no client has the service port; and the times do not go back.
+pub record AreInterleaved (write : Address → List ℕ) (clients : List Endpoint) (recorded : List Recorded) : Type 0 where
+  pub captures : (c : Endpoint) → Contains clients c
+      → (each : List (List Recorded)) × (filter (is_with c) recorded ≡ flat_map (λ capture. capture) each) × All (IsWholeCapture write c) each
+  pub at_one : (d : Recorded) → Contains recorded d → (c : Endpoint) × Contains clients c × (is_with c d ≡ true)
+  pub at_no_other : (d : Recorded) (c e : Endpoint) → Contains recorded d → Contains clients c → Contains clients e → is_with c d ≡ true → is_with e d ≡ true → c ≡ e
+  pub hosts : (a b : Address) → write a ≡ write b → a ≡ b
+  pub ports : (c : Endpoint) → Contains clients c → c.port ≡ 69 → ⊥
+  pub order : AreInOrder recorded
+
+-- the doubts that captures which follow one another need: the transfer before may go on, what may be its first answer is
+-- another's, and its client had asked for another
+abbrev pub is_doubted_there : ℕ → List Placed → Bool
+is_doubted_there n placed = some_of n is_asked_again placed || is_answered_apart n placed
+
+abbrev pub needs_doubt : ℕ → List Placed → Placed → List Placed → Bool
+needs_doubt n placed p older = is_doubted_there n placed || some_of n is_late (p ∷ older)
+
+-- no client's view is refused without one of these doubts
+abbrev pub SparesClientsByThree : Type 0
+SparesClientsByThree =
+    (write : Address → List ℕ) (clients : List Endpoint) (recorded : List Recorded) → AreInterleaved write clients recorded
+    → (newer older : List Placed) (p : Placed) → placed [] recorded ≡ newer ++ p ∷ older
+    → (x : Transfer) → transfer_of p.place ≡ Some x
+    → (rule : Rule) → IsRefused (at_client_of 69) (map (λ q. as_seen_by write x.client q.datagram) (client_view x.number older)) (as_seen_by write x.client p.datagram) rule
+    → needs_doubt x.number (placed [] recorded) p older ≡ true
+
+-- so no client's view is refused without a doubt
+abbrev pub SparesClients : Type 0
+SparesClients =
+    (write : Address → List ℕ) (clients : List Endpoint) (recorded : List Recorded) → AreInterleaved write clients recorded
+    → (newer older : List Placed) (p : Placed) → placed [] recorded ≡ newer ++ p ∷ older
+    → (x : Transfer) → transfer_of p.place ≡ Some x
+    → (rule : Rule) → IsRefused (at_client_of 69) (map (λ q. as_seen_by write x.client q.datagram) (client_view x.number older)) (as_seen_by write x.client p.datagram) rule
+    → is_doubtful x.number (placed [] recorded) p older ≡ true
