@@ -40,7 +40,8 @@ pub fn the_opening_is_needed()
 /// Were the server's port at two addresses, the server would see what goes to either, and between the ends the client sends to
 /// where nothing came from.
 pub fn one_server_is_needed()
-    ensures server { route_of (server_header first_transfer) (server_capture host_name first_transfer (placed [] (to_the_other ∷ from_one_address)) (placed [] from_one_address))
+    ensures server { route_of (server_header first_transfer)
+        (server_capture host_name first_transfer (placed [] (to_the_other ∷ from_one_address)) (placed [] from_one_address))
         (captured host_name In to_the_other) ≡ Route.Peer }
     ensures between { tap_route (sides_of first_transfer (placed [] (to_the_other ∷ from_one_address)))
         (between_capture first_transfer (placed [] from_one_address)) (passed_of to_the_other) ≡ TapRoute.WrongPort }
