@@ -3,13 +3,14 @@ pass, a second, slow reading with which the proved one is compared. A transfer i
 before the request that opened it."""
 from __future__ import annotations
 
-from collections.abc import Iterable
+from collections.abc import Iterable, Iterator
 from dataclasses import dataclass, field
 from typing import Literal, NamedTuple, Optional
 
 EndName = Literal["client", "server"]
 # In nanoseconds; above 255 s, the longest timeout that two ends can agree on (RFC 2349).
 SILENCE = 300 * 10**9
+TFTP = 69
 ACK_0, DATA_1, ERROR_5 = b"\0\4\0\0", b"\0\3\0\1", b"\0\5\0\5"
 MODES = (b"octet", b"netascii", b"mail")
 
@@ -58,6 +59,11 @@ def asked_part(payload: bytes) -> bytes:
     return payload[:2] + payload[2:].split(b"\0")[0]
 
 
+def asks_alike(before: Datagram, now: Datagram) -> bool:
+    """Whether a request asks for the same file as the one before, of the same server."""
+    return before.target == now.target and asked_part(before.payload) == asked_part(now.payload)
+
+
 def begins_packet(payload: bytes) -> bool:
     return begins(payload, 1, 2, 3, 4, 5, 6)
 
@@ -66,7 +72,7 @@ class Doubt(NamedTuple):
     """Of refusals of a transfer from this datagram on, and why."""
 
     since: int
-    word: Literal["over", "late", "disordered", "again", "apart", "loose", "elsewhere", "first", "unanswered"]
+    word: Literal["over", "late", "disordered", "again", "apart", "strays", "unanswered"]
     why: str
 
 
@@ -80,11 +86,13 @@ class Transfer:
     beside: list[tuple[Datagram, Endpoint]] = field(default_factory=list)
     answered: Optional[Endpoint] = None
     went_on: Optional[Endpoint] = None
-    # the greatest time of what passed at the client
-    last_time: int = 0
+    # the greatest time of what passed at the client, whether something came to it, and whether something is out of order
+    newest: int = 0
     is_answered: bool = False
     is_left_out: bool = False
+    # whether the client went on with who first sent it something, and those that it sent to where nothing had passed
     is_followed: bool = False
+    spoken_first: set[int] = field(default_factory=set)
     doubts: list[Doubt] = field(default_factory=list)
 
     def server(self) -> Optional[Endpoint]:
@@ -103,19 +111,28 @@ class Transfer:
         own = [it for it in self.seen if it.number in self.requests or it.target == self.asked or self.is_with_server(it)]
         return sorted(own + [it for it, at in self.beside if at == self.server()])
 
+    def talked(self) -> Iterator[Datagram]:
+        """What passed at the client but its requests."""
+        return (it for it in self.seen if it.number not in self.requests)
+
+    def all_seen(self) -> list[Datagram]:
+        return [*self.seen, *(it for it, _ in self.beside)]
+
     def doubts_at(self, end: EndName, number: int) -> list[str]:
         """Why a refusal at this datagram is no accusation."""
-        told = [doubt.why for doubt in self.doubts if doubt.since <= number and (doubt.word != "first" or end == "server")]
+        told = [doubt.why for doubt in self.doubts if doubt.since <= number]
+        if not self.is_followed and any(it.target == self.client and it.number <= number for it in self.talked()):
+            told.append("its client did not go on with who first sent it something")
+        if any(it.number == number and it.payload[:4] == ERROR_5 for it in self.all_seen()):
+            told.append("ERROR 5 may answer what came late")
+        if end == "server" and number in self.spoken_first:
+            told.append("nothing had passed there between the two")
         if not self.is_answered and number != self.seen[0].number:
             told.append("nothing that came to its client is there: one direction only")
         if self.is_left_out:
             told.append("a frame is out of order, and by its time may be of this transfer")
         if any(it.number == number and it.source != self.client and not self.is_with_server(it) for it in self.seen):
             told.append("neither its client nor its server sent the datagram")
-        if any(it.number <= number and it.target == self.client for it in self.seen) and not self.is_followed:
-            told.append("its client did not go on with who answered first")
-        if any(it.number == number and it.payload[:4] == ERROR_5 for it in self.seen):
-            told.append("it is an ERROR 5, by which an end answers what is none of its transfer")
         if end == "server" and any(it.number == number for it, _ in self.beside):
             told.append("it passed with another than the client, whose request may not have been recorded")
         ways = [it.way() for it in self.seen]
@@ -154,7 +171,7 @@ class Place(NamedTuple):
 
 class Attribution:
     def __init__(self, named: Iterable[int] = ()) -> None:
-        self.services = {69, *named}
+        self.services = {TFTP, *named}
         self.clock, self.count = 0, 0
         # the last datagram's time, and the greatest that two in a row have reached
         self.last, self.reached = 0, 0
@@ -180,9 +197,9 @@ class Attribution:
         """By its time it may be of its client's newest transfer, or of one that is asked for behind it."""
         for end in (it.source, it.target):
             one = self.newest.get(end)
-            if one and max(it.nanoseconds(), self.reached) <= one.last_time + SILENCE:
+            if one and max(it.nanoseconds(), self.reached) <= one.newest + SILENCE:
                 one.is_left_out = True
-            if begins(it.payload, *range(1, 7)):
+            if begins_packet(it.payload):
                 self.left_out[end] = max(self.left_out.get(end, 0), it.nanoseconds())
 
     def line(self, client: Endpoint) -> Optional[Line]:
@@ -198,16 +215,16 @@ class Attribution:
         place = self.at_client(it)
         if place:
             return place
-        if begins_packet(it.payload) or it.target.port in self.services:
+        if begins_packet(it.payload) or it.target.port == TFTP:
             self.loose[it.source] = self.loose[it.target] = self.clock
         return self.beside(it) or Place("nowhere")
 
     def keep(self, one: Transfer, it: Datagram) -> None:
-        one.seen.append(it)
-        if it.nanoseconds() < self.clock:
+        if it.nanoseconds() < (one.newest if one.seen else self.clock):
             one.doubts.append(Doubt(0, "disordered", "its datagrams are not in the order of their times"))
-        one.last_time = max(one.last_time, it.nanoseconds())
+        one.newest = max(one.newest, it.nanoseconds())
         one.is_answered |= it.target == one.client
+        one.seen.append(it)
 
     def asks(self, it: Datagram) -> bool:
         line = self.line(it.source)
@@ -225,13 +242,14 @@ class Attribution:
         self.newest[it.source] = one
         self.transfers.append(one)
         if self.clock <= self.loose.get(it.source, -2 * SILENCE) + SILENCE:
-            one.doubts.append(Doubt(0, "loose", "its client's endpoint had talked before its request"))
+            one.doubts.append(Doubt(0, "strays", "something of no transfer had passed at its client's endpoint"))
         if line is None:
             self.lines[it.source] = Line(one, self.clock, it)
             return one
         if line.latest.answered is None:
-            one.doubts.append(Doubt(0, "unanswered", "nobody had answered what its client had asked for before"))
-        if line.only_asked and line.request.target == it.target and asked_part(line.request.payload) == asked_part(it.payload):
+            why = "nobody had answered what its client asked before, and may still"
+            one.doubts.append(Doubt(0, "unanswered", why))
+        if line.only_asked and asks_alike(line.request, it):
             why = "its client had asked the same and sent nothing else since: the transfer before goes on"
             one.doubts.append(Doubt(0, "again", why))
         line.latest, line.moment, line.request = one, self.clock, it
@@ -277,10 +295,7 @@ class Attribution:
         if one is None:
             return None
         if it.source == client and other not in line.talks:
-            one.doubts.append(Doubt(it.number, "first", "its client had heard nothing from there"))
-        served, moment = self.served.get(other, (None, 0))
-        if it.source == other and it.payload[:4] == ERROR_5 and served and served.client != client and self.clock <= moment + SILENCE:
-            one.doubts.append(Doubt(it.number, "elsewhere", "its server's endpoint had served another client"))
+            one.spoken_first.add(it.number)
         line.talks[other], line.moment, line.ends_in_request = talk, self.clock, False
         if one is not line.latest:
             one.doubts.append(Doubt(it.number, "late", "its client's endpoint had asked again"))
@@ -289,10 +304,10 @@ class Attribution:
             self.served[other] = one, self.clock
         if it.source == client:
             talk.acked_0 = it.payload == ACK_0
+            one.is_followed |= it.payload[:4] != ERROR_5 and one is line.latest and one.answered == other
             if not begins(it.payload, 5):
                 line.only_asked = False
                 one.went_on = one.went_on or other
-                one.is_followed = one.is_followed or (one is line.latest and one.answered == other)
         self.keep(one, it)
         return Place("client", one.number)
 

@@ -10,6 +10,10 @@ from ipaddress import ip_address
 from fuzzing.attribution import Attribution, Datagram, Endpoint, attributed
 
 
+# The doubts that tftp_places tells by name; of the others it tells `doubted`.
+WORDS = ("over", "late", "disordered", "again", "apart")
+
+
 def row(it: Datagram) -> str:
     """A datagram as tftp_places reads it."""
     ends = (word for end in (it.source, it.target) for word in (ip_address(end.host).packed.hex(), str(end.port)))
@@ -26,7 +30,8 @@ def told(found: Attribution) -> list[str]:
         rows.append(kind if place.transfer is None else f"{kind} {place.transfer}")
     for one in found.transfers:
         late = [doubt.since for doubt in one.doubts if doubt.word == "late"]
-        words = sorted({doubt.word for doubt in one.doubts})
+        its = {doubt.word for doubt in one.doubts}
+        words = sorted({*(word for word in its if word in WORDS), *(("doubted",) if its - {"late"} else ())})
         rows.append(" ".join((f"transfer {one.number}", *words, *(f"since {first}" for first in late[:1]))))
         rows.append(" ".join(("at-client", *(str(it.number) for it in one.view("client")))))
         rows.append(" ".join(("at-server", *(str(it.number) for it in one.view("server")))))
@@ -47,9 +52,7 @@ def said(lines: list[str]) -> list[str]:
             if "late" in words:
                 since.setdefault(words[0], number)
             continue
-        doubts = sorted(set(words[1:]) - {"doubted"})
-        if ("doubted" in words) != bool(set(doubts) - {"late"}):
-            rows.append(f"transfer {words[0]}: {line} is no sum of its doubts")
+        doubts = sorted(words[1:])
         first = (f"since {since[words[0]]}",) if words[0] in since else ()
         rows.append(" ".join((f"transfer {words[0]}", *doubts, *first)))
     return rows

@@ -2,7 +2,7 @@
 
 ghost use Rattle.std.specs.Prelude.{◌≡◌, ◌≢◌, ◌≤◌, ◌+◌, ◌^◌, ◌<◌, ◌∷◌, ◌⊎◌, ℕ, List, [], length, max, IfOk, IfSome, IsErr, IsSome, MatchBool, MatchOption, OnErr, OnOk, Err, None, Some, true, false};
 ghost use Rattle.tftp_recording_judge.specs.Kept.{AreCrowded, IsCalled, IsWatching, StandsAfter, is_among, opened};
-ghost use Rattle.tftp_lines.specs.{doubts_of, clock, line, live, Recorded, Nowhere};
+ghost use Rattle.tftp_lines.specs.{doubts_of, clock, line, live, may_be_tftp, Recorded, Nowhere};
 ghost use Rattle.tftp_transfers.specs.{IsRecorded, place_of, placed, AttributionFault};
 ghost use Rattle.tftp_views.specs.{Naming};
 
@@ -69,7 +69,7 @@ impl<D: Delivered + Drop> RecordingJudge<D> {
         ensures spare { (named : List ℕ) (name : Naming) (out : List ℕ) (recorded : List Recorded) (d : Recorded)
             → StandsAfter self.old.attribution self.old.watched self.old.failed self.old.judging named name out recorded
             → IsRecorded d time source.now.end target.now.end payload.now is_spelled
-            → place_of named (placed named recorded) (max time (clock (placed named recorded))) d ≡ Nowhere
+            → place_of named (placed named recorded) (max time (clock (placed named recorded))) d ≡ Nowhere → may_be_tftp d ≡ false
             → result ≢ Err AttributionFault.Memory }
         ensures full { result ≡ Err AttributionFault.TooMany → (self.old.attribution.count + 1 ≡ 2 ^ 64) ⊎ AreCrowded self.old.watched }
         ensures fails { OnErr result (self.new.failed ≡ true) }

@@ -2,7 +2,6 @@ pub mod Places
 pub mod Kept
 pub mod Views
 pub mod Doubts
-pub mod Fair
 pub mod Worked
 pub mod Settled
 pub use Places.{and_then, asks, at_client, beside, beside_by, either, is_client, is_nowhere, is_service, last_served, newer, or_talks, place_of, placed, served_at, served_by, served_within, serves}

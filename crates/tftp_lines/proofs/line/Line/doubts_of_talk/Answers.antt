@@ -15,7 +15,7 @@ returns c d now older client stands seen =
     let before : List Placed = live now (line c.args.transfer.now.client older) in
     let other : c.other_end-other.result ≡ other_of c.args.transfer.now.client d = c.other_end-other.ensures ∙ ap (other_end c.args.transfer.now.client) seen in
     let talk : get endpoint_cmp c.args.self.now.talks c.other_end-other.result ≡ talk_in c.args.transfer.now.client (other_of c.args.transfer.now.client d) (live now (line c.args.transfer.now.client older)) =
-        stands.talks c.other_end-other.result ∙ (λ i. talk_in (client i) (other i) (live now (line c.args.transfer.now.client older))) in
+    stands.talks c.other_end-other.result ∙ (λ i. talk_in (client i) (other i) (live now (line c.args.transfer.now.client older))) in
     λ i. record {
       goes_over = (c.has_other.ensures ∙ ap (λ t. is_another c.args.transfer.now (talked_in t)) talk) i;
       is_late = (c.is_behind.ensures ∙ ap (is_another c.args.transfer.now) (sym stands.latest)) i;

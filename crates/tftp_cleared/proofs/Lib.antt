@@ -1,0 +1,12 @@
+mod Opened
+mod Own
+mod Pairs
+mod Told
+mod Server
+mod There
+mod Law
+mod Named
+mod Merged
+mod ServerLaw
+mod Seated
+mod Besides

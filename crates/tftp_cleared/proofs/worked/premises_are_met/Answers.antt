@@ -1,0 +1,51 @@
+use Rattle.std.proofs.Common.{zero, suc, ◌<◌, ◌^◌, ℕ, [], ◌∷◌, All, slice_index, refl, ap, arith}
+use Rattle.std.proofs.lemmas.Bool.{false≢true}
+use Rattle.std.proofs.lemmas.List.Elements.{All-from_recursion}
+use Rattle.tftp_between.specs.Worked.{first_transfer}
+use Rattle.tftp_cleared.specs.{HasAddresses, IsOpenedIn, IsSentThere, IsWith}
+use Rattle.tftp_lines.specs.{Endpoint, V4, same_endpoint}
+use Rattle.tftp_parties.specs.{IsAddress}
+use Rattle.tftp_transfers.specs.{asked_twice, client, placed}
+use Rattle.tftp_transfers.specs.Worked.{server, stranger}
+use Rattle.tftp_cleared.proofs.worked.premises_are_met.Goals as goal
+
+few_bytes : (a b c d : ℕ) → a < 2 ^ 8 → b < 2 ^ 8 → c < 2 ^ 8 → d < 2 ^ 8 → (k : ℕ) → slice_index (a ∷ b ∷ c ∷ d ∷ []) k < 2 ^ 8
+few_bytes a b c d first second third fourth zero = first
+few_bytes a b c d first second third fourth (suc zero) = second
+few_bytes a b c d first second third fourth (suc (suc zero)) = third
+few_bytes a b c d first second third fourth (suc (suc (suc zero))) = fourth
+few_bytes a b c d first second third fourth (suc (suc (suc (suc k)))) = omega arith
+
+address_at : (d : ℕ) → d < 2 ^ 8 → IsAddress (V4 (192 ∷ 0 ∷ 2 ∷ d ∷ []))
+address_at d low = (refl, few_bytes 192 0 2 d (omega arith) (omega arith) (omega arith) low)
+
+at_client : IsAddress client.address
+at_client = address_at 7 (omega arith)
+
+at_server : IsAddress server.address
+at_server = address_at 1 (omega arith)
+
+at_stranger : IsAddress stranger.address
+at_stranger = address_at 9 (omega arith)
+
+opened : IsOpenedIn first_transfer (placed [] asked_twice)
+opened = (4, _, omega arith, refl, refl)
+
+addresses : All HasAddresses asked_twice
+addresses = All-from_recursion HasAddresses asked_twice
+    ((at_client, at_server), ((at_stranger, at_client), ((at_server, at_client), ((at_client, at_server), ((at_client, at_server), tt)))))
+
+pub returns-clause-client : goal.returns-clause-client
+returns-clause-client c = record { opened = opened; addresses = addresses; apart = refl }
+
+-- the stray alone was not with the server
+with_server : All (IsWith first_transfer server (placed [] asked_twice)) (placed [] asked_twice)
+with_server = All-from_recursion (IsWith first_transfer server (placed [] asked_twice)) (placed [] asked_twice)
+    ((λ at is. refl), ((λ at is. absurd (false≢true is)), ((λ at is. refl), ((λ at is. absurd (cc)), ((λ at is. absurd (cc)), tt)))))
+
+pub returns-clause-server : goal.returns-clause-server
+returns-clause-server c = record { opened = opened; addresses = addresses; known = refl; apart = refl; not_itself = refl; one = with_server }
+
+pub returns-clause-sent : goal.returns-clause-sent
+returns-clause-sent c = All-from_recursion (IsSentThere first_transfer (placed [] asked_twice)) (placed [] asked_twice)
+    ((λ of source. refl), ((λ of source. absurd (false≢true (ap (λ (e : Endpoint). same_endpoint e client) source))), ((λ of source. refl), ((λ of source. refl), ((λ of source. refl), tt)))))

@@ -1,0 +1,43 @@
+-- A recording in which an address is none, a transfer that no datagram opened, a server with two addresses, and a client that
+-- sends elsewhere. Lists have the newest first.
+use Rattle.std.specs.Prelude.{List, [], ◌∷◌, codes}
+use Rattle.tftp_lines.specs.{Endpoint, Recorded, Transfer, V4}
+use Rattle.tftp_transfers.specs.{ack_of, client, data_of, service}
+use Rattle.tftp_transfers.specs.Worked.{passes, requests, server, stranger}
+
+-- ---- names
+
+-- Another endpoint than the client's, with the client's name: its address has a byte too many, and so is none.
+abbrev pub namesake : Endpoint
+namesake = record { address = V4 (192 ∷ 0 ∷ 2 ∷ 7 ∷ 0 ∷ []); port = 40000 }
+
+-- a read
+abbrev pub before_namesake : List Recorded
+before_namesake = passes 1 server client (data_of 1) ∷ requests 0 client service (codes "f") ∷ []
+
+-- a block that strays to the client from there
+abbrev pub from_namesake : Recorded
+from_namesake = passes 2 namesake client (data_of 7)
+
+-- ---- openings
+
+-- a request of the client
+abbrev pub one_request : Recorded
+one_request = requests 0 client service (codes "f")
+
+-- It has the number of the transfer that the request opened, but asks another host.
+abbrev pub not_opened : Transfer
+not_opened = record { number = 0; client = client; asked = record { address = stranger.address; port = 69 } }
+
+-- ---- servers
+
+-- A server with two addresses: the block comes from the one, and the ACK goes to the other, to the same port.
+abbrev pub from_one_address : List Recorded
+from_one_address = passes 1 stranger client (data_of 1) ∷ requests 0 client service (codes "f") ∷ []
+
+abbrev pub to_the_other : Recorded
+to_the_other = passes 2 client server (ack_of 1)
+
+-- The block comes from the server, and the ACK goes to a stranger.
+abbrev pub to_a_stranger : Recorded
+to_a_stranger = passes 2 client stranger (ack_of 1)

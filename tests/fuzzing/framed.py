@@ -1,0 +1,155 @@
+"""A recording of a world as a file, with the trouble that only frames have: fragments that are missing or out of order,
+frames that the recorder dropped and counted, datagrams that a host discarded by their checksum, a mirror port that gives
+each frame twice, and one direction only."""
+from __future__ import annotations
+
+import random
+import struct
+from collections.abc import Iterator
+from typing import NamedTuple, Optional
+
+import recorded
+from fuzzing.attribution import Datagram, Endpoint
+from fuzzing.worlds import Recording
+from recorded import Frame, Interface
+
+FRAME_KINDS: dict[str, str] = {
+    "fragments": "large datagrams are in fragments, in any order",
+    "missing_fragments": "and some of them are not recorded",
+    "drops": "the recorder dropped frames, and says how many",
+    "checksums": "datagrams come with a wrong checksum, and the host discards them",
+    "mirror": "each frame is recorded twice at one interface",
+    "one_way": "one direction only is recorded",
+}
+PIECE, MICROSECOND, MOST_ID = 400, 1_000, 65_535
+# Options of an interface's statistics and of a packet's block: what was dropped (pcapng).
+IF_DROP, OS_DROP, DROP_COUNT = 5, 7, 4
+UDP = 17
+
+
+class Row(NamedTuple):
+    """A frame, and who sent what is in it."""
+
+    time: int
+    packet: bytes
+    source: Endpoint
+
+
+class Framed(NamedTuple):
+    """A file; of each of its frames who sent it; and whether the file tells that the recorder lost something."""
+
+    file: bytes
+    sources: list[Endpoint]
+
+    def sender(self, frame: Optional[int]) -> Optional[Endpoint]:
+        return self.sources[frame - 1] if frame else None
+
+
+def checksum(it: recorded.Datagram, content: bytes) -> int:
+    """Of UDP with its pseudo header (RFC 768; RFC 8200, section 8.1); never 0."""
+    source, target = it.packed()
+    length = struct.pack("!I" if it.version == 6 else "!H", len(content))
+    pseudo = source + target + (length + bytes((0, 0, 0, UDP)) if it.version == 6 else bytes((0, UDP)) + length)
+    summed = pseudo + content + bytes(len(content) % 2)
+    total = sum(struct.unpack(f"!{len(summed) // 2}H", summed))
+    while total > 0xFFFF:
+        total = (total & 0xFFFF) + (total >> 16)
+    return (total ^ 0xFFFF) or 0xFFFF
+
+
+def headed(it: recorded.Datagram) -> bytes:
+    """The UDP packet with its right checksum."""
+    bare = struct.pack("!HHHH", it.source_port, it.target_port, 8 + len(it.payload), 0) + it.payload
+    return bare[:6] + struct.pack("!H", checksum(it, bare)) + bare[8:]
+
+
+def with_header_sum(packet: bytes) -> bytes:
+    """The packet of IPv4 with the right checksum of its header (RFC 791, section 3.1)."""
+    if packet[0] >> 4 != 4:
+        return packet
+    size = 4 * (packet[0] & 15)
+    head = packet[:10] + bytes(2) + packet[12:size]
+    total = sum(struct.unpack(f"!{size // 2}H", head))
+    while total > 0xFFFF:
+        total = (total & 0xFFFF) + (total >> 16)
+    return head[:10] + struct.pack("!H", total ^ 0xFFFF) + packet[12:]
+
+
+class Recorder:
+    """Writes down what passes at a place."""
+
+    def __init__(self, recording: Recording, kinds: frozenset[str], seed: int) -> None:
+        self.drawn, self.recording, self.kinds = random.Random(seed), recording, kinds
+        self.dropped, self.id = 0, 0
+
+    def often(self, kind: str, chance: float) -> bool:
+        return kind in self.kinds and self.drawn.random() < chance
+
+    def rows(self) -> Iterator[Row]:
+        is_in = self.drawn.random() < 0.5
+        for it in self.recording.datagrams:
+            if "one_way" in self.kinds and self.is_in(it) != is_in:
+                continue
+            if self.often("drops", 0.12):
+                self.dropped += 1
+                continue
+            if self.often("checksums", 0.15) and it.payload:
+                yield from self.packets(it, self.spoiled(it), 0)
+            yield from self.packets(it, headed(self.plain(it)), 0.3)
+
+    def is_in(self, it: Datagram) -> bool:
+        """Whether it comes to the host, or between to a host of a client."""
+        host = self.recording.host
+        return it.target.host == host if host else it.target.host.startswith("10.1.")
+
+    def plain(self, it: Datagram) -> recorded.Datagram:
+        return recorded.Datagram(it.source.host, it.source.port, it.target.host, it.target.port, it.payload)
+
+    def spoiled(self, it: Datagram) -> bytes:
+        """Its bytes with one of the payload changed, under the checksum of what was sent."""
+        content = bytearray(headed(self.plain(it)))
+        content[self.drawn.randrange(8, len(content))] ^= 1 << self.drawn.randrange(8)
+        return bytes(content)
+
+    def packets(self, it: Datagram, content: bytes, missing: float) -> Iterator[Row]:
+        plain, time = self.plain(it), it.nanoseconds()
+        self.id = self.id % MOST_ID + 1
+        if "fragments" not in self.kinds or len(content) <= PIECE:
+            yield Row(time, with_header_sum(recorded.ipv4(plain, content, id=self.id)), it.source)
+            return
+        parts = recorded.parts_of(content, PIECE, self.id)
+        self.drawn.shuffle(parts)
+        if self.often("missing_fragments", missing):
+            del parts[self.drawn.randrange(len(parts))]
+        for place, (part, piece) in enumerate(parts):
+            yield Row(time + place, with_header_sum(recorded.ipv4(plain, piece, part=part)), it.source)
+
+    def framed(self) -> Framed:
+        rows = list(self.rows())
+        if "mirror" in self.kinds:
+            rows = [twice for it in rows for twice in (it, it._replace(time=it.time + 3 * MICROSECOND))]
+        frames = [Frame(recorded.RAW, it.packet, it.time) for it in rows]
+        sources = [it.source for it in rows]
+        if "drops" not in self.kinds:
+            return Framed(recorded.pcap(frames, is_nano=True), sources)
+        return Framed(self.counted(frames), sources)
+
+    def counted(self, frames: list[Frame]) -> bytes:
+        """A pcapng whose last block says how many packets were dropped."""
+        interface = Interface(recorded.RAW, 9)
+        blocks: list[tuple[int, recorded.Block]] = [(0, it) for it in frames]
+        code = self.drawn.choice((IF_DROP, OS_DROP))
+        told = recorded.options("<", (code, struct.pack("<Q", self.dropped)))
+        statistics = recorded.block("<", 5, struct.pack("<III", 0, 0, 0) + told)
+        return recorded.section("<", [interface], [*blocks, (0, statistics)], self.drawn)
+
+
+def drawn_frame_kinds(seed: int) -> frozenset[str]:
+    """None of them, or one or two."""
+    drawn = random.Random(seed ^ 0xF4A3)
+    found = set(drawn.sample(sorted(FRAME_KINDS), drawn.choice((0, 1, 1, 2))))
+    return frozenset(found | ({"fragments"} if "missing_fragments" in found else set()))
+
+
+def framed(recording: Recording, kinds: frozenset[str], seed: int) -> Framed:
+    return Recorder(recording, kinds, seed).framed()
