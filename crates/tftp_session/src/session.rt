@@ -122,7 +122,7 @@ impl Session {
             time: event.time(),
             is_doubtful: event.is_doubtful(),
             has_error: event.has_error(),
-            is_intact: intact_by(event.checksum()),
+            is_intact: intact_in(event, &found),
             source: source.end,
             target: target.end,
             payload: datagram.payload,
@@ -257,9 +257,10 @@ impl Session {
     }
 }
 
-/// Whether a datagram is as it was sent, where its checksums tell that.
-fn intact_by(checksum: Checksum) -> Option<bool> {
-    match checksum {
+/// Whether a datagram of a transfer is as it was sent, where its checksums tell that.
+fn intact_in(event: &Event, found: &Attributed) -> Option<bool> {
+    about(&found.place)?;
+    match event.checksum() {
         Checksum::Right => Some(true),
         Checksum::Wrong => Some(false),
         Checksum::Absent => None,
