@@ -297,19 +297,20 @@ class Drawn:
 
 def is_traced(datagrams: list[Datagram], of: list[int], first: int) -> bool:
     """Whether a recording that begins there shows what was under way: where something of a transfer that began before
-    passes after the next request of its client, something between the two had passed before that."""
+    passes after the next request of its client, or something between two that had talked before, something between the two
+    had passed in the recording before that request."""
     begun = set(of[:first])
+    old = {frozenset((it.source, it.target)) for it in datagrams[:first]}
     seen: set[frozenset[Endpoint]] = set()
     asked: set[Endpoint] = set()
     for it, its in zip(datagrams[first:], of[first:]):
         both = frozenset((it.source, it.target))
         if opcode(it.payload) in (1, 2):
             asked.add(it.source)
-            continue
-        if its in begun and its and both & asked and both not in seen:
-            return False
-        if not both & asked:
+        elif not both & asked:
             seen.add(both)
+        elif both not in seen and (both in old or its and its in begun):
+            return False
     return True
 
 
