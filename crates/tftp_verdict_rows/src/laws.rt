@@ -2,7 +2,7 @@
 
 ghost use Rattle.std.specs.Prelude.{◌≡◌, ◌∷◌, ◌||◌, [], List, Any, Bool, IsSome, None, Option, Some, true, false};
 ghost use Rattle.tftp_lines.specs.{Place, Placed, Transfer, same_endpoint};
-ghost use Rattle.tftp_packet.specs.declared.kinds.End.TheVariants as end;
+ghost use Rattle.tftp_packet.specs.{Client as ClientEnd, Server as ServerEnd};
 ghost use Rattle.tftp_rules.specs.{EndRule};
 ghost use Rattle.tftp_law.specs.{Block};
 ghost use Rattle.tftp_transfers.specs.{asked_twice, client, service};
@@ -42,7 +42,7 @@ pub fn an_end_is_accused_by_its_own_datagram()
 /// A client asks twice, is answered by a server and by a stranger, and acknowledges: the stranger's datagram accuses nobody.
 pub fn worked_accusations()
     ensures whom { accused_in (record { number = 0; client = client; asked = service }) asked_twice
-        ≡ Some (record { role = end.Client; end = client }) ∷ None ∷ Some (record { role = end.Server; end = at 1 41000 })
-        ∷ Some (record { role = end.Client; end = client }) ∷ Some (record { role = end.Client; end = client }) ∷ [] }
+        ≡ Some (record { role = ClientEnd; end = client }) ∷ None ∷ Some (record { role = ServerEnd; end = at 1 41000 })
+        ∷ Some (record { role = ClientEnd; end = client }) ∷ Some (record { role = ClientEnd; end = client }) ∷ [] }
     ensures doubtful { accused_of (record { number = 0; client = client; asked = service }) [] (record { datagram = passes 0 client service []; moment = 0; place = Place.Nowhere }) true ≡ None }
 {}
