@@ -65,8 +65,8 @@ class Made:
 @dataclasses.dataclass
 class Told:
     """What the program tells: the lines of datagrams, the frames left out with their kinds, the line of a fault, the
-    status, the frames that were received with an error, how many packets were lost, and the datagrams whose checksums are
-    not right."""
+    status, the frames that were received with an error, how many packets were lost, and the datagrams whose checksums
+    are not right."""
 
     rows: list[str]
     left: list[tuple[int, str]]
@@ -79,8 +79,8 @@ class Told:
 
 @dataclasses.dataclass
 class Twice:
-    """A way in which a packet is recorded twice: the link, what stands in front of the first and of the second, the file of
-    both frames, and whether they are of two interfaces."""
+    """A way in which a packet is recorded twice: the link, what stands in front of the first and of the second, the
+    file of both frames, and whether they are of two interfaces."""
 
     name: str
     link: int
@@ -165,8 +165,10 @@ class Maker:
         return Frame(link, content, self.time, way if is_cooked else "unknown")
 
     def summed(self, it: Datagram) -> tuple[recorded.Sum, recorded.Sum]:
-        """The kind of a datagram's checksum, and what is told of it: none is wrong over IPv6 (RFC 8200, section 8.1)."""
-        kind: recorded.Sum = self.chance.choice(("right", "right", "absent", "wrong"))
+        """The kind of a datagram's checksum, and what is told of it: none is wrong over IPv6 (RFC 8200, section
+        8.1)."""
+        kinds: tuple[recorded.Sum, ...] = ("right", "right", "absent", "wrong")
+        kind = self.chance.choice(kinds)
         return kind, "wrong" if kind == "absent" and it.version == 6 else kind
 
     def whole(self) -> list[tuple[Frame, Datagram | None]]:
@@ -296,8 +298,8 @@ class Counted:
 
 
 def counted_at(order: str, place: int, blocks: list[tuple[int, recorded.Block]], chance: random.Random) -> Counted:
-    """What an interface of a section lost: its packets' counts are chosen, and blocks of statistics, of which the greatest
-    counts."""
+    """What an interface of a section lost: its packets' counts are chosen, and blocks of statistics, of which the
+    greatest counts."""
     missed = 0
     for at, it in blocks:
         if at == place and not isinstance(it, bytes) and it.is_timed and chance.random() < 0.2:
@@ -321,7 +323,7 @@ def listed(file: bytes, taken: list[tuple[Frame, Datagram | None, bool]], is_com
     rows = [row(number, frame, it) for number, (frame, it, _) in numbered if it]
     damaged = [number for number, (frame, _, _) in numbered if frame.is_damaged]
     left = [number for number, (_, _, is_left) in numbered if is_left]
-    sums = [(number, frame.sum) for number, (frame, it, _) in numbered if it and frame.sum != "right"]
+    sums = [(number, str(frame.sum)) for number, (frame, it, _) in numbered if it and frame.sum != "right"]
     return Made(file, rows, left, is_compared, damaged, lost, sums)
 
 
@@ -387,18 +389,20 @@ class DatagramTrial(Trial):
         self.check(f"{name}, its end", (fault, status) == ends, (fault, status, ends))
 
     def try_copies(self) -> None:
-        """A datagram that stands twice: what another interface recorded too is left out, but not what its sender may have
-        repeated, nor what one interface recorded twice."""
+        """A datagram that stands twice: what another interface recorded too is left out, but not what its sender may
+        have repeated, nor what one interface recorded twice."""
         it = Datagram("192.0.2.7", 40_000, "192.0.2.1", 69, b"\0\4\0\1")
         cases = (7, 1_000_000, True), (0, 1_000_000, False), (7, 1_000_001, False), (0, 1_000_001, False)
         for (id, apart, is_near), way in itertools.product(cases, TWICE):
             packet = recorded.ipv4(it, recorded.udp(it), id=id)
-            frames = [Frame(way.link, way.front(index) + packet, recorded.FIRST_TIME + index * apart) for index in (0, 1)]
+            times = recorded.FIRST_TIME, recorded.FIRST_TIME + apart
+            frames = [Frame(way.link, way.front(index) + packet, time) for index, time in enumerate(times)]
             is_left = is_near and way.is_elsewhere
             left = [(2, "Copy")] if is_left else []
             rows = [row(number, frame, it) for number, frame in enumerate(frames, 1) if number == 1 or not is_left]
             got = self.run(way.file(frames))
-            self.check(f"identification {id}, {apart} ns apart, {way.name}", got == (rows, left, "", 0), (got, rows, left))
+            name = f"identification {id}, {apart} ns apart, {way.name}"
+            self.check(name, got == (rows, left, "", 0), (got, rows, left))
 
     def try_protocols(self) -> None:
         """A datagram of IPv6 in two fragments, of which the second names ICMP (RFC 8200, section 4.5), in both orders;

@@ -57,9 +57,9 @@ class Fragment:
 
 @dataclasses.dataclass
 class Frame:
-    """A frame as it was recorded: its bytes, how many it had, its time in nanoseconds since 1970, its direction, whether it
-    was received with a wrong checksum of its link, how many packets were lost before it, and what the checksums say of the
-    datagram that it ends."""
+    """A frame as it was recorded: its bytes, how many it had, its time in nanoseconds since 1970, its direction,
+    whether it was received with a wrong checksum of its link, how many packets were lost before it, and what the
+    checksums say of the datagram that it ends."""
 
     link: int
     content: bytes
@@ -76,7 +76,7 @@ class Frame:
 def sum_of(content: bytes) -> int:
     """The ones' complement of the ones' complement sum of words of 16 bits (RFC 1071, section 4.1)."""
     content += bytes(len(content) % 2)
-    total = sum(struct.unpack(f"!{len(content) // 2}H", content))
+    total = sum(int.from_bytes(content[at : at + 2], "big") for at in range(0, len(content), 2))
     while total >> 16:
         total = (total & 0xFFFF) + (total >> 16)
     return ~total & 0xFFFF

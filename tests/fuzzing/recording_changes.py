@@ -95,7 +95,8 @@ def reordered(file: bytes, chance: random.Random) -> bytes:
 
 
 def mirrored(file: bytes, chance: random.Random) -> bytes:
-    """Each frame twice, one behind the other, the second in pcapng perhaps at another interface, which need not be named."""
+    """Each frame twice, one behind the other, the second in pcapng perhaps at another interface, which need not be
+    named."""
     pieces, order, is_elsewhere = pieces_of(file), order_of(file), chance.random() < 0.5
     told = pieces[:1]
     for piece in pieces[1:]:
@@ -127,8 +128,9 @@ def counted(file: bytes, chance: random.Random) -> bytes:
     pieces, order = pieces_of(file), order_of(file)
     for _ in range(chance.randrange(1, 4)):
         counts = [(code, chance.choice((0, 1, 7, 1 << 32, (1 << 64) - 1))) for code in (4, 5, 7)]
-        told = b"".join(code.to_bytes(2, order) + (8).to_bytes(2, order) + count.to_bytes(8, order) for code, count in counts)
-        body = chance.randrange(3).to_bytes(4, order) + bytes(8) + told
+        body = chance.randrange(3).to_bytes(4, order) + bytes(8)
+        for code, count in counts:
+            body += code.to_bytes(2, order) + (8).to_bytes(2, order) + count.to_bytes(8, order)
         size = (12 + len(body)).to_bytes(4, order)
         pieces.insert(chance.randrange(1, len(pieces) + 1), (5).to_bytes(4, order) + size + body + size)
     return b"".join(pieces)
@@ -140,7 +142,8 @@ CHANGES: tuple[Callable[[bytes, random.Random], bytes], ...] = (
 
 
 def changed(file: bytes, chance: random.Random) -> bytes:
-    """A sound recording with one to three changes, or with its pieces in another order, twice, or with counts of losses."""
+    """A sound recording with one to three changes, or with its pieces in another order, twice, or with counts of
+    losses."""
     if chance.random() < 0.2:
         file = mirrored(file, chance)
     if chance.random() < 0.2:

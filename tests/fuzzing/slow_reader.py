@@ -29,8 +29,8 @@ FLAGS = {1: "in", 2: "out"}
 
 
 class Frame(NamedTuple):
-    """What a recording says of a frame; where is its section and the number of its interface there; is_damaged, whether it
-    was received with an error."""
+    """What a recording says of a frame; where is its section and the number of its interface there; is_damaged, whether
+    it was received with an error."""
 
     where: tuple[int, int]
     link: int
@@ -76,7 +76,8 @@ def frames_of(file: bytes) -> tuple[list[Frame], str, int]:
 
 
 class Counts:
-    """How many packets were lost, by interface: the greatest count of its statistics, and the sum of its packets' counts."""
+    """How many packets were lost, by interface: the greatest count of its statistics, and the sum of its packets'
+    counts."""
 
     def __init__(self) -> None:
         self.reported: dict[tuple[int, int], int] = {}
@@ -251,7 +252,8 @@ def interface_of(order: Order, where: tuple[int, int], body: bytes) -> Interface
 
 
 def timed(order: Order, interface: Interface, body: bytes) -> tuple[Frame, list[tuple[int, bytes]]]:
-    """Two halves of the time, the captured length, the original length, the frame, padding, and options, which are told."""
+    """Two halves of the time, the captured length, the original length, the frame, padding, and options, which are
+    told."""
     need(body, 16)
     high, low, size = (int.from_bytes(body[k : k + 4], order) for k in (0, 4, 8))
     end = 16 + size + -size % 4
