@@ -50,7 +50,8 @@ OTHERS = {
 @dataclasses.dataclass
 class Made:
     """A recording, the lines of its datagrams, the numbers of the frames that are left out, whether tshark reads it as
-    RFC 8200 has it, the frames that were received with an error, and how many packets were lost."""
+    RFC 8200 has it, the frames that were received with an error, how many packets were lost, and the datagrams whose
+    checksums are not right."""
 
     file: bytes
     rows: list[str]
@@ -58,12 +59,14 @@ class Made:
     is_compared: bool
     damaged: list[int]
     lost: int
+    sums: list[tuple[int, str]]
 
 
 @dataclasses.dataclass
 class Told:
     """What the program tells: the lines of datagrams, the frames left out with their kinds, the line of a fault, the
-    status, the frames that were received with an error, and how many packets were lost."""
+    status, the frames that were received with an error, how many packets were lost, and the datagrams whose checksums
+    are not right."""
 
     rows: list[str]
     left: list[tuple[int, str]]
@@ -71,12 +74,13 @@ class Told:
     status: int
     damaged: list[int]
     lost: int
+    sums: list[tuple[int, str]]
 
 
 @dataclasses.dataclass
 class Twice:
-    """A way in which a packet is recorded twice: the link, what stands in front of the first and of the second, the file of
-    both frames, and whether they are of two interfaces."""
+    """A way in which a packet is recorded twice: the link, what stands in front of the first and of the second, the
+    file of both frames, and whether they are of two interfaces."""
 
     name: str
     link: int
@@ -142,9 +146,13 @@ class Maker:
         ports = self.chance.randrange(1, 65_536), self.chance.choice((69, 4_000, 65_535))
         return Datagram(source, ports[0], target, ports[1], self.chance.randbytes(self.chance.randrange(most)))
 
-    def packet(self, it: Datagram, content: bytes, protocol: int = recorded.UDP, part: Fragment | None = None) -> bytes:
+    def packet(
+        self, it: Datagram, content: bytes, protocol: int = recorded.UDP, part: Fragment | None = None,
+        is_right: bool = True,
+    ) -> bytes:
         if it.version == 4:
-            return recorded.ipv4(it, content, protocol, part, bytes(4 * self.chance.choice((0, 0, 1, 10))))
+            options = bytes(4 * self.chance.choice((0, 0, 1, 10)))
+            return recorded.ipv4(it, content, protocol, part, options, is_right=is_right)
         every = (recorded.HOP_BY_HOP, recorded.ROUTING, recorded.DESTINATION)
         kinds = self.chance.choice(((), (), (recorded.HOP_BY_HOP,), every))
         return recorded.ipv6(it, content, protocol, part, kinds)
@@ -156,23 +164,37 @@ class Maker:
         content = recorded.carried(link, packet, self.chance, way if is_cooked else "unknown", kind, self.tags)
         return Frame(link, content, self.time, way if is_cooked else "unknown")
 
+    def summed(self, it: Datagram) -> tuple[recorded.Sum, recorded.Sum]:
+        """The kind of a datagram's checksum, and what is told of it: none is wrong over IPv6 (RFC 8200, section
+        8.1)."""
+        kinds: tuple[recorded.Sum, ...] = ("right", "right", "absent", "wrong")
+        kind = self.chance.choice(kinds)
+        return kind, "wrong" if kind == "absent" and it.version == 6 else kind
+
     def whole(self) -> list[tuple[Frame, Datagram | None]]:
         """A datagram in one frame, with bytes behind it now and then."""
         it = self.datagram()
+        kind, told = self.summed(it)
         surplus = self.chance.randbytes(self.chance.choice((0, 0, 0, 4)))
-        return [(self.frame(self.packet(it, recorded.udp(it, surplus=surplus))), it)]
+        # The header of IPv4 has a checksum of its own.
+        is_right = self.chance.random() < 0.8
+        frame = self.frame(self.packet(it, recorded.udp(it, surplus=surplus, kind=kind), is_right=is_right))
+        frame.sum = told if is_right or it.version == 6 else "wrong"
+        return [(frame, it)]
 
     def parted(self) -> list[tuple[Frame, Datagram | None]]:
         """A datagram in fragments, in any order, one of them perhaps twice."""
         it, self.id = self.datagram(3_000), self.id + 1
+        kind, told = self.summed(it)
         size = recorded.EIGHT * self.chance.randrange(1 + len(it.payload) // 80, 200)
-        parts = recorded.parts_of(recorded.udp(it), size, self.id)
+        parts = recorded.parts_of(recorded.udp(it, kind=kind), size, self.id)
         if len(parts) == 1:
             return self.whole()
         self.chance.shuffle(parts)
         link = [self.chance.choice(self.links)]
         packets = [self.packet(it, content, self.named(it, part), part) for part, content in parts]
         frames = [self.frame(packet, links=link) for packet in packets]
+        frames[-1].sum = told
         return [(frame, None) for frame in frames[:-1]] + [(frames[-1], it)]
 
     def named(self, it: Datagram, part: Fragment) -> int:
@@ -276,8 +298,8 @@ class Counted:
 
 
 def counted_at(order: str, place: int, blocks: list[tuple[int, recorded.Block]], chance: random.Random) -> Counted:
-    """What an interface of a section lost: its packets' counts are chosen, and blocks of statistics, of which the greatest
-    counts."""
+    """What an interface of a section lost: its packets' counts are chosen, and blocks of statistics, of which the
+    greatest counts."""
     missed = 0
     for at, it in blocks:
         if at == place and not isinstance(it, bytes) and it.is_timed and chance.random() < 0.2:
@@ -300,7 +322,9 @@ def listed(file: bytes, taken: list[tuple[Frame, Datagram | None, bool]], is_com
     numbered = list(enumerate(taken, 1))
     rows = [row(number, frame, it) for number, (frame, it, _) in numbered if it]
     damaged = [number for number, (frame, _, _) in numbered if frame.is_damaged]
-    return Made(file, rows, [number for number, (_, _, is_left) in numbered if is_left], is_compared, damaged, lost)
+    left = [number for number, (_, _, is_left) in numbered if is_left]
+    sums = [(number, str(frame.sum)) for number, (frame, it, _) in numbered if it and frame.sum != "right"]
+    return Made(file, rows, left, is_compared, damaged, lost, sums)
 
 
 class DatagramTrial(Trial):
@@ -313,7 +337,7 @@ class DatagramTrial(Trial):
     def tell(self, file: bytes) -> Told:
         """All that the program says of a recording."""
         done = subprocess.run([self.program], input=file, capture_output=True, timeout=120)
-        told = Told([], [], done.stderr.decode(), done.returncode, [], 0)
+        told = Told([], [], done.stderr.decode(), done.returncode, [], 0, [])
         for line in done.stdout.decode().splitlines():
             word, _, rest = line.partition(" ")
             if word == "datagram":
@@ -321,6 +345,9 @@ class DatagramTrial(Trial):
             elif word == "left":
                 number, kind = rest.split(" ", 1)
                 told.left.append((int(number), kind))
+            elif word == "checksum":
+                number, kind = rest.split(" ", 1)
+                told.sums.append((int(number), kind))
             elif word == "damaged":
                 told.damaged.append(int(rest))
             elif word == "lost":
@@ -341,6 +368,7 @@ class DatagramTrial(Trial):
         self.check(f"{name}, datagrams", rows == it.rows, difference(rows, it.rows))
         self.check(f"{name}, received with an error", told.damaged == it.damaged, (told.damaged, it.damaged))
         self.check(f"{name}, lost", told.lost == it.lost, (told.lost, it.lost))
+        self.check(f"{name}, checksums", told.sums == it.sums, (told.sums, it.sums))
         self.check(f"{name}, left out", sorted({frame for frame, _ in left}) == it.left, (left, it.left))
         counted = [int(row.split()[1]) for row in rows] + [frame for frame, _ in left]
         self.check(f"{name}, each frame once", len(set(counted)) == len(counted), sorted(counted))
@@ -352,26 +380,29 @@ class DatagramTrial(Trial):
         """A changed recording: all that the program says of it is what the slow reader says."""
         told, wanted = self.tell(file), slow_reader.listing(file)
         rows, left, fault, status = told.rows, told.left, told.fault, told.status
-        seen = told.damaged, told.lost
-        self.check(f"{name}, errors and losses", seen == (wanted.damaged, wanted.lost), (seen, wanted))
+        seen = told.damaged, told.lost, told.sums
+        said = wanted.damaged, wanted.lost, wanted.sums
+        self.check(f"{name}, errors, losses and checksums", seen == said, (seen, said))
         self.check(f"{name}, datagrams", rows == wanted.rows, difference(rows, wanted.rows))
         self.check(f"{name}, left out", sorted(left) == wanted.left, (sorted(left), wanted.left))
         ends = wanted.fault, 2 if wanted.fault else 0
         self.check(f"{name}, its end", (fault, status) == ends, (fault, status, ends))
 
     def try_copies(self) -> None:
-        """A datagram that stands twice: what another interface recorded too is left out, but not what its sender may have
-        repeated, nor what one interface recorded twice."""
+        """A datagram that stands twice: what another interface recorded too is left out, but not what its sender may
+        have repeated, nor what one interface recorded twice."""
         it = Datagram("192.0.2.7", 40_000, "192.0.2.1", 69, b"\0\4\0\1")
         cases = (7, 1_000_000, True), (0, 1_000_000, False), (7, 1_000_001, False), (0, 1_000_001, False)
         for (id, apart, is_near), way in itertools.product(cases, TWICE):
             packet = recorded.ipv4(it, recorded.udp(it), id=id)
-            frames = [Frame(way.link, way.front(index) + packet, recorded.FIRST_TIME + index * apart) for index in (0, 1)]
+            times = recorded.FIRST_TIME, recorded.FIRST_TIME + apart
+            frames = [Frame(way.link, way.front(index) + packet, time) for index, time in enumerate(times)]
             is_left = is_near and way.is_elsewhere
             left = [(2, "Copy")] if is_left else []
             rows = [row(number, frame, it) for number, frame in enumerate(frames, 1) if number == 1 or not is_left]
             got = self.run(way.file(frames))
-            self.check(f"identification {id}, {apart} ns apart, {way.name}", got == (rows, left, "", 0), (got, rows, left))
+            name = f"identification {id}, {apart} ns apart, {way.name}"
+            self.check(name, got == (rows, left, "", 0), (got, rows, left))
 
     def try_protocols(self) -> None:
         """A datagram of IPv6 in two fragments, of which the second names ICMP (RFC 8200, section 4.5), in both orders;

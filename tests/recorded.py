@@ -17,6 +17,8 @@ HOP_BY_HOP, ROUTING, FRAGMENT, DESTINATION = 0, 43, 44, 60
 # Tags of IEEE 802.1Q and 802.1ad, and what was used before: none, one, two, three.
 TAGGED = ((), (0x8100,), (0x88A8, 0x8100), (0x9100, 0x88A8, 0x8100))
 Direction = Literal["unknown", "in", "out"]
+# What the checksums of a datagram say.
+Sum = Literal["right", "absent", "wrong"]
 DIRECTIONS: dict[Direction, int] = {"unknown": 0, "in": 1, "out": 2}
 # What Linux writes of a packet's way: to us, to all, to some, to another host, from us.
 COOKED_TYPES = {"in": (0,), "unknown": (1, 2, 3), "out": (4,)}
@@ -55,8 +57,9 @@ class Fragment:
 
 @dataclasses.dataclass
 class Frame:
-    """A frame as it was recorded: its bytes, how many it had, its time in nanoseconds since 1970, its direction, whether it
-    was received with a wrong checksum of its link, and how many packets were lost before it."""
+    """A frame as it was recorded: its bytes, how many it had, its time in nanoseconds since 1970, its direction,
+    whether it was received with a wrong checksum of its link, how many packets were lost before it, and what the
+    checksums say of the datagram that it ends."""
 
     link: int
     content: bytes
@@ -67,25 +70,40 @@ class Frame:
     is_timed: bool = True
     is_damaged: bool = False
     missed: int = 0
+    sum: Sum = "right"
 
 
-def udp(it: Datagram, length: Optional[int] = None, surplus: bytes = b"") -> bytes:
-    """The header, the payload, and what stands behind it in IP (RFC 768)."""
+def sum_of(content: bytes) -> int:
+    """The ones' complement of the ones' complement sum of words of 16 bits (RFC 1071, section 4.1)."""
+    content += bytes(len(content) % 2)
+    total = sum(int.from_bytes(content[at : at + 2], "big") for at in range(0, len(content), 2))
+    while total >> 16:
+        total = (total & 0xFFFF) + (total >> 16)
+    return ~total & 0xFFFF
+
+
+def udp(it: Datagram, length: Optional[int] = None, surplus: bytes = b"", kind: Sum = "right") -> bytes:
+    """The header, the payload, and what stands behind it in IP (RFC 768), with a checksum of that kind."""
     size = 8 + len(it.payload) if length is None else length
-    return struct.pack("!HHHH", it.source_port, it.target_port, size, 0xBEEF) + it.payload + surplus
+    front, addresses = struct.pack("!HHH", it.source_port, it.target_port, size), b"".join(it.packed())
+    made = sum_of(addresses + struct.pack("!HH", UDP, size) + front + bytes(2) + it.payload) or 0xFFFF
+    checksum = {"right": made, "absent": 0, "wrong": made ^ 0x1234}[kind]
+    return front + struct.pack("!H", checksum) + it.payload + surplus
 
 
 def ipv4(
     it: Datagram, content: bytes, protocol: int = UDP, part: Optional[Fragment] = None, options: bytes = b"",
-    id: int = 7,
+    id: int = 7, is_right: bool = True,
 ) -> bytes:
     """A packet of IPv4, of whole words of options (RFC 791, section 3.1); a part has its own identification."""
     head, place = 5 + len(options) // 4, 0x4000
     if part:
         place = part.place // EIGHT | (0x2000 if part.more else 0)
     size = 4 * head + len(content)
-    first = struct.pack("!BBHHHBBH", 0x40 | head, 0, size, part.id if part else id, place, 64, protocol, 0)
-    return first + b"".join(it.packed()) + options + content
+    first = struct.pack("!BBHHHBB", 0x40 | head, 0, size, part.id if part else id, place, 64, protocol)
+    rest = b"".join(it.packed()) + options
+    checksum = sum_of(first + bytes(2) + rest) ^ (0 if is_right else 0x4321)
+    return first + struct.pack("!H", checksum) + rest + content
 
 
 def ipv6(

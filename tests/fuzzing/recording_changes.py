@@ -1,9 +1,10 @@
 """Changes of recordings: bytes, numbers that are lengths, cuts, and parts of a file twice, left out or in another
-order."""
+order; frames that a mirror gives twice, at one interface or at two, and counts of what the recorder lost."""
 from __future__ import annotations
 
 import random
 from collections.abc import Callable
+from typing import Literal
 
 from fuzzing.slow_reader import MAGICS, ORDERS, SECTION
 
@@ -93,13 +94,60 @@ def reordered(file: bytes, chance: random.Random) -> bytes:
     return b"".join(pieces)
 
 
+def mirrored(file: bytes, chance: random.Random) -> bytes:
+    """Each frame twice, one behind the other, the second in pcapng perhaps at another interface, which need not be
+    named."""
+    pieces, order, is_elsewhere = pieces_of(file), order_of(file), chance.random() < 0.5
+    told = pieces[:1]
+    for piece in pieces[1:]:
+        if piece[:4] == SECTION:
+            order = ORDERS.get(piece[8:12], "little")
+        is_classic = file[:4] in MAGICS
+        told.append(piece)
+        if is_classic or int.from_bytes(piece[:4], order) in (2, 3, 6):
+            told.append(piece if is_classic or not is_elsewhere else moved(piece, order, chance))
+    return b"".join(told)
+
+
+def order_of(file: bytes) -> Literal["little", "big"]:
+    """The order of the numbers of a recording, or of its first section."""
+    return MAGICS[file[:4]][0] if file[:4] in MAGICS else ORDERS.get(file[8:12], "little")
+
+
+def moved(piece: bytes, order: Literal["little", "big"], chance: random.Random) -> bytes:
+    """A packet's block at one of the first three interfaces."""
+    kind, place = int.from_bytes(piece[:4], order), chance.randrange(3)
+    size = {2: 2, 6: 4}.get(kind, 0)
+    return piece[:8] + place.to_bytes(size, order) + piece[8 + size :] if size else piece
+
+
+def counted(file: bytes, chance: random.Random) -> bytes:
+    """Statistics of an interface, anywhere among the blocks, one to three times."""
+    if file[:4] in MAGICS:
+        return file
+    pieces, order = pieces_of(file), order_of(file)
+    for _ in range(chance.randrange(1, 4)):
+        counts = [(code, chance.choice((0, 1, 7, 1 << 32, (1 << 64) - 1))) for code in (4, 5, 7)]
+        body = chance.randrange(3).to_bytes(4, order) + bytes(8)
+        for code, count in counts:
+            body += code.to_bytes(2, order) + (8).to_bytes(2, order) + count.to_bytes(8, order)
+        size = (12 + len(body)).to_bytes(4, order)
+        pieces.insert(chance.randrange(1, len(pieces) + 1), (5).to_bytes(4, order) + size + body + size)
+    return b"".join(pieces)
+
+
 CHANGES: tuple[Callable[[bytes, random.Random], bytes], ...] = (
     byte_changed, byte_changed, number_changed, number_changed, number_changed, cut, grown, shrunk, repeated,
 )
 
 
 def changed(file: bytes, chance: random.Random) -> bytes:
-    """A sound recording with one to three changes, or with its pieces in another order."""
+    """A sound recording with one to three changes, or with its pieces in another order, twice, or with counts of
+    losses."""
+    if chance.random() < 0.2:
+        file = mirrored(file, chance)
+    if chance.random() < 0.2:
+        return counted(file, chance)
     if chance.random() < 0.4:
         return reordered(file, chance)
     for _ in range(chance.choice((1, 1, 1, 2, 3))):

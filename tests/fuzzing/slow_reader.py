@@ -29,8 +29,8 @@ FLAGS = {1: "in", 2: "out"}
 
 
 class Frame(NamedTuple):
-    """What a recording says of a frame; where is its section and the number of its interface there; is_damaged, whether it
-    was received with an error."""
+    """What a recording says of a frame; where is its section and the number of its interface there; is_damaged, whether
+    it was received with an error."""
 
     where: tuple[int, int]
     link: int
@@ -46,13 +46,14 @@ class Fault(Exception):
 
 class Listing(NamedTuple):
     """The lines of datagrams, the frames that are left out with the reason, the fault at the end, the frames that were
-    received with an error, and how many packets the recorder lost."""
+    received with an error, how many packets the recorder lost, and the datagrams whose checksums are not right."""
 
     rows: list[str]
     left: list[tuple[int, str]]
     fault: str
     damaged: list[int]
     lost: int
+    sums: list[tuple[int, str]]
 
 
 # ---- files
@@ -75,7 +76,8 @@ def frames_of(file: bytes) -> tuple[list[Frame], str, int]:
 
 
 class Counts:
-    """How many packets were lost, by interface: the greatest count of its statistics, and the sum of its packets' counts."""
+    """How many packets were lost, by interface: the greatest count of its statistics, and the sum of its packets'
+    counts."""
 
     def __init__(self) -> None:
         self.reported: dict[tuple[int, int], int] = {}
@@ -250,7 +252,8 @@ def interface_of(order: Order, where: tuple[int, int], body: bytes) -> Interface
 
 
 def timed(order: Order, interface: Interface, body: bytes) -> tuple[Frame, list[tuple[int, bytes]]]:
-    """Two halves of the time, the captured length, the original length, the frame, padding, and options, which are told."""
+    """Two halves of the time, the captured length, the original length, the frame, padding, and options, which are
+    told."""
     need(body, 16)
     high, low, size = (int.from_bytes(body[k : k + 4], order) for k in (0, 4, 8))
     end = 16 + size + -size % 4
@@ -383,11 +386,31 @@ def over_headers(kind: int, content: bytes) -> Optional[tuple[int, Optional[Part
 
 
 class Udp(NamedTuple):
-    """A datagram of UDP."""
+    """A datagram of UDP, and its bytes from the header on."""
 
     source: int
     target: int
     payload: bytes
+    whole: bytes
+
+
+def is_summed(content: bytes) -> bool:
+    """Whether words of 16 bits, a checksum among them, add up to all ones in ones' complement (RFC 1071)."""
+    total = 0
+    for at in range(0, len(content), 2):
+        total += number(content[at : at + 2] + bytes(1), 0)
+        total = (total & 0xFFFF) + (total >> 16)
+    return total == 0xFFFF
+
+
+def sum_told(packet: Packet, it: Udp) -> str:
+    """What the checksums of a datagram and of its packet say."""
+    if packet.version == IPV4 and not is_summed(packet.whole[: 4 * (packet.whole[0] % 16)]):
+        return "wrong"
+    if not number(it.whole, 6):
+        return "absent" if packet.version == IPV4 else "wrong"
+    pseudo = packet.source + packet.target + len(it.whole).to_bytes(4, "big") + UDP.to_bytes(4, "big")
+    return "right" if is_summed(pseudo + it.whole) else "wrong"
 
 
 def udp_of(protocol: int, content: bytes) -> Udp:
@@ -402,7 +425,7 @@ def udp_of(protocol: int, content: bytes) -> Udp:
         raise Fault("Length")
     if not number(it, 0) or not number(it, 2):
         raise Fault("Port")
-    return Udp(number(it, 0), number(it, 2), it[8 : number(it, 4)])
+    return Udp(number(it, 0), number(it, 2), it[8 : number(it, 4)], it[: number(it, 4)])
 
 
 # ---- fragments
@@ -469,6 +492,7 @@ class Reader:
         self.last: list[tuple[Place, Optional[int], bytes]] = []
         self.rows: list[str] = []
         self.left: list[tuple[int, str]] = []
+        self.sums: list[tuple[int, str]] = []
 
     def leave(self, frames: list[int], why: str) -> None:
         self.left += [(frame, why) for frame in frames]
@@ -524,6 +548,8 @@ class Reader:
     def add(self, at: int, frame: Frame, packet: Packet) -> None:
         """A whole packet."""
         it = udp_of(packet.protocol, packet.content)
+        if (told := sum_told(packet, it)) != "right":
+            self.sums.append((at, told))
         way = packet.way if packet.way != "unknown" else frame.way
         time = "-" if frame.time is None else str(frame.time)
         ends = written(packet.source), str(it.source), written(packet.target), str(it.target)
@@ -548,4 +574,4 @@ def listing(file: bytes) -> Listing:
         reader.leave(it.frames, "FragmentMissing")
     damaged = [at for at, frame in enumerate(frames, 1) if frame.is_damaged]
     ends = f"fault {len(frames) + 1} {fault}" if fault else ""
-    return Listing(reader.rows, sorted(reader.left), ends, damaged, lost)
+    return Listing(reader.rows, sorted(reader.left), ends, damaged, lost, reader.sums)

@@ -7,19 +7,30 @@ use tftp_copies::{Interface, Recent};
 /// A packet that is taken: its interface, its time, its bytes, and whether it is a copy.
 type Taken = (Interface, Option<u64>, &'static [u8], bool);
 
-/// An interface by its three numbers.
-const fn interface(section: u64, number: u64, index: u32) -> Interface {
-    Interface {
-        section,
-        number,
-        index,
-    }
-}
+/// Two interfaces of a host, and two of its next section, whose link headers number them.
+const ONE: Interface = Interface {
+    section: 1,
+    number: 0,
+    index: 0,
+};
 
-/// Two interfaces of a host.
-const ONE: Interface = interface(1, 0, 0);
+const OTHER: Interface = Interface {
+    section: 1,
+    number: 1,
+    index: 0,
+};
 
-const OTHER: Interface = interface(1, 1, 0);
+const NEXT: Interface = Interface {
+    section: 2,
+    number: 0,
+    index: 0,
+};
+
+const NUMBERED: Interface = Interface {
+    section: 2,
+    number: 0,
+    index: 1,
+};
 
 /// What is a copy, and what looks like one and is none.
 const TAKEN: &[Taken] = &[
@@ -32,8 +43,8 @@ const TAKEN: &[Taken] = &[
     (ONE, Some(4_002_000), b"second", true),
     (ONE, None, b"first", false),
     (ONE, Some(4_001_000), b"first!", false),
-    (interface(2, 0, 0), Some(4_001_000), b"first!", true),
-    (interface(2, 0, 1), Some(4_001_000), b"first!", true),
+    (NEXT, Some(4_001_000), b"first!", true),
+    (NUMBERED, Some(4_001_000), b"first!", true),
     (ONE, Some(4_001_000), b"", false),
 ];
 
