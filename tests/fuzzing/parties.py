@@ -401,7 +401,6 @@ class Session(End):
         self.close()
 
     def take(self, payload: bytes) -> None:
-        self.server.in_vain.setdefault(self.client, set()).discard(self.own.port)
         self.witness_take(payload)
         code = opcode(payload)
         if code == 5:
@@ -454,8 +453,8 @@ class Server:
     sessions: dict[tuple[Endpoint, Endpoint], Session] = field(default_factory=dict)
     aborted: set[Endpoint] = field(default_factory=set)
     agreed: dict[bytes, dict[bytes, int]] = field(default_factory=dict)
-    # of each client the ports from which nothing was taken up: answers to a request that was repeated
-    in_vain: dict[Endpoint, set[int]] = field(default_factory=dict)
+    # of each client the ports from which it was served
+    served: dict[Endpoint, set[int]] = field(default_factory=dict)
     next: int = 0
 
     def port(self, client: Endpoint) -> Endpoint:
@@ -465,8 +464,8 @@ class Server:
             return Endpoint(self.service.host, self.ports[0])
         busy = {own.port for own, _ in self.sessions}
         if self.world.has("reused"):
-            in_vain = () if self.world.has("reused_in_vain") else self.in_vain.get(client, ())
-            free = [port for port in self.ports if port not in busy and port not in in_vain]
+            served = () if self.world.has("reused_for_same") else self.served.get(client, ())
+            free = [port for port in self.ports if port not in busy and port not in served]
             if free:
                 return Endpoint(self.service.host, free[0])
         self.next += 1
@@ -525,6 +524,6 @@ class Server:
         if former:
             former.age += 1
         self.sessions[one.own, source] = one
-        self.in_vain.setdefault(source, set()).add(one.own.port)
+        self.served.setdefault(source, set()).add(one.own.port)
         self.aborted.discard(source)
         one.begin()

@@ -36,8 +36,8 @@ KINDS: dict[str, str] = {
     "servers": "several servers",
     "one": "a server of one port beside the service port",
     "service": "a server that answers from the service port",
-    "reused": "a server's port is used again at once",
-    "reused_in_vain": "and for the same client, though an answer from it to a repeated request may be under way",
+    "reused": "a server's port is used again at once for another client",
+    "reused_for_same": "and for the same, though a repeated request of an earlier transfer may be answered from it",
     "restarts": "a server answers each copy of a request anew",
     "new_ports": "a client takes a new port for each transfer",
     "own_again": "a client takes one of two ports for each transfer",
@@ -56,7 +56,7 @@ KINDS: dict[str, str] = {
     "clock_back": "the recorder's clock is set back",
 }
 # What the definition does not carry yet: drawn only where it is named.
-OPEN = frozenset(("reused_in_vain",))
+OPEN = frozenset(("reused_for_same",))
 DRAWN = tuple(kind for kind in KINDS if kind not in OPEN)
 STRANGER, FOREIGN = "10.3.0.9", "10.4.0.1"
 LONGEST = 70
