@@ -9,16 +9,16 @@ use Rattle.tftp_lines.specs.{asked_part}
 
 -- the first zero stands behind the name
 zero_behind : (name rest : List ℕ) → IsString name → position_or_len (λ b. b == 0) (name ++ 0 ∷ rest) ≡ length name
-zero_behind [] rest no = refl
-zero_behind (x ∷ name) rest no =
+zero_behind [] rest free = refl
+zero_behind (x ∷ name) rest free =
     let more : 1 + length name ≡ length (x ∷ name) = omega arith in
-    ap (λ b. cond (not b) (1 + position_or_len (λ c. c == 0) (name ++ 0 ∷ rest)) 0) (ne_eqb x 0 no.0) ∙ ap (λ n. 1 + n) (zero_behind name rest no.1) ∙ more
+    ap (λ b. cond (not b) (1 + position_or_len (λ c. c == 0) (name ++ 0 ∷ rest)) 0) (ne_eqb x 0 free.0) ∙ ap (λ n. 1 + n) (zero_behind name rest free.1) ∙ more
 
 behind_there : (name rest : List ℕ) → IsString name → position (λ b. b == 0) (name ++ 0 ∷ rest) ≡ Some (length name)
-behind_there name rest no =
+behind_there name rest free =
     let more : length (name ++ 0 ∷ rest) ≡ length name + length (0 ∷ rest) = length-append name (0 ∷ rest) in
     let within : nat_lt (length name) (length (name ++ 0 ∷ rest)) ≡ true = lt-ltb (length name) (length (name ++ 0 ∷ rest)) (omega arith) in
-    ap (λ n. cond (nat_lt n (length (name ++ 0 ∷ rest))) (Some n) None) (zero_behind name rest no)
+    ap (λ n. cond (nat_lt n (length (name ++ 0 ∷ rest))) (Some n) None) (zero_behind name rest free)
     ∙ ap (λ b. cond b (Some (length name)) None) within
 
 front_taken : (code : ℕ) (name rest : List ℕ) → take (length name + 2) (0 ∷ code ∷ (name ++ 0 ∷ rest)) ≡ 0 ∷ code ∷ name
@@ -27,7 +27,7 @@ front_taken code name rest =
     ap (λ n. take n (0 ∷ code ∷ (name ++ 0 ∷ rest))) two ∙ ap (λ l. 0 ∷ code ∷ l) (take-append_seam name (0 ∷ rest))
 
 asked_front : (code : ℕ) (name rest : List ℕ) → IsString name → asked_part (0 ∷ code ∷ (name ++ 0 ∷ rest)) ≡ 0 ∷ code ∷ name
-asked_front code name rest no = rw (behind_there name rest no) (front_taken code name rest)
+asked_front code name rest free = rw (behind_there name rest free) (front_taken code name rest)
 
 -- the name stands first among the strings
 name_first : (name : List ℕ) (more : List (List ℕ)) → strings (name ∷ more) ≡ name ++ 0 ∷ strings more
