@@ -62,8 +62,9 @@ service_is older port is = or_left ((port == 69) || list_any (λ n. n == port) [
 pub request_place : (c : Endpoint) (older : List Placed) (now : ℕ) (d : Recorded) → asks_from c d ≡ true → d.target.port ≡ 69 → place_of [] older now d ≡ place_asked (length older) d (live now (line c older))
 request_place c older now d is service =
     let parts = and_parts (goes_from c d) (begins_request d.payload) is in
-    let asked : asks [] older now d ≡ true = and_from (begins_request d.payload) (is_service [] older d.target.port || (d.is_spelled && not (is_some (talk_in d.source d.target (live now (line d.source older)))) && not (is_client older now d.target))) parts.1
-    (or_left (is_service [] older d.target.port) (d.is_spelled && not (is_some (talk_in d.source d.target (live now (line d.source older)))) && not (is_client older now d.target)) (service_is older d.target.port service)) in
+    let named : is_service [] [] d.target.port ≡ true = service_is [] d.target.port service in
+    let asked : asks [] older now d ≡ true = λ i. parts.1 i && (named i || (not (is_client older now d.target)
+    && (is_service [] older d.target.port || (d.is_spelled && not (is_some (talk_in d.source d.target (live now (line d.source older)))))))) in
     ap (λ b. if b then place_asked (length older) d (live now (line d.source older)) else if is_nowhere (at_client older now d) then beside [] older now d else at_client older now d) asked
     ∙ ap (λ e. place_asked (length older) d (live now (line e older))) (is_same d.source c parts.0)
 
@@ -92,38 +93,22 @@ talk_place c older now d y none plain came place =
 
 -- ---- what does not ask
 
--- requests go to the service port
-abbrev pub AreServed69 : List Placed → Type 0
-AreServed69 older = AllByRecursion (λ q. is_request q ≡ true → q.datagram.target.port ≡ 69) older
-
-none_to : (port : ℕ) (older : List Placed) → (port ≡ 69 → ⊥) → AreServed69 older → list_any (λ p. is_request p && (p.datagram.target.port == port)) older ≡ false
-none_to port [] other served = refl
-none_to port (q ∷ older) other served =
-    let off : (is_request q && (q.datagram.target.port == port)) ≡ false = by_test (is_request q)
-    (λ is. ap (λ b. b && (q.datagram.target.port == port)) is ∙ ne_eqb q.datagram.target.port port (λ same. other (sym same ∙ served.0 is)))
-    (λ no. ap (λ b. b && (q.datagram.target.port == port)) no) in
-    ap (λ b. b || list_any (λ p. is_request p && (p.datagram.target.port == port)) older) off ∙ none_to port older other served.1
-
-no_service : (port : ℕ) (older : List Placed) → (port ≡ 69 → ⊥) → AreServed69 older → is_service [] older port ≡ false
-no_service port older other served =
-    ap (λ b. (b || list_any (λ n. n == port) []) || list_any (λ p. is_request p && (p.datagram.target.port == port)) older) (ne_eqb port 69 other) ∙ none_to port older other served
-
 -- what says no request
 plain_asks : (older : List Placed) (now : ℕ) (d : Recorded) → begins_request d.payload ≡ false → asks [] older now d ≡ false
-plain_asks older now d plain =
-    ap (λ b. b && (is_service [] older d.target.port || (d.is_spelled && not (is_some (talk_in d.source d.target (live now (line d.source older)))) && not (is_client older now d.target)))) plain
+plain_asks older now d plain = λ i. plain i && (is_service [] [] d.target.port || (not (is_client older now d.target)
+    && (is_service [] older d.target.port || (d.is_spelled && not (is_some (talk_in d.source d.target (live now (line d.source older))))))))
 
 and_none : (b : Bool) → (b && false) ≡ false
 and_none true = refl
 and_none false = refl
 
 -- what comes to a client whose line goes on
-came_asks : (c : Endpoint) (older : List Placed) (now : ℕ) (d : Recorded) → (c.port ≡ 69 → ⊥) → AreServed69 older → d.target ≡ c → is_client older now c ≡ true → asks [] older now d ≡ false
-came_asks c older now d other served to client =
-    let service : is_service [] older d.target.port ≡ false = ap (λ e. is_service [] older e.port) to ∙ no_service c.port older other served in
+came_asks : (c : Endpoint) (older : List Placed) (now : ℕ) (d : Recorded) → (c.port ≡ 69 → ⊥) → d.target ≡ c → is_client older now c ≡ true → asks [] older now d ≡ false
+came_asks c older now d other to client =
+    let service : is_service [] [] d.target.port ≡ false = ap (λ e. is_service [] [] e.port) to ∙ ap (λ b. (b || list_any (λ n. n == c.port) []) || false) (ne_eqb c.port 69 other) in
     let there : is_client older now d.target ≡ true = ap (is_client older now) to ∙ client in
-    (λ i. begins_request d.payload && (service i || (d.is_spelled && not (is_some (talk_in d.source d.target (live now (line d.source older)))) && not (there i))))
-    ∙ ap (λ b. begins_request d.payload && b) (and_none (d.is_spelled && not (is_some (talk_in d.source d.target (live now (line d.source older))))))
+    (λ i. begins_request d.payload && (service i || (not (there i)
+    && (is_service [] older d.target.port || (d.is_spelled && not (is_some (talk_in d.source d.target (live now (line d.source older)))))))))
     ∙ and_none (begins_request d.payload)
 
 -- ---- the recording
@@ -203,27 +188,27 @@ module _ (write : Address → List ℕ) (c : Endpoint) where
     live_case lived = by lived stands
 
   -- of a capture that goes on, what is no request of its client does not ask
-  pub asks_not : (ds k0 : List Recorded) (e d : Recorded) → Follows c (e ∷ k0) d → Standing c (e ∷ k0) (placed [] ds) → AllByRecursion IsOnTime (placed [] ds) → (c.port ≡ 69 → ⊥) → AreServed69 (placed [] ds)
+  pub asks_not : (ds k0 : List Recorded) (e d : Recorded) → Follows c (e ∷ k0) d → Standing c (e ∷ k0) (placed [] ds) → AllByRecursion IsOnTime (placed [] ds) → (c.port ≡ 69 → ⊥)
       → (now : ℕ) → now ≤ e.time + silence → asks_from c d ≡ false → asks [] (placed [] ds) now d ≡ false
-  asks_not ds k0 e d follows (nothing none empty) clear other served now near off = absurd (cc)
-  asks_not ds k0 e d follows (standing kp rest x has) clear other served now near off = by_test (goes_from c d)
+  asks_not ds k0 e d follows (nothing none empty) clear other now near off = absurd (cc)
+  asks_not ds k0 e d follows (standing kp rest x has) clear other now near off = by_test (goes_from c d)
       (λ from. plain_asks (placed [] ds) now d (no_begin c d off from))
       (λ came.
       let lived = live_on c e k0 (placed [] ds) kp rest x now has clear near in
       let to = and_parts (same_endpoint d.source (other_of c d)) (same_endpoint d.target c) (comes_to_it c d came follows.here) in
-      came_asks c (placed [] ds) now d other served (is_same d.target c to.1)
+      came_asks c (placed [] ds) now d other (is_same d.target c to.1)
       (ap (λ l. is_some (latest_in l)) (lived ∙ has.whole) ∙ ap is_some has.latest))
 
   -- one more of it
-  pub more_next : (ds k0 : List Recorded) (e d : Recorded) → Follows c (e ∷ k0) d → Standing c (e ∷ k0) (placed [] ds) → AllByRecursion IsOnTime (placed [] ds) → (c.port ≡ 69 → ⊥) → AreServed69 (placed [] ds) → (goes_from c d ≡ false → line d.source (placed [] ds) ≡ [])
+  pub more_next : (ds k0 : List Recorded) (e d : Recorded) → Follows c (e ∷ k0) d → Standing c (e ∷ k0) (placed [] ds) → AllByRecursion IsOnTime (placed [] ds) → (c.port ≡ 69 → ⊥) → (goes_from c d ≡ false → line d.source (placed [] ds) ≡ [])
       → (now : ℕ) → now ≤ e.time + silence → Next (e ∷ k0) d (placed [] ds) now (place_of [] (placed [] ds) now d)
-  more_next ds k0 e d follows (nothing none empty) clear other served alone now near = absurd (cc)
-  more_next ds k0 e d follows (standing kp rest x has) clear other served alone now near =
+  more_next ds k0 e d follows (nothing none empty) clear other alone now near = absurd (cc)
+  more_next ds k0 e d follows (standing kp rest x has) clear other alone now near =
       let lived = live_on c e k0 (placed [] ds) kp rest x now has clear near in
       by_test (asks_from c d)
       (λ is. let (y, next) = request_step c (e ∷ k0) (placed [] ds) kp rest x d now has follows is lived in
       subst (Next (e ∷ k0) d (placed [] ds) now) (ap (place_asked (length (placed [] ds)) d) (sym lived) ∙ sym (request_place c (placed [] ds) now d is (follows.service is))) (kp, rest, y, next))
       (λ off. let (y, client, place, next) = talk_step c (e ∷ k0) (placed [] ds) kp rest x d now has follows off lived in
-      let plain : asks [] (placed [] ds) now d ≡ false = asks_not ds k0 e d follows (standing kp rest x has) clear other served now near off in
+      let plain : asks [] (placed [] ds) now d ≡ false = asks_not ds k0 e d follows (standing kp rest x has) clear other now near off in
       subst (Next (e ∷ k0) d (placed [] ds) now) (sym (talk_place c (placed [] ds) now d y alone plain (λ came. comes_to_it c d came follows.here)
       (ap (λ l. place_at c (other_of c d) l d) lived ∙ place))) (kp, rest, x, next))

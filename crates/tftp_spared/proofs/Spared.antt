@@ -16,7 +16,7 @@ use Rattle.tftp_spared.proofs.Basics.{doubted_more}
 use Rattle.tftp_spared.proofs.Stands.{new, IsPlain, talks, State, doubted, asking, answered, Has}
 use Rattle.tftp_spared.proofs.Stands.IsPlain.{asks as asked}
 use Rattle.tftp_spared.proofs.Owned.{AreOwn, latest_below, line_below}
-use Rattle.tftp_spared.proofs.Recordings.{AreServed69, Standing, nothing, standing, clock_now, first_next, more_next, on_time, order_rest, captures_follow}
+use Rattle.tftp_spared.proofs.Recordings.{Standing, nothing, standing, clock_now, first_next, more_next, on_time, order_rest, captures_follow}
 use Rattle.tftp_spared.proofs.Clients.{AreAtClients, all_own, alone, has_other, not_at, not_of, own}
 use Rattle.tftp_spared.proofs.Views.{IsRepeatable, answered_lawful, asking_lawful, seen}
 use Rattle.tftp_spared.proofs.Repeated.{repeated_passes}
@@ -114,7 +114,6 @@ module _ (write : Address → List ℕ) (write_one : (a b : Address) → write a
     -- what stands of the recording before
     pub record Before (ds : List Recorded) : Type 0 where
       pub at : AreAtClients clients (placed [] ds)
-      pub served : AreServed69 (placed [] ds)
       pub stood : (k : List Recorded) → At ds k → Standing c k (placed [] ds)
 
     no_other : (d : Recorded) (ds : List Recorded) → IsGiven (d ∷ ds) → Before ds → is_with c d ≡ true → goes_from c d ≡ false → line d.source (placed [] ds) ≡ []
@@ -128,7 +127,7 @@ module _ (write : Address → List ℕ) (write_one : (a b : Address) → write a
         let (kp, rest, x, has) = first_next write c ds k0 d (captures_follow write c (filter (is_with c) ds) k0 before) follows (b.stood k0 before) (moment d ds) in
         (kp, rest, x, subst (λ l. Has c l (placed [] (d ∷ ds)) (top d ds ∷ kp) rest x) (sym is) has)
     next_has d ds k g with b (goes_on e k0 before follows near good is) =
-        let (kp, rest, x, has) = more_next write c ds k0 e d follows (b.stood (e ∷ k0) before) (on_time ds (order_rest d ds g.order)) g.port b.served (no_other d ds g b with) (moment d ds)
+        let (kp, rest, x, has) = more_next write c ds k0 e d follows (b.stood (e ∷ k0) before) (on_time ds (order_rest d ds g.order)) g.port (no_other d ds g b with) (moment d ds)
         (subst (λ t. t ≤ e.time + silence) (sym (clock_now d ds g.order)) near) in
         (kp, rest, x, subst (λ l. Has c l (placed [] (d ∷ ds)) (top d ds ∷ kp) rest x) (sym is) has)
 

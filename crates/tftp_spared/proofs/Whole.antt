@@ -17,9 +17,9 @@ use Rattle.tftp_fair.proofs.Thinned.{filter_kept, filter_dropped, kept_or_not}
 use Rattle.tftp_spared.specs.{SparesClientsByThree, is_doubted_there, AreCaptures, AreInterleaved, IsLawfulAt, IsWholeCapture, IsNext, AreInOrder, SparesClients, asks_from, begins, goes_on, goes_from}
 use Rattle.tftp_spared.proofs.Basics.{doubtful_is, all_first, all_last}
 use Rattle.tftp_spared.proofs.Stands.{new}
-use Rattle.tftp_spared.proofs.Recordings.{AreServed69, Standing, nothing, asks_not, clock_now, on_time, order_rest}
+use Rattle.tftp_spared.proofs.Recordings.{Standing, nothing, asks_not, clock_now, on_time, order_rest}
 use Rattle.tftp_spared.proofs.Owned.{AreOwn, transfer_below}
-use Rattle.tftp_spared.proofs.Clients.{AreAtClients, all_own, at_more, has_asked, own}
+use Rattle.tftp_spared.proofs.Clients.{AreAtClients, all_own, at_more, own}
 use Rattle.tftp_spared.proofs.Lawful.{AreHere, follows_lawful}
 use Rattle.tftp_spared.proofs.Spared.{AllBefore, At, IsGiven, OneOf, at_before, at_here, spares, step}
 
@@ -147,10 +147,9 @@ module _ (write : Address → List ℕ) (clients : List Endpoint) (recorded : Li
 
   record Global (ds : List Recorded) : Type 0 where
     at : AreAtClients clients (placed [] ds)
-    served : AreServed69 (placed [] ds)
     stood : (c : Endpoint) → Contains clients c → (k : List Recorded) → At write g.hosts c ds k → Standing c k (placed [] ds)
 
-  asked_by : (d : Recorded) (newer ds : List Recorded) → recorded ≡ newer ++ d ∷ ds → Global ds → asks [] (placed [] ds) (now d ds) d ≡ true → Contains clients d.source × (d.target.port ≡ 69)
+  asked_by : (d : Recorded) (newer ds : List Recorded) → recorded ≡ newer ++ d ∷ ds → Global ds → asks [] (placed [] ds) (now d ds) d ≡ true → Contains clients d.source
   asked_by d newer ds is before asked =
       let there : Contains recorded d = subst (λ l. Contains l d) (sym is) (Contains-append_right newer (d ∷ ds) d (contains_first d ds)) in
       let (c, is_client, with) = g.at_one d there in
@@ -160,31 +159,23 @@ module _ (write : Address → List ℕ) (clients : List Endpoint) (recorded : Li
       order : AreInOrder (d ∷ ds)
       order = in_order newer (d ∷ ds) (subst AreInOrder is g.order)
 
-      found : (c : Endpoint) → Contains clients c → asks_from c d ≡ true → (asks_from c d ≡ true → d.target.port ≡ 69) → Contains clients d.source × (d.target.port ≡ 69)
-      found c is_client from service = (subst (Contains clients) (sym (is_same d.source c (and_parts (goes_from c d) (begins_request d.payload) from).0)) is_client, service from)
+      found : (c : Endpoint) → Contains clients c → asks_from c d ≡ true → Contains clients d.source
+      found c is_client from = subst (Contains clients) (sym (is_same d.source c (and_parts (goes_from c d) (begins_request d.payload) from).0)) is_client
 
-      by : (c : Endpoint) → Contains clients c → (k : List Recorded) → IsNext write c (At write g.hosts c ds) d k → Contains clients d.source × (d.target.port ≡ 69)
-      by c is_client k (begins k0 b follows good same) = found c is_client (follows.first refl) follows.service
+      by : (c : Endpoint) → Contains clients c → (k : List Recorded) → IsNext write c (At write g.hosts c ds) d k → Contains clients d.source
+      by c is_client k (begins k0 b follows good same) = found c is_client (follows.first refl)
       by c is_client k (goes_on e k0 b follows near good same) = by_test (asks_from c d)
-          (λ from. found c is_client from follows.service)
-          (λ off. absurd (false≢true (sym (asks_not write c ds k0 e d follows (before.stood c is_client (e ∷ k0) b) (on_time ds (order_rest d ds order)) (g.ports c is_client) before.served (now d ds)
+          (λ from. found c is_client from)
+          (λ off. absurd (false≢true (sym (asks_not write c ds k0 e d follows (before.stood c is_client (e ∷ k0) b) (on_time ds (order_rest d ds order)) (g.ports c is_client) (now d ds)
           (subst (λ t. t ≤ e.time + silence) (sym (clock_now d ds order)) near) off) ∙ asked)))
 
-  request_asked : (older : List Placed) (at : ℕ) (d : Recorded) → is_request (new d at (place_of [] older at d)) ≡ true → asks [] older at d ≡ true
-  request_asked older at d is = by (place_of [] older at d) refl is where
-    by : (place : Place) → place_of [] older at d ≡ place → is_request (new d at place) ≡ true → asks [] older at d ≡ true
-    by (Opens x) here request = has_asked older at d x (inl here)
-    by (Repeats x) here request = has_asked older at d x (inr here)
-    by _ here request = absurd (false≢true request)
-
   global : (newer ds : List Recorded) → recorded ≡ newer ++ ds → Global ds
-  global newer [] is = record { at = tt; served = tt; stood = λ c is_client k captures. nothing refl captures }
+  global newer [] is = record { at = tt; stood = λ c is_client k captures. nothing refl captures }
   global newer (d ∷ ds) is =
       let before = global (newer ++ d ∷ []) ds (is ∙ sym (append_assoc newer (d ∷ []) ds)) in record {
-        at = at_more clients (placed [] ds) (now d ds) d (λ asked. (asked_by d newer ds is before asked).0) before.at;
-        served = ((λ request. (asked_by d newer ds is before (request_asked (placed [] ds) (now d ds) d request)).1), before.served);
+        at = at_more clients (placed [] ds) (now d ds) d (λ asked. asked_by d newer ds is before asked) before.at;
         stood = λ c is_client k captures. step write g.hosts c clients is_client recorded d ds k (given c is_client newer (d ∷ ds) is)
-            (record { at = before.at; served = before.served; stood = λ k0 at. before.stood c is_client k0 at }) captures;
+            (record { at = before.at; stood = λ k0 at. before.stood c is_client k0 at }) captures;
       }
 
   all_before : (c : Endpoint) (is_client : Contains clients c) (newer ds : List Recorded) → recorded ≡ newer ++ ds → AllBefore write g.hosts c clients is_client recorded ds
@@ -192,7 +183,7 @@ module _ (write : Address → List ℕ) (clients : List Endpoint) (recorded : Li
   all_before c is_client newer (d ∷ ds) is =
       let later = is ∙ sym (append_assoc newer (d ∷ []) ds) in
       let before = global (newer ++ d ∷ []) ds later in (
-        record { at = before.at; served = before.served; stood = λ k0 at. before.stood c is_client k0 at },
+        record { at = before.at; stood = λ k0 at. before.stood c is_client k0 at },
         all_before c is_client (newer ++ d ∷ []) ds later,
       )
 

@@ -1,5 +1,5 @@
 -- What one pass keeps of the datagrams before: of each client's line, and of each endpoint that served.
-use Rattle.std.specs.Prelude.{◌≡◌, ◌⊎◌, ◌+◌, ℕ, Bool, true, false, List, length, Option, Some, None, option_map, IsSomeAnd, nat_le}
+use Rattle.std.specs.Prelude.{◌≡◌, ◌⊎◌, ◌+◌, ℕ, Bool, true, false, List, [], length, Option, Some, None, option_map, IsSomeAnd, nat_le}
 use Rattle.std.specs.BTreeMap.{get, BTreeMap}
 use Rattle.std.specs.List.{list_any}
 use Rattle.std.specs.Ordering.{nat_cmp, is_eq}
@@ -45,6 +45,7 @@ pub record IsAfter (a : Attribution) (named : List ℕ) (older : List Placed) : 
   pub failed : a.failed ≡ false
   pub count : a.count ≡ length older
   pub clock : a.clock ≡ clock older
+  pub fixed : AreServices a.named.keys named []
   pub services : AreServices a.services.keys named older
   pub lines : AreLinesOf a.lines older
   pub served : AreServed a.served older

@@ -16,13 +16,14 @@ is_service named older port =
 abbrev pub is_client : List Placed → ℕ → Endpoint → Bool
 is_client older now e = is_some (latest_in (live now (line e older)))
 
--- A request goes to a service port; or it is one from its first byte to its last, and goes to an endpoint with which its
--- client does not talk, and which is no client itself.
+-- A request goes to port 69 or to one that was named. To an endpoint that is no client itself it may go to any service port too;
+-- or it is one from its first byte to its last, and its client does not talk with that endpoint.
 abbrev pub asks : List ℕ → List Placed → ℕ → Recorded → Bool
 asks named older now d =
     begins_request d.payload
-    && (is_service named older d.target.port
-    || (d.is_spelled && not (is_some (talk_in d.source d.target (live now (line d.source older)))) && not (is_client older now d.target)))
+    && (is_service named [] d.target.port
+    || (not (is_client older now d.target)
+    && (is_service named older d.target.port || (d.is_spelled && not (is_some (talk_in d.source d.target (live now (line d.source older))))))))
 
 -- ---- what passes between a client and another endpoint, and is no request
 

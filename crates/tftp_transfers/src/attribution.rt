@@ -76,6 +76,9 @@ impl Dated for Strayed {
 /// What is kept of the datagrams before: the lines of the clients, and who served them.
 #[derive(Drop)]
 pub struct Attribution {
+    /// Port 69, and those that were named.
+    named: BTreeSet<u16>,
+    /// These, and those to which requests went.
     services: BTreeSet<u16>,
     lines: BTreeMap<Endpoint, Line>,
     served: BTreeMap<Endpoint, Served>,
@@ -117,6 +120,7 @@ impl Attribution {
         ensures { IfOk result (λ a. IsAfter a named.now []) }
     {
         Ok(Attribution {
+            named: services_of(alloc, named)?,
             services: services_of(alloc, named)?,
             lines: BTreeMap::new(alloc),
             served: BTreeMap::new(alloc),
@@ -228,6 +232,13 @@ impl Attribution {
         Ok(())
     }
 
+    /// Whether it is port 69, or was named.
+    fn is_named(&self, port: u16) -> bool
+        ensures { (named : List ℕ) (older : List Placed) → IsAfter self.now named older → result ≡ is_service named [] port }
+    {
+        self.named.contains(&port)
+    }
+
     fn is_service(&self, port: u16) -> bool
         ensures { (named : List ℕ) (older : List Placed) → IsAfter self.now named older → result ≡ is_service named older port }
     {
@@ -282,10 +293,13 @@ impl Attribution {
         if !seen.kind.begins_request {
             return false;
         }
+        if self.is_named(seen.target.port) {
+            return true;
+        }
+        let is_client = self.is_client(&seen.target, now);
         let is_service = self.is_service(seen.target.port);
         let talks = self.talks(&seen.source, &seen.target, now);
-        let is_client = self.is_client(&seen.target, now);
-        goes_to_service(is_service, is_spelled, talks, is_client)
+        goes_to_service(is_client, is_service, is_spelled, talks)
     }
 
     /// Where a request belongs.
@@ -618,8 +632,8 @@ fn beside_by(one: Option<Transfer>, other: Option<Transfer>) -> Place
     }
 }
 
-fn goes_to_service(is_service: bool, is_spelled: bool, talks: bool, is_client: bool) -> bool
-    ensures { result ≡ (is_service || (is_spelled && not talks && not is_client)) }
+fn goes_to_service(is_client: bool, is_service: bool, is_spelled: bool, talks: bool) -> bool
+    ensures { result ≡ (not is_client && (is_service || (is_spelled && not talks))) }
 {
-    is_service || (is_spelled && !talks && !is_client)
+    !is_client && (is_service || (is_spelled && !talks))
 }

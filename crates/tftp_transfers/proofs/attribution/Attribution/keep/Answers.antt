@@ -1,4 +1,4 @@
-use Rattle.std.proofs.Common.{◌+◌, length, refl, sym, ap, subst, add-one, ◌∙◌}
+use Rattle.std.proofs.Common.{[], ◌+◌, length, refl, sym, ap, subst, add-one, ◌∙◌}
 use Rattle.tftp_transfers.specs.{AreServices, AreServed, AreStrays}
 use Rattle.tftp_transfers.proofs.attribution.Attribution.keep.Goals as goal
 
@@ -7,6 +7,7 @@ returns-clause-stands c named older d after later seen same placed = record {
   failed = ap (λ a. a.failed) c.in_ok-keep_line.ensures.others ∙ after.failed;
   count = ap (λ a. a.count + 1) c.in_ok-keep_line.ensures.others ∙ ap (λ n. n + 1) after.count ∙ add-one (length older);
   clock = refl;
+  fixed = subst (λ a. AreServices a.named.keys named []) (sym c.in_ok-keep_line.ensures.others) after.fixed;
   services = c.in_ok-keep_service.ensures.services named older d c.args.now
       (subst (λ a. AreServices a.services.keys named older) (sym c.in_ok-keep_line.ensures.others) after.services) (sym (ap (λ s. s.target.port) seen));
   lines = c.in_ok-keep_line.ensures.lines named older d after later seen same placed;
