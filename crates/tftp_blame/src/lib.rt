@@ -3,10 +3,10 @@
 
 mod blame;
 mod doubted;
-mod intact;
 mod missing;
 mod passing;
 mod reason;
+mod spoilt;
 mod trail;
 mod twice;
 
@@ -15,4 +15,5 @@ pub use doubted::{Doubted, put_if};
 pub use missing::Missing;
 pub use passing::{Passing, about};
 pub use reason::Reason;
+pub use spoilt::Spoilt;
 pub use trail::Trail;

@@ -2,9 +2,9 @@
 
 use crate::blame::{Blame, Blamed, Refused};
 use crate::doubted::Doubted;
-use crate::intact::Intact;
 use crate::missing::Missing;
 use crate::passing::Passing;
+use crate::spoilt::{Spoilt, first_spoilt};
 use crate::twice::Twice;
 use std::alloc::{AllocError, Global};
 use tftp_blocks::RingDelivered;
@@ -40,10 +40,12 @@ pub struct Trail {
     copied_from: Option<u64>,
     /// The frame of a datagram that was received with an error.
     damaged: Option<u64>,
-    /// What the checksums say of what its client sent.
-    from_client: Intact,
-    /// The same of what came to its client.
-    to_client: Intact,
+    /// The first spoilt datagram of its client.
+    from_client: Option<Spoilt>,
+    /// The first spoilt datagram to its client.
+    to_client: Option<Spoilt>,
+    /// The frame of a datagram that its receiver discarded for its checksum.
+    discarded: Option<u64>,
     blame: Blame,
 }
 
@@ -63,8 +65,9 @@ impl Trail {
             twice: Twice::new(alloc),
             copied_from: None,
             damaged: None,
-            from_client: Intact::new(),
-            to_client: Intact::new(),
+            from_client: None,
+            to_client: None,
+            discarded: None,
             blame: Blame::new(alloc),
         }
     }
@@ -95,11 +98,22 @@ impl Trail {
         self.last_time = self.last_time.max(passing.time.unwrap_or(0));
         if passing.target == self.transfer.client {
             self.is_answered = true;
-            self.to_client.note(passing.frame, passing.is_intact);
+            self.to_client = first_spoilt(self.to_client, passing);
         } else {
-            self.from_client.note(passing.frame, passing.is_intact);
+            self.from_client = first_spoilt(self.from_client, passing);
         }
         self.twice.note(passing)
+    }
+
+    /// The first spoilt datagram of its client, and the first to its client.
+    pub fn spoilt(&self) -> [Option<Spoilt>; 2] {
+        [self.from_client, self.to_client]
+    }
+
+    /// Notes that its receiver discarded a spoilt datagram: its host's hardware makes no checksums after the recording.
+    pub fn discard(&mut self, spoilt: Spoilt) {
+        let earlier = self.discarded.unwrap_or(spoilt.frame);
+        self.discarded = Some(earlier.min(spoilt.frame));
     }
 
     /// Notes that a datagram at its client's endpoint was left out, whose time is within the transfer's.
@@ -155,7 +169,7 @@ impl Trail {
             is_one_way: !self.is_answered,
             copied_from: self.copied_from,
             damaged: self.damaged,
-            discarded: least(self.from_client.discarded(), self.to_client.discarded()),
+            discarded: self.discarded,
             left_out: self.left_out,
             missing,
         }
@@ -174,15 +188,6 @@ impl Trail {
     /// Where what passed between the ends was refused.
     pub fn between(&self, verdict: &Result<Meaning, TapRefusal>) -> Option<Blamed> {
         self.blame.between(verdict)
-    }
-}
-
-/// The lesser of two frames, where there is one.
-fn least(one: Option<u64>, other: Option<u64>) -> Option<u64> {
-    match (one, other) {
-        (Some(one), Some(other)) => Some(one.min(other)),
-        (one, None) => one,
-        (None, other) => other,
     }
 }
 

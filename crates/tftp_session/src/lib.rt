@@ -6,6 +6,7 @@ mod clock;
 mod endpoint;
 mod fault;
 mod headed;
+mod intact;
 mod kept;
 mod losses;
 mod notes;

@@ -1,6 +1,7 @@
 //! What is to be told of a recording as a whole.
 
 use crate::clock::Clock;
+use crate::intact::IntactHosts;
 use crate::losses::{Losses, SILENCE, WAIT};
 use crate::plain::put_number;
 use std::alloc::{AllocError, Global};
@@ -72,6 +73,8 @@ pub struct Notes {
     lost: Frames,
     /// The same by their hosts.
     losses: Losses,
+    /// The hosts that make their checksums.
+    pub(crate) intact: IntactHosts,
     /// Frames whose link type is not known.
     other_links: Frames,
     /// Datagrams that were left out as copies.
@@ -97,6 +100,7 @@ impl Notes {
         Notes {
             lost: Frames::new(alloc),
             losses: Losses::new(alloc),
+            intact: IntactHosts::new(alloc),
             other_links: Frames::new(alloc),
             copies: Frames::new(alloc),
             of_none: Frames::new(alloc),
@@ -109,10 +113,13 @@ impl Notes {
         }
     }
 
-    /// Notes a datagram's time.
-    pub(crate) fn pass(&mut self, frame: u64, time: Option<u64>) -> Result<(), AllocError> {
-        match time {
-            Some(time) if self.clock.pass(time) => self.backwards.add(frame),
+    /// Notes a datagram's time and checksum.
+    pub(crate) fn pass(&mut self, passing: &Passing<'_>) -> Result<(), AllocError> {
+        if passing.is_intact == Some(true) {
+            self.intact.note(passing.source.address)?;
+        }
+        match passing.time {
+            Some(time) if self.clock.pass(time) => self.backwards.add(passing.frame),
             _ => Ok(()),
         }
     }

@@ -127,7 +127,7 @@ impl Session {
             target: target.end,
             payload: datagram.payload,
         };
-        self.notes.pass(passing.frame, passing.time)?;
+        self.notes.pass(&passing)?;
         if let Place::Opens(transfer) = found.place {
             self.open(alloc, transfer, &passing)?;
         }
@@ -209,8 +209,9 @@ impl Session {
 
     /// Hands out the oldest transfer.
     pub fn pop(&mut self) -> Option<Ended> {
-        let (number, trail) = self.trails.pop_first()?;
+        let (number, mut trail) = self.trails.pop_first()?;
         self.unplaced.end(trail.transfer.client, number);
+        self.notes.intact.tell(&mut trail);
         joined(trail, self.audit.pop_first())
     }
 

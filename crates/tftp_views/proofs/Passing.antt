@@ -1,7 +1,7 @@
 -- What is not about a transfer changes nothing of it.
 use Rattle.std.proofs.Common.{◌≡◌, ℕ, Bool, false, cond, List, ◌∷◌, sym, ap, ◌∙◌, subst, map, ◌&&◌, ◌||◌, filter}
 use Rattle.tftp_transfers.specs.{TransferDoubts, is_answered_apart, is_it, some_of, IsDoubtedAfter, is_about}
-use Rattle.tftp_lines.specs.{goes_over, is_asked_again, is_disordered, is_late, may_be_answer_of, Placed, is_of}
+use Rattle.tftp_lines.specs.{comes_in, follows_strays, follows_unanswered, goes_on_with_first, goes_over, is_asked_again, is_disordered, is_late, may_be_answer_of, Placed, is_of}
 use Rattle.tftp_transfers.proofs.OwnDatagrams.{about_none}
 use Rattle.tftp_views.specs.{Naming, captured_at_client, client_header, HasJudged, Client, IsClientAfter}
 
@@ -18,5 +18,9 @@ doubts_pass_by t p older off apart after = record {
   is_late = after.is_late ∙ sym (none_of t.number is_late p older off);
   is_disordered = after.is_disordered ∙ sym (none_of t.number is_disordered p older off);
   is_asked_again = after.is_asked_again ∙ sym (none_of t.number is_asked_again p older off);
+  follows_strays = after.follows_strays ∙ sym (none_of t.number follows_strays p older off);
+  follows_unanswered = after.follows_unanswered ∙ sym (none_of t.number follows_unanswered p older off);
+  comes_in = after.comes_in ∙ sym (none_of t.number comes_in p older off);
+  goes_on_with_first = after.goes_on_with_first ∙ sym (none_of t.number goes_on_with_first p older off);
   is_answered_apart = after.is_answered_apart ∙ sym (ap (λ b. b || is_answered_apart t.number older) apart);
 }
