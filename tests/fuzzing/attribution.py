@@ -171,7 +171,9 @@ class Place(NamedTuple):
 
 class Attribution:
     def __init__(self, named: Iterable[int] = ()) -> None:
-        self.services = {TFTP, *named}
+        self.named = {TFTP, *named}
+        # and the ports to which a request went
+        self.services = set(self.named)
         self.clock, self.count = 0, 0
         # the last datagram's time, and the greatest that two in a row have reached
         self.last, self.reached = 0, 0
@@ -227,9 +229,13 @@ class Attribution:
         one.seen.append(it)
 
     def asks(self, it: Datagram) -> bool:
+        if not begins(it.payload, 1, 2):
+            return False
+        if it.target.port in self.named:
+            return True
         line = self.line(it.source)
-        is_found = spells_request(it.payload) and not (line and it.target in line.talks) and not self.line(it.target)
-        return begins(it.payload, 1, 2) and (it.target.port in self.services or is_found)
+        is_found = spells_request(it.payload) and not (line and it.target in line.talks)
+        return not self.line(it.target) and (it.target.port in self.services or is_found)
 
     def asked(self, it: Datagram) -> Transfer:
         self.services.add(it.target.port)

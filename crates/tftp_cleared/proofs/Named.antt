@@ -63,7 +63,7 @@ module _ (x : Transfer) (named : List ℕ) (recorded : List Recorded) (one : IsT
   own_view = client_view x.number (placed named recorded)
 
   own : AllByRecursion (IsOwn x) (client_view x.number (placed named recorded))
-  own = own_all named recorded x one.opened
+  own = own_all named recorded x one.at_service one.opened
 
   addresses : AllByRecursion (λ p. HasAddresses p.datagram) (client_view x.number (placed named recorded))
   addresses = kept_all (λ p. HasAddresses p.datagram) (is_of x.number) (placed named recorded) (placed_addresses named recorded (recursion_from_All HasAddresses recorded one.addresses))

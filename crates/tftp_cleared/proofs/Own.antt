@@ -6,7 +6,7 @@ use Rattle.std.proofs.lemmas.Bool.{false≢true, eqb-true, eq-eqb, and_from, and
 use Rattle.std.proofs.lemmas.List.Elements.{recursion_from_All}
 use Rattle.tftp_law.proofs.Division.Divided.{any_none, any_cases, any_first, any_later}
 use Rattle.tftp_lines.specs.{Endpoint, Place, Opens, Repeats, Talks, Transfer, Recorded, begins_request, is_again, goes, same_endpoint, silence, Placed, clock, is_apart, is_at, is_of, is_request, line, live, newest_of, asked_after, opened_by, talk_in}
-use Rattle.tftp_transfers.specs.{asks, at_client, beside, client_view, is_about, is_nowhere, is_service, place_of, placed, served_at}
+use Rattle.tftp_transfers.specs.{asks, at_client, beside, client_view, is_about, is_client, is_nowhere, is_service, place_of, placed, served_at}
 use Rattle.tftp_lines.proofs.Endpoints.{is_same}
 use Rattle.tftp_lines.proofs.Lines.{by_test}
 use Rattle.tftp_transfers.proofs.AllLines.{line_here, line_elsewhere}
@@ -46,31 +46,24 @@ module _ (named : List ℕ) (older : List Placed) (now : ℕ) (d : Recorded) whe
       (λ there. subst (IsEndAt older now d) (sym (ap (λ b. if b then beside named older now d else at_client older now d) there)) (client_end older now d)))
 
   -- and opens and repeats nothing
+  abbrev at_no_client : Bool
+  at_no_client = not (is_client older now d.target)
+      && (is_service named older d.target.port || (d.is_spelled && not (is_some (talk_in d.source d.target (live now (line d.source older))))))
+
   request_begins : (asks named older now d ≡ false → ⊥) → begins_request d.payload ≡ true
   request_begins not_off = by_test (asks named older now d)
-      (λ is. (and_parts (begins_request d.payload) (is_service named older d.target.port || (d.is_spelled && not (is_some (talk_in d.source d.target (live now (line d.source older)))))) is).0)
+      (λ is. (and_parts (begins_request d.payload) (is_service named [] d.target.port || at_no_client) is).0)
       (λ off. absurd (not_off off))
 
   not_asked : (x : Transfer) → asks named older now d ≡ true → place_of named older now d ≡ Talks x → ⊥
   not_asked x is talks = asked_not x (sym (ap (λ b. if b then asked_place older now d else if is_nowhere (at_client older now d) then beside named older now d else at_client older now d) is) ∙ talks)
 
-  service_asks : begins_request d.payload ≡ true → is_service named older d.target.port ≡ true → asks named older now d ≡ true
-  service_asks begins there = and_from (begins_request d.payload) _ begins (or_left (is_service named older d.target.port) _ there)
+  service_asks : begins_request d.payload ≡ true → is_service named [] d.target.port ≡ true → asks named older now d ≡ true
+  service_asks begins there = and_from (begins_request d.payload) (is_service named [] d.target.port || at_no_client) begins (or_left (is_service named [] d.target.port) at_no_client there)
 
 -- the port where a transfer was opened is a service port
 asked_there : (named : List ℕ) (older : List Placed) (now : ℕ) (d : Recorded) (x : Transfer) → place_of named older now d ≡ Opens x → (x.client ≡ d.source) × (x.asked ≡ d.target)
 asked_there named older now d x is = (placed_where named older now d).opens x is
-
-requested : (named : List ℕ) (recorded : List Recorded) (x : Transfer) → IsOpenedIn x (placed named recorded) → list_any (λ p. is_request p && (p.datagram.target.port == x.asked.port)) (placed named recorded) ≡ true
-requested named [] x is = absurd (any_none (λ (q : Placed). q.place ≡ Opens x) is)
-requested named (d ∷ recorded) x is = elim (any_cases (λ (q : Placed). q.place ≡ Opens x) (record { datagram = d; moment = max d.time (clock (placed named recorded)); place = place_of named (placed named recorded) (max d.time (clock (placed named recorded))) d }) (placed named recorded) is) [
-  | inl now ↦ or_left _ (list_any (λ p. is_request p && (p.datagram.target.port == x.asked.port)) (placed named recorded)) (and_from _ (d.target.port == x.asked.port) (rw now refl)
-      (eq-eqb d.target.port x.asked.port (ap (λ (e : Endpoint). e.port) (sym (asked_there named (placed named recorded) (max d.time (clock (placed named recorded))) d x now).1))))
-  | inr before ↦ or_right _ (list_any (λ p. is_request p && (p.datagram.target.port == x.asked.port)) (placed named recorded)) (requested named recorded x before)
-]
-
-service_opened : (named : List ℕ) (recorded : List Recorded) (x : Transfer) → IsOpenedIn x (placed named recorded) → is_service named (placed named recorded) x.asked.port ≡ true
-service_opened named recorded x is = or_right ((x.asked.port == 69) || list_any (λ n. n == x.asked.port) named) _ (requested named recorded x is)
 
 -- ---- each request of a transfer goes where its client asks
 
@@ -145,15 +138,12 @@ module _ (named : List ℕ) (recorded : List Recorded) (d : Recorded) (x : Trans
   same_one : IsOpenedIn x (placed named (d ∷ recorded)) → (y : Transfer) → IsOpenedIn y (placed named (d ∷ recorded)) → (y.number == x.number) ≡ true → y ≡ x
   same_one is y other same = opened_one named (d ∷ recorded) y x other is (eqb-true y.number x.number same)
 
-  talk_own : IsOpenedIn x (placed named (d ∷ recorded)) → here.place ≡ Talks x → IsOwn x here
-  talk_own is talks = as_talk talks ((placed_where named older now d).talks x talks).0 (λ begins port.
-      elim (any_cases (λ (q : Placed). q.place ≡ Opens x) here older is) [
-        | inl opens ↦ let both : Opens x ≡ Talks x = sym opens ∙ talks in absurd (cc)
-        | inr before ↦ not_asked named older now d x (service_asks named older now d begins (subst (λ n. is_service named older n ≡ true) (sym port) (service_opened named recorded x before))) talks
-      ])
+  talk_own : is_service named [] x.asked.port ≡ true → here.place ≡ Talks x → IsOwn x here
+  talk_own at_service talks = as_talk talks ((placed_where named older now d).talks x talks).0 (λ begins port.
+      not_asked named older now d x (service_asks named older now d begins (subst (λ n. is_service named [] n ≡ true) (sym port) at_service)) talks)
 
-  own_here : IsOpenedIn x (placed named (d ∷ recorded)) → is_of x.number here ≡ true → IsOwn x here
-  own_here is of = by here.place refl of (all_opened named (d ∷ recorded)).0 where
+  own_here : is_service named [] x.asked.port ≡ true → IsOpenedIn x (placed named (d ∷ recorded)) → is_of x.number here ≡ true → IsOwn x here
+  own_here at_service is of = by here.place refl of (all_opened named (d ∷ recorded)).0 where
     by : (place : Place) → here.place ≡ place → is_of x.number (record { datagram = d; moment = now; place = place }) ≡ true → IsHeld (λ y. IsOpenedIn y (placed named (d ∷ recorded))) place → IsOwn x here
     by (Opens y) at of held =
         let begins : begins_request d.payload ≡ true = request_begins named older now d (λ off. (ends_there named older now d off).opens y at) in
@@ -164,7 +154,7 @@ module _ (named : List ℕ) (recorded : List Recorded) (d : Recorded) (x : Trans
         let begins : begins_request d.payload ≡ true = request_begins named older now d (λ off. (ends_there named older now d off).repeats y at) in
         let same : y ≡ x = same_one is y held of in
         as_request (rw at refl) begins (sym ((placed_where named older now d).repeats y at).0 ∙ ap (λ (z : Transfer). z.client) same) ((all_there named (d ∷ recorded)).0 y (inr at) ∙ ap (λ (z : Transfer). z.asked) same)
-    by (Talks y) at of held = talk_own is (at ∙ ap Talks (same_one is y held of))
+    by (Talks y) at of held = talk_own at_service (at ∙ ap Talks (same_one is y held of))
     by _ at of held = absurd (false≢true of)
 
 -- ---- all of them
@@ -187,18 +177,18 @@ opened_after named recorded d x opens =
     let count : length (placed named recorded) ≡ length recorded = length_placed named recorded in
     omega arith
 
-pub own_all : (named : List ℕ) (recorded : List Recorded) (x : Transfer) → IsOpenedIn x (placed named recorded) → AllByRecursion (IsOwn x) (client_view x.number (placed named recorded))
-own_all named [] x is = absurd (any_none (λ (q : Placed). q.place ≡ Opens x) is)
-own_all named (d ∷ recorded) x is = elim (any_cases (λ (q : Placed). q.place ≡ Opens x) (here named recorded d x) (placed named recorded) is) [
-  | inl now ↦ with_this named recorded d x is (subst (AllByRecursion (IsOwn x)) (sym (none_of x.number (placed named recorded)
+pub own_all : (named : List ℕ) (recorded : List Recorded) (x : Transfer) → is_service named [] x.asked.port ≡ true → IsOpenedIn x (placed named recorded) → AllByRecursion (IsOwn x) (client_view x.number (placed named recorded))
+own_all named [] x at_service is = absurd (any_none (λ (q : Placed). q.place ≡ Opens x) is)
+own_all named (d ∷ recorded) x at_service is = elim (any_cases (λ (q : Placed). q.place ≡ Opens x) (here named recorded d x) (placed named recorded) is) [
+  | inl now ↦ with_this named recorded d x at_service is (subst (AllByRecursion (IsOwn x)) (sym (none_of x.number (placed named recorded)
       (recursion_from_All (λ p. is_about x.number p ≡ false) (placed named recorded) (none_before named recorded x.number (opened_after named recorded d x now))))) tt)
-  | inr before ↦ with_this named recorded d x is (own_all named recorded x before)
+  | inr before ↦ with_this named recorded d x at_service is (own_all named recorded x at_service before)
 ]
   where
-    with_this : (named : List ℕ) (recorded : List Recorded) (d : Recorded) (x : Transfer) → IsOpenedIn x (placed named (d ∷ recorded)) → AllByRecursion (IsOwn x) (client_view x.number (placed named recorded))
+    with_this : (named : List ℕ) (recorded : List Recorded) (d : Recorded) (x : Transfer) → is_service named [] x.asked.port ≡ true → IsOpenedIn x (placed named (d ∷ recorded)) → AllByRecursion (IsOwn x) (client_view x.number (placed named recorded))
         → AllByRecursion (IsOwn x) (client_view x.number (placed named (d ∷ recorded)))
-    with_this named recorded d x is before = by_test (is_of x.number (here named recorded d x))
-        (λ of. subst (AllByRecursion (IsOwn x)) (sym (ap (λ b. cond b (here named recorded d x ∷ client_view x.number (placed named recorded)) (client_view x.number (placed named recorded))) of)) (own_here named recorded d x is of, before))
+    with_this named recorded d x at_service is before = by_test (is_of x.number (here named recorded d x))
+        (λ of. subst (AllByRecursion (IsOwn x)) (sym (ap (λ b. cond b (here named recorded d x ∷ client_view x.number (placed named recorded)) (client_view x.number (placed named recorded))) of)) (own_here named recorded d x at_service is of, before))
         (λ off. subst (AllByRecursion (IsOwn x)) (sym (ap (λ b. cond b (here named recorded d x ∷ client_view x.number (placed named recorded)) (client_view x.number (placed named recorded))) off)) before)
 
 -- the opening is one of them

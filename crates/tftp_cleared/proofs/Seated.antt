@@ -203,7 +203,7 @@ module _ (x : Transfer) (server : Endpoint) (named : List ℕ) (more part : List
   part_addresses = placed_addresses named part (all_later HasAddresses more part all_addresses)
 
   own_part : AllByRecursion (IsOwn x) (client_view x.number (placed named part))
-  own_part = own_all named part x one.opened
+  own_part = own_all named part x one.at_service one.opened
 
   guards : AllByRecursion (λ q. is_of x.number q ≡ true → IsOwn x q) (placed named part)
   guards = guarded (IsOwn x) (is_of x.number) (placed named part) own_part

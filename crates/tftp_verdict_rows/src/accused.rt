@@ -1,7 +1,7 @@
 ghost use Rattle.std.specs.Prelude.{◌≡◌, List};
 ghost use Rattle.tftp_lines.specs.{Placed};
 ghost use Rattle.tftp_transfers.specs.{AreEndsAfter};
-ghost use Rattle.tftp_verdict_rows.specs.Accused.{accused_of, is_servers, role_at};
+ghost use Rattle.tftp_verdict_rows.specs.Accusing.{accused_of, is_servers, role_at};
 
 use tftp_lines::{Endpoint, Transfer};
 use tftp_packet::End;

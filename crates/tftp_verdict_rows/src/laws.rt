@@ -7,7 +7,7 @@ ghost use Rattle.tftp_rules.specs.{EndRule};
 ghost use Rattle.tftp_law.specs.{Block};
 ghost use Rattle.tftp_transfers.specs.{asked_twice, client, service};
 ghost use Rattle.tftp_transfers.specs.Worked.{at, passes};
-ghost use Rattle.tftp_verdict_rows.specs.Accused.{accused_in, accused_of, is_servers};
+ghost use Rattle.tftp_verdict_rows.specs.Accusing.{accused_in, accused_of, is_servers};
 ghost use Rattle.tftp_verdict_rows.specs.declared.accused.Accused.{Accused};
 ghost use Rattle.tftp_verdict_rows.specs.Told.{Tells, both_row, plain_row, rows_told, said_at};
 ghost use Rattle.tftp_verdict_rows.specs.declared.row.Point.{Point as PointKind};

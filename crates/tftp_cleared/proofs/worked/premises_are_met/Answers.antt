@@ -36,7 +36,7 @@ addresses = All-from_recursion HasAddresses asked_twice
     ((at_client, at_server), ((at_stranger, at_client), ((at_server, at_client), ((at_client, at_server), ((at_client, at_server), tt)))))
 
 pub returns-clause-client : goal.returns-clause-client
-returns-clause-client c = record { opened = opened; addresses = addresses; apart = refl }
+returns-clause-client c = record { opened = opened; at_service = refl; addresses = addresses; apart = refl }
 
 -- the stray alone was not with the server
 with_server : All (IsWith first_transfer server (placed [] asked_twice)) (placed [] asked_twice)
@@ -44,7 +44,7 @@ with_server = All-from_recursion (IsWith first_transfer server (placed [] asked_
     ((λ at is. refl), ((λ at is. absurd (false≢true is)), ((λ at is. refl), ((λ at is. absurd (cc)), ((λ at is. absurd (cc)), tt)))))
 
 pub returns-clause-server : goal.returns-clause-server
-returns-clause-server c = record { opened = opened; addresses = addresses; known = refl; apart = refl; not_itself = refl; one = with_server }
+returns-clause-server c = record { opened = opened; at_service = refl; addresses = addresses; known = refl; apart = refl; not_itself = refl; one = with_server }
 
 pub returns-clause-sent : goal.returns-clause-sent
 returns-clause-sent c = All-from_recursion (IsSentThere first_transfer (placed [] asked_twice)) (placed [] asked_twice)
