@@ -9,7 +9,7 @@ use Rattle.tftp_rules.specs.{first_of}
 use Rattle.tftp_lines.specs.{Endpoint, Place, Opens, Repeats, Talks, Beside, Transfer, Recorded, begins_request, other_of, same_address, same_endpoint, Placed, clock, is_of, is_request}
 use Rattle.tftp_lines.proofs.Endpoints.{is_same, address_itself}
 use Rattle.tftp_lines.proofs.Lines.{by_test}
-use Rattle.tftp_transfers.specs.{answered_by, asked_of, client_view, comes, goes_on, has_host, has_port, is_at_server, is_end, is_server, place_of, placed, server_of, went_on_with}
+use Rattle.tftp_transfers.specs.{answered_by, asked_of, client_view, comes, goes_on, goes_to_asked, has_host, has_port, is_at_server, is_end, is_server, place_of, placed, server_of, went_on_with}
 use Rattle.tftp_tap.specs.{BreaksNoTapRule, IsTapRefused}
 use Rattle.tftp_tap.proofs.TapBefore.{first_holds}
 use Rattle.tftp_cleared.specs.{BothSaw, HasAddresses, IsSentThere, IsServedIn, IsWith}
@@ -105,8 +105,9 @@ module _ (x : Transfer) (server : Endpoint) (whole : List Placed) (known : serve
 
   -- what passed with the server was seen by it
   with_server : (p : Placed) → p.place ≡ Talks x → other_of x.client p.datagram ≡ server → sees p ≡ true
-  with_server p at other = rw at (and_from (x.number == x.number) (is_server x.number whole (other_of x.client p.datagram)) (eq-eqb x.number x.number refl)
-      (subst (λ o. is_server x.number whole o ≡ true) (sym other) (server_itself x.number whole server known)))
+  with_server p at other = rw at (and_from (x.number == x.number) (is_server x.number whole (other_of x.client p.datagram) || goes_to_asked x p.datagram) (eq-eqb x.number x.number refl)
+      (or_left (is_server x.number whole (other_of x.client p.datagram)) (goes_to_asked x p.datagram)
+      (subst (λ o. is_server x.number whole o ≡ true) (sym other) (server_itself x.number whole server known))))
 
   talk_of : (p : Placed) → p.place ≡ Talks x → is_of x.number p ≡ true
   talk_of p at = rw at (eq-eqb x.number x.number refl)
@@ -148,7 +149,7 @@ module _ (x : Transfer) (server : Endpoint) (whole : List Placed) (known : serve
         → (y : Transfer) × (p.place ≡ Beside y)
     by (Opens y) at off is = absurd (false≢true (sym off ∙ is))
     by (Repeats y) at off is = absurd (false≢true (sym off ∙ is))
-    by (Talks y) at off is = absurd (false≢true (sym (ap (λ b. b && is_server x.number whole (other_of y.client p.datagram)) off) ∙ is))
+    by (Talks y) at off is = absurd (false≢true (sym (ap (λ b. b && (is_server x.number whole (other_of y.client p.datagram) || goes_to_asked y p.datagram)) off) ∙ is))
     by (Beside y) at off is = (y, at)
     by _ at off is = absurd (false≢true is)
 
