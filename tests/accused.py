@@ -16,6 +16,7 @@ import sys
 from dataclasses import dataclass
 
 from judged import CAN_TAKE, Row, checked
+from refusals import Rule
 from trial import Trial
 
 DATA = pathlib.Path(__file__).resolve().parent / "data"
@@ -39,16 +40,19 @@ class Case:
 
 
 LOST, CUT = "frame 4 is not there whole", "1 datagram not there whole.*"
-DROPPED = r"- doubtful refused datagram {} rule 26 AckAhead: .*the recorder lost {}"
+AHEAD = f"rule {Rule.ACK_AHEAD.number} {Rule.ACK_AHEAD.printed}"
+BACK = f"rule {Rule.GONE_BACK.number} {Rule.GONE_BACK.printed}"
+ELSEWHERE = f"rule {Rule.WRONG_PORT.number} {Rule.WRONG_PORT.printed}"
+DROPPED = f"- doubtful refused datagram {{}} {AHEAD}: .*the recorder lost {{}}"
 CASES = (
     Case(
         "a-lost-fragment-then-silence", "one of two fragments of a block is missing, and something passes 301 s later",
-        (f"- doubtful refused datagram 4 rule 26 AckAhead: {LOST}", "- incomplete after 1"),
+        (f"- doubtful refused datagram 4 {AHEAD}: {LOST}", "- incomplete after 1"),
         told=".*1 datagram not there whole.*(frame 4).*",
     ),
     Case(
         "cut-fragments-of-other-hosts", "a client acknowledges too much, and fragments of two other hosts are cut",
-        ("client 192.0.2.7:40000 refused datagram 3 rule 26 AckAhead",),
+        (f"client 192.0.2.7:40000 refused datagram 3 {AHEAD}",),
         told=r".*: 2 datagrams not there whole[^\n]*\(frames 1, 2\)\n",
     ),
     Case(
@@ -105,7 +109,7 @@ CASES = (
     ),
     Case(
         "an-ack-to-the-service-port", "an ACK goes to port 69 in the middle of a transfer",
-        ("(client 192.0.2.7:2070|- doubtful) refused datagram 5 rule 2 WrongPort.*",),
+        (f"(client 192.0.2.7:2070|- doubtful) refused datagram 5 {ELSEWHERE}.*",),
     ),
     Case(
         "two-packets-dropped", "the recorder counts a packet that its interface dropped and one that its system did",
@@ -120,15 +124,15 @@ CASES = (
     ),
     Case(
         "repeated-data-at-the-server", "toybox acknowledges a block of a write that came twice by the next block's ACK",
-        ("server 10.88.0.2:69 refused datagram 10 rule 26 AckAhead",), told="",
+        (f"server 10.88.0.2:69 refused datagram 10 {AHEAD}",), told="",
     ),
     Case(
         "repeated-data-at-the-client", "the same, recorded at the client",
-        ("server 10.88.0.2:69 refused datagram 9 rule 26 AckAhead",),
+        (f"server 10.88.0.2:69 refused datagram 9 {AHEAD}",),
     ),
     Case(
         "a-server-that-goes-back-at-once", "a server sends an earlier block again within a millisecond",
-        ("server .* refused datagram [0-9]+ rule 24 GoneBack",), ("server",), told="",
+        (f"server .* refused datagram [0-9]+ {BACK}",), ("server",), told="",
     ),
 )
 
@@ -154,9 +158,10 @@ def wrong(transfers: str, case: Case) -> list[object]:
 
 
 def repeated(match: str) -> str:
-    """What is said of a read of which the network repeated a datagram on its way to the client."""
+    """What is said last of a read of which the network repeated a datagram on its way to the client."""
     pair = [str(DATA / f"repeated-by-the-network-{end}.pcap") for end in ("client", "server")]
-    return subprocess.run([match, *pair], capture_output=True, text=True, timeout=CAN_TAKE).stdout.strip()
+    done = subprocess.run([match, *pair], capture_output=True, text=True, timeout=CAN_TAKE)
+    return (done.stdout.splitlines() or [""])[-1]
 
 
 def main(transfers: str, match: str) -> int:
@@ -169,10 +174,7 @@ def main(transfers: str, match: str) -> int:
             got = found or "it holds, and so is open no more"
             trial.check(f"{case.name} ({case.passed})", not found and not case.is_open, got)
     said = repeated(match)
-    if said.startswith("matched lost 0 repeated 0"):
-        still.append("repeated-by-the-network")
-    else:
-        trial.check("repeated-by-the-network", said.startswith("matched lost 0 repeated 1"), said)
+    trial.check("repeated-by-the-network", said == "matched lost 0 repeated 1", said)
     names = {case.name for case in CASES} | {f"repeated-by-the-network-{end}" for end in ("client", "server")}
     left = {path.stem for path in DATA.glob("*.pcap*")} ^ names
     trial.check("each recording has its case", not left, left)
