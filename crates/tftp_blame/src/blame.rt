@@ -20,8 +20,10 @@ pub struct Blamed {
     pub is_answered: bool,
     /// Whether its client sent it to where nothing had passed between the two.
     pub speaks_first: bool,
-    /// Whether it is an ERROR 5, "Unknown transfer ID" (RFC 1350, section 5).
-    pub is_unknown_id: bool,
+    /// Whether it is an ERROR 5, "Unknown transfer ID" (RFC 1350, section 5), or an ERROR after one.
+    pub tells_strays: bool,
+    /// Whether it may be late from an earlier transfer between the same two, or rest on an OACK that may be.
+    pub comes_of_earlier: bool,
     /// Where the datagram came from.
     pub source: Endpoint,
 }

@@ -40,7 +40,7 @@ impl Doubted {
         put_if(reasons, blamed.is_late, Reason::Late)?;
         put_if(reasons, blamed.is_beside, Reason::Beside)?;
         put_if(reasons, self.is_led_astray(blamed), Reason::LedAstray)?;
-        put_if(reasons, blamed.is_unknown_id, Reason::UnknownId)?;
+        put_if(reasons, blamed.tells_strays, Reason::UnknownId)?;
         put_if(
             reasons,
             self.is_one_way && blamed.frame != self.begins,
@@ -57,7 +57,6 @@ impl Doubted {
         put_some(reasons, self.left_out.map(|frame| Reason::LeftOut(frame)))?;
         put_if(reasons, doubts.is_asked_again(), Reason::AskedAgain)?;
         put_if(reasons, doubts.is_answered_apart(), Reason::AnsweredApart)?;
-        put_if(reasons, doubts.goes_over(), Reason::GoesOver)?;
         put_if(reasons, doubts.follows_strays(), Reason::FollowsStrays)?;
         put_if(
             reasons,

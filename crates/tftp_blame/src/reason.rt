@@ -27,7 +27,7 @@ pub enum Reason {
     SpeaksFirst,
     /// Its first answer may be a datagram that is another transfer's.
     AnsweredApart,
-    /// An earlier transfer of the client had the same server's endpoint.
+    /// The datagram may be late from an earlier transfer between the same two endpoints, or rest on an OACK that may be.
     GoesOver,
     /// The client had asked for another transfer by then.
     Late,
@@ -105,7 +105,7 @@ impl Reason {
             Reason::AnsweredApart => {
                 "a DATA 1 from where an earlier transfer was served may be its answer"
             }
-            Reason::GoesOver => "its server's endpoint was that of an earlier transfer",
+            Reason::GoesOver => "it may come of an earlier transfer between the same two ports",
             Reason::Late => "its client's endpoint had asked again",
             Reason::Beside => {
                 "it passed with another than the client, whose request may not have been recorded"

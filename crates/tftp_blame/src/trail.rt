@@ -9,7 +9,7 @@ use crate::twice::Twice;
 use std::alloc::{AllocError, Global};
 use tftp_blocks::RingDelivered;
 use tftp_judge::{Meaning, Refusal};
-use tftp_lines::{Endpoint, Place, Transfer};
+use tftp_lines::{Doubts, Endpoint, Place, Transfer};
 use tftp_recording_judge::Watched;
 use tftp_tap_judge::TapRefusal;
 use tftp_transfers::{Attributed, TransferDoubts, TransferEnds};
@@ -137,7 +137,8 @@ impl Trail {
             is_beside: matches!(place, Place::Beside(_)),
             is_answered: watched.doubts().comes_in(),
             speaks_first: found.doubts.speaks_first,
-            is_unknown_id: matches!(passing.payload, [0, 5, 0, 5, ..]),
+            tells_strays: tells_strays(passing.payload, watched.doubts()),
+            comes_of_earlier: comes_of_earlier(&found.doubts, watched.doubts()),
             source: passing.source,
         };
         let refused = refused_by(watched);
@@ -208,4 +209,15 @@ fn refused_by(watched: &Watched<RingDelivered>) -> Refused {
             None => None,
         },
     }
+}
+
+/// Whether it is an ERROR 5, or an ERROR after one.
+fn tells_strays(payload: &[u8], doubts: &TransferDoubts) -> bool {
+    matches!(payload, [0, 5, 0, 5, ..])
+        || (matches!(payload, [0, 5, ..]) && doubts.says_unknown_id())
+}
+
+/// Whether a datagram may be late from an earlier transfer between the same two, or rest on an OACK that may be.
+fn comes_of_earlier(own: &Doubts, doubts: &TransferDoubts) -> bool {
+    own.may_be_earlier || (doubts.agrees_late() && own.rests_on_terms)
 }

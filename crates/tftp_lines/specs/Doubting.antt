@@ -1,6 +1,6 @@
 -- What a datagram makes doubtful: when a refusal is no accusation. Lists have the newest first; a transfer is known by its
 -- number.
-use Rattle.std.specs.Prelude.{ℕ, ◌+◌, ◌==◌, ◌&&◌, ◌||◌, not, nat_le, nat_lt, Bool, true, false, List, Option, Some, None, is_some, if◌then◌else◌}
+use Rattle.std.specs.Prelude.{ℕ, ◌+◌, ◌==◌, ◌&&◌, ◌||◌, not, nat_le, nat_lt, Bool, true, false, List, [], ◌∷◌, Option, Some, None, is_some, if◌then◌else◌}
 use Rattle.std.specs.List.{list_any}
 use Rattle.tftp_lines.specs.declared.endpoint.Endpoint.{Endpoint}
 use Rattle.tftp_lines.specs.declared.line.Talk.{Talk}
@@ -8,7 +8,7 @@ use Rattle.tftp_lines.specs.declared.place.Place.{Place}
 use Rattle.tftp_lines.specs.declared.place.Place.TheVariants.{Opens, Repeats, Talks, Beside, Nowhere}
 use Rattle.tftp_lines.specs.declared.place.Transfer.{Transfer}
 use Rattle.tftp_lines.specs.declared.doubts.Doubts.{Doubts}
-use Rattle.tftp_lines.specs.Recording.{Recorded, same_endpoint, other_of, begins_error, begins_request, begins_packet, begins_unknown_id, is_data_1, asks_alike}
+use Rattle.tftp_lines.specs.Recording.{Recorded, same_endpoint, is_between, other_of, begins_error, begins_oack, begins_request, begins_packet, begins_unknown_id, is_ack_0, is_block, is_data_1, number_of, passes_in, asks_alike}
 use Rattle.tftp_lines.specs.Places.{Placed, is_request, is_of, newest_of, live, line, silence, transfer_of, latest_in, reach, talk_in, answered_in, may_answer}
 
 -- the client's line as the datagram came
@@ -20,22 +20,11 @@ abbrev pub is_another : Transfer → Option Transfer → Bool
 is_another x None = false
 is_another x (Some y) = not (y.number == x.number)
 
-abbrev pub talked_in : Option Talk → Option Transfer
-talked_in None = None
-talked_in (Some talk) = talk.transfer
-
 abbrev pub acked_0_in : Option Talk → Bool
 acked_0_in None = false
 acked_0_in (Some talk) = talk.acked_0
 
 -- ---- what a datagram makes doubtful in its own transfer
-
--- its server's endpoint was another transfer's before
-abbrev pub goes_over : Placed → List Placed → Bool
-goes_over p older = by p.place where
-  by : Place → Bool
-  by (Talks x) = is_another x (talked_in (talk_in x.client (other_of x.client p.datagram) (line_before x.client p older)))
-  by _ = false
 
 -- its client had asked for another by then
 abbrev pub is_late : Placed → List Placed → Bool
@@ -175,10 +164,80 @@ may_be_answer_of p older = by p.place where
   by (Talks x) = answer_of x (other_of x.client p.datagram) (line_before x.client p older) p.datagram (latest_in (line_before x.client p older))
   by _ = None
 
+-- the client of its transfer sent it
+abbrev pub is_sent_by_client : Placed → Bool
+is_sent_by_client p = by (transfer_of p.place) where
+  by : Option Transfer → Bool
+  by None = false
+  by (Some x) = same_endpoint p.datagram.source x.client
+
+-- ---- what may be late from an earlier transfer between the same two
+
+-- the client and this endpoint talk by it
+abbrev pub is_talk : Endpoint → Endpoint → Placed → Bool
+is_talk c o q = by q.place where
+  by : Place → Bool
+  by (Talks y) = is_between c o q.datagram
+  by _ = false
+
+-- in another transfer than the one with this number
+abbrev pub is_other_talk : Endpoint → Endpoint → ℕ → Placed → Bool
+is_other_talk c o n q = by q.place where
+  by : Place → Bool
+  by (Talks y) = is_between c o q.datagram && not (y.number == n)
+  by _ = false
+
+-- what passed up to the newest datagram by which the two talked in another transfer
+abbrev pub before_talk : Endpoint → Endpoint → ℕ → List Placed → List Placed
+before_talk c o n [] = []
+before_talk c o n (q ∷ line) = if is_other_talk c o n q then q ∷ line else before_talk c o n line
+
+-- how far the transfer may have come by then: where a window was asked for, anywhere (RFC 7440)
+abbrev pub far : Transfer → Placed → ℕ
+far y q = if y.has_window then 65535 else number_of q.datagram.payload
+
+-- Such a payload of the client, or of the other end, may be of the transfer in which the two talk here: it is what this end
+-- sends in one, and the next at the most (RFC 1350, section 2).
+abbrev pub may_follow : Endpoint → Endpoint → Bool → List ℕ → Placed → Bool
+may_follow c o is_client payload q = by q.place where
+  by : Place → Bool
+  by (Talks y) = is_between c o q.datagram && (passes_in y.writes is_client payload && nat_le (number_of payload) (far y q + 1))
+  by _ = false
+
+-- it may be of an earlier transfer between the two, and late
+abbrev pub may_be_earlier : Placed → List Placed → Bool
+may_be_earlier p older = by p.place where
+  by : Place → Bool
+  by (Talks x) =
+      list_any (may_follow x.client (other_of x.client p.datagram) (same_endpoint p.datagram.source x.client) p.datagram.payload)
+      (before_talk x.client (other_of x.client p.datagram) x.number (line_before x.client p older))
+  by _ = false
+
+-- an OACK that may be so: what it agrees on is another transfer's
+abbrev pub agrees_late : Placed → List Placed → Bool
+agrees_late p older = may_be_earlier p older && begins_oack p.datagram.payload
+
+-- a block or an ACK 0 that this end sends in such a transfer: whether it is lawful may rest on what was agreed (RFC 2347)
+abbrev pub rests_on_terms : Placed → Bool
+rests_on_terms p = by p.place where
+  by : Place → Bool
+  by (Talks x) = passes_in x.writes (same_endpoint p.datagram.source x.client) p.datagram.payload && (is_block p.datagram.payload || is_ack_0 p.datagram.payload)
+  by _ = false
+
+-- it is of a transfer, and ERROR 5
+abbrev pub says_unknown_id : Placed → Bool
+says_unknown_id p = by p.place where
+  by : Place → Bool
+  by (Talks x) = begins_unknown_id p.datagram.payload
+  by _ = false
+
 -- all that a datagram makes doubtful, after those before it
 abbrev pub doubts_of : Placed → List Placed → Doubts
 doubts_of p older = record {
-  goes_over = goes_over p older;
+  may_be_earlier = may_be_earlier p older;
+  agrees_late = agrees_late p older;
+  rests_on_terms = rests_on_terms p;
+  says_unknown_id = says_unknown_id p;
   is_late = is_late p older;
   is_disordered = is_disordered p older;
   is_asked_again = is_asked_again p older;

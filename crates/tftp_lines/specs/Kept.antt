@@ -1,5 +1,5 @@
 -- What one pass keeps of the datagrams before, of each client's line.
-use Rattle.std.specs.Prelude.{◌≡◌, ℕ, ◌==◌, ◌&&◌, ◌||◌, not, nat_lt, Bool, false, List, [], Option, Some, None, if◌then◌else◌}
+use Rattle.std.specs.Prelude.{◌≡◌, ℕ, ◌+◌, ◌==◌, ◌&&◌, ◌||◌, not, nat_le, nat_lt, Bool, true, false, List, [], Option, Some, None, IsSomeAnd, option_map, if◌then◌else◌}
 use Rattle.std.specs.Str.{bytes_eq}
 use Rattle.std.specs.BTreeMap.{get, BTreeMap}
 use Rattle.std.specs.List.{list_any}
@@ -12,9 +12,12 @@ use Rattle.tftp_lines.specs.declared.kind.Kind.{Kind}
 use Rattle.tftp_lines.specs.declared.kind.Seen.{Seen}
 use Rattle.tftp_lines.specs.declared.line.Line.{Line}
 use Rattle.tftp_lines.specs.declared.line.Talk.{Talk}
-use Rattle.tftp_lines.specs.Recording.{Recorded, same_endpoint, endpoint_cmp, asked_part, begins_request, begins_error, begins_packet, begins_unknown_id, is_ack_0, is_data_1, is_answer}
-use Rattle.tftp_lines.specs.Places.{Placed, is_request, newest_of, clock, live, line, reach, latest_in, answered_in, talk_in, place_asked}
-use Rattle.tftp_lines.specs.Doubting.{acked_0_in, says_more, is_alike_in, is_later}
+use Rattle.tftp_lines.specs.declared.line.Talked.{Talked}
+use Rattle.tftp_lines.specs.declared.history.History.{History}
+use Rattle.tftp_lines.specs.declared.history.Progress.{Progress}
+use Rattle.tftp_lines.specs.Recording.{Recorded, same_endpoint, endpoint_cmp, asked_part, begins_request, begins_error, begins_oack, begins_packet, begins_unknown_id, is_ack, is_ack_0, is_block, is_data_1, is_answer, number_of, passes_in}
+use Rattle.tftp_lines.specs.Places.{Placed, is_request, newest_of, clock, live, line, reach, latest_in, answered_in, opened_by, talk_in, place_asked}
+use Rattle.tftp_lines.specs.Doubting.{acked_0_in, before_talk, is_talk, may_follow, says_more, is_alike_in, is_later}
 
 -- what is looked at of a payload
 abbrev pub kind_of : List ℕ → Kind
@@ -26,6 +29,10 @@ kind_of payload = record {
   is_ack_0 = is_ack_0 payload;
   is_data_1 = is_data_1 payload;
   is_answer = is_answer payload;
+  begins_oack = begins_oack payload;
+  is_block = is_block payload;
+  is_ack = is_ack payload;
+  number = number_of payload;
 }
 
 -- and of a datagram, but for its payload itself
@@ -36,13 +43,73 @@ seen_of d = record { source = d.source; target = d.target; time = d.time; kind =
 abbrev pub other_end : Endpoint → Seen → Endpoint
 other_end c s = if same_endpoint s.source c then s.target else s.source
 
+-- ---- what the two ends of a talk said before
+
+-- the number is the next at the most
+abbrev pub is_reached : ℕ → Option ℕ → Bool
+is_reached number None = false
+is_reached number (Some far) = nat_le number (far + 1)
+
+-- such a payload may be of a transfer that has come so far
+abbrev pub is_within : Progress → Bool → List ℕ → Bool
+is_within progress is_client payload =
+    (passes_in true is_client payload && is_reached (number_of payload) progress.writes)
+    || (passes_in false is_client payload && is_reached (number_of payload) progress.reads)
+
+-- by the whole history
+abbrev pub all_by : Option History → Bool → List ℕ → Bool
+all_by None is_client payload = false
+all_by (Some h) is_client payload = is_within h.whole is_client payload
+
+-- and by that before this transfer
+abbrev pub up_to : ℕ → Option History → Bool → List ℕ → Bool
+up_to n None is_client payload = false
+up_to n (Some h) is_client payload = if h.number == n then is_within h.before is_client payload else is_within h.whole is_client payload
+
+-- It tells of the line what may be late, in a transfer of its number and in any other.
+pub record TellsOf (c o : Endpoint) (line : List Placed) (h : History) : Type 0 where
+  pub whole : (is_client : Bool) (payload : List ℕ) → list_any (may_follow c o is_client payload) line ≡ is_within h.whole is_client payload
+  pub before : (is_client : Bool) (payload : List ℕ)
+      → list_any (may_follow c o is_client payload) (before_talk c o h.number line) ≡ is_within h.before is_client payload
+  pub others : (n : ℕ) → (h.number == n) ≡ false → (is_client : Bool) (payload : List ℕ)
+      → list_any (may_follow c o is_client payload) (before_talk c o n line) ≡ is_within h.whole is_client payload
+
+-- none is kept only where the two have not talked
+abbrev pub IsHistoryOf : Endpoint → Endpoint → List Placed → Option History → Type 0
+IsHistoryOf c o line None = list_any (is_talk c o) line ≡ false
+IsHistoryOf c o line (Some h) = TellsOf c o line h
+
+-- the number of a datagram, or of all that a transfer may have come to
+abbrev pub far_by : Transfer → ℕ → ℕ
+far_by x number = if x.has_window then 65535 else number
+
+-- how far all came, with a datagram of this transfer and this number more
+abbrev pub IsFurther : Transfer → ℕ → (Bool → List ℕ → Bool) → Progress → Type 0
+IsFurther x number before progress = (is_client : Bool) (payload : List ℕ) → is_within progress is_client payload
+    ≡ ((passes_in x.writes is_client payload && nat_le (number_of payload) (far_by x number + 1)) || before is_client payload)
+
+-- the history after a datagram of this transfer with this number
+pub record IsNextHistory (old : Option History) (x : Transfer) (number : ℕ) (h : History) : Type 0 where
+  pub talked : h.number ≡ x.number
+  pub whole : IsFurther x number (all_by old) h.whole
+  pub before : (is_client : Bool) (payload : List ℕ) → is_within h.before is_client payload ≡ up_to x.number old is_client payload
+
+-- after a datagram of this transfer, or of none
+abbrev pub IsHistoryAfter : Option History → Option History → Option Transfer → ℕ → Type 0
+IsHistoryAfter old new None number = new ≡ old
+IsHistoryAfter old new (Some x) number = IsSomeAnd new (IsNextHistory old x number)
+
+abbrev pub history_of : Option Talked → Option History
+history_of None = None
+history_of (Some talked) = talked.history
+
 -- ---- a line
 
 -- where a request goes, by what the line keeps
 abbrev pub asked_by : Line → ℕ → Recorded → Place
 asked_by l number d =
     if l.ends_in_request && bytes_eq l.request.items d.payload && same_endpoint l.latest.asked d.target then Repeats l.latest
-    else Opens (record { number = number; client = d.source; asked = d.target })
+    else opened_by number d
 
 abbrev pub is_past : ℕ → Option ℕ → Bool
 is_past time None = false
@@ -54,7 +121,8 @@ pub record IsLineOf (l : Line) (line : List Placed) : Type 0 where
   pub answered : answered_in l.latest line ≡ l.answered
   pub moment : clock line ≡ l.moment
   pub asked : (number : ℕ) (d : Recorded) → d.source ≡ l.latest.client → place_asked number d line ≡ asked_by l number d
-  pub talks : (o : Endpoint) → get endpoint_cmp l.talks o ≡ talk_in l.latest.client o line
+  pub talks : (o : Endpoint) → option_map (λ t. t.talk) (get endpoint_cmp l.talks o) ≡ talk_in l.latest.client o line
+  pub histories : (o : Endpoint) → IsHistoryOf l.latest.client o line (history_of (get endpoint_cmp l.talks o))
   pub again : (d : Recorded) → d.source ≡ l.latest.client
       → is_alike_in d (newest_of is_request line) ≡ (bytes_eq (asked_part l.request.items) (asked_part d.payload) && same_endpoint l.latest.asked d.target)
   pub went_on : list_any says_more (reach line) ≡ l.went_on

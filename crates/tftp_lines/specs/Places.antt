@@ -6,7 +6,7 @@ use Rattle.tftp_lines.specs.declared.place.Place.{Place}
 use Rattle.tftp_lines.specs.declared.place.Place.TheVariants.{Opens, Repeats, Talks, Apart, Nowhere}
 use Rattle.tftp_lines.specs.declared.place.Transfer.{Transfer}
 use Rattle.tftp_lines.specs.declared.line.Talk.{Talk}
-use Rattle.tftp_lines.specs.Recording.{Recorded, same_address, same_endpoint, is_ack_0, is_data_1, is_answer, goes, is_between, is_again}
+use Rattle.tftp_lines.specs.Recording.{Recorded, same_address, same_endpoint, begins_write, has_window, is_ack_0, is_data_1, is_answer, goes, is_between, is_again}
 
 -- a datagram, the greatest time up to it, and its place
 pub record Placed : Type 0 where
@@ -114,8 +114,11 @@ talk_in c o line =
 
 -- ---- requests
 
+abbrev pub opening : ℕ → Recorded → Transfer
+opening number d = record { number = number; client = d.source; asked = d.target; writes = begins_write d.payload; has_window = has_window d.payload }
+
 abbrev pub opened_by : ℕ → Recorded → Place
-opened_by number d = Opens (record { number = number; client = d.source; asked = d.target })
+opened_by number d = Opens (opening number d)
 
 -- A request repeats the one that stands before it in the line, if that is the same. Any other opens a transfer.
 abbrev pub asked_after : Place → Place → Bool → Place

@@ -1,7 +1,7 @@
 -- A recording: whole UDP datagrams, the newest first, and what is asked of one.
-use Rattle.std.specs.Prelude.{ℕ, ◌+◌, ◌==◌, ◌&&◌, ◌||◌, Bool, List, [], ◌∷◌, nat_eq, nat_le, take, drop, position, Option, Some, None, if◌then◌else◌}
-use Rattle.std.specs.List.{starts_with}
-use Rattle.std.specs.Str.{bytes_eq}
+use Rattle.std.specs.Prelude.{ℕ, ◌+◌, ◌==◌, ◌&&◌, ◌||◌, not, Bool, List, [], ◌∷◌, codes, length, nat_eq, nat_le, take, drop, position, Option, Some, None, if◌then◌else◌}
+use Rattle.std.specs.List.{list_any, slice_split, starts_with}
+use Rattle.std.specs.Str.{bytes_eq, str_eq_ignore_ascii_case}
 use Rattle.std.specs.declared.cmp.Ordering.{Ordering}
 use Rattle.std.specs.Ordering.{nat_cmp, on, then_cmp}
 use Rattle.std.specs.Cmp.Lexicographic.{slice_cmp}
@@ -48,6 +48,13 @@ endpoint_cmp = then_cmp (on (λ e. e.port) nat_cmp) (on (λ e. e.address) addres
 abbrev pub begins_request : List ℕ → Bool
 begins_request payload = (opcode_of payload == 1) || (opcode_of payload == 2)
 
+abbrev pub begins_write : List ℕ → Bool
+begins_write payload = opcode_of payload == 2
+
+-- one of its strings is the name of the option of windows, in letters of any case (RFC 7440, section 3; RFC 2347)
+abbrev pub has_window : List ℕ → Bool
+has_window payload = list_any (λ word. str_eq_ignore_ascii_case word (codes "windowsize")) (slice_split (λ b. b == 0) payload)
+
 abbrev pub begins_error : List ℕ → Bool
 begins_error payload = opcode_of payload == 5
 
@@ -56,6 +63,30 @@ is_ack_0 payload = bytes_eq payload (0 ∷ 4 ∷ 0 ∷ 0 ∷ [])
 
 abbrev pub is_data_1 : List ℕ → Bool
 is_data_1 payload = starts_with nat_eq payload (0 ∷ 3 ∷ 0 ∷ 1 ∷ [])
+
+abbrev pub begins_oack : List ℕ → Bool
+begins_oack payload = opcode_of payload == 6
+
+-- blocks are numbered from 1
+abbrev pub is_block : List ℕ → Bool
+is_block payload = (opcode_of payload == 3) && nat_le 1 (opcode_of (drop 2 payload))
+
+abbrev pub is_ack : List ℕ → Bool
+is_ack payload = (opcode_of payload == 4) && (length payload == 4)
+
+-- the number of a block or of an ACK, which follows the opcode; 0 for anything else
+abbrev pub number_of : List ℕ → ℕ
+number_of payload = if is_block payload || is_ack payload then opcode_of (drop 2 payload) else 0
+
+-- who sends the blocks: the client of a write, the server of a read (RFC 1350, section 2)
+abbrev pub sends_blocks : Bool → Bool → Bool
+sends_blocks writes is_client = if writes then is_client else not is_client
+
+-- what this end sends in such a transfer, its requests aside
+abbrev pub passes_in : Bool → Bool → List ℕ → Bool
+passes_in writes is_client payload =
+    (is_block payload && sends_blocks writes is_client) || (is_ack payload && not (sends_blocks writes is_client))
+    || (begins_oack payload && not is_client) || begins_error payload
 
 -- it begins as a packet of TFTP does
 abbrev pub begins_packet : List ℕ → Bool

@@ -1,12 +1,12 @@
 //! What a datagram makes doubtful: when a refusal of a transfer is no accusation.
 
-ghost use Rattle.std.specs.Prelude.{◌≡◌, ◌&&◌, ◌||◌, not, ℕ, List, None, Some, false, bytes_eq, is_some, nat_lt, if◌then◌else◌};
+ghost use Rattle.std.specs.Prelude.{◌≡◌, ◌&&◌, ◌||◌, not, ℕ, List, None, Some, false, bytes_eq, is_some, nat_lt, option_map, if◌then◌else◌};
 ghost use Rattle.std.specs.BTreeMap.{get};
 ghost use Rattle.std.specs.Ordering.{nat_cmp};
 ghost use Rattle.tftp_lines.specs.Recording.{Recorded, asked_part, same_endpoint, endpoint_cmp};
 ghost use Rattle.tftp_lines.specs.Places.{Placed, live, line, transfer_of, may_answer};
-ghost use Rattle.tftp_lines.specs.Doubting.{is_another, is_the_one, talked_in, acked_0_in, doubts_of, follows_strays};
-ghost use Rattle.tftp_lines.specs.Kept.{IsLineOf, seen_of, is_past};
+ghost use Rattle.tftp_lines.specs.Doubting.{is_another, is_the_one, acked_0_in, doubts_of, follows_strays, rests_on_terms};
+ghost use Rattle.tftp_lines.specs.Kept.{IsLineOf, history_of, kind_of, seen_of, is_past, up_to};
 ghost use Rattle.tftp_lines.specs.declared.place.Place.{Place};
 ghost use Rattle.tftp_lines.specs.declared.place.Transfer.{Transfer};
 
@@ -18,8 +18,14 @@ use crate::place::{Place, Transfer};
 /// What one datagram makes doubtful, and with whom its client goes on. All but `may_be_answer_of` are of its own transfer.
 #[derive(Clone, Copy, Debug, PartialEq, Eq)]
 pub struct Doubts {
-    /// Its server's endpoint was that of another transfer before.
-    pub goes_over: bool,
+    /// It may be late, from an earlier transfer between the same two endpoints.
+    pub may_be_earlier: bool,
+    /// It is an OACK that may be so (RFC 2347).
+    pub agrees_late: bool,
+    /// It is a block or an ACK 0 that this end sends in such a transfer: whether it is lawful may rest on what was agreed.
+    pub rests_on_terms: bool,
+    /// It is ERROR 5, "Unknown transfer ID" (RFC 1350, section 5).
+    pub says_unknown_id: bool,
     /// Its client had asked for another by then: a refusal from here on is doubtful.
     pub is_late: bool,
     /// It is older than one of the transfer before it, or opens the transfer and is older than one of the recording before it.
@@ -45,10 +51,13 @@ pub struct Doubts {
 impl Doubts {
     /// Nothing is doubtful.
     pub fn none() -> Self
-        ensures { result ≡ record { goes_over = false; is_late = false; is_disordered = false; is_asked_again = false; may_be_answer_of = None; comes_in = false; goes_on_with_first = false; speaks_first = false; follows_strays = false; follows_unanswered = false } }
+        ensures { result ≡ record { may_be_earlier = false; agrees_late = false; rests_on_terms = false; says_unknown_id = false; is_late = false; is_disordered = false; is_asked_again = false; may_be_answer_of = None; comes_in = false; goes_on_with_first = false; speaks_first = false; follows_strays = false; follows_unanswered = false } }
     {
         Doubts {
-            goes_over: false,
+            may_be_earlier: false,
+            agrees_late: false,
+            rests_on_terms: false,
+            says_unknown_id: false,
             is_late: false,
             is_disordered: false,
             is_asked_again: false,
@@ -64,7 +73,7 @@ impl Doubts {
     /// What a datagram makes doubtful that opens a transfer where no line goes on, by whether it is older than one before it in
     /// the recording.
     pub fn of_first(is_disordered: bool, is_after_strays: bool) -> Self
-        ensures { result ≡ record { goes_over = false; is_late = false; is_disordered = is_disordered; is_asked_again = false; may_be_answer_of = None; comes_in = false; goes_on_with_first = false; speaks_first = false; follows_strays = is_after_strays; follows_unanswered = false } }
+        ensures { result ≡ record { may_be_earlier = false; agrees_late = false; rests_on_terms = false; says_unknown_id = false; is_late = false; is_disordered = is_disordered; is_asked_again = false; may_be_answer_of = None; comes_in = false; goes_on_with_first = false; speaks_first = false; follows_strays = is_after_strays; follows_unanswered = false } }
     {
         Doubts {
             is_disordered,
@@ -140,8 +149,12 @@ impl Line {
             → result ≡ doubts_of (record { datagram = d; moment = now; place = Place.Talks transfer.now }) older }
     {
         let other = other_end(&transfer.client, seen);
+        let may_be_earlier = self.may_be_earlier(transfer, other, seen);
         Doubts {
-            goes_over: self.has_other(transfer, other),
+            may_be_earlier,
+            agrees_late: agrees_late(seen, may_be_earlier),
+            rests_on_terms: rests_on_terms(transfer, seen),
+            says_unknown_id: seen.kind.begins_unknown_id,
             is_late: self.is_behind(transfer),
             is_disordered: self.has_later(transfer.number, seen.time),
             is_asked_again: false,
@@ -165,7 +178,7 @@ impl Line {
 
     /// Whether the client sends to where nothing had passed between the two.
     fn speaks_first(&self, transfer: &Transfer, other: Endpoint, seen: &Seen) -> bool
-        ensures { result ≡ (same_endpoint seen.now.source transfer.now.client && not (is_some (get endpoint_cmp self.now.talks other))) }
+        ensures { result ≡ (same_endpoint seen.now.source transfer.now.client && not (is_some (option_map (λ t. t.talk) (get endpoint_cmp self.now.talks other)))) }
     {
         seen.source == transfer.client && !self.talks_with(&other)
     }
@@ -180,16 +193,17 @@ impl Line {
         }
     }
 
-    /// Whether the client talked with this endpoint in another transfer.
-    fn has_other(&self, transfer: &Transfer, other: Endpoint) -> bool
-        ensures { result ≡ is_another transfer.now (talked_in (get endpoint_cmp self.now.talks other)) }
+    /// Whether it may be late, from another transfer in which the two talked before.
+    fn may_be_earlier(&self, transfer: &Transfer, other: Endpoint, seen: &Seen) -> bool
+        ensures { (payload : List ℕ) → seen.now.kind ≡ kind_of payload
+            → result ≡ up_to transfer.now.number (history_of (get endpoint_cmp self.now.talks other)) (same_endpoint seen.now.source transfer.now.client) payload }
     {
-        match self.talk_with(other) {
+        match self.history_with(other) {
             None => false,
-            Some(talk) => match talk.transfer {
-                None => false,
-                Some(before) => before.number != transfer.number,
-            },
+            Some(history) => {
+                let progress = history.up_to(transfer.number);
+                progress.is_within(&seen.kind, seen.source == transfer.client)
+            }
         }
     }
 
@@ -222,7 +236,7 @@ impl Line {
     fn answers_instead(&self, transfer: &Transfer, other: Endpoint, seen: &Seen) -> Option<u64>
         ensures { (d : Recorded) → seen.now ≡ seen_of d
             → result ≡ (if is_another transfer.now (Some self.now.latest)
-            && (may_answer transfer.now.client other self.now.answered d && (seen.now.kind.is_data_1 && acked_0_in (get endpoint_cmp self.now.talks other)))
+            && (may_answer transfer.now.client other self.now.answered d && (seen.now.kind.is_data_1 && acked_0_in (option_map (λ t. t.talk) (get endpoint_cmp self.now.talks other))))
             then Some self.now.latest.number else None) }
     {
         if self.may_answer_first(transfer, other, seen) {
@@ -236,7 +250,7 @@ impl Line {
     fn may_answer_first(&self, transfer: &Transfer, other: Endpoint, seen: &Seen) -> bool
         ensures { (d : Recorded) → seen.now ≡ seen_of d
             → result ≡ (is_another transfer.now (Some self.now.latest)
-            && (may_answer transfer.now.client other self.now.answered d && (seen.now.kind.is_data_1 && acked_0_in (get endpoint_cmp self.now.talks other)))) }
+            && (may_answer transfer.now.client other self.now.answered d && (seen.now.kind.is_data_1 && acked_0_in (option_map (λ t. t.talk) (get endpoint_cmp self.now.talks other))))) }
     {
         let answers = self.may_answer(transfer.client, other, seen);
         let is_next = seen.kind.is_data_1 && was_acked_0(self.talk_with(other));
@@ -250,4 +264,21 @@ impl Line {
         let comes = seen.source == other && seen.target == client;
         self.answered.is_none() && comes && seen.kind.is_answer
     }
+}
+
+/// Whether it is an OACK, and may be late.
+fn agrees_late(seen: &Seen, may_be_earlier: bool) -> bool
+    ensures { result ≡ (may_be_earlier && seen.now.kind.begins_oack) }
+{
+    may_be_earlier && seen.kind.begins_oack
+}
+
+/// Whether it is a block or an ACK 0 that this end sends in such a transfer.
+fn rests_on_terms(transfer: &Transfer, seen: &Seen) -> bool
+    ensures { (p : Placed) → seen.now ≡ seen_of p.datagram → p.place ≡ Place.Talks transfer.now → result ≡ rests_on_terms p }
+{
+    let is_its_own = seen
+        .kind
+        .passes_in(transfer.writes, seen.source == transfer.client);
+    is_its_own && (seen.kind.is_block || seen.kind.is_ack_0)
 }

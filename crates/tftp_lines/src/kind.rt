@@ -1,9 +1,9 @@
 //! What is looked at of a datagram.
 
-ghost use Rattle.std.specs.Prelude.{◌≡◌, ◌==◌, ◌||◌, position, true};
-ghost use Rattle.tftp_packet.specs.{Message, RequestParts, Spells, meaning};
+ghost use Rattle.std.specs.Prelude.{◌≡◌, ◌==◌, ◌||◌, ℕ, List, drop, position, true};
+ghost use Rattle.tftp_packet.specs.{Message, RequestParts, Spells, meaning, opcode_of};
 ghost use Rattle.tftp_lines.specs.Kept.{kind_of, other_end};
-ghost use Rattle.tftp_lines.specs.Recording.{asked_part};
+ghost use Rattle.tftp_lines.specs.Recording.{asked_part, has_window, is_block, passes_in};
 
 use crate::endpoint::Endpoint;
 use tftp_packet::{Packet, opcode, read_packet};
@@ -25,6 +25,14 @@ pub struct Kind {
     pub is_data_1: bool,
     /// A server may send it first: OACK, ERROR, ACK 0 or DATA 1.
     pub is_answer: bool,
+    /// Its opcode is that of OACK.
+    pub begins_oack: bool,
+    /// It is DATA with a number from 1.
+    pub is_block: bool,
+    /// It is an ACK, and nothing more.
+    pub is_ack: bool,
+    /// The number of the block or the ACK, and 0 of anything else.
+    pub number: u16,
 }
 
 /// A datagram's ends, and what is looked at of its payload.
@@ -77,6 +85,8 @@ impl Kind {
     {
         let is_ack_0 = payload == ACK_0.as_slice();
         let is_data_1 = payload.starts_with(DATA_1.as_slice());
+        let is_block = is_block(payload);
+        let is_ack = opcode(payload) == 4 && payload.len() == 4;
         Kind {
             begins_request: is_request_code(opcode(payload)),
             begins_error: opcode(payload) == 5,
@@ -85,8 +95,48 @@ impl Kind {
             is_ack_0,
             is_data_1,
             is_answer: is_answer_code(opcode(payload)) || is_ack_0 || is_data_1,
+            begins_oack: opcode(payload) == 6,
+            is_block,
+            is_ack,
+            number: if is_block || is_ack { second(payload) } else { 0 },
         }
     }
+
+    /// Whether this end of such a transfer sends it, if it is no request (RFC 1350, section 2; RFC 2347).
+    pub fn passes_in(&self, writes: bool, is_client: bool) -> bool
+        ensures { (payload : List ℕ) → self.now ≡ kind_of payload → result ≡ passes_in writes is_client payload }
+    {
+        let sends_blocks = if writes { is_client } else { !is_client };
+        (self.is_block && sends_blocks)
+            || (self.is_ack && !sends_blocks)
+            || (self.begins_oack && !is_client)
+            || self.begins_error
+    }
+}
+
+/// The number in the two bytes behind the opcode, or 0 where there are none.
+fn second(payload: &[u8]) -> u16
+    ensures { result ≡ opcode_of (drop 2 payload.now) }
+{
+    match payload.get(2..) {
+        Some(rest) => opcode(rest),
+        None => 0,
+    }
+}
+
+fn is_block(payload: &[u8]) -> bool
+    ensures { result ≡ is_block payload.now }
+{
+    opcode(payload) == 3 && second(payload) >= 1
+}
+
+/// Whether one of its strings is the name of the option of windows, in letters of any case (RFC 7440, section 3).
+pub(crate) fn has_window(payload: &[u8]) -> bool
+    ensures { result ≡ has_window payload.now }
+{
+    payload
+        .split(|byte| *byte == 0)
+        .any(|word| word.eq_ignore_ascii_case(b"windowsize"))
 }
 
 /// Of a request its side and the name of its file: what stands before the zero that ends the name (RFC 1350, section 5).

@@ -1,16 +1,17 @@
 //! A client's line: what passed at its endpoint since it was last silent.
 
-ghost use Rattle.std.specs.Prelude.{◌≡◌, ◌≤◌, ◌+◌, [], ◌∷◌, ℕ, List, true, false, nat_le, Some, None, Ok, IfOk, OnOk, OnErr, is_some, bytes_eq, ◌&&◌, not, if◌then◌else◌};
+ghost use Rattle.std.specs.Prelude.{◌≡◌, ◌≤◌, ◌+◌, [], ◌∷◌, ℕ, List, true, false, nat_le, Some, None, Ok, IfOk, OnOk, OnErr, is_some, option_map, bytes_eq, ◌&&◌, not, if◌then◌else◌};
 ghost use Rattle.std.specs.BTreeMap.{get, IsUnchanged};
 ghost use Rattle.tftp_lines.specs.Recording.{Recorded, same_endpoint, is_between, endpoint_cmp};
 ghost use Rattle.tftp_lines.specs.Places.{Placed, live, place_at, place_talked, place_asked, is_known_host, may_answer, silence};
-ghost use Rattle.tftp_lines.specs.Kept.{IsLineOf, IsRequestOf, seen_of, place_of_talk, comes_to, talk_after, ends_after, went_on_after, IsTimed, AreTimed};
+ghost use Rattle.tftp_lines.specs.Kept.{IsLineOf, IsRequestOf, IsHistoryAfter, history_of, seen_of, place_of_talk, comes_to, talk_after, ends_after, went_on_after, IsTimed, AreTimed};
 ghost use Rattle.tftp_lines.specs.Doubting.{acked_0_in};
 ghost use Rattle.tftp_rules.specs.{or_this};
 ghost use Rattle.tftp_lines.specs.declared.place.Place.{Place};
 ghost use Rattle.tftp_lines.specs.declared.place.Transfer.{Transfer};
 
 use crate::endpoint::Endpoint;
+use crate::history::History;
 use crate::kind::Seen;
 use crate::place::{Place, Transfer};
 use std::alloc::{AllocError, Global};
@@ -35,6 +36,15 @@ pub struct Talk {
     pub acked_0: bool,
 }
 
+/// What is kept of a client and another endpoint.
+#[derive(Clone, Copy)]
+pub struct Talked {
+    /// What passed last between the two, requests aside.
+    pub talk: Talk,
+    /// How far their transfers came; none where they have none.
+    pub history: Option<History>,
+}
+
 /// What is kept of a line.
 #[derive(Drop)]
 pub struct Line {
@@ -53,7 +63,7 @@ pub struct Line {
     /// The greatest time of each transfer's datagrams, by its number.
     pub newest: BTreeMap<u64, u64>,
     /// With whom the client talks.
-    pub talks: BTreeMap<Endpoint, Talk>,
+    pub talks: BTreeMap<Endpoint, Talked>,
 }
 
 impl Line {
@@ -65,11 +75,12 @@ impl Line {
         if self.asks_again(target, payload) {
             return Place::Repeats(self.latest);
         }
-        Place::Opens(Transfer {
+        Place::Opens(Transfer::opened(
             number,
-            client: self.latest.client,
-            asked: target,
-        })
+            self.latest.client,
+            target,
+            payload,
+        ))
     }
 
     /// Whether a request of its client is the one before it in the line again.
@@ -90,14 +101,27 @@ impl Line {
 
     /// Of what the client talks with this endpoint.
     pub fn talk_with(&self, other: Endpoint) -> Option<Talk>
-        ensures { result ≡ get endpoint_cmp self.now.talks other }
+        ensures { result ≡ option_map (λ t. t.talk) (get endpoint_cmp self.now.talks other) }
     {
-        self.talks.get(&other).copied()
+        match self.talks.get(&other) {
+            None => None,
+            Some(talked) => Some(talked.talk),
+        }
+    }
+
+    /// What its client and this endpoint said to each other in their transfers.
+    pub(crate) fn history_with(&self, other: Endpoint) -> Option<History>
+        ensures { result ≡ history_of (get endpoint_cmp self.now.talks other) }
+    {
+        match self.talks.get(&other) {
+            None => None,
+            Some(talked) => talked.history,
+        }
     }
 
     /// Whether its client talks with this endpoint.
     pub fn talks_with(&self, other: &Endpoint) -> bool
-        ensures { result ≡ is_some (get endpoint_cmp self.now.talks other.now) }
+        ensures { result ≡ is_some (option_map (λ t. t.talk) (get endpoint_cmp self.now.talks other.now)) }
     {
         self.talks.contains_key(other)
     }
@@ -236,7 +260,8 @@ impl Line {
         ensures client { self.new.latest ≡ self.old.latest }
     {
         let talk = self.talk_after(other, talked, seen);
-        self.talks.insert(other, talk)?;
+        let history = self.history_after(other, &talked, seen);
+        self.talks.insert(other, Talked { talk, history })?;
         note_talk(&mut self.newest, &talked, seen.time)?;
         self.went_on = went_on_after(&talked, seen, self.went_on);
         self.answered = self.answered_after(talked, seen);
@@ -247,7 +272,7 @@ impl Line {
 
     /// The talk with this endpoint, after one datagram more.
     fn talk_after(&self, other: Endpoint, talked: Option<Transfer>, seen: &Seen) -> Talk
-        ensures { result ≡ talk_after self.now.latest.client other talked seen.now (get endpoint_cmp self.now.talks other) }
+        ensures { result ≡ talk_after self.now.latest.client other talked seen.now (option_map (λ t. t.talk) (get endpoint_cmp self.now.talks other)) }
     {
         let is_sent = seen.source == self.latest.client && seen.target == other;
         let acked_0 = if is_sent {
@@ -258,6 +283,17 @@ impl Line {
         Talk {
             transfer: talked,
             acked_0,
+        }
+    }
+
+    /// How far the transfers with this endpoint came, after one datagram more.
+    fn history_after(&self, other: Endpoint, talked: &Option<Transfer>, seen: &Seen) -> Option<History>
+        ensures { IsHistoryAfter (history_of (get endpoint_cmp self.now.talks other)) result talked.now seen.now.kind.number }
+    {
+        let before = self.history_with(other);
+        match talked {
+            None => before,
+            Some(transfer) => Some(History::after(before, transfer, seen.kind.number)),
         }
     }
 

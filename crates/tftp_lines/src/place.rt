@@ -2,9 +2,11 @@
 
 ghost use Rattle.std.specs.Prelude.{◌≡◌};
 ghost use Rattle.tftp_lines.specs.Places.{Placed, is_of, transfer_of};
-ghost use Rattle.tftp_lines.specs.Recording.{Recorded, other_of};
+ghost use Rattle.tftp_lines.specs.Recording.{Recorded, begins_write, has_window, other_of};
 
 use crate::endpoint::Endpoint;
+use crate::kind::has_window;
+use tftp_packet::opcode;
 
 /// A transfer: one read or write (RFC 1350, section 1).
 #[derive(Clone, Copy, Debug, PartialEq, Eq)]
@@ -15,9 +17,26 @@ pub struct Transfer {
     pub client: Endpoint,
     /// The endpoint that was asked.
     pub asked: Endpoint,
+    /// Its request is a write (RFC 1350, section 5).
+    pub writes: bool,
+    /// Its request names the option of windows (RFC 7440, section 3).
+    pub has_window: bool,
 }
 
 impl Transfer {
+    /// The transfer that a request opens, before which so many datagrams came.
+    pub fn opened(number: u64, client: Endpoint, asked: Endpoint, payload: &[u8]) -> Self
+        ensures { result ≡ record { number = number; client = client; asked = asked; writes = begins_write payload.now; has_window = has_window payload.now } }
+    {
+        Transfer {
+            number,
+            client,
+            asked,
+            writes: opcode(payload) == 2,
+            has_window: has_window(payload),
+        }
+    }
+
     /// The end of a datagram that is not the client's.
     pub fn peer(&self, source: Endpoint, target: Endpoint) -> Endpoint
         ensures { (d : Recorded) → d.source ≡ source → d.target ≡ target → result ≡ other_of self.now.client d }

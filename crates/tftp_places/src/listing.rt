@@ -113,7 +113,8 @@ impl Listing {
         for known in self.transfers.iter() {
             let transfer = &known.doubts;
             print!(rt; "transfer {}", transfer.number())?;
-            put_doubt(rt, transfer.goes_over(), "over")?;
+            put_doubt(rt, transfer.agrees_late(), "agrees")?;
+            put_doubt(rt, transfer.says_unknown_id(), "unknown")?;
             put_doubt(rt, transfer.is_late(), "late")?;
             put_doubt(rt, transfer.is_disordered(), "disordered")?;
             put_doubt(rt, transfer.is_asked_again(), "again")?;
@@ -172,7 +173,8 @@ fn put_found(rt: HostRuntime, found: &Attributed) -> Result<()> {
         Place::Nowhere => print!(rt; "nowhere")?,
     }
     let doubts = &found.doubts;
-    put_doubt(rt, doubts.goes_over, "over")?;
+    put_doubt(rt, doubts.may_be_earlier, "earlier")?;
+    put_doubt(rt, doubts.rests_on_terms, "terms")?;
     put_doubt(rt, doubts.is_late, "late")?;
     put_doubt(rt, doubts.is_disordered, "disordered")?;
     put_doubt(rt, doubts.is_asked_again, "again")?;

@@ -2,8 +2,8 @@
 use Rattle.std.proofs.Common.{◌≡◌, ℕ, Bool, true, false, List, [], ◌∷◌, ◌++◌, Some, None, refl, sym, ap, subst, ◌∙◌, ◌&&◌, ◌||◌, if◌then◌else◌}
 use Rattle.std.specs.List.{list_any, AllByRecursion}
 use Rattle.std.proofs.lemmas.Bool.{false≢true, or_left, or_right, and_from}
-use Rattle.tftp_lines.specs.{Placed, begins_unknown_id, is_of, newest_of, follows_strays, follows_unanswered, goes_over, is_disordered, is_asked_again, is_late, may_be_answer_of}
-use Rattle.tftp_transfers.specs.{is_beside, is_doubted, is_doubtful, is_it, is_led_astray, some_of, is_answered_apart}
+use Rattle.tftp_lines.specs.{Placed, is_of, newest_of, follows_strays, follows_unanswered, is_disordered, is_asked_again, is_late, may_be_answer_of}
+use Rattle.tftp_transfers.specs.{is_beside, is_doubted, is_doubtful, is_it, is_led_astray, some_of, is_answered_apart, tells_strays}
 use Rattle.tftp_spared.specs.{is_doubted_there, needs_doubt}
 use Rattle.tftp_lines.proofs.Lines.{by_test}
 
@@ -37,15 +37,15 @@ module _ (n : ℕ) (p : Placed) (older : List Placed) where
 -- such a doubt is a doubt
 pub doubted_is : (n : ℕ) (placed : List Placed) → is_doubted_there n placed ≡ true → is_doubted n placed ≡ true
 doubted_is n placed is =
-    or_left (some_of n goes_over placed || some_of n is_disordered placed || some_of n is_asked_again placed || is_answered_apart n placed || some_of n follows_strays placed) (some_of n follows_unanswered placed)
-    (or_left (some_of n goes_over placed || some_of n is_disordered placed || some_of n is_asked_again placed || is_answered_apart n placed) (some_of n follows_strays placed)
+    or_left (some_of n is_disordered placed || some_of n is_asked_again placed || is_answered_apart n placed || some_of n follows_strays placed) (some_of n follows_unanswered placed)
+    (or_left (some_of n is_disordered placed || some_of n is_asked_again placed || is_answered_apart n placed) (some_of n follows_strays placed)
     (some_or (some_of n is_asked_again placed) (is_answered_apart n placed)
-    (some_of n goes_over placed || some_of n is_disordered placed || some_of n is_asked_again placed) (is_answered_apart n placed)
-    (or_right (some_of n goes_over placed || some_of n is_disordered placed) (some_of n is_asked_again placed)) (λ apart. apart) is))
+    (some_of n is_disordered placed || some_of n is_asked_again placed) (is_answered_apart n placed)
+    (or_right (some_of n is_disordered placed) (some_of n is_asked_again placed)) (λ apart. apart) is))
 
 pub doubtful_is : (n : ℕ) (placed : List Placed) (p : Placed) (older : List Placed) → needs_doubt n placed p older ≡ true → is_doubtful n placed p older ≡ true
 doubtful_is n placed p older is =
-    or_left (is_doubted n placed || is_led_astray n placed p older || some_of n is_late (p ∷ older) || is_beside p) (begins_unknown_id p.datagram.payload)
+    or_left (is_doubted n placed || is_led_astray n placed p older || some_of n is_late (p ∷ older) || is_beside p) (tells_strays n p older)
     (or_left (is_doubted n placed || is_led_astray n placed p older || some_of n is_late (p ∷ older)) (is_beside p)
     (some_or (is_doubted_there n placed) (some_of n is_late (p ∷ older)) (is_doubted n placed || is_led_astray n placed p older) (some_of n is_late (p ∷ older))
     (λ there. or_left (is_doubted n placed) (is_led_astray n placed p older) (doubted_is n placed there)) (λ late. late) is))

@@ -3,7 +3,7 @@ use Rattle.std.proofs.Common.{◌≡◌, ℕ, Bool, true, false, List, [], ◌�
 use Rattle.std.specs.List.{list_any, AllByRecursion, filter}
 use Rattle.std.proofs.lemmas.Bool.{false≢true, or_right, and_from, and_parts, eq-eqb}
 use Rattle.std.proofs.lemmas.Slice.Eq.{bytes_eq-Decides}
-use Rattle.tftp_lines.specs.{Endpoint, Place, Opens, Repeats, Apart, Transfer, Recorded, Placed, same_endpoint, is_between, is_again, other_of, is_of, is_request, is_apart, newest_of, reach, live, line, says_more, is_alike_in, begins_request, begins_error, goes, transfer_of, opened_by, asked_after, place_asked, is_asked_again}
+use Rattle.tftp_lines.specs.{opening, Endpoint, Place, Opens, Repeats, Apart, Transfer, Recorded, Placed, same_endpoint, is_between, is_again, other_of, is_of, is_request, is_apart, newest_of, reach, live, line, says_more, is_alike_in, begins_request, begins_error, goes, transfer_of, opened_by, asked_after, place_asked, is_asked_again}
 use Rattle.tftp_lines.proofs.Endpoints.{is_same, same_itself}
 use Rattle.tftp_lines.proofs.Lines.{by_test}
 use Rattle.tftp_transfers.proofs.AllLines.{line_here}
@@ -50,9 +50,6 @@ same_back one other third is also = record { payload = sym is.payload ∙ also.p
 
 pub asks_goes : (c : Endpoint) (d : Recorded) → asks_from c d ≡ true → goes_from c d ≡ true
 asks_goes c d is = (and_parts (goes_from c d) (begins_request d.payload) is).0
-
-abbrev pub opening : ℕ → Recorded → Transfer
-opening number d = record { number = number; client = d.source; asked = d.target }
 
 -- ---- in the same capture
 

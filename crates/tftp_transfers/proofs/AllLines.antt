@@ -2,7 +2,7 @@
 use Rattle.std.proofs.Common.{◌≡◌, ◌≢◌, ◌≤◌, ℕ, ◌+◌, true, false, List, [], ◌∷◌, Option, Some, None, Result, Ok, Err, cond, refl, sym, ap, subst, ◌∙◌, OnOk, nat_le}
 use Rattle.std.specs.BTreeMap.{get, BTreeMap}
 use Rattle.std.specs.Ordering.{is_eq}
-use Rattle.tftp_lines.specs.{Endpoint, Line, Transfer, Opens, Repeats, Recorded, same_endpoint, endpoint_cmp, Placed, is_at, live, line, clock, silence, place_asked, IsLineOf, IsLineKept, AreLinesOf, place_of_talk}
+use Rattle.tftp_lines.specs.{Endpoint, Line, Transfer, Opens, Repeats, Recorded, same_endpoint, endpoint_cmp, Placed, is_at, live, line, clock, silence, opened_by, place_asked, IsLineOf, IsLineKept, AreLinesOf, place_of_talk}
 use Rattle.tftp_lines.proofs.Endpoints.{same_by_order, is_same, same_itself}
 use Rattle.tftp_lines.proofs.Lines.{by_test}
 use Rattle.tftp_lines.proofs.Silences.{live_is, live_not, live_later}
@@ -45,7 +45,7 @@ at_talk k (Some x) d now clients c = ap (λ e. same_endpoint e c) (clients x ref
 
 -- a request repeats only where the line has one
 pub repeats_live : (number : ℕ) (d : Recorded) (x : Transfer) (ps : List Placed) → place_asked number d ps ≡ Repeats x → ps ≢ []
-repeats_live number d x ps is none = let both : Opens (record { number = number; client = d.source; asked = d.target }) ≡ Repeats x = sym (ap (place_asked number d) none) ∙ is in absurd (cc)
+repeats_live number d x ps is none = let both : opened_by number d ≡ Repeats x = sym (ap (place_asked number d) none) ∙ is in absurd (cc)
 
 pub on_ok_both : {X E P Q R : Type 0} (r : Result X E) → (P → Q → R) → OnOk r P → OnOk r Q → OnOk r R
 on_ok_both (Ok x) f one other = f one other

@@ -1,7 +1,7 @@
 -- What a place says of the ends of its datagram.
 use Rattle.std.proofs.Common.{◌≡◌, ◌≢◌, ◌⊎◌, ℕ, ◌+◌, Bool, true, false, List, [], ◌∷◌, Option, Some, None, inl, inr, refl, sym, ap, subst, ◌∙◌, ◌&&◌, not, nat_le, option_map, length, if◌then◌else◌}
 use Rattle.std.specs.List.{AllByRecursion}
-use Rattle.tftp_lines.specs.{Endpoint, Place, Opens, Repeats, Talks, Apart, Beside, Nowhere, Transfer, Talk, Recorded, same_endpoint, is_between, is_again, Placed, opens, is_request, is_apart, is_at, newest_of, live, line, silence, transfer_of, latest_in, answered_in, talked_of, talk_in, place_asked, place_talked, place_at, opened_by, asked_after, is_known_host, last_was_ack_0}
+use Rattle.tftp_lines.specs.{Endpoint, Place, Opens, Repeats, Talks, Apart, Beside, Nowhere, Transfer, Talk, Recorded, same_endpoint, is_between, is_again, Placed, opens, is_request, is_apart, is_at, newest_of, live, line, silence, transfer_of, latest_in, answered_in, talked_of, talk_in, place_asked, place_talked, place_at, opened_by, opening, asked_after, is_known_host, last_was_ack_0}
 use Rattle.tftp_transfers.specs.{either, or_talks, at_client, beside, beside_by, served_at, is_nowhere, asks, place_of}
 use Rattle.tftp_lines.proofs.Endpoints.{is_same}
 use Rattle.tftp_lines.proofs.Lines.{by_test}
@@ -208,7 +208,7 @@ opened_where older now d place number is = record {
   talks = λ x e. let both : opened_by number d ≡ Talks x = sym is ∙ e in absurd (cc);
   apart = λ a e. let both : opened_by number d ≡ Apart a = sym is ∙ e in absurd (cc);
   opens = λ x e. let both : opened_by number d ≡ Opens x = sym is ∙ e in
-      let same : record { number = number; client = d.source; asked = d.target } ≡ x = cc in (ap (λ z. z.client) (sym same), ap (λ z. z.asked) (sym same));
+      let same : opening number d ≡ x = cc in (ap (λ z. z.client) (sym same), ap (λ z. z.asked) (sym same));
   repeats = λ x e. let both : opened_by number d ≡ Repeats x = sym is ∙ e in absurd (cc);
 }
 

@@ -3,7 +3,7 @@ use Rattle.std.proofs.Common.{◌≡◌, ◌≤◌, ◌<◌, ℕ, ◌+◌, suc, 
 use Rattle.std.specs.List.{All, AllByRecursion}
 use Rattle.std.proofs.lemmas.Bool.{ne_eqb}
 use Rattle.std.proofs.lemmas.List.Elements.{All-nil, All-cons}
-use Rattle.tftp_lines.specs.{Endpoint, Place, Opens, Repeats, Talks, Apart, Beside, Nowhere, Transfer, Talk, Recorded, same_endpoint, other_of, goes, is_again, Placed, opens, is_apart, is_at, newest_of, live, line, silence, transfer_of, latest_in, answered_in, may_answer, talked_of, talk_in, place_talked, place_at, opened_by, asked_after, is_known_host, last_was_ack_0, clock, is_another, is_next_data, answer_of, may_be_answer_of}
+use Rattle.tftp_lines.specs.{Endpoint, Place, Opens, Repeats, Talks, Apart, Beside, Nowhere, Transfer, Talk, Recorded, same_endpoint, other_of, goes, is_again, Placed, opens, is_apart, is_at, newest_of, live, line, silence, transfer_of, latest_in, answered_in, may_answer, talked_of, talk_in, place_talked, place_at, opened_by, opening, asked_after, is_known_host, last_was_ack_0, clock, is_another, is_next_data, answer_of, may_be_answer_of}
 use Rattle.tftp_transfers.specs.{Served, at_client, beside, beside_by, serves, newer, last_served, served_within, served_by, served_at, is_service, is_nowhere, asks, place_of, placed, is_about, is_it, is_answered_apart}
 use Rattle.tftp_lines.proofs.Lines.{by_test}
 use Rattle.tftp_transfers.proofs.AllLines.{line_here, line_elsewhere}
@@ -240,17 +240,17 @@ IsNumbered number place = (x : Transfer) → place ≡ Opens x → x.number ≡ 
 
 asked_numbered : (older : List Placed) (now : ℕ) (d : Recorded) → IsNumbered (length older) (asked_place older now d)
 asked_numbered older now d = by (newest_of (λ p. not (is_apart p)) (live now (line d.source older))) refl where
-  opening : (place : Place) → place ≡ opened_by (length older) d → IsNumbered (length older) place
-  opening place is x e =
+  opened_is : (place : Place) → place ≡ opened_by (length older) d → IsNumbered (length older) place
+  opened_is place is x e =
       let both : opened_by (length older) d ≡ Opens x = sym is ∙ e in
-      let same : record { number = length older; client = d.source; asked = d.target } ≡ x = cc in sym (ap (λ z. z.number) same)
+      let same : opening (length older) d ≡ x = cc in sym (ap (λ z. z.number) same)
 
   by : (found : Option Placed) → newest_of (λ p. not (is_apart p)) (live now (line d.source older)) ≡ found → IsNumbered (length older) (asked_place older now d)
-  by None none = opening (asked_place older now d) (rw none refl)
+  by None none = opened_is (asked_place older now d) (rw none refl)
   by (Some p) found =
       let is : asked_place older now d ≡ asked_after (opened_by (length older) d) p.place (is_again p.datagram d) = rw found refl in
       elim (asked_as p.place (is_again p.datagram d) (length older) d) [
-        | opened e ↦ opening (asked_place older now d) (is ∙ e)
+        | opened e ↦ opened_is (asked_place older now d) (is ∙ e)
         | again y e of ↦ λ x opens. let both : Repeats y ≡ Opens x = sym (is ∙ e) ∙ opens in absurd (cc)
       ]
 

@@ -3,7 +3,7 @@ use Rattle.std.specs.Prelude.{◌≡◌, ◌⊎◌, ◌+◌, ℕ, Bool, true, fa
 use Rattle.std.specs.BTreeMap.{get, BTreeMap}
 use Rattle.std.specs.List.{list_any}
 use Rattle.std.specs.Ordering.{nat_cmp, is_eq}
-use Rattle.tftp_lines.specs.{Endpoint, Place, Opens, Repeats, Beside, Nowhere, Recorded, endpoint_cmp, Placed, clock, newest_of, silence, AreLinesOf, comes_in, follows_strays, follows_unanswered, goes_on_with_first, goes_over, is_late, is_disordered, is_asked_again, is_near, is_stray_at, may_be_tftp}
+use Rattle.tftp_lines.specs.{Endpoint, Place, Opens, Repeats, Beside, Nowhere, Recorded, endpoint_cmp, Placed, clock, newest_of, silence, AreLinesOf, comes_in, follows_strays, follows_unanswered, goes_on_with_first, agrees_late, says_unknown_id, is_late, is_disordered, is_asked_again, is_near, is_stray_at, may_be_tftp}
 use Rattle.tftp_transfers.specs.declared.attribution.Attribution.{Attribution}
 use Rattle.tftp_transfers.specs.declared.attribution.Served.{Served}
 use Rattle.tftp_transfers.specs.declared.attribution.Strayed.{Strayed}
@@ -74,7 +74,8 @@ takes_memory place d = true
 
 -- They are those of all these datagrams.
 pub record IsDoubtedAfter (t : TransferDoubts) (placed : List Placed) : Type 0 where
-  pub goes_over : t.goes_over ≡ some_of t.number goes_over placed
+  pub agrees_late : t.agrees_late ≡ some_of t.number agrees_late placed
+  pub says_unknown_id : t.says_unknown_id ≡ some_of t.number (λ q before. says_unknown_id q) placed
   pub is_late : t.is_late ≡ some_of t.number is_late placed
   pub is_disordered : t.is_disordered ≡ some_of t.number is_disordered placed
   pub is_asked_again : t.is_asked_again ≡ some_of t.number is_asked_again placed

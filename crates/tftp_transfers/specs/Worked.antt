@@ -1,6 +1,6 @@
 -- Recordings, the newest datagram first, with times in seconds.
 use Rattle.std.specs.Prelude.{ℕ, ◌*◌, ◌&&◌, not, Bool, true, false, List, [], ◌∷◌, ◌++◌, map, codes}
-use Rattle.tftp_lines.specs.{V4, Endpoint, Recorded, Place, Placed, comes_in, follows_strays, follows_unanswered, goes_on_with_first, is_late, speaks_first}
+use Rattle.tftp_lines.specs.{V4, Endpoint, Recorded, Place, Placed, comes_in, follows_strays, follows_unanswered, goes_on_with_first, is_late, may_be_earlier, speaks_first}
 use Rattle.tftp_transfers.specs.Places.{placed}
 use Rattle.tftp_transfers.specs.Views.{client_view, server_view}
 use Rattle.tftp_transfers.specs.Doubts.{is_doubted, some_of}
@@ -208,6 +208,42 @@ wrong_ports =
     ∷ requests 0 client service (codes "f")
     ∷ []
 
+-- The server of one port goes on with the second file, which has more blocks than the first.
+abbrev pub one_port_on : List Recorded
+one_port_on =
+    passes 9 client server (data_of 1)
+    ∷ passes 8 client server (ack_of 3)
+    ∷ passes 7 server client (data_of 3)
+    ∷ passes 6 server client (data_of 2)
+    ∷ one_port
+
+-- OACK: blocks of 8 bytes
+abbrev pub oack : List ℕ
+oack = 0 ∷ 6 ∷ codes "blksize" ++ 0 ∷ codes "8" ++ 0 ∷ []
+
+-- The same, but the server agrees on something first.
+abbrev pub one_port_agrees : List Recorded
+one_port_agrees =
+    passes 6 server client (data_of 7)
+    ∷ passes 5 server client (error_of 5)
+    ∷ passes 4 server client oack
+    ∷ requests 3 client service (codes "g")
+    ∷ passes 2 client server (ack_of 1)
+    ∷ passes 1 server client (data_of 1)
+    ∷ requests 0 client service (codes "f")
+    ∷ []
+
+-- One block of the second file is far on, and a window was asked for with the first.
+abbrev pub one_port_window : List Recorded
+one_port_window =
+    passes 5 server client (data_of 7)
+    ∷ passes 4 server client (data_of 1)
+    ∷ requests 3 client service (codes "g")
+    ∷ passes 2 client server (ack_of 1)
+    ∷ passes 1 server client (data_of 1)
+    ∷ record { time = 0; source = client; target = service; payload = read_of (codes "f") ++ codes "WindowSize" ++ 0 ∷ codes "4" ++ 0 ∷ []; is_spelled = true }
+    ∷ []
+
 -- ---- views and doubts, by the payloads
 
 abbrev pub seen_by_client : ℕ → List Recorded → List (List ℕ)
@@ -231,6 +267,19 @@ follows_strays_in n recorded = some_of n follows_strays (placed [] recorded)
 
 abbrev pub follows_unanswered_in : ℕ → List Recorded → Bool
 follows_unanswered_in n recorded = some_of n follows_unanswered (placed [] recorded)
+
+-- of each datagram whether a refusal of the transfer at it is doubtful
+abbrev pub doubtful_by : (ℕ → List Placed → Placed → List Placed → Bool) → ℕ → List Placed → List Placed → List Bool
+doubtful_by is_doubtful n whole [] = []
+doubtful_by is_doubtful n whole (p ∷ older) = is_doubtful n whole p older ∷ doubtful_by is_doubtful n whole older
+
+abbrev pub doubtful_in : (ℕ → List Placed → Placed → List Placed → Bool) → ℕ → List Recorded → List Bool
+doubtful_in is_doubtful n recorded = doubtful_by is_doubtful n (placed [] recorded) (placed [] recorded)
+
+-- of each datagram whether it may be late from an earlier transfer between the same two
+abbrev pub earlier_words : List Placed → List Bool
+earlier_words [] = []
+earlier_words (p ∷ older) = may_be_earlier p older ∷ earlier_words older
 
 -- of each datagram whether its client spoke first by it
 abbrev pub first_words : List Placed → List Bool

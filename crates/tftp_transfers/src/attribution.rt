@@ -309,11 +309,12 @@ impl Attribution {
             → result ≡ place_asked self.now.count d (live now (line d.source older)) }
     {
         match self.line(&seen.source, now) {
-            None => Place::Opens(Transfer {
-                number: self.count,
-                client: seen.source,
-                asked: seen.target,
-            }),
+            None => Place::Opens(Transfer::opened(
+                self.count,
+                seen.source,
+                seen.target,
+                payload,
+            )),
             Some(line) => line.place_asked(self.count, seen.target, payload),
         }
     }

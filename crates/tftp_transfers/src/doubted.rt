@@ -1,7 +1,7 @@
 //! The doubts of one transfer, of all its datagrams.
 
 ghost use Rattle.std.specs.Prelude.{◌≡◌, ◌∷◌, ℕ, List, []};
-ghost use Rattle.tftp_lines.specs.{Placed, comes_in, doubts_of, follows_strays, follows_unanswered, goes_on_with_first, goes_over, is_late, is_disordered, is_asked_again};
+ghost use Rattle.tftp_lines.specs.{Placed, comes_in, doubts_of, follows_strays, follows_unanswered, agrees_late, goes_on_with_first, is_late, says_unknown_id, is_disordered, is_asked_again};
 ghost use Rattle.tftp_transfers.specs.Doubts.{is_answered_apart, is_doubted, some_of};
 ghost use Rattle.tftp_transfers.specs.Kept.{IsDoubtedAfter};
 
@@ -11,7 +11,8 @@ use crate::attribution::Attributed;
 #[derive(Clone, Copy, Debug, PartialEq, Eq)]
 pub struct TransferDoubts {
     number: u64,
-    goes_over: bool,
+    agrees_late: bool,
+    says_unknown_id: bool,
     is_late: bool,
     is_disordered: bool,
     is_asked_again: bool,
@@ -30,7 +31,8 @@ impl TransferDoubts {
     {
         TransferDoubts {
             number,
-            goes_over: false,
+            agrees_late: false,
+            says_unknown_id: false,
             is_late: false,
             is_disordered: false,
             is_asked_again: false,
@@ -50,7 +52,8 @@ impl TransferDoubts {
     {
         let doubts = &found.doubts;
         if found.place.is_of(self.number) {
-            self.goes_over = doubts.goes_over || self.goes_over;
+            self.agrees_late = doubts.agrees_late || self.agrees_late;
+            self.says_unknown_id = doubts.says_unknown_id || self.says_unknown_id;
             self.is_late = doubts.is_late || self.is_late;
             self.is_disordered = doubts.is_disordered || self.is_disordered;
             self.is_asked_again = doubts.is_asked_again || self.is_asked_again;
@@ -75,8 +78,7 @@ impl TransferDoubts {
     pub fn is_doubted(&self) -> bool
         ensures { (placed : List Placed) → IsDoubtedAfter self.now placed → result ≡ is_doubted self.now.number placed }
     {
-        self.goes_over
-            || self.is_disordered
+        self.is_disordered
             || self.is_asked_again
             || self.is_answered_apart
             || self.follows_strays
@@ -90,11 +92,19 @@ impl TransferDoubts {
         self.is_late
     }
 
-    /// Whether the endpoint of its server was that of another transfer of its client before.
-    pub fn goes_over(&self) -> bool
-        ensures { (placed : List Placed) → IsDoubtedAfter self.now placed → result ≡ some_of self.now.number goes_over placed }
+    /// Whether an OACK came, up to the datagram that was noted last, that may be late from an earlier transfer between the
+    /// same two (RFC 2347).
+    pub fn agrees_late(&self) -> bool
+        ensures { (placed : List Placed) → IsDoubtedAfter self.now placed → result ≡ some_of self.now.number agrees_late placed }
     {
-        self.goes_over
+        self.agrees_late
+    }
+
+    /// Whether an ERROR 5 passed, up to the datagram that was noted last: "Unknown transfer ID" (RFC 1350, section 5).
+    pub fn says_unknown_id(&self) -> bool
+        ensures { (placed : List Placed) → IsDoubtedAfter self.now placed → result ≡ some_of self.now.number (λ q before. says_unknown_id q) placed }
+    {
+        self.says_unknown_id
     }
 
     /// Whether one of its datagrams is older than one before it.

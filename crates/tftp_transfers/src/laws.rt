@@ -6,13 +6,18 @@ ghost use Rattle.tftp_lines.specs.{Recorded, Placed, asked_part, live, line, is_
 ghost use Rattle.tftp_transfers.specs.Places.{place_of, placed};
 ghost use Rattle.tftp_transfers.specs.Settled.{is_settled};
 ghost use Rattle.tftp_transfers.specs.Views.{client_view, is_about, is_at_server, server_of, server_view};
-ghost use Rattle.tftp_transfers.specs.Doubts.{is_answered_apart, is_beside};
+ghost use Rattle.tftp_transfers.specs.Doubts.{is_answered_apart, is_beside, is_doubtful_at_client, is_doubtful_at_server, is_doubtful_between};
 ghost use Rattle.tftp_transfers.specs.Worked.{
   Where,
   where_all,
   asked_twice,
   asked_after_answer,
   one_port,
+  one_port_on,
+  one_port_agrees,
+  one_port_window,
+  doubtful_in,
+  earlier_words,
   two_clients,
   reset,
   silent,
@@ -90,16 +95,37 @@ pub fn each_end_sees_its_own_strays()
     ensures server_at_client { seen_by_client 0 two_clients ≡ ack_of 1 ∷ data_of 1 ∷ read_of (codes "f") ∷ [] }
 {}
 
-/// Where a request may be a repetition, or one port serves twice, a refusal is doubtful; and what comes late makes its own
+/// Where a request may be a repetition, a refusal is doubtful; and what comes late makes its own
 /// transfer doubtful from there on.
 pub fn doubts_are_where_transfers_meet()
     ensures none { is_doubted_in 0 asked_twice ≡ false }
     ensures again { is_doubted_in 2 asked_after_answer ≡ true }
     ensures earlier { is_doubted_in 0 asked_after_answer ≡ false }
-    ensures one_port { is_doubted_in 3 one_port ≡ true }
     ensures reset { is_doubted_in 3 reset ≡ false }
     ensures late { is_late_in 0 reset ≡ true }
     ensures in_time { is_late_in 3 reset ≡ false }
+{}
+
+/// Where one port serves twice, what it sends may be late from the first transfer as far as that had come, and one block
+/// more: a block of the second that is further on is not. It is a doubt at the end that it came to, and between the two.
+pub fn what_may_be_late_is_a_doubt_at_its_target()
+    ensures earlier { earlier_words (placed [] one_port_on)
+        ≡ false ∷ false ∷ false ∷ true ∷ true ∷ true ∷ false ∷ false ∷ false ∷ false ∷ [] }
+    ensures at_client { doubtful_in is_doubtful_at_client 3 one_port_on
+        ≡ false ∷ false ∷ false ∷ true ∷ false ∷ true ∷ false ∷ false ∷ false ∷ false ∷ [] }
+    ensures at_server { doubtful_in is_doubtful_at_server 3 one_port_on
+        ≡ false ∷ false ∷ false ∷ false ∷ true ∷ false ∷ false ∷ false ∷ false ∷ false ∷ [] }
+    ensures between { doubtful_in is_doubtful_between 3 one_port_on
+        ≡ false ∷ false ∷ false ∷ true ∷ true ∷ true ∷ false ∷ false ∷ false ∷ false ∷ [] }
+    ensures window { earlier_words (placed [] one_port_window) ≡ true ∷ true ∷ false ∷ false ∷ false ∷ false ∷ [] }
+{}
+
+/// An OACK may be late too: then all that may rest on it is doubtful; and so is an ERROR 5.
+pub fn what_may_rest_on_a_late_oack_is_a_doubt()
+    ensures at_client { doubtful_in is_doubtful_at_client 3 one_port_agrees
+        ≡ true ∷ true ∷ true ∷ false ∷ false ∷ false ∷ false ∷ [] }
+    ensures not_late { earlier_words (placed [] one_port_agrees)
+        ≡ false ∷ true ∷ true ∷ false ∷ false ∷ false ∷ false ∷ [] }
 {}
 
 /// What comes to a client's own port is no request, whatever it spells.

@@ -21,8 +21,8 @@ pub struct Viewed {
     blamed: Option<Blamed>,
     /// Whether it stops early, or an ERROR ended it.
     lacks: bool,
-    /// Whether it is the server's.
-    is_at_server: bool,
+    /// Where it was judged so.
+    point: Point,
     /// Whether a request that did not pass there would explain it.
     may_be_asked: bool,
     line: String,
@@ -117,7 +117,7 @@ fn at_client(
     found: &Option<Result<Meaning, Refusal>>,
 ) -> Result<Option<Viewed>, AllocError> {
     match found {
-        Some(found) => Ok(Some(Viewed::at_end(alloc, found, trail.at_client(), false)?)),
+        Some(found) => Ok(Some(Viewed::at_end(alloc, found, trail.at_client(), Point::Client)?)),
         None => Ok(None),
     }
 }
@@ -128,7 +128,7 @@ fn at_server(
     found: &Option<Result<Meaning, Refusal>>,
 ) -> Result<Option<Viewed>, AllocError> {
     match found {
-        Some(found) => Ok(Some(Viewed::at_end(alloc, found, trail.at_server(found), true)?)),
+        Some(found) => Ok(Some(Viewed::at_end(alloc, found, trail.at_server(found), Point::Server)?)),
         None => Ok(None),
     }
 }
@@ -175,8 +175,13 @@ impl Judged {
                 put_if(reasons, view.may_be_asked, Reason::Unseen)?;
                 put_if(
                     reasons,
-                    view.is_at_server && blamed.speaks_first,
+                    matches!(view.point, Point::Server) && blamed.speaks_first,
                     Reason::SpeaksFirst,
+                )?;
+                put_if(
+                    reasons,
+                    self.comes_of_earlier(view, blamed),
+                    Reason::GoesOver,
                 )?;
                 put_if(reasons, self.is_strangers(blamed), Reason::Stranger)?;
                 self.doubted.put_reasons(reasons, blamed)
@@ -184,6 +189,17 @@ impl Judged {
             (Said::NotWhole, _) if view.lacks => self.doubted.put_missing(reasons),
             _ => Ok(()),
         }
+    }
+
+    /// Whether it may come of an earlier transfer between the same two: what an end sends itself is not late there.
+    fn comes_of_earlier(&self, view: &Viewed, blamed: &Blamed) -> bool {
+        let is_sent_by_client = blamed.source == self.transfer.client;
+        let comes_in = match view.point {
+            Point::Client => !is_sent_by_client,
+            Point::Server => is_sent_by_client,
+            Point::Between => true,
+        };
+        comes_in && blamed.comes_of_earlier
     }
 
     /// Whether neither end sent the datagram, which passed at the client.
@@ -212,7 +228,7 @@ impl Viewed {
         alloc: Global,
         found: &Result<Meaning, Refusal>,
         blamed: Option<Blamed>,
-        is_at_server: bool,
+        point: Point,
     ) -> Result<Self, AllocError> {
         let line = match found {
             Ok(meaning) => accepted_line(alloc, meaning),
@@ -222,7 +238,7 @@ impl Viewed {
             said: Said::of(found, frame_of(&blamed)),
             blamed,
             lacks: matches!(found, Err(Refusal::Incomplete(_) | Refusal::Aborted(_, _))),
-            is_at_server,
+            point,
             may_be_asked: false,
             line: line?,
         })
@@ -244,7 +260,7 @@ impl Viewed {
                 found,
                 Err(TapRefusal::Incomplete(_) | TapRefusal::Aborted(_, _))
             ),
-            is_at_server: false,
+            point: Point::Between,
             may_be_asked: matches!(
                 found,
                 Err(TapRefusal::Unlawful(_, Rule::Port(PortRule::BadAnswer)))

@@ -1,7 +1,7 @@
 -- What is not about a transfer changes nothing of it.
 use Rattle.std.proofs.Common.{◌≡◌, ℕ, Bool, false, cond, List, ◌∷◌, sym, ap, ◌∙◌, subst, map, ◌&&◌, ◌||◌, filter}
 use Rattle.tftp_transfers.specs.{TransferDoubts, is_answered_apart, is_it, some_of, IsDoubtedAfter, is_about}
-use Rattle.tftp_lines.specs.{comes_in, follows_strays, follows_unanswered, goes_on_with_first, goes_over, is_asked_again, is_disordered, is_late, may_be_answer_of, Placed, is_of}
+use Rattle.tftp_lines.specs.{comes_in, follows_strays, follows_unanswered, agrees_late, goes_on_with_first, is_asked_again, is_disordered, is_late, may_be_answer_of, says_unknown_id, Placed, is_of}
 use Rattle.tftp_transfers.proofs.OwnDatagrams.{about_none}
 use Rattle.tftp_views.specs.{Naming, captured_at_client, client_header, HasJudged, Client, IsClientAfter}
 
@@ -14,7 +14,8 @@ none_of n test p older off = ap (λ b. (b && test p older) || some_of n test old
 
 pub doubts_pass_by : (t : TransferDoubts) (p : Placed) (older : List Placed) → is_about t.number p ≡ false → is_it t.number (may_be_answer_of p older) ≡ false → IsDoubtedAfter t older → IsDoubtedAfter t (p ∷ older)
 doubts_pass_by t p older off apart after = record {
-  goes_over = after.goes_over ∙ sym (none_of t.number goes_over p older off);
+  agrees_late = after.agrees_late ∙ sym (none_of t.number agrees_late p older off);
+  says_unknown_id = after.says_unknown_id ∙ sym (none_of t.number (λ q before. says_unknown_id q) p older off);
   is_late = after.is_late ∙ sym (none_of t.number is_late p older off);
   is_disordered = after.is_disordered ∙ sym (none_of t.number is_disordered p older off);
   is_asked_again = after.is_asked_again ∙ sym (none_of t.number is_asked_again p older off);

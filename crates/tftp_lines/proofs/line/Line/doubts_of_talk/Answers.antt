@@ -1,8 +1,10 @@
-use Rattle.std.proofs.Common.{◌≡◌, false, List, Option, Some, None, sym, ap, ◌∙◌, ◌&&◌, not, is_some, if◌then◌else◌}
+use Rattle.std.proofs.Common.{◌≡◌, false, List, Option, Some, None, option_map, refl, sym, ap, ◌∙◌, ◌&&◌, not, is_some, if◌then◌else◌}
 use Rattle.std.specs.BTreeMap.{get}
+use Rattle.std.specs.List.{list_any}
 use Rattle.std.specs.Ordering.{nat_cmp}
-use Rattle.tftp_lines.specs.{Endpoint, Line, Placed, Talk, Transfer, same_endpoint, endpoint_cmp, other_of, other_end, live, line, latest_in, answered_in, may_answer, talk_in, is_another, is_past, is_the_one, acked_0_in, answer_of, answered_last, IsLineOf}
-use Rattle.tftp_lines.specs.Doubting.{talked_in}
+use Rattle.tftp_lines.specs.{Endpoint, Line, Placed, Talk, Talks, Transfer, before_talk, begins_oack, history_of, may_be_earlier, may_follow, same_endpoint, endpoint_cmp, other_of, other_end, live, line, latest_in, answered_in, may_answer, talk_in, is_another, is_past, is_the_one, acked_0_in, answer_of, answered_last, IsLineOf}
+use Rattle.tftp_lines.specs.Kept.{up_to}
+use Rattle.tftp_lines.proofs.Histories.{told_up_to}
 use Rattle.tftp_lines.proofs.line.Line.doubts_of_talk.Goals as goal
 
 last_by : (ps : List Placed) (l : Line) → IsLineOf l ps → l.answered ≡ answered_last ps
@@ -14,10 +16,19 @@ returns c d now older client stands seen =
     let l : Line = c.args.self.now in
     let before : List Placed = live now (line c.args.transfer.now.client older) in
     let other : c.other_end-other.result ≡ other_of c.args.transfer.now.client d = c.other_end-other.ensures ∙ ap (other_end c.args.transfer.now.client) seen in
-    let talk : get endpoint_cmp c.args.self.now.talks c.other_end-other.result ≡ talk_in c.args.transfer.now.client (other_of c.args.transfer.now.client d) (live now (line c.args.transfer.now.client older)) =
+    let talk : option_map (λ t. t.talk) (get endpoint_cmp c.args.self.now.talks c.other_end-other.result) ≡ talk_in c.args.transfer.now.client (other_of c.args.transfer.now.client d) (live now (line c.args.transfer.now.client older)) =
     stands.talks c.other_end-other.result ∙ (λ i. talk_in (client i) (other i) (live now (line c.args.transfer.now.client older))) in
+    let earlier : c.may_be_earlier-may_be_earlier.result ≡ may_be_earlier (record { datagram = d; moment = now; place = Talks c.args.transfer.now }) older =
+    c.may_be_earlier-may_be_earlier.ensures d.payload (ap (λ s. s.kind) seen)
+    ∙ ap (λ s. up_to c.args.transfer.now.number (history_of (get endpoint_cmp c.args.self.now.talks c.other_end-other.result)) (same_endpoint s.source c.args.transfer.now.client) d.payload) seen
+    ∙ sym (told_up_to c.args.self.now.latest.client c.other_end-other.result (live now (line c.args.transfer.now.client older)) (history_of (get endpoint_cmp c.args.self.now.talks c.other_end-other.result))
+    c.args.transfer.now.number (same_endpoint d.source c.args.transfer.now.client) d.payload (stands.histories c.other_end-other.result))
+    ∙ (λ i. list_any (may_follow (client i) (other i) (same_endpoint d.source c.args.transfer.now.client) d.payload) (before_talk (client i) (other i) c.args.transfer.now.number (live now (line c.args.transfer.now.client older)))) in
     λ i. record {
-      goes_over = (c.has_other.ensures ∙ ap (λ t. is_another c.args.transfer.now (talked_in t)) talk) i;
+      may_be_earlier = earlier i;
+      agrees_late = (c.agrees_late.ensures ∙ ap (λ s. c.may_be_earlier-may_be_earlier.result && s.kind.begins_oack) seen ∙ ap (λ b. b && begins_oack d.payload) earlier) i;
+      rests_on_terms = c.rests_on_terms.ensures (record { datagram = d; moment = now; place = Talks c.args.transfer.now }) seen refl i;
+      says_unknown_id = (ap (λ s. s.kind.begins_unknown_id) seen) i;
       is_late = (c.is_behind.ensures ∙ ap (is_another c.args.transfer.now) (sym stands.latest)) i;
       is_disordered = (c.has_later.ensures ∙ ap (λ s. is_past s.time (get nat_cmp c.args.self.now.newest c.args.transfer.now.number)) seen ∙ sym (stands.newest c.args.transfer.now.number d.time)) i;
       is_asked_again = false;

@@ -1,7 +1,9 @@
-use Rattle.std.proofs.Common.{rules, ◌∙◌, sym, ap, ◌&&◌}
+use Rattle.std.proofs.Common.{rules, refl, subst, ◌∙◌, sym, ap, ◌&&◌, if◌then◌else◌}
+use Rattle.std.specs.BTreeMap.{get}
 use Rattle.std.specs.Str.{bytes_eq}
-use Rattle.tftp_lines.specs.{asked_part, same_endpoint}
-use Rattle.tftp_lines.proofs.Requests.{opened_alike}
+use Rattle.tftp_lines.specs.{Opens, Repeats, asked_part, endpoint_cmp, history_of, opened_by, same_endpoint, IsHistoryOf}
+use Rattle.tftp_lines.proofs.Histories.{history_same}
+use Rattle.tftp_lines.proofs.Requests.{opened_again, opened_alike}
 use Rattle.tftp_lines.proofs.line.Line.open.Goals as goal
 
 pub returns-clause-stands : goal.returns-clause-stands
@@ -9,8 +11,11 @@ returns-clause-stands c line d stands is same = record {
   latest = search rules;
   answered = search rules;
   moment = search rules;
-  asked = search rules;
+  asked = λ n e that. ap (λ again. if again then Repeats c.args.transfer else opened_by n e) (opened_again c.args.transfer c.args.payload.now c.args.time d e is that
+      ∙ ap (λ p. bytes_eq p e.payload && same_endpoint c.args.transfer.asked e.target) (sym c.in_ok-request.ensures.items));
   talks = search rules;
+  histories = λ o. history_same c.args.transfer.client o (record { datagram = d; moment = c.args.now; place = Opens c.args.transfer }) line (history_of (get endpoint_cmp c.args.self.now.talks o)) refl
+      (subst (λ e. IsHistoryOf e o line (history_of (get endpoint_cmp c.args.self.now.talks o))) (sym same) (stands.histories o));
   again = λ e that. opened_alike c.args.transfer c.args.payload.now c.args.time d e is that
       ∙ ap (λ p. bytes_eq (asked_part p) (asked_part e.payload) && same_endpoint c.args.transfer.asked e.target) (sym c.in_ok-request.ensures.items);
   went_on = search rules;

@@ -1,4 +1,5 @@
-use Rattle.std.proofs.Common.{true, false, sym, ◌∙◌}
+use Rattle.std.proofs.Common.{true, false, sym, ap, ◌∙◌}
+use Rattle.tftp_lines.specs.{Opens}
 use Rattle.tftp_lines.proofs.Requests.{asked_is}
 use Rattle.tftp_lines.proofs.line.Line.place_asked.Goals as goal
 
@@ -8,4 +9,5 @@ returns-then-asks_again c line d stands from to same =
 
 pub returns : goal.returns
 returns c line d stands from to same =
-    sym (asked_is c.args.self.now line c.args.number d c.args.payload.now c.args.target false stands from to same (sym c.asks_again.ensures ∙ c.if-asks_again.false))
+    ap Opens c.opened.ensures
+    ∙ sym (asked_is c.args.self.now line c.args.number d c.args.payload.now c.args.target false stands from to same (sym c.asks_again.ensures ∙ c.if-asks_again.false))

@@ -1,6 +1,7 @@
 use Rattle.std.proofs.Common.{◌≡◌, ℕ, List, [], length, Some, refl, sym, ap, subst, ◌∙◌}
 use Rattle.tftp_lines.specs.{Place, Opens, Repeats, Talks, Apart, Beside, Nowhere, Doubts, Placed, Recorded, Transfer, live, line, transfer_of, doubts_of, is_near, is_stray_at, newest_of, IsLineOf}
 use Rattle.tftp_transfers.proofs.AllLines.{repeats_live}
+use Rattle.tftp_transfers.proofs.Doubting.{none_doubted}
 use Rattle.tftp_transfers.proofs.Ends.{IsWhere, placed_where}
 use Rattle.tftp_transfers.proofs.attribution.Attribution.doubts.Goals as goal
 
@@ -20,6 +21,10 @@ at_first d now older (Talks y) x is silent where_is r opens = absurd ((where_is.
 at_first d now older (Apart c) x is silent where_is r opens = absurd (cc)
 at_first d now older (Beside y) x is silent where_is r opens = absurd (cc)
 at_first d now older Nowhere x is silent where_is r opens = absurd (cc)
+
+pub returns-in-None : goal.returns-in-None
+returns-in-None c named older d after later seen same placed =
+    c.none.ensures ∙ none_doubted d c.args.now older c.args.place.now (sym c.transfer.ensures ∙ c.in-None.is)
 
 pub returns-in-None-line : goal.returns-in-None-line
 returns-in-None-line c named older d after later seen same placed =

@@ -12,7 +12,10 @@ returns-in-Opens c named older d x after later seen is silent =
     let near : c.is_after_strays-is_after_strays.result ≡ is_near c.args.now (newest_of (is_stray_at x.client) older) =
     c.is_after_strays-is_after_strays.ensures named older after later ∙ ap (λ y. is_near c.args.now (newest_of (is_stray_at y.client) older)) same in
     let doubts : Bool → Bool → Doubts = λ disordered strays. record {
-      goes_over = false;
+      may_be_earlier = false;
+      agrees_late = false;
+      rests_on_terms = false;
+      says_unknown_id = false;
       is_late = false;
       is_disordered = disordered;
       is_asked_again = false;

@@ -1,10 +1,11 @@
 use Rattle.std.proofs.Common.{◌≡◌, [], sym, ap, subst, ◌∙◌}
-use Rattle.tftp_lines.specs.{Opens, live, line, place_asked}
+use Rattle.tftp_lines.specs.{Opens, begins_write, has_window, live, line, place_asked}
 use Rattle.tftp_transfers.proofs.attribution.Attribution.place_asked.Goals as goal
 
 pub returns-in-None : goal.returns-in-None
 returns-in-None c named older d after later seen same =
-    (λ i. Opens (record { number = c.args.self.now.count; client = (seen i).source; asked = (seen i).target }))
+    ap Opens c.opened.ensures
+    ∙ (λ i. Opens (record { number = c.args.self.now.count; client = (seen i).source; asked = (seen i).target; writes = begins_write (sym same i); has_window = has_window (sym same i) }))
     ∙ sym (ap (place_asked c.args.self.now.count d) (subst (λ s. live c.args.now (line s.source older) ≡ []) seen (c.in-None.ensures named older after later)))
 
 pub returns-in-Some : goal.returns-in-Some
