@@ -8,6 +8,8 @@ from dataclasses import dataclass, field
 from typing import Literal, NamedTuple, Optional
 
 EndName = Literal["client", "server"]
+# Where a recording was made.
+Place = Literal["client", "server", "between"]
 # In nanoseconds; above 255 s, the longest timeout that two ends can agree on (RFC 2349).
 SILENCE = 300 * 10**9
 TFTP = 69
@@ -68,11 +70,34 @@ def begins_packet(payload: bytes) -> bool:
     return begins(payload, 1, 2, 3, 4, 5, 6)
 
 
+def is_block(payload: bytes) -> bool:
+    return begins(payload, 3) and int.from_bytes(payload[2:4], "big") > 0 and len(payload) >= 4
+
+
+def is_ack(payload: bytes) -> bool:
+    return begins(payload, 4) and len(payload) == 4
+
+
+def number_of(payload: bytes) -> int:
+    """The number of a block or an ACK, and 0 of anything else."""
+    return int.from_bytes(payload[2:4], "big") if is_block(payload) or is_ack(payload) else 0
+
+
+def passes_in(writes: bool, is_client: bool, payload: bytes) -> bool:
+    """Whether this end of such a transfer sends it."""
+    sends_blocks = is_client == writes
+    if is_block(payload):
+        return sends_blocks
+    if is_ack(payload):
+        return not sends_blocks
+    return begins(payload, 5) or begins(payload, 6) and not is_client
+
+
 class Doubt(NamedTuple):
     """Of refusals of a transfer from this datagram on, and why."""
 
     since: int
-    word: Literal["over", "late", "disordered", "again", "apart", "strays", "unanswered"]
+    word: Literal["late", "disordered", "again", "apart", "strays", "unanswered"]
     why: str
 
 
@@ -93,6 +118,9 @@ class Transfer:
     # whether the client went on with who first sent it something, and those that it sent to where nothing had passed
     is_followed: bool = False
     spoken_first: set[int] = field(default_factory=set)
+    # what its client and others said to each other in the line, and how much of that stood before each of its datagrams
+    said: list[tuple[Datagram, Transfer]] = field(default_factory=list)
+    stood: dict[int, int] = field(default_factory=dict)
     doubts: list[Doubt] = field(default_factory=list)
 
     def server(self) -> Optional[Endpoint]:
@@ -118,14 +146,59 @@ class Transfer:
     def all_seen(self) -> list[Datagram]:
         return [*self.seen, *(it for it, _ in self.beside)]
 
-    def doubts_at(self, end: EndName, number: int) -> list[str]:
-        """Why a refusal at this datagram is no accusation."""
+    def writes(self) -> bool:
+        return begins(self.seen[0].payload, 2)
+
+    def has_window(self) -> bool:
+        return b"windowsize" in self.seen[0].payload.lower().split(b"\0")
+
+    # ---- what may be late from an earlier transfer between the same two
+
+    def before_talk(self, it: Datagram) -> list[tuple[Datagram, Transfer]]:
+        """What its two ends said to each other up to the newest datagram of another transfer."""
+        two = {it.source, it.target}
+        talk = [(one, of) for one, of in self.said[: self.stood[it.number]] if {one.source, one.target} == two]
+        while talk and talk[-1][1] is self:
+            talk.pop()
+        return talk
+
+    def may_be_earlier(self, it: Datagram) -> bool:
+        if it.number not in self.stood:
+            return False
+        is_client, number = it.source == self.client, number_of(it.payload)
+        return any(
+            passes_in(of.writes(), is_client, it.payload)
+            and (of.has_window() or number <= number_of(one.payload) + 1)
+            for one, of in self.before_talk(it)
+        )
+
+    def rests_on_terms(self, it: Datagram) -> bool:
+        is_its_own = passes_in(self.writes(), it.source == self.client, it.payload)
+        return is_its_own and (is_block(it.payload) or it.payload == ACK_0)
+
+    def comes_of_earlier(self, it: Datagram) -> bool:
+        agrees_late = any(
+            begins(one.payload, 6) and self.may_be_earlier(one) for one in self.talked() if one.number <= it.number
+        )
+        return self.may_be_earlier(it) or agrees_late and self.rests_on_terms(it)
+
+    def tells_strays(self, it: Datagram) -> bool:
+        """Whether it is an ERROR 5, or an ERROR after one."""
+        before = any(one.payload[:4] == ERROR_5 for one in self.talked() if one.number < it.number)
+        return it.payload[:4] == ERROR_5 or begins(it.payload, 5) and before
+
+    def doubts_at(self, place: Place, number: int) -> list[str]:
+        """Why a refusal at this datagram is no accusation there."""
+        it = next(it for it in self.all_seen() if it.number == number)
         told = [doubt.why for doubt in self.doubts if doubt.since <= number]
+        is_own = place != "between" and (it.source == self.client) == (place == "client")
+        if it in self.seen and not is_own and self.comes_of_earlier(it):
+            told.append("it may come of an earlier transfer between the same two ports")
         if not self.is_followed and any(it.target == self.client and it.number <= number for it in self.talked()):
             told.append("its client did not go on with who first sent it something")
-        if any(it.number == number and it.payload[:4] == ERROR_5 for it in self.all_seen()):
+        if self.tells_strays(it):
             told.append("ERROR 5 may answer what came late")
-        if end == "server" and number in self.spoken_first:
+        if place == "server" and number in self.spoken_first:
             told.append("nothing had passed there between the two")
         if not self.is_answered and number != self.seen[0].number:
             told.append("nothing that came to its client is there: one direction only")
@@ -133,7 +206,7 @@ class Transfer:
             told.append("a frame is out of order, and by its time may be of this transfer")
         if any(it.number == number and it.source != self.client and not self.is_with_server(it) for it in self.seen):
             told.append("neither its client nor its server sent the datagram")
-        if end == "server" and any(it.number == number for it, _ in self.beside):
+        if place == "server" and any(it.number == number for it, _ in self.beside):
             told.append("it passed with another than the client, whose request may not have been recorded")
         ways = [it.way() for it in self.seen]
         pairs = zip(ways, [None, *ways], [*ways[1:], None])
@@ -160,9 +233,10 @@ class Line:
     ends_in_request: bool = True
     only_asked: bool = True
     talks: dict[Endpoint, Talk] = field(default_factory=dict)
+    said: list[tuple[Datagram, Transfer]] = field(default_factory=list)
 
 
-class Place(NamedTuple):
+class Found(NamedTuple):
     """Where a datagram belongs, and the number of its transfer, if it is of one."""
 
     kind: Literal["request", "client", "apart", "server", "nowhere"]
@@ -184,7 +258,7 @@ class Attribution:
         self.loose: dict[Endpoint, int] = {}
         self.served: dict[Endpoint, tuple[Transfer, int]] = {}
         self.transfers: list[Transfer] = []
-        self.places: list[Place] = []
+        self.places: list[Found] = []
 
     def take(self, it: Datagram) -> None:
         self.clock = max(self.clock, it.nanoseconds())
@@ -208,18 +282,18 @@ class Attribution:
         line = self.lines.get(client)
         return line if line and self.clock <= line.moment + SILENCE else None
 
-    def place_of(self, it: Datagram) -> Place:
+    def place_of(self, it: Datagram) -> Found:
         if self.asks(it):
             one = self.asked(it)
             self.keep(one, it)
             one.requests.add(it.number)
-            return Place("request", one.number)
+            return Found("request", one.number)
         place = self.at_client(it)
         if place:
             return place
         if begins_packet(it.payload) or it.target.port == TFTP:
             self.loose[it.source] = self.loose[it.target] = self.clock
-        return self.beside(it) or Place("nowhere")
+        return self.beside(it) or Found("nowhere")
 
     def keep(self, one: Transfer, it: Datagram) -> None:
         if it.nanoseconds() < (one.newest if one.seen else self.clock):
@@ -262,7 +336,7 @@ class Attribution:
         line.ends_in_request = line.only_asked = True
         return one
 
-    def at_client(self, it: Datagram) -> Optional[Place]:
+    def at_client(self, it: Datagram) -> Optional[Found]:
         """At the client that sent it or else at the one that it was sent to; a transfer comes before what is apart."""
         apart: list[tuple[Line, Endpoint]] = []
         for client, other in ((it.source, it.target), (it.target, it.source)):
@@ -279,7 +353,7 @@ class Attribution:
         line.moment = self.clock
         if other == it.target:
             line.talks[other].acked_0 = it.payload == ACK_0
-        return Place("apart")
+        return Found("apart")
 
     def talk_with(self, line: Line, client: Endpoint, other: Endpoint, it: Datagram) -> Talk:
         latest, talk = line.latest, line.talks.get(other)
@@ -293,15 +367,16 @@ class Attribution:
             why = "a DATA 1 from where an earlier transfer was served may be its answer"
             latest.doubts.append(Doubt(0, "apart", why))
             return talk
-        latest.doubts.append(Doubt(0, "over", "its server's endpoint was that of an earlier transfer"))
         return Talk(latest, talk.acked_0)
 
-    def go_on(self, line: Line, client: Endpoint, other: Endpoint, talk: Talk, it: Datagram) -> Optional[Place]:
+    def go_on(self, line: Line, client: Endpoint, other: Endpoint, talk: Talk, it: Datagram) -> Optional[Found]:
         one = talk.transfer
         if one is None:
             return None
         if it.source == client and other not in line.talks:
             one.spoken_first.add(it.number)
+        one.said, one.stood[it.number] = line.said, len(line.said)
+        line.said.append((it, one))
         line.talks[other], line.moment, line.ends_in_request = talk, self.clock, False
         if one is not line.latest:
             one.doubts.append(Doubt(it.number, "late", "its client's endpoint had asked again"))
@@ -315,14 +390,14 @@ class Attribution:
                 line.only_asked = False
                 one.went_on = one.went_on or other
         self.keep(one, it)
-        return Place("client", one.number)
+        return Found("client", one.number)
 
-    def beside(self, it: Datagram) -> Optional[Place]:
+    def beside(self, it: Datagram) -> Optional[Found]:
         for at in (it.source, it.target):
             one, moment = self.served.get(at, (None, 0))
             if one and at.port not in self.services and self.clock <= moment + SILENCE:
                 one.beside.append((it, at))
-                return Place("server", one.number)
+                return Found("server", one.number)
         return None
 
 

@@ -359,7 +359,7 @@ def doubts_of(one: Transfer, line: str) -> list[str]:
     if words[0] != "refused":
         return []
     unseen = [UNSEEN] if words[5] == Rule.STRAY_ANSWER.printed else []
-    return unseen + one.doubts_at("client", one.seen[int(words[2]) - 1].number)
+    return unseen + one.doubts_at("between", one.seen[int(words[2]) - 1].number)
 
 
 def verdict(sides: Sides, datagrams: Sequence[Datagram]) -> str:

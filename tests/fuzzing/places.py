@@ -11,7 +11,7 @@ from fuzzing.attribution import Attribution, Datagram, Endpoint, attributed
 
 
 # The doubts that tftp_places tells by name; of the others it tells `doubted`.
-WORDS = ("over", "late", "disordered", "again", "apart")
+WORDS = ("late", "disordered", "again", "apart")
 
 
 def row(it: Datagram) -> str:

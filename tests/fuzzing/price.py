@@ -20,7 +20,7 @@ FORMS: dict[str, tuple[frozenset[str], tuple[int, ...], float]] = {
     FORKING: (frozenset(), (2, 3, 4), 0.9),
     FIRMWARE: (frozenset(("one",)), (2, 3, 4), 0.85),
 }
-# The most of the lawful transfers in which a refusal would be doubtful.
+# The most of the lawful transfers in which each refusal would be doubtful.
 MOST_DOUBTED = {SINGLE: 0.01, FORKING: 0.01, FIRMWARE: 0.2}
 PERHAPS = ("writes", "options", "agrees_to_some", "missing", "other_port")
 LONG = 600
@@ -112,10 +112,10 @@ def is_gone_on(told: Told) -> bool:
     return told.one.went_on is not None
 
 
-def is_doubted(told: Told, place: Place) -> bool:
-    """Whether a refusal of its last datagram would be doubtful."""
-    view = told.one.view("client" if place == "between" else place)
-    return bool(view) and bool(told.one.doubts_at("client" if place == "between" else place, view[-1].number))
+def are_doubted(told: Told, place: Place) -> Iterator[bool]:
+    """Whether a refusal of each of its datagrams would be doubtful."""
+    for it in told.one.view("client" if place == "between" else place):
+        yield bool(told.one.doubts_at(place, it.number))
 
 
 Count = collections.Counter[tuple[str, Place, str]]
@@ -131,9 +131,12 @@ class Price:
         for session in sessions(form, seed, is_lossy=False):
             it = session.recording
             for told in all_told(it.place, it.datagrams, session.named, self.divide):
-                word = "doubted" if is_doubted(told, it.place) else "sure"
+                doubted = list(are_doubted(told, it.place))
+                word = "doubted" if all(doubted) else "sure"
                 word = word if is_gone_on(told) else f"{word}, no file"
                 self.rows[form, it.place, word] += 1
+                self.rows[form, it.place, "datagrams"] += len(doubted)
+                self.rows[form, it.place, "datagrams doubted"] += sum(doubted)
         for session in sessions(form, seed, is_lossy=seed % 2 == 0):
             found = (breach_of(session, seed * 8 + k) for k in range(8))
             breach = next((it for it in found if it), None)
@@ -163,17 +166,18 @@ class Price:
         return sum(self.breaches[form, place, word] for word in WORDS)
 
     def rows_of(self) -> Iterator[str]:
-        words = ("breaches", "refused", "doubtful", "not told", "lawful", "doubted", "no file", "doubted")
+        words = ("breaches", "refused", "doubtful", "not told", "lawful", "doubted", "no file", "doubted", "datagrams")
         yield f"{'session':42} {'place':8} " + " ".join(f"{word:>8}" for word in words)
         for form in FORMS:
             for place in PLACES:
                 counts = [self.breaches[form, place, word] for word in WORDS]
                 shares = " ".join(f"{share(it, sum(counts)):>8}" for it in counts)
                 lawful = " ".join(self.lawful(form, place, end) for end in ("", ", no file"))
-                yield f"{form:42} {place:8} {sum(counts):8} {shares} {lawful}"
+                doubted, passed = self.rows[form, place, "datagrams doubted"], self.rows[form, place, "datagrams"]
+                yield f"{form:42} {place:8} {sum(counts):8} {shares} {lawful} {share(doubted, passed):>8}"
 
     def lawful(self, form: str, place: Place, end: str) -> str:
-        """How many lawful transfers there were, and in how many of them a refusal would be doubtful."""
+        """How many lawful transfers there were, and in how many of them each refusal would be doubtful."""
         doubted, sure = (self.rows[form, place, f"{word}{end}"] for word in ("doubted", "sure"))
         return f"{doubted + sure:8} {share(doubted, doubted + sure):>8}"
 

@@ -1,8 +1,8 @@
 -- What the two ends of a talk said before, with one datagram more.
-use Rattle.std.proofs.Common.{◌≡◌, ℕ, Bool, true, false, List, [], ◌∷◌, Option, Some, None, refl, sym, ap, subst, ◌∙◌, ◌+◌, ◌==◌, ◌&&◌, ◌||◌, not, nat_le, if◌then◌else◌}
+use Rattle.std.proofs.Common.{◌≡◌, ℕ, Bool, true, false, List, [], ◌∷◌, Option, Some, None, refl, sym, ap, ◌∙◌, ◌+◌, ◌==◌, ◌&&◌, ◌||◌, not, nat_le, if◌then◌else◌}
 use Rattle.std.specs.List.{list_any}
 use Rattle.std.proofs.lemmas.Bool.{eq-eqb, eqb-true}
-use Rattle.tftp_lines.specs.{Endpoint, Opens, Repeats, Talks, Apart, Beside, Nowhere, History, Place, Placed, Recorded, Transfer, before_talk, is_between, is_other_talk, is_talk, is_within, may_follow, number_of, passes_in, IsHistoryOf, TellsOf}
+use Rattle.tftp_lines.specs.{Endpoint, Talks, History, Place, Placed, Recorded, Transfer, before_talk, is_between, is_other_talk, is_talk, is_within, may_follow, number_of, passes_in, IsHistoryOf, TellsOf}
 use Rattle.tftp_lines.specs.Kept.{IsNextHistory, all_by, far_by, up_to}
 use Rattle.tftp_lines.proofs.Lines.{by_test}
 

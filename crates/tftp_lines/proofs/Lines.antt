@@ -1,13 +1,9 @@
 -- A line with one datagram more, which is no request.
-use Rattle.std.proofs.Common.{◌≡◌, ℕ, Bool, true, false, List, [], ◌∷◌, Option, Some, None, cond, inl, inr, refl, sym, ap, subst, ◌∙◌, ◌==◌, ◌&&◌, ◌||◌, not, nat_lt, option_map, if◌then◌else◌}
-use Rattle.std.specs.List.{list_any}
-use Rattle.std.specs.Str.{bytes_eq}
-use Rattle.std.specs.BTreeMap.{get, BTreeMap}
-use Rattle.std.specs.Ordering.{is_eq, nat_cmp}
+use Rattle.std.proofs.Common.{◌≡◌, Bool, true, false, List, [], ◌∷◌, Option, Some, None, cond, inl, inr, refl, sym, ap, subst, ◌∙◌, ◌&&◌, ◌||◌, not, option_map, if◌then◌else◌}
 use Rattle.std.proofs.lemmas.Bool.{false≢true, and_parts, or_cases}
 use Rattle.tftp_rules.specs.{first_of, or_this}
-use Rattle.tftp_lines.specs.{Endpoint, Opens, Repeats, Transfer, Line, Recorded, same_endpoint, endpoint_cmp, is_ack_0, goes, is_between, Placed, opens, is_request, newest_of, latest_in, reach, answers, answered_in, talked_of, talk_in, last_was_ack_0, place_asked, IsLineOf, seen_of, asked_by, history_of, opened_by, place_of_talk, comes_to, talk_after, ends_after, went_on_after, AreTimed, is_past, acked_0_in, asked_part, says_more, is_alike_in, is_later}
-use Rattle.tftp_lines.proofs.Endpoints.{same_by_order, is_same, same_itself}
+use Rattle.tftp_lines.specs.{Endpoint, Transfer, Recorded, same_endpoint, is_ack_0, goes, is_between, Placed, opens, is_request, newest_of, reach, answers, answered_in, talked_of, talk_in, last_was_ack_0, seen_of, talk_after, acked_0_in}
+use Rattle.tftp_lines.proofs.Endpoints.{is_same, same_itself}
 
 pub by_test : {P : Type 0} (b : Bool) → (b ≡ true → P) → (b ≡ false → P) → P
 by_test true if_true if_false = if_true refl

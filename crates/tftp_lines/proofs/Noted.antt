@@ -1,16 +1,15 @@
 -- A line after one datagram more that is no request.
-use Rattle.std.proofs.Common.{◌≡◌, ℕ, Bool, true, false, List, [], ◌∷◌, Option, Some, None, cond, inl, inr, refl, sym, ap, subst, ◌∙◌, ◌==◌, ◌&&◌, ◌||◌, not, nat_lt, option_map, if◌then◌else◌}
+use Rattle.std.proofs.Common.{◌≡◌, ℕ, Bool, true, false, List, [], ◌∷◌, Option, Some, None, cond, refl, sym, ap, subst, ◌∙◌, ◌==◌, ◌&&◌, ◌||◌, nat_lt, option_map, if◌then◌else◌}
 use Rattle.std.specs.List.{list_any}
 use Rattle.std.specs.Str.{bytes_eq}
 use Rattle.std.specs.BTreeMap.{get, BTreeMap}
 use Rattle.std.specs.Ordering.{is_eq, nat_cmp}
-use Rattle.std.proofs.lemmas.Bool.{false≢true, and_parts, or_cases}
-use Rattle.tftp_rules.specs.{first_of, or_this}
-use Rattle.tftp_lines.specs.{Endpoint, Opens, Repeats, Transfer, Line, Recorded, same_endpoint, endpoint_cmp, is_ack_0, goes, is_between, Placed, opens, is_request, newest_of, latest_in, reach, answers, answered_in, talked_of, talk_in, last_was_ack_0, place_asked, IsLineOf, seen_of, asked_by, history_of, opened_by, place_of_talk, comes_to, talk_after, ends_after, went_on_after, AreTimed, is_past, acked_0_in, asked_part, says_more, is_alike_in, is_later}
-use Rattle.tftp_lines.proofs.Endpoints.{same_by_order, is_same, same_itself}
-use Rattle.tftp_lines.specs.{History, Talked, Place, Talks, Apart, is_talk, number_of, IsHistoryOf}
+use Rattle.tftp_rules.specs.{or_this}
+use Rattle.tftp_lines.specs.{Endpoint, Repeats, Transfer, Line, Recorded, same_endpoint, endpoint_cmp, is_between, Placed, opens, is_request, newest_of, latest_in, reach, answers, answered_in, talked_of, talk_in, place_asked, IsLineOf, seen_of, asked_by, history_of, opened_by, place_of_talk, comes_to, talk_after, ends_after, went_on_after, AreTimed, is_past, asked_part, says_more, is_alike_in, is_later}
+use Rattle.tftp_lines.proofs.Endpoints.{same_by_order, is_same}
+use Rattle.tftp_lines.specs.{History, Talked, is_talk, number_of, IsHistoryOf}
 use Rattle.tftp_lines.specs.Kept.{IsHistoryAfter}
-use Rattle.tftp_lines.proofs.Lines.{acked_kept, answered_more, by_test, not_between, talk_more}
+use Rattle.tftp_lines.proofs.Lines.{answered_more, by_test, not_between, talk_more}
 use Rattle.tftp_lines.proofs.Histories.{history_more, history_same}
 
 -- ---- the line after it

@@ -8,7 +8,7 @@ use Rattle.tftp_lines.specs.declared.place.Place.{Place}
 use Rattle.tftp_lines.specs.declared.place.Place.TheVariants.{Opens, Repeats, Talks, Beside, Nowhere}
 use Rattle.tftp_lines.specs.declared.place.Transfer.{Transfer}
 use Rattle.tftp_lines.specs.declared.doubts.Doubts.{Doubts}
-use Rattle.tftp_lines.specs.Recording.{Recorded, same_endpoint, is_between, other_of, begins_error, begins_oack, begins_request, begins_packet, begins_unknown_id, is_ack_0, is_block, is_data_1, number_of, passes_in, asks_alike}
+use Rattle.tftp_lines.specs.Recording.{Recorded, same_endpoint, is_between, other_of, begins_error, begins_oack, begins_packet, begins_unknown_id, is_ack_0, is_block, is_data_1, number_of, passes_in, asks_alike}
 use Rattle.tftp_lines.specs.Places.{Placed, is_request, is_of, newest_of, live, line, silence, transfer_of, latest_in, reach, talk_in, answered_in, may_answer}
 
 -- the client's line as the datagram came

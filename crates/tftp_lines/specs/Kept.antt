@@ -6,7 +6,7 @@ use Rattle.std.specs.List.{list_any}
 use Rattle.std.specs.Ordering.{nat_cmp}
 use Rattle.tftp_lines.specs.declared.endpoint.Endpoint.{Endpoint}
 use Rattle.tftp_lines.specs.declared.place.Place.{Place}
-use Rattle.tftp_lines.specs.declared.place.Place.TheVariants.{Opens, Repeats, Talks, Apart}
+use Rattle.tftp_lines.specs.declared.place.Place.TheVariants.{Repeats, Talks, Apart}
 use Rattle.tftp_lines.specs.declared.place.Transfer.{Transfer}
 use Rattle.tftp_lines.specs.declared.kind.Kind.{Kind}
 use Rattle.tftp_lines.specs.declared.kind.Seen.{Seen}

@@ -98,7 +98,11 @@ impl Kind {
             begins_oack: opcode(payload) == 6,
             is_block,
             is_ack,
-            number: if is_block || is_ack { second(payload) } else { 0 },
+            number: if is_block || is_ack {
+                second(payload)
+            } else {
+                0
+            },
         }
     }
 

@@ -75,12 +75,7 @@ impl Line {
         if self.asks_again(target, payload) {
             return Place::Repeats(self.latest);
         }
-        Place::Opens(Transfer::opened(
-            number,
-            self.latest.client,
-            target,
-            payload,
-        ))
+        Place::Opens(Transfer::opened(number, self.latest.client, target, payload))
     }
 
     /// Whether a request of its client is the one before it in the line again.
@@ -287,7 +282,12 @@ impl Line {
     }
 
     /// How far the transfers with this endpoint came, after one datagram more.
-    fn history_after(&self, other: Endpoint, talked: &Option<Transfer>, seen: &Seen) -> Option<History>
+    fn history_after(
+        &self,
+        other: Endpoint,
+        talked: &Option<Transfer>,
+        seen: &Seen,
+    ) -> Option<History>
         ensures { IsHistoryAfter (history_of (get endpoint_cmp self.now.talks other)) result talked.now seen.now.kind.number }
     {
         let before = self.history_with(other);

@@ -1,7 +1,7 @@
 -- A whole recording at one client, whose captures follow one another.
 use Rattle.std.proofs.Common.{◌≡◌, ◌≤◌, ℕ, ◌+◌, Bool, true, false, List, [], ◌∷◌, ◌++◌, refl, sym, ap, subst, ◌∙◌, ◌==◌, ◌&&◌, ◌||◌, not, map, length, nat_le, max, is_some, ne_eqb, arith, if◌then◌else◌}
 use Rattle.std.specs.List.{list_any, AllByRecursion}
-use Rattle.std.proofs.lemmas.Bool.{or_left, and_from, and_parts, eq-eqb, le-leb}
+use Rattle.std.proofs.lemmas.Bool.{or_left, and_parts, eq-eqb, le-leb}
 use Rattle.tftp_lines.specs.{Address, Endpoint, Place, Opens, Repeats, Talks, Transfer, Recorded, Placed, same_endpoint, other_of, is_of, is_request, is_at, live, line, latest_in, clock, silence, begins_request, place_asked, place_at, talk_in, goes}
 use Rattle.tftp_transfers.specs.{asks, at_client, beside, either, is_client, is_nowhere, is_service, place_of, placed}
 use Rattle.tftp_lines.proofs.Endpoints.{is_same}

@@ -1,20 +1,19 @@
 -- No client's view is refused without a doubt, where captures of lawful transfers are interleaved.
-use Rattle.std.proofs.Common.{◌≡◌, ◌≤◌, ◌+◌, ℕ, zero, suc, Bool, true, false, List, [], ◌∷◌, ◌++◌, Some, Contains, inl, inr, refl, sym, ap, subst, ◌∙◌, map, reverse, filter, max, append_assoc, arith, if◌then◌else◌}
+use Rattle.std.proofs.Common.{◌≡◌, ◌≤◌, ◌+◌, ℕ, zero, suc, Bool, true, List, [], ◌∷◌, ◌++◌, Some, Contains, inl, inr, refl, sym, ap, subst, ◌∙◌, map, reverse, filter, max, append_assoc, arith, if◌then◌else◌}
 use Rattle.std.specs.List.{All, AllByRecursion, flat_map}
 use Rattle.std.proofs.lemmas.Bool.{false≢true, or_cases, or_left, or_right, and_from, and_parts}
 use Rattle.std.proofs.lemmas.List.{reverse-append, reverse-reverse}
 use Rattle.std.proofs.lemmas.List.Elements.{Contains-append_right}
 use Rattle.tftp_law.specs.{OneEnded}
 use Rattle.tftp_law.proofs.Whole.TwoEnds.{lawful}
-use Rattle.tftp_law.proofs.Written.EachOf.{all_contains}
 use Rattle.tftp_model.proofs.Members.{contains_first, contains_later}
-use Rattle.tftp_lines.specs.{Address, Endpoint, Place, Opens, Repeats, Talks, Transfer, Recorded, Placed, same_endpoint, is_between, other_of, is_at, goes, transfer_of, begins_request, clock, is_request, silence}
+use Rattle.tftp_lines.specs.{Address, Endpoint, Place, Opens, Repeats, Talks, Transfer, Recorded, Placed, same_endpoint, is_between, other_of, is_at, goes, transfer_of, begins_request, clock, silence}
 use Rattle.tftp_lines.proofs.Endpoints.{is_same, same_itself}
 use Rattle.tftp_lines.proofs.Lines.{by_test}
-use Rattle.tftp_transfers.specs.{asks, place_of, placed}
+use Rattle.tftp_transfers.specs.{asks, placed}
 use Rattle.tftp_spared.specs.Seen.{HasNoSilence, as_seen_by, at_client_of, is_with}
 use Rattle.tftp_fair.proofs.Thinned.{filter_kept, filter_dropped, kept_or_not}
-use Rattle.tftp_spared.specs.{SparesClientsByThree, is_doubted_there, AreCaptures, AreInterleaved, IsLawfulAt, IsWholeCapture, IsNext, AreInOrder, SparesClients, asks_from, begins, goes_on, goes_from}
+use Rattle.tftp_spared.specs.{SparesClientsByThree, AreCaptures, AreInterleaved, IsLawfulAt, IsWholeCapture, IsNext, AreInOrder, SparesClients, asks_from, begins, goes_on, goes_from}
 use Rattle.tftp_spared.proofs.Basics.{doubtful_is, all_first, all_last}
 use Rattle.tftp_spared.proofs.Stands.{new}
 use Rattle.tftp_spared.proofs.Recordings.{Standing, nothing, asks_not, clock_now, on_time, order_rest}

@@ -2,7 +2,7 @@
 use Rattle.std.proofs.Common.{◌≡◌, ◌≢◌, ◌≤◌, ℕ, ◌+◌, true, false, List, [], ◌∷◌, Option, Some, None, Result, Ok, Err, cond, refl, sym, ap, subst, ◌∙◌, OnOk, nat_le}
 use Rattle.std.specs.BTreeMap.{get, BTreeMap}
 use Rattle.std.specs.Ordering.{is_eq}
-use Rattle.tftp_lines.specs.{Endpoint, Line, Transfer, Opens, Repeats, Recorded, same_endpoint, endpoint_cmp, Placed, is_at, live, line, clock, silence, opened_by, place_asked, IsLineOf, IsLineKept, AreLinesOf, place_of_talk}
+use Rattle.tftp_lines.specs.{Endpoint, Line, Transfer, Repeats, Recorded, same_endpoint, endpoint_cmp, Placed, is_at, live, line, clock, silence, opened_by, place_asked, IsLineOf, IsLineKept, AreLinesOf, place_of_talk}
 use Rattle.tftp_lines.proofs.Endpoints.{same_by_order, is_same, same_itself}
 use Rattle.tftp_lines.proofs.Lines.{by_test}
 use Rattle.tftp_lines.proofs.Silences.{live_is, live_not, live_later}

@@ -309,12 +309,7 @@ impl Attribution {
             → result ≡ place_asked self.now.count d (live now (line d.source older)) }
     {
         match self.line(&seen.source, now) {
-            None => Place::Opens(Transfer::opened(
-                self.count,
-                seen.source,
-                seen.target,
-                payload,
-            )),
+            None => Place::Opens(Transfer::opened(self.count, seen.source, seen.target, payload)),
             Some(line) => line.place_asked(self.count, seen.target, payload),
         }
     }

@@ -128,7 +128,12 @@ fn at_server(
     found: &Option<Result<Meaning, Refusal>>,
 ) -> Result<Option<Viewed>, AllocError> {
     match found {
-        Some(found) => Ok(Some(Viewed::at_end(alloc, found, trail.at_server(found), Point::Server)?)),
+        Some(found) => Ok(Some(Viewed::at_end(
+            alloc,
+            found,
+            trail.at_server(found),
+            Point::Server,
+        )?)),
         None => Ok(None),
     }
 }

@@ -1,8 +1,8 @@
-use Rattle.std.proofs.Common.{◌≡◌, Some, cond, refl, sym, ap, subst, ◌∙◌}
+use Rattle.std.proofs.Common.{Some, cond, refl, sym, ap, ◌∙◌}
 use Rattle.std.specs.BTreeMap.{get}
 use Rattle.std.specs.Ordering.{is_eq}
 use Rattle.std.proofs.lemmas.Bool.{and_from}
-use Rattle.tftp_lines.specs.{Endpoint, endpoint_cmp, is_apart_from_lines, may_be_tftp}
+use Rattle.tftp_lines.specs.{endpoint_cmp, is_apart_from_lines, may_be_tftp}
 use Rattle.tftp_transfers.proofs.Straying.{strays_more}
 use Rattle.tftp_transfers.proofs.attribution.keep_strays.Goals as goal
 

@@ -1,8 +1,8 @@
-use Rattle.std.proofs.Common.{◌≡◌, false, List, Option, Some, None, option_map, refl, sym, ap, ◌∙◌, ◌&&◌, not, is_some, if◌then◌else◌}
+use Rattle.std.proofs.Common.{◌≡◌, false, List, Some, None, option_map, refl, sym, ap, ◌∙◌, ◌&&◌, not, is_some, if◌then◌else◌}
 use Rattle.std.specs.BTreeMap.{get}
 use Rattle.std.specs.List.{list_any}
 use Rattle.std.specs.Ordering.{nat_cmp}
-use Rattle.tftp_lines.specs.{Endpoint, Line, Placed, Talk, Talks, Transfer, before_talk, begins_oack, history_of, may_be_earlier, may_follow, same_endpoint, endpoint_cmp, other_of, other_end, live, line, latest_in, answered_in, may_answer, talk_in, is_another, is_past, is_the_one, acked_0_in, answer_of, answered_last, IsLineOf}
+use Rattle.tftp_lines.specs.{Line, Placed, Talks, Transfer, before_talk, begins_oack, history_of, may_be_earlier, may_follow, same_endpoint, endpoint_cmp, other_of, other_end, live, line, may_answer, talk_in, is_another, is_past, is_the_one, acked_0_in, answer_of, answered_last, IsLineOf}
 use Rattle.tftp_lines.specs.Kept.{up_to}
 use Rattle.tftp_lines.proofs.Histories.{told_up_to}
 use Rattle.tftp_lines.proofs.line.Line.doubts_of_talk.Goals as goal

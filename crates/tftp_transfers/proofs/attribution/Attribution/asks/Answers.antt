@@ -1,4 +1,4 @@
-use Rattle.std.proofs.Common.{◌≡◌, true, false, [], refl, sym, ap, ◌∙◌, ◌&&◌, ◌||◌, not, is_some}
+use Rattle.std.proofs.Common.{◌≡◌, true, false, [], sym, ap, ◌∙◌, ◌&&◌, ◌||◌, not, is_some}
 use Rattle.tftp_lines.specs.{live, line, begins_request, talk_in}
 use Rattle.tftp_transfers.specs.{is_client, is_service}
 use Rattle.tftp_transfers.proofs.attribution.Attribution.asks.Goals as goal
