@@ -6,7 +6,7 @@ use Rattle.tftp_transfers.specs.{client, service, ack_of, data_of, read_of}
 
 -- the transfer that datagram 0 opened
 abbrev pub first_transfer : Transfer
-first_transfer = record { number = 0; client = client; asked = service }
+first_transfer = record { number = 0; client = client; asked = service; writes = false; has_window = false }
 
 abbrev pub at_client : PeerId
 at_client = record { host = codes "192.0.2.7"; port = 40000 }

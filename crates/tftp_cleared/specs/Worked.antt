@@ -27,7 +27,7 @@ one_request = requests 0 client service (codes "f")
 
 -- It has the number of the transfer that the request opened, but asks another host.
 abbrev pub not_opened : Transfer
-not_opened = record { number = 0; client = client; asked = record { address = stranger.address; port = 69 } }
+not_opened = record { number = 0; client = client; asked = record { address = stranger.address; port = 69 }; writes = false; has_window = false }
 
 -- ---- servers
 

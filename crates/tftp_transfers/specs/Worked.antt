@@ -217,6 +217,17 @@ one_port_on =
     ∷ passes 6 server client (data_of 2)
     ∷ one_port
 
+-- The client sends an ERROR before and after an ERROR 5.
+abbrev pub errors : List Recorded
+errors =
+    passes 5 client server (error_of 0)
+    ∷ passes 4 client server (error_of 5)
+    ∷ passes 3 client server (error_of 0)
+    ∷ passes 2 client server (ack_of 1)
+    ∷ passes 1 server client (data_of 1)
+    ∷ requests 0 client service (codes "f")
+    ∷ []
+
 -- OACK: blocks of 8 bytes
 abbrev pub oack : List ℕ
 oack = 0 ∷ 6 ∷ codes "blksize" ++ 0 ∷ codes "8" ++ 0 ∷ []

@@ -6,7 +6,7 @@ ghost use Rattle.tftp_lines.specs.{Recorded, Placed, asked_part, live, line, is_
 ghost use Rattle.tftp_transfers.specs.Places.{place_of, placed};
 ghost use Rattle.tftp_transfers.specs.Settled.{is_settled};
 ghost use Rattle.tftp_transfers.specs.Views.{client_view, is_about, is_at_server, server_of, server_view};
-ghost use Rattle.tftp_transfers.specs.Doubts.{is_answered_apart, is_beside, is_doubtful_at_client, is_doubtful_at_server, is_doubtful_between};
+ghost use Rattle.tftp_transfers.specs.Doubts.{is_answered_apart, is_beside, is_doubtful, is_doubtful_at_client, is_doubtful_at_server, is_doubtful_between};
 ghost use Rattle.tftp_transfers.specs.Worked.{
   Where,
   where_all,
@@ -16,6 +16,7 @@ ghost use Rattle.tftp_transfers.specs.Worked.{
   one_port_on,
   one_port_agrees,
   one_port_window,
+  errors,
   doubtful_in,
   earlier_words,
   two_clients,
@@ -118,6 +119,11 @@ pub fn what_may_be_late_is_a_doubt_at_its_target()
     ensures between { doubtful_in is_doubtful_between 3 one_port_on
         ≡ false ∷ false ∷ false ∷ true ∷ true ∷ true ∷ false ∷ false ∷ false ∷ false ∷ [] }
     ensures window { earlier_words (placed [] one_port_window) ≡ true ∷ true ∷ false ∷ false ∷ false ∷ false ∷ [] }
+{}
+
+/// An ERROR 5 is no end of a transfer, nor may be an ERROR behind it.
+pub fn an_error_5_ends_nothing()
+    ensures { doubtful_in is_doubtful 0 errors ≡ true ∷ true ∷ false ∷ false ∷ false ∷ false ∷ [] }
 {}
 
 /// An OACK may be late too: then all that may rest on it is doubtful; and so is an ERROR 5.

@@ -41,8 +41,8 @@ pub fn an_end_is_accused_by_its_own_datagram()
 
 /// A client asks twice, is answered by a server and by a stranger, and acknowledges: the stranger's datagram accuses nobody.
 pub fn worked_accusations()
-    ensures whom { accused_in (record { number = 0; client = client; asked = service }) asked_twice
+    ensures whom { accused_in (record { number = 0; client = client; asked = service; writes = false; has_window = false }) asked_twice
         ≡ Some (record { role = ClientEnd; end = client }) ∷ None ∷ Some (record { role = ServerEnd; end = at 1 41000 })
         ∷ Some (record { role = ClientEnd; end = client }) ∷ Some (record { role = ClientEnd; end = client }) ∷ [] }
-    ensures doubtful { accused_of (record { number = 0; client = client; asked = service }) [] (record { datagram = passes 0 client service []; moment = 0; place = Place.Nowhere }) true ≡ None }
+    ensures doubtful { accused_of (record { number = 0; client = client; asked = service; writes = false; has_window = false }) [] (record { datagram = passes 0 client service []; moment = 0; place = Place.Nowhere }) true ≡ None }
 {}
