@@ -43,6 +43,8 @@ LOST, CUT = "frame 4 is not there whole", "1 datagram not there whole.*"
 AHEAD = f"rule {Rule.ACK_AHEAD.number} {Rule.ACK_AHEAD.printed}"
 BACK = f"rule {Rule.GONE_BACK.number} {Rule.GONE_BACK.printed}"
 ELSEWHERE = f"rule {Rule.WRONG_PORT.number} {Rule.WRONG_PORT.printed}"
+LENGTH = f"rule {Rule.BLOCK_LENGTH.number} {Rule.BLOCK_LENGTH.printed}"
+OVERRUN = f"rule {Rule.WINDOW_OVERRUN.number} {Rule.WINDOW_OVERRUN.printed}"
 DROPPED = f"- doubtful refused datagram {{}} {AHEAD}: .*the recorder lost {{}}"
 CASES = (
     Case(
@@ -106,6 +108,20 @@ CASES = (
     Case(
         "a-scanner-at-the-service-port", "junk goes to port 69, then a request from the same port; each is refused",
         ("- (doubtful refused .*|aborted .*)", ".*"),
+    ),
+    Case(
+        "a-late-block-of-the-first-file",
+        "a server of one port sends a second file to the same client's port, and the last block of the first comes late",
+        (NOBODY, f"- doubtful refused datagram 6 {LENGTH}: .*an earlier transfer between the same two ports"),
+        ("", "client", "between"),
+    ),
+    Case(
+        "a-block-beyond-both-files", "the same, but the server skips to a block that neither file has reached",
+        (NOBODY, f"server 192.0.2.1:41000 refused datagram 4 {OVERRUN}"),
+    ),
+    Case(
+        "an-error-behind-an-error-5", "a client sends ERROR 0 behind ERROR 5: the network may have turned them round",
+        (DOUBTFUL,),
     ),
     Case(
         "an-ack-to-the-service-port", "an ACK goes to port 69 in the middle of a transfer",
