@@ -1,6 +1,6 @@
 -- Two spellings of one request are of one side and name one file.
-use Rattle.std.proofs.Common.{◌≡◌, ◌≢◌, ◌<◌, ℕ, ◌+◌, suc, Bool, true, false, List, [], ◌∷◌, ◌++◌, Some, None, cond, refl, sym, ap, subst, ◌∙◌, ◌==◌, not, length, take, drop, arith, ne_eqb, lt-ltb, nat_lt, length-append, append_assoc, option_map, position}
-use Rattle.std.specs.List.{AllByRecursion, position_or_len}
+use Rattle.std.proofs.Common.{◌≡◌, ℕ, ◌+◌, suc, true, List, [], ◌∷◌, ◌++◌, Some, None, cond, refl, sym, ap, ◌∙◌, ◌==◌, not, length, take, arith, ne_eqb, lt-ltb, nat_lt, length-append, append_assoc, position}
+use Rattle.std.specs.List.{position_or_len}
 use Rattle.std.proofs.Math.Seq.{take-append_seam}
 use Rattle.tftp_packet.specs.{Message, RequestParts, Spells}
 use Rattle.tftp_packet.specs.Written.{IsString, strings, pair_strings}

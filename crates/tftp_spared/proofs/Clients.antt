@@ -1,8 +1,8 @@
 -- A recording at several clients: each datagram is at one of them, and to the others' lines it is nothing.
 use Rattle.std.proofs.Common.{◌≡◌, ◌≢◌, ◌⊎◌, ℕ, ◌+◌, true, false, List, [], ◌∷◌, ◌++◌, Option, Some, None, Contains, inl, inr, refl, sym, ap, subst, ◌∙◌, ◌==◌, length, max, ne_eqb, arith, length-append, append_assoc, if◌then◌else◌}
 use Rattle.std.specs.List.{AllByRecursion}
-use Rattle.std.proofs.lemmas.Bool.{false≢true, or_left, or_right, and_parts, eq-eqb, eqb-true}
-use Rattle.tftp_lines.specs.{Endpoint, Place, Opens, Repeats, Talks, Apart, Beside, Nowhere, Transfer, Recorded, Placed, same_endpoint, is_of, is_at, live, line, clock, begins_request}
+use Rattle.std.proofs.lemmas.Bool.{false≢true, or_left, or_right, eq-eqb, eqb-true}
+use Rattle.tftp_lines.specs.{Endpoint, Place, Opens, Repeats, Talks, Apart, Beside, Nowhere, Transfer, Recorded, Placed, same_endpoint, is_of, is_at, live, line, clock}
 use Rattle.tftp_transfers.specs.{asks, at_client, beside, is_nowhere, place_of, placed, served_at}
 use Rattle.tftp_spared.specs.Seen.{is_with}
 use Rattle.tftp_lines.proofs.Endpoints.{is_same, same_itself}
