@@ -25,3 +25,6 @@ pub mod ServedViews
 pub mod ServedTalks
 pub mod ServedStrays
 pub mod ServedEnd
+pub mod WorkedReads
+pub mod WorkedPremises
+pub mod WorkedCaptures

@@ -1,17 +1,17 @@
 -- What holds of every recording at a server's host in which captures of lawful transfers are interleaved. Lists have the newest
 -- first.
-use Rattle.std.specs.Prelude.{◌≡◌, ℕ, ◌||◌, not, Bool, true, false, List, [], ◌∷◌, ◌++◌, map, reverse, filter, All, Contains, Option, Some, None}
-use Rattle.std.specs.List.{flat_map, list_any}
+use Rattle.std.specs.Prelude.{◌≡◌, ℕ, ◌||◌, not, Bool, true, false, List, [], ◌∷◌, ◌++◌, map, reverse, filter, Contains, Option, Some, None}
+use Rattle.std.specs.List.{list_any}
 use Rattle.tftp_packet.specs.{Server}
 use Rattle.tftp_hosts.specs.{In, Out, Datagram, Header}
 use Rattle.tftp_law.specs.{IsLawful, IsRefused, Rule}
-use Rattle.tftp_lines.specs.{Address, Endpoint, Place, Opens, Repeats, Talks, Beside, Transfer, Recorded, Placed, same_endpoint, other_of, begins_request}
+use Rattle.tftp_lines.specs.{Address, Endpoint, Place, Opens, Repeats, Talks, Beside, Transfer, Recorded, Placed, same_endpoint, other_of}
 use Rattle.tftp_transfers.specs.Places.{placed}
 use Rattle.tftp_transfers.specs.Views.{is_at_server, is_end, server_of}
 use Rattle.tftp_transfers.specs.Doubts.{is_beside, is_doubtful_at_server}
 use Rattle.tftp_spared.specs.Seen.{HasNoSilence, is_with}
 use Rattle.tftp_spared.specs.Captures.{AreInOrder, asks_from, goes_on_from}
-use Rattle.tftp_spared.specs.Spared.{needs_doubt}
+use Rattle.tftp_spared.specs.Spared.{AskNowhereElse, FollowOneAnother, HaveNoServicePort, HaveOwnNames, needs_doubt}
 
 -- ---- one capture
 
@@ -40,15 +40,18 @@ pub record IsServedCapture (write : Address → List ℕ) (c : Endpoint) (captur
 
 -- ---- the recording
 
+-- the clients speak with this host alone
+abbrev pub AreAtHost : Address → List Endpoint → List Recorded → Type 0
+AreAtHost host clients recorded = (d : Recorded) (c : Endpoint) → Contains recorded d → Contains clients c → is_with c d ≡ true → (other_of c d).address ≡ host
+
 -- Between each client and the server's host one whole capture follows the other; what passed at no client's endpoint says no
 -- request; no client has the service port; and the times do not go back.
 pub record AreServed (write : Address → List ℕ) (host : Address) (clients : List Endpoint) (recorded : List Recorded) : Type 0 where
-  pub captures : (c : Endpoint) → Contains clients c
-      → (each : List (List Recorded)) × (filter (is_with c) recorded ≡ flat_map (λ capture. capture) each) × All (IsServedCapture write c) each
-  pub here : (d : Recorded) (c : Endpoint) → Contains recorded d → Contains clients c → is_with c d ≡ true → (other_of c d).address ≡ host
-  pub others : (d : Recorded) → Contains recorded d → ((c : Endpoint) → Contains clients c → is_with c d ≡ false) → begins_request d.payload ≡ false
-  pub hosts : (a b : Address) → write a ≡ write b → a ≡ b
-  pub ports : (c : Endpoint) → Contains clients c → c.port ≡ 69 → ⊥
+  pub captures : (c : Endpoint) → Contains clients c → FollowOneAnother (IsServedCapture write c) (filter (is_with c) recorded)
+  pub here : AreAtHost host clients recorded
+  pub others : AskNowhereElse clients recorded
+  pub hosts : HaveOwnNames write
+  pub ports : HaveNoServicePort clients
   pub order : AreInOrder recorded
 
 -- ---- what the server saw of a transfer
