@@ -28,3 +28,4 @@ pub mod ServedEnd
 pub mod WorkedReads
 pub mod WorkedPremises
 pub mod WorkedCaptures
+pub mod WorkedLate

@@ -3,7 +3,7 @@ use Rattle.std.proofs.Common.{◌≡◌, [], ◌∷◌, codes, refl, ap, ◌==�
 use Rattle.std.proofs.lemmas.Bool.{false≢true}
 use Rattle.tftp_packet.specs.{Client, Server}
 use Rattle.tftp_hosts.specs.{Datagram, PeerId, peer_of}
-use Rattle.tftp_model.specs.{Req, Data, Ack, Sent, Took, Step}
+use Rattle.tftp_model.specs.{Req, Data, Ack, Error, Sent, Took, Step}
 use Rattle.tftp_model.specs.Worked.{client as client_does, server as server_does}
 use Rattle.tftp_law.specs.{IsLawful, Label, Main, Stray, Labelled, Division, TransferIds}
 use Rattle.tftp_law.specs.Dress.{StrayAnswer}
@@ -12,7 +12,7 @@ use Rattle.tftp_transfers.specs.{ack_of, client, data_of, service}
 use Rattle.tftp_transfers.specs.Worked.{at, error_of, next_server, other_client, passes, requests, server, stranger}
 use Rattle.tftp_spared.specs.{as_seen_by, as_served, at_client_of, at_server_of}
 use Rattle.tftp_spared.specs.Worked.{first_capture, first_served, one_name, own_name, second_capture, second_served, service_client}
-use Rattle.tftp_spared.proofs.WorkedReads.{shown, f_spelled, g_spelled, asked, came, acked, was_asked, went, was_acked, error_5}
+use Rattle.tftp_spared.proofs.WorkedReads.{shown, f_spelled, g_spelled, asked, came, acked, was_asked, went, was_acked, told_error, error_5}
 
 abbrev label : Datagram → Label → Labelled
 label d l = record { datagram = d; label = l }
@@ -38,6 +38,9 @@ sends_ack = client_does (Sent (Ack 1))
 
 abbrev takes_ack : Step
 takes_ack = server_does (Took (Ack 1))
+
+abbrev sends_error : Step
+sends_error = server_does (Sent (Error 1 []))
 
 -- two requests, a block, a stray that is told so, and the ACK
 
@@ -344,3 +347,45 @@ two_hosts_there_3 = label (as_served own_name client (passes 3 client (at 2 4100
 pub two_hosts_there_lawful : IsLawful (at_server_of 69) (map (as_served own_name client) (reverse (passes 3 client (at 2 41000) (ack_of 1) ∷ requests 2 client (at 2 69) (codes "f") ∷ passes 1 server client (data_of 1) ∷ requests 0 client service (codes "f") ∷ [])))
 two_hosts_there_lawful = shown (codes "f") (at_server_of 69) two_hosts_there_ids (takes_ack ∷ is_asked ∷ sends_ack ∷ takes_block ∷ sends_block ∷ is_asked ∷ asks_it ∷ []) two_hosts_there_3 (map (as_served own_name client) (reverse (passes 3 client (at 2 41000) (ack_of 1) ∷ requests 2 client (at 2 69) (codes "f") ∷ passes 1 server client (data_of 1) ∷ requests 0 client service (codes "f") ∷ []))) refl refl refl
     (was_acked (codes "f") f_spelled two_hosts_there_ids two_hosts_there_2 (as_served own_name client (passes 3 client (at 2 41000) (ack_of 1))) refl refl refl refl (any_later _ _ two_hosts_there_1 (any_first _ _ two_hosts_there_0 refl)), (was_asked (codes "f") f_spelled two_hosts_there_ids two_hosts_there_1 (as_served own_name client (requests 2 client (at 2 69) (codes "f"))) refl refl refl refl, (went (codes "f") f_spelled two_hosts_there_ids two_hosts_there_0 (as_served own_name client (passes 1 server client (data_of 1))) refl refl refl refl, (was_asked (codes "f") f_spelled two_hosts_there_ids [] (as_served own_name client (requests 0 client service (codes "f"))) refl refl refl refl, tt))))
+
+-- a request behind the ACK, which is answered by an ERROR
+
+abbrev late_there_ids : TransferIds
+late_there_ids = record { own = 41000; peer = record { host = own_name client.address; port = 40000 }; asked = [] }
+
+abbrev late_there_0 : Division
+late_there_0 = label (as_served own_name client (requests 0 client service (codes "f"))) (Main (Took Req)) ∷ []
+
+abbrev late_there_1 : Division
+late_there_1 = label (as_served own_name client (passes 1 server client (data_of 1))) (Main (Sent (Data 1))) ∷ late_there_0
+
+abbrev late_there_2 : Division
+late_there_2 = label (as_served own_name client (passes 2 client server (ack_of 1))) (Main (Took (Ack 1))) ∷ late_there_1
+
+abbrev late_there_3 : Division
+late_there_3 = label (as_served own_name client (requests 3 client service (codes "f"))) (Main (Took Req)) ∷ late_there_2
+
+abbrev late_there_4 : Division
+late_there_4 = label (as_served own_name client (passes 4 server client (error_of 1))) (Main (Sent (Error 1 []))) ∷ late_there_3
+
+abbrev late_there_5 : Division
+late_there_5 = label (as_served own_name client (passes 5 client server (ack_of 1))) (Main (Took (Ack 1))) ∷ late_there_4
+
+pub late_there_lawful : IsLawful (at_server_of 69) (map (as_served own_name client) (reverse (passes 5 client server (ack_of 1) ∷ passes 4 server client (error_of 1) ∷ requests 3 client service (codes "f") ∷ passes 2 client server (ack_of 1) ∷ passes 1 server client (data_of 1) ∷ requests 0 client service (codes "f") ∷ [])))
+late_there_lawful = shown (codes "f") (at_server_of 69) late_there_ids (takes_ack ∷ sends_error ∷ is_asked ∷ takes_ack ∷ sends_ack ∷ takes_block ∷ sends_block ∷ is_asked ∷ asks_it ∷ []) late_there_5 (map (as_served own_name client) (reverse (passes 5 client server (ack_of 1) ∷ passes 4 server client (error_of 1) ∷ requests 3 client service (codes "f") ∷ passes 2 client server (ack_of 1) ∷ passes 1 server client (data_of 1) ∷ requests 0 client service (codes "f") ∷ []))) refl refl refl
+    (was_acked (codes "f") f_spelled late_there_ids late_there_4 (as_served own_name client (passes 5 client server (ack_of 1))) refl refl refl refl (any_later _ _ late_there_3 (any_later _ _ late_there_2 (any_later _ _ late_there_1 (any_first _ _ late_there_0 refl)))), (told_error (codes "f") f_spelled late_there_ids late_there_3 (as_served own_name client (passes 4 server client (error_of 1))) refl refl refl refl, (was_asked (codes "f") f_spelled late_there_ids late_there_2 (as_served own_name client (requests 3 client service (codes "f"))) refl refl refl refl, (was_acked (codes "f") f_spelled late_there_ids late_there_1 (as_served own_name client (passes 2 client server (ack_of 1))) refl refl refl refl (any_first _ _ late_there_0 refl), (went (codes "f") f_spelled late_there_ids late_there_0 (as_served own_name client (passes 1 server client (data_of 1))) refl refl refl refl, (was_asked (codes "f") f_spelled late_there_ids [] (as_served own_name client (requests 0 client service (codes "f"))) refl refl refl refl, tt))))))
+
+-- a request that is answered so
+
+abbrev told_there_ids : TransferIds
+told_there_ids = record { own = 41000; peer = record { host = own_name client.address; port = 40000 }; asked = [] }
+
+abbrev told_there_0 : Division
+told_there_0 = label (as_served own_name client (requests 3 client service (codes "f"))) (Main (Took Req)) ∷ []
+
+abbrev told_there_1 : Division
+told_there_1 = label (as_served own_name client (passes 4 server client (error_of 1))) (Main (Sent (Error 1 []))) ∷ told_there_0
+
+pub told_there_lawful : IsLawful (at_server_of 69) (map (as_served own_name client) (reverse (passes 4 server client (error_of 1) ∷ requests 3 client service (codes "f") ∷ [])))
+told_there_lawful = shown (codes "f") (at_server_of 69) told_there_ids (sends_error ∷ is_asked ∷ asks_it ∷ []) told_there_1 (map (as_served own_name client) (reverse (passes 4 server client (error_of 1) ∷ requests 3 client service (codes "f") ∷ []))) refl refl refl
+    (told_error (codes "f") f_spelled told_there_ids told_there_0 (as_served own_name client (passes 4 server client (error_of 1))) refl refl refl refl, (was_asked (codes "f") f_spelled told_there_ids [] (as_served own_name client (requests 3 client service (codes "f"))) refl refl refl refl, tt))

@@ -5,7 +5,7 @@ use Rattle.std.specs.List.{AllByRecursion, list_all}
 use Rattle.tftp_packet.specs.{Message, OptionValue, no_options, Get, Octet, Client, Server, IsString, Spells}
 use Rattle.tftp_packet.specs.Spelling.{octet_read}
 use Rattle.tftp_hosts.specs.{In, Out, Datagram, Header, peer_of}
-use Rattle.tftp_model.specs.{Meaning, request_of, block, block_count, blksize_of, Req, Data, Ack, Sent, Took, message_of, Step, view_of}
+use Rattle.tftp_model.specs.{Meaning, request_of, block, block_count, blksize_of, Req, Data, Ack, Error, Sent, Took, message_of, Step, view_of}
 use Rattle.tftp_model.proofs.Computed.{Plan, IsPlan, is_run, run_is}
 use Rattle.tftp_model.proofs.Defaults.{default_blksize, default_windowsize}
 use Rattle.tftp_law.specs.{Fits, IsLawful, Main, Division, datagrams_of, view_in, TransferIds, HasLabel, HaveLabels}
@@ -61,8 +61,11 @@ g_spelled = (
 block_spelled : Spells (data_of 1) (Message.Data 1 (5 ∷ []))
 block_spelled = (bytes_are (data_of 1) refl, (0, 1, (omega arith, omega arith, omega arith), refl))
 
-ack_spelled : Spells (ack_of 1) (Message.Ack 1)
+pub ack_spelled : Spells (ack_of 1) (Message.Ack 1)
 ack_spelled = (bytes_are (ack_of 1) refl, (0, 1, (omega arith, omega arith, omega arith), refl))
+
+pub stop_spelled : Spells (error_of 1) (Message.Error 1 [])
+stop_spelled = (bytes_are (error_of 1) refl, (0, 1, (omega arith, omega arith, omega arith), tt, refl))
 
 error_spelled : Spells (error_of 5) (Message.Error 5 [])
 error_spelled = (bytes_are (error_of 5) refl, (0, 5, (omega arith, omega arith, omega arith), tt, refl))
@@ -150,6 +153,9 @@ module _ (name : List ℕ) where
 
     pub was_acked : d.dir ≡ In → peer_of d ≡ ids.peer → d.local ≡ ids.own → d.payload ≡ ack_of 1 → Any (λ p. p.datagram.dir ≡ Out) earlier → HasLabel at_server meaning (5 ∷ []) ids earlier d (Main (Took (Ack 1)))
     was_acked dir peer own payload before = record { dir = dir; client = peer; server = (own, inr before); spells = subst (λ p. Spells p (Message.Ack 1)) (sym payload) ack_spelled }
+
+    pub told_error : d.dir ≡ Out → peer_of d ≡ ids.peer → d.local ≡ ids.own → d.payload ≡ error_of 1 → HasLabel at_server meaning (5 ∷ []) ids earlier d (Main (Sent (Error 1 [])))
+    told_error dir peer own payload = record { dir = dir; client = peer; server = (own, inl dir); spells = subst (λ p. Spells p (Message.Error 1 [])) (sym payload) stop_spelled }
 
 -- the answer to a stray says so
 pub error_5 : (text : List ℕ) × Spells (error_of 5) (Message.Error 5 text)

@@ -169,3 +169,16 @@ asks_two_hosts = requests 2 client (at 2 69) (codes "f") ∷ passes 1 server cli
 
 abbrev pub to_second_host : Recorded
 to_second_host = passes 3 client (at 2 41000) (ack_of 1)
+
+-- The client's request comes again behind its ACK; the server answers it by an ERROR, and the ACK comes again too.
+abbrev pub asked_late : List Recorded
+asked_late =
+    passes 4 server client (error_of 1)
+    ∷ requests 3 client service (codes "f")
+    ∷ passes 2 client server (ack_of 1)
+    ∷ passes 1 server client (data_of 1)
+    ∷ requests 0 client service (codes "f")
+    ∷ []
+
+abbrev pub ack_again : Recorded
+ack_again = passes 5 client server (ack_of 1)

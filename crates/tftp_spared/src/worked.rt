@@ -31,8 +31,10 @@ ghost use Rattle.tftp_spared.specs.Worked.{
   IsAccusedAtClient,
   IsAccusedAtServer,
   ack_after_silence,
+  ack_again,
   ack_of_block,
   asked_by_stray,
+  asked_late,
   asks_elsewhere,
   asks_two_hosts,
   back_in_time,
@@ -145,4 +147,16 @@ pub fn clients_must_have_other_ports()
     ensures others { AskNowhereElse (service_client ∷ []) (stray_is_told ∷ asked_by_stray) }
     ensures order { AreInOrder (stray_is_told ∷ asked_by_stray) }
     ensures accused { IsAccusedAtClient own_name needs_doubt stray_is_told asked_by_stray }
+{}
+
+/// At a server, where a request comes late and is answered, what the client sent before is refused in the transfer that it opens.
+pub fn requests_must_not_come_late()
+    ensures captures { (c : Endpoint) → Contains one_client c → FollowOneAnother (λ (k : List Recorded).
+        IsLawful (at_server_of 69) (map (as_served own_name c) (reverse k)) × HasNoSilence k) (filter (is_with c) (ack_again ∷ asked_late)) }
+    ensures here { AreAtHost service.address one_client (ack_again ∷ asked_late) }
+    ensures others { AskNowhereElse one_client (ack_again ∷ asked_late) }
+    ensures hosts { HaveOwnNames own_name }
+    ensures ports { HaveNoServicePort one_client }
+    ensures order { AreInOrder (ack_again ∷ asked_late) }
+    ensures accused { IsAccusedAtServer own_name needs_doubt_there ack_again asked_late }
 {}
