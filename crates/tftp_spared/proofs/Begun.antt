@@ -207,16 +207,16 @@ module _ (service : ℕ) where
       (λ e spelled goes says. asked_alike e.payload d.payload (request_of n.m) (spelled goes says) own)
       (datagrams_of n.rest) (asked_spell n.m n.wire n.ids n.rest n.labels.1))
 
-  ack_0 : (x y : ℕ) → IsPair x y 0 → (x ≡ 0) × (y ≡ 0)
+  pub ack_0 : (x y : ℕ) → IsPair x y 0 → (x ≡ 0) × (y ≡ 0)
   ack_0 x y (low, high, is) = (omega arith, omega arith)
 
-  data_1 : (x y : ℕ) → IsPair x y 1 → (x ≡ 0) × (y ≡ 1)
+  pub data_1 : (x y : ℕ) → IsPair x y 1 → (x ≡ 0) × (y ≡ 1)
   data_1 x y (low, high, is) = (omega arith, omega arith)
 
-  says_ack_0 : (payload : List ℕ) (x y : ℕ) → (x ≡ 0) × (y ≡ 0) → payload ≡ 0 ∷ 4 ∷ x ∷ y ∷ [] → is_answer payload ≡ true
+  pub says_ack_0 : (payload : List ℕ) (x y : ℕ) → (x ≡ 0) × (y ≡ 0) → payload ≡ 0 ∷ 4 ∷ x ∷ y ∷ [] → is_answer payload ≡ true
   says_ack_0 payload x y (left, right) is = subst (λ p. is_answer p ≡ true) (sym (is ∙ (λ i. 0 ∷ 4 ∷ left i ∷ right i ∷ []))) refl
 
-  says_data_1 : (payload bytes : List ℕ) (x y : ℕ) → (x ≡ 0) × (y ≡ 1) → payload ≡ 0 ∷ 3 ∷ x ∷ y ∷ bytes → is_answer payload ≡ true
+  pub says_data_1 : (payload bytes : List ℕ) (x y : ℕ) → (x ≡ 0) × (y ≡ 1) → payload ≡ 0 ∷ 3 ∷ x ∷ y ∷ bytes → is_answer payload ≡ true
   says_data_1 payload bytes x y (left, right) is = subst (λ p. is_answer p ≡ true) (sym (is ∙ (λ i. 0 ∷ 3 ∷ left i ∷ right i ∷ bytes))) refl
 
   pub first_answers : (d : Datagram) (ds : List Datagram) → OneEnded at (d ∷ ds) → comes_in d ≡ true → list_any comes_in ds ≡ false → is_answer d.payload ≡ true

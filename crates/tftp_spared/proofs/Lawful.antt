@@ -7,20 +7,17 @@ use Rattle.tftp_hosts.specs.{Datagram, PeerId, peer_of, same_peer}
 use Rattle.tftp_rules.specs.{begins_request as says_request, begins_error as says_error, comes_in, goes_out, has_come_from, asks, first_of}
 use Rattle.tftp_law.proofs.FirstBroken.FirstRequests.{or_some}
 use Rattle.tftp_law.proofs.Division.RouteTests.{is_same as same_peers}
-use Rattle.tftp_lines.specs.{Address, Endpoint, Recorded, asked_part, asks_alike, same_endpoint, is_between, other_of, begins_request, begins_error, goes}
+use Rattle.tftp_lines.specs.{Address, Endpoint, Recorded, asked_part, asks_alike, same_endpoint, other_of, begins_request, begins_error, goes}
 use Rattle.tftp_lines.specs.Recording.{is_answer}
 use Rattle.tftp_lines.proofs.Endpoints.{is_same, same_itself}
 use Rattle.tftp_lines.proofs.Lines.{by_test}
 use Rattle.tftp_spared.specs.Seen.{as_seen_by, at_client_of}
 use Rattle.tftp_spared.specs.{Follows, IsLawfulAt, asks_from, comes_at, goes_from, goes_on_from}
+use Rattle.tftp_spared.proofs.Captured.{AreHere}
 use Rattle.tftp_spared.proofs.Places.{comes_to_it}
 use Rattle.tftp_spared.proofs.Rules.{some_asked, heard_from, requests_go, first_service}
 use Rattle.tftp_spared.proofs.Begun.{went_on_none, first_answers, requests_alike}
 use Rattle.tftp_spared.proofs.Views.{name, peer_seen, goes_seen, payload_seen, name_one}
-
--- each passed at the client
-abbrev pub AreHere : Endpoint → List Recorded → Type 0
-AreHere c k = AllByRecursion (λ e. is_between c (other_of c e) e ≡ true) k
 
 module _ (write : Address → List ℕ) (write_one : (a b : Address) → write a ≡ write b → a ≡ b) (c : Endpoint) where
   abbrev seen : Recorded → Datagram

@@ -2,7 +2,7 @@
 use Rattle.std.proofs.Common.{◌≡◌, ◌≤◌, ℕ, ◌+◌, Bool, true, false, List, [], ◌∷◌, ◌++◌, refl, sym, ap, subst, ◌∙◌, ◌==◌, ◌&&◌, ◌||◌, not, map, length, nat_le, max, is_some, ne_eqb, arith, if◌then◌else◌}
 use Rattle.std.specs.List.{list_any, AllByRecursion}
 use Rattle.std.proofs.lemmas.Bool.{or_left, and_parts, eq-eqb, le-leb}
-use Rattle.tftp_lines.specs.{Address, Endpoint, Place, Opens, Repeats, Talks, Transfer, Recorded, Placed, same_endpoint, other_of, is_of, is_request, is_at, live, line, latest_in, clock, silence, begins_request, place_asked, place_at, talk_in, goes}
+use Rattle.tftp_lines.specs.{Endpoint, Place, Opens, Repeats, Talks, Transfer, Recorded, Placed, same_endpoint, other_of, is_of, is_request, is_at, live, line, latest_in, clock, silence, begins_request, place_asked, place_at, talk_in, goes}
 use Rattle.tftp_transfers.specs.{asks, at_client, beside, either, is_client, is_nowhere, is_service, place_of, placed}
 use Rattle.tftp_lines.proofs.Endpoints.{is_same}
 use Rattle.tftp_lines.proofs.Lines.{by_test}
@@ -23,7 +23,7 @@ no_line e (q ∷ older) none = line_elsewhere e q older none.0 ∙ no_line e old
 
 -- ---- what holds of all holds of a line
 
-live_all : (P : Placed → Type 0) (now : ℕ) (ps : List Placed) → AllByRecursion P ps → AllByRecursion P (live now ps)
+pub live_all : (P : Placed → Type 0) (now : ℕ) (ps : List Placed) → AllByRecursion P ps → AllByRecursion P (live now ps)
 live_all P now [] all = tt
 live_all P now (p ∷ ps) all = by_test (nat_le now (p.moment + silence))
     (λ is. subst (AllByRecursion P) (sym (ap (λ b. if b then p ∷ ps else []) is)) all)
@@ -94,7 +94,7 @@ talk_place c older now d y none plain came place =
 -- ---- what does not ask
 
 -- what says no request
-plain_asks : (older : List Placed) (now : ℕ) (d : Recorded) → begins_request d.payload ≡ false → asks [] older now d ≡ false
+pub plain_asks : (older : List Placed) (now : ℕ) (d : Recorded) → begins_request d.payload ≡ false → asks [] older now d ≡ false
 plain_asks older now d plain = λ i. plain i && (is_service [] [] d.target.port || (not (is_client older now d.target)
     && (is_service [] older d.target.port || (d.is_spelled && not (is_some (talk_in d.source d.target (live now (line d.source older))))))))
 
@@ -155,11 +155,11 @@ clock_now d ds order = clock_on d ds order (on_time ds (order_rest d ds order))
 
 -- ---- each of a capture, after those before it
 
-module _ (write : Address → List ℕ) (c : Endpoint) where
-  pub captures_follow : (ds k : List Recorded) → AreCaptures write c ds k → Follow c k
+module _ (lawful : List Recorded → Type 0) (c : Endpoint) where
+  pub captures_follow : (ds k : List Recorded) → AreCaptures lawful c ds k → Follow c k
   captures_follow [] k is = subst (Follow c) (sym is) tt
-  captures_follow (d ∷ ds) k (begins k0 before follows lawful is) = subst (Follow c) (sym is) (follows, tt)
-  captures_follow (d ∷ ds) k (goes_on e k0 before follows near lawful is) = subst (Follow c) (sym is) (follows, captures_follow ds (e ∷ k0) before)
+  captures_follow (d ∷ ds) k (begins k0 before follows good is) = subst (Follow c) (sym is) (follows, tt)
+  captures_follow (d ∷ ds) k (goes_on e k0 before follows near good is) = subst (Follow c) (sym is) (follows, captures_follow ds (e ∷ k0) before)
 
   abbrev pub Next : List Recorded → Recorded → List Placed → ℕ → Place → Type 0
   Next k d older now place = (kp rest : List Placed) × (x : Transfer) × Has c (d ∷ k) (new d now place ∷ older) (new d now place ∷ kp) rest x

@@ -130,7 +130,7 @@ request_step c k older (q ∷ ps) rest x d now has follows is lived = by (is_ask
 
 -- ---- the first of the next capture
 
-all_filter : {X : Type 0} (P : X → Type 0) (test : X → Bool) (xs : List X) → AllByRecursion P xs → AllByRecursion P (filter test xs)
+pub all_filter : {X : Type 0} (P : X → Type 0) (test : X → Bool) (xs : List X) → AllByRecursion P xs → AllByRecursion P (filter test xs)
 all_filter P test [] all = tt
 all_filter P test (x ∷ xs) all = kept_or_not test x
     (λ is. subst (AllByRecursion P) (sym (filter_kept test x xs is)) (all.0, all_filter P test xs all.1))
@@ -140,7 +140,7 @@ none_filter : {X : Type 0} (test : X → Bool) (xs : List X) → AllByRecursion 
 none_filter test [] all = refl
 none_filter test (x ∷ xs) all = filter_dropped test x xs all.0 ∙ none_filter test xs all.1
 
-all_second : {X : Type 0} (P : X → Type 0) (Q : X → Type 0) → ((x : X) → P x → Q x) → (xs : List X) → AllByRecursion P xs → AllByRecursion Q xs
+pub all_second : {X : Type 0} (P : X → Type 0) (Q : X → Type 0) → ((x : X) → P x → Q x) → (xs : List X) → AllByRecursion P xs → AllByRecursion Q xs
 all_second P Q f [] all = tt
 all_second P Q f (x ∷ xs) all = (f x all.0, all_second P Q f xs all.1)
 
@@ -234,9 +234,9 @@ repeat_first c k older q ps rest x d now has follow follows request again lived 
         before = filter (is_of x.number) (q ∷ ps) ++ a.asked.before;
         view = filter_kept (is_of x.number) (new d now (Repeats x)) older (eq-eqb x.number x.number refl) ∙ ap (λ l. new d now (Repeats x) ∷ l) a.asked.view
             ∙ sym (ap (λ l. l ++ (filter (is_of x.number) (q ∷ ps) ++ a.asked.before)) (filter_kept (is_of x.number) (new d now (Repeats x)) [] (eq-eqb x.number x.number refl)));
-        repeated = all_and (λ p. Same p.datagram a.asked.r) (filter (is_of x.number) (q ∷ ps)) a.asked.before
-            (all_filter (λ p. Same p.datagram a.asked.r) (is_of x.number) (q ∷ ps)
-            (all_second (λ p. (is_request p ≡ true) × (is_of x.number p ≡ true) × Same p.datagram a.asked.r) (λ p. Same p.datagram a.asked.r) (λ p own. own.2) (q ∷ ps) a.own)) a.asked.repeated;
+        repeated = all_and (λ p. (is_request p ≡ true) × Same p.datagram a.asked.r) (filter (is_of x.number) (q ∷ ps)) a.asked.before
+            (all_filter (λ p. (is_request p ≡ true) × Same p.datagram a.asked.r) (is_of x.number) (q ∷ ps)
+            (all_second (λ p. (is_request p ≡ true) × (is_of x.number p ≡ true) × Same p.datagram a.asked.r) (λ p. (is_request p ≡ true) × Same p.datagram a.asked.r) (λ p own. (own.0, own.2)) (q ∷ ps) a.own)) a.asked.repeated;
       };
       own = ((refl, eq-eqb x.number x.number refl, same_back q.datagram d a.asked.r (again_same q.datagram d again) a.own.0.2), tt);
       others = (λ off. absurd (false≢true (sym off)), a.others);

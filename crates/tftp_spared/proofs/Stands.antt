@@ -45,7 +45,7 @@ pub record AskedBefore (older kp : List Placed) (n : ℕ) : Type 0 where
   pub r : Recorded
   pub before : List Placed
   pub view : client_view n older ≡ filter (is_of n) kp ++ before
-  pub repeated : AllByRecursion (λ q. Same q.datagram r) before
+  pub repeated : AllByRecursion (λ q. (is_request q ≡ true) × Same q.datagram r) before
 
 pub record Asking (c : Endpoint) (k : List Recorded) (older kp rest : List Placed) (x : Transfer) : Type 0 where
   pub none_came : list_any (comes_at c) k ≡ false

@@ -72,7 +72,7 @@ first_some test (p ∷ ps) any = by (first_of test ps) refl (λ later. first_som
     | inr later ↦ let found = more later in let both : None ≡ Some found.0 = sym is ∙ found.1 in absurd (cc)
   ]
 
-any_map : (c : Endpoint) (ps : List Placed) → list_any (comes_at c) (map (λ p. p.datagram) ps) ≡ true → list_any (λ p. comes_at c p.datagram) ps ≡ true
+pub any_map : (c : Endpoint) (ps : List Placed) → list_any (comes_at c) (map (λ p. p.datagram) ps) ≡ true → list_any (λ p. comes_at c p.datagram) ps ≡ true
 any_map c [] any = any
 any_map c (p ∷ ps) any = some_or (comes_at c p.datagram) (list_any (comes_at c) (map (λ q. q.datagram) ps)) (comes_at c p.datagram) (list_any (λ q. comes_at c q.datagram) ps) (λ is. is) (any_map c ps) any
 

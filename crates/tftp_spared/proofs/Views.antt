@@ -1,6 +1,6 @@
 -- A view that is not doubtful is lawful: it is the capture without what passed with others, and what was asked before in the
 -- same words.
-use Rattle.std.proofs.Common.{◌≡◌, ℕ, Bool, true, false, List, [], ◌∷◌, ◌++◌, Option, Some, None, refl, sym, ap, subst, ◌∙◌, ◌&&◌, ◌||◌, not, map, reverse, option_map, append_assoc, append-nil, if◌then◌else◌}
+use Rattle.std.proofs.Common.{◌≡◌, ℕ, Bool, true, false, List, [], ◌∷◌, Option, Some, None, refl, sym, ap, subst, ◌∙◌, ◌&&◌, ◌||◌, not, map, reverse, option_map, if◌then◌else◌}
 use Rattle.std.specs.List.{list_any, AllByRecursion, filter}
 use Rattle.std.proofs.lemmas.Bool.{false≢true, or_left, or_right, and_from, and_parts}
 use Rattle.std.proofs.lemmas.List.{reverse-reverse}
@@ -18,7 +18,8 @@ use Rattle.tftp_fair.proofs.ByRules.{passes_without}
 use Rattle.tftp_fair.proofs.Thinned.{filter_kept, filter_dropped, filter_reverse, kept_or_not}
 use Rattle.tftp_spared.specs.{IsLawfulAt, comes_at, goes_from}
 use Rattle.tftp_spared.proofs.Talks.{bottom_own}
-use Rattle.tftp_spared.proofs.Stands.{Same, Bottom, AskedBefore, Asking, Answered, IsKnown, Has}
+use Rattle.tftp_spared.proofs.Bottoms.{IsRepeatable, filter_whole, own_all, seen_of, view_lawful}
+use Rattle.tftp_spared.proofs.Stands.{Same, Asking, Answered, IsKnown, Has}
 
 -- ---- lists
 
@@ -33,21 +34,6 @@ module _ {X : Type 0} (f : X → X → Bool) where
   -- each that passes its own test is found by it
   each_found : (xs : List X) → AllByRecursion (λ x. f x x ≡ true → list_any (λ y. f y x) xs ≡ true) xs
   each_found xs = each_in xs xs (λ x any. any)
-
--- the oldest is this
-abbrev pub EndsWith : Datagram → List Datagram → Type 0
-EndsWith s [] = ⊥
-EndsWith s (d ∷ []) = d ≡ s
-EndsWith s (d ∷ e ∷ ds) = EndsWith s (e ∷ ds)
-
-ends_more : (s d : Datagram) (ds : List Datagram) → EndsWith s ds → EndsWith s (d ∷ ds)
-ends_more s d [] is = absurd is
-ends_more s d (e ∷ ds) is = is
-
-pub ends_last : (s : Datagram) (ds : List Datagram) → EndsWith s (ds ++ s ∷ [])
-ends_last s [] = refl
-ends_last s (d ∷ []) = refl
-ends_last s (d ∷ e ∷ ds) = ends_last s (e ∷ ds)
 
 abbrev payload_of : Datagram → List ℕ
 payload_of d = d.payload
@@ -82,7 +68,7 @@ module _ (write : Address → List ℕ) (c : Endpoint) where
       (λ off. ap (λ b. payload_of (if b then record { dir = Out; local = d.source.port; host = write d.target.address; remote = d.target.port; payload = d.payload }
       else record { dir = In; local = d.target.port; host = write d.source.address; remote = d.source.port; payload = d.payload })) off)
 
-  same_seen : (d e : Recorded) → Same d e → as_seen_by write c d ≡ as_seen_by write c e
+  pub same_seen : (d e : Recorded) → Same d e → as_seen_by write c d ≡ as_seen_by write c e
   same_seen d e is = λ i. if same_endpoint (is.source i) c then record { dir = Out; local = (is.source i).port; host = write (is.target i).address; remote = (is.target i).port; payload = is.payload i }
       else record { dir = In; local = (is.target i).port; host = write (is.source i).address; remote = (is.source i).port; payload = is.payload i }
 
@@ -100,17 +86,6 @@ module _ (write : Address → List ℕ) (c : Endpoint) where
   filter_seen f g (p ∷ ps) all = kept_or_not f p
       (λ is. ap (map seen) (filter_kept f p ps is) ∙ ap (λ l. seen p ∷ l) (filter_seen f g ps all.1) ∙ sym (filter_kept g (seen p) (map seen ps) (sym all.0 ∙ is)))
       (λ off. ap (map seen) (filter_dropped f p ps off) ∙ filter_seen f g ps all.1 ∙ sym (filter_dropped g (seen p) (map seen ps) (sym all.0 ∙ off)))
-
-  map_both : (ps qs : List Placed) → map seen (ps ++ qs) ≡ map seen ps ++ map seen qs
-  map_both [] qs = refl
-  map_both (p ∷ ps) qs = ap (λ l. seen p ∷ l) (map_both ps qs)
-
-  bottom_seen : (r : Recorded) (n : ℕ) (ps : List Placed) → Bottom r n ps → EndsWith (as_seen_by write c r) (map seen (filter (is_of n) ps))
-  bottom_seen r n [] is = absurd is
-  bottom_seen r n (q ∷ []) is = subst (λ l. EndsWith (as_seen_by write c r) (map seen l)) (sym (filter_kept (is_of n) q [] is.1)) (same_seen q.datagram r is.2)
-  bottom_seen r n (q ∷ s ∷ ps) is = kept_or_not (is_of n) q
-      (λ kept. subst (λ l. EndsWith (as_seen_by write c r) (map seen l)) (sym (filter_kept (is_of n) q (s ∷ ps) kept)) (ends_more (as_seen_by write c r) (seen q) (map seen (filter (is_of n) (s ∷ ps))) (bottom_seen r n (s ∷ ps) is)))
-      (λ off. subst (λ l. EndsWith (as_seen_by write c r) (map seen l)) (sym (filter_dropped (is_of n) q (s ∷ ps) off)) (bottom_seen r n (s ∷ ps) is))
 
   module _ (write_one : (a b : Address) → write a ≡ write b → a ≡ b) where
     pub name_one : (a b : Endpoint) → name a ≡ name b → a ≡ b
@@ -198,43 +173,13 @@ module _ (write : Address → List ℕ) (c : Endpoint) where
 
     -- ---- and what was asked before in the same words changes nothing
 
-    -- the oldest request may have been sent once more
-    abbrev pub IsRepeatable : Type 0
-    IsRepeatable = (s : Datagram) (ds : List Datagram) → EndsWith s ds → OneEnded (at_client_of 69) ds → OneEnded (at_client_of 69) (ds ++ s ∷ [])
+    module _ (may : IsRepeatable (at_client_of 69)) (k : List Recorded) (older kp rest : List Placed) (x : Transfer) (has : Has c k older kp rest x) (lawful : IsLawfulAt write c k) where
+      whole : OneEnded (at_client_of 69) (map seen kp)
+      whole = seen_of (at_client_of 69) (as_seen_by write c) same_seen kp k has.are lawful
 
-    repeated_lawful : IsRepeatable → (r : Recorded) (before : List Placed) (ds : List Datagram) → AllByRecursion (λ q. Same q.datagram r) before → EndsWith (as_seen_by write c r) ds
-        → OneEnded (at_client_of 69) ds → OneEnded (at_client_of 69) (ds ++ map seen before)
-    repeated_lawful may r [] ds all ends lawful = subst (OneEnded (at_client_of 69)) (sym (append-nil ds)) lawful
-    repeated_lawful may r (b ∷ before) ds all ends lawful =
-        let more = repeated_lawful may r before (ds ++ (as_seen_by write c r ∷ [])) all.1 (ends_last (as_seen_by write c r) ds) (may (as_seen_by write c r) ds ends lawful) in
-        let join : (ds ++ (as_seen_by write c r ∷ [])) ++ map seen before ≡ ds ++ (as_seen_by write c r ∷ map seen before) = append_assoc ds (as_seen_by write c r ∷ []) (map seen before) in
-        let same : ds ++ (as_seen_by write c r ∷ map seen before) ≡ ds ++ (as_seen_by write c b.datagram ∷ map seen before) = ap (λ e. ds ++ (e ∷ map seen before)) (sym (same_seen b.datagram r all.0)) in
-        subst (OneEnded (at_client_of 69)) (join ∙ same) more
+      pub answered_lawful : Answered c k older kp rest x → OneEnded (at_client_of 69) (map seen (client_view x.number older))
+      answered_lawful a = view_lawful (at_client_of 69) (as_seen_by write c) same_seen may older kp x.number a.asked a.bottom (part_lawful k older kp rest x a has.known whole)
 
-    view_lawful : IsRepeatable → (older kp : List Placed) (n : ℕ) (asked : AskedBefore older kp n) → Bottom asked.r n kp → OneEnded (at_client_of 69) (map seen (filter (is_of n) kp))
-        → OneEnded (at_client_of 69) (map seen (client_view n older))
-    view_lawful may older kp n asked bottom lawful = subst (OneEnded (at_client_of 69)) (sym (ap (map seen) asked.view ∙ map_both (filter (is_of n) kp) asked.before))
-        (repeated_lawful may asked.r asked.before (map seen (filter (is_of n) kp)) asked.repeated (bottom_seen asked.r n kp bottom) lawful)
-
-    filter_whole : (n : ℕ) (ps : List Placed) → AllByRecursion (λ q. is_of n q ≡ true) ps → filter (is_of n) ps ≡ ps
-    filter_whole n [] all = refl
-    filter_whole n (p ∷ ps) all = filter_kept (is_of n) p ps all.0 ∙ ap (λ l. p ∷ l) (filter_whole n ps all.1)
-
-    seen_of : (kp : List Placed) (k : List Recorded) → map (λ p. p.datagram) kp ≡ k → IsLawfulAt write c k → OneEnded (at_client_of 69) (map seen kp)
-    seen_of kp k are lawful = subst (OneEnded (at_client_of 69)) (twice kp) (subst (IsLawfulAt write c) (sym are) lawful) where
-      twice : (ps : List Placed) → map (as_seen_by write c) (map (λ p. p.datagram) ps) ≡ map seen ps
-      twice [] = refl
-      twice (p ∷ ps) = ap (λ l. seen p ∷ l) (twice ps)
-
-    pub answered_lawful : IsRepeatable → (k : List Recorded) (older kp rest : List Placed) (x : Transfer) → Has c k older kp rest x → IsLawfulAt write c k → Answered c k older kp rest x
-        → OneEnded (at_client_of 69) (map seen (client_view x.number older))
-    answered_lawful may k older kp rest x has lawful a = view_lawful may older kp x.number a.asked a.bottom (part_lawful k older kp rest x a has.known (seen_of kp k has.are lawful))
-
-    own_all : (n : ℕ) (r : Recorded) (ps : List Placed) → AllByRecursion (λ q. (is_request q ≡ true) × (is_of n q ≡ true) × Same q.datagram r) ps → AllByRecursion (λ q. is_of n q ≡ true) ps
-    own_all n r [] all = tt
-    own_all n r (p ∷ ps) all = (all.0.1, own_all n r ps all.1)
-
-    pub asking_lawful : IsRepeatable → (k : List Recorded) (older kp rest : List Placed) (x : Transfer) → Has c k older kp rest x → IsLawfulAt write c k → Asking c k older kp rest x
-        → OneEnded (at_client_of 69) (map seen (client_view x.number older))
-    asking_lawful may k older kp rest x has lawful a = view_lawful may older kp x.number a.asked (bottom_own a.asked.r x.number kp has.some a.own)
-        (subst (λ l. OneEnded (at_client_of 69) (map seen l)) (sym (filter_whole x.number kp (own_all x.number a.asked.r kp a.own))) (seen_of kp k has.are lawful))
+      pub asking_lawful : Asking c k older kp rest x → OneEnded (at_client_of 69) (map seen (client_view x.number older))
+      asking_lawful a = view_lawful (at_client_of 69) (as_seen_by write c) same_seen may older kp x.number a.asked (bottom_own a.asked.r x.number kp has.some a.own)
+          (subst (λ l. OneEnded (at_client_of 69) (map seen l)) (sym (filter_whole x.number kp (own_all x.number a.asked.r kp a.own))) whole)

@@ -44,15 +44,16 @@ Follow c (d ∷ k) = Follows c k d × Follow c k
 abbrev pub IsLawfulAt : (Address → List ℕ) → Endpoint → List Recorded → Type 0
 IsLawfulAt write c k = OneEnded (at_client_of 69) (map (as_seen_by write c) k)
 
--- the next datagram at the client: the first of the next capture, or, not 300 s later, one more of this one
-pub data IsNext (write : Address → List ℕ) (c : Endpoint) (before : List Recorded → Type 0) (d : Recorded) (k : List Recorded) : Type 0 where
-  begins : (k0 : List Recorded) → before k0 → Follows c [] d → IsLawfulAt write c (d ∷ []) → k ≡ d ∷ [] → IsNext write c before d k
-  goes_on : (e : Recorded) (k0 : List Recorded) → before (e ∷ k0) → Follows c (e ∷ k0) d → d.time ≤ e.time + silence → IsLawfulAt write c (d ∷ e ∷ k0) → k ≡ d ∷ e ∷ k0 → IsNext write c before d k
+-- the next datagram at the client: the first of the next capture, or, not 300 s later, one more of this one; `lawful` says
+-- which captures may be
+pub data IsNext (lawful : List Recorded → Type 0) (c : Endpoint) (before : List Recorded → Type 0) (d : Recorded) (k : List Recorded) : Type 0 where
+  begins : (k0 : List Recorded) → before k0 → Follows c [] d → lawful (d ∷ []) → k ≡ d ∷ [] → IsNext lawful c before d k
+  goes_on : (e : Recorded) (k0 : List Recorded) → before (e ∷ k0) → Follows c (e ∷ k0) d → d.time ≤ e.time + silence → lawful (d ∷ e ∷ k0) → k ≡ d ∷ e ∷ k0 → IsNext lawful c before d k
 
 -- these are captures, one after another, of which this one is the newest, as far as it goes
-abbrev pub AreCaptures : (Address → List ℕ) → Endpoint → List Recorded → List Recorded → Type 0
-AreCaptures write c [] k = k ≡ []
-AreCaptures write c (d ∷ ds) k = IsNext write c (AreCaptures write c ds) d k
+abbrev pub AreCaptures : (List Recorded → Type 0) → Endpoint → List Recorded → List Recorded → Type 0
+AreCaptures lawful c [] k = k ≡ []
+AreCaptures lawful c (d ∷ ds) k = IsNext lawful c (AreCaptures lawful c ds) d k
 
 -- the times do not go back
 abbrev pub AreInOrder : List Recorded → Type 0

@@ -2,7 +2,7 @@
 use Rattle.std.specs.Prelude.{◌≡◌, ℕ, ◌||◌, Bool, true, List, [], ◌∷◌, ◌++◌, map, reverse, filter, All, Contains, Some}
 use Rattle.std.specs.List.{flat_map}
 use Rattle.tftp_law.specs.{IsLawful, IsRefused, Rule}
-use Rattle.tftp_lines.specs.{Address, Endpoint, Transfer, Recorded, Placed, transfer_of, is_asked_again, is_late}
+use Rattle.tftp_lines.specs.{Address, Endpoint, Transfer, Recorded, Placed, transfer_of, begins_request, is_asked_again, is_late}
 use Rattle.tftp_transfers.specs.Places.{placed}
 use Rattle.tftp_transfers.specs.Views.{client_view}
 use Rattle.tftp_transfers.specs.Doubts.{is_answered_apart, is_doubtful, some_of}
@@ -14,15 +14,28 @@ pub record IsWholeCapture (write : Address → List ℕ) (c : Endpoint) (capture
   pub lawful : IsLawful (at_client_of 69) (map (as_seen_by write c) (reverse capture))
   pub steady : HasNoSilence capture
 
--- At each client's endpoint one whole capture follows the other; each datagram is at one client's endpoint, and at no
--- other one's; no client has the service port; and the times do not go back.
+-- the list is captures of this kind, one after another
+abbrev pub FollowOneAnother : (List Recorded → Type 0) → List Recorded → Type 0
+FollowOneAnother IsOne recorded = (each : List (List Recorded)) × (recorded ≡ flat_map (λ capture. capture) each) × All IsOne each
+
+-- what passed at none of these endpoints says no request
+abbrev pub AskNowhereElse : List Endpoint → List Recorded → Type 0
+AskNowhereElse clients recorded = (d : Recorded) → Contains recorded d → ((c : Endpoint) → Contains clients c → is_with c d ≡ false) → begins_request d.payload ≡ false
+
+-- no two hosts have one name
+abbrev pub HaveOwnNames : (Address → List ℕ) → Type 0
+HaveOwnNames write = (a b : Address) → write a ≡ write b → a ≡ b
+
+abbrev pub HaveNoServicePort : List Endpoint → Type 0
+HaveNoServicePort clients = (c : Endpoint) → Contains clients c → c.port ≡ 69 → ⊥
+
+-- At each client's endpoint one whole capture follows the other; what passed at no client's endpoint says no request; no client
+-- has the service port; and the times do not go back.
 pub record AreInterleaved (write : Address → List ℕ) (clients : List Endpoint) (recorded : List Recorded) : Type 0 where
-  pub captures : (c : Endpoint) → Contains clients c
-      → (each : List (List Recorded)) × (filter (is_with c) recorded ≡ flat_map (λ capture. capture) each) × All (IsWholeCapture write c) each
-  pub at_one : (d : Recorded) → Contains recorded d → (c : Endpoint) × Contains clients c × (is_with c d ≡ true)
-  pub at_no_other : (d : Recorded) (c e : Endpoint) → Contains recorded d → Contains clients c → Contains clients e → is_with c d ≡ true → is_with e d ≡ true → c ≡ e
-  pub hosts : (a b : Address) → write a ≡ write b → a ≡ b
-  pub ports : (c : Endpoint) → Contains clients c → c.port ≡ 69 → ⊥
+  pub captures : (c : Endpoint) → Contains clients c → FollowOneAnother (IsWholeCapture write c) (filter (is_with c) recorded)
+  pub others : AskNowhereElse clients recorded
+  pub hosts : HaveOwnNames write
+  pub ports : HaveNoServicePort clients
   pub order : AreInOrder recorded
 
 -- the doubts that captures which follow one another need: the transfer before may go on, what may be its first answer is

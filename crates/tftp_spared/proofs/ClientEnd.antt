@@ -1,0 +1,59 @@
+-- No client's view is refused without a doubt, where captures of lawful transfers are interleaved.
+use Rattle.std.proofs.Common.{◌≡◌, ℕ, true, List, [], ◌∷◌, ◌++◌, Some, inl, inr, refl, sym, ap, subst, ◌∙◌, map, reverse, filter}
+use Rattle.std.specs.List.{AllByRecursion, flat_map}
+use Rattle.std.proofs.lemmas.Bool.{eq-eqb}
+use Rattle.std.proofs.lemmas.List.{reverse-reverse}
+use Rattle.tftp_law.specs.{OneEnded, IsLawful, IsRefused, Rule}
+use Rattle.tftp_law.proofs.FirstBroken.FirstBroken.{refused_does_not_pass}
+use Rattle.tftp_law.proofs.Whole.TwoEnds.{lawful}
+use Rattle.tftp_lines.specs.{Address, Endpoint, Transfer, Recorded, Placed, is_of, transfer_of}
+use Rattle.tftp_transfers.specs.{client_view, placed}
+use Rattle.tftp_spared.specs.Seen.{HasNoSilence, as_seen_by, at_client_of, is_with}
+use Rattle.tftp_fair.proofs.Thinned.{filter_kept}
+use Rattle.tftp_spared.specs.{needs_doubt, AreCaptures, IsLawfulAt}
+use Rattle.tftp_spared.proofs.Lists.{map_reversed}
+use Rattle.tftp_spared.proofs.Captured.{captures_at}
+use Rattle.tftp_spared.proofs.Lawful.{follows_lawful}
+use Rattle.tftp_spared.proofs.Views.{answered_lawful, asking_lawful, seen}
+use Rattle.tftp_packet.specs.{Client}
+use Rattle.tftp_spared.proofs.Repeated.{repeated_passes}
+use Rattle.tftp_spared.proofs.Spared.{IsStated, of_transfer, doubted_or}
+use Rattle.tftp_spared.proofs.Whole.{AreAll}
+
+module _ (write : Address → List ℕ) (c : Endpoint) where
+  map_reverse : (k : List Recorded) → reverse (map (as_seen_by write c) (reverse k)) ≡ map (as_seen_by write c) k
+  map_reverse k = sym (map_reversed (as_seen_by write c) (reverse k)) ∙ ap (map (as_seen_by write c)) (reverse-reverse k)
+
+  -- a capture that some run shows breaks no rule
+  pub lawful_at : (k : List Recorded) → IsLawful (at_client_of 69) (map (as_seen_by write c) (reverse k)) → IsLawfulAt write c k
+  lawful_at k shown = subst (OneEnded (at_client_of 69)) (map_reverse k) ((lawful (at_client_of 69) (map (as_seen_by write c) (reverse k))).0 shown)
+
+-- ---- the recording
+
+module _ (write : Address → List ℕ) (write_one : (a b : Address) → write a ≡ write b → a ≡ b) where
+  abbrev IsFair : Endpoint → List Placed → Type 0
+  IsFair c view = OneEnded (at_client_of 69) (map (seen write c) view)
+
+  stated : (c : Endpoint) → IsStated (IsLawfulAt write c) c (IsFair c)
+  stated c k older kp rest x has may = (
+    asking_lawful write c write_one (repeated_passes Client 69) k older kp rest x has may,
+    answered_lawful write c write_one (repeated_passes Client 69) k older kp rest x has may,
+  )
+
+  pub client_captures : (c : Endpoint) (recorded : List Recorded) (each : List (List Recorded)) → filter (is_with c) recorded ≡ flat_map (λ capture. capture) each
+      → AllByRecursion (λ k. IsLawfulAt write c k × HasNoSilence k) each → (k : List Recorded) × AreCaptures (IsLawfulAt write c) c (filter (is_with c) recorded) k
+  client_captures c recorded each same all = captures_at c (IsLawfulAt write c) (λ d e k passes. passes.1) (follows_lawful write write_one c) recorded each same all
+
+  pub client_is_spared : (clients : List Endpoint) (recorded : List Recorded) → AreAll (IsLawfulAt write) clients recorded
+      → (newer older : List Placed) (p : Placed) → placed [] recorded ≡ newer ++ p ∷ older → (x : Transfer) → transfer_of p.place ≡ Some x
+      → (rule : Rule) → IsRefused (at_client_of 69) (map (seen write x.client) (client_view x.number older)) (as_seen_by write x.client p.datagram) rule
+      → needs_doubt x.number (placed [] recorded) p older ≡ true
+  client_is_spared clients recorded g newer older p are x at rule refused =
+      elim (doubted_or (IsLawfulAt write) clients recorded g x.client (IsFair x.client) tt (stated x.client) newer older p are x at refl) [
+        | inl doubt ↦ doubt
+        | inr fair ↦ absurd (refused_does_not_pass (at_client_of 69) (map (seen write x.client) (client_view x.number older)) (as_seen_by write x.client p.datagram) rule refused
+            (subst (λ l. OneEnded (at_client_of 69) (map (seen write x.client) l)) (filter_kept (is_of x.number) p older this) fair))
+      ]
+    where
+      this : is_of x.number p ≡ true
+      this = of_transfer x.number p.datagram p.moment p.place x at ∙ eq-eqb x.number x.number refl

@@ -1,0 +1,34 @@
+use Rattle.std.proofs.Common.{[], ◌∷◌, codes, filter, refl}
+use Rattle.tftp_law.specs.{Rule}
+use Rattle.tftp_rules.specs.{PortRule}
+use Rattle.tftp_transfers.specs.{client}
+use Rattle.tftp_transfers.specs.Worked.{at, requests}
+use Rattle.tftp_spared.specs.Seen.{as_seen_by, at_client_of, is_with}
+use Rattle.tftp_spared.specs.{FollowOneAnother, IsWholeCapture}
+use Rattle.tftp_spared.specs.Worked.{asks_two_hosts, one_client, one_name, to_second_host}
+use Rattle.tftp_spared.proofs.ClientEnd.{lawful_at}
+use Rattle.tftp_spared.proofs.WorkedPremises.{at_one, follow_one, order_by, others_by, ports_by, whole_by, wrong_port}
+use Rattle.tftp_spared.proofs.WorkedCaptures.{two_hosts_lawful}
+use Rattle.tftp_spared.proofs.worked.hosts_must_have_their_own_names.Goals as goal
+
+pub returns-clause-captures : goal.returns-clause-captures
+returns-clause-captures x c there = at_one (λ e. FollowOneAnother (IsWholeCapture one_name e) (filter (is_with e) (to_second_host ∷ asks_two_hosts))) client c
+    (follow_one (IsWholeCapture one_name client) (filter (is_with client) (to_second_host ∷ asks_two_hosts)) (filter (is_with client) (to_second_host ∷ asks_two_hosts)) refl (whole_by one_name client (filter (is_with client) (to_second_host ∷ asks_two_hosts)) two_hosts_lawful refl)) there
+
+pub returns-clause-others : goal.returns-clause-others
+returns-clause-others x = others_by one_client (to_second_host ∷ asks_two_hosts) refl
+
+pub returns-clause-ports : goal.returns-clause-ports
+returns-clause-ports x = ports_by one_client refl
+
+pub returns-clause-order : goal.returns-clause-order
+returns-clause-order x = order_by (to_second_host ∷ asks_two_hosts) refl
+
+pub returns-clause-accused : goal.returns-clause-accused
+returns-clause-accused x = record {
+  transfer = record { number = 2; client = client; asked = at 2 69 };
+  at = refl;
+  rule = Rule.Port PortRule.Wrong;
+  refused = wrong_port (at_client_of 69) (as_seen_by one_name client (requests 2 client (at 2 69) (codes "f")) ∷ []) (as_seen_by one_name client to_second_host) (lawful_at one_name client (filter (is_with client) (to_second_host ∷ asks_two_hosts)) two_hosts_lawful).1.1.1 refl;
+  doubtless = refl;
+}
