@@ -8,10 +8,10 @@ use Rattle.tftp_rules.specs.{begins_request as says_request, first_of, or_this}
 use Rattle.tftp_law.specs.{OneEnded, IsLawful, IsRefused, Passes, Rule}
 use Rattle.tftp_law.proofs.Division.RouteTests.{same_is as peers_same, is_same as same_peers}
 use Rattle.tftp_law.proofs.Whole.TwoEnds.{lawful}
-use Rattle.tftp_lines.specs.{Address, Endpoint, Place, Opens, Repeats, Talks, Apart, Beside, Nowhere, Transfer, Recorded, Placed, same_address, same_endpoint, other_of, is_of, is_request, transfer_of, begins_error, begins_request, begins_unknown_id, is_late, speaks_first}
+use Rattle.tftp_lines.specs.{Address, Endpoint, Place, Opens, Repeats, Talks, Apart, Beside, Nowhere, Transfer, Recorded, Placed, same_address, same_endpoint, other_of, is_of, is_request, transfer_of, begins_error, begins_request, is_late, is_sent_by_client, speaks_first}
 use Rattle.tftp_lines.proofs.Endpoints.{is_same, same_itself}
 use Rattle.tftp_lines.proofs.Lines.{by_test}
-use Rattle.tftp_transfers.specs.{client_view, placed, place_of, comes, goes_on, answered_by, went_on_with, asked_of, server_of, is_server, is_at_server, has_host, has_port, goes_to_asked, is_beside, is_doubted, is_doubtful, is_doubtful_at_server, is_led_astray, some_of}
+use Rattle.tftp_transfers.specs.{client_view, placed, place_of, comes, goes_on, answered_by, went_on_with, asked_of, server_of, is_server, is_at_server, has_host, has_port, goes_to_asked, is_beside, is_doubted, is_doubtful, is_doubtful_at_server, is_led_astray, some_of, comes_of_earlier, tells_strays}
 use Rattle.tftp_fair.proofs.Thinned.{filter_kept, filter_dropped, kept_or_not}
 use Rattle.tftp_spared.specs.Seen.{HasNoSilence, is_with}
 use Rattle.tftp_spared.specs.{AreCaptures, AsksInTime, as_served, at_server_of, captured_there, goes_from, is_doubted_there, needs_doubt, seen_at_server, server_saw, transfer_beside, went_out}
@@ -398,9 +398,10 @@ module _ (write : Address → List ℕ) (write_one : (a b : Address) → write a
 
 -- each of the four is a doubt at a server
 pub doubtful_there : (n : ℕ) (placed : List Placed) (p : Placed) (older : List Placed) → (needs_doubt n placed p older || is_beside p) ≡ true → is_doubtful_at_server n placed p older ≡ true
-doubtful_there n placed p older is = or_left (is_doubtful n placed p older) (speaks_first p older) (elim (or_cases (needs_doubt n placed p older) (is_beside p) is) [
-  | inl doubt ↦ doubtful_is n placed p older doubt
-  | inr beside ↦
-      or_left (is_doubted n placed || is_led_astray n placed p older || some_of n is_late (p ∷ older) || is_beside p) (begins_unknown_id p.datagram.payload)
-      (or_right (is_doubted n placed || is_led_astray n placed p older || some_of n is_late (p ∷ older)) (is_beside p) beside)
-])
+doubtful_there n placed p older is = or_left (is_doubtful n placed p older || speaks_first p older) (is_sent_by_client p && comes_of_earlier n p older)
+    (or_left (is_doubtful n placed p older) (speaks_first p older) (elim (or_cases (needs_doubt n placed p older) (is_beside p) is) [
+      | inl doubt ↦ doubtful_is n placed p older doubt
+      | inr beside ↦
+          or_left (is_doubted n placed || is_led_astray n placed p older || some_of n is_late (p ∷ older) || is_beside p) (tells_strays n p older)
+          (or_right (is_doubted n placed || is_led_astray n placed p older || some_of n is_late (p ∷ older)) (is_beside p) beside)
+    ]))

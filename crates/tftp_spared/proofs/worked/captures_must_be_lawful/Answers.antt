@@ -1,4 +1,4 @@
-use Rattle.std.proofs.Common.{[], ◌∷◌, filter, refl}
+use Rattle.std.proofs.Common.{false, [], ◌∷◌, filter, refl}
 use Rattle.tftp_law.specs.{Rule}
 use Rattle.tftp_rules.specs.{PortRule}
 use Rattle.tftp_transfers.specs.{client, service}
@@ -31,7 +31,7 @@ returns-clause-ports x = ports_by one_client refl
 
 pub returns-clause-accused : goal.returns-clause-accused
 returns-clause-accused x = record {
-  transfer = record { number = 0; client = client; asked = at 1 1069 };
+  transfer = record { number = 0; client = client; asked = at 1 1069; writes = false; has_window = false };
   at = refl;
   rule = Rule.Port PortRule.Wrong;
   refused = wrong_port (at_client_of 69) [] (as_seen_by own_name client asks_elsewhere) tt refl;
@@ -40,7 +40,7 @@ returns-clause-accused x = record {
 
 pub returns-clause-accused_there : goal.returns-clause-accused_there
 returns-clause-accused_there x = record {
-  transfer = record { number = 0; client = client; asked = at 1 1069 };
+  transfer = record { number = 0; client = client; asked = at 1 1069; writes = false; has_window = false };
   at = refl;
   rule = Rule.Port PortRule.Wrong;
   refused = wrong_port (at_server_of 69) [] (as_served own_name client asks_elsewhere) tt refl;

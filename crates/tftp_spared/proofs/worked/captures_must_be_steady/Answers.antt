@@ -1,4 +1,4 @@
-use Rattle.std.proofs.Common.{List, [], ◌∷◌, codes, filter, map, refl, reverse}
+use Rattle.std.proofs.Common.{false, List, [], ◌∷◌, codes, filter, map, refl, reverse}
 use Rattle.tftp_law.specs.{IsLawful, Rule}
 use Rattle.tftp_rules.specs.{PortRule}
 use Rattle.tftp_lines.specs.{Recorded}
@@ -39,7 +39,7 @@ returns-clause-order x = order_by (ack_after_silence ∷ silent_capture) refl
 
 pub returns-clause-accused : goal.returns-clause-accused
 returns-clause-accused x = record {
-  transfer = record { number = 2; client = client; asked = service };
+  transfer = record { number = 2; client = client; asked = service; writes = false; has_window = false };
   at = refl;
   rule = Rule.Port PortRule.Wrong;
   refused = wrong_port (at_client_of 69) (as_seen_by own_name client (requests 401 client service (codes "f")) ∷ []) (as_seen_by own_name client ack_after_silence) (lawful_at own_name client (ack_after_silence ∷ silent_capture) silent_lawful).1.1.1 refl;
@@ -48,7 +48,7 @@ returns-clause-accused x = record {
 
 pub returns-clause-accused_there : goal.returns-clause-accused_there
 returns-clause-accused_there x = record {
-  transfer = record { number = 2; client = client; asked = service };
+  transfer = record { number = 2; client = client; asked = service; writes = false; has_window = false };
   at = refl;
   rule = Rule.Port PortRule.Foreign;
   refused = foreign_port (at_server_of 69) (as_served own_name client (requests 401 client service (codes "f")) ∷ []) (as_served own_name client ack_after_silence) (served_lawful own_name client (ack_after_silence ∷ silent_capture) silent_there_lawful).1.1.1 refl;

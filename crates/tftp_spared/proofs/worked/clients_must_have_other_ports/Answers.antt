@@ -1,4 +1,4 @@
-use Rattle.std.proofs.Common.{[], ◌∷◌, codes, filter, refl}
+use Rattle.std.proofs.Common.{false, [], ◌∷◌, codes, filter, refl}
 use Rattle.tftp_law.specs.{Rule}
 use Rattle.tftp_rules.specs.{PortRule}
 use Rattle.tftp_transfers.specs.{data_of, service}
@@ -23,7 +23,7 @@ returns-clause-order x = order_by (stray_is_told ∷ asked_by_stray) refl
 
 pub returns-clause-accused : goal.returns-clause-accused
 returns-clause-accused x = record {
-  transfer = record { number = 0; client = service_client; asked = service };
+  transfer = record { number = 0; client = service_client; asked = service; writes = false; has_window = false };
   at = refl;
   rule = Rule.Port PortRule.Wrong;
   refused = wrong_port (at_client_of 69) (as_seen_by own_name service_client (passes 1 server service_client (data_of 1)) ∷ as_seen_by own_name service_client (requests 0 service_client service (codes "f")) ∷ []) (as_seen_by own_name service_client stray_is_told) (lawful_at own_name service_client (filter (is_with service_client) (stray_is_told ∷ asked_by_stray)) service_port_lawful).1.1 refl;

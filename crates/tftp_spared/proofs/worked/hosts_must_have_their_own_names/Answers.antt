@@ -1,4 +1,4 @@
-use Rattle.std.proofs.Common.{[], ◌∷◌, codes, filter, refl}
+use Rattle.std.proofs.Common.{false, [], ◌∷◌, codes, filter, refl}
 use Rattle.tftp_law.specs.{Rule}
 use Rattle.tftp_rules.specs.{PortRule}
 use Rattle.tftp_transfers.specs.{client}
@@ -26,7 +26,7 @@ returns-clause-order x = order_by (to_second_host ∷ asks_two_hosts) refl
 
 pub returns-clause-accused : goal.returns-clause-accused
 returns-clause-accused x = record {
-  transfer = record { number = 2; client = client; asked = at 2 69 };
+  transfer = record { number = 2; client = client; asked = at 2 69; writes = false; has_window = false };
   at = refl;
   rule = Rule.Port PortRule.Wrong;
   refused = wrong_port (at_client_of 69) (as_seen_by one_name client (requests 2 client (at 2 69) (codes "f")) ∷ []) (as_seen_by one_name client to_second_host) (lawful_at one_name client (filter (is_with client) (to_second_host ∷ asks_two_hosts)) two_hosts_lawful).1.1.1 refl;

@@ -1,4 +1,4 @@
-use Rattle.std.proofs.Common.{[], ◌∷◌, codes, filter, refl}
+use Rattle.std.proofs.Common.{false, [], ◌∷◌, codes, filter, refl}
 use Rattle.tftp_law.specs.{Rule}
 use Rattle.tftp_rules.specs.{PortRule}
 use Rattle.tftp_transfers.specs.{client, service}
@@ -31,7 +31,7 @@ returns-clause-order x = order_by (ack_of_block ∷ served_by_asker) refl
 
 pub returns-clause-accused : goal.returns-clause-accused
 returns-clause-accused x = record {
-  transfer = record { number = 1; client = client; asked = service };
+  transfer = record { number = 1; client = client; asked = service; writes = false; has_window = false };
   at = refl;
   rule = Rule.Port PortRule.Wrong;
   refused = wrong_port (at_client_of 69) (as_seen_by own_name client (requests 1 client service (codes "f")) ∷ []) (as_seen_by own_name client ack_of_block) (lawful_at own_name client (filter (is_with client) (ack_of_block ∷ served_by_asker)) plain_lawful).1.1 refl;
@@ -40,7 +40,7 @@ returns-clause-accused x = record {
 
 pub returns-clause-accused_there : goal.returns-clause-accused_there
 returns-clause-accused_there x = record {
-  transfer = record { number = 1; client = client; asked = service };
+  transfer = record { number = 1; client = client; asked = service; writes = false; has_window = false };
   at = refl;
   rule = Rule.Port PortRule.Foreign;
   refused = foreign_port (at_server_of 69) (as_served own_name client (requests 1 client service (codes "f")) ∷ []) (as_served own_name client ack_of_block) (served_lawful own_name client (filter (is_with client) (ack_of_block ∷ served_by_asker)) plain_there_lawful).1.1 refl;

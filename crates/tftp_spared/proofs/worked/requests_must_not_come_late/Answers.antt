@@ -1,4 +1,4 @@
-use Rattle.std.proofs.Common.{List, ◌∷◌, filter, map, refl, reverse}
+use Rattle.std.proofs.Common.{false, List, ◌∷◌, filter, map, refl, reverse}
 use Rattle.tftp_law.specs.{IsLawful, Rule}
 use Rattle.tftp_lines.specs.{Recorded}
 use Rattle.tftp_transfers.specs.{client, service}
@@ -32,7 +32,7 @@ returns-clause-order x = order_by (ack_again ∷ asked_late) refl
 
 pub returns-clause-accused : goal.returns-clause-accused
 returns-clause-accused x = record {
-  transfer = record { number = 3; client = client; asked = service };
+  transfer = record { number = 3; client = client; asked = service; writes = false; has_window = false };
   at = refl;
   rule = Rule.Block EndRule.AckAhead;
   refused = late_refused;

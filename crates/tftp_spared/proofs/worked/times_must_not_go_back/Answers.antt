@@ -1,4 +1,4 @@
-use Rattle.std.proofs.Common.{[], ◌∷◌, codes, filter, refl}
+use Rattle.std.proofs.Common.{false, [], ◌∷◌, codes, filter, refl}
 use Rattle.tftp_law.specs.{Rule}
 use Rattle.tftp_rules.specs.{PortRule}
 use Rattle.tftp_transfers.specs.{client, service}
@@ -36,7 +36,7 @@ returns-clause-ports x = ports_by two_clients refl
 
 pub returns-clause-accused : goal.returns-clause-accused
 returns-clause-accused x = record {
-  transfer = record { number = 4; client = client; asked = service };
+  transfer = record { number = 4; client = client; asked = service; writes = false; has_window = false };
   at = refl;
   rule = Rule.Port PortRule.Wrong;
   refused = wrong_port (at_client_of 69) (as_seen_by own_name client (requests 601 client service (codes "f")) ∷ []) (as_seen_by own_name client late_ack) (lawful_at own_name client (filter (is_with client) (late_ack ∷ back_in_time)) back_lawful).1.1.1.1 refl;
@@ -45,7 +45,7 @@ returns-clause-accused x = record {
 
 pub returns-clause-accused_there : goal.returns-clause-accused_there
 returns-clause-accused_there x = record {
-  transfer = record { number = 4; client = client; asked = service };
+  transfer = record { number = 4; client = client; asked = service; writes = false; has_window = false };
   at = refl;
   rule = Rule.Port PortRule.Foreign;
   refused = foreign_port (at_server_of 69) (as_served own_name client (requests 601 client service (codes "f")) ∷ []) (as_served own_name client late_ack) (served_lawful own_name client (filter (is_with client) (late_ack ∷ back_in_time_there)) back_there_lawful).1.1.1.1 refl;
