@@ -10,3 +10,5 @@ mod Merged
 mod ServerLaw
 mod Seated
 mod Besides
+mod Hosts
+mod Learned

@@ -1,5 +1,5 @@
--- A recording in which an address is none, a transfer that no datagram opened, a server with two addresses, and a client that
--- sends elsewhere. Lists have the newest first.
+-- A recording in which an address is none, a transfer that no datagram opened, a port that is known by a request alone, a server
+-- with two addresses, and a client that sends elsewhere. Lists have the newest first.
 use Rattle.std.specs.Prelude.{List, [], ◌∷◌, codes}
 use Rattle.tftp_lines.specs.{Endpoint, Recorded, Transfer, V4}
 use Rattle.tftp_transfers.specs.{ack_of, client, data_of, service}
@@ -28,6 +28,28 @@ one_request = requests 0 client service (codes "f")
 -- It has the number of the transfer that the request opened, but asks another host.
 abbrev pub not_opened : Transfer
 not_opened = record { number = 0; client = client; asked = record { address = stranger.address; port = 69 }; writes = false; has_window = false }
+
+-- ---- ports
+
+-- A port that is neither 69 nor named, so that a request goes there by what it says alone.
+abbrev pub learned : Endpoint
+learned = record { address = service.address; port = 6969 }
+
+abbrev pub asked_at_learned : Transfer
+asked_at_learned = record { number = 0; client = client; asked = learned }
+
+-- A client asks there, and again once that endpoint has asked for a file itself, and so is a client: what comes to a client is
+-- a request at a service port only. It is answered from another port.
+abbrev pub before_going_on : List Recorded
+before_going_on =
+    passes 3 server client (data_of 1)
+    ∷ requests 2 client learned (codes "f")
+    ∷ requests 1 learned (record { address = stranger.address; port = 69 }) (codes "g")
+    ∷ requests 0 client learned (codes "f")
+    ∷ []
+
+abbrev pub to_who_answered : Recorded
+to_who_answered = passes 4 client server (ack_of 1)
 
 -- ---- servers
 

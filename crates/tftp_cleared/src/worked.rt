@@ -1,17 +1,19 @@
 //! Worked recordings: one that a law speaks of, and for what the law asks. Each is the contract of a function that does nothing.
 
-ghost use Rattle.std.specs.Prelude.{◌≡◌, [], ◌∷◌, All};
+ghost use Rattle.std.specs.Prelude.{◌≡◌, [], ◌∷◌, All, false};
 ghost use Rattle.tftp_hosts.specs.{In, Out};
+ghost use Rattle.tftp_lines.specs.{same_endpoint};
 ghost use Rattle.tftp_rules.specs.{Route, route_of};
+ghost use Rattle.tftp_law.specs.{OneEnded};
 ghost use Rattle.tftp_parties.specs.{host_name};
-ghost use Rattle.tftp_transfers.specs.{asked_twice, placed, server_view};
+ghost use Rattle.tftp_transfers.specs.{asked_twice, client, is_service, placed, server_view};
 ghost use Rattle.tftp_transfers.specs.Worked.{server};
 ghost use Rattle.tftp_views.specs.{captured, client_capture, client_header, server_capture, server_header};
-ghost use Rattle.tftp_tap.specs.{TapRoute, tap_route};
+ghost use Rattle.tftp_tap.specs.{BreaksNoTapRule, TapRoute, tap_route};
 ghost use Rattle.tftp_between.specs.{between_capture, passed_of, sides_of};
 ghost use Rattle.tftp_between.specs.Worked.{first_transfer};
-ghost use Rattle.tftp_cleared.specs.Cleared.{IsSentThere, IsServedIn, IsTransferIn};
-ghost use Rattle.tftp_cleared.specs.Worked.{before_namesake, from_namesake, from_one_address, not_opened, one_request, to_a_stranger, to_the_other};
+ghost use Rattle.tftp_cleared.specs.Cleared.{HasAddresses, IsOpenedIn, IsSentThere, IsServedIn, IsTransferIn};
+ghost use Rattle.tftp_cleared.specs.Worked.{asked_at_learned, before_going_on, before_namesake, from_namesake, from_one_address, to_who_answered, learned, not_opened, one_request, to_a_stranger, to_the_other};
 
 /// A read whose client asks twice, and to which a stray comes, is a transfer of its recording, and is served by one endpoint.
 pub fn premises_are_met()
@@ -35,6 +37,21 @@ pub fn the_opening_is_needed()
     ensures client { route_of (client_header not_opened) [] (captured host_name Out one_request) ≡ Route.Request }
     ensures between { tap_route (sides_of not_opened (placed [] (one_request ∷ []))) [] (passed_of one_request)
         ≡ TapRoute.WrongPort }
+{}
+
+/// Were the port where the client asks neither 69 nor named, its second request could be taken for what it goes on with: where it
+/// asks would be the server, and who answered a stranger, to whom between the ends nothing goes but an ERROR. At the client no
+/// datagram breaks a rule, and all else that the law asks for is met.
+pub fn the_service_is_needed()
+    ensures opened { IsOpenedIn asked_at_learned (placed [] (to_who_answered ∷ before_going_on)) }
+    ensures learned { is_service [] [] learned.port ≡ false }
+    ensures addresses { All HasAddresses (to_who_answered ∷ before_going_on) }
+    ensures apart { same_endpoint client learned ≡ false }
+    ensures client { OneEnded (client_header asked_at_learned) (client_capture host_name asked_at_learned (placed [] (to_who_answered ∷ before_going_on))) }
+    ensures between { tap_route (sides_of asked_at_learned (placed [] (to_who_answered ∷ before_going_on)))
+        (between_capture asked_at_learned (placed [] before_going_on)) (passed_of to_who_answered) ≡ TapRoute.NoStrayAnswer }
+    ensures refused { BreaksNoTapRule (sides_of asked_at_learned (placed [] (to_who_answered ∷ before_going_on)))
+        (between_capture asked_at_learned (placed [] (to_who_answered ∷ before_going_on))) → ⊥ }
 {}
 
 /// Were the server's port at two addresses, the server would see what goes to either, and between the ends the client sends to

@@ -3,6 +3,7 @@
 ghost use Rattle.std.specs.Prelude.{◌≡◌};
 ghost use Rattle.tftp_recording_judge.specs.Points.{points_of};
 
+use crate::loopback::is_loopback;
 use tftp_lines::Transfer;
 
 /// Where the transfers of a recording are judged.
@@ -16,7 +17,8 @@ pub enum Judging {
     Server,
     /// Between the two ends.
     Between,
-    /// At both ends where the client asks at its own host, since both were recorded then; else between the ends.
+    /// At both ends where the client asks at its own address, since both were recorded then if the recording was made at that
+    /// host. And between the ends, unless what passed never left the host.
     WhereRecorded,
 }
 
@@ -59,10 +61,11 @@ impl Judging {
             },
             Judging::WhereRecorded => {
                 let is_own_host = transfer.client.address == transfer.asked.address;
+                let is_inside = is_own_host && is_loopback(&transfer.client.address);
                 Points {
                     client: is_own_host,
                     server: is_own_host,
-                    between: !is_own_host,
+                    between: !is_inside,
                 }
             }
         }

@@ -1,2 +1,3 @@
 mod Accusing
-pub mod Telling
+mod Placing
+pub mod AllTold

@@ -3,7 +3,9 @@ use Rattle.std.specs.Prelude.{◌&&◌, ◌||◌, Bool, false, List, [], map, Op
 use Rattle.tftp_packet.specs.{End, Client, Server}
 use Rattle.tftp_lines.specs.{Endpoint, Placed, Recorded, Transfer, same_address, same_endpoint}
 use Rattle.tftp_transfers.specs.{has_host, has_port, placed, server_of}
+use Rattle.tftp_verdict_rows.specs.Told.{is_refused, telling_depends}
 use Rattle.tftp_verdict_rows.specs.declared.accused.Accused.{Accused}
+use Rattle.tftp_verdict_rows.specs.declared.telling.Telling.{Telling}
 
 -- It has the port of the endpoint with which the client went on, or else of the first that answered, and is at that host or
 -- at the one that was asked, which may have several addresses.
@@ -24,6 +26,11 @@ abbrev pub accused_of : Transfer → List Placed → Placed → Bool → Option 
 accused_of x whole p doubtful =
     if doubtful then None
     else option_map (λ role. record { role = role; end = p.datagram.source }) (role_at x whole p.datagram.source)
+
+-- Whom a row accuses: nobody where it tells no refusal, or one that depends on the place.
+abbrev pub accused_in_row : Transfer → List Placed → Placed → Telling → Bool → Option Accused
+accused_in_row x whole p told doubtful =
+    if is_refused told.said then accused_of x whole p (telling_depends told || doubtful) else None
 
 -- ---- worked
 

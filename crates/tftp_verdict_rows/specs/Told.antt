@@ -1,6 +1,8 @@
 -- Which verdicts are told of a transfer, by the points at which it was judged.
-use Rattle.std.specs.Prelude.{◌≡◌, ◌≢◌, ◌⊎◌, ◌&&◌, ℕ, Bool, true, false, List, [], ◌∷◌, ◌++◌, Option, Some, None, IsSome, is_some, option_to_list, Result, Ok, Err, if◌then◌else◌}
+use Rattle.std.specs.Prelude.{◌≡◌, ◌≢◌, ◌⊎◌, ◌&&◌, ◌||◌, ◌==◌, not, ℕ, Bool, true, false, List, [], ◌∷◌, ◌++◌, Option, Some, None, IsSome, is_some, option_to_list, Result, Ok, Err, if◌then◌else◌}
 use Rattle.tftp_model.specs.{Meaning}
+use Rattle.tftp_rules.specs.{BadAnswer}
+use Rattle.tftp_law.specs.{Port}
 use Rattle.tftp_judge.specs.{Refusal}
 use Rattle.tftp_judge.specs.declared.refusal.Refusal.TheVariants as refusal
 use Rattle.tftp_tap_judge.specs.{TapRefusal}
@@ -10,6 +12,7 @@ use Rattle.tftp_verdict_rows.specs.declared.said.Said.TheVariants.{Accepted, Ref
 use Rattle.tftp_verdict_rows.specs.declared.row.Row.{Row}
 use Rattle.tftp_verdict_rows.specs.declared.row.Rows.{Rows}
 use Rattle.tftp_verdict_rows.specs.declared.row.Place.TheVariants as places
+use Rattle.tftp_verdict_rows.specs.declared.telling.Telling.{Telling}
 use Rattle.tftp_verdict_rows.specs.declared.row.Point.{Point}
 use Rattle.tftp_verdict_rows.specs.declared.row.Point.TheVariants.{Client, Server, Between}
 
@@ -40,6 +43,44 @@ status_of (Refused rule frame) = 1
 status_of NotWhole = 1
 status_of Memory = 2
 
+-- ---- what depends on the place
+
+-- A recording of two ends with one address may have been made at their host or between them. Then a transfer is judged at both
+-- ends and between: what an end alone sees, the order in which it sends and what does not come to it, is refused at an end and
+-- not between.
+
+abbrev pub refused_frame : Said → Option ℕ
+refused_frame (Refused rule frame) = frame
+refused_frame _ = None
+
+abbrev pub same_frame : Option ℕ → Option ℕ → Bool
+same_frame (Some one) (Some other) = one == other
+same_frame _ _ = false
+
+-- Between the ends a wrong answer to a stray may be a right one: its client may have asked again, by a request that did not pass
+-- there (RFC 1350, section 4).
+abbrev pub may_be_asked : Said → Bool
+may_be_asked (Refused (Port BadAnswer) frame) = true
+may_be_asked _ = false
+
+-- what is said between refuses the same datagram, and without that doubt
+abbrev pub is_refused_too : Said → Said → Bool
+is_refused_too said between = same_frame (refused_frame said) (refused_frame between) && not (may_be_asked between)
+
+-- What is refused at an end depends on the place, if the transfer was judged between the ends too and it is not refused there.
+abbrev pub depends_on_place : Option Said → Option Said → Bool
+depends_on_place (Some said) (Some between) = is_refused said && not (is_refused_too said between)
+depends_on_place _ _ = false
+
+abbrev pub is_at_end : Point → Bool
+is_at_end Client = true
+is_at_end Server = true
+is_at_end Between = false
+
+-- so does what a row of an end tells
+abbrev pub telling_depends : Telling → Bool
+telling_depends t = is_at_end t.point && depends_on_place (Some t.said) t.between
+
 -- ---- the rows
 
 -- the rows, in their order
@@ -65,9 +106,18 @@ abbrev pub ends_told : Option Said → Option Said → Bool → List Row
 ends_told client server alike =
     if is_some client && (is_some server && alike) then both_row ∷ [] else row_of Client client ++ row_of Server server
 
--- And what was judged between them has one.
+-- What is said between the ends is told at the ends: both were judged, and no refusal of theirs depends on the place. What is
+-- lawful at the client is lawful between, if it asked at port 69 or at one that was named.
+abbrev pub is_told_at_ends : Option Said → Option Said → Option Said → Bool
+is_told_at_ends client server between =
+    is_some client && (is_some server && not (depends_on_place client between || depends_on_place server between))
+
+-- And what was judged between them has a row, unless it is told there.
+abbrev pub between_told : Option Said → Option Said → Option Said → List Row
+between_told client server between = if is_told_at_ends client server between then [] else row_of Between between
+
 abbrev pub rows_told : Option Said → Option Said → Option Said → Bool → List Row
-rows_told client server between alike = ends_told client server alike ++ row_of Between between
+rows_told client server between alike = ends_told client server alike ++ between_told client server between
 
 -- ---- that all is told
 

@@ -1,8 +1,9 @@
 ghost use Rattle.std.specs.Prelude.{◌≡◌, List};
 ghost use Rattle.tftp_lines.specs.{Placed};
 ghost use Rattle.tftp_transfers.specs.{AreEndsAfter};
-ghost use Rattle.tftp_verdict_rows.specs.Accusing.{accused_of, is_servers, role_at};
+ghost use Rattle.tftp_verdict_rows.specs.Accusing.{accused_in_row, accused_of, is_servers, role_at};
 
+use crate::telling::Telling;
 use tftp_lines::{Endpoint, Transfer};
 use tftp_packet::End;
 use tftp_transfers::TransferEnds;
@@ -45,9 +46,32 @@ fn is_servers(transfer: &Transfer, ends: &TransferEnds, end: Endpoint) -> bool
     }
 }
 
+/// Whom a row accuses that tells the refusal of a datagram from this endpoint; nobody where it tells none, where the refusal is
+/// doubtful or depends on the place, or where a stranger sent the datagram.
+pub fn accused_in_row(
+    told: &Telling,
+    transfer: &Transfer,
+    ends: &TransferEnds,
+    source: Endpoint,
+    is_doubtful: bool,
+) -> Option<Accused>
+    ensures { (whole : List Placed) (p : Placed) → AreEndsAfter ends.now whole → ends.now.number ≡ transfer.now.number
+        → p.datagram.source ≡ source → result ≡ accused_in_row transfer.now whole p told.now is_doubtful }
+{
+    if !told.said.is_refused() {
+        return None;
+    }
+    accused_by(
+        transfer,
+        ends,
+        source,
+        told.depends_on_place() || is_doubtful,
+    )
+}
+
 /// Whom the refusal of a datagram accuses that came from this endpoint; none where the refusal is doubtful, or where a
 /// stranger sent it.
-pub fn accused_by(
+fn accused_by(
     transfer: &Transfer,
     ends: &TransferEnds,
     source: Endpoint,

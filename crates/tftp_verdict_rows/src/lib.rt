@@ -5,7 +5,9 @@ mod accused;
 pub mod laws;
 mod row;
 mod said;
+mod telling;
 
-pub use accused::{Accused, accused_by, role_at};
+pub use accused::{Accused, accused_in_row, role_at};
 pub use row::{Place, Point, Row, Rows, rows_told};
 pub use said::Said;
+pub use telling::Telling;

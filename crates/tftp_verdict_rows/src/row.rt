@@ -1,7 +1,8 @@
 ghost use Rattle.std.specs.Prelude.{◌≡◌, ◌++◌, option_map, option_to_list};
-ghost use Rattle.tftp_verdict_rows.specs.Told.{both_row, ends_told, plain_row, row_of, rows_of, rows_told};
+ghost use Rattle.tftp_verdict_rows.specs.Told.{between_told, both_row, ends_told, is_told_at_ends, plain_row, row_of, rows_of, rows_told};
 
 use crate::said::Said;
+use crate::telling::depends_on_place;
 
 /// Where a transfer was recorded.
 #[derive(Clone, Copy, Debug, PartialEq, Eq)]
@@ -48,7 +49,8 @@ pub struct Rows {
 }
 
 /// Which verdicts are told: that of each point at which the transfer was judged, in a row of its own; of both ends in one, if
-/// both were judged and are told alike.
+/// both were judged and are told alike. What is said between the ends has none where both ends were judged, unless a refusal of
+/// theirs depends on the place.
 pub fn rows_told(
     client: Option<&Said>,
     server: Option<&Said>,
@@ -57,7 +59,7 @@ pub fn rows_told(
 ) -> Rows
     ensures { rows_of result ≡ rows_told (option_map (λ s. s.now) client.entry) (option_map (λ s. s.now) server.entry) (option_map (λ s. s.now) between.entry) are_alike }
 {
-    let between = told_at(Point::Between, between);
+    let between = between_told(client, server, between);
     if client.is_some() && server.is_some() && are_alike {
         return Rows {
             client: Some(Row::of_both()),
@@ -70,6 +72,24 @@ pub fn rows_told(
         server: told_at(Point::Server, server),
         between,
     }
+}
+
+/// The row of what is said between the ends, unless it is told at the ends.
+fn between_told(client: Option<&Said>, server: Option<&Said>, between: Option<&Said>) -> Option<Row>
+    ensures { option_to_list result ≡ between_told (option_map (λ s. s.now) client.entry) (option_map (λ s. s.now) server.entry) (option_map (λ s. s.now) between.entry) }
+{
+    if is_told_at_ends(client, server, between) {
+        return None;
+    }
+    told_at(Point::Between, between)
+}
+
+/// Whether what is said between the ends is told at the ends: both were judged, and no refusal of theirs depends on the place.
+fn is_told_at_ends(client: Option<&Said>, server: Option<&Said>, between: Option<&Said>) -> bool
+    ensures { result ≡ is_told_at_ends (option_map (λ s. s.now) client.entry) (option_map (λ s. s.now) server.entry) (option_map (λ s. s.now) between.entry) }
+{
+    let depends = depends_on_place(client, between) || depends_on_place(server, between);
+    client.is_some() && server.is_some() && !depends
 }
 
 /// The row of a point, if the transfer was judged there.

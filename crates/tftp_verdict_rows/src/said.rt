@@ -1,7 +1,8 @@
 ghost use Rattle.std.specs.Prelude.{◌≡◌, Option, Result};
-ghost use Rattle.tftp_verdict_rows.specs.Told.{is_refused, said_between, said_of, status_of};
+ghost use Rattle.tftp_verdict_rows.specs.Told.{is_refused, may_be_asked, refused_frame, said_between, said_of, status_of};
 
 use tftp_judge::{Meaning, Refusal, Rule};
+use tftp_rules::PortRule;
 use tftp_tap_judge::TapRefusal;
 
 /// What is said of a transfer at one of the points where it was judged.
@@ -52,6 +53,26 @@ impl Said {
         ensures { result ≡ is_refused self.now }
     {
         matches!(self, Said::Refused(_, _))
+    }
+
+    /// The frame of the datagram that is refused.
+    pub fn refused_frame(&self) -> Option<u64>
+        ensures { result ≡ refused_frame self.now }
+    {
+        match self {
+            Said::Refused(_, frame) => *frame,
+            Said::Accepted => None,
+            Said::NotWhole => None,
+            Said::Memory => None,
+        }
+    }
+
+    /// Whether, where it is said between the ends, a request that did not pass there may explain what is refused: then it is the
+    /// answer to what looks like a stray (RFC 1350, section 4).
+    pub fn may_be_asked(&self) -> bool
+        ensures { result ≡ may_be_asked self.now }
+    {
+        matches!(self, Said::Refused(Rule::Port(PortRule::BadAnswer), _))
     }
 
     /// The exit status that a program has which says it: 0 where it is accepted, 2 where memory was wanting, and else 1.

@@ -1,5 +1,12 @@
-use Rattle.tftp_verdict_rows.proofs.Telling.{told}
+use Rattle.tftp_verdict_rows.proofs.Placing.{refused_there}
+use Rattle.tftp_verdict_rows.proofs.AllTold.{told_at_end, told_between}
 use Rattle.tftp_verdict_rows.proofs.laws.what_is_judged_is_told.Goals as goal
 
-pub returns : goal.returns
-returns c = told
+pub returns-clause-ends : goal.returns-clause-ends
+returns-clause-ends c = told_at_end
+
+pub returns-clause-between : goal.returns-clause-between
+returns-clause-between c = told_between
+
+pub returns-clause-at_ends : goal.returns-clause-at_ends
+returns-clause-at_ends c = refused_there
