@@ -36,7 +36,7 @@ abbrev pub learned : Endpoint
 learned = record { address = service.address; port = 6969 }
 
 abbrev pub asked_at_learned : Transfer
-asked_at_learned = record { number = 0; client = client; asked = learned }
+asked_at_learned = record { number = 0; client = client; asked = learned; writes = false; has_window = false }
 
 -- A client asks there, and again once that endpoint has asked for a file itself, and so is a client: what comes to a client is
 -- a request at a service port only. It is answered from another port.
