@@ -99,7 +99,7 @@ class Recorder:
         hosts = sorted({it.source.host for it in recording.datagrams})
         # The host that recorded, or between one of all.
         self.leaving = (recording.host or self.drawn.choice(hosts)) if "offload" in kinds else None
-        self.is_header_left = self.drawn.random() < 0.3
+        self.is_header_left = self.leaving is not None and self.drawn.random() < 0.3
 
     def often(self, kind: str, chance: float) -> bool:
         return kind in self.kinds and self.drawn.random() < chance

@@ -1,5 +1,5 @@
 -- A reader of a recording stands for its history with the frame that it read.
-use Rattle.std.proofs.Common.{◌≡◌, ◌⊎◌, ℕ, ◌+◌, Bool, true, MatchBool, List, [], ◌∷◌, ◌++◌, length, map, Option, Some, None, Result, Ok, Err, refl, sym, ap, ◌∙◌, subst, append-nil}
+use Rattle.std.proofs.Common.{◌≡◌, ◌⊎◌, ℕ, ◌+◌, Bool, true, false, MatchBool, List, [], ◌∷◌, ◌++◌, length, map, Option, Some, None, Result, Ok, Err, refl, sym, ap, ◌∙◌, subst, append-nil}
 use Rattle.std.proofs.KnownBytes.{Consumes-nil}
 use Rattle.std.proofs.lemmas.List.{length-map, length-reverse, reverse-append}
 use Rattle.std.specs.Io.KnownBytes.{prepend_known}
@@ -9,7 +9,7 @@ use Rattle.tftp_fragments.specs.{Sets}
 use Rattle.tftp_pcap.specs.{FrameParts, FrameState, ReaderState, StandingTells, Memory, PcapFault}
 use Rattle.tftp_streams.specs.{KeepsAnswer, Open, Standing}
 use Rattle.tftp_pcap.specs.History as pcap
-use Rattle.tftp_recording.specs.{IsDiscarded, IsSentOf, Knows, Makers, Sent, Takes, Continues, EventState, RecordingState, RefusedTells, StandsFor, Step, WantsNext, WantsToKnow, frames_of, packets_of, sent_in, waiting, Comes, is_copy, Likeness}
+use Rattle.tftp_recording.specs.{IsDiscarded, IsHistory, IsSentOf, Knows, Makers, Sent, Takes, Continues, EventState, RecordingState, RefusedTells, StandsFor, Step, WantsNext, WantsToKnow, frames_of, packets_of, sent_in, waiting, Comes, is_copy, Likeness}
 
 -- the frame comes, and the packets that are held are the last ones with its own
 abbrev pub Coming : RecentState → FrameParts → Likeness → RecentState → Type 0
@@ -76,6 +76,24 @@ continued_from old new before after event bytes history going still continues ke
       stands = ((took, stands.0, held.1, sent, discards (sent_in history) tells.3), tells_open new.refused new (bytes ++ more.taken) (step ∷ history) still (gave, refl, held.2, knows (sent_in history) tells.3));
     }
 
+-- no frame was read, and all else stays
+no_step : (new : RecordingState) (before after : Option (List ℕ)) (result : Result Bool PcapFault) (gave : FrameState) (event : EventState) (bytes : List ℕ) (history : List Step) → (result ≡ Ok true → ⊥) → IsHistory history → new.refused ≡ None
+    → pcap.Continues new.frames before after result gave.parts bytes (frames_of history)
+    → (new.waiting ≡ waiting history) × copies.StandsFor new.recent (packets_of history) × Knows new.senders (sent_in history) → Continues new before after result event bytes history
+no_step new before after (Ok true) gave event bytes history none became going more tells = absurd (none refl)
+no_step new before after (Ok false) gave event bytes history none became going more tells = record {
+  taken = more.taken;
+  came = [];
+  consumed = more.consumed;
+  stands = (became, tells_open new.refused new (bytes ++ more.taken) history going (more.stands, tells.0, tells.1, tells.2));
+}
+no_step new before after (Err fault) gave event bytes history none became going more tells = record {
+  taken = more.taken;
+  came = [];
+  consumed = more.consumed;
+  stands = (became, tells_open new.refused new (bytes ++ more.taken) history going (more.stands, tells.0, tells.1, tells.2));
+}
+
 -- the same of the reader as its caller sees it, and of the frame as it was read and taken
 pub continued : (entry old new : RecordingState) (rest after : Option (List ℕ)) (result : Result Bool PcapFault) (gave : FrameState) (event : EventState) (bytes : List ℕ) (history : List Step) → old ≡ entry
     → old.refused ≡ None → new.refused ≡ None → result ≡ Ok true → event.frame ≡ gave
@@ -96,6 +114,20 @@ continued entry old new rest after result gave event bytes history is going stil
     (subst (λ (x : FrameState). Takes (is_copy event.likeness) old.waiting x.parts x.number event.brought new.waiting) (sym same_frame) takes)
     (subst (λ (x : FrameState). IsSentOf x.parts event.likeness event.brought.outcome event.sent) (sym same_frame) sent) discards knows
     stands)
+
+-- the same where no frame was read
+pub passed_on : (entry old : RecordingState) (frames : ReaderState) (rest after : Option (List ℕ)) (given result : Result Bool PcapFault) (gave : FrameState) (event : EventState) (bytes : List ℕ) (history : List Step) → old ≡ entry
+    → old.refused ≡ None → given ≡ result → (result ≡ Ok true → ⊥)
+    → ((bytes : List ℕ) (before : List FrameParts) → pcap.StandsFor old.frames bytes before → pcap.Continues frames (prepend_known old.frames.pieces.ahead rest) after given gave.parts bytes before)
+    → StandsFor entry bytes history
+    → Continues (record { frames = frames; recent = old.recent; waiting = old.waiting; senders = old.senders; refused = old.refused }) (prepend_known entry.frames.pieces.ahead rest) after result event bytes history
+passed_on entry old frames rest after given result gave event bytes history is going same none continues =
+    let new : RecordingState = record { frames = frames; recent = old.recent; waiting = old.waiting; senders = old.senders; refused = old.refused } in
+    subst (λ (r : RecordingState). StandsFor r bytes history → Continues new (prepend_known r.frames.pieces.ahead rest) after result event bytes history) is
+    (λ stands.
+    let tells = open_tells old.refused old bytes history going stands.1 in
+    no_step new (prepend_known old.frames.pieces.ahead rest) after result gave event bytes history none stands.0 going
+    (subst (λ (r : Result Bool PcapFault). pcap.Continues frames (prepend_known old.frames.pieces.ahead rest) after r gave.parts bytes (frames_of history)) same (continues bytes (frames_of history) tells.0)) (tells.1, tells.2, tells.3))
 
 -- a reader that was refused memory for the frame that was read
 pub refused_for : (entry old new : RecordingState) (rest after : Option (List ℕ)) (result : Result Bool PcapFault) (gave : FrameState) (event : EventState) (fault : PcapFault) (bytes : List ℕ) (history : List Step) → old ≡ entry

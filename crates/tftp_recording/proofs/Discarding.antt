@@ -1,5 +1,5 @@
 -- What is known of who makes the checksums of hosts, with each frame that tells it.
-use Rattle.std.proofs.Common.{◌≡◌, ◌≢◌, ◌⊎◌, Bool, true, false, inl, inr, List, ◌∷◌, Option, Some, None, refl, sym, ap, ◌∙◌, subst, MatchBool}
+use Rattle.std.proofs.Common.{◌≡◌, ◌≢◌, Bool, true, false, inl, inr, List, ◌∷◌, Option, Some, None, refl, sym, ap, ◌∙◌, subst, MatchBool}
 use Rattle.std.proofs.lemmas.Bool.{cases_Bool, false≢true}
 use Rattle.std.proofs.lemmas.Cmp.{tied_itself}
 use Rattle.std.proofs.lemmas.Map.Lookups.{exact_bytes}
@@ -12,7 +12,7 @@ use Rattle.tftp_fragments.specs.Key.{address_cmp}
 use Rattle.tftp_fragments.specs.KeyOrder.{address_total}
 use Rattle.tftp_frames.specs.{Absent, Partial, Right, Wrong}
 use Rattle.tftp_frames.specs.declared.checksum.Checksum.{Checksum}
-use Rattle.tftp_recording.specs.{HasSent, IsDiscarded, IsKnown, IsUnknown, Knows, Makers, discarded_by, learned, maker_of, same_host, Maker, Sent}
+use Rattle.tftp_recording.specs.{IsDiscarded, IsKnown, IsUnknown, Knows, Makers, discarded_by, learned, maker_of, same_host, Maker, Sent}
 use Rattle.tftp_recording.specs.declared.senders.Maker.TheVariants.{Host, Card}
 
 -- ---- addresses that nothing tells apart are one
@@ -35,7 +35,7 @@ other_one a b other same = false≢true (sym other ∙ ap (λ (x : IpAddr). same
 
 -- ---- what a frame tells
 
-tells : (sent : Option Sent) (host : IpAddr) (checksum : Checksum) → Type 0
+abbrev tells : Option Sent → IpAddr → Checksum → Type 0
 tells sent host checksum = sent ≡ Some (record { host = host; checksum = checksum })
 
 -- nothing of the host that makes a difference

@@ -1,5 +1,5 @@
 -- What becomes of a frame is one thing.
-use Rattle.std.proofs.Common.{◌≡◌, ℕ, Bool, true, false, inl, inr, List, ◌∷◌, Option, Some, None, refl, sym, ap, ◌∙◌, subst}
+use Rattle.std.proofs.Common.{◌≡◌, Bool, true, false, inl, inr, List, ◌∷◌, Option, Some, None, refl, sym, ap, ◌∙◌, subst}
 use Rattle.std.proofs.lemmas.Bool.{false≢true}
 use Rattle.tftp_copies.specs.{Packet as Recorded}
 use Rattle.tftp_fragments.specs.{content_of as put_together, Outcome, Waits as Held, Apart as Torn, Empty as Bare, TooLong as Long, Full as Crowded}
@@ -159,9 +159,9 @@ fate_of_one frame likeness.Copy o m b fate same is g h = both_left Copy fate sam
 
 sent_by_one : (frame : FrameParts) (whole : Option Content) (s t : Option Sent) → IsSentBy frame whole s → IsSentBy frame whole t → s ≡ t
 sent_by_one frame whole None None g h = refl
-sent_by_one frame whole None (Some t) g (p, udp, has, rest) = absurd (g p udp has)
-sent_by_one frame whole (Some s) None (p, udp, has, rest) h = absurd (h p udp has)
-sent_by_one frame whole (Some s) (Some t) (p, udp, (spells, (bytes, has, long, sized, ports)), host, checksum) (q, other, (spelled, others), other_host, other_checksum) =
+sent_by_one frame whole None (Some t) g (p, udp, has, host, checksum) = absurd (g p udp has)
+sent_by_one frame whole (Some s) None (p, udp, has, host, checksum) h = absurd (h p udp has)
+sent_by_one frame whole (Some s) (Some t) (p, udp, (spells, (bytes, has, long, sized, source, target, parts)), host, checksum) (q, other, (spelled, others), other_host, other_checksum) =
     let e : s.host ≡ t.host = host ∙ ap (λ (x : Packet). x.source) (packet_one frame.link frame.bytes p q spells spelled) ∙ sym other_host in
     let f : s.checksum ≡ t.checksum = checksum p bytes spells has sized ∙ sym (other_checksum p bytes spells has sized) in
     λ i. Some (record { host = e i; checksum = f i })

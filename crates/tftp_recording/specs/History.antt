@@ -10,7 +10,7 @@ use Rattle.tftp_pcap.specs.History as pcap
 use Rattle.tftp_recording.specs.Brought.{BroughtState, Takes, Wants}
 use Rattle.tftp_recording.specs.Alike.{Comes, WantsToHold, is_copy}
 use Rattle.tftp_recording.specs.Checked.{IsSentOf}
-use Rattle.tftp_recording.specs.Discarded.{IsDiscarded}
+use Rattle.tftp_recording.specs.Discards.{IsDiscarded}
 use Rattle.tftp_recording.specs.Senders.{Knows, Makers, WantsToKnow}
 use Rattle.tftp_recording.specs.declared.likeness.Likeness.{Likeness}
 use Rattle.tftp_recording.specs.declared.sent.Sent.{Sent}

@@ -2,7 +2,7 @@ pub mod Alike
 pub mod Brought
 pub mod Fates
 pub mod Checked
-pub mod Discarded
+pub mod Discards
 pub mod Senders
 pub mod History
 pub mod Accounts
@@ -13,7 +13,7 @@ pub use Alike.{Comes, IsLike, WantsToHold, interface_of, is_copy, likeness_by, r
 pub use Brought.{BroughtState, DoesNothing, IsNoPart, IsPart, LetsGoOld, MakesRoom, Takes, TakesPart, Wants, WantsPart, arrival_of, key_of, key_protocol, nothing_brought}
 pub use Fates.{HasFault, IsDatagram, IsFate, IsFateBy, IsFateOf, Says, content_of, direction_of, sharers}
 pub use Checked.{HasDatagram, IsChecksum, IsSent, IsSentBy, IsSentOf, checksum_told}
-pub use Discarded.{HasSent, IsDiscarded}
+pub use Discards.{HasSent, IsDiscarded}
 pub use Senders.{IsKnown, IsUnknown, Knows, Makers, WantsToKnow, discarded_by, learned, maker_of, same_host}
 pub use History.{Continues, EventState, IsHistory, RecordingState, RefusedTells, StandsFor, Step, WantsNext, frames_of, packets_of, sent_in, standing_of, waiting, with_step}
 pub use Accounts.{IsIn, IsSettled, IsTold, IsWaiting, NoneTwice, ToldOneWay, WaitsAt}

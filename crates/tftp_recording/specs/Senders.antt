@@ -9,7 +9,7 @@ use Rattle.tftp_frames.specs.{Absent, Partial, Right, Wrong}
 use Rattle.tftp_frames.specs.declared.checksum.Checksum.{Checksum}
 use Rattle.tftp_pcap.specs.{FrameParts}
 use Rattle.tftp_recording.specs.Checked.{IsSentOf}
-use Rattle.tftp_recording.specs.Discarded.{HasSent}
+use Rattle.tftp_recording.specs.Discards.{HasSent}
 use Rattle.tftp_recording.specs.declared.likeness.Likeness.{Likeness}
 use Rattle.tftp_recording.specs.declared.senders.Maker.{Maker}
 use Rattle.tftp_recording.specs.declared.senders.Maker.TheVariants.{Host, Card}

@@ -199,8 +199,8 @@ impl Event {
 /// What became of a frame, by whether its host discarded its datagram, and what became of it else.
 #[inline]
 fn left_by(is_discarded: bool, fate: Fate<'_>) -> Fate<'_>
-    ensures is { (frame : FrameParts) (outcome : Option Became) → IsFate frame outcome fate → IsFateBy is_discarded frame outcome result }
-    ensures sound { IsSoundFate fate → IsSoundFate result }
+    ensures is { (frame : FrameParts) (outcome : Option Became) → IsFate frame outcome fate.entry → IsFateBy is_discarded frame outcome result }
+    ensures sound { IsSoundFate fate.entry → IsSoundFate result }
 {
     match fate {
         Fate::Datagram(datagram) if is_discarded => Fate::Discarded(datagram),

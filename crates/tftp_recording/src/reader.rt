@@ -91,10 +91,16 @@ impl RecordingReader {
         }
         match self.frames.next_into(reader, &mut event.frame) {
             Ok(true) => {}
-            answer => return answer,
+            Ok(false) => return Ok(false),
+            Err(fault) => return Err(fault),
         }
-        let (recent, waiting) = (&mut self.recent, &mut self.waiting);
-        match take_event(alloc, recent, waiting, &mut self.senders, event) {
+        match take_event(
+            alloc,
+            &mut self.recent,
+            &mut self.waiting,
+            &mut self.senders,
+            event,
+        ) {
             Ok(()) => Ok(true),
             Err(_) => {
                 let fault = PcapFault {

@@ -1,5 +1,5 @@
 ghost use Rattle.std.specs.Prelude.{◌≡◌, ◌∷◌, List, [], Option, MatchBool, OnOk, OnErr};
-ghost use Rattle.tftp_recording.specs.Discarded.{IsDiscarded};
+ghost use Rattle.tftp_recording.specs.Discards.{IsDiscarded};
 ghost use Rattle.tftp_recording.specs.Senders.{discarded_by, IsUnknown, Knows, learned, maker_of};
 ghost use Rattle.tftp_recording.specs.declared.sent.Sent.{Sent};
 

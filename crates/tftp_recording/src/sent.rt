@@ -20,11 +20,7 @@ pub(crate) struct Sent {
 
 /// What a frame tells of who sent its datagram; nothing where it is none, or a copy.
 #[inline]
-pub(crate) fn sent_of(
-    frame: &Frame,
-    likeness: Likeness,
-    outcome: &Option<Outcome>,
-) -> Option<Sent>
+pub(crate) fn sent_of(frame: &Frame, likeness: Likeness, outcome: &Option<Outcome>) -> Option<Sent>
     ensures { IsSentOf frame.now.parts likeness outcome.now result }
 {
     match likeness {

@@ -3,7 +3,7 @@ ghost use Rattle.tftp_copies.specs.{Packet as Recorded, StandsFor};
 ghost use Rattle.tftp_recording.specs.Alike.{Comes, is_copy};
 ghost use Rattle.tftp_recording.specs.Brought.{Takes};
 ghost use Rattle.tftp_recording.specs.Checked.{IsSentOf};
-ghost use Rattle.tftp_recording.specs.Discarded.{IsDiscarded};
+ghost use Rattle.tftp_recording.specs.Discards.{IsDiscarded};
 ghost use Rattle.tftp_recording.specs.History.{WantsNext};
 ghost use Rattle.tftp_recording.specs.Senders.{Knows, WantsToKnow};
 ghost use Rattle.tftp_recording.specs.declared.sent.Sent.{Sent};

@@ -1,8 +1,8 @@
-use Rattle.std.proofs.Common.{Err, refl, sym, ap, ◌∙◌, take}
+use Rattle.std.proofs.Common.{refl, sym, ap, ◌∙◌, take}
 use Rattle.std.specs.Option.{option_map}
 use Rattle.tftp_fragments.specs.{content_of as put_together}
 use Rattle.tftp_frames.specs.{Packet, checksum_of, datagram, pair, shown}
-use Rattle.tftp_recording.proofs.Bringing.{has_udp_here, has_udp_of, not_read, packet_read, spells_here, spells_udp_here}
+use Rattle.tftp_recording.proofs.Bringing.{has_udp_here, has_udp_of, no_udp_read, not_read, packet_read, spells_here, spells_udp_here, spells_udp_of}
 use Rattle.tftp_recording.proofs.sent.sent_by.Goals as goal
 
 pub returns-in_default : goal.returns-in_default
@@ -23,3 +23,9 @@ returns-in-Ok-read_udp c = (
       let here = has_udp_here _ _ _ _ bytes c.content_of-protocol.ensures.protocol c.content_of-protocol.ensures.bytes own in
       c.checksum.ensures bytes here sized ∙ ap (λ (x : Packet). checksum_of x (take (pair bytes 4) bytes)) same,
 )
+
+pub returns-in-Err : goal.returns-in-Err
+returns-in-Err c = λ p udp has.
+    let same = packet_read c.read_frame.result p c.in-Ok.packet c.in-Ok.is (c.read_frame.ensures.only p (spells_here _ _ _ _ p c.link.ensures c.bytes.ensures has.0)) in
+    let own = spells_udp_of p (shown c.in-Ok.packet) (option_map (λ content. put_together content.now) c.args.whole) udp same has.1 in
+    no_udp_read c.read_udp.result udp c.in-Err.field-0 c.in-Err.is (c.read_udp.ensures.only udp (spells_udp_here _ _ _ _ udp (sym c.content_of-protocol.ensures.protocol) (sym c.content_of-protocol.ensures.bytes) own))
