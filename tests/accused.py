@@ -145,7 +145,7 @@ CASES = (
         ("- accepted .*",), told=f".*: 1 datagram {DISCARDED}\n",
     ),
     Case(
-        "sums-left-but-for-a-fragmented-block", "a server leaves checksums to its network card, but for two in fragments",
+        "sums-left-but-for-a-fragmented-block", "a server leaves sums to its network card, but of what is in fragments",
         ("- accepted get octet blocks 3 bytes 4099",), told="",
     ),
     Case(
@@ -158,7 +158,8 @@ CASES = (
     ),
     Case(
         "a-refusal-after-a-discarded-request", "a host discards a request, which is sent again, and the same",
-        ("- accepted .*", f"- doubtful refused datagram 3 {AHEAD}: .*{FOR_ITS_SUM}"), told=f".*: 1 datagram {DISCARDED}\n",
+        ("- accepted .*", f"- doubtful refused datagram 3 {AHEAD}: .*{FOR_ITS_SUM}"),
+        told=f".*: 1 datagram {DISCARDED}\n",
     ),
     Case(
         "repeated-data-at-the-server", "toybox acknowledges a block of a write that came twice by the next block's ACK",

@@ -150,11 +150,11 @@ class Maker:
 
     def packet(
         self, it: Datagram, content: bytes, protocol: int = recorded.UDP, part: Fragment | None = None,
-        sum: int | None = None,
+        header_sum: int | None = None,
     ) -> bytes:
         if it.version == 4:
             options = bytes(4 * self.chance.choice((0, 0, 1, 10)))
-            return recorded.ipv4(it, content, protocol, part, options, sum=sum)
+            return recorded.ipv4(it, content, protocol, part, options, header_sum=header_sum)
         every = (recorded.HOP_BY_HOP, recorded.ROUTING, recorded.DESTINATION)
         kinds = self.chance.choice(((), (), (recorded.HOP_BY_HOP,), every))
         return recorded.ipv6(it, content, protocol, part, kinds)
@@ -179,11 +179,11 @@ class Maker:
         kind, told = self.summed(it)
         surplus = self.chance.randbytes(self.chance.choice((0, 0, 0, 4)))
         # The header of IPv4 has a checksum of its own: the right one, one of no packet here, or 0.
-        sum = self.chance.choice((None, None, None, None, 0x1357, *(0 for _ in self.left)))
-        frame = self.frame(self.packet(it, recorded.udp(it, surplus=surplus, kind=kind), sum=sum))
+        header_sum = self.chance.choice((None, None, None, None, 0x1357, *(0 for _ in self.left)))
+        frame = self.frame(self.packet(it, recorded.udp(it, surplus=surplus, kind=kind), header_sum=header_sum))
         frame.sum = told
-        if it.version == 4 and sum is not None:
-            frame.sum = "partial" if sum == 0 or kind == "partial" else "wrong"
+        if it.version == 4 and header_sum is not None:
+            frame.sum = "partial" if header_sum == 0 or kind == "partial" else "wrong"
         return [(frame, it)]
 
     def parted(self) -> list[tuple[Frame, Datagram | None]]:

@@ -96,7 +96,7 @@ def udp(it: Datagram, length: Optional[int] = None, surplus: bytes = b"", kind: 
 
 def ipv4(
     it: Datagram, content: bytes, protocol: int = UDP, part: Optional[Fragment] = None, options: bytes = b"",
-    id: int = 7, sum: Optional[int] = None,
+    id: int = 7, header_sum: Optional[int] = None,
 ) -> bytes:
     """A packet of IPv4, of whole words of options (RFC 791, section 3.1); a part has its own identification. Its
     checksum is the right one, unless another is given."""
@@ -106,7 +106,7 @@ def ipv4(
     size = 4 * head + len(content)
     first = struct.pack("!BBHHHBB", 0x40 | head, 0, size, part.id if part else id, place, 64, protocol)
     rest = b"".join(it.packed()) + options
-    checksum = sum_of(first + bytes(2) + rest) if sum is None else sum
+    checksum = sum_of(first + bytes(2) + rest) if header_sum is None else header_sum
     return first + struct.pack("!H", checksum) + rest + content
 
 
