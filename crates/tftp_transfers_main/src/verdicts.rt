@@ -194,7 +194,7 @@ impl Judged {
                 )?;
                 put_if(
                     reasons,
-                    self.comes_of_earlier(view, blamed),
+                    self.comes_of_earlier(told, blamed),
                     Reason::GoesOver,
                 )?;
                 put_if(reasons, self.is_strangers(blamed), Reason::Stranger)?;
@@ -205,12 +205,14 @@ impl Judged {
         }
     }
 
-    /// Whether it may come of an earlier transfer between the same two: what an end sends itself is not late there.
-    fn comes_of_earlier(&self, view: &Viewed, blamed: &Blamed) -> bool {
+    /// Whether it may come of an earlier transfer between the same two: what an end sends itself is not late there, if it was
+    /// recorded there.
+    fn comes_of_earlier(&self, told: &Told<'_>, blamed: &Blamed) -> bool {
         let is_sent_by_client = blamed.source == self.transfer.client;
-        let comes_in = match view.point {
-            Point::Client => !is_sent_by_client,
-            Point::Server => is_sent_by_client,
+        let is_known = told.telling.between.is_none();
+        let comes_in = match told.view.point {
+            Point::Client => !(is_known && is_sent_by_client),
+            Point::Server => !is_known || is_sent_by_client,
             Point::Between => true,
         };
         comes_in && blamed.comes_of_earlier
