@@ -43,6 +43,10 @@ LOST, CUT = "frame 4 is not there whole", "1 datagram not there whole.*"
 AHEAD = f"rule {Rule.ACK_AHEAD.number} {Rule.ACK_AHEAD.printed}"
 BACK = f"rule {Rule.GONE_BACK.number} {Rule.GONE_BACK.printed}"
 ELSEWHERE = f"rule {Rule.WRONG_PORT.number} {Rule.WRONG_PORT.printed}"
+SKIPPED = f"refused datagram 4 rule {Rule.BLOCK_SKIPPED.number} {Rule.BLOCK_SKIPPED.printed}"
+UNPLACED = f"- doubtful {SKIPPED}: it may have been recorded between its two ends: name the place with --end"
+WRITTEN = "- accepted put octet blocks 3 bytes 1025"
+LATER_AHEAD = f"server 192.0.2.1:41000 refused datagram [0-9]+ {AHEAD}"
 DROPPED = f"- doubtful refused datagram {{}} {AHEAD}: .*the recorder lost {{}}"
 CASES = (
     Case(
@@ -133,6 +137,31 @@ CASES = (
     Case(
         "a-server-that-goes-back-at-once", "a server sends an earlier block again within a millisecond",
         (f"server .* refused datagram [0-9]+ {BACK}",), ("server",), told="",
+    ),
+    Case(
+        "a-block-lost-before-a-router",
+        "a block of a window is lost before a router that writes one address in place of both, and comes again",
+        (UNPLACED, WRITTEN, WRITTEN), ("",), told="",
+    ),
+    Case(
+        "a-block-lost-before-a-router", "the same, where that place is named", (WRITTEN,), ("between",), told="",
+    ),
+    Case(
+        "a-block-skipped-inside-a-host", "the same between two ends at 127.0.0.1, which was recorded at their host",
+        (f"client 127.0.0.1:40000 {SKIPPED}", WRITTEN), ("",), told="",
+    ),
+    Case(
+        "a-block-skipped-inside-a-host-of-ipv6", "the same at ::1", (f"client ::1:40000 {SKIPPED}", WRITTEN), ("",),
+        told="",
+    ),
+    Case(
+        "a-block-lost-before-a-router-and-an-ack-ahead",
+        "the same before the router, but that the server acknowledges too much",
+        (UNPLACED, LATER_AHEAD, LATER_AHEAD), ("",), told="",
+    ),
+    Case(
+        "an-ack-ahead-at-one-address", "a client acknowledges too much, and both ends have one address",
+        (f"client 192.0.2.1:40000 refused datagram 3 {AHEAD}",), told="",
     ),
 )
 

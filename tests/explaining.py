@@ -422,7 +422,8 @@ def try_recordings(trial: Trial, programs: Words, folder: pathlib.Path) -> None:
     begun, gone_back = late[:5], refusal(5, Rule.GONE_BACK)
     again = "Doubtful: its client had asked the same and sent nothing else since: the transfer before goes on"
     at_server, at_client = "out, from port 41000 of the server to", "in, from 192.0.2.1 port 42000 to port 40000 of the"
-    at_one_host = "Accused: the server at 192.0.2.1:41000, which sent the datagram."
+    inside = "Accused: the server at 127.0.0.1:41000, which sent the datagram."
+    unplaced = "Doubtful: it may have been recorded between its two ends: name the place with --end"
     between = "Place: judged between the ends, by what passed there; the datagrams have the numbers that they have"
     has = "Has: blocks 1 to 2 passed; the highest ACK that passed is 1 in datagram 3 (line 10, frame 3)."
     other_port = at_another_port()
@@ -433,7 +434,8 @@ def try_recordings(trial: Trial, programs: Words, folder: pathlib.Path) -> None:
         ("incomplete between", made.file_of(begun), (), "incomplete after 5", (has, "the ACK of the last block, 2.")),
         ("between, named", made.file_of(made.at_one_host(late)), (1, "between"), sound, (between,)),
         ("refused at the end that is named", made.file_of(late), (1, "server"), gone_back, (at_server,)),
-        ("both ends at one host", made.file_of(made.at_one_host(late)), (), gone_back, (at_server, at_one_host)),
+        ("both ends at one address", made.file_of(made.at_one_host(late)), (), gone_back, (at_server, unplaced)),
+        ("both inside a host", made.file_of(made.at_one_host(late, "127.0.0.1")), (), gone_back, (inside,)),
         (
             "a doubt of a transfer", made.file_of(made.asked_again()), (2, "client"),
             refusal(2, Rule.WINDOW_OVERRUN), (at_client, again),

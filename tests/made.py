@@ -55,9 +55,9 @@ def late_block() -> list[Datagram]:
     return [asked, Datagram(*back, first), acked[0], Datagram(*back, last), Datagram(*back, first), acked[1]]
 
 
-def at_one_host(passed: Sequence[Datagram]) -> list[Datagram]:
+def at_one_host(passed: Sequence[Datagram], host: str = S) -> list[Datagram]:
     """The same between two ends at one host."""
-    return [dataclasses.replace(it, source=S, target=S) for it in passed]
+    return [dataclasses.replace(it, source=host, target=host) for it in passed]
 
 
 def asked_again() -> list[Datagram]:

@@ -45,6 +45,7 @@ SOUND = "accepted get octet blocks 1 bytes 2"
 WHOLE = Row(1, "between", None, SOUND)
 ONE_WAY = "nothing that came to its client is there: one direction only"
 LED_ASTRAY = "its client did not go on with who sent it something first"
+UNPLACED = "it may have been recorded between its two ends: name the place with --end"
 AT_CLIENT, AT_SERVER, BETWEEN = ("--end", "client"), ("--end", "server"), ("--end", "between")
 
 
@@ -350,7 +351,12 @@ def try_doubts(trial: Trial, program: str) -> None:
         ("refused at the end that is named", late, AT_SERVER, [Row(1, "server", 5, unsound)], 1),
         ("accepted at the end that is named", late, AT_CLIENT, [Row(1, "client", None, sound)], 0),
         (
-            "both ends at one host", at_one_host(late), (),
+            "both ends at one address", at_one_host(late), (),
+            [Row(1, "client", None, sound), Row(1, "server", 5, unsound, (UNPLACED,)), Row(1, "between", None, sound)],
+            1,
+        ),
+        (
+            "both ends inside one host", at_one_host(late, "127.0.0.1"), (),
             [Row(1, "client", None, sound), Row(1, "server", 5, unsound)], 1,
         ),
         ("one host, between", at_one_host(late), BETWEEN, [Row(1, "between", None, sound)], 0),
@@ -488,6 +494,30 @@ def try_between(trial: Trial, program: str) -> None:
     verdicts = [(row.place, row.verdict) for row in rows]
     two = [("between", "accepted get octet blocks 2 bytes 513"), ("between", "incomplete after 1")]
     trial.check("a request again, late, begins another transfer", verdicts == two, rows)
+
+
+def depends(verdict: str, between: str) -> bool:
+    """Whether what is said at an end is a refusal, and the same datagram is not refused between, or by rule 3, which a
+    request may explain that did not pass."""
+    number, there = verdict.split()[:3], between.split()[:3]
+    return number[0] == "refused" and (number != there or f"rule {Rule.STRAY_ANSWER.number} " in between)
+
+
+def try_one_address(trial: Trial, program: str) -> None:
+    """Where both ends have one address and no place is named, a refusal at an end accuses only if the same datagram is
+    refused between the ends too; where it is not, what is said there has a row. Inside a host each refusal accuses."""
+    for it in (*of_sending(), *of_errors()):
+        at_ends = [("client", it.at_client or it.between), ("server", it.at_server or it.between)]
+        is_both = at_ends[0][1] == at_ends[1][1] and not at_ends[0][1].startswith("aborted")
+        told = [("both", at_ends[0][1])] if is_both else at_ends
+        open_ones = [depends(verdict, it.between) for _, verdict in told]
+        placed = [(*one, one_is_open) for one, one_is_open in zip(told, open_ones)]
+        if any(open_ones):
+            placed.append(("between", it.between, False))
+        for host, wanted in ((S, placed), ("127.0.0.1", [(*one, False) for one in told])):
+            rows, _, _ = checked(program, file_of(at_one_host(it.datagrams, host)))
+            got = [(row.place, row.verdict, UNPLACED in row.doubts) for row in rows]
+            trial.check(f"{it.name}, both ends at {host}", got == wanted, (rows, wanted))
 
 
 def try_accused(trial: Trial, program: str) -> None:
@@ -668,7 +698,7 @@ def main(program: str, *refuse: str) -> int:
     for part in (
         try_examples, try_texts, try_links, try_fragments, try_losses, try_layers, try_sessions, try_live,
         try_splitting, try_doubts, try_accused, try_final, try_dropped, try_between,
-        try_words, try_streams,
+        try_one_address, try_words, try_streams,
     ):
         part(trial, program)
     return trial.end()

@@ -5,6 +5,8 @@ use std::fmt;
 /// Why a refusal is no accusation, or why a transfer that stops early may have gone on.
 #[derive(Clone, Copy, Debug, PartialEq, Eq)]
 pub enum Reason {
+    /// At an end: it may have been recorded between the two, and the datagram is not refused there.
+    Unplaced,
     /// Between the ends: a request that did not pass may explain an answer to a stray (RFC 1350, section 4).
     Unseen,
     /// Times go back within the transfer.
@@ -83,6 +85,9 @@ impl Reason {
     /// The words of a reason that names no frame.
     fn words(&self) -> &'static str {
         match self {
+            Reason::Unplaced => {
+                "it may have been recorded between its two ends: name the place with --end"
+            }
             Reason::Unseen => {
                 "its client may have asked again, by a request that did not pass here"
             }

@@ -3,16 +3,17 @@
 use std::alloc::{AllocError, Global};
 use tftp_blame::{Blamed, Doubted, Missing, Reason, Trail, put_if};
 use tftp_commands::{say_accepted, say_verdict};
-use tftp_judge::{Meaning, Refusal, Rule, Verdict};
+use tftp_judge::{Meaning, Refusal, Verdict};
 use tftp_lines::Transfer;
 use tftp_packet::End;
 use tftp_recording_judge::Verdicts;
-use tftp_rules::PortRule;
 use tftp_session::Ended;
 use tftp_streams::LineWriter;
 use tftp_tap_judge::TapRefusal;
 use tftp_transfers::TransferEnds;
-use tftp_verdict_rows::{Accused, Place, Point, Row, Rows, Said, accused_by, role_at, rows_told};
+use tftp_verdict_rows::{
+    Accused, Place, Point, Row, Rows, Said, Telling, accused_in_row, role_at, rows_told,
+};
 
 /// The verdict at a point.
 #[derive(Drop)]
@@ -47,6 +48,7 @@ pub struct Told<'a> {
     /// Where it was recorded: client, server, both or between.
     pub place: &'static str,
     pub view: &'a Viewed,
+    telling: Telling,
 }
 
 impl Judged {
@@ -93,6 +95,11 @@ impl Judged {
             Some(view) => Some(Told {
                 place: word_of(row.place),
                 view,
+                telling: Telling {
+                    point: row.point,
+                    said: view.said,
+                    between: said_of(&self.between).copied(),
+                },
             }),
             None => None,
         }
@@ -164,14 +171,16 @@ impl Judged {
     /// Why a refusal in a row is no accusation, and why what is not whole there may be whole.
     pub fn reasons(&self, alloc: Global, told: &Told<'_>) -> Result<Vec<Reason>, AllocError> {
         let mut reasons = Vec::new(alloc);
-        let put = self.put_reasons(&mut reasons, told.view);
+        let put = self.put_reasons(&mut reasons, told);
         put?;
         Ok(reasons)
     }
 
-    fn put_reasons(&self, reasons: &mut Vec<Reason>, view: &Viewed) -> Result<(), AllocError> {
+    fn put_reasons(&self, reasons: &mut Vec<Reason>, told: &Told<'_>) -> Result<(), AllocError> {
+        let view = told.view;
         match (&view.said, &view.blamed) {
             (Said::Refused(_, _), Some(blamed)) => {
+                put_if(reasons, told.telling.depends_on_place(), Reason::Unplaced)?;
                 put_if(reasons, view.may_be_asked, Reason::Unseen)?;
                 put_if(
                     reasons,
@@ -193,16 +202,17 @@ impl Judged {
 
     /// Whom a row accuses, with these reasons for doubt.
     pub fn accused(&self, told: &Told<'_>, reasons: &[Reason]) -> Option<Accused> {
-        match (&told.view.said, &told.view.blamed) {
-            (Said::Refused(_, _), Some(blamed)) => {
-                accused_by(
+        match &told.view.blamed {
+            Some(blamed) => {
+                accused_in_row(
+                    &told.telling,
                     &self.transfer,
                     &self.ends,
                     blamed.source,
                     !reasons.is_empty(),
                 )
             }
-            _ => None,
+            None => None,
         }
     }
 }
@@ -237,18 +247,16 @@ impl Viewed {
             Ok(meaning) => accepted_line(alloc, meaning),
             Err(refusal) => line_between(alloc, *refusal),
         };
+        let said = Said::between(found, frame_of(&blamed));
         Ok(Viewed {
-            said: Said::between(found, frame_of(&blamed)),
+            said,
             blamed,
             lacks: matches!(
                 found,
                 Err(TapRefusal::Incomplete(_) | TapRefusal::Aborted(_, _))
             ),
             is_at_server: false,
-            may_be_asked: matches!(
-                found,
-                Err(TapRefusal::Unlawful(_, Rule::Port(PortRule::BadAnswer)))
-            ),
+            may_be_asked: said.may_be_asked(),
             line: line?,
         })
     }
@@ -260,10 +268,7 @@ impl Viewed {
 
     /// The frame of the datagram that was refused.
     pub fn frame(&self) -> Option<u64> {
-        match self.said {
-            Said::Refused(_, frame) => frame,
-            _ => None,
-        }
+        self.said.refused_frame()
     }
 
     /// 0 where it is accepted, 2 where memory was wanting, else 1.
