@@ -1,9 +1,9 @@
 -- A recording at several clients: each datagram is at one of them, and to the others' lines it is nothing.
 use Rattle.std.proofs.Common.{◌≡◌, ◌≢◌, ◌⊎◌, ℕ, ◌+◌, true, false, List, [], ◌∷◌, ◌++◌, Option, Some, None, Contains, inl, inr, refl, sym, ap, subst, ◌∙◌, ◌==◌, length, max, ne_eqb, arith, length-append, append_assoc, if◌then◌else◌}
-use Rattle.std.specs.List.{AllByRecursion}
+use Rattle.std.specs.List.{AllByRecursion, list_any}
 use Rattle.std.proofs.lemmas.Bool.{false≢true, or_left, or_right, eq-eqb, eqb-true}
 use Rattle.tftp_lines.specs.{Endpoint, Place, Opens, Repeats, Talks, Apart, Beside, Nowhere, Transfer, Recorded, Placed, same_endpoint, is_of, is_at, live, line, clock}
-use Rattle.tftp_transfers.specs.{asks, at_client, beside, is_nowhere, place_of, placed, served_at}
+use Rattle.tftp_transfers.specs.{comes, asks, at_client, beside, is_nowhere, place_of, placed, served_at}
 use Rattle.tftp_spared.specs.Seen.{is_with}
 use Rattle.tftp_lines.proofs.Endpoints.{is_same, same_itself}
 use Rattle.tftp_lines.proofs.Lines.{by_test}
@@ -12,7 +12,7 @@ use Rattle.tftp_transfers.proofs.Ends.{IsEnd, asked_place, beside_end, client_en
 use Rattle.tftp_transfers.proofs.Numbers.{length_placed}
 use Rattle.tftp_fair.proofs.Thinned.{filter_dropped}
 use Rattle.tftp_spared.proofs.Basics.{doubted_more}
-use Rattle.tftp_spared.proofs.Stands.{new, AskedBefore, State, doubted, asking, answered, Has}
+use Rattle.tftp_spared.proofs.Stands.{new, AskedBefore, State, doubted, asking, answered, reopened, taken, mixed, Has}
 use Rattle.tftp_spared.proofs.Requests.{opening}
 use Rattle.tftp_spared.proofs.Owned.{AreOwn, IsOwn, place_below}
 use Rattle.tftp_spared.proofs.Recordings.{no_line}
@@ -168,6 +168,24 @@ state_other c k older kp rest x p off (answered a) = answered (record {
   serves = a.serves;
   first = a.first;
 })
+state_other c k older kp rest x p off (reopened a) = reopened (record {
+  untimely = a.untimely;
+  went_on = a.went_on;
+  asked = asked_other older kp x.number p off a.asked;
+  there = a.there;
+  asks_it = a.asks_it;
+  same = a.same;
+  top_same = a.top_same;
+  others = a.others;
+})
+state_other c k older kp rest x p off (taken a) = taken (record {
+  untimely = a.untimely;
+  ends = a.ends;
+  asked = asked_other older kp x.number p off a.asked;
+  came = or_right (comes x.number p) (list_any (comes x.number) older) a.came;
+  apart = a.apart;
+})
+state_other c k older kp rest x p off (mixed a) = mixed a
 
 pub has_other : (c : Endpoint) (k : List Recorded) (older kp rest : List Placed) (x : Transfer) (p : Placed) → is_at c p ≡ false → is_of x.number p ≡ false → Has c k older kp rest x → Has c k (p ∷ older) kp rest x
 has_other c k older kp rest x p away off has = record {
@@ -180,6 +198,7 @@ has_other c k older kp rest x p away off has = record {
   client = has.client;
   top = has.top;
   more = has.more;
+  pure = has.pure;
   alike = has.alike;
   state = state_other c k older kp rest x p off has.state;
 }

@@ -11,7 +11,7 @@ use Rattle.tftp_fair.proofs.Thinned.{filter_kept, filter_dropped}
 use Rattle.tftp_spared.specs.{AreCaptures, AreInOrder, IsNext, begins, goes_on, goes_from}
 use Rattle.tftp_spared.proofs.Stands.{new, Has}
 use Rattle.tftp_spared.proofs.Owned.{AreOwn, latest_below, line_below}
-use Rattle.tftp_spared.proofs.Recordings.{Standing, nothing, standing, clock_now, first_next, more_next, on_time, order_rest, captures_follow}
+use Rattle.tftp_spared.proofs.Recordings.{Standing, nothing, standing, clock_now, first_next, more_next, on_time, order_rest}
 use Rattle.tftp_spared.proofs.Clients.{AreAtClients, all_own, alone, has_other, not_at, not_of, own}
 
 module _ (lawful : List Recorded → Type 0) (c : Endpoint) where
@@ -59,7 +59,7 @@ module _ (lawful : List Recorded → Type 0) (c : Endpoint) where
     pub next_has : (d : Recorded) (ds k : List Recorded) → IsGiven (d ∷ ds) → is_with c d ≡ true → Before ds → IsNext lawful c (At ds) d k
         → (kp rest : List Placed) × (x : Transfer) × Has c k (placed [] (d ∷ ds)) (top d ds ∷ kp) rest x
     next_has d ds k g with b (begins k0 before follows good is) =
-        let (kp, rest, x, has) = first_next lawful c ds k0 d (captures_follow lawful c (filter (is_with c) ds) k0 before) follows (b.stood k0 before) (moment d ds) in
+        let (kp, rest, x, has) = first_next lawful c ds k0 d follows (b.stood k0 before) (moment d ds) in
         (kp, rest, x, subst (λ l. Has c l (placed [] (d ∷ ds)) (top d ds ∷ kp) rest x) (sym is) has)
     next_has d ds k g with b (goes_on e k0 before follows near good is) =
         let (kp, rest, x, has) = more_next lawful c ds k0 e d follows (b.stood (e ∷ k0) before) (on_time ds (order_rest d ds g.order)) g.port (no_other d ds g b with) (moment d ds)

@@ -12,7 +12,7 @@ use Rattle.tftp_lines.specs.{Address, V4, V6, Endpoint, Recorded, begins_request
 use Rattle.tftp_lines.proofs.Endpoints.{is_same}
 use Rattle.tftp_lines.proofs.Lines.{by_test}
 use Rattle.tftp_spared.specs.Seen.{HasNoSilence, as_seen_by, at_client_of, is_with}
-use Rattle.tftp_spared.specs.{AreAtHost, AreInOrder, AskNowhereElse, AsksInTime, FollowOneAnother, HaveNoServicePort, HaveOwnNames, IsServedCapture, IsWholeCapture, as_served, asks_from, at_server_of, goes_on_from}
+use Rattle.tftp_spared.specs.{AreAtHost, AreInOrder, AskNowhereElse, AsksInTime, FollowOneAnother, HaveNoServicePort, HaveOwnNames, IsServedCapture, IsTimelyCapture, IsWholeCapture, as_served, asks_from, at_server_of, goes_on_from}
 use Rattle.tftp_spared.specs.Worked.{own_name}
 use Rattle.tftp_spared.proofs.Lists.{all_at}
 
@@ -138,8 +138,11 @@ follow_two P one other recorded is here also = (one ∷ other ∷ [], is, all_mo
 pub whole_by : (write : Address → List ℕ) (c : Endpoint) (k : List Recorded) → IsLawful (at_client_of 69) (map (as_seen_by write c) (reverse k)) → is_steady k ≡ true → IsWholeCapture write c k
 whole_by write c k lawful steady = record { lawful = lawful; steady = steady_by k steady }
 
-pub served_by : (write : Address → List ℕ) (c : Endpoint) (k : List Recorded) → IsLawful (at_server_of 69) (map (as_served write c) (reverse k)) → is_steady k ≡ true → asks_in_time c k ≡ true → IsServedCapture write c k
-served_by write c k lawful steady in_time = record { lawful = lawful; steady = steady_by k steady; in_time = in_time_by c k in_time }
+pub late_by : (write : Address → List ℕ) (c : Endpoint) (k : List Recorded) → IsLawful (at_server_of 69) (map (as_served write c) (reverse k)) → is_steady k ≡ true → IsServedCapture write c k
+late_by write c k lawful steady = record { lawful = lawful; steady = steady_by k steady }
+
+pub served_by : (write : Address → List ℕ) (c : Endpoint) (k : List Recorded) → IsLawful (at_server_of 69) (map (as_served write c) (reverse k)) → is_steady k ≡ true → asks_in_time c k ≡ true → IsTimelyCapture write c k
+served_by write c k lawful steady in_time = record { served = late_by write c k lawful steady; in_time = in_time_by c k in_time }
 
 -- ---- a refusal by the ports
 

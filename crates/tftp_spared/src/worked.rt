@@ -18,6 +18,7 @@ ghost use Rattle.tftp_spared.specs.{
   HaveNoServicePort,
   HaveOwnNames,
   IsServedCapture,
+  IsTimelyCapture,
   IsWholeCapture,
   as_seen_by,
   as_served,
@@ -58,7 +59,7 @@ ghost use Rattle.tftp_spared.specs.Worked.{
 /// datagrams, the stray's among them, and none of the doubts that the laws need.
 pub fn two_captures_meet_the_premises()
     ensures client { AreInterleaved own_name one_client two_captures }
-    ensures server { AreServed own_name service.address one_client two_served }
+    ensures server { AreServed (IsTimelyCapture own_name) own_name service.address one_client two_served }
     ensures first { seen_by_client 0 two_captures
         ≡ ack_of 1 ∷ error_of 5 ∷ data_of 7 ∷ data_of 1 ∷ read_of (codes "f") ∷ read_of (codes "f") ∷ [] }
     ensures second { seen_by_client 7 two_captures ≡ ack_of 1 ∷ data_of 1 ∷ read_of (codes "g") ∷ [] }
@@ -102,7 +103,7 @@ pub fn captures_must_be_steady()
 /// Where a time goes back, a client's line ends too early.
 pub fn times_must_not_go_back()
     ensures captures { (c : Endpoint) → Contains two_clients c → FollowOneAnother (IsWholeCapture own_name c) (filter (is_with c) (late_ack ∷ back_in_time)) }
-    ensures captures_there { (c : Endpoint) → Contains two_clients c → FollowOneAnother (IsServedCapture own_name c) (filter (is_with c) (late_ack ∷ back_in_time_there)) }
+    ensures captures_there { (c : Endpoint) → Contains two_clients c → FollowOneAnother (IsTimelyCapture own_name c) (filter (is_with c) (late_ack ∷ back_in_time_there)) }
     ensures here { AreAtHost service.address two_clients (late_ack ∷ back_in_time_there) }
     ensures others { AskNowhereElse two_clients (late_ack ∷ back_in_time) }
     ensures others_there { AskNowhereElse two_clients (late_ack ∷ back_in_time_there) }
@@ -114,7 +115,7 @@ pub fn times_must_not_go_back()
 /// Where an endpoint that is no client's asks, what it sends may be told of its own transfer.
 pub fn none_else_may_ask()
     ensures captures { (c : Endpoint) → Contains one_client c → FollowOneAnother (IsWholeCapture own_name c) (filter (is_with c) (ack_of_block ∷ served_by_asker)) }
-    ensures captures_there { (c : Endpoint) → Contains one_client c → FollowOneAnother (IsServedCapture own_name c) (filter (is_with c) (ack_of_block ∷ served_by_asker)) }
+    ensures captures_there { (c : Endpoint) → Contains one_client c → FollowOneAnother (IsTimelyCapture own_name c) (filter (is_with c) (ack_of_block ∷ served_by_asker)) }
     ensures here { AreAtHost service.address one_client (ack_of_block ∷ served_by_asker) }
     ensures ports { HaveNoServicePort one_client }
     ensures order { AreInOrder (ack_of_block ∷ served_by_asker) }
@@ -133,7 +134,7 @@ pub fn hosts_must_have_their_own_names()
 
 /// At a server the clients must speak with one host, whatever the names are: a capture there tells none of its addresses.
 pub fn clients_must_speak_with_one_host()
-    ensures captures { (c : Endpoint) → Contains one_client c → FollowOneAnother (IsServedCapture own_name c) (filter (is_with c) (to_second_host ∷ asks_two_hosts)) }
+    ensures captures { (c : Endpoint) → Contains one_client c → FollowOneAnother (IsTimelyCapture own_name c) (filter (is_with c) (to_second_host ∷ asks_two_hosts)) }
     ensures others { AskNowhereElse one_client (to_second_host ∷ asks_two_hosts) }
     ensures ports { HaveNoServicePort one_client }
     ensures order { AreInOrder (to_second_host ∷ asks_two_hosts) }
@@ -151,8 +152,7 @@ pub fn clients_must_have_other_ports()
 
 /// At a server, where a request comes late and is answered, what the client sent before is refused in the transfer that it opens.
 pub fn requests_must_not_come_late()
-    ensures captures { (c : Endpoint) → Contains one_client c → FollowOneAnother (λ (k : List Recorded).
-        IsLawful (at_server_of 69) (map (as_served own_name c) (reverse k)) × HasNoSilence k) (filter (is_with c) (ack_again ∷ asked_late)) }
+    ensures captures { (c : Endpoint) → Contains one_client c → FollowOneAnother (IsServedCapture own_name c) (filter (is_with c) (ack_again ∷ asked_late)) }
     ensures here { AreAtHost service.address one_client (ack_again ∷ asked_late) }
     ensures others { AskNowhereElse one_client (ack_again ∷ asked_late) }
     ensures hosts { HaveOwnNames own_name }
