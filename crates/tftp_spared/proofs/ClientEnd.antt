@@ -1,5 +1,5 @@
 -- No client's view is refused without a doubt, where captures of lawful transfers are interleaved.
-use Rattle.std.proofs.Common.{◌≡◌, ℕ, true, List, [], ◌∷◌, ◌++◌, Some, inl, inr, refl, sym, ap, subst, ◌∙◌, map, reverse, filter}
+use Rattle.std.proofs.Common.{◌≡◌, ℕ, true, List, [], ◌∷◌, ◌++◌, Some, Contains, inl, inr, refl, sym, ap, subst, ◌∙◌, map, reverse, filter}
 use Rattle.std.specs.List.{AllByRecursion, flat_map}
 use Rattle.std.proofs.lemmas.Bool.{eq-eqb}
 use Rattle.std.proofs.lemmas.List.{reverse-reverse}
@@ -48,11 +48,11 @@ module _ (write : Address → List ℕ) (write_one : (a b : Address) → write a
   client_captures c recorded each same all = captures_at c (IsLawfulAt write c) (λ d e k passes. passes.1) (follows_lawful write write_one c) recorded each same all
 
   pub client_is_spared : (clients : List Endpoint) (recorded : List Recorded) → AreAll (IsLawfulAt write) clients recorded
-      → (newer older : List Placed) (p : Placed) → placed [] recorded ≡ newer ++ p ∷ older → (x : Transfer) → transfer_of p.place ≡ Some x
+      → (newer older : List Placed) (p : Placed) → placed [] recorded ≡ newer ++ p ∷ older → (x : Transfer) → transfer_of p.place ≡ Some x → Contains clients x.client
       → (rule : Rule) → IsRefused (at_client_of 69) (map (seen write x.client) (client_view x.number older)) (as_seen_by write x.client p.datagram) rule
       → needs_doubt x.number (placed [] recorded) p older ≡ true
-  client_is_spared clients recorded g newer older p are x at rule refused =
-      elim (doubted_or (IsLawfulAt write) clients recorded g x.client (IsFair x.client) ⊥ tt (stated x.client) newer older p are x at refl) [
+  client_is_spared clients recorded g newer older p are x at is_client rule refused =
+      elim (doubted_or (IsLawfulAt write) clients recorded g x.client (IsFair x.client) ⊥ tt (stated x.client) is_client newer older p are x at refl) [
         | inl doubt ↦ doubt
         | inr (inl none) ↦ absurd none.0
         | inr (inr fair) ↦ absurd (refused_does_not_pass (at_client_of 69) (map (seen write x.client) (client_view x.number older)) (as_seen_by write x.client p.datagram) rule refused

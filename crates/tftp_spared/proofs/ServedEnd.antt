@@ -4,7 +4,7 @@ use Rattle.std.specs.List.{AllByRecursion, flat_map, list_any}
 use Rattle.std.proofs.lemmas.Bool.{false≢true, or_cases, or_left, or_right, and_from, and_parts, eq-eqb}
 use Rattle.std.proofs.lemmas.List.{reverse-reverse}
 use Rattle.tftp_hosts.specs.{Datagram, PeerId, peer_of}
-use Rattle.tftp_rules.specs.{begins_request as says_request, first_of, or_this}
+use Rattle.tftp_rules.specs.{asks, first_of, or_this}
 use Rattle.tftp_law.specs.{OneEnded, IsLawful, IsRefused, Passes, Rule}
 use Rattle.tftp_law.proofs.Division.RouteTests.{same_is as peers_same, is_same as same_peers}
 use Rattle.tftp_law.proofs.Whole.TwoEnds.{lawful}
@@ -23,7 +23,7 @@ use Rattle.tftp_spared.proofs.Places.{of_talk, no_request_talks}
 use Rattle.tftp_spared.proofs.Talks.{first_some}
 use Rattle.tftp_spared.proofs.Captured.{captures_at}
 use Rattle.tftp_spared.proofs.Spared.{doubted_or, of_transfer}
-use Rattle.tftp_spared.proofs.Whole.{AreAll, IsApart, all_apart, client_of, kept_whole}
+use Rattle.tftp_spared.proofs.Whole.{AreAll, IsApart, all_apart, kept_whole}
 use Rattle.tftp_spared.proofs.ServedLaw.{IsServed, follows_served, served_before, name, peer_seen}
 use Rattle.tftp_spared.proofs.ServedViews.{IsFair, seen, stated}
 use Rattle.tftp_spared.proofs.ServedTalks.{TalksWith, Told, doubtful, still, told, told_more, told_none, told_one}
@@ -291,9 +291,19 @@ all_two : (P Q R : Placed → Type 0) → ((q : Placed) → P q → Q q → R q)
 all_two P Q R f [] one other = tt
 all_two P Q R f (q ∷ ps) one other = (f q one.0 other.0, all_two P Q R f ps one.1 other.1)
 
-payload_of : (write : Address → List ℕ) (b : Bool) (d : Recorded) → (captured_there write b d).payload ≡ d.payload
-payload_of write true d = refl
-payload_of write false d = refl
+abbrev asks_at : Datagram → Bool
+asks_at d = asks (at_server_of 69) d
+
+-- what says no request, or goes to another port than 69, asks nothing there
+asks_nothing : (write : Address → List ℕ) (b : Bool) (d : Recorded) → (begins_request d.payload ≡ true → (d.target.port == 69) ≡ false) → asks_at (captured_there write b d) ≡ false
+asks_nothing write true d off = refl
+asks_nothing write false d off = by_test (begins_request d.payload)
+    (λ is. ap (λ b. begins_request d.payload && b) (off is) ∙ and_false (begins_request d.payload))
+    (λ plain. ap (λ b. b && (d.target.port == 69)) plain)
+  where
+    and_false : (b : Bool) → (b && false) ≡ false
+    and_false true = refl
+    and_false false = refl
 
 module _ (Late : Type 0) (write : Address → List ℕ) (write_one : (a b : Address) → write a ≡ write b → a ≡ b) (host : Address) (clients : List Endpoint) (recorded : List Recorded)
     (g : AreAll (IsServed Late write host) clients recorded) where
@@ -305,10 +315,10 @@ module _ (Late : Type 0) (write : Address → List ℕ) (write_one : (a b : Addr
     of = of_transfer x.number p.datagram p.moment p.place x at ∙ eq-eqb x.number x.number refl
 
     own_all : AllByRecursion (IsOwnOf x.client x.number) (placed [] recorded)
-    own_all = kept_whole (IsServed Late write host) clients recorded g x.client (AreOwnOf x.client) (λ n. tt) (own_more x.client) (own_one Late write host x.client) newer older p are x at refl
+    own_all = kept_whole (IsServed Late write host) clients recorded g x.client (AreOwnOf x.client) (λ n. tt) (own_more x.client) (own_one Late write host x.client) is_client newer older p are x at refl
 
     said : Told x.client x.number (placed [] recorded)
-    said = kept_whole (IsServed Late write host) clients recorded g x.client (Told x.client) (told_none x.client) (told_more x.client) (told_one Late write host x.client) newer older p are x at refl
+    said = kept_whole (IsServed Late write host) clients recorded g x.client (Told x.client) (told_none x.client) (told_more x.client) (told_one Late write host x.client) is_client newer older p are x at refl
 
     apart : AllByRecursion (IsApart (IsServed Late write host) clients recorded g) (placed [] recorded)
     apart = all_apart (IsServed Late write host) clients recorded g [] recorded refl
@@ -347,16 +357,16 @@ module _ (Late : Type 0) (write : Address → List ℕ) (write_one : (a b : Addr
       there = all_last (IsApart (IsServed Late write host) clients recorded g) newer (p ∷ older) (subst (AllByRecursion (IsApart (IsServed Late write host) clients recorded g)) are apart)
 
       strays : AreStrays 69 (name write host x.client x.client) (server_saw write x (placed [] recorded) older)
-      strays = map_filter (λ d. keeps 69 (name write host x.client x.client) d ≡ false → says_request d ≡ false) (seen_at_server write x (placed [] recorded)) (is_at_server x.number (placed [] recorded)) older
+      strays = map_filter (λ d. keeps 69 (name write host x.client x.client) d ≡ false → asks_at d ≡ false) (seen_at_server write x (placed [] recorded)) (is_at_server x.number (placed [] recorded)) older
           (all_two Fit (IsApart (IsServed Late write host) clients recorded g)
-          (λ q. is_at_server x.number (placed [] recorded) q ≡ true → keeps 69 (name write host x.client x.client) (seen_at_server write x (placed [] recorded) q) ≡ false → says_request (seen_at_server write x (placed [] recorded) q) ≡ false)
+          (λ q. is_at_server x.number (placed [] recorded) q ≡ true → keeps 69 (name write host x.client x.client) (seen_at_server write x (placed [] recorded) q) ≡ false → asks_at (seen_at_server write x (placed [] recorded) q) ≡ false)
           one older here.1 there.1)
         where
           one : (q : Placed) → Fit q → IsApart (IsServed Late write host) clients recorded g q → is_at_server x.number (placed [] recorded) q ≡ true
-              → keeps 69 (name write host x.client x.client) (seen_at_server write x (placed [] recorded) q) ≡ false → says_request (seen_at_server write x (placed [] recorded) q) ≡ false
+              → keeps 69 (name write host x.client x.client) (seen_at_server write x (placed [] recorded) q) ≡ false → asks_at (seen_at_server write x (placed [] recorded) q) ≡ false
           one q fit is seen_there off = by_test (is_of x.number q)
               (λ mine. absurd (false≢true (sym off ∙ (fit.mine mine).2)))
-              (λ other. ap begins_request (payload_of write (went_out x (placed [] recorded) q) q.datagram) ∙ (is (seen_beside x.number (placed [] recorded) q other seen_there)).0)
+              (λ other. asks_nothing write (went_out x (placed [] recorded) q) q.datagram (is (seen_beside x.number (placed [] recorded) q other seen_there)).0)
 
       pub passes_there : IsFair write host x.client (client_view x.number (p ∷ older)) → OneEnded (at_server_of 69) (server_saw write x (placed [] recorded) older)
           → Passes (at_server_of 69) (server_saw write x (placed [] recorded) older) (seen_at_server write x (placed [] recorded) p)
@@ -371,7 +381,7 @@ module _ (Late : Type 0) (write : Address → List ℕ) (write_one : (a b : Addr
 
     pub own_spared : (rule : Rule) → IsRefused (at_server_of 69) (server_saw write x (placed [] recorded) older) (seen_at_server write x (placed [] recorded) p) rule
         → (needs_doubt x.number (placed [] recorded) p older ≡ true) ⊎ (Late × (is_shared p older ≡ true))
-    own_spared rule refused = elim (doubted_or (IsServed Late write host) clients recorded g x.client (IsFair write host x.client) Late tt (stated write host x.client Late) newer older p are x at refl) [
+    own_spared rule refused = elim (doubted_or (IsServed Late write host) clients recorded g x.client (IsFair write host x.client) Late tt (stated write host x.client Late) is_client newer older p are x at refl) [
       | inl doubt ↦ inl doubt
       | inr other ↦ elim other [
         | inl shared ↦ inr shared
@@ -383,12 +393,12 @@ module _ (Late : Type 0) (write : Address → List ℕ) (write_one : (a b : Addr
     ]
 
   -- at each datagram that the server saw
-  pub server_is_spared : (newer older : List Placed) (p : Placed) → placed [] recorded ≡ newer ++ p ∷ older → (x : Transfer) → transfer_beside p.place ≡ Some x
+  pub server_is_spared : (newer older : List Placed) (p : Placed) → placed [] recorded ≡ newer ++ p ∷ older → (x : Transfer) → transfer_beside p.place ≡ Some x → Contains clients x.client
       → (rule : Rule) → IsRefused (at_server_of 69) (server_saw write x (placed [] recorded) older) (seen_at_server write x (placed [] recorded) p) rule
       → ((needs_doubt x.number (placed [] recorded) p older || is_beside p) ≡ true) ⊎ (Late × (is_shared p older ≡ true))
-  server_is_spared newer older p are x at rule refused = by p.place refl where
+  server_is_spared newer older p are x at is_client rule refused = by p.place refl where
     mine : transfer_of p.place ≡ Some x → ((needs_doubt x.number (placed [] recorded) p older || is_beside p) ≡ true) ⊎ (Late × (is_shared p older ≡ true))
-    mine there = elim (own_spared newer older p are x there (client_of (IsServed Late write host) clients recorded g newer older p are x there).0 rule refused) [
+    mine there = elim (own_spared newer older p are x there is_client rule refused) [
       | inl doubt ↦ inl (or_left (needs_doubt x.number (placed [] recorded) p older) (is_beside p) doubt)
       | inr shared ↦ inr shared
     ]

@@ -1,5 +1,5 @@
 -- A transfer of a client's whose captures follow one another is doubtful, or its view is such as it should be.
-use Rattle.std.proofs.Common.{◌≡◌, ◌⊎◌, ℕ, true, false, List, [], ◌∷◌, ◌++◌, Some, inl, inr, refl, sym, ap, subst, ◌∙◌, ◌==◌, ◌&&◌, ◌||◌, not}
+use Rattle.std.proofs.Common.{◌≡◌, ◌⊎◌, ℕ, true, false, List, [], ◌∷◌, ◌++◌, Contains, Some, inl, inr, refl, sym, ap, subst, ◌∙◌, ◌==◌, ◌&&◌, ◌||◌, not}
 use Rattle.std.specs.List.{AllByRecursion, list_any}
 use Rattle.std.proofs.lemmas.Bool.{false≢true, or_cases, or_left, or_right, and_from, and_parts, eq-eqb, eqb-true}
 use Rattle.tftp_lines.specs.{Endpoint, Place, Opens, Repeats, Talks, Transfer, Recorded, Placed, same_endpoint, is_between, other_of, is_request, is_of, is_late, is_another, live, line, latest_in, transfer_of}
@@ -144,11 +144,11 @@ doubted_whole n (p ∷ newer) older is = doubted_more n p (newer ++ older) (doub
 module _ (lawful : Endpoint → List Recorded → Type 0) (clients : List Endpoint) (recorded : List Recorded) (g : AreAll lawful clients recorded)
     (c : Endpoint) (good : List Placed → Type 0) (Late : Type 0) (good_none : good []) (stated : IsStated (lawful c) c good Late) where
   -- a doubt is there, or it passed with whom another transfer was talked of, or the view up to this datagram is good
-  pub doubted_or : (newer older : List Placed) (p : Placed) → placed [] recorded ≡ newer ++ p ∷ older → (x : Transfer) → transfer_of p.place ≡ Some x → x.client ≡ c
+  pub doubted_or : Contains clients c → (newer older : List Placed) (p : Placed) → placed [] recorded ≡ newer ++ p ∷ older → (x : Transfer) → transfer_of p.place ≡ Some x → x.client ≡ c
       → (needs_doubt x.number (placed [] recorded) p older ≡ true) ⊎ ((Late × (is_shared p older ≡ true)) ⊎ good (client_view x.number (p ∷ older)))
-  doubted_or newer older p are x at is = by (kept_of lawful clients recorded g c
+  doubted_or is_client newer older p are x at is = by (kept_of lawful clients recorded g c
       (Spared (lawful c) c good Late good_none stated) (spared_none (lawful c) c good Late good_none stated) (spared_more (lawful c) c good Late good_none stated) (spared_one (lawful c) c good Late good_none stated)
-      newer older p are x at is)
+      is_client newer older p are x at is)
     where
       by : Spared (lawful c) c good Late good_none stated x.number (p ∷ older) → (needs_doubt x.number (placed [] recorded) p older ≡ true) ⊎ ((Late × (is_shared p older ≡ true)) ⊎ good (client_view x.number (p ∷ older)))
       by (doubtful there) = inl (or_left (is_doubted_there x.number (placed [] recorded)) (some_of x.number is_late (p ∷ older))

@@ -11,7 +11,7 @@ ghost use Rattle.tftp_spared.specs.{
   AreInOrder,
   AreInterleaved,
   AreServed,
-  AskNowhereElse,
+  AskersAreElsewhere,
   AsksInTime,
   FollowOneAnother,
   HasNoSilence,
@@ -77,7 +77,7 @@ pub fn captures_must_be_lawful()
     ensures captures { (c : Endpoint) → Contains one_client c → FollowOneAnother HasNoSilence (filter (is_with c) (asks_elsewhere ∷ [])) }
     ensures in_time { (c : Endpoint) → Contains one_client c → FollowOneAnother (AsksInTime c) (filter (is_with c) (asks_elsewhere ∷ [])) }
     ensures here { AreAtHost service.address one_client (asks_elsewhere ∷ []) }
-    ensures others { AskNowhereElse one_client (asks_elsewhere ∷ []) }
+    ensures others { AskersAreElsewhere one_client (asks_elsewhere ∷ []) }
     ensures hosts { HaveOwnNames own_name }
     ensures ports { HaveNoServicePort one_client }
     ensures order { AreInOrder (asks_elsewhere ∷ []) }
@@ -93,7 +93,7 @@ pub fn captures_must_be_steady()
         → FollowOneAnother (λ (k : List Recorded). IsLawful (at_server_of 69) (map (as_served own_name c) (reverse k))) (filter (is_with c) (ack_after_silence ∷ silent_capture)) }
     ensures in_time { (c : Endpoint) → Contains one_client c → FollowOneAnother (AsksInTime c) (filter (is_with c) (ack_after_silence ∷ silent_capture)) }
     ensures here { AreAtHost service.address one_client (ack_after_silence ∷ silent_capture) }
-    ensures others { AskNowhereElse one_client (ack_after_silence ∷ silent_capture) }
+    ensures others { AskersAreElsewhere one_client (ack_after_silence ∷ silent_capture) }
     ensures ports { HaveNoServicePort one_client }
     ensures order { AreInOrder (ack_after_silence ∷ silent_capture) }
     ensures accused { IsAccusedAtClient own_name is_doubtful ack_after_silence silent_capture }
@@ -105,8 +105,8 @@ pub fn times_must_not_go_back()
     ensures captures { (c : Endpoint) → Contains two_clients c → FollowOneAnother (IsWholeCapture own_name c) (filter (is_with c) (late_ack ∷ back_in_time)) }
     ensures captures_there { (c : Endpoint) → Contains two_clients c → FollowOneAnother (IsTimelyCapture own_name c) (filter (is_with c) (late_ack ∷ back_in_time_there)) }
     ensures here { AreAtHost service.address two_clients (late_ack ∷ back_in_time_there) }
-    ensures others { AskNowhereElse two_clients (late_ack ∷ back_in_time) }
-    ensures others_there { AskNowhereElse two_clients (late_ack ∷ back_in_time_there) }
+    ensures others { AskersAreElsewhere two_clients (late_ack ∷ back_in_time) }
+    ensures others_there { AskersAreElsewhere two_clients (late_ack ∷ back_in_time_there) }
     ensures ports { HaveNoServicePort two_clients }
     ensures accused { IsAccusedAtClient own_name is_doubtful late_ack back_in_time }
     ensures accused_there { IsAccusedAtServer own_name needs_doubt_there late_ack back_in_time_there }
@@ -126,7 +126,7 @@ pub fn none_else_may_ask()
 /// Where two hosts have one name, a client may go on with the other: at the client, and by its address at the server too.
 pub fn hosts_must_have_their_own_names()
     ensures captures { (c : Endpoint) → Contains one_client c → FollowOneAnother (IsWholeCapture one_name c) (filter (is_with c) (to_second_host ∷ asks_two_hosts)) }
-    ensures others { AskNowhereElse one_client (to_second_host ∷ asks_two_hosts) }
+    ensures others { AskersAreElsewhere one_client (to_second_host ∷ asks_two_hosts) }
     ensures ports { HaveNoServicePort one_client }
     ensures order { AreInOrder (to_second_host ∷ asks_two_hosts) }
     ensures accused { IsAccusedAtClient one_name is_doubtful to_second_host asks_two_hosts }
@@ -135,7 +135,7 @@ pub fn hosts_must_have_their_own_names()
 /// At a server the clients must speak with one host, whatever the names are: a capture there tells none of its addresses.
 pub fn clients_must_speak_with_one_host()
     ensures captures { (c : Endpoint) → Contains one_client c → FollowOneAnother (IsTimelyCapture own_name c) (filter (is_with c) (to_second_host ∷ asks_two_hosts)) }
-    ensures others { AskNowhereElse one_client (to_second_host ∷ asks_two_hosts) }
+    ensures others { AskersAreElsewhere one_client (to_second_host ∷ asks_two_hosts) }
     ensures ports { HaveNoServicePort one_client }
     ensures order { AreInOrder (to_second_host ∷ asks_two_hosts) }
     ensures accused { IsAccusedAtServer own_name needs_doubt_there to_second_host asks_two_hosts }
@@ -145,7 +145,7 @@ pub fn clients_must_speak_with_one_host()
 /// doubt of ERROR 5.
 pub fn clients_must_have_other_ports()
     ensures captures { (c : Endpoint) → Contains (service_client ∷ []) c → FollowOneAnother (IsWholeCapture own_name c) (filter (is_with c) (stray_is_told ∷ asked_by_stray)) }
-    ensures others { AskNowhereElse (service_client ∷ []) (stray_is_told ∷ asked_by_stray) }
+    ensures others { AskersAreElsewhere (service_client ∷ []) (stray_is_told ∷ asked_by_stray) }
     ensures order { AreInOrder (stray_is_told ∷ asked_by_stray) }
     ensures accused { IsAccusedAtClient own_name needs_doubt stray_is_told asked_by_stray }
 {}
@@ -154,7 +154,7 @@ pub fn clients_must_have_other_ports()
 pub fn requests_must_not_come_late()
     ensures captures { (c : Endpoint) → Contains one_client c → FollowOneAnother (IsServedCapture own_name c) (filter (is_with c) (ack_again ∷ asked_late)) }
     ensures here { AreAtHost service.address one_client (ack_again ∷ asked_late) }
-    ensures others { AskNowhereElse one_client (ack_again ∷ asked_late) }
+    ensures others { AskersAreElsewhere one_client (ack_again ∷ asked_late) }
     ensures hosts { HaveOwnNames own_name }
     ensures ports { HaveNoServicePort one_client }
     ensures order { AreInOrder (ack_again ∷ asked_late) }

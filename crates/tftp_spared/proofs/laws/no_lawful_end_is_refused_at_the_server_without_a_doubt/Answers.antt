@@ -37,22 +37,22 @@ of_timely : (write : Address → List ℕ) (c : Endpoint) (k : List Recorded) �
 of_timely write c k capture = (served_lawful write c k capture.served.lawful, capture.served.steady, inr capture.in_time)
 
 pub returns-clause-by_five : goal.returns-clause-by_five
-returns-clause-by_five c write host clients recorded g newer older p are x at rule refused =
-    elim (server_is_spared (Unit {0}) write g.hosts host clients recorded (given (Unit {0}) (IsServedCapture write) write host clients recorded (of_late write) g) newer older p are x at rule refused) [
+returns-clause-by_five c write host clients recorded g newer older p are x at is_client rule refused =
+    elim (server_is_spared (Unit {0}) write g.hosts host clients recorded (given (Unit {0}) (IsServedCapture write) write host clients recorded (of_late write) g) newer older p are x at is_client rule refused) [
       | inl doubt ↦ or_left (needs_doubt x.number (placed [] recorded) p older || is_beside p) (is_shared p older) doubt
       | inr shared ↦ or_right (needs_doubt x.number (placed [] recorded) p older || is_beside p) (is_shared p older) shared.1
     ]
 
 by_four : SparesServersByFour
-by_four write host clients recorded g newer older p are x at rule refused =
-    elim (server_is_spared ⊥ write g.hosts host clients recorded (given ⊥ (IsTimelyCapture write) write host clients recorded (of_timely write) g) newer older p are x at rule refused) [
+by_four write host clients recorded g newer older p are x at is_client rule refused =
+    elim (server_is_spared ⊥ write g.hosts host clients recorded (given ⊥ (IsTimelyCapture write) write host clients recorded (of_timely write) g) newer older p are x at is_client rule refused) [
       | inl doubt ↦ doubt
       | inr shared ↦ absurd shared.0
     ]
 
 pub returns-clause-spared : goal.returns-clause-spared
-returns-clause-spared c write host clients recorded g newer older p are x at rule refused =
-    doubtful_there x.number (placed [] recorded) p older (by_four write host clients recorded g newer older p are x at rule refused)
+returns-clause-spared c write host clients recorded g newer older p are x at is_client rule refused =
+    doubtful_there x.number (placed [] recorded) p older (by_four write host clients recorded g newer older p are x at is_client rule refused)
 
 pub returns-clause-by_four : goal.returns-clause-by_four
 returns-clause-by_four c = by_four
