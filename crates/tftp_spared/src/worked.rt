@@ -1,7 +1,7 @@
 //! Worked recordings: some meet the premises of the laws; and for a premise one meets all others, and a lawful end is accused.
 //! Each law is the contract of a function that does nothing.
 
-ghost use Rattle.std.specs.Prelude.{◌≡◌, ◌||◌, false, List, [], ◌∷◌, codes, filter, map, reverse, Contains};
+ghost use Rattle.std.specs.Prelude.{◌≡◌, ◌||◌, true, false, List, [], ◌∷◌, codes, filter, map, reverse, Contains};
 ghost use Rattle.tftp_law.specs.{IsLawful};
 ghost use Rattle.tftp_lines.specs.{Endpoint, Recorded, is_late};
 ghost use Rattle.tftp_transfers.specs.{ack_of, client, data_of, read_of, service, is_doubtful, is_doubtful_at_server, placed, some_of};
@@ -25,6 +25,7 @@ ghost use Rattle.tftp_spared.specs.{
   at_client_of,
   at_server_of,
   is_doubted_there,
+  is_shared,
   is_with,
   needs_doubt,
 };
@@ -42,6 +43,7 @@ ghost use Rattle.tftp_spared.specs.Worked.{
   back_in_time_there,
   late_ack,
   needs_doubt_there,
+  newest,
   one_client,
   one_name,
   own_name,
@@ -55,20 +57,20 @@ ghost use Rattle.tftp_spared.specs.Worked.{
   two_served,
 };
 
-/// Two captures with a repeated request and strays meet all premises, at the client and at the server. Each transfer has its own
-/// datagrams, the stray's among them, and none of the doubts that the laws need.
+/// Two captures with a repeated request and strays meet all premises, at the client and at the server, whatever another client
+/// does. Each transfer has its own datagrams, the stray's among them, and none of the doubts that the laws need.
 pub fn two_captures_meet_the_premises()
     ensures client { AreInterleaved own_name one_client two_captures }
     ensures server { AreServed (IsTimelyCapture own_name) own_name service.address one_client two_served }
     ensures first { seen_by_client 0 two_captures
         ≡ ack_of 1 ∷ error_of 5 ∷ data_of 7 ∷ data_of 1 ∷ read_of (codes "f") ∷ read_of (codes "f") ∷ [] }
-    ensures second { seen_by_client 7 two_captures ≡ ack_of 1 ∷ data_of 1 ∷ read_of (codes "g") ∷ [] }
+    ensures second { seen_by_client 8 two_captures ≡ ack_of 1 ∷ data_of 1 ∷ read_of (codes "g") ∷ [] }
     ensures first_there { seen_by_server 0 two_served
         ≡ ack_of 1 ∷ error_of 5 ∷ data_of 7 ∷ data_of 1 ∷ read_of (codes "f") ∷ read_of (codes "f") ∷ [] }
-    ensures second_there { seen_by_server 6 two_served ≡ ack_of 1 ∷ data_of 1 ∷ read_of (codes "g") ∷ [] }
-    ensures doubtless { map (λ n. is_doubted_there n (placed [] two_captures) || some_of n is_late (placed [] two_captures)) (0 ∷ 7 ∷ [])
+    ensures second_there { seen_by_server 8 two_served ≡ ack_of 1 ∷ data_of 1 ∷ read_of (codes "g") ∷ [] }
+    ensures doubtless { map (λ n. is_doubted_there n (placed [] two_captures) || some_of n is_late (placed [] two_captures)) (0 ∷ 8 ∷ [])
         ≡ false ∷ false ∷ [] }
-    ensures doubtless_there { map (λ n. is_doubted_there n (placed [] two_served) || some_of n is_late (placed [] two_served)) (0 ∷ 6 ∷ [])
+    ensures doubtless_there { map (λ n. is_doubted_there n (placed [] two_served) || some_of n is_late (placed [] two_served)) (0 ∷ 8 ∷ [])
         ≡ false ∷ false ∷ [] }
 {}
 
@@ -159,4 +161,5 @@ pub fn requests_must_not_come_late()
     ensures ports { HaveNoServicePort one_client }
     ensures order { AreInOrder (ack_again ∷ asked_late) }
     ensures accused { IsAccusedAtServer own_name needs_doubt_there ack_again asked_late }
+    ensures shared { is_shared (newest ack_again asked_late) (placed [] asked_late) ≡ true }
 {}
