@@ -50,7 +50,7 @@ module _ (h : Header) (see : Recorded → Datagram) (same_see : (d e : Recorded)
       (λ kept. subst (λ l. EndsWith (see r) (map seen l)) (sym (filter_kept (is_of n) q (s ∷ ps) kept)) (ends_more (see r) (seen q) (map seen (filter (is_of n) (s ∷ ps))) (bottom_seen r n (s ∷ ps) is)))
       (λ off. subst (λ l. EndsWith (see r) (map seen l)) (sym (filter_dropped (is_of n) q (s ∷ ps) off)) (bottom_seen r n (s ∷ ps) is))
 
-  repeated_lawful : IsRepeatable h → (r : Recorded) (before : List Placed) (ds : List Datagram) → AllByRecursion (λ q. (is_request q ≡ true) × Same q.datagram r) before → EndsWith (see r) ds
+  pub repeated_lawful : IsRepeatable h → (r : Recorded) (before : List Placed) (ds : List Datagram) → AllByRecursion (λ q. (is_request q ≡ true) × Same q.datagram r) before → EndsWith (see r) ds
       → OneEnded h ds → OneEnded h (ds ++ map seen before)
   repeated_lawful may r [] ds all ends lawful = subst (OneEnded h) (sym (append-nil ds)) lawful
   repeated_lawful may r (b ∷ before) ds all ends lawful =

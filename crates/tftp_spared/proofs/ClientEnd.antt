@@ -1,5 +1,5 @@
 -- No client's view is refused without a doubt, where captures of lawful transfers are interleaved.
-use Rattle.std.proofs.Common.{◌≡◌, ℕ, true, List, [], ◌∷◌, ◌++◌, Some, inl, inr, refl, sym, ap, subst, ◌∙◌, map, reverse, filter}
+use Rattle.std.proofs.Common.{◌≡◌, ℕ, true, List, [], ◌∷◌, ◌++◌, Some, Contains, inl, inr, refl, sym, ap, subst, ◌∙◌, map, reverse, filter}
 use Rattle.std.specs.List.{AllByRecursion, flat_map}
 use Rattle.std.proofs.lemmas.Bool.{eq-eqb}
 use Rattle.std.proofs.lemmas.List.{reverse-reverse}
@@ -13,7 +13,7 @@ use Rattle.tftp_fair.proofs.Thinned.{filter_kept}
 use Rattle.tftp_spared.specs.{needs_doubt, AreCaptures, IsLawfulAt}
 use Rattle.tftp_spared.proofs.Lists.{map_reversed}
 use Rattle.tftp_spared.proofs.Captured.{captures_at}
-use Rattle.tftp_spared.proofs.Lawful.{follows_lawful}
+use Rattle.tftp_spared.proofs.Lawful.{follows_lawful, in_time_lawful}
 use Rattle.tftp_spared.proofs.Views.{answered_lawful, asking_lawful, seen}
 use Rattle.tftp_packet.specs.{Client}
 use Rattle.tftp_spared.proofs.Repeated.{repeated_passes}
@@ -34,24 +34,28 @@ module _ (write : Address → List ℕ) (write_one : (a b : Address) → write a
   abbrev IsFair : Endpoint → List Placed → Type 0
   IsFair c view = OneEnded (at_client_of 69) (map (seen write c) view)
 
-  stated : (c : Endpoint) → IsStated (IsLawfulAt write c) c (IsFair c)
-  stated c k older kp rest x has may = (
-    asking_lawful write c write_one (repeated_passes Client 69) k older kp rest x has may,
-    answered_lawful write c write_one (repeated_passes Client 69) k older kp rest x has may,
-  )
+  stated : (c : Endpoint) → IsStated (IsLawfulAt write c) c (IsFair c) ⊥
+  stated c = record {
+    is_asked = λ k older kp rest x has may. asking_lawful write c write_one (repeated_passes Client 69) k older kp rest x has may;
+    is_answered = λ k older kp rest x has may. answered_lawful write c write_one (repeated_passes Client 69) k older kp rest x has may;
+    is_reopened = λ k older kp rest x has may a. absurd (a.untimely (in_time_lawful write write_one c k may));
+    is_taken = λ k older kp rest x has may a. absurd (a.untimely (in_time_lawful write write_one c k may));
+    is_mixed = λ k older kp rest x has may a. a.untimely (in_time_lawful write write_one c k may);
+  }
 
   pub client_captures : (c : Endpoint) (recorded : List Recorded) (each : List (List Recorded)) → filter (is_with c) recorded ≡ flat_map (λ capture. capture) each
       → AllByRecursion (λ k. IsLawfulAt write c k × HasNoSilence k) each → (k : List Recorded) × AreCaptures (IsLawfulAt write c) c (filter (is_with c) recorded) k
   client_captures c recorded each same all = captures_at c (IsLawfulAt write c) (λ d e k passes. passes.1) (follows_lawful write write_one c) recorded each same all
 
   pub client_is_spared : (clients : List Endpoint) (recorded : List Recorded) → AreAll (IsLawfulAt write) clients recorded
-      → (newer older : List Placed) (p : Placed) → placed [] recorded ≡ newer ++ p ∷ older → (x : Transfer) → transfer_of p.place ≡ Some x
+      → (newer older : List Placed) (p : Placed) → placed [] recorded ≡ newer ++ p ∷ older → (x : Transfer) → transfer_of p.place ≡ Some x → Contains clients x.client
       → (rule : Rule) → IsRefused (at_client_of 69) (map (seen write x.client) (client_view x.number older)) (as_seen_by write x.client p.datagram) rule
       → needs_doubt x.number (placed [] recorded) p older ≡ true
-  client_is_spared clients recorded g newer older p are x at rule refused =
-      elim (doubted_or (IsLawfulAt write) clients recorded g x.client (IsFair x.client) tt (stated x.client) newer older p are x at refl) [
+  client_is_spared clients recorded g newer older p are x at is_client rule refused =
+      elim (doubted_or (IsLawfulAt write) clients recorded g x.client (IsFair x.client) ⊥ tt (stated x.client) is_client newer older p are x at refl) [
         | inl doubt ↦ doubt
-        | inr fair ↦ absurd (refused_does_not_pass (at_client_of 69) (map (seen write x.client) (client_view x.number older)) (as_seen_by write x.client p.datagram) rule refused
+        | inr (inl none) ↦ absurd none.0
+        | inr (inr fair) ↦ absurd (refused_does_not_pass (at_client_of 69) (map (seen write x.client) (client_view x.number older)) (as_seen_by write x.client p.datagram) rule refused
             (subst (λ l. OneEnded (at_client_of 69) (map (seen write x.client) l)) (filter_kept (is_of x.number) p older this) fair))
       ]
     where

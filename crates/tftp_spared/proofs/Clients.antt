@@ -1,9 +1,9 @@
 -- A recording at several clients: each datagram is at one of them, and to the others' lines it is nothing.
-use Rattle.std.proofs.Common.{◌≡◌, ◌≢◌, ◌⊎◌, ℕ, ◌+◌, true, false, List, [], ◌∷◌, ◌++◌, Option, Some, None, Contains, inl, inr, refl, sym, ap, subst, ◌∙◌, ◌==◌, length, max, ne_eqb, arith, length-append, append_assoc, if◌then◌else◌}
-use Rattle.std.specs.List.{AllByRecursion}
+use Rattle.std.proofs.Common.{◌≡◌, ◌≢◌, ◌⊎◌, ℕ, ◌+◌, true, false, List, [], ◌∷◌, ◌++◌, Option, Some, None, inl, inr, refl, sym, ap, subst, ◌∙◌, ◌==◌, length, max, ne_eqb, arith, length-append, append_assoc, if◌then◌else◌}
+use Rattle.std.specs.List.{AllByRecursion, list_any}
 use Rattle.std.proofs.lemmas.Bool.{false≢true, or_left, or_right, eq-eqb, eqb-true}
 use Rattle.tftp_lines.specs.{opening, Endpoint, Place, Opens, Repeats, Talks, Apart, Beside, Nowhere, Transfer, Recorded, Placed, same_endpoint, is_of, is_at, live, line, clock}
-use Rattle.tftp_transfers.specs.{asks, at_client, beside, is_nowhere, place_of, placed, served_at}
+use Rattle.tftp_transfers.specs.{comes, asks, at_client, beside, is_nowhere, place_of, placed, served_at}
 use Rattle.tftp_spared.specs.Seen.{is_with}
 use Rattle.tftp_lines.proofs.Endpoints.{is_same, same_itself}
 use Rattle.tftp_lines.proofs.Lines.{by_test}
@@ -12,7 +12,7 @@ use Rattle.tftp_transfers.proofs.Ends.{IsEnd, asked_place, beside_end, client_en
 use Rattle.tftp_transfers.proofs.Numbers.{length_placed}
 use Rattle.tftp_fair.proofs.Thinned.{filter_dropped}
 use Rattle.tftp_spared.proofs.Basics.{doubted_more}
-use Rattle.tftp_spared.proofs.Stands.{new, AskedBefore, State, doubted, asking, answered, Has}
+use Rattle.tftp_spared.proofs.Stands.{new, AskedBefore, State, doubted, asking, answered, reopened, taken, mixed, Has}
 use Rattle.tftp_spared.proofs.Owned.{AreOwn, IsOwn, place_below}
 use Rattle.tftp_spared.proofs.Recordings.{no_line}
 
@@ -72,31 +72,31 @@ is_end older now d e (has_line which some) = end_with d e which
 pub not_at : (older : List Placed) (now : ℕ) (d : Recorded) (c : Endpoint) → is_with c d ≡ false → is_at c (new d now (place_of [] older now d)) ≡ false
 not_at older now d c off = by_test (is_at c (new d now (place_of [] older now d))) (λ is. absurd (false≢true (sym off ∙ is_end older now d c (at_which older now d c is)))) (λ none. none)
 
--- ---- all are at clients
+-- ---- all are at endpoints of a kind
 
-module _ (clients : List Endpoint) where
+module _ (Here : Endpoint → Type 0) where
   abbrev pub AreAtClients : List Placed → Type 0
-  AreAtClients ps = AllByRecursion (λ q. (e : Endpoint) → is_at e q ≡ true → Contains clients e) ps
+  AreAtClients ps = AllByRecursion (λ q. (e : Endpoint) → is_at e q ≡ true → Here e) ps
 
-  line_client : (e : Endpoint) (older : List Placed) → AreAtClients older → (line e older ≡ [] → ⊥) → Contains clients e
+  line_client : (e : Endpoint) (older : List Placed) → AreAtClients older → (line e older ≡ [] → ⊥) → Here e
   line_client e [] all some = absurd (some refl)
   line_client e (q ∷ older) all some = by_test (is_at e q)
       (λ is. all.0 e is)
       (λ off. line_client e older all.1 (λ none. some (line_elsewhere e q older off ∙ none)))
 
-  -- where whoever asks is a client
-  pub at_more : (older : List Placed) (now : ℕ) (d : Recorded) → (asks [] older now d ≡ true → Contains clients d.source) → AreAtClients older → AreAtClients (new d now (place_of [] older now d) ∷ older)
+  -- where whoever asks is of it
+  pub at_more : (older : List Placed) (now : ℕ) (d : Recorded) → (asks [] older now d ≡ true → Here d.source) → AreAtClients older → AreAtClients (new d now (place_of [] older now d) ∷ older)
   at_more older now d asker before = (λ e is. by e (at_which older now d e is), before) where
-    by : (e : Endpoint) → IsAt older now d e → Contains clients e
-    by e (asks_here source says) = subst (Contains clients) (sym source) (asker says)
+    by : (e : Endpoint) → IsAt older now d e → Here e
+    by e (asks_here source says) = subst Here (sym source) (asker says)
     by e (has_line which some) = line_client e older before some
 
-  none_at : (o : Endpoint) (older : List Placed) → AreAtClients older → (Contains clients o → ⊥) → AllByRecursion (λ q. is_at o q ≡ false) older
+  none_at : (o : Endpoint) (older : List Placed) → AreAtClients older → (Here o → ⊥) → AllByRecursion (λ q. is_at o q ≡ false) older
   none_at o [] all none = tt
   none_at o (q ∷ older) all none = (by_test (is_at o q) (λ is. absurd (none (all.0 o is))) (λ off. off), none_at o older all.1 none)
 
-  -- so what is no client has no line
-  pub alone : (o : Endpoint) (older : List Placed) → AreAtClients older → (Contains clients o → ⊥) → line o older ≡ []
+  -- so what is not has no line
+  pub alone : (o : Endpoint) (older : List Placed) → AreAtClients older → (Here o → ⊥) → line o older ≡ []
   alone o older at none = no_line o older (none_at o older at none)
 
 -- ---- a transfer's number tells its client
@@ -167,6 +167,24 @@ state_other c k older kp rest x p off (answered a) = answered (record {
   serves = a.serves;
   first = a.first;
 })
+state_other c k older kp rest x p off (reopened a) = reopened (record {
+  untimely = a.untimely;
+  went_on = a.went_on;
+  asked = asked_other older kp x.number p off a.asked;
+  there = a.there;
+  asks_it = a.asks_it;
+  same = a.same;
+  top_same = a.top_same;
+  others = a.others;
+})
+state_other c k older kp rest x p off (taken a) = taken (record {
+  untimely = a.untimely;
+  ends = a.ends;
+  asked = asked_other older kp x.number p off a.asked;
+  came = or_right (comes x.number p) (list_any (comes x.number) older) a.came;
+  apart = a.apart;
+})
+state_other c k older kp rest x p off (mixed a) = mixed a
 
 pub has_other : (c : Endpoint) (k : List Recorded) (older kp rest : List Placed) (x : Transfer) (p : Placed) → is_at c p ≡ false → is_of x.number p ≡ false → Has c k older kp rest x → Has c k (p ∷ older) kp rest x
 has_other c k older kp rest x p away off has = record {
@@ -179,6 +197,7 @@ has_other c k older kp rest x p away off has = record {
   client = has.client;
   top = has.top;
   more = has.more;
+  pure = has.pure;
   alike = has.alike;
   state = state_other c k older kp rest x p off has.state;
 }

@@ -1,17 +1,16 @@
 -- What is kept of each transfer of a client's, while its captures follow one another.
-use Rattle.std.proofs.Common.{◌≡◌, ◌≤◌, ℕ, ◌+◌, true, false, List, [], ◌∷◌, ◌++◌, Contains, refl, sym, ap, subst, ◌∙◌, max, filter, append_assoc, if◌then◌else◌}
+use Rattle.std.proofs.Common.{◌≡◌, ◌≤◌, ℕ, ◌+◌, true, false, List, [], ◌∷◌, ◌++◌, refl, sym, ap, subst, ◌∙◌, max, filter, append_assoc, if◌then◌else◌}
 use Rattle.std.specs.List.{AllByRecursion}
-use Rattle.std.proofs.lemmas.Bool.{false≢true, or_left}
-use Rattle.tftp_lines.specs.{Endpoint, Place, Transfer, Recorded, Placed, same_endpoint, is_of, is_at, live, line, clock, silence}
+use Rattle.std.proofs.lemmas.Bool.{false≢true}
+use Rattle.tftp_lines.specs.{Endpoint, Place, Transfer, Recorded, Placed, is_of, is_at, live, line, clock, silence}
 use Rattle.tftp_transfers.specs.{placed, place_of}
 use Rattle.tftp_spared.specs.Seen.{is_with}
-use Rattle.tftp_lines.proofs.Endpoints.{same_itself}
 use Rattle.tftp_lines.proofs.Lines.{by_test}
 use Rattle.tftp_fair.proofs.Thinned.{filter_kept, filter_dropped}
 use Rattle.tftp_spared.specs.{AreCaptures, AreInOrder, IsNext, begins, goes_on, goes_from}
 use Rattle.tftp_spared.proofs.Stands.{new, Has}
 use Rattle.tftp_spared.proofs.Owned.{AreOwn, latest_below, line_below}
-use Rattle.tftp_spared.proofs.Recordings.{Standing, nothing, standing, clock_now, first_next, more_next, on_time, order_rest, captures_follow}
+use Rattle.tftp_spared.proofs.Recordings.{Standing, nothing, standing, clock_now, first_next, more_next, on_time, order_rest}
 use Rattle.tftp_spared.proofs.Clients.{AreAtClients, all_own, alone, has_other, not_at, not_of, own}
 
 module _ (lawful : List Recorded → Type 0) (c : Endpoint) where
@@ -31,35 +30,33 @@ module _ (lawful : List Recorded → Type 0) (c : Endpoint) where
   at_elsewhere : (d : Recorded) (ds k : List Recorded) → is_with c d ≡ false → At (d ∷ ds) k → At ds k
   at_elsewhere d ds k off captures = subst (λ l. AreCaptures lawful c l k) (filter_dropped (is_with c) d ds off) captures
 
-  module _ (clients : List Endpoint) (client : Contains clients c) (whole : List Recorded) where
-    -- what is with the client has no other client
-    abbrev pub OneOf : List Recorded → Type 0
-    OneOf ds = AllByRecursion (λ d. is_with c d ≡ true → (e : Endpoint) → Contains clients e → is_with e d ≡ true → c ≡ e) ds
+  module _ (Here : Endpoint → Type 0) (whole : List Recorded) where
+    -- what comes to the client comes from none of this kind
+    abbrev pub ComesFromElsewhere : List Recorded → Type 0
+    ComesFromElsewhere ds = AllByRecursion (λ d. is_with c d ≡ true → goes_from c d ≡ false → Here d.source → ⊥) ds
 
     pub record IsGiven (ds : List Recorded) : Type 0 where
       pub order : AreInOrder ds
       pub port : c.port ≡ 69 → ⊥
-      pub one : OneOf ds
+      pub elsewhere : ComesFromElsewhere ds
       pub newer : List Recorded
       pub is : whole ≡ newer ++ ds
 
     given_rest : (d : Recorded) (ds : List Recorded) → IsGiven (d ∷ ds) → IsGiven ds
-    given_rest d ds g = record { order = order_rest d ds g.order; port = g.port; one = g.one.1; newer = g.newer ++ d ∷ []; is = g.is ∙ sym (append_assoc g.newer (d ∷ []) ds) }
+    given_rest d ds g = record { order = order_rest d ds g.order; port = g.port; elsewhere = g.elsewhere.1; newer = g.newer ++ d ∷ []; is = g.is ∙ sym (append_assoc g.newer (d ∷ []) ds) }
 
     -- what stands of the recording before
     pub record Before (ds : List Recorded) : Type 0 where
-      pub at : AreAtClients clients (placed [] ds)
+      pub at : AreAtClients Here (placed [] ds)
       pub stood : (k : List Recorded) → At ds k → Standing c k (placed [] ds)
 
     no_other : (d : Recorded) (ds : List Recorded) → IsGiven (d ∷ ds) → Before ds → is_with c d ≡ true → goes_from c d ≡ false → line d.source (placed [] ds) ≡ []
-    no_other d ds g b with off = alone clients d.source (placed [] ds) b.at (λ there.
-        let same : c ≡ d.source = g.one.0 with d.source there (or_left (same_endpoint d.source d.source) (same_endpoint d.target d.source) (same_itself d.source)) in
-        false≢true (sym off ∙ subst (λ e. same_endpoint d.source e ≡ true) (sym same) (same_itself d.source)))
+    no_other d ds g b with off = alone Here d.source (placed [] ds) b.at (g.elsewhere.0 with off)
 
     pub next_has : (d : Recorded) (ds k : List Recorded) → IsGiven (d ∷ ds) → is_with c d ≡ true → Before ds → IsNext lawful c (At ds) d k
         → (kp rest : List Placed) × (x : Transfer) × Has c k (placed [] (d ∷ ds)) (top d ds ∷ kp) rest x
     next_has d ds k g with b (begins k0 before follows good is) =
-        let (kp, rest, x, has) = first_next lawful c ds k0 d (captures_follow lawful c (filter (is_with c) ds) k0 before) follows (b.stood k0 before) (moment d ds) in
+        let (kp, rest, x, has) = first_next lawful c ds k0 d follows (b.stood k0 before) (moment d ds) in
         (kp, rest, x, subst (λ l. Has c l (placed [] (d ∷ ds)) (top d ds ∷ kp) rest x) (sym is) has)
     next_has d ds k g with b (goes_on e k0 before follows near good is) =
         let (kp, rest, x, has) = more_next lawful c ds k0 e d follows (b.stood (e ∷ k0) before) (on_time ds (order_rest d ds g.order)) g.port (no_other d ds g b with) (moment d ds)

@@ -12,7 +12,7 @@ use Rattle.tftp_lines.specs.Recording.{is_answer}
 use Rattle.tftp_lines.proofs.Endpoints.{is_same, same_itself}
 use Rattle.tftp_lines.proofs.Lines.{by_test}
 use Rattle.tftp_spared.specs.Seen.{as_seen_by, at_client_of}
-use Rattle.tftp_spared.specs.{Follows, IsLawfulAt, asks_from, comes_at, goes_from, goes_on_from}
+use Rattle.tftp_spared.specs.{AsksInTime, Follows, IsLawfulAt, asks_from, comes_at, goes_from, goes_on_from}
 use Rattle.tftp_spared.proofs.Captured.{AreHere}
 use Rattle.tftp_spared.proofs.Places.{comes_to_it}
 use Rattle.tftp_spared.proofs.Rules.{some_asked, heard_from, requests_go, first_service}
@@ -142,7 +142,14 @@ module _ (write : Address → List ℕ) (write_one : (a b : Address) → write a
         first = first;
         service = to_service d k passes;
         alike = alike d k passes;
-        no_more = λ is. sym (went_on_seen k) ∙ went_on_none 69 (seen d) (map seen k) passes (out d k passes is) (says d k passes is);
         known = known d k passes here.1 first;
         answers = λ off none. sym (ap is_answer (payload_seen write c d)) ∙ first_answers 69 (seen d) (map seen k) passes (ap not (goes_seen write c d ∙ off)) (came_seen k ∙ none);
       }
+
+  -- and it is asked for in time
+  pub in_time_lawful : (k : List Recorded) → IsLawfulAt write c k → AsksInTime c k
+  in_time_lawful [] passes = tt
+  in_time_lawful (d ∷ k) passes = (
+    λ is. sym (went_on_seen k) ∙ went_on_none 69 (seen d) (map seen k) passes (out d k passes is) (says d k passes is),
+    in_time_lawful k passes.1,
+  )

@@ -9,7 +9,7 @@ use Rattle.tftp_lines.proofs.Lines.{by_test}
 use Rattle.tftp_lines.proofs.Silences.{live_is, live_not}
 use Rattle.tftp_transfers.proofs.AllLines.{line_here, line_elsewhere}
 use Rattle.tftp_transfers.proofs.Numbers.{AreBelow, IsBelow, placed_below, length_placed}
-use Rattle.tftp_spared.specs.{AreCaptures, AreInOrder, Follow, Follows, begins, goes_on, asks_from, goes_from}
+use Rattle.tftp_spared.specs.{AreInOrder, Follows, asks_from, goes_from}
 use Rattle.tftp_spared.proofs.Places.{comes_to_it}
 use Rattle.tftp_spared.proofs.Stands.{new, Has}
 use Rattle.tftp_spared.proofs.Talks.{talk_step, no_begin}
@@ -156,18 +156,13 @@ clock_now d ds order = clock_on d ds order (on_time ds (order_rest d ds order))
 -- ---- each of a capture, after those before it
 
 module _ (lawful : List Recorded → Type 0) (c : Endpoint) where
-  pub captures_follow : (ds k : List Recorded) → AreCaptures lawful c ds k → Follow c k
-  captures_follow [] k is = subst (Follow c) (sym is) tt
-  captures_follow (d ∷ ds) k (begins k0 before follows good is) = subst (Follow c) (sym is) (follows, tt)
-  captures_follow (d ∷ ds) k (goes_on e k0 before follows near good is) = subst (Follow c) (sym is) (follows, captures_follow ds (e ∷ k0) before)
-
   abbrev pub Next : List Recorded → Recorded → List Placed → ℕ → Place → Type 0
   Next k d older now place = (kp rest : List Placed) × (x : Transfer) × Has c (d ∷ k) (new d now place ∷ older) (new d now place ∷ kp) rest x
 
   -- the first of a capture
-  pub first_next : (ds k0 : List Recorded) (d : Recorded) → Follow c k0 → Follows c [] d → Standing c k0 (placed [] ds)
+  pub first_next : (ds k0 : List Recorded) (d : Recorded) → Follows c [] d → Standing c k0 (placed [] ds)
       → (now : ℕ) → Next [] d (placed [] ds) now (place_of [] (placed [] ds) now d)
-  first_next ds k0 d before follows stands now = subst (Next [] d (placed [] ds) now) (sym (request_place c (placed [] ds) now d is (follows.service is))) (live_either now (line c (placed [] ds)) silent live_case) where
+  first_next ds k0 d follows stands now = subst (Next [] d (placed [] ds) now) (sym (request_place c (placed [] ds) now d is (follows.service is))) (live_either now (line c (placed [] ds)) silent live_case) where
     is : asks_from c d ≡ true
     is = follows.first refl
 
@@ -180,7 +175,7 @@ module _ (lawful : List Recorded → Type 0) (c : Endpoint) where
     by : live now (line c (placed [] ds)) ≡ line c (placed [] ds) → Standing c k0 (placed [] ds) → Goal
     by lived (nothing none empty) = silent (ap (live now) none)
     by lived (standing kp rest x has) =
-        let (more, y, next) = next_step c k0 (placed [] ds) kp rest x d now has before follows lived (fresh ds)
+        let (more, y, next) = next_step c k0 (placed [] ds) kp rest x d now has follows lived (fresh ds)
         (line_all (λ q. is_of (length (placed [] ds)) q ≡ false) c (placed [] ds) (fresh ds)) in
         ([], more, y, subst (λ l. Has c (d ∷ []) (new d now (place_asked (length (placed [] ds)) d l) ∷ placed [] ds) (new d now (place_asked (length (placed [] ds)) d l) ∷ []) more y) (sym lived) next)
 
@@ -206,7 +201,7 @@ module _ (lawful : List Recorded → Type 0) (c : Endpoint) where
   more_next ds k0 e d follows (standing kp rest x has) clear other alone now near =
       let lived = live_on c e k0 (placed [] ds) kp rest x now has clear near in
       by_test (asks_from c d)
-      (λ is. let (y, next) = request_step c (e ∷ k0) (placed [] ds) kp rest x d now has follows is lived in
+      (λ is. let (y, next) = request_step c (e ∷ k0) (placed [] ds) kp rest x d now has follows is lived (fresh ds) (line_all (λ q. is_of (length (placed [] ds)) q ≡ false) c (placed [] ds) (fresh ds)) in
       subst (Next (e ∷ k0) d (placed [] ds) now) (ap (place_asked (length (placed [] ds)) d) (sym lived) ∙ sym (request_place c (placed [] ds) now d is (follows.service is))) (kp, rest, y, next))
       (λ off. let (y, client, place, next) = talk_step c (e ∷ k0) (placed [] ds) kp rest x d now has follows off lived in
       let plain : asks [] (placed [] ds) now d ≡ false = asks_not ds k0 e d follows (standing kp rest x has) clear other now near off in

@@ -4,7 +4,7 @@ use Rattle.std.specs.List.{AllByRecursion, flat_map, list_any}
 use Rattle.std.proofs.lemmas.Bool.{false≢true, or_cases, or_left, or_right, and_from, and_parts, eq-eqb}
 use Rattle.std.proofs.lemmas.List.{reverse-reverse}
 use Rattle.tftp_hosts.specs.{Datagram, PeerId, peer_of}
-use Rattle.tftp_rules.specs.{begins_request as says_request, first_of, or_this}
+use Rattle.tftp_rules.specs.{asks, first_of, or_this}
 use Rattle.tftp_law.specs.{OneEnded, IsLawful, IsRefused, Passes, Rule}
 use Rattle.tftp_law.proofs.Division.RouteTests.{same_is as peers_same, is_same as same_peers}
 use Rattle.tftp_law.proofs.Whole.TwoEnds.{lawful}
@@ -14,7 +14,7 @@ use Rattle.tftp_lines.proofs.Lines.{by_test}
 use Rattle.tftp_transfers.specs.{client_view, placed, place_of, comes, goes_on, answered_by, went_on_with, asked_of, server_of, is_server, is_at_server, has_host, has_port, goes_to_asked, is_beside, is_doubted, is_doubtful, is_doubtful_at_server, is_led_astray, some_of, comes_of_earlier, tells_strays}
 use Rattle.tftp_fair.proofs.Thinned.{filter_kept, filter_dropped, kept_or_not}
 use Rattle.tftp_spared.specs.Seen.{HasNoSilence, is_with}
-use Rattle.tftp_spared.specs.{AreCaptures, AsksInTime, as_served, at_server_of, captured_there, goes_from, is_doubted_there, needs_doubt, seen_at_server, server_saw, transfer_beside, went_out}
+use Rattle.tftp_spared.specs.{AreCaptures, AsksInTime, as_served, at_server_of, captured_there, goes_from, is_doubted_there, is_shared, needs_doubt, seen_at_server, server_saw, transfer_beside, went_out}
 use Rattle.tftp_spared.proofs.Basics.{all_last, all_map, doubtful_is}
 use Rattle.tftp_spared.proofs.Lists.{all_flat, all_from, filter_with, map_reversed}
 use Rattle.tftp_spared.proofs.Requests.{all_second as all_each}
@@ -23,7 +23,7 @@ use Rattle.tftp_spared.proofs.Places.{of_talk, no_request_talks}
 use Rattle.tftp_spared.proofs.Talks.{first_some}
 use Rattle.tftp_spared.proofs.Captured.{captures_at}
 use Rattle.tftp_spared.proofs.Spared.{doubted_or, of_transfer}
-use Rattle.tftp_spared.proofs.Whole.{AreAll, IsApart, all_apart, client_of, kept_whole}
+use Rattle.tftp_spared.proofs.Whole.{AreAll, IsApart, all_apart, kept_whole}
 use Rattle.tftp_spared.proofs.ServedLaw.{IsServed, follows_served, served_before, name, peer_seen}
 use Rattle.tftp_spared.proofs.ServedViews.{IsFair, seen, stated}
 use Rattle.tftp_spared.proofs.ServedTalks.{TalksWith, Told, doubtful, still, told, told_more, told_none, told_one}
@@ -117,9 +117,9 @@ AreOwnOf c n ps = AllByRecursion (IsOwnOf c n) ps
 own_more : (c : Endpoint) (n : ℕ) (p : Placed) (older : List Placed) → is_of n p ≡ false → AreOwnOf c n older → AreOwnOf c n (p ∷ older)
 own_more c n p older off before = ((λ is. absurd (false≢true (sym off ∙ is))), before)
 
-module _ (write : Address → List ℕ) (host : Address) (c : Endpoint) where
+module _ (Late : Type 0) (write : Address → List ℕ) (host : Address) (c : Endpoint) where
   own_one : (n : ℕ) (k : List Recorded) (older kp rest : List Placed) (x : Transfer) (d : Recorded) (now : ℕ) (place : Place) → is_with c d ≡ true → place ≡ place_of [] older now d
-      → Has c k (new d now place ∷ older) (new d now place ∷ kp) rest x → IsServed write host c k → is_of n (new d now place) ≡ true → AreOwnOf c n older → AreOwnOf c n (new d now place ∷ older)
+      → Has c k (new d now place ∷ older) (new d now place ∷ kp) rest x → IsServed Late write host c k → is_of n (new d now place) ≡ true → AreOwnOf c n older → AreOwnOf c n (new d now place ∷ older)
   own_one n k older kp rest x d now place with at has served of before = (
     (λ is. (with, λ request. (and_parts (goes_from c d) (begins_request d.payload) (sym has.known.0.kind ∙ request)).0)),
     before,
@@ -252,34 +252,34 @@ pub served_lawful : (write : Address → List ℕ) (c : Endpoint) (k : List Reco
 served_lawful write c k shown = subst (OneEnded (at_server_of 69)) (sym (map_reversed (as_served write c) (reverse k)) ∙ ap (map (as_served write c)) (reverse-reverse k))
     ((lawful (at_server_of 69) (map (as_served write c) (reverse k))).0 shown)
 
-pub server_captures : (write : Address → List ℕ) (host : Address) (c : Endpoint) (recorded : List Recorded) (each : List (List Recorded)) → filter (is_with c) recorded ≡ flat_map (λ capture. capture) each
-    → AllByRecursion (λ k. IsServed write host c k × HasNoSilence k) each → (k : List Recorded) × AreCaptures (IsServed write host c) c (filter (is_with c) recorded) k
-server_captures write host c recorded each same all = captures_at c (IsServed write host c) (served_before write host c) (follows_served write host c) recorded each same all
+pub server_captures : (Late : Type 0) (write : Address → List ℕ) (host : Address) (c : Endpoint) (recorded : List Recorded) (each : List (List Recorded)) → filter (is_with c) recorded ≡ flat_map (λ capture. capture) each
+    → AllByRecursion (λ k. IsServed Late write host c k × HasNoSilence k) each → (k : List Recorded) × AreCaptures (IsServed Late write host c) c (filter (is_with c) recorded) k
+server_captures Late write host c recorded each same all = captures_at c (IsServed Late write host c) (served_before write host c Late) (follows_served write host c Late) recorded each same all
 
-each_served : (write : Address → List ℕ) (host : Address) (c : Endpoint) (each : List (List Recorded)) → AllByRecursion (λ k. AllByRecursion (λ d. (is_with c d ≡ true) × ((other_of c d).address ≡ host)) k) each
-    → AllByRecursion (λ k. OneEnded (at_server_of 69) (map (as_served write c) k) × HasNoSilence k × AsksInTime c k) each → AllByRecursion (λ k. IsServed write host c k × HasNoSilence k) each
-each_served write host c [] there all = tt
-each_served write host c (k ∷ each) there all =
-    let (passes, steady, in_time) = all.0 in (
+each_served : (Late : Type 0) (write : Address → List ℕ) (host : Address) (c : Endpoint) (each : List (List Recorded)) → AllByRecursion (λ k. AllByRecursion (λ d. (is_with c d ≡ true) × ((other_of c d).address ≡ host)) k) each
+    → AllByRecursion (λ k. OneEnded (at_server_of 69) (map (as_served write c) k) × HasNoSilence k × (Late ⊎ AsksInTime c k)) each → AllByRecursion (λ k. IsServed Late write host c k × HasNoSilence k) each
+each_served Late write host c [] there all = tt
+each_served Late write host c (k ∷ each) there all =
+    let (passes, steady, timely) = all.0 in (
       (
         record {
           passes = passes;
           here = all_each (λ d. (is_with c d ≡ true) × ((other_of c d).address ≡ host)) (λ d. is_with c d ≡ true) (λ d both. both.0) k there.0;
           at_host = all_each (λ d. (is_with c d ≡ true) × ((other_of c d).address ≡ host)) (λ d. (other_of c d).address ≡ host) (λ d both. both.1) k there.0;
-          in_time = in_time;
+          timely = timely;
         },
         steady,
       ),
-      each_served write host c each there.1 all.1,
+      each_served Late write host c each there.1 all.1,
     )
 
-pub served_each : (write : Address → List ℕ) (host : Address) (c : Endpoint) (recorded : List Recorded) (each : List (List Recorded)) → filter (is_with c) recorded ≡ flat_map (λ capture. capture) each
+pub served_each : (Late : Type 0) (write : Address → List ℕ) (host : Address) (c : Endpoint) (recorded : List Recorded) (each : List (List Recorded)) → filter (is_with c) recorded ≡ flat_map (λ capture. capture) each
     → ((d : Recorded) → Contains recorded d → is_with c d ≡ true → (other_of c d).address ≡ host)
-    → AllByRecursion (λ k. OneEnded (at_server_of 69) (map (as_served write c) k) × HasNoSilence k × AsksInTime c k) each → AllByRecursion (λ k. IsServed write host c k × HasNoSilence k) each
-served_each write host c recorded each same here all =
+    → AllByRecursion (λ k. OneEnded (at_server_of 69) (map (as_served write c) k) × HasNoSilence k × (Late ⊎ AsksInTime c k)) each → AllByRecursion (λ k. IsServed Late write host c k × HasNoSilence k) each
+served_each Late write host c recorded each same here all =
     let there = filter_with (λ d. is_with c d ≡ true → (other_of c d).address ≡ host) (is_with c) recorded (all_from (λ d. is_with c d ≡ true → (other_of c d).address ≡ host) recorded here) in
     let both = all_each (λ d. (is_with c d ≡ true) × (is_with c d ≡ true → (other_of c d).address ≡ host)) (λ d. (is_with c d ≡ true) × ((other_of c d).address ≡ host)) (λ d is. (is.0, is.1 is.0)) (filter (is_with c) recorded) there in
-    each_served write host c each (all_flat (λ d. (is_with c d ≡ true) × ((other_of c d).address ≡ host)) each (subst (AllByRecursion (λ d. (is_with c d ≡ true) × ((other_of c d).address ≡ host))) same both)) all
+    each_served Late write host c each (all_flat (λ d. (is_with c d ≡ true) × ((other_of c d).address ≡ host)) each (subst (AllByRecursion (λ d. (is_with c d ≡ true) × ((other_of c d).address ≡ host))) same both)) all
 
 map_filter : (P : Datagram → Type 0) (f : Placed → Datagram) (at : Placed → Bool) (ps : List Placed) → AllByRecursion (λ q. at q ≡ true → P (f q)) ps → AllByRecursion P (map f (filter at ps))
 map_filter P f at [] all = tt
@@ -291,12 +291,22 @@ all_two : (P Q R : Placed → Type 0) → ((q : Placed) → P q → Q q → R q)
 all_two P Q R f [] one other = tt
 all_two P Q R f (q ∷ ps) one other = (f q one.0 other.0, all_two P Q R f ps one.1 other.1)
 
-payload_of : (write : Address → List ℕ) (b : Bool) (d : Recorded) → (captured_there write b d).payload ≡ d.payload
-payload_of write true d = refl
-payload_of write false d = refl
+abbrev asks_at : Datagram → Bool
+asks_at d = asks (at_server_of 69) d
 
-module _ (write : Address → List ℕ) (write_one : (a b : Address) → write a ≡ write b → a ≡ b) (host : Address) (clients : List Endpoint) (recorded : List Recorded)
-    (g : AreAll (IsServed write host) clients recorded) where
+-- what says no request, or goes to another port than 69, asks nothing there
+asks_nothing : (write : Address → List ℕ) (b : Bool) (d : Recorded) → (begins_request d.payload ≡ true → (d.target.port == 69) ≡ false) → asks_at (captured_there write b d) ≡ false
+asks_nothing write true d off = refl
+asks_nothing write false d off = by_test (begins_request d.payload)
+    (λ is. ap (λ b. begins_request d.payload && b) (off is) ∙ and_false (begins_request d.payload))
+    (λ plain. ap (λ b. b && (d.target.port == 69)) plain)
+  where
+    and_false : (b : Bool) → (b && false) ≡ false
+    and_false true = refl
+    and_false false = refl
+
+module _ (Late : Type 0) (write : Address → List ℕ) (write_one : (a b : Address) → write a ≡ write b → a ≡ b) (host : Address) (clients : List Endpoint) (recorded : List Recorded)
+    (g : AreAll (IsServed Late write host) clients recorded) where
   abbrev all : List Placed
   all = placed [] recorded
 
@@ -305,13 +315,13 @@ module _ (write : Address → List ℕ) (write_one : (a b : Address) → write a
     of = of_transfer x.number p.datagram p.moment p.place x at ∙ eq-eqb x.number x.number refl
 
     own_all : AllByRecursion (IsOwnOf x.client x.number) (placed [] recorded)
-    own_all = kept_whole (IsServed write host) clients recorded g x.client (AreOwnOf x.client) (λ n. tt) (own_more x.client) (own_one write host x.client) newer older p are x at refl
+    own_all = kept_whole (IsServed Late write host) clients recorded g x.client (AreOwnOf x.client) (λ n. tt) (own_more x.client) (own_one Late write host x.client) is_client newer older p are x at refl
 
     said : Told x.client x.number (placed [] recorded)
-    said = kept_whole (IsServed write host) clients recorded g x.client (Told x.client) (told_none x.client) (told_more x.client) (told_one write host x.client) newer older p are x at refl
+    said = kept_whole (IsServed Late write host) clients recorded g x.client (Told x.client) (told_none x.client) (told_more x.client) (told_one Late write host x.client) is_client newer older p are x at refl
 
-    apart : AllByRecursion (IsApart (IsServed write host) clients recorded g) (placed [] recorded)
-    apart = all_apart (IsServed write host) clients recorded g [] recorded refl
+    apart : AllByRecursion (IsApart (IsServed Late write host) clients recorded g) (placed [] recorded)
+    apart = all_apart (IsServed Late write host) clients recorded g [] recorded refl
 
     abbrev AreTalks : Type 0
     AreTalks = AreServerTalks write write_one host x (placed [] recorded)
@@ -335,7 +345,7 @@ module _ (write : Address → List ℕ) (write_one : (a b : Address) → write a
     module _ (talks : AreTalks) where
       fits : FitsAll write write_one host x (placed [] recorded) (placed [] recorded)
       fits = fits_all write write_one host x (placed [] recorded) (placed [] recorded) own_all
-          (all_map (IsApart (IsServed write host) clients recorded g) (λ q. is_beside q ≡ true → is_with x.client q.datagram ≡ false) (λ q is beside. (is beside).1 x.client is_client) (placed [] recorded) apart) talks
+          (all_map (IsApart (IsServed Late write host) clients recorded g) (λ q. is_beside q ≡ true → is_with x.client q.datagram ≡ false) (λ q is beside. (is beside).1 x.client is_client) (placed [] recorded) apart) talks
 
       abbrev Fit : Placed → Type 0
       Fit = Fits (keeps 69 (name write host x.client x.client)) (is_at_server x.number (placed [] recorded)) (is_of x.number) (seen_at_server write x (placed [] recorded)) (seen write host x.client)
@@ -343,20 +353,20 @@ module _ (write : Address → List ℕ) (write_one : (a b : Address) → write a
       here : AllByRecursion Fit (p ∷ older)
       here = all_last Fit newer (p ∷ older) (subst (AllByRecursion Fit) are fits)
 
-      there : AllByRecursion (IsApart (IsServed write host) clients recorded g) (p ∷ older)
-      there = all_last (IsApart (IsServed write host) clients recorded g) newer (p ∷ older) (subst (AllByRecursion (IsApart (IsServed write host) clients recorded g)) are apart)
+      there : AllByRecursion (IsApart (IsServed Late write host) clients recorded g) (p ∷ older)
+      there = all_last (IsApart (IsServed Late write host) clients recorded g) newer (p ∷ older) (subst (AllByRecursion (IsApart (IsServed Late write host) clients recorded g)) are apart)
 
       strays : AreStrays 69 (name write host x.client x.client) (server_saw write x (placed [] recorded) older)
-      strays = map_filter (λ d. keeps 69 (name write host x.client x.client) d ≡ false → says_request d ≡ false) (seen_at_server write x (placed [] recorded)) (is_at_server x.number (placed [] recorded)) older
-          (all_two Fit (IsApart (IsServed write host) clients recorded g)
-          (λ q. is_at_server x.number (placed [] recorded) q ≡ true → keeps 69 (name write host x.client x.client) (seen_at_server write x (placed [] recorded) q) ≡ false → says_request (seen_at_server write x (placed [] recorded) q) ≡ false)
+      strays = map_filter (λ d. keeps 69 (name write host x.client x.client) d ≡ false → asks_at d ≡ false) (seen_at_server write x (placed [] recorded)) (is_at_server x.number (placed [] recorded)) older
+          (all_two Fit (IsApart (IsServed Late write host) clients recorded g)
+          (λ q. is_at_server x.number (placed [] recorded) q ≡ true → keeps 69 (name write host x.client x.client) (seen_at_server write x (placed [] recorded) q) ≡ false → asks_at (seen_at_server write x (placed [] recorded) q) ≡ false)
           one older here.1 there.1)
         where
-          one : (q : Placed) → Fit q → IsApart (IsServed write host) clients recorded g q → is_at_server x.number (placed [] recorded) q ≡ true
-              → keeps 69 (name write host x.client x.client) (seen_at_server write x (placed [] recorded) q) ≡ false → says_request (seen_at_server write x (placed [] recorded) q) ≡ false
+          one : (q : Placed) → Fit q → IsApart (IsServed Late write host) clients recorded g q → is_at_server x.number (placed [] recorded) q ≡ true
+              → keeps 69 (name write host x.client x.client) (seen_at_server write x (placed [] recorded) q) ≡ false → asks_at (seen_at_server write x (placed [] recorded) q) ≡ false
           one q fit is seen_there off = by_test (is_of x.number q)
               (λ mine. absurd (false≢true (sym off ∙ (fit.mine mine).2)))
-              (λ other. ap begins_request (payload_of write (went_out x (placed [] recorded) q) q.datagram) ∙ (is (seen_beside x.number (placed [] recorded) q other seen_there)).0)
+              (λ other. asks_nothing write (went_out x (placed [] recorded) q) q.datagram (is (seen_beside x.number (placed [] recorded) q other seen_there)).0)
 
       pub passes_there : IsFair write host x.client (client_view x.number (p ∷ older)) → OneEnded (at_server_of 69) (server_saw write x (placed [] recorded) older)
           → Passes (at_server_of 69) (server_saw write x (placed [] recorded) older) (seen_at_server write x (placed [] recorded) p)
@@ -370,29 +380,34 @@ module _ (write : Address → List ℕ) (write_one : (a b : Address) → write a
           (subst (λ d. Passes (at_server_of 69) (map (seen write host x.client) (client_view x.number older)) d) (sym alike) now))
 
     pub own_spared : (rule : Rule) → IsRefused (at_server_of 69) (server_saw write x (placed [] recorded) older) (seen_at_server write x (placed [] recorded) p) rule
-        → needs_doubt x.number (placed [] recorded) p older ≡ true
-    own_spared rule refused = elim (doubted_or (IsServed write host) clients recorded g x.client (IsFair write host x.client) tt (stated write host x.client) newer older p are x at refl) [
-      | inl doubt ↦ doubt
-      | inr fair ↦ elim talks_or [
-        | inl doubt ↦ or_left (is_doubted_there x.number (placed [] recorded)) (some_of x.number is_late (p ∷ older)) doubt
-        | inr talks ↦ absurd ((passes_there talks fair refused.lawful).lawful rule refused.broken.0)
+        → (needs_doubt x.number (placed [] recorded) p older ≡ true) ⊎ (Late × (is_shared p older ≡ true))
+    own_spared rule refused = elim (doubted_or (IsServed Late write host) clients recorded g x.client (IsFair write host x.client) Late tt (stated write host x.client Late) is_client newer older p are x at refl) [
+      | inl doubt ↦ inl doubt
+      | inr other ↦ elim other [
+        | inl shared ↦ inr shared
+        | inr fair ↦ elim talks_or [
+          | inl doubt ↦ inl (or_left (is_doubted_there x.number (placed [] recorded)) (some_of x.number is_late (p ∷ older)) doubt)
+          | inr talks ↦ absurd ((passes_there talks fair refused.lawful).lawful rule refused.broken.0)
+        ]
       ]
     ]
 
   -- at each datagram that the server saw
-  pub server_is_spared : (newer older : List Placed) (p : Placed) → placed [] recorded ≡ newer ++ p ∷ older → (x : Transfer) → transfer_beside p.place ≡ Some x
+  pub server_is_spared : (newer older : List Placed) (p : Placed) → placed [] recorded ≡ newer ++ p ∷ older → (x : Transfer) → transfer_beside p.place ≡ Some x → Contains clients x.client
       → (rule : Rule) → IsRefused (at_server_of 69) (server_saw write x (placed [] recorded) older) (seen_at_server write x (placed [] recorded) p) rule
-      → (needs_doubt x.number (placed [] recorded) p older || is_beside p) ≡ true
-  server_is_spared newer older p are x at rule refused = by p.place refl where
-    mine : transfer_of p.place ≡ Some x → (needs_doubt x.number (placed [] recorded) p older || is_beside p) ≡ true
-    mine there = or_left (needs_doubt x.number (placed [] recorded) p older) (is_beside p)
-        (own_spared newer older p are x there (client_of (IsServed write host) clients recorded g newer older p are x there).0 rule refused)
+      → ((needs_doubt x.number (placed [] recorded) p older || is_beside p) ≡ true) ⊎ (Late × (is_shared p older ≡ true))
+  server_is_spared newer older p are x at is_client rule refused = by p.place refl where
+    mine : transfer_of p.place ≡ Some x → ((needs_doubt x.number (placed [] recorded) p older || is_beside p) ≡ true) ⊎ (Late × (is_shared p older ≡ true))
+    mine there = elim (own_spared newer older p are x there is_client rule refused) [
+      | inl doubt ↦ inl (or_left (needs_doubt x.number (placed [] recorded) p older) (is_beside p) doubt)
+      | inr shared ↦ inr shared
+    ]
 
-    by : (place : Place) → p.place ≡ place → (needs_doubt x.number (placed [] recorded) p older || is_beside p) ≡ true
+    by : (place : Place) → p.place ≡ place → ((needs_doubt x.number (placed [] recorded) p older || is_beside p) ≡ true) ⊎ (Late × (is_shared p older ≡ true))
     by (Opens y) is = mine (ap transfer_of is ∙ sym (ap transfer_beside is) ∙ at)
     by (Repeats y) is = mine (ap transfer_of is ∙ sym (ap transfer_beside is) ∙ at)
     by (Talks y) is = mine (ap transfer_of is ∙ sym (ap transfer_beside is) ∙ at)
-    by (Beside y) is = or_right (needs_doubt x.number (placed [] recorded) p older) (is_beside p) (subst (λ place. is_beside (new p.datagram p.moment place) ≡ true) (sym is) refl)
+    by (Beside y) is = inl (or_right (needs_doubt x.number (placed [] recorded) p older) (is_beside p) (subst (λ place. is_beside (new p.datagram p.moment place) ≡ true) (sym is) refl))
     by (Apart e) is = let none : None ≡ Some x = sym (ap transfer_beside is) ∙ at in absurd (cc)
     by Nowhere is = let none : None ≡ Some x = sym (ap transfer_beside is) ∙ at in absurd (cc)
 

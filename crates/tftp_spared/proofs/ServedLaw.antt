@@ -1,5 +1,5 @@
 -- A lawful capture between a client and a server is such as the division of a recording looks for.
-use Rattle.std.proofs.Common.{◌≡◌, ℕ, Bool, true, false, List, [], ◌∷◌, inl, inr, refl, sym, ap, subst, ◌∙◌, ◌&&◌, ◌||◌, not, map, bytes_eq, if◌then◌else◌}
+use Rattle.std.proofs.Common.{◌≡◌, ◌⊎◌, ℕ, Bool, true, false, List, [], ◌∷◌, Contains, inl, inr, refl, sym, ap, subst, ◌∙◌, ◌&&◌, ◌||◌, not, map, bytes_eq, if◌then◌else◌}
 use Rattle.std.specs.List.{list_any, AllByRecursion}
 use Rattle.std.proofs.lemmas.Bool.{false≢true, or_cases, or_left, or_right, and_from, and_parts}
 use Rattle.std.proofs.lemmas.Slice.Eq.{bytes_eq-Decides}
@@ -13,25 +13,26 @@ use Rattle.tftp_lines.specs.Recording.{is_answer}
 use Rattle.tftp_lines.proofs.Endpoints.{is_same, same_itself}
 use Rattle.tftp_lines.proofs.Lines.{by_test}
 use Rattle.tftp_spared.specs.Seen.{is_with}
-use Rattle.tftp_spared.specs.{Follows, AsksInTime, as_served, at_server_of, captured_there, asks_from, comes_at, goes_from}
+use Rattle.tftp_spared.specs.{AsksInTime, Follows, as_served, at_server_of, captured_there, asks_from, comes_at, goes_from}
 use Rattle.tftp_spared.proofs.Alike.{asked_alike}
 use Rattle.tftp_spared.proofs.Captured.{AreHere}
 use Rattle.tftp_spared.proofs.Places.{comes_to_it}
-use Rattle.tftp_spared.proofs.ServedRuns.{IsPart, IsRun, run_of}
+use Rattle.tftp_spared.proofs.Lists.{all_at}
+use Rattle.tftp_spared.proofs.ServedRuns.{IsPart, IsRun, asked_alone, run_of}
 
--- what passed between a client and a server's host, lawful as the server saw it, and asked for in time
-pub record IsServed (write : Address → List ℕ) (host : Address) (c : Endpoint) (k : List Recorded) : Type 0 where
+-- what passed between a client and a server's host, lawful as the server saw it; requests come in time, unless they may come late
+pub record IsServed (Late : Type 0) (write : Address → List ℕ) (host : Address) (c : Endpoint) (k : List Recorded) : Type 0 where
   pub passes : OneEnded (at_server_of 69) (map (as_served write c) k)
   pub here : AllByRecursion (λ d. is_with c d ≡ true) k
   pub at_host : AllByRecursion (λ d. (other_of c d).address ≡ host) k
-  pub in_time : AsksInTime c k
+  pub timely : Late ⊎ AsksInTime c k
 
 module _ (write : Address → List ℕ) (host : Address) (c : Endpoint) where
   abbrev pub see : Recorded → Datagram
   see = as_served write c
 
-  pub served_before : (d e : Recorded) (k : List Recorded) → IsServed write host c (d ∷ e ∷ k) → IsServed write host c (e ∷ k)
-  served_before d e k s = record { passes = s.passes.1; here = s.here.1; at_host = s.at_host.1; in_time = s.in_time.1 }
+  pub served_before : (Late : Type 0) (d e : Recorded) (k : List Recorded) → IsServed Late write host c (d ∷ e ∷ k) → IsServed Late write host c (e ∷ k)
+  served_before Late d e k s = record { passes = s.passes.1; here = s.here.1; at_host = s.at_host.1; timely = elim s.timely [ inl late ↦ inl late | inr in_time ↦ inr in_time.1 ] }
 
   -- ---- as the server saw it
 
@@ -142,7 +143,7 @@ module _ (write : Address → List ℕ) (host : Address) (c : Endpoint) where
 
   -- ---- so it follows
 
-  module _ (d : Recorded) (k : List Recorded) (s : IsServed write host c (d ∷ k)) where
+  module _ (Late : Type 0) (d : Recorded) (k : List Recorded) (s : IsServed Late write host c (d ∷ k)) where
     run : IsRun (see d) (map see k)
     run = run_of (name c) (see d) (map see k) s.passes (peers (d ∷ k) s.here)
 
@@ -164,10 +165,21 @@ module _ (write : Address → List ℕ) (host : Address) (c : Endpoint) where
       first = first_asks;
       service = to_service run.m run.wire run.ids d run.parts.0;
       alike = λ is. alike_all run.m run.wire run.ids d run.parts.0 s.at_host.0 is k run.parts.1 s.at_host.1;
-      no_more = s.in_time.0;
       known = λ from plain.
           let parts = others_part run.m run.wire run.ids (d ∷ k) run.parts s.at_host in
           let there : d.target ≡ Own run.m run.wire run.ids = sym (ap (λ b. if b then d.target else d.source) from) ∙ parts.0 (plain_off from plain) in
           heard_all run.m run.wire run.ids d.target there k here.1 parts.1 (run.heard (came_seen d ∙ from) (says_seen d ∙ plain));
       answers = λ off none. sym (ap is_answer (payload_seen d)) ∙ run.answers (went_seen d ∙ ap not off) (went_none k none);
     }
+
+    -- each request of it is lawful alone
+    pub alone_lawful : (r : Recorded) → Contains (d ∷ k) r → asks_from c r ≡ true → OneEnded (at_server_of 69) (see r ∷ [])
+    alone_lawful r there is =
+        let parts = and_parts (goes_from c r) (begins_request r.payload) is in
+        let part = all_at (λ e. IsPart run.m run.wire run.ids (see e)) (d ∷ k) r (unmapped (d ∷ k) run.parts) there in
+        let said = part.asked (came_seen r ∙ parts.0) (says_seen r ∙ parts.1) in
+        asked_alone run.m run.wire run.fits (see r) (came_seen r ∙ parts.0) said.0 said.1
+      where
+        unmapped : (ks : List Recorded) → AllByRecursion (IsPart run.m run.wire run.ids) (map see ks) → AllByRecursion (λ e. IsPart run.m run.wire run.ids (see e)) ks
+        unmapped [] all = tt
+        unmapped (e ∷ ks) all = (all.0, unmapped ks all.1)

@@ -4,12 +4,13 @@ use Rattle.std.specs.List.{list_any, AllByRecursion}
 use Rattle.std.proofs.lemmas.Bool.{false≢true, or_left, or_right, and_from, or_parts}
 use Rattle.std.proofs.lemmas.List.{reverse-reverse}
 use Rattle.tftp_packet.specs.{Client, Server, IsPair, Spells}
-use Rattle.tftp_hosts.specs.{In, Out, Datagram, Header, PeerId, peer_of}
+use Rattle.tftp_hosts.specs.{Dir, In, Out, Datagram, Header, PeerId, peer_of}
 use Rattle.tftp_model.specs.{Meaning, MachinePacket, Req, Oack, Data, Ack, Error, Deed, Sent, Took, History, message_of, HasSent, HasTaken, IsOneSided}
 use Rattle.tftp_model.proofs.Members.{contains_cases, contains_none}
 use Rattle.tftp_model.proofs.OneSided.{view_one_sided}
+use Rattle.tftp_model.proofs.MadeRuns.{one_sided_view}
 use Rattle.tftp_rules.specs.{begins_request, comes_in, goes_out}
-use Rattle.tftp_law.specs.{Label, Main, Stray, Division, datagrams_of, view_in, TransferIds, HasLabel, HaveLabels, IsMain, Starts, OneEnded}
+use Rattle.tftp_law.specs.{Label, Main, Stray, Division, datagrams_of, view_in, TransferIds, HasLabel, HaveLabels, IsMain, Starts, Fits, OneEnded}
 use Rattle.tftp_law.specs.Dress.{StrayAnswer}
 use Rattle.tftp_law.proofs.Division.Divided.{divided_more, any_none, any_cases}
 use Rattle.tftp_law.proofs.Division.Placing.{one, starts_before, MainOut, StrayFrom}
@@ -168,6 +169,7 @@ pub record IsRun (d : Datagram) (ds : List Datagram) : Type 0 where
   pub m : Meaning
   pub wire : List ℕ
   pub ids : TransferIds
+  pub fits : Fits m wire
   pub parts : AllByRecursion (IsPart m wire ids) (d ∷ ds)
   pub first : ds ≡ [] → (comes_in d ≡ true) × (begins_request d ≡ true)
   pub heard : comes_in d ≡ true → begins_request d ≡ false → list_any goes_out ds ≡ true
@@ -210,6 +212,7 @@ run_of peer d ds passes from =
       m = m;
       wire = wire;
       ids = dress.ids;
+      fits = seen.fits;
       parts = subst (λ l. AllByRecursion (IsPart m wire dress.ids) (d ∷ l)) are (parts m wire dress.ids (one d p.label rest) labels starts mains);
       first = λ none. first_in m wire dress.ids rest d deed has (subst (λ x. Starts Server (view_in (one d x rest))) main starts) (no_rest rest ds are none);
       heard = λ came plain. subst (λ l. list_any goes_out l ≡ true) are (heard m wire dress.ids rest d deed has came plain);
@@ -217,3 +220,32 @@ run_of peer d ds passes from =
           answers m wire dress.ids rest d deed has (subst (λ x. IsOneSided m wire Server (view_in (one d x rest))) main own)
           (only_asked m wire dress.ids rest labels.1 mains.1 (ap (list_any goes_out) are ∙ none)) out;
     }
+
+-- ---- a request alone
+
+comes_so : (d : Datagram) → comes_in d ≡ true → d.dir ≡ In
+comes_so d came = by d.dir refl where
+  by : (way : Dir) → d.dir ≡ way → d.dir ≡ In
+  by In is = is
+  by Out is = absurd (false≢true (sym (out_false d is) ∙ came))
+
+-- what asks is lawful where nothing else passed
+pub asked_alone : (m : Meaning) (wire : List ℕ) → Fits m wire → (d : Datagram) → comes_in d ≡ true → d.local ≡ 69 → Spells d.payload (message_of m wire Req) → OneEnded at (d ∷ [])
+asked_alone m wire fits d came service spells = (lawful at (d ∷ [])).0 (
+  m,
+  wire,
+  record {
+    fits = fits;
+    view = Took Req ∷ [];
+    run = one_sided_view m wire Server (Took Req ∷ []) (refl, tt);
+    dressed = record {
+      ids = record { own = 0; peer = peer_of d; asked = [] };
+      division = one d (Main (Took Req)) [];
+      whole = refl;
+      main = refl;
+      labels = (record { dir = comes_so d came; client = refl; server = (service, λ e. absurd (no_client e)); spells = spells }, tt);
+    };
+  },
+) where
+  no_client : Server ≡ Client → ⊥
+  no_client e = absurd (cc)

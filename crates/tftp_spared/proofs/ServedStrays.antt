@@ -1,5 +1,5 @@
 -- At a server the rules say the same of what passed with the client, whether strays passed beside it or not.
-use Rattle.std.proofs.Common.{◌≡◌, ℕ, Bool, true, false, List, [], ◌∷◌, Option, Some, None, inl, inr, refl, sym, ap, subst, ◌∙◌, ◌==◌, ◌&&◌, ◌||◌, not, option_map, if◌then◌else◌}
+use Rattle.std.proofs.Common.{◌≡◌, ◌⊎◌, ℕ, Bool, true, false, List, [], ◌∷◌, Option, Some, None, inl, inr, refl, sym, ap, subst, ◌∙◌, ◌==◌, ◌&&◌, ◌||◌, not, option_map, if◌then◌else◌}
 use Rattle.std.specs.List.{AllByRecursion, filter}
 use Rattle.std.proofs.lemmas.Bool.{false≢true}
 use Rattle.tftp_hosts.specs.{Datagram, Header, PeerId, peer_of, same_peer}
@@ -31,10 +31,6 @@ first_all P test (d ∷ ds) f all found = elim (or_some (first_of test ds) (test
   | inr this ↦ subst P this.2 all.0
 ]
 
-all_each : (P Q : Datagram → Type 0) → ((d : Datagram) → P d → Q d) → (ds : List Datagram) → AllByRecursion P ds → AllByRecursion Q ds
-all_each P Q f [] all = tt
-all_each P Q f (d ∷ ds) all = (f d all.0, all_each P Q f ds all.1)
-
 and_off : (x : Bool) → (x && false) ≡ false
 and_off true = refl
 and_off false = refl
@@ -52,9 +48,9 @@ module _ (service : ℕ) (client : PeerId) where
   abbrev pub keeps : Datagram → Bool
   keeps d = same_peer (peer_of d) client
 
-  -- what passed with another says no request
+  -- what passed with another asks nothing at the service port
   abbrev pub AreStrays : List Datagram → Type 0
-  AreStrays ds = AllByRecursion (λ d. keeps d ≡ false → begins_request d ≡ false) ds
+  AreStrays ds = AllByRecursion (λ d. keeps d ≡ false → asks at d ≡ false) ds
 
   out_off : (ds : List Datagram) (d : Datagram) → keeps d ≡ false → is_of_transfer (route_out client ds d) ≡ false
   out_off ds d off = ap (λ b. is_of_transfer (if b then Route.Peer else if has_come_from (peer_of d) ds then (if begins_error d then Route.StrayAnswer else Route.NoStrayAnswer) else Route.WrongPort)) off
@@ -77,30 +73,27 @@ module _ (service : ℕ) (client : PeerId) where
 
   -- ---- routes
 
-  asks_off : (d : Datagram) → begins_request d ≡ false → asks at d ≡ false
-  asks_off d plain = ap (λ b. (comes_in d && b) && (d.local == service)) plain ∙ ap (λ b. b && (d.local == service)) (and_off (comes_in d))
-
-  strays_ask : (ds : List Datagram) → AreStrays ds → AllByRecursion (λ d. keeps d ≡ false → asks at d ≡ false) ds
-  strays_ask ds strays = all_each (λ d. keeps d ≡ false → begins_request d ≡ false) (λ d. keeps d ≡ false → asks at d ≡ false) (λ d plain off. asks_off d (plain off)) ds strays
-
   first_client : (ds : List Datagram) → AreStrays ds → (f : Datagram) → first_of (asks at) ds ≡ Some f → peer_of f ≡ client
   first_client ds strays f found = by_test (keeps f)
       (λ is. is_same (peer_of f) client is)
-      (λ off. absurd (false≢true (sym (first_all (λ d. keeps d ≡ false → asks at d ≡ false) (asks at) ds f (strays_ask ds strays) found off) ∙ first_passes (asks at) ds f found)))
+      (λ off. absurd (false≢true (sym (first_all (λ d. keeps d ≡ false → asks at d ≡ false) (asks at) ds f strays found off) ∙ first_passes (asks at) ds f found)))
 
   module _ (ds : List Datagram) (strays : AreStrays ds) where
     abbrev kept : List Datagram
     kept = filter keeps ds
 
     first_same : first_of (asks at) kept ≡ first_of (asks at) ds
-    first_same = first_kept (asks at) keeps ds (strays_ask ds strays)
+    first_same = first_kept (asks at) keeps ds strays
 
     abbrev answers : PeerId → Datagram → Bool
     answers peer a = goes_out a && same_peer (peer_of a) peer
 
+    own_answers : (ds : List Datagram) → AllByRecursion (λ d. keeps d ≡ false → answers client d ≡ false) ds
+    own_answers [] = tt
+    own_answers (d ∷ ds) = ((λ off. ap (λ b. goes_out d && b) off ∙ and_off (goes_out d)), own_answers ds)
+
     answered_same : first_of (answers client) kept ≡ first_of (answers client) ds
-    answered_same = first_kept (answers client) keeps ds
-        (all_each (λ d. keeps d ≡ false → begins_request d ≡ false) (λ d. keeps d ≡ false → answers client d ≡ false) (λ d plain off. ap (λ b. goes_out d && b) off ∙ and_off (goes_out d)) ds strays)
+    answered_same = first_kept (answers client) keeps ds (own_answers ds)
 
     out_same : (d : Datagram) → keeps d ≡ true → route_out client kept d ≡ route_out client ds d
     out_same d is = ap (λ b. if b then Route.Peer else if has_come_from (peer_of d) kept then (if begins_error d then Route.StrayAnswer else Route.NoStrayAnswer) else Route.WrongPort) is
@@ -139,14 +132,19 @@ module _ (service : ℕ) (client : PeerId) where
           ∙ sym (route_by ds d (Some f) found)
 
     -- a stray among them is none of the transfer's
-    stray_route : (d : Datagram) → Passes at ds d → keeps d ≡ false → begins_request d ≡ false → is_of_transfer (route_of at ds d) ≡ false
+    stray_route : (d : Datagram) → Passes at ds d → keeps d ≡ false → asks at d ≡ false → is_of_transfer (route_of at ds d) ≡ false
     stray_route d passes off plain = by (first_of (asks at) ds) refl where
-      before : route_before at d ≡ Route.Peer
-      before = ap (λ b. if comes_in d && b then (if d.local == service then Route.Request else Route.WrongPort) else Route.Peer) plain
-          ∙ ap (λ b. if b then (if d.local == service then Route.Request else Route.WrongPort) else Route.Peer) (and_off (comes_in d))
+      before : (b : Bool) → (comes_in d && begins_request d) ≡ b → (route_before at d ≡ Route.Peer) ⊎ (route_before at d ≡ Route.WrongPort)
+      before false none = inl (ap (λ b. if b then (if d.local == service then Route.Request else Route.WrongPort) else Route.Peer) none)
+      before true is =
+          let there : (d.local == service) ≡ false = sym (ap (λ b. b && (d.local == service)) is) ∙ plain in
+          inr (ap (λ b. if b then (if d.local == service then Route.Request else Route.WrongPort) else Route.Peer) is ∙ ap (λ b. if b then Route.Request else Route.WrongPort) there)
 
       by : (o : Option Datagram) → first_of (asks at) ds ≡ o → is_of_transfer (route_of at ds d) ≡ false
-      by None none = absurd (passes.lawful Rule.NoRequest (none, route_by ds d None none ∙ before))
+      by None none = elim (before (comes_in d && begins_request d) refl) [
+        | inl peer ↦ absurd (passes.lawful Rule.NoRequest (none, route_by ds d None none ∙ peer))
+        | inr wrong ↦ ap is_of_transfer (route_by ds d None none ∙ wrong)
+      ]
       by (Some f) found =
           ap is_of_transfer (route_by ds d (Some f) found)
           ∙ ap (λ p. is_of_transfer (after ds p (first_of (answers p) ds) d)) (first_client ds strays f found)

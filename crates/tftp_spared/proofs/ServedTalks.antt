@@ -12,16 +12,16 @@ use Rattle.tftp_spared.specs.Seen.{is_with}
 use Rattle.tftp_spared.specs.{is_doubted_there, comes_at, goes_from}
 use Rattle.tftp_spared.proofs.Basics.{doubted_more, all_and, all_first, any_append, newest_all}
 use Rattle.tftp_spared.proofs.Lists.{any_filter, passing}
-use Rattle.tftp_spared.proofs.Stands.{new, IsPlain, talks, State, doubted, asking, answered, Asking, Answered, Same, IsKnown, Has}
+use Rattle.tftp_spared.proofs.Stands.{new, IsPlain, talks, State, doubted, asking, answered, reopened, taken, mixed, Reopened, Taken, AreWith, Asking, Answered, Same, IsKnown, Has}
 use Rattle.tftp_spared.proofs.Stands.IsPlain.{asks as asked}
 use Rattle.tftp_spared.proofs.Places.{of_talk, no_request_talks, place_some, talk_found, talk_none, other_is, comes_to_it, from_none}
 use Rattle.tftp_spared.proofs.Talks.{any_map}
-use Rattle.tftp_spared.proofs.Requests.{all_filter, all_second}
+use Rattle.tftp_spared.proofs.Requests.{all_filter, all_second, filter_told}
 use Rattle.tftp_spared.proofs.Recordings.{line_all, live_all}
 use Rattle.tftp_spared.proofs.Bottoms.{filter_whole}
 use Rattle.tftp_spared.proofs.Spared.{rest_same}
 use Rattle.tftp_spared.proofs.ServedLaw.{IsServed}
-use Rattle.tftp_spared.proofs.ServedViews.{AreWith, all_own, with_whom}
+use Rattle.tftp_spared.proofs.ServedViews.{all_own, with_whom}
 
 -- ---- what is talked of another transfer than the latest was talked of so with the same endpoint before
 
@@ -210,6 +210,24 @@ asking_told c k older kp rest x a =
     (all_second (λ q. (is_request q ≡ true) × (is_of x.number q ≡ true) × Same q.datagram a.asked.r) (λ q. is_request q ≡ true) (λ q own. own.0) kp a.own))
     (all_second (λ q. (is_request q ≡ true) × Same q.datagram a.asked.r) (λ q. is_request q ≡ true) (λ q same. same.0) a.asked.before a.asked.repeated))))
 
+-- ---- in one that was opened by a late request
+
+reopened_told : (c : Endpoint) (k : List Recorded) (older kp rest : List Placed) (x : Transfer) → Reopened c k older kp rest x → Told c x.number older
+reopened_told c k older kp rest x a =
+    still (passing (λ q. is_request q ≡ true) (is_of x.number) older (subst (AllByRecursion (λ q. is_request q ≡ true)) (sym a.asked.view)
+    (all_and (λ q. is_request q ≡ true) (filter (is_of x.number) kp) a.asked.before
+    (all_second (λ q. (is_request q ≡ true) × Same q.datagram a.asked.r) (λ q. is_request q ≡ true) (λ q same. same.0) (filter (is_of x.number) kp)
+    (filter_told (λ q. (is_request q ≡ true) × Same q.datagram a.asked.r) (is_of x.number) kp a.same))
+    (all_second (λ q. (is_request q ≡ true) × Same q.datagram a.asked.r) (λ q. is_request q ≡ true) (λ q same. same.0) a.asked.before a.asked.repeated))))
+
+taken_told : (c o : Endpoint) (k : List Recorded) (older kp rest : List Placed) (x : Transfer) → Has c k older kp rest x → Taken c k older kp rest x → AreWith c o kp → Told c x.number older
+taken_told c o k older kp rest x has a all =
+    told o a.came (all_second (λ q. is_of x.number q ≡ true → AnyTalk c o q) (TalksWith c x.number o) (λ q any y at number. any (of_talk x.number q y at ∙ number) y at) older
+    (passing (AnyTalk c o) (is_of x.number) older (subst (AllByRecursion (AnyTalk c o)) (sym a.asked.view)
+    (all_and (AnyTalk c o) (filter (is_of x.number) kp) a.asked.before
+    (all_filter (AnyTalk c o) (is_of x.number) kp (plain_talks c o kp (all_first (IsPlain c) kp rest has.plain) all))
+    (all_second (λ q. (is_request q ≡ true) × Same q.datagram a.asked.r) (AnyTalk c o) (λ q same y at. absurd (false≢true (sym (no_request_talks q y at) ∙ same.0))) a.asked.before a.asked.repeated)))))
+
 -- ---- in an earlier one
 
 module _ (c : Endpoint) (k : List Recorded) (older kp rest : List Placed) (x z : Transfer) (d : Recorded) (now : ℕ) (has : Has c k (new d now (Talks z) ∷ older) (new d now (Talks z) ∷ kp) rest x)
@@ -245,19 +263,22 @@ module _ (c : Endpoint) (k : List Recorded) (older kp rest : List Placed) (x z :
 
 -- ---- so after each datagram
 
-module _ (write : Address → List ℕ) (host : Address) (c : Endpoint) where
+module _ (Late : Type 0) (write : Address → List ℕ) (host : Address) (c : Endpoint) where
   pub told_one : (n : ℕ) (k : List Recorded) (older kp rest : List Placed) (x : Transfer) (d : Recorded) (now : ℕ) (place : Place) → is_with c d ≡ true → place ≡ place_of [] older now d
-      → Has c k (new d now place ∷ older) (new d now place ∷ kp) rest x → IsServed write host c k → is_of n (new d now place) ≡ true → Told c n older → Told c n (new d now place ∷ older)
+      → Has c k (new d now place ∷ older) (new d now place ∷ kp) rest x → IsServed Late write host c k → is_of n (new d now place) ≡ true → Told c n older → Told c n (new d now place ∷ older)
   told_one n k older kp rest x d now place with at has served of before = by has.plain.0 where
     own : Told c x.number (new d now place ∷ older)
     own = state has.state where
       whom : (o : Endpoint) × AreWith c o (new d now place ∷ kp)
-      whom = with_whom write host c k (new d now place ∷ older) (new d now place ∷ kp) rest x has served
+      whom = with_whom write host c Late k (new d now place ∷ older) (new d now place ∷ kp) rest x has served
 
       state : State c k (new d now place ∷ older) (new d now place ∷ kp) rest x → Told c x.number (new d now place ∷ older)
       state (doubted is) = doubtful is
       state (answered a) = answered_told c whom.0 k (new d now place ∷ older) (new d now place ∷ kp) rest x has a whom.1
       state (asking a) = asking_told c k (new d now place ∷ older) (new d now place ∷ kp) rest x a
+      state (reopened a) = reopened_told c k (new d now place ∷ older) (new d now place ∷ kp) rest x a
+      state (taken a) = taken_told c whom.0 k (new d now place ∷ older) (new d now place ∷ kp) rest x has a whom.1
+      state (mixed a) = absurd (a.mixed whom.0 whom.1)
 
     number : (z : Transfer) → place ≡ Talks z → z.number ≡ n
     number z here = eqb-true z.number n (sym (of_talk n (new d now place) z here) ∙ of)

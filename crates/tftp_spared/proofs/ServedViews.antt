@@ -1,6 +1,6 @@
 -- In a transfer that was asked for, or answered, the server's view is the capture and what was asked before in the same words.
 use Rattle.std.proofs.Common.{◌≡◌, ℕ, Bool, true, false, List, [], ◌∷◌, inl, inr, refl, sym, ap, subst, ◌∙◌, not, map}
-use Rattle.std.specs.List.{list_any, AllByRecursion}
+use Rattle.std.specs.List.{list_any, AllByRecursion, filter}
 use Rattle.std.proofs.lemmas.Bool.{false≢true, or_cases, and_parts}
 use Rattle.tftp_hosts.specs.{Datagram}
 use Rattle.tftp_packet.specs.{Server}
@@ -10,17 +10,15 @@ use Rattle.tftp_lines.proofs.Lines.{by_test}
 use Rattle.tftp_transfers.specs.{client_view}
 use Rattle.tftp_transfers.proofs.Ends.{spoken}
 use Rattle.tftp_spared.specs.{as_served, at_server_of, captured_there, asks_from}
-use Rattle.tftp_spared.proofs.Stands.{Same, Asking, Answered, IsKnown, Has}
+use Rattle.tftp_spared.proofs.Stands.{Same, Asking, Answered, Reopened, AreWith, IsKnown, Has}
 use Rattle.tftp_spared.proofs.Places.{other_is}
 use Rattle.tftp_spared.proofs.Talks.{bottom_own}
-use Rattle.tftp_spared.proofs.Bottoms.{filter_whole, own_all, seen_of, view_lawful}
+use Rattle.tftp_spared.proofs.Basics.{all_and}
+use Rattle.tftp_spared.proofs.Requests.{filter_told}
+use Rattle.tftp_spared.proofs.Bottoms.{filter_whole, own_all, repeated_lawful, seen_of, view_lawful}
 use Rattle.tftp_spared.proofs.Repeated.{repeated_passes}
 use Rattle.tftp_spared.proofs.Spared.{IsStated}
-use Rattle.tftp_spared.proofs.ServedLaw.{IsServed, one_server}
-
--- what is no request passed with this endpoint
-abbrev pub AreWith : Endpoint → Endpoint → List Placed → Type 0
-AreWith c o ps = AllByRecursion (λ q. is_request q ≡ false → other_of c q.datagram ≡ o) ps
+use Rattle.tftp_spared.proofs.ServedLaw.{IsServed, alone_lawful, one_server}
 
 pub all_with : (c o : Endpoint) (kp : List Placed) (k : List Recorded) → map (λ p. p.datagram) kp ≡ k → AllByRecursion (IsKnown c) kp → AllByRecursion (λ d. asks_from c d ≡ false → other_of c d ≡ o) k → AreWith c o kp
 all_with c o [] k are known all = tt
@@ -75,25 +73,46 @@ module _ (write : Address → List ℕ) (host : Address) (c : Endpoint) where
   abbrev pub IsFair : List Placed → Type 0
   IsFair view = OneEnded (at_server_of 69) (map seen view)
 
-  -- the endpoint that a capture's datagrams pass with
-  pub with_whom : (k : List Recorded) (older kp rest : List Placed) (x : Transfer) → Has c k older kp rest x → IsServed write host c k → (o : Endpoint) × AreWith c o kp
-  with_whom [] older [] rest x has s = absurd (has.some refl)
-  with_whom [] older (q ∷ kp) rest x has s = let none : q.datagram ∷ map (λ (p : Placed). p.datagram) kp ≡ [] = has.are in absurd (cc)
-  with_whom (d ∷ k) older kp rest x has s = let (o, all) = one_server write host c d k s in (o, all_with c o kp (d ∷ k) has.are has.known all)
+  module _ (Late : Type 0) where
+    -- the endpoint that a capture's datagrams pass with
+    pub with_whom : (k : List Recorded) (older kp rest : List Placed) (x : Transfer) → Has c k older kp rest x → IsServed Late write host c k → (o : Endpoint) × AreWith c o kp
+    with_whom [] older [] rest x has s = absurd (has.some refl)
+    with_whom [] older (q ∷ kp) rest x has s = let none : q.datagram ∷ map (λ (p : Placed). p.datagram) kp ≡ [] = has.are in absurd (cc)
+    with_whom (d ∷ k) older kp rest x has s = let (o, all) = one_server write host c Late d k s in (o, all_with c o kp (d ∷ k) has.are has.known all)
 
-  module _ (k : List Recorded) (older kp rest : List Placed) (x : Transfer) (has : Has c k older kp rest x) (s : IsServed write host c k) where
-    whole : OneEnded (at_server_of 69) (map seen kp)
-    whole = seen_of (at_server_of 69) (as_served write c) same_seen kp k has.are s.passes
+    module _ (k : List Recorded) (older kp rest : List Placed) (x : Transfer) (has : Has c k older kp rest x) (s : IsServed Late write host c k) where
+      whole : OneEnded (at_server_of 69) (map seen kp)
+      whole = seen_of (at_server_of 69) (as_served write c) same_seen kp k has.are s.passes
 
-    answered_fair : Answered c k older kp rest x → IsFair (client_view x.number older)
-    answered_fair a =
-        let (o, all) = with_whom k older kp rest x has s in
-        view_lawful (at_server_of 69) (as_served write c) same_seen (repeated_passes Server 69) older kp x.number a.asked a.bottom
-        (subst (λ l. OneEnded (at_server_of 69) (map seen l)) (sym (filter_whole x.number kp (all_own c o k older kp rest x a all))) whole)
+      answered_fair : Answered c k older kp rest x → IsFair (client_view x.number older)
+      answered_fair a =
+          let (o, all) = with_whom k older kp rest x has s in
+          view_lawful (at_server_of 69) (as_served write c) same_seen (repeated_passes Server 69) older kp x.number a.asked a.bottom
+          (subst (λ l. OneEnded (at_server_of 69) (map seen l)) (sym (filter_whole x.number kp (all_own c o k older kp rest x a all))) whole)
 
-    asking_fair : Asking c k older kp rest x → IsFair (client_view x.number older)
-    asking_fair a = view_lawful (at_server_of 69) (as_served write c) same_seen (repeated_passes Server 69) older kp x.number a.asked (bottom_own a.asked.r x.number kp has.some a.own)
-        (subst (λ l. OneEnded (at_server_of 69) (map seen l)) (sym (filter_whole x.number kp (own_all x.number a.asked.r kp a.own))) whole)
+      asking_fair : Asking c k older kp rest x → IsFair (client_view x.number older)
+      asking_fair a = view_lawful (at_server_of 69) (as_served write c) same_seen (repeated_passes Server 69) older kp x.number a.asked (bottom_own a.asked.r x.number kp has.some a.own)
+          (subst (λ l. OneEnded (at_server_of 69) (map seen l)) (sym (filter_whole x.number kp (own_all x.number a.asked.r kp a.own))) whole)
 
-  pub stated : IsStated (IsServed write host c) c IsFair
-  stated k older kp rest x has s = (asking_fair k older kp rest x has s, answered_fair k older kp rest x has s)
+    -- where a transfer was opened by a late request, it was asked for and nothing else
+    all_same : (r : Recorded) (ps : List Placed) → AllByRecursion (λ q. (is_request q ≡ true) × Same q.datagram r) ps → OneEnded (at_server_of 69) (as_served write c r ∷ []) → IsFair ps
+    all_same r [] all lawful = tt
+    all_same r (q ∷ ps) all lawful = subst (λ s. OneEnded (at_server_of 69) (s ∷ map seen ps)) (sym (same_seen q.datagram r all.0.1))
+        (repeated_lawful (at_server_of 69) (as_served write c) same_seen (repeated_passes Server 69) r ps (as_served write c r ∷ []) all.1 refl lawful)
+
+    reopened_fair : (k : List Recorded) (older kp rest : List Placed) (x : Transfer) → Has c k older kp rest x → IsServed Late write host c k → Reopened c k older kp rest x → IsFair (client_view x.number older)
+    reopened_fair [] older kp rest x has s a = absurd (false≢true a.went_on)
+    reopened_fair (d ∷ k) older kp rest x has s a = all_same a.asked.r (client_view x.number older)
+        (subst (AllByRecursion (λ q. (is_request q ≡ true) × Same q.datagram a.asked.r)) (sym a.asked.view)
+        (all_and (λ q. (is_request q ≡ true) × Same q.datagram a.asked.r) (filter (is_of x.number) kp) a.asked.before
+        (filter_told (λ q. (is_request q ≡ true) × Same q.datagram a.asked.r) (is_of x.number) kp a.same) a.asked.repeated))
+        (alone_lawful write host c Late d k s a.asked.r a.there a.asks_it)
+
+    pub stated : IsStated (IsServed Late write host c) c IsFair Late
+    stated = record {
+      is_asked = asking_fair;
+      is_answered = answered_fair;
+      is_reopened = reopened_fair;
+      is_taken = λ k older kp rest x has s a. elim s.timely [ inl late ↦ let (o, all) = with_whom k older kp rest x has s in (late, o, all) | inr in_time ↦ absurd (a.untimely in_time) ];
+      is_mixed = λ k older kp rest x has s a. let (o, all) = with_whom k older kp rest x has s in a.mixed o all;
+    }

@@ -1,12 +1,12 @@
 -- What is kept of a client's line while its captures follow one another: the newest transfer is doubtful, or its view is its
 -- part of the newest capture and what was asked before in the same words.
-use Rattle.std.proofs.Common.{◌≡◌, ◌≢◌, ℕ, Bool, true, false, List, [], ◌∷◌, ◌++◌, Some, map}
+use Rattle.std.proofs.Common.{◌≡◌, ◌≢◌, ℕ, Bool, true, false, List, [], ◌∷◌, ◌++◌, ◌&&◌, not, Contains, Some, map}
 use Rattle.std.specs.List.{list_any, AllByRecursion, filter}
 use Rattle.tftp_rules.specs.{first_of}
 use Rattle.tftp_lines.specs.{Endpoint, Place, Talks, Transfer, Recorded, Placed, is_between, other_of, is_of, is_request, newest_of, reach, line, transfer_of, latest_in, answered_in, says_more, asks_alike, is_alike_in}
-use Rattle.tftp_transfers.specs.{client_view}
+use Rattle.tftp_transfers.specs.{client_view, comes}
 use Rattle.tftp_transfers.proofs.Ends.{spoken}
-use Rattle.tftp_spared.specs.{is_doubted_there, asks_from, comes_at, goes_on_from}
+use Rattle.tftp_spared.specs.{is_doubted_there, AsksInTime, asks_from, comes_at, goes_on_from}
 
 abbrev pub new : Recorded → ℕ → Place → Placed
 new d now place = record { datagram = d; moment = now; place = place }
@@ -71,10 +71,51 @@ pub record Answered (c : Endpoint) (k : List Recorded) (older kp rest : List Pla
   pub serves : list_any (spoken c server) kp ≡ true
   pub first : (q : Placed) → first_of (λ p. comes_at c p.datagram) kp ≡ Some q → other_of c q.datagram ≡ server
 
+-- what is no request passed with this endpoint
+abbrev pub AreWith : Endpoint → Endpoint → List Placed → Type 0
+AreWith c o ps = AllByRecursion (λ q. is_request q ≡ false → other_of c q.datagram ≡ o) ps
+
+-- the newest, if it is a request, is the same as this
+abbrev pub TopSame : Recorded → List Placed → Type 0
+TopSame r [] = Unit {0}
+TopSame r (q ∷ ps) = is_request q ≡ true → Same q.datagram r
+
+-- it is talked of another transfer
+abbrev pub talks_apart : ℕ → Placed → Bool
+talks_apart n q = not (is_request q) && not (is_of n q)
+
+-- The client asked once it had gone on, and by that opened a transfer, of which nothing is talked yet.
+pub record Reopened (c : Endpoint) (k : List Recorded) (older kp rest : List Placed) (x : Transfer) : Type 0 where
+  pub untimely : AsksInTime c k → ⊥
+  pub went_on : list_any (goes_on_from c) k ≡ true
+  pub asked : AskedBefore older kp x.number
+  pub there : Contains k asked.r
+  pub asks_it : asks_from c asked.r ≡ true
+  pub same : AllByRecursion (λ q. is_of x.number q ≡ true → (is_request q ≡ true) × Same q.datagram asked.r) kp
+  pub top_same : TopSame asked.r kp
+  pub others : AllByRecursion (OthersOf x.number) (kp ++ rest)
+
+-- What was talked of the transfer before is talked of that one now.
+pub record Taken (c : Endpoint) (k : List Recorded) (older kp rest : List Placed) (x : Transfer) : Type 0 where
+  pub untimely : AsksInTime c k → ⊥
+  pub ends : ends_in_request kp ≡ false
+  pub asked : AskedBefore older kp x.number
+  pub came : list_any (comes x.number) older ≡ true
+  pub apart : list_any (talks_apart x.number) kp ≡ true
+
+-- The client talks with more than one.
+pub record Mixed (c : Endpoint) (k : List Recorded) (kp : List Placed) : Type 0 where
+  pub untimely : AsksInTime c k → ⊥
+  pub ends : ends_in_request kp ≡ false
+  pub mixed : (o : Endpoint) → AreWith c o kp → ⊥
+
 pub data State (c : Endpoint) (k : List Recorded) (older kp rest : List Placed) (x : Transfer) : Type 0 where
   doubted : is_doubted_there x.number older ≡ true → State c k older kp rest x
   asking : Asking c k older kp rest x → State c k older kp rest x
   answered : Answered c k older kp rest x → State c k older kp rest x
+  reopened : Reopened c k older kp rest x → State c k older kp rest x
+  taken : Taken c k older kp rest x → State c k older kp rest x
+  mixed : Mixed c k kp → State c k older kp rest x
 
 -- it is a request exactly if the client asks by it, and it passed at the client
 pub record IsKnown (c : Endpoint) (q : Placed) : Type 0 where
@@ -92,5 +133,6 @@ pub record Has (c : Endpoint) (k : List Recorded) (older kp rest : List Placed) 
   pub client : x.client ≡ c
   pub top : TopIs x kp
   pub more : list_any says_more (reach (kp ++ rest)) ≡ true → list_any (goes_on_from c) k ≡ true
+  pub pure : ends_in_request kp ≡ true → list_any says_more (reach (kp ++ rest)) ≡ false
   pub alike : (d : Recorded) → AllByRecursion (λ e. asks_from c e ≡ true → asks_alike e d ≡ true) k → is_alike_in d (newest_of is_request (kp ++ rest)) ≡ true
   pub state : State c k older kp rest x

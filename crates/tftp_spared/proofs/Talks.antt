@@ -6,16 +6,17 @@ use Rattle.tftp_rules.specs.{first_of, or_this}
 use Rattle.tftp_lines.specs.{Endpoint, Place, Talks, Transfer, Recorded, Placed, same_endpoint, is_between, other_of, is_of, is_request, newest_of, reach, live, line, says_more, begins_request, begins_error, goes, last_was_ack_0, answers, answered_in, latest_in, opens, place_at, is_another, may_be_answer_of, may_answer, talk_in}
 use Rattle.tftp_lines.specs.Recording.{is_answer, is_data_1}
 use Rattle.tftp_lines.specs.Doubting.{acked_0_in, answer_of, is_next_data}
-use Rattle.tftp_transfers.specs.{is_it}
+use Rattle.tftp_transfers.specs.{comes, is_it}
+use Rattle.tftp_model.proofs.Members.{contains_later}
 use Rattle.tftp_lines.proofs.Endpoints.{is_same, same_itself}
 use Rattle.tftp_lines.proofs.Lines.{by_test, answered_more}
 use Rattle.tftp_transfers.proofs.AllLines.{line_here}
 use Rattle.tftp_transfers.proofs.Ends.{spoken}
 use Rattle.tftp_fair.proofs.Thinned.{filter_kept, filter_dropped}
-use Rattle.tftp_spared.specs.{is_doubted_there, Follows, asks_from, comes_at, goes_from, goes_on_from}
+use Rattle.tftp_spared.specs.{Follows, asks_from, comes_at, goes_from, goes_on_from}
 use Rattle.tftp_spared.proofs.Basics.{some_or, doubted_more, doubted_apart, all_first, all_last, all_map, newest_all, newest_first, newest_some, any_append}
 use Rattle.tftp_spared.proofs.Places.{of_talk, talk_found, place_new, place_old, place_unanswered, heard_before, spoken_other, other_is, comes_to_it}
-use Rattle.tftp_spared.proofs.Stands.{new, IsPlain, asks, talks, Same, Bottom, OthersOf, AskedBefore, Asking, Answered, State, doubted, asking, answered, IsKnown, Has}
+use Rattle.tftp_spared.proofs.Stands.{new, IsPlain, asks, talks, Same, Bottom, OthersOf, AskedBefore, Asking, Answered, State, doubted, asking, answered, reopened, taken, mixed, Reopened, Taken, AreWith, talks_apart, IsKnown, Has}
 
 -- no request goes from the client
 pub no_begin : (c : Endpoint) (d : Recorded) → asks_from c d ≡ false → goes_from c d ≡ true → begins_request d.payload ≡ false
@@ -44,6 +45,7 @@ talk_has c k older kp rest x y d now has client off here lived state = record {
   latest = has.latest;
   client = has.client;
   top = λ is. absurd (false≢true is);
+  pure = λ top. absurd (false≢true top);
   more = some_or (says_more (new d now (Talks y))) (list_any says_more (reach (kp ++ rest))) (goes_on_from c d) (list_any (goes_on_from c) k) (said_more c y d now client off) has.more;
   alike = λ e all. has.alike e all.1;
   state = state;
@@ -350,20 +352,136 @@ asking_talk c k older kp rest x d now has a follows off lived = by_test (goes_fr
         let plain : is_request q ≡ false = by_test (is_request q) (λ t. absurd (false≢true (sym (ap not t) ∙ parts.0))) (λ f. f) in
         talk q found plain (is.1 plain) came is.0
 
--- ---- in a doubted one, and in each
+-- ---- in one that was opened by a late request
 
-doubted_talk : (c : Endpoint) (k : List Recorded) (older kp rest : List Placed) (x : Transfer) (d : Recorded) (now : ℕ) → Has c k older kp rest x → is_doubted_there x.number older ≡ true
+-- what the client said as it went on was no request
+went_plain : (c : Endpoint) (q : Placed) → IsKnown c q → goes_on_from c q.datagram ≡ true → is_request q ≡ false
+went_plain c q known on = by_test (begins_request q.datagram.payload)
+    (λ is. absurd (false≢true (sym (ap (λ b. if b then false else (goes_from c q.datagram && not (begins_error q.datagram.payload))) is) ∙ on)))
+    (λ off. known.kind ∙ ap (λ b. goes_from c q.datagram && b) off ∙ and_off (goes_from c q.datagram))
+  where
+    and_off : (b : Bool) → (b && false) ≡ false
+    and_off true = refl
+    and_off false = refl
+
+went_spoken : (c o : Endpoint) (kp : List Placed) → AllByRecursion (IsKnown c) kp → AreWith c o kp → list_any (goes_on_from c) (map (λ p. p.datagram) kp) ≡ true → list_any (spoken c o) kp ≡ true
+went_spoken c o [] known with any = absurd (false≢true any)
+went_spoken c o (q ∷ kp) known with any = elim (or_cases (goes_on_from c q.datagram) (list_any (goes_on_from c) (map (λ p. p.datagram) kp)) any) [
+  | inl this ↦
+      let plain = went_plain c q known.0 this in
+      or_left (spoken c o q) (list_any (spoken c o) kp) (spoken_other c o q known.0 plain (subst (λ e. same_endpoint e o ≡ true) (sym (with.0 plain)) (same_itself o)))
+  | inr later ↦ or_right (spoken c o q) (list_any (spoken c o) kp) (went_spoken c o kp known.1 with.1 later)
+]
+
+went_apart : (c : Endpoint) (n : ℕ) (kp : List Placed) → AllByRecursion (IsKnown c) kp → AllByRecursion (OthersOf n) kp → list_any (goes_on_from c) (map (λ p. p.datagram) kp) ≡ true → list_any (talks_apart n) kp ≡ true
+went_apart c n [] known others any = absurd (false≢true any)
+went_apart c n (q ∷ kp) known others any = elim (or_cases (goes_on_from c q.datagram) (list_any (goes_on_from c) (map (λ p. p.datagram) kp)) any) [
+  | inl this ↦
+      let plain = went_plain c q known.0 this in
+      or_left (talks_apart n q) (list_any (talks_apart n) kp) (and_from (not (is_request q)) (not (is_of n q)) (ap not plain) (ap not (others.0 plain)))
+  | inr later ↦ or_right (talks_apart n q) (list_any (talks_apart n) kp) (went_apart c n kp known.1 others.1 later)
+]
+
+reopened_talk : (c : Endpoint) (k : List Recorded) (older kp rest : List Placed) (x : Transfer) (d : Recorded) (now : ℕ) → Has c k older kp rest x → Reopened c k older kp rest x
     → Follows c k d → asks_from c d ≡ false → Talked c k older kp rest x d now
 unfolding Talked
-doubted_talk c k older kp rest x d now has is follows off = by (newest_of (spoken c o) (kp ++ rest)) refl where
+reopened_talk c k older kp rest x d now has a follows off = by (newest_of (spoken c o) (kp ++ rest)) refl where
   o : Endpoint
   o = other_of c d
 
   Result : Type 0
   Result = (y : Transfer) × (y.client ≡ c) × (place_at c o (kp ++ rest) d ≡ Talks y) × State c (d ∷ k) (new d now (Talks y) ∷ older) (new d now (Talks y) ∷ kp) rest x
 
-  still : (y : Transfer) → State c (d ∷ k) (new d now (Talks y) ∷ older) (new d now (Talks y) ∷ kp) rest x
-  still y = doubted (doubted_more x.number (new d now (Talks y)) older is)
+  went : list_any (goes_on_from c) (map (λ p. p.datagram) kp) ≡ true
+  went = subst (λ l. list_any (goes_on_from c) l ≡ true) (sym has.are) a.went_on
+
+  none : answered_in x (kp ++ rest) ≡ None
+  none = unanswered x (kp ++ rest) a.others
+
+  sent : goes_from c d ≡ true → list_any (spoken c o) (kp ++ rest) ≡ true
+  sent from = any_append (spoken c o) kp rest (heard_before c o kp has.known
+      (subst (λ e. list_any (λ r. goes e c r && comes_at c r) (map (λ p. p.datagram) kp) ≡ true) (sym (ap (λ b. if b then d.target else d.source) from))
+      (subst (λ l. list_any (λ r. goes d.target c r && comes_at c r) l ≡ true) (sym has.are) (follows.known from (no_begin c d off from)))))
+
+  strange : newest_of (spoken c o) (kp ++ rest) ≡ None → State c (d ∷ k) (new d now (Talks x) ∷ older) (new d now (Talks x) ∷ kp) rest x
+  strange nobody = mixed (record {
+    untimely = λ timely. a.untimely timely.1;
+    ends = refl;
+    mixed = λ e with.
+        let here : AreWith c o kp = subst (λ w. AreWith c w kp) (sym (with.0 refl)) with.1 in
+        false≢true (sym (newest_some (spoken c o) (kp ++ rest) nobody) ∙ any_append (spoken c o) kp rest (went_spoken c o kp has.known here went));
+  })
+
+  goes_over : (goes o c d && is_answer d.payload) ≡ true → State c (d ∷ k) (new d now (Talks x) ∷ older) (new d now (Talks x) ∷ kp) rest x
+  goes_over may =
+      let to = (and_parts (same_endpoint d.source o) (same_endpoint d.target c) (and_parts (goes o c d) (is_answer d.payload) may).0).1 in
+      taken (record {
+        untimely = λ timely. a.untimely timely.1;
+        ends = refl;
+        asked = asked_more older kp x.number (new d now (Talks x)) a.asked;
+        came = or_left (comes x.number (new d now (Talks x))) (list_any (comes x.number) older)
+            (and_from (x.number == x.number) (same_endpoint d.target x.client) (eq-eqb x.number x.number refl) (subst (λ e. same_endpoint d.target e ≡ true) (sym has.client) to));
+        apart = or_right (talks_apart x.number (new d now (Talks x))) (list_any (talks_apart x.number) kp) (went_apart c x.number kp has.known (all_first (OthersOf x.number) kp rest a.others) went);
+      })
+
+  stays : (y : Transfer) → (y.number == x.number) ≡ false → State c (d ∷ k) (new d now (Talks y) ∷ older) (new d now (Talks y) ∷ kp) rest x
+  stays y differs = reopened (record {
+    untimely = λ timely. a.untimely timely.1;
+    went_on = or_right (goes_on_from c d) (list_any (goes_on_from c) k) a.went_on;
+    asked = asked_more older kp x.number (new d now (Talks y)) a.asked;
+    there = contains_later d k a.asked.r a.there;
+    asks_it = a.asks_it;
+    same = ((λ of. absurd (false≢true (sym differs ∙ of))), a.same);
+    top_same = λ top. absurd (false≢true top);
+    others = (λ plain. differs, a.others);
+  })
+
+  talk : (q : Placed) → newest_of (spoken c o) (kp ++ rest) ≡ Some q → is_request q ≡ false → is_of x.number q ≡ false → IsPlain c q → Result
+  talk q found plain other (asks z is at) = absurd (false≢true (sym plain ∙ is))
+  talk q found plain other (talks y is client) =
+      let differs : (y.number == x.number) ≡ false = sym (of_talk x.number q y is) ∙ other in
+      let place = place_unanswered c o (kp ++ rest) d x y q has.latest found is none in
+      by_test ((goes o c d && is_answer d.payload) && not (is_data_1 d.payload && last_was_ack_0 c o (kp ++ rest)))
+      (λ over. (
+        x,
+        has.client,
+        place ∙ ap (λ b. if b then Talks x else Talks y) over,
+        goes_over (and_parts (goes o c d && is_answer d.payload) (not (is_data_1 d.payload && last_was_ack_0 c o (kp ++ rest))) over).0,
+      ))
+      (λ not_over. (y, client, place ∙ ap (λ b. if b then Talks x else Talks y) not_over, stays y differs))
+
+  by : (found : Option Placed) → newest_of (spoken c o) (kp ++ rest) ≡ found → Result
+  by None nobody = by_test (goes_from c d)
+      (λ from. absurd (false≢true (sym (newest_some (spoken c o) (kp ++ rest) nobody) ∙ sent from)))
+      (λ came. (x, has.client, place_new c o (kp ++ rest) d x has.latest nobody came, strange nobody))
+  by (Some q) found =
+      let (is, spoke) = newest_all (λ p. IsPlain c p × OthersOf x.number p) (spoken c o) (kp ++ rest) q (all_both (IsPlain c) (OthersOf x.number) (kp ++ rest) has.plain a.others) found in
+      let parts = and_parts (not (is_request q)) (is_between c o q.datagram) spoke in
+      let plain : is_request q ≡ false = by_test (is_request q) (λ t. absurd (false≢true (sym (ap not t) ∙ parts.0))) (λ f. f) in
+      talk q found plain (is.1 plain) is.0
+
+taken_talk : (c : Endpoint) (k : List Recorded) (older kp rest : List Placed) (x : Transfer) (d : Recorded) (now : ℕ) → Taken c k older kp rest x
+    → (y : Transfer) → State c (d ∷ k) (new d now (Talks y) ∷ older) (new d now (Talks y) ∷ kp) rest x
+taken_talk c k older kp rest x d now a y = taken (record {
+  untimely = λ timely. a.untimely timely.1;
+  ends = refl;
+  asked = asked_more older kp x.number (new d now (Talks y)) a.asked;
+  came = or_right (comes x.number (new d now (Talks y))) (list_any (comes x.number) older) a.came;
+  apart = or_right (talks_apart x.number (new d now (Talks y))) (list_any (talks_apart x.number) kp) a.apart;
+})
+
+-- ---- in a doubted one, and in each
+
+any_talk : (c : Endpoint) (k : List Recorded) (older kp rest : List Placed) (x : Transfer) (d : Recorded) (now : ℕ) → Has c k older kp rest x
+    → ((y : Transfer) → State c (d ∷ k) (new d now (Talks y) ∷ older) (new d now (Talks y) ∷ kp) rest x)
+    → Follows c k d → asks_from c d ≡ false → Talked c k older kp rest x d now
+unfolding Talked
+any_talk c k older kp rest x d now has still follows off = by (newest_of (spoken c o) (kp ++ rest)) refl where
+  o : Endpoint
+  o = other_of c d
+
+  Result : Type 0
+  Result = (y : Transfer) × (y.client ≡ c) × (place_at c o (kp ++ rest) d ≡ Talks y) × State c (d ∷ k) (new d now (Talks y) ∷ older) (new d now (Talks y) ∷ kp) rest x
 
   sent : goes_from c d ≡ true → list_any (spoken c o) (kp ++ rest) ≡ true
   sent from = any_append (spoken c o) kp rest (heard_before c o kp has.known
@@ -404,6 +522,10 @@ talk_step c k older kp rest x d now has follows off lived = by has.state where
   all (y, client, place, state) = (y, client, ap (λ l. place_at c (other_of c d) l d) has.whole ∙ place, talk_has c k older kp rest x y d now has client off follows.here lived state)
 
   by : State c k older kp rest x → Result
-  by (doubted is) = all (doubted_talk c k older kp rest x d now has is follows off)
+  by (doubted is) = all (any_talk c k older kp rest x d now has (λ y. doubted (doubted_more x.number (new d now (Talks y)) older is)) follows off)
+  by (taken a) = all (any_talk c k older kp rest x d now has (taken_talk c k older kp rest x d now a) follows off)
+  by (mixed a) = all (any_talk c k older kp rest x d now has
+      (λ y. mixed (record { untimely = λ timely. a.untimely timely.1; ends = refl; mixed = λ e with. a.mixed e with.1 })) follows off)
+  by (reopened a) = all (reopened_talk c k older kp rest x d now has a follows off)
   by (asking a) = all (asking_talk c k older kp rest x d now has a follows off lived)
   by (answered a) = all (answered_talk c k older kp rest x d now has a follows off)

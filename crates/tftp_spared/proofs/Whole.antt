@@ -1,15 +1,16 @@
 -- A recording at clients whose captures follow one another, and what else passed.
-use Rattle.std.proofs.Common.{◌≡◌, ◌≤◌, ◌+◌, ◌&&◌, ℕ, Bool, true, false, List, [], ◌∷◌, ◌++◌, Some, Contains, inl, inr, refl, sym, ap, subst, ◌∙◌, filter, max, append_assoc}
+use Rattle.std.proofs.Common.{◌≡◌, ◌⊎◌, ◌≤◌, ◌+◌, ◌==◌, ◌&&◌, ◌||◌, not, is_some, length, Option, None, if◌then◌else◌, ℕ, Bool, true, false, List, [], ◌∷◌, ◌++◌, Some, Contains, inl, inr, refl, sym, ap, subst, ◌∙◌, filter, max, append_assoc}
 use Rattle.std.specs.List.{AllByRecursion, list_any}
 use Rattle.std.proofs.lemmas.Bool.{false≢true, and_from, and_parts, or_cases, or_left, or_right}
 use Rattle.std.proofs.lemmas.List.Elements.{Contains-append_right}
 use Rattle.tftp_model.proofs.Members.{contains_first}
-use Rattle.tftp_lines.specs.{Endpoint, Place, Opens, Repeats, Talks, Beside, Transfer, Recorded, Placed, same_endpoint, goes, is_at, is_of, is_request, transfer_of, begins_request, clock, silence}
+use Rattle.tftp_lines.specs.{Endpoint, Place, Opens, Repeats, Talks, Beside, Transfer, Recorded, Placed, same_endpoint, goes, is_at, is_of, is_request, transfer_of, begins_request, clock, silence, is_again, is_apart, newest_of, live, line, opened_by, asked_after, talk_in}
 use Rattle.tftp_lines.proofs.Endpoints.{is_same, same_itself}
 use Rattle.tftp_lines.proofs.Lines.{by_test}
-use Rattle.tftp_transfers.specs.{asks, is_beside, place_of, placed}
+use Rattle.tftp_transfers.specs.{asks, at_client, beside, is_beside, is_client, is_nowhere, is_service, place_of, placed}
+use Rattle.tftp_transfers.proofs.Ends.{asked_as, asked_place, opened, again}
 use Rattle.tftp_spared.specs.Seen.{is_with}
-use Rattle.tftp_spared.specs.{AreCaptures, Follows, IsNext, AreInOrder, asks_from, begins, comes_at, goes_on, goes_from}
+use Rattle.tftp_spared.specs.{AskersAreElsewhere, AreCaptures, Follows, IsNext, AreInOrder, asks_from, begins, comes_at, goes_on, goes_from}
 use Rattle.tftp_spared.proofs.Basics.{all_last}
 use Rattle.tftp_spared.proofs.Lists.{all_at, all_from, any_filter, one_passes}
 use Rattle.tftp_spared.proofs.Stands.{new, IsPlain, talks, Has}
@@ -17,12 +18,12 @@ use Rattle.tftp_spared.proofs.Stands.IsPlain.{asks as asked}
 use Rattle.tftp_spared.proofs.Recordings.{Standing, nothing, asks_not, clock_now, on_time, order_rest, plain_asks}
 use Rattle.tftp_spared.proofs.Owned.{AreOwn, IsOwn, transfer_below}
 use Rattle.tftp_spared.proofs.Clients.{AreAtClients, all_own, at_more, own}
-use Rattle.tftp_spared.proofs.Kept.{AllBefore, At, IsGiven, OneOf, at_before, at_here, kept_at, all_kept, next_has, step}
+use Rattle.tftp_spared.proofs.Kept.{AllBefore, At, IsGiven, ComesFromElsewhere, at_before, at_here, kept_at, all_kept, next_has, step}
 
--- At each client captures follow one another, such as may be there; what passed at no client's endpoint says no request.
+-- At each client captures follow one another, such as may be there; who asks elsewhere speaks with no client.
 pub record AreAll (lawful : Endpoint → List Recorded → Type 0) (clients : List Endpoint) (recorded : List Recorded) : Type 0 where
   pub captures : (c : Endpoint) → Contains clients c → (k : List Recorded) × AreCaptures (lawful c) c (filter (is_with c) recorded) k
-  pub others : (d : Recorded) → Contains recorded d → ((c : Endpoint) → Contains clients c → is_with c d ≡ false) → begins_request d.payload ≡ false
+  pub others : AskersAreElsewhere clients recorded
   pub ports : (c : Endpoint) → Contains clients c → c.port ≡ 69 → ⊥
   pub order : AreInOrder recorded
 
@@ -50,19 +51,60 @@ request_beside : (d : Recorded) (now : ℕ) (place : Place) → is_request (new 
 request_beside d now (Beside x) request beside = false≢true request
 request_beside d now _ request beside = false≢true beside
 
+-- what asks is not beside
+asked_beside : (older : List Placed) (now : ℕ) (d : Recorded) → is_beside (new d now (asked_place older now d)) ≡ true → ⊥
+asked_beside older now d is = by (newest_of (λ p. not (is_apart p)) (live now (line d.source older))) refl where
+  away : (place : Place) → asked_place older now d ≡ place → is_beside (new d now place) ≡ true
+  away place at = subst (λ p. is_beside (new d now p) ≡ true) at is
+
+  by : (found : Option Placed) → newest_of (λ p. not (is_apart p)) (live now (line d.source older)) ≡ found → ⊥
+  by None none = false≢true (away (opened_by (length older) d) (rw none refl))
+  by (Some p) found =
+      let at : asked_place older now d ≡ asked_after (opened_by (length older) d) p.place (is_again p.datagram d) = rw found refl in
+      elim (asked_as p.place (is_again p.datagram d) (length older) d) [
+        | opened e ↦ false≢true (away (opened_by (length older) d) (at ∙ e))
+        | again y e of ↦ false≢true (away (Repeats y) (at ∙ e))
+      ]
+
+-- what says a request and passed beside a server does not go to port 69
+beside_port : (older : List Placed) (now : ℕ) (d : Recorded) → begins_request d.payload ≡ true → is_beside (new d now (place_of [] older now d)) ≡ true → (d.target.port == 69) ≡ false
+beside_port older now d begins_it is_there = by_test (d.target.port == 69)
+    (λ is.
+    let named : is_service [] [] d.target.port ≡ true = or_left ((d.target.port == 69) || false) false (or_left (d.target.port == 69) false is) in
+    let says : asks [] older now d ≡ true = and_from (begins_request d.payload)
+    (is_service [] [] d.target.port || (not (is_client older now d.target) && (is_service [] older d.target.port || (d.is_spelled && not (is_some (talk_in d.source d.target (live now (line d.source older)))))))) begins_it
+    (or_left (is_service [] [] d.target.port) (not (is_client older now d.target) && (is_service [] older d.target.port || (d.is_spelled && not (is_some (talk_in d.source d.target (live now (line d.source older))))))) named) in
+    let place : place_of [] older now d ≡ asked_place older now d = ap (λ b. if b then asked_place older now d else if is_nowhere (at_client older now d) then beside [] older now d else at_client older now d) says in
+    absurd (asked_beside older now d (subst (λ p. is_beside (new d now p) ≡ true) place is_there)))
+    (λ off. off)
+
 -- what is of a client's line is not beside
 plain_beside : (c : Endpoint) (q : Placed) → IsPlain c q → is_beside q ≡ true → ⊥
 plain_beside c q (asked x request at) beside = request_beside q.datagram q.moment q.place request beside
 plain_beside c q (talks y at client) beside = false≢true (sym (ap (λ place. is_beside (new q.datagram q.moment place)) at) ∙ beside)
 
 module _ (lawful : Endpoint → List Recorded → Type 0) (clients : List Endpoint) (recorded : List Recorded) (g : AreAll lawful clients recorded) where
+  -- ---- who has a line: the clients, and who asks elsewhere
+
+  record AsksElsewhere (e : Endpoint) : Type 0 where
+    request : Recorded
+    there : Contains recorded request
+    none : (c : Endpoint) → Contains clients c → is_with c request ≡ false
+    begins_it : begins_request request.payload ≡ true
+    source : e ≡ request.source
+
+  abbrev Here : Endpoint → Type 0
+  Here e = Contains clients e ⊎ AsksElsewhere e
+
+  -- ---- captures
+
   captures_of : (c : Endpoint) → Contains clients c → (k : List Recorded) × At (lawful c) c recorded k
   captures_of c is_client = g.captures c is_client
 
   before_them : (c : Endpoint) (is_client : Contains clients c) (newer ds k : List Recorded) → At (lawful c) c (newer ++ ds) k → (k0 : List Recorded) × At (lawful c) c ds k0
   before_them c is_client [] ds k captures = (k, captures)
   before_them c is_client (d ∷ newer) ds k captures =
-      let (k0, before) = at_before (lawful c) c clients is_client recorded d (newer ++ ds) k captures in
+      let (k0, before) = at_before (lawful c) c Here recorded d (newer ++ ds) k captures in
       before_them c is_client newer ds k0 before
 
   captures_at : (c : Endpoint) → Contains clients c → (newer ds : List Recorded) → recorded ≡ newer ++ ds → (k : List Recorded) × At (lawful c) c ds k
@@ -127,23 +169,33 @@ module _ (lawful : Endpoint → List Recorded → Type 0) (clients : List Endpoi
         ]
       ]
 
-  one_of : (c : Endpoint) (is_client : Contains clients c) → OneOf (lawful c) c clients is_client recorded recorded
-  one_of c is_client = all_from (λ d. is_with c d ≡ true → (e : Endpoint) → Contains clients e → is_with e d ≡ true → c ≡ e) recorded
-      (λ d there with e also with_e. all_contains_at d there c e is_client also with with_e)
-    where
-      all_contains_at : (d : Recorded) → Contains recorded d → (c e : Endpoint) → Contains clients c → Contains clients e → is_with c d ≡ true → is_with e d ≡ true → c ≡ e
-      all_contains_at d there c e one other with_c with_e = all_at (AreOne c e) recorded d (between_two c e one other [] recorded refl) there with_c with_e
+  -- ---- what comes to a client comes from none who has a line
+
+  no_asker : (c : Endpoint) → Contains clients c → (d : Recorded) → Contains recorded d → is_with c d ≡ true → AsksElsewhere d.source → ⊥
+  no_asker c is_client d there with asker = false≢true (sym (g.others asker.request d asker.there there asker.none asker.begins_it c is_client with)
+      ∙ or_left (same_endpoint d.source asker.request.source) (same_endpoint d.target asker.request.source) (subst (λ e. same_endpoint d.source e ≡ true) asker.source (same_itself d.source)))
+
+  elsewhere : (c : Endpoint) → Contains clients c → ComesFromElsewhere (lawful c) c Here recorded recorded
+  elsewhere c is_client = all_from (λ d. is_with c d ≡ true → goes_from c d ≡ false → Here d.source → ⊥) recorded none where
+    none : (d : Recorded) → Contains recorded d → is_with c d ≡ true → goes_from c d ≡ false → Here d.source → ⊥
+    none d there with off here = elim here [
+      | inl other ↦
+          let same : c ≡ d.source = all_at (AreOne c d.source) recorded d (between_two c d.source is_client other [] recorded refl) there with
+          (or_left (same_endpoint d.source d.source) (same_endpoint d.target d.source) (same_itself d.source)) in
+          false≢true (sym off ∙ subst (λ e. same_endpoint d.source e ≡ true) (sym same) (same_itself d.source))
+      | inr asker ↦ no_asker c is_client d there with asker
+    ]
 
   in_order : (newer ds : List Recorded) → AreInOrder (newer ++ ds) → AreInOrder ds
   in_order [] ds order = order
   in_order (d ∷ newer) ds order = in_order newer ds (order_rest d (newer ++ ds) order)
 
-  given : (c : Endpoint) (is_client : Contains clients c) (newer ds : List Recorded) → recorded ≡ newer ++ ds → IsGiven (lawful c) c clients is_client recorded ds
+  given : (c : Endpoint) (is_client : Contains clients c) (newer ds : List Recorded) → recorded ≡ newer ++ ds → IsGiven (lawful c) c Here recorded ds
   given c is_client newer ds is = record {
     order = in_order newer ds (subst AreInOrder is g.order);
     port = g.ports c is_client;
-    one = all_last (λ d. is_with c d ≡ true → (e : Endpoint) → Contains clients e → is_with e d ≡ true → c ≡ e) newer ds
-        (subst (AllByRecursion (λ d. is_with c d ≡ true → (e : Endpoint) → Contains clients e → is_with e d ≡ true → c ≡ e)) is (one_of c is_client));
+    elsewhere = all_last (λ d. is_with c d ≡ true → goes_from c d ≡ false → Here d.source → ⊥) newer ds
+        (subst (AllByRecursion (λ d. is_with c d ≡ true → goes_from c d ≡ false → Here d.source → ⊥)) is (elsewhere c is_client));
     newer = newer;
     is = is;
   }
@@ -154,17 +206,19 @@ module _ (lawful : Endpoint → List Recorded → Type 0) (clients : List Endpoi
   now d ds = max d.time (clock (placed [] ds))
 
   record Global (ds : List Recorded) : Type 0 where
-    at : AreAtClients clients (placed [] ds)
+    at : AreAtClients Here (placed [] ds)
     stood : (c : Endpoint) → Contains clients c → (k : List Recorded) → At (lawful c) c ds k → Standing c k (placed [] ds)
 
-  asked_by : (d : Recorded) (newer ds : List Recorded) → recorded ≡ newer ++ d ∷ ds → Global ds → asks [] (placed [] ds) (now d ds) d ≡ true → Contains clients d.source
+  asked_by : (d : Recorded) (newer ds : List Recorded) → recorded ≡ newer ++ d ∷ ds → Global ds → asks [] (placed [] ds) (now d ds) d ≡ true → Here d.source
   asked_by d newer ds is before says =
       let there : Contains recorded d = subst (λ l. Contains l d) (sym is) (Contains-append_right newer (d ∷ ds) d (contains_first d ds)) in
       elim (one_passes (λ c. is_with c d) clients) [
         | inl found ↦
             let (k, captures) = captures_at found.0 found.1 newer (d ∷ ds) is in
-            by found.0 found.1 k (at_here (lawful found.0) found.0 d ds k found.2 captures)
-        | inr none ↦ absurd (false≢true (sym (plain_asks (placed [] ds) (now d ds) d (g.others d there none)) ∙ says))
+            inl (by found.0 found.1 k (at_here (lawful found.0) found.0 d ds k found.2 captures))
+        | inr none ↦ by_test (begins_request d.payload)
+            (λ begins_it. inr (record { request = d; there = there; none = none; begins_it = begins_it; source = refl }))
+            (λ plain. absurd (false≢true (sym (plain_asks (placed [] ds) (now d ds) d plain) ∙ says)))
       ]
     where
       order : AreInOrder (d ∷ ds)
@@ -184,12 +238,12 @@ module _ (lawful : Endpoint → List Recorded → Type 0) (clients : List Endpoi
   global newer [] is = record { at = tt; stood = λ c is_client k captures. nothing refl captures }
   global newer (d ∷ ds) is =
       let before = global (newer ++ d ∷ []) ds (is ∙ sym (append_assoc newer (d ∷ []) ds)) in record {
-        at = at_more clients (placed [] ds) (now d ds) d (λ says. asked_by d newer ds is before says) before.at;
-        stood = λ c is_client k captures. step (lawful c) c clients is_client recorded d ds k (given c is_client newer (d ∷ ds) is)
+        at = at_more Here (placed [] ds) (now d ds) d (λ says. asked_by d newer ds is before says) before.at;
+        stood = λ c is_client k captures. step (lawful c) c Here recorded d ds k (given c is_client newer (d ∷ ds) is)
             (record { at = before.at; stood = λ k0 at. before.stood c is_client k0 at }) captures;
       }
 
-  all_before : (c : Endpoint) (is_client : Contains clients c) (newer ds : List Recorded) → recorded ≡ newer ++ ds → AllBefore (lawful c) c clients is_client recorded ds
+  all_before : (c : Endpoint) (is_client : Contains clients c) (newer ds : List Recorded) → recorded ≡ newer ++ ds → AllBefore (lawful c) c Here recorded ds
   all_before c is_client newer [] is = tt
   all_before c is_client newer (d ∷ ds) is =
       let later = is ∙ sym (append_assoc newer (d ∷ []) ds) in
@@ -198,20 +252,17 @@ module _ (lawful : Endpoint → List Recorded → Type 0) (clients : List Endpoi
         all_before c is_client (newer ++ d ∷ []) ds later,
       )
 
-  pub client_of : (newer older : List Placed) (p : Placed) → placed [] recorded ≡ newer ++ p ∷ older → (x : Transfer) → transfer_of p.place ≡ Some x → Contains clients x.client × own recorded x
-  client_of newer older p are x at =
-      let here = subst (AreAtClients clients) are (global [] recorded refl).at in
-      let owned = subst (AreOwn (own recorded)) are (all_own recorded [] recorded refl) in (
-        (all_last (λ q. (e : Endpoint) → is_at e q ≡ true → Contains clients e) newer (p ∷ older) here).0 x.client (at_is x.client p.datagram p.moment p.place x at ∙ same_itself x.client),
-        transfer_below (own recorded) p.place x (all_last (λ q. IsOwn (own recorded) q.place) newer (p ∷ older) owned).0 at,
-      )
+  pub own_of : (newer older : List Placed) (p : Placed) → placed [] recorded ≡ newer ++ p ∷ older → (x : Transfer) → transfer_of p.place ≡ Some x → own recorded x
+  own_of newer older p are x at =
+      let owned = subst (AreOwn (own recorded)) are (all_own recorded [] recorded refl) in
+      transfer_below (own recorded) p.place x (all_last (λ q. IsOwn (own recorded) q.place) newer (p ∷ older) owned).0 at
 
-  -- what passed beside a server was at no client, and says no request
+  -- what passed beside a server was at no client, and goes to port 69 only if it says no request
   abbrev pub IsApart : Placed → Type 0
-  IsApart q = is_beside q ≡ true → (begins_request q.datagram.payload ≡ false) × ((c : Endpoint) → Contains clients c → is_with c q.datagram ≡ false)
+  IsApart q = is_beside q ≡ true → (begins_request q.datagram.payload ≡ true → (q.datagram.target.port == 69) ≡ false) × ((c : Endpoint) → Contains clients c → is_with c q.datagram ≡ false)
 
   apart_one : (newer ds : List Recorded) (d : Recorded) → recorded ≡ newer ++ d ∷ ds → IsApart (new d (now d ds) (place_of [] (placed [] ds) (now d ds) d))
-  apart_one newer ds d is beside = (g.others d (subst (λ l. Contains l d) (sym is) (Contains-append_right newer (d ∷ ds) d (contains_first d ds))) none, none) where
+  apart_one newer ds d is is_there = (λ begins_it. beside_port (placed [] ds) (now d ds) d begins_it is_there, none) where
     before : Global ds
     before = global (newer ++ d ∷ []) ds (is ∙ sym (append_assoc newer (d ∷ []) ds))
 
@@ -219,9 +270,9 @@ module _ (lawful : Endpoint → List Recorded → Type 0) (clients : List Endpoi
     none c is_client = by_test (is_with c d)
         (λ with.
         let (k, captures) = captures_at c is_client newer (d ∷ ds) is in
-        let (kp, rest, x, has) = next_has (lawful c) c clients is_client recorded d ds k (given c is_client newer (d ∷ ds) is) with
+        let (kp, rest, x, has) = next_has (lawful c) c Here recorded d ds k (given c is_client newer (d ∷ ds) is) with
         (record { at = before.at; stood = λ k0 at. before.stood c is_client k0 at }) (at_here (lawful c) c d ds k with captures) in
-        absurd (plain_beside c (new d (now d ds) (place_of [] (placed [] ds) (now d ds) d)) has.plain.0 beside))
+        absurd (plain_beside c (new d (now d ds) (place_of [] (placed [] ds) (now d ds) d)) has.plain.0 is_there))
         (λ off. off)
 
   pub all_apart : (newer ds : List Recorded) → recorded ≡ newer ++ ds → AllByRecursion IsApart (placed [] ds)
@@ -233,18 +284,16 @@ module _ (lawful : Endpoint → List Recorded → Type 0) (clients : List Endpoi
       (other : (n : ℕ) (p : Placed) (older : List Placed) → is_of n p ≡ false → Kept n older → Kept n (p ∷ older))
       (one : (n : ℕ) (k : List Recorded) (older kp rest : List Placed) (x : Transfer) (d : Recorded) (now : ℕ) (place : Place)
       → is_with c d ≡ true → place ≡ place_of [] older now d → Has c k (new d now place ∷ older) (new d now place ∷ kp) rest x → lawful c k → is_of n (new d now place) ≡ true → Kept n older → Kept n (new d now place ∷ older)) where
-    pub kept_of : (newer older : List Placed) (p : Placed) → placed [] recorded ≡ newer ++ p ∷ older → (x : Transfer) → transfer_of p.place ≡ Some x → x.client ≡ c → Kept x.number (p ∷ older)
-    kept_of newer older p are x at is =
-        let (there, owned) = client_of newer older p are x at in
-        let is_client : Contains clients c = subst (Contains clients) is there in
+    pub kept_of : Contains clients c → (newer older : List Placed) (p : Placed) → placed [] recorded ≡ newer ++ p ∷ older → (x : Transfer) → transfer_of p.place ≡ Some x → x.client ≡ c → Kept x.number (p ∷ older)
+    kept_of is_client newer older p are x at is =
+        let owned = own_of newer older p are x at in
         let (k, captures) = captures_of c is_client in
-        kept_at (lawful c) c clients is_client recorded Kept none other one x owned is recorded k
+        kept_at (lawful c) c Here recorded Kept none other one x owned is recorded k
         (given c is_client [] recorded refl) (all_before c is_client [] recorded refl) captures newer older p are
 
-    pub kept_whole : (newer older : List Placed) (p : Placed) → placed [] recorded ≡ newer ++ p ∷ older → (x : Transfer) → transfer_of p.place ≡ Some x → x.client ≡ c → Kept x.number (placed [] recorded)
-    kept_whole newer older p are x at is =
-        let (there, owned) = client_of newer older p are x at in
-        let is_client : Contains clients c = subst (Contains clients) is there in
+    pub kept_whole : Contains clients c → (newer older : List Placed) (p : Placed) → placed [] recorded ≡ newer ++ p ∷ older → (x : Transfer) → transfer_of p.place ≡ Some x → x.client ≡ c → Kept x.number (placed [] recorded)
+    kept_whole is_client newer older p are x at is =
+        let owned = own_of newer older p are x at in
         let (k, captures) = captures_of c is_client in
-        all_kept (lawful c) c clients is_client recorded Kept none other one x owned is recorded k
+        all_kept (lawful c) c Here recorded Kept none other one x owned is recorded k
         (given c is_client [] recorded refl) (all_before c is_client [] recorded refl) captures

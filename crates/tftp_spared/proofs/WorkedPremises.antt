@@ -1,7 +1,7 @@
 -- Premises of the laws that a recording meets, by computation; and a refusal by the ports.
 use Rattle.std.proofs.Common.{◌≡◌, ◌<◌, ◌+◌, ℕ, zero, suc, Bool, true, false, ◌==◌, ◌&&◌, ◌||◌, not, nat_le, List, [], ◌∷◌, ◌++◌, Contains, inl, inr, refl, sym, ap, subst, ◌∙◌, map, reverse, arith}
 use Rattle.std.specs.List.{All, AllByRecursion, list_all, list_any}
-use Rattle.std.proofs.lemmas.Bool.{false≢true, and_parts, leb-true, eq-eqb, or_cases}
+use Rattle.std.proofs.lemmas.Bool.{false≢true, or_left, or_right, and_parts, leb-true, eq-eqb, or_cases}
 use Rattle.tftp_hosts.specs.{Datagram, Header}
 use Rattle.tftp_rules.specs.{PortRule, Route, route_of}
 use Rattle.tftp_law.specs.{Broken, IsLawful, IsRefused, OneEnded, Rule, number_of}
@@ -12,7 +12,7 @@ use Rattle.tftp_lines.specs.{Address, V4, V6, Endpoint, Recorded, begins_request
 use Rattle.tftp_lines.proofs.Endpoints.{is_same}
 use Rattle.tftp_lines.proofs.Lines.{by_test}
 use Rattle.tftp_spared.specs.Seen.{HasNoSilence, as_seen_by, at_client_of, is_with}
-use Rattle.tftp_spared.specs.{AreAtHost, AreInOrder, AskNowhereElse, AsksInTime, FollowOneAnother, HaveNoServicePort, HaveOwnNames, IsServedCapture, IsWholeCapture, as_served, asks_from, at_server_of, goes_on_from}
+use Rattle.tftp_spared.specs.{AreAtHost, AreInOrder, AskersAreElsewhere, AsksInTime, FollowOneAnother, HaveNoServicePort, HaveOwnNames, IsServedCapture, IsTimelyCapture, IsWholeCapture, as_served, asks_from, at_server_of, goes_on_from}
 use Rattle.tftp_spared.specs.Worked.{own_name}
 use Rattle.tftp_spared.proofs.Lists.{all_at}
 
@@ -38,25 +38,37 @@ each_of test (x ∷ xs) e = let parts = and_parts (test x) (list_all test xs) e 
 
 -- ---- premises
 
--- it is at a client, or says no request
-abbrev pub asks_nowhere_else : List Endpoint → Recorded → Bool
-asks_nowhere_else clients d = list_any (λ c. is_with c d) clients || not (begins_request d.payload)
+-- it is at a client, or says no request, or its source takes part in nothing that is at a client
+abbrev pub asks_elsewhere_only : List Endpoint → List Recorded → Recorded → Bool
+asks_elsewhere_only clients recorded request =
+    list_any (λ c. is_with c request) clients || not (begins_request request.payload) || list_all (λ d. not (list_any (λ c. is_with c d) clients) || not (is_with request.source d)) recorded
 
 none_with : (clients : List Endpoint) (d : Recorded) → ((c : Endpoint) → Contains clients c → is_with c d ≡ false) → list_any (λ c. is_with c d) clients ≡ false
 none_with [] d none = refl
 none_with (c ∷ clients) d none =
-    ap (λ b. b || list_any (λ e. is_with e d) clients) (none c (contains_first c clients))
-    ∙ none_with clients d (λ e there. none e (contains_later c clients e there))
+    ap (λ b. b || list_any (λ e. is_with e d) clients) (none c (contains_first c clients)) ∙ none_with clients d (λ e there. none e (contains_later c clients e there))
 
-pub others_by : (clients : List Endpoint) (recorded : List Recorded) → list_all (asks_nowhere_else clients) recorded ≡ true → AskNowhereElse clients recorded
-others_by clients recorded e d there none =
-    let here : asks_nowhere_else clients d ≡ true = all_at (λ x. asks_nowhere_else clients x ≡ true) recorded d (each_of (asks_nowhere_else clients) recorded e) there in
-    by_test (begins_request d.payload)
-    (λ is. absurd (elim (or_cases (list_any (λ c. is_with c d) clients) (not (begins_request d.payload)) here) [
-      | inl with ↦ false≢true (sym (none_with clients d none) ∙ with)
-      | inr plain ↦ false≢true (sym (ap not is) ∙ plain)
-    ]))
+some_with : (clients : List Endpoint) (d : Recorded) (c : Endpoint) → Contains clients c → is_with c d ≡ true → list_any (λ e. is_with e d) clients ≡ true
+some_with [] d c there with = absurd (contains_none c there)
+some_with (e ∷ clients) d c there with = elim (contains_cases e clients c there) [
+  | inl this ↦ or_left (is_with e d) (list_any (λ o. is_with o d) clients) (subst (λ o. is_with o d ≡ true) (sym this) with)
+  | inr later ↦ or_right (is_with e d) (list_any (λ o. is_with o d) clients) (some_with clients d c later with)
+]
+
+both_off : (a b : Bool) → (not a || not b) ≡ true → a ≡ true → b ≡ false
+both_off a b e is = by_test b
+    (λ also. absurd (false≢true ((λ i. not (sym is i) || not (sym also i)) ∙ e)))
     (λ off. off)
+
+pub others_by : (clients : List Endpoint) (recorded : List Recorded) → list_all (asks_elsewhere_only clients recorded) recorded ≡ true → AskersAreElsewhere clients recorded
+others_by clients recorded e request d there also none begins_it c is_client with =
+    let here : asks_elsewhere_only clients recorded request ≡ true = all_at (λ x. asks_elsewhere_only clients recorded x ≡ true) recorded request (each_of (asks_elsewhere_only clients recorded) recorded e) there in
+    let rest : list_all (λ x. not (list_any (λ o. is_with o x) clients) || not (is_with request.source x)) recorded ≡ true =
+    sym (λ i. none_with clients request none i || not (begins_it i) || list_all (λ x. not (list_any (λ o. is_with o x) clients) || not (is_with request.source x)) recorded) ∙ here in
+    both_off (list_any (λ o. is_with o d) clients) (is_with request.source d)
+    (all_at (λ x. (not (list_any (λ o. is_with o x) clients) || not (is_with request.source x)) ≡ true) recorded d
+    (each_of (λ x. not (list_any (λ o. is_with o x) clients) || not (is_with request.source x)) recorded rest) also)
+    (some_with clients d c is_client with)
 
 pub ports_by : (clients : List Endpoint) → list_all (λ c. not (c.port == 69)) clients ≡ true → HaveNoServicePort clients
 ports_by clients e c there is =
@@ -138,8 +150,11 @@ follow_two P one other recorded is here also = (one ∷ other ∷ [], is, all_mo
 pub whole_by : (write : Address → List ℕ) (c : Endpoint) (k : List Recorded) → IsLawful (at_client_of 69) (map (as_seen_by write c) (reverse k)) → is_steady k ≡ true → IsWholeCapture write c k
 whole_by write c k lawful steady = record { lawful = lawful; steady = steady_by k steady }
 
-pub served_by : (write : Address → List ℕ) (c : Endpoint) (k : List Recorded) → IsLawful (at_server_of 69) (map (as_served write c) (reverse k)) → is_steady k ≡ true → asks_in_time c k ≡ true → IsServedCapture write c k
-served_by write c k lawful steady in_time = record { lawful = lawful; steady = steady_by k steady; in_time = in_time_by c k in_time }
+pub late_by : (write : Address → List ℕ) (c : Endpoint) (k : List Recorded) → IsLawful (at_server_of 69) (map (as_served write c) (reverse k)) → is_steady k ≡ true → IsServedCapture write c k
+late_by write c k lawful steady = record { lawful = lawful; steady = steady_by k steady }
+
+pub served_by : (write : Address → List ℕ) (c : Endpoint) (k : List Recorded) → IsLawful (at_server_of 69) (map (as_served write c) (reverse k)) → is_steady k ≡ true → asks_in_time c k ≡ true → IsTimelyCapture write c k
+served_by write c k lawful steady in_time = record { served = late_by write c k lawful steady; in_time = in_time_by c k in_time }
 
 -- ---- a refusal by the ports
 

@@ -1,17 +1,18 @@
 -- What holds of every recording at a server's host in which captures of lawful transfers are interleaved. Lists have the newest
 -- first.
-use Rattle.std.specs.Prelude.{◌≡◌, ℕ, ◌||◌, not, Bool, true, false, List, [], ◌∷◌, ◌++◌, map, reverse, filter, Contains, Option, Some, None}
+use Rattle.std.specs.Prelude.{◌≡◌, ℕ, ◌&&◌, ◌||◌, not, Bool, true, false, List, [], ◌∷◌, ◌++◌, map, reverse, filter, Contains, Option, Some, None}
 use Rattle.std.specs.List.{list_any}
 use Rattle.tftp_packet.specs.{Server}
 use Rattle.tftp_hosts.specs.{In, Out, Datagram, Header}
 use Rattle.tftp_law.specs.{IsLawful, IsRefused, Rule}
-use Rattle.tftp_lines.specs.{Address, Endpoint, Place, Opens, Repeats, Talks, Beside, Transfer, Recorded, Placed, same_endpoint, other_of}
+use Rattle.tftp_lines.specs.{Address, Endpoint, Place, Opens, Repeats, Talks, Beside, Transfer, Recorded, Placed, same_endpoint, is_between, is_of, is_request, other_of}
+use Rattle.tftp_lines.specs.Doubting.{line_before}
 use Rattle.tftp_transfers.specs.Places.{placed}
 use Rattle.tftp_transfers.specs.Views.{is_at_server, is_end, server_of}
 use Rattle.tftp_transfers.specs.Doubts.{is_beside, is_doubtful_at_server}
 use Rattle.tftp_spared.specs.Seen.{HasNoSilence, is_with}
-use Rattle.tftp_spared.specs.Captures.{AreInOrder, asks_from, goes_on_from}
-use Rattle.tftp_spared.specs.Spared.{AskNowhereElse, FollowOneAnother, HaveNoServicePort, HaveOwnNames, needs_doubt}
+use Rattle.tftp_spared.specs.Captures.{AreInOrder, AsksInTime}
+use Rattle.tftp_spared.specs.Spared.{AskersAreElsewhere, FollowOneAnother, HaveNoServicePort, HaveOwnNames, needs_doubt}
 
 -- ---- one capture
 
@@ -27,15 +28,14 @@ captured_there write false d = record { dir = In; local = d.target.port; host = 
 abbrev pub as_served : (Address → List ℕ) → Endpoint → Recorded → Datagram
 as_served write c d = captured_there write (not (same_endpoint d.source c)) d
 
--- no request comes once its client has sent a block or an ACK
-abbrev pub AsksInTime : Endpoint → List Recorded → Type 0
-AsksInTime c [] = Unit {0}
-AsksInTime c (d ∷ k) = (asks_from c d ≡ true → list_any (goes_on_from c) k ≡ false) × AsksInTime c k
-
 -- All that passed between a client and a server while the two took part in one lawful transfer.
 pub record IsServedCapture (write : Address → List ℕ) (c : Endpoint) (capture : List Recorded) : Type 0 where
   pub lawful : IsLawful (at_server_of 69) (map (as_served write c) (reverse capture))
   pub steady : HasNoSilence capture
+
+-- And no request came late.
+pub record IsTimelyCapture (write : Address → List ℕ) (c : Endpoint) (capture : List Recorded) : Type 0 where
+  pub served : IsServedCapture write c capture
   pub in_time : AsksInTime c capture
 
 -- ---- the recording
@@ -44,12 +44,12 @@ pub record IsServedCapture (write : Address → List ℕ) (c : Endpoint) (captur
 abbrev pub AreAtHost : Address → List Endpoint → List Recorded → Type 0
 AreAtHost host clients recorded = (d : Recorded) (c : Endpoint) → Contains recorded d → Contains clients c → is_with c d ≡ true → (other_of c d).address ≡ host
 
--- Between each client and the server's host one whole capture follows the other; what passed at no client's endpoint says no
--- request; no client has the service port; and the times do not go back.
-pub record AreServed (write : Address → List ℕ) (host : Address) (clients : List Endpoint) (recorded : List Recorded) : Type 0 where
-  pub captures : (c : Endpoint) → Contains clients c → FollowOneAnother (IsServedCapture write c) (filter (is_with c) recorded)
+-- Between each of these clients and the server's host one such capture follows the other; who else asks speaks with none of them;
+-- none of them has the service port; and the times do not go back.
+pub record AreServed (IsCapture : Endpoint → List Recorded → Type 0) (write : Address → List ℕ) (host : Address) (clients : List Endpoint) (recorded : List Recorded) : Type 0 where
+  pub captures : (c : Endpoint) → Contains clients c → FollowOneAnother (IsCapture c) (filter (is_with c) recorded)
   pub here : AreAtHost host clients recorded
-  pub others : AskNowhereElse clients recorded
+  pub others : AskersAreElsewhere clients recorded
   pub hosts : HaveOwnNames write
   pub ports : HaveNoServicePort clients
   pub order : AreInOrder recorded
@@ -79,23 +79,45 @@ seen_at_server write x whole p = captured_there write (went_out x whole p) p.dat
 abbrev pub server_saw : (Address → List ℕ) → Transfer → List Placed → List Placed → List Datagram
 server_saw write x whole part = map (seen_at_server write x whole) (filter (is_at_server x.number whole) part)
 
+-- ---- a doubt
+
+-- a talk between the client of this transfer and this endpoint, but of another transfer
+abbrev pub is_talk_of_another : Transfer → Endpoint → Placed → Bool
+is_talk_of_another x o q = not (is_request q) && (is_between x.client o q.datagram && not (is_of x.number q))
+
+-- the two had talked of another transfer before, in the line of the client
+abbrev pub is_shared : Placed → List Placed → Bool
+is_shared p older = by p.place where
+  by : Place → Bool
+  by (Talks x) = list_any (is_talk_of_another x (other_of x.client p.datagram)) (line_before x.client p older)
+  by _ = false
+
 -- ---- nobody is accused
 
--- no server's view is refused without one of four doubts: the three that a client's needs, and that the refused datagram passed
--- with another than the client
+-- no server's view is refused without one of five doubts: the three that a client's needs, that the refused datagram passed with
+-- another than the client, and that it passed where another transfer was talked of
+abbrev pub SparesServersByFive : Type 0
+SparesServersByFive =
+    (write : Address → List ℕ) (host : Address) (clients : List Endpoint) (recorded : List Recorded) → AreServed (IsServedCapture write) write host clients recorded
+    → (newer older : List Placed) (p : Placed) → placed [] recorded ≡ newer ++ p ∷ older
+    → (x : Transfer) → transfer_beside p.place ≡ Some x → Contains clients x.client
+    → (rule : Rule) → IsRefused (at_server_of 69) (server_saw write x (placed [] recorded) older) (seen_at_server write x (placed [] recorded) p) rule
+    → (needs_doubt x.number (placed [] recorded) p older || is_beside p || is_shared p older) ≡ true
+
+-- where requests come in time, the last is not needed
 abbrev pub SparesServersByFour : Type 0
 SparesServersByFour =
-    (write : Address → List ℕ) (host : Address) (clients : List Endpoint) (recorded : List Recorded) → AreServed write host clients recorded
+    (write : Address → List ℕ) (host : Address) (clients : List Endpoint) (recorded : List Recorded) → AreServed (IsTimelyCapture write) write host clients recorded
     → (newer older : List Placed) (p : Placed) → placed [] recorded ≡ newer ++ p ∷ older
-    → (x : Transfer) → transfer_beside p.place ≡ Some x
+    → (x : Transfer) → transfer_beside p.place ≡ Some x → Contains clients x.client
     → (rule : Rule) → IsRefused (at_server_of 69) (server_saw write x (placed [] recorded) older) (seen_at_server write x (placed [] recorded) p) rule
     → (needs_doubt x.number (placed [] recorded) p older || is_beside p) ≡ true
 
--- so no server's view is refused without a doubt
+-- and so no server's view is refused without a doubt
 abbrev pub SparesServers : Type 0
 SparesServers =
-    (write : Address → List ℕ) (host : Address) (clients : List Endpoint) (recorded : List Recorded) → AreServed write host clients recorded
+    (write : Address → List ℕ) (host : Address) (clients : List Endpoint) (recorded : List Recorded) → AreServed (IsTimelyCapture write) write host clients recorded
     → (newer older : List Placed) (p : Placed) → placed [] recorded ≡ newer ++ p ∷ older
-    → (x : Transfer) → transfer_beside p.place ≡ Some x
+    → (x : Transfer) → transfer_beside p.place ≡ Some x → Contains clients x.client
     → (rule : Rule) → IsRefused (at_server_of 69) (server_saw write x (placed [] recorded) older) (seen_at_server write x (placed [] recorded) p) rule
     → is_doubtful_at_server x.number (placed [] recorded) p older ≡ true

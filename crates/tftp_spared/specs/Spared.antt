@@ -18,9 +18,11 @@ pub record IsWholeCapture (write : Address → List ℕ) (c : Endpoint) (capture
 abbrev pub FollowOneAnother : (List Recorded → Type 0) → List Recorded → Type 0
 FollowOneAnother IsOne recorded = (each : List (List Recorded)) × (recorded ≡ flat_map (λ capture. capture) each) × All IsOne each
 
--- what passed at none of these endpoints says no request
-abbrev pub AskNowhereElse : List Endpoint → List Recorded → Type 0
-AskNowhereElse clients recorded = (d : Recorded) → Contains recorded d → ((c : Endpoint) → Contains clients c → is_with c d ≡ false) → begins_request d.payload ≡ false
+-- An endpoint that sends a request which is at none of these endpoints takes part in nothing that is at one of them.
+abbrev pub AskersAreElsewhere : List Endpoint → List Recorded → Type 0
+AskersAreElsewhere clients recorded = (request d : Recorded) → Contains recorded request → Contains recorded d
+    → ((c : Endpoint) → Contains clients c → is_with c request ≡ false) → begins_request request.payload ≡ true
+    → (c : Endpoint) → Contains clients c → is_with c d ≡ true → is_with request.source d ≡ false
 
 -- no two hosts have one name
 abbrev pub HaveOwnNames : (Address → List ℕ) → Type 0
@@ -29,11 +31,11 @@ HaveOwnNames write = (a b : Address) → write a ≡ write b → a ≡ b
 abbrev pub HaveNoServicePort : List Endpoint → Type 0
 HaveNoServicePort clients = (c : Endpoint) → Contains clients c → c.port ≡ 69 → ⊥
 
--- At each client's endpoint one whole capture follows the other; what passed at no client's endpoint says no request; no client
--- has the service port; and the times do not go back.
+-- At each of these clients' endpoints one whole capture follows the other; who else asks speaks with none of them; none of them has
+-- the service port; and the times do not go back.
 pub record AreInterleaved (write : Address → List ℕ) (clients : List Endpoint) (recorded : List Recorded) : Type 0 where
   pub captures : (c : Endpoint) → Contains clients c → FollowOneAnother (IsWholeCapture write c) (filter (is_with c) recorded)
-  pub others : AskNowhereElse clients recorded
+  pub others : AskersAreElsewhere clients recorded
   pub hosts : HaveOwnNames write
   pub ports : HaveNoServicePort clients
   pub order : AreInOrder recorded
@@ -46,20 +48,20 @@ is_doubted_there n placed = some_of n is_asked_again placed || is_answered_apart
 abbrev pub needs_doubt : ℕ → List Placed → Placed → List Placed → Bool
 needs_doubt n placed p older = is_doubted_there n placed || some_of n is_late (p ∷ older)
 
--- no client's view is refused without one of these doubts
+-- no such client's view is refused without one of these doubts
 abbrev pub SparesClientsByThree : Type 0
 SparesClientsByThree =
     (write : Address → List ℕ) (clients : List Endpoint) (recorded : List Recorded) → AreInterleaved write clients recorded
     → (newer older : List Placed) (p : Placed) → placed [] recorded ≡ newer ++ p ∷ older
-    → (x : Transfer) → transfer_of p.place ≡ Some x
+    → (x : Transfer) → transfer_of p.place ≡ Some x → Contains clients x.client
     → (rule : Rule) → IsRefused (at_client_of 69) (map (λ q. as_seen_by write x.client q.datagram) (client_view x.number older)) (as_seen_by write x.client p.datagram) rule
     → needs_doubt x.number (placed [] recorded) p older ≡ true
 
--- so no client's view is refused without a doubt
+-- so no such client's view is refused without a doubt
 abbrev pub SparesClients : Type 0
 SparesClients =
     (write : Address → List ℕ) (clients : List Endpoint) (recorded : List Recorded) → AreInterleaved write clients recorded
     → (newer older : List Placed) (p : Placed) → placed [] recorded ≡ newer ++ p ∷ older
-    → (x : Transfer) → transfer_of p.place ≡ Some x
+    → (x : Transfer) → transfer_of p.place ≡ Some x → Contains clients x.client
     → (rule : Rule) → IsRefused (at_client_of 69) (map (λ q. as_seen_by write x.client q.datagram) (client_view x.number older)) (as_seen_by write x.client p.datagram) rule
     → is_doubtful x.number (placed [] recorded) p older ≡ true

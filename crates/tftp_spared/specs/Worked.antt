@@ -72,9 +72,13 @@ second_capture =
     ∷ requests 7 client service (codes "g")
     ∷ []
 
--- the one, what a stranger sends the server, and the other
+-- what another client does between, who breaks the law
+abbrev pub another_client : List Recorded
+another_client = passes 6 other_client server (ack_of 9) ∷ requests 6 other_client service (codes "f") ∷ []
+
+-- the one, that, and the other
 abbrev pub two_captures : List Recorded
-two_captures = second_capture ++ passes 6 stranger server (63 ∷ []) ∷ first_capture
+two_captures = second_capture ++ another_client ++ first_capture
 
 -- ---- two captures, at a server
 
@@ -94,10 +98,11 @@ second_served =
     ∷ requests 7 client service (codes "g")
     ∷ []
 
--- the same two, and a stranger sends the server a block and is told so
+-- the same two, and a stranger sends the server a block and is told so; and the other client
 abbrev pub two_served : List Recorded
 two_served =
     second_served
+    ++ another_client
     ++ passes 5 client server (ack_of 1)
     ∷ passes 4 server stranger (error_of 5)
     ∷ passes 3 stranger server (data_of 7)

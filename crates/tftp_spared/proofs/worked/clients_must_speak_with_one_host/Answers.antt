@@ -4,7 +4,7 @@ use Rattle.tftp_rules.specs.{PortRule}
 use Rattle.tftp_transfers.specs.{client}
 use Rattle.tftp_transfers.specs.Worked.{at, requests}
 use Rattle.tftp_spared.specs.Seen.{is_with}
-use Rattle.tftp_spared.specs.{FollowOneAnother, IsServedCapture, as_served, at_server_of}
+use Rattle.tftp_spared.specs.{IsTimelyCapture, FollowOneAnother, as_served, at_server_of}
 use Rattle.tftp_spared.specs.Worked.{asks_two_hosts, one_client, own_name, to_second_host}
 use Rattle.tftp_spared.proofs.ServedEnd.{served_lawful}
 use Rattle.tftp_spared.proofs.WorkedPremises.{at_one, follow_one, foreign_port, order_by, others_by, ports_by, served_by}
@@ -12,8 +12,8 @@ use Rattle.tftp_spared.proofs.WorkedCaptures.{two_hosts_there_lawful}
 use Rattle.tftp_spared.proofs.worked.clients_must_speak_with_one_host.Goals as goal
 
 pub returns-clause-captures : goal.returns-clause-captures
-returns-clause-captures x c there = at_one (λ e. FollowOneAnother (IsServedCapture own_name e) (filter (is_with e) (to_second_host ∷ asks_two_hosts))) client c
-    (follow_one (IsServedCapture own_name client) (filter (is_with client) (to_second_host ∷ asks_two_hosts)) (filter (is_with client) (to_second_host ∷ asks_two_hosts)) refl (served_by own_name client (filter (is_with client) (to_second_host ∷ asks_two_hosts)) two_hosts_there_lawful refl refl)) there
+returns-clause-captures x c there = at_one (λ e. FollowOneAnother (IsTimelyCapture own_name e) (filter (is_with e) (to_second_host ∷ asks_two_hosts))) client c
+    (follow_one (IsTimelyCapture own_name client) (filter (is_with client) (to_second_host ∷ asks_two_hosts)) (filter (is_with client) (to_second_host ∷ asks_two_hosts)) refl (served_by own_name client (filter (is_with client) (to_second_host ∷ asks_two_hosts)) two_hosts_there_lawful refl refl)) there
 
 pub returns-clause-others : goal.returns-clause-others
 returns-clause-others x = others_by one_client (to_second_host ∷ asks_two_hosts) refl

@@ -4,7 +4,7 @@ use Rattle.tftp_rules.specs.{PortRule}
 use Rattle.tftp_transfers.specs.{client, service}
 use Rattle.tftp_transfers.specs.Worked.{requests}
 use Rattle.tftp_spared.specs.Seen.{as_seen_by, at_client_of, is_with}
-use Rattle.tftp_spared.specs.{FollowOneAnother, IsServedCapture, IsWholeCapture, as_served, at_server_of}
+use Rattle.tftp_spared.specs.{IsTimelyCapture, IsWholeCapture, FollowOneAnother, as_served, at_server_of}
 use Rattle.tftp_spared.specs.Worked.{ack_of_block, one_client, own_name, served_by_asker}
 use Rattle.tftp_spared.proofs.ClientEnd.{lawful_at}
 use Rattle.tftp_spared.proofs.ServedEnd.{served_lawful}
@@ -17,8 +17,8 @@ returns-clause-captures x c there = at_one (λ e. FollowOneAnother (IsWholeCaptu
     (follow_one (IsWholeCapture own_name client) (filter (is_with client) (ack_of_block ∷ served_by_asker)) (filter (is_with client) (ack_of_block ∷ served_by_asker)) refl (whole_by own_name client (filter (is_with client) (ack_of_block ∷ served_by_asker)) plain_lawful refl)) there
 
 pub returns-clause-captures_there : goal.returns-clause-captures_there
-returns-clause-captures_there x c there = at_one (λ e. FollowOneAnother (IsServedCapture own_name e) (filter (is_with e) (ack_of_block ∷ served_by_asker))) client c
-    (follow_one (IsServedCapture own_name client) (filter (is_with client) (ack_of_block ∷ served_by_asker)) (filter (is_with client) (ack_of_block ∷ served_by_asker)) refl (served_by own_name client (filter (is_with client) (ack_of_block ∷ served_by_asker)) plain_there_lawful refl refl)) there
+returns-clause-captures_there x c there = at_one (λ e. FollowOneAnother (IsTimelyCapture own_name e) (filter (is_with e) (ack_of_block ∷ served_by_asker))) client c
+    (follow_one (IsTimelyCapture own_name client) (filter (is_with client) (ack_of_block ∷ served_by_asker)) (filter (is_with client) (ack_of_block ∷ served_by_asker)) refl (served_by own_name client (filter (is_with client) (ack_of_block ∷ served_by_asker)) plain_there_lawful refl refl)) there
 
 pub returns-clause-here : goal.returns-clause-here
 returns-clause-here x = here_by service one_client (ack_of_block ∷ served_by_asker) refl

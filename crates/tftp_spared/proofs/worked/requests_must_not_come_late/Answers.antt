@@ -1,19 +1,18 @@
-use Rattle.std.proofs.Common.{false, List, ◌∷◌, filter, map, refl, reverse}
-use Rattle.tftp_law.specs.{IsLawful, Rule}
-use Rattle.tftp_lines.specs.{Recorded}
+use Rattle.std.proofs.Common.{false, ◌∷◌, filter, refl}
+use Rattle.tftp_law.specs.{Rule}
 use Rattle.tftp_transfers.specs.{client, service}
-use Rattle.tftp_spared.specs.Seen.{HasNoSilence, is_with}
-use Rattle.tftp_spared.specs.{FollowOneAnother, as_served, at_server_of}
+use Rattle.tftp_spared.specs.Seen.{is_with}
+use Rattle.tftp_spared.specs.{IsServedCapture, FollowOneAnother}
 use Rattle.tftp_spared.specs.Worked.{ack_again, asked_late, one_client, own_name}
-use Rattle.tftp_spared.proofs.WorkedPremises.{at_one, follow_one, here_by, order_by, others_by, own_names, ports_by, steady_by}
+use Rattle.tftp_spared.proofs.WorkedPremises.{at_one, follow_one, late_by, here_by, order_by, others_by, own_names, ports_by}
 use Rattle.tftp_rules.specs.{EndRule}
 use Rattle.tftp_spared.proofs.WorkedLate.{late_refused}
 use Rattle.tftp_spared.proofs.WorkedCaptures.{late_there_lawful}
 use Rattle.tftp_spared.proofs.worked.requests_must_not_come_late.Goals as goal
 
 pub returns-clause-captures : goal.returns-clause-captures
-returns-clause-captures x c there = at_one (λ e. FollowOneAnother (λ (k : List Recorded). IsLawful (at_server_of 69) (map (as_served own_name e) (reverse k)) × HasNoSilence k) (filter (is_with e) (ack_again ∷ asked_late))) client c
-    (follow_one (λ (k : List Recorded). IsLawful (at_server_of 69) (map (as_served own_name client) (reverse k)) × HasNoSilence k) (filter (is_with client) (ack_again ∷ asked_late)) (filter (is_with client) (ack_again ∷ asked_late)) refl (late_there_lawful, steady_by (filter (is_with client) (ack_again ∷ asked_late)) refl)) there
+returns-clause-captures x c there = at_one (λ e. FollowOneAnother (IsServedCapture own_name e) (filter (is_with e) (ack_again ∷ asked_late))) client c
+    (follow_one (IsServedCapture own_name client) (filter (is_with client) (ack_again ∷ asked_late)) (filter (is_with client) (ack_again ∷ asked_late)) refl (late_by own_name client (filter (is_with client) (ack_again ∷ asked_late)) late_there_lawful refl)) there
 
 pub returns-clause-here : goal.returns-clause-here
 returns-clause-here x = here_by service one_client (ack_again ∷ asked_late) refl

@@ -4,7 +4,7 @@ use Rattle.tftp_rules.specs.{PortRule}
 use Rattle.tftp_transfers.specs.{client, service}
 use Rattle.tftp_transfers.specs.Worked.{other_client, requests}
 use Rattle.tftp_spared.specs.Seen.{as_seen_by, at_client_of, is_with}
-use Rattle.tftp_spared.specs.{FollowOneAnother, IsServedCapture, IsWholeCapture, as_served, at_server_of}
+use Rattle.tftp_spared.specs.{IsTimelyCapture, IsWholeCapture, FollowOneAnother, as_served, at_server_of}
 use Rattle.tftp_spared.specs.Worked.{back_in_time, back_in_time_there, late_ack, own_name, two_clients}
 use Rattle.tftp_spared.proofs.ClientEnd.{lawful_at}
 use Rattle.tftp_spared.proofs.ServedEnd.{served_lawful}
@@ -18,9 +18,9 @@ returns-clause-captures x c there = at_two (λ e. FollowOneAnother (IsWholeCaptu
     (follow_one (IsWholeCapture own_name other_client) (filter (is_with other_client) (late_ack ∷ back_in_time)) (filter (is_with other_client) (late_ack ∷ back_in_time)) refl (whole_by own_name other_client (filter (is_with other_client) (late_ack ∷ back_in_time)) other_lawful refl)) there
 
 pub returns-clause-captures_there : goal.returns-clause-captures_there
-returns-clause-captures_there x c there = at_two (λ e. FollowOneAnother (IsServedCapture own_name e) (filter (is_with e) (late_ack ∷ back_in_time_there))) client other_client c
-    (follow_one (IsServedCapture own_name client) (filter (is_with client) (late_ack ∷ back_in_time_there)) (filter (is_with client) (late_ack ∷ back_in_time_there)) refl (served_by own_name client (filter (is_with client) (late_ack ∷ back_in_time_there)) back_there_lawful refl refl))
-    (follow_one (IsServedCapture own_name other_client) (filter (is_with other_client) (late_ack ∷ back_in_time_there)) (filter (is_with other_client) (late_ack ∷ back_in_time_there)) refl (served_by own_name other_client (filter (is_with other_client) (late_ack ∷ back_in_time_there)) other_there_lawful refl refl)) there
+returns-clause-captures_there x c there = at_two (λ e. FollowOneAnother (IsTimelyCapture own_name e) (filter (is_with e) (late_ack ∷ back_in_time_there))) client other_client c
+    (follow_one (IsTimelyCapture own_name client) (filter (is_with client) (late_ack ∷ back_in_time_there)) (filter (is_with client) (late_ack ∷ back_in_time_there)) refl (served_by own_name client (filter (is_with client) (late_ack ∷ back_in_time_there)) back_there_lawful refl refl))
+    (follow_one (IsTimelyCapture own_name other_client) (filter (is_with other_client) (late_ack ∷ back_in_time_there)) (filter (is_with other_client) (late_ack ∷ back_in_time_there)) refl (served_by own_name other_client (filter (is_with other_client) (late_ack ∷ back_in_time_there)) other_there_lawful refl refl)) there
 
 pub returns-clause-here : goal.returns-clause-here
 returns-clause-here x = here_by service two_clients (late_ack ∷ back_in_time_there) refl

@@ -1,7 +1,7 @@
 use Rattle.std.proofs.Common.{filter, refl}
 use Rattle.tftp_transfers.specs.{client, service}
 use Rattle.tftp_spared.specs.Seen.{is_with}
-use Rattle.tftp_spared.specs.{FollowOneAnother, IsServedCapture, IsWholeCapture}
+use Rattle.tftp_spared.specs.{IsTimelyCapture, IsWholeCapture, FollowOneAnother}
 use Rattle.tftp_spared.specs.Worked.{first_capture, first_served, one_client, own_name, second_capture, second_served, two_captures, two_served}
 use Rattle.tftp_spared.proofs.WorkedPremises.{at_one, follow_two, here_by, order_by, others_by, own_names, ports_by, served_by, whole_by}
 use Rattle.tftp_spared.proofs.WorkedCaptures.{first_lawful, first_there_lawful, second_lawful, second_there_lawful}
@@ -19,8 +19,8 @@ returns-clause-client x = record {
 
 pub returns-clause-server : goal.returns-clause-server
 returns-clause-server x = record {
-  captures = λ c there. at_one (λ e. FollowOneAnother (IsServedCapture own_name e) (filter (is_with e) two_served)) client c
-      (follow_two (IsServedCapture own_name client) second_served first_served (filter (is_with client) two_served) refl (served_by own_name client second_served second_there_lawful refl refl) (served_by own_name client first_served first_there_lawful refl refl)) there;
+  captures = λ c there. at_one (λ e. FollowOneAnother (IsTimelyCapture own_name e) (filter (is_with e) two_served)) client c
+      (follow_two (IsTimelyCapture own_name client) second_served first_served (filter (is_with client) two_served) refl (served_by own_name client second_served second_there_lawful refl refl) (served_by own_name client first_served first_there_lawful refl refl)) there;
   here = here_by service one_client two_served refl;
   others = others_by one_client two_served refl;
   hosts = own_names;
