@@ -131,14 +131,15 @@ impl Trail {
         watched: &Watched<RingDelivered>,
     ) -> Result<(), AllocError> {
         let place = found.place;
+        let doubts = watched.doubts();
         let blamed = Blamed {
             frame: passing.frame,
-            is_late: watched.doubts().is_late(),
+            is_late: doubts.is_late(),
             is_beside: matches!(place, Place::Beside(_)),
-            is_answered: watched.doubts().comes_in(),
+            is_answered: doubts.comes_in(),
             speaks_first: found.doubts.speaks_first,
-            tells_strays: tells_strays(passing.payload, watched.doubts()),
-            comes_of_earlier: comes_of_earlier(&found.doubts, watched.doubts()),
+            tells_strays: tells_strays(passing.payload, &doubts),
+            comes_of_earlier: comes_of_earlier(&found.doubts, &doubts),
             source: passing.source,
         };
         let refused = refused_by(watched);
