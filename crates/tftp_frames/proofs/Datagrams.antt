@@ -1,17 +1,21 @@
 -- A content is one datagram or has one fault.
 use Rattle.std.proofs.Common.{Bool, true, false, if◌then◌else◌, ◌≡◌, ◌≢◌, ◌↔◌, ◌⊎◌, inl, inr, ℕ, ◌-◌, ◌<◌, ◌≤◌, List, length, take, drop, refl, sym, ap, subst, ◌∙◌, arith, None, Result, Ok, Err, IsOkAnd}
 use Rattle.std.proofs.lemmas.Bool.{false≢true}
-use Rattle.tftp_frames.specs.{Checksum, Wrong, pair, Reached, ReachesOver, Udp, HasUdp, IsSized, SpellsUdp, HoldsUdp, JudgesUdp, datagram, UdpDatagram, UdpFault, Port}
+use Rattle.tftp_frames.specs.{Checksum, pair, Reached, ReachesOver, Udp, HasUdp, IsSized, SpellsUdp, HoldsUdp, JudgesUdp, datagram, UdpDatagram, UdpFault, Port}
 use Rattle.tftp_frames.specs.declared.fault.UdpFault.TheVariants.{Protocol, Header, Length}
 use Rattle.tftp_frames.proofs.Extensions.{reaches_one}
 
 pub has_one : (protocol : ℕ) (content a b : List ℕ) → HasUdp protocol content a → HasUdp protocol content b → a ≡ b
 has_one protocol content a b p q = ap (λ (r : Reached). r.content) (reaches_one protocol content _ _ p q)
 
--- a verdict where the header's checksum is right
-pub headed : (is_headed : Bool) (one other : Checksum) → is_headed ≡ true → one ≡ other → one ≡ (if is_headed then other else Wrong)
-headed true one other right same = same
-headed false one other right same = absurd (false≢true right)
+-- a verdict where the header's checksum is right, and where it is not
+pub headed : (is_headed : Bool) (one other wrong : Checksum) → is_headed ≡ true → one ≡ other → one ≡ (if is_headed then other else wrong)
+headed true one other wrong right same = same
+headed false one other wrong right same = absurd (false≢true right)
+
+pub not_headed : (is_headed : Bool) (one other right : Checksum) → is_headed ≡ false → one ≡ other → one ≡ (if is_headed then right else other)
+not_headed true one other right wrong same = absurd (false≢true (sym wrong))
+not_headed false one other right wrong same = same
 
 pub udp_one : (protocol : ℕ) (content : List ℕ) (d e : Udp) → SpellsUdp protocol content d → SpellsUdp protocol content e → d ≡ e
 udp_one protocol content d e (a, has_a, _, _, _, _, is) (b, has_b, _, _, _, _, as_well) =

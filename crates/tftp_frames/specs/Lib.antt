@@ -16,12 +16,12 @@ pub use Extension.{IsSkipped, Reached, ReachesOver, Stops, StopsAfter, fragment_
 pub use Ip.{HasHeader, Packet, Reaches, SpellsIp, held_of, is_identified, may_be_udp, packet_of, size_of, source_of, target_of, total_of}
 pub use Frame.{IsBetween, IsLinked, SpellsFrame}
 pub use UdpDatagrams.{HasUdp, HoldsUdp, IsSized, IsSound, JudgesUdp, SpellsUdp, Udp, datagram}
-pub use Checksums.{address_bytes, checksum_of, in_ones_complement, is_headed_right, is_right, none_made, udp_checksum, udp_sum, verdict, word_sum}
+pub use Checksums.{address_bytes, checksum_of, headed_wrong, in_ones_complement, is_headed_right, is_left, is_right, is_unsummed, none_made, pseudo_sum, udp_checksum, udp_sum, verdict, word_sum}
 pub use Parts.{linked, reached, shown}
 pub use Faults.{FirstFault, FirstIpFault, Holds, HoldsIp, IsNotWhole, Judges, JudgesIp, place}
-pub use Worked.{acknowledgement, cooked_head, host, ipv4_bytes, ipv4_fragment, ipv4_packet, ipv4_with_options, ipv6_fragment, ipv6_fragment_of_icmp, ipv6_part, ipv6_with_extensions, two_tags, udp_bytes, udp_bytes_of_ipv6, udp_of_three}
+pub use Worked.{acknowledgement, cooked_head, host, ipv4_bytes, ipv4_fragment, ipv4_packet, ipv4_with_options, ipv6_fragment, ipv6_fragment_of_icmp, ipv6_part, ipv6_with_extensions, two_tags, udp_bytes, udp_bytes_of_ipv6, udp_left, udp_left_of_ipv6, udp_of_three}
 pub use declared.checksum.Checksum.{Checksum}
-pub use declared.checksum.Checksum.TheVariants.{Absent, Right, Wrong}
+pub use declared.checksum.Checksum.TheVariants.{Absent, Partial, Right, Wrong}
 pub use declared.extension.Upper.{Upper}
 pub use declared.fault.FrameFault.{FrameFault}
 pub use declared.fault.FrameFault.TheVariants.{Cut}

@@ -28,6 +28,15 @@ udp_bytes_of_ipv6 = 156 ∷ 64 ∷ 0 ∷ 69 ∷ 0 ∷ 12 ∷ 7 ∷ 210 ∷ 0 ∷
 abbrev pub udp_of_three : List ℕ
 udp_of_three = 156 ∷ 64 ∷ 0 ∷ 69 ∷ 0 ∷ 11 ∷ 214 ∷ 69 ∷ 0 ∷ 4 ∷ 9 ∷ []
 
+-- the acknowledgement as Linux 6.18 gives it to a recorder at the host that sends it, before a network card has made the
+-- checksum: a raw socket at an interface with these addresses got it so
+abbrev pub udp_left : List ℕ
+udp_left = 156 ∷ 64 ∷ 0 ∷ 69 ∷ 0 ∷ 12 ∷ 132 ∷ 38 ∷ 0 ∷ 4 ∷ 0 ∷ 1 ∷ []
+
+-- the same in IPv6
+abbrev pub udp_left_of_ipv6 : List ℕ
+udp_left_of_ipv6 = 156 ∷ 64 ∷ 0 ∷ 69 ∷ 0 ∷ 12 ∷ 91 ∷ 151 ∷ 0 ∷ 4 ∷ 0 ∷ 1 ∷ []
+
 -- an IPv4 packet with identification 7
 abbrev pub ipv4_bytes : List ℕ
 ipv4_bytes = 69 ∷ 0 ∷ 0 ∷ 32 ∷ 0 ∷ 7 ∷ 0 ∷ 0 ∷ 64 ∷ 17 ∷ 246 ∷ 189 ∷ 192 ∷ 0 ∷ 2 ∷ 7 ∷ 192 ∷ 0 ∷ 2 ∷ 1 ∷ 156 ∷ 64 ∷ 0 ∷ 69 ∷ 0 ∷ 12 ∷ 223 ∷ 66 ∷ 0 ∷ 4 ∷ 0 ∷ 1 ∷ []

@@ -1,6 +1,6 @@
 ghost use Rattle.std.specs.Prelude.{◌≡◌, ◌≤◌, ◌+◌, ◌*◌, ◌%◌, ℕ, List, IfSome, MatchOption, length, slice_index, take};
 ghost use Rattle.std.specs.declared.net.ip_addr.IpAddr.{IpAddr as Host};
-ghost use Rattle.tftp_frames.specs.Checksums.{address_bytes, checksum_of, is_headed_right, is_right, none_made, udp_checksum, udp_sum, verdict, word_sum};
+ghost use Rattle.tftp_frames.specs.Checksums.{address_bytes, checksum_of, headed_wrong, in_ones_complement, is_headed_right, is_left, is_right, is_unsummed, none_made, pseudo_sum, udp_checksum, udp_sum, verdict, word_sum};
 ghost use Rattle.tftp_frames.specs.Number.{pair};
 ghost use Rattle.tftp_frames.specs.Parts.{shown};
 ghost use Rattle.tftp_frames.specs.UdpDatagrams.{HasUdp, IsSized};
@@ -17,8 +17,11 @@ pub enum Checksum {
     Absent,
     /// All are right.
     Right,
-    /// One is wrong: a host discards the packet. A recording that was made at the sender has them before its hardware makes
-    /// them, so that all that the host sends may be wrong there.
+    /// One was left to the sender's network card, which makes it after the recording: that of UDP is the sum of the pseudo
+    /// header alone, not complemented, or the one of the IPv4 header is 0 where another would be right.
+    Partial,
+    /// One is wrong: a host discards the packet (RFC 1122, sections 3.2.1.2 and 4.1.3.4). A recording that was made at the
+    /// sender may have anything in the place of what its network card makes.
     Wrong,
 }
 
@@ -35,10 +38,23 @@ impl IpPacket<'_> {
         let Some(udp) = sized(bytes) else {
             return Checksum::Absent;
         };
-        if !is_headed_right(self.source, self.packet) {
-            return Checksum::Wrong;
+        if is_headed_right(self.source, self.packet) {
+            return udp_checksum(self.source, self.target, udp);
         }
-        udp_checksum(self.source, self.target, udp)
+        self.headed_wrong(udp)
+    }
+
+    /// What the checksums say where that of the IPv4 header is not right.
+    fn headed_wrong(&self, udp: &[u8]) -> Checksum
+        requires enough { 8 ≤ length udp.now }
+        requires few { length udp.now ≤ 65535 }
+        ensures { result ≡ headed_wrong (shown self.now) udp.now }
+    {
+        if is_unsummed(self.packet) || is_left(self.source, self.target, udp) {
+            Checksum::Partial
+        } else {
+            Checksum::Wrong
+        }
     }
 }
 
@@ -68,6 +84,14 @@ fn is_headed_right(source: IpAddr, packet: &[u8]) -> bool
     }
 }
 
+/// Whether the checksum of an IPv4 packet's header is 0.
+#[inline]
+fn is_unsummed(packet: &[u8]) -> bool
+    ensures { result ≡ is_unsummed packet.now }
+{
+    packet.len() >= 12 && pair_at(packet, 10) == 0
+}
+
 /// The header of an IPv4 packet.
 #[inline]
 fn header_of(packet: &[u8]) -> &[u8]
@@ -90,8 +114,28 @@ fn udp_checksum(source: IpAddr, target: IpAddr, udp: &[u8]) -> Checksum
     if pair_at(udp, 6) == 0 {
         return none_made(source);
     }
-    let addresses = address_sum(source) + address_sum(target);
-    verdict(addresses + 17 + udp.len() as u64 + word_sum(udp))
+    let sum = pseudo_sum(source, target, udp) + word_sum(udp);
+    verdict(is_right(sum), is_left(source, target, udp))
+}
+
+/// The sum of the pseudo header of a datagram.
+#[inline]
+fn pseudo_sum(source: IpAddr, target: IpAddr, udp: &[u8]) -> u64
+    requires { length udp.now ≤ 65535 }
+    ensures sum { result ≡ pseudo_sum source target udp.now }
+    ensures few { result ≤ 8590000142 }
+{
+    address_sum(source) + address_sum(target) + 17 + udp.len() as u64
+}
+
+/// Whether the checksum of a datagram is the sum of its pseudo header alone, which its sender left to its network card.
+#[inline]
+fn is_left(source: IpAddr, target: IpAddr, udp: &[u8]) -> bool
+    requires enough { 8 ≤ length udp.now }
+    requires few { length udp.now ≤ 65535 }
+    ensures { result ≡ is_left source target udp.now }
+{
+    u64::from(pair_at(udp, 6)) == in_ones_complement(pseudo_sum(source, target, udp))
 }
 
 /// What a checksum of 0 says.
@@ -105,15 +149,15 @@ fn none_made(source: IpAddr) -> Checksum
     }
 }
 
-/// What the sum says of words that a checksum is among.
+/// What a checksum says that is not 0.
 #[inline]
-fn verdict(sum: u64) -> Checksum
-    ensures { result ≡ verdict (is_right sum) }
+fn verdict(is_right: bool, is_left: bool) -> Checksum
+    ensures { result ≡ verdict is_right is_left }
 {
-    if is_right(sum) {
-        Checksum::Right
-    } else {
-        Checksum::Wrong
+    match (is_right, is_left) {
+        (true, _) => Checksum::Right,
+        (false, true) => Checksum::Partial,
+        (false, false) => Checksum::Wrong,
     }
 }
 
@@ -123,6 +167,20 @@ fn is_right(sum: u64) -> bool
     ensures { result ≡ is_right sum }
 {
     sum != 0 && sum % 0xffff == 0
+}
+
+/// A sum of words in ones' complement.
+#[inline]
+fn in_ones_complement(sum: u64) -> u64
+    ensures { result ≡ in_ones_complement sum }
+{
+    if sum == 0 {
+        return 0;
+    }
+    match sum % 0xffff {
+        0 => 0xffff,
+        rest => rest,
+    }
 }
 
 /// The sum of an address's words.

@@ -10,7 +10,7 @@ ghost use Rattle.tftp_frames.specs.Checksums.{checksum_of, in_ones_complement, w
 ghost use Rattle.tftp_frames.specs.declared.checksum.Checksum.{Checksum};
 ghost use Rattle.tftp_frames.specs.Faults.{Holds, FirstFault};
 ghost use Rattle.tftp_frames.specs.UdpDatagrams.{Udp, SpellsUdp, HoldsUdp};
-ghost use Rattle.tftp_frames.specs.Worked.{udp_bytes, ipv4_bytes, ipv4_with_options, ipv4_fragment, ipv6_with_extensions, ipv6_fragment, ipv6_fragment_of_icmp, two_tags, udp_bytes_of_ipv6, udp_of_three, cooked_head, cooked_two_head, null_head, ipv4_packet, ipv4_part, ipv6_packet, ipv6_part, acknowledgement, host, host_of_ipv6};
+ghost use Rattle.tftp_frames.specs.Worked.{udp_bytes, ipv4_bytes, ipv4_with_options, ipv4_fragment, ipv6_with_extensions, ipv6_fragment, ipv6_fragment_of_icmp, two_tags, udp_bytes_of_ipv6, udp_left, udp_left_of_ipv6, udp_of_three, cooked_head, cooked_two_head, null_head, ipv4_packet, ipv4_part, ipv6_packet, ipv6_part, acknowledgement, host, host_of_ipv6};
 ghost use Rattle.tftp_frames.specs.declared.fault.FrameFault.{FrameFault};
 ghost use Rattle.tftp_frames.specs.declared.fault.UdpFault.{UdpFault};
 ghost use Rattle.tftp_frames.specs.declared.packet.Direction.{Direction};
@@ -100,7 +100,8 @@ pub fn worked_identifications()
 {}
 
 /// Worked examples: the sum in RFC 1071, section 3; the acknowledgement over IPv4 and IPv6; one of three bytes; one whose last
-/// byte was changed on the way, whose packet's identification was, and without a checksum, which is one over IPv4 alone.
+/// byte was changed on the way, whose packet's identification was, and without a checksum, which is one over IPv4 alone; and
+/// as a sender leaves them to its network card: that of UDP over IPv4 and IPv6, and that of the IPv4 header.
 pub fn worked_checksums()
     ensures sum { in_ones_complement (word_sum (0 ∷ 1 ∷ 242 ∷ 3 ∷ 244 ∷ 245 ∷ 246 ∷ 247 ∷ [])) ≡ 56818 }
     ensures ipv4 { checksum_of (ipv4_packet Direction.Unknown ipv4_bytes) udp_bytes ≡ Checksum.Right }
@@ -110,4 +111,9 @@ pub fn worked_checksums()
     ensures header { checksum_of (ipv4_packet Direction.Unknown (take 5 ipv4_bytes ++ 8 ∷ drop 6 ipv4_bytes)) udp_bytes ≡ Checksum.Wrong }
     ensures absent { checksum_of (ipv4_packet Direction.Unknown ipv4_bytes) (take 6 udp_bytes ++ 0 ∷ 0 ∷ drop 8 udp_bytes) ≡ Checksum.Absent }
     ensures none { checksum_of ipv6_packet (take 6 udp_bytes_of_ipv6 ++ 0 ∷ 0 ∷ drop 8 udp_bytes_of_ipv6) ≡ Checksum.Wrong }
+    ensures left { checksum_of (ipv4_packet Direction.Unknown ipv4_bytes) udp_left ≡ Checksum.Partial }
+    ensures left_ipv6 { checksum_of ipv6_packet udp_left_of_ipv6 ≡ Checksum.Partial }
+    ensures left_both { checksum_of (ipv4_packet Direction.Unknown (take 10 ipv4_bytes ++ 0 ∷ 0 ∷ drop 12 ipv4_bytes)) udp_left ≡ Checksum.Partial }
+    ensures left_header { checksum_of (ipv4_packet Direction.Unknown (take 10 ipv4_bytes ++ 0 ∷ 0 ∷ drop 12 ipv4_bytes)) udp_bytes ≡ Checksum.Partial }
+    ensures left_changed { checksum_of (ipv4_packet Direction.Unknown ipv4_bytes) (take 7 udp_left ++ 39 ∷ drop 8 udp_left) ≡ Checksum.Wrong }
 {}
