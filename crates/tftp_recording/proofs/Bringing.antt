@@ -1,7 +1,7 @@
 -- What a frame does among the fragments that wait.
 use Rattle.std.proofs.Common.{◌≡◌, ◌≢◌, ℕ, inr, List, [], Option, None, Result, Ok, Err, sym, ap, ◌∙◌, subst, arith}
 use Rattle.std.specs.Result.{IsOkAnd}
-use Rattle.tftp_frames.specs.{SpellsFrame, Packet, shown, HasUdp, HoldsUdp, SpellsUdp, Udp, FrameFault, UdpFault, IpPacket}
+use Rattle.tftp_frames.specs.{SpellsFrame, Packet, shown, HasUdp, HoldsUdp, SpellsUdp, Udp, datagram, FrameFault, UdpDatagram, UdpFault, IpPacket}
 use Rattle.tftp_fragments.specs.{Arrival, SetState, IsTried, MayBePut, PutEnds, Sets, room_of_all, Outcome, Full}
 use Rattle.tftp_fragments.specs.Whole.{Content, Part}
 use Rattle.tftp_recording.specs.{MakesRoom, content_of}
@@ -28,6 +28,13 @@ packet_read r p packet is only = subst (λ (x : Result IpPacket FrameFault). IsO
 pub none_read : (r : Result IpPacket FrameFault) (p : Packet) (e : FrameFault) → r ≡ Err e → IsOkAnd r (λ found. shown found ≡ p) → ⊥
 none_read (Ok found) p e is only = cc
 none_read (Err f) p e is only = only
+
+pub no_udp_read : (r : Result UdpDatagram UdpFault) (udp : Udp) (e : UdpFault) → r ≡ Err e → IsOkAnd r (λ found. datagram found ≡ udp) → ⊥
+no_udp_read (Ok found) udp e is only = cc
+no_udp_read (Err f) udp e is only = only
+
+pub spells_udp_of : (p q : Packet) (whole : Option Content) (udp : Udp) → q ≡ p → SpellsUdp (content_of p whole).protocol (content_of p whole).bytes udp → SpellsUdp (content_of q whole).protocol (content_of q whole).bytes udp
+spells_udp_of p q whole udp same spells = subst (λ (x : Packet). SpellsUdp (content_of x whole).protocol (content_of x whole).bytes udp) (sym same) spells
 
 -- a frame that is no packet, and one that is a whole one
 pub not_read : (r : Result IpPacket FrameFault) (p : Packet) (e : FrameFault) → r ≡ Err e → IsOkAnd r (λ found. shown found ≡ p) → ⊥

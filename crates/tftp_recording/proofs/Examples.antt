@@ -1,5 +1,5 @@
 -- The worked examples.
-use Rattle.std.proofs.Common.{◌≡◌, ℕ, zero, suc, ◌+◌, Bool, true, false, inl, inr, List, [], ◌∷◌, ◌++◌, length, length-append, map, Option, Some, None, Vec, Global, cond, refl, sym, ap, ◌∙◌, subst, arith, rules}
+use Rattle.std.proofs.Common.{◌≡◌, ℕ, zero, suc, ◌+◌, Bool, true, false, inl, inr, List, [], ◌∷◌, ◌++◌, length, length-append, map, Option, Some, None, Vec, Global, cond, take, refl, sym, ap, ◌∙◌, subst, arith, rules}
 use Rattle.std.proofs.lemmas.List.{get_or-append-add, get_or-map, get_or_append_left, get_or_past, length-map}
 use Rattle.std.proofs.lemmas.Bool.{cases_Bool}
 use Rattle.tftp_copies.specs.{Packet as Recorded, IsCopy}
@@ -12,12 +12,15 @@ use Rattle.tftp_fragments.proofs.Holding.{Added, stands_more, whole_given, not_b
 use Rattle.tftp_fragments.proofs.Puts.{empty_set, nothing_agrees}
 use Rattle.tftp_fragments.proofs.Keeping.{no_byte}
 use Rattle.tftp_fragments.proofs.Rooms.{same_set, no_set}
-use Rattle.tftp_frames.specs.{SpellsFrame, Packet, HasUdp, HoldsUdp, SpellsUdp, Reached, acknowledgement, cooked_head, ipv4_bytes, ipv4_packet, two_tags, udp_bytes, Cooked, Ethernet, RawIpv4, RawIpv6, Ipv4, Ipv6, Out, Unknown}
+use Rattle.tftp_frames.specs.{SpellsFrame, Packet, HasUdp, HoldsUdp, SpellsUdp, Udp, Reached, acknowledgement, checksum_of, cooked_head, ipv4_bytes, ipv4_packet, pair, two_tags, udp_bytes, udp_left, Partial, Right, Wrong, Cooked, Ethernet, RawIpv4, RawIpv6, Ipv4, Ipv6, Out, Unknown}
+use Rattle.tftp_frames.specs.declared.checksum.Checksum.{Checksum}
 use Rattle.tftp_frames.specs.declared.fault.FrameFault.TheVariants.{Protocol}
 use Rattle.tftp_frames.specs.declared.fault.UdpFault.TheVariants.{Protocol as NotUdp}
+use Rattle.tftp_frames.proofs.Datagrams.{has_one}
 use Rattle.tftp_frames.proofs.FaultOrder.{packet_one}
+use Rattle.tftp_pcap.specs.{FrameParts}
 use Rattle.tftp_frames.proofs.Uppers.{spells_ip}
-use Rattle.tftp_recording.specs.{LetsGoOld, TakesPart, arrival_of, IsDatagram, IsFateOf, IsHistory, cooked_step, ethernet_step, first_bytes, first_of, first_part, first_set, first_step, icmp_content, icmp_frame, last_bytes, last_named, last_of_icmp, last_part, last_step, part_of_icmp, raw_frame, recorded_at, recorded_first, worked_content, worked_key, worked_time, Left, Frame, New}
+use Rattle.tftp_recording.specs.{LetsGoOld, TakesPart, arrival_of, content_of, IsDatagram, IsDiscarded, IsFateOf, IsHistory, IsSentBy, checksum_told, cooked_step, ethernet_step, first_bytes, first_of, first_part, first_set, first_step, icmp_content, icmp_frame, last_bytes, last_named, last_of_icmp, last_part, last_step, left_bytes, left_packet, part_of_icmp, raw_frame, raw_step, recorded_at, recorded_first, recorded_raw, sent_with, spoilt_acknowledgement, spoilt_bytes, spoilt_packet, worked_content, worked_key, worked_time, Discarded, Left, Frame, New, Sent}
 use Rattle.tftp_recording.specs.declared.fate.Datagram.{Datagram as Given}
 use Rattle.tftp_recording.specs.declared.fate.Fate.TheVariants.{Datagram}
 use Rattle.tftp_recording.specs.declared.likeness.Likeness.TheVariants.{Copy}
@@ -61,6 +64,37 @@ cooked_spells = (
   spells_ip Out Ipv4 ipv4_bytes _ (omega arith, refl, omega arith, omega arith) (omega arith, omega arith) refl refl,
 )
 
+says_acknowledgement : SpellsUdp 17 udp_bytes acknowledgement
+says_acknowledgement = (udp_bytes, (0, inl (refl, (λ e. omega arith), refl)), omega arith, (omega arith, omega arith), (λ e. omega arith), (λ e. omega arith), refl)
+
+-- ---- what frames tell of who sent their datagrams
+
+tells_by : (frame : FrameParts) (whole : Option Content) (p : Packet) (udp : Udp) (bytes : List ℕ) (checksum : Checksum) → SpellsFrame frame.link frame.bytes p
+    → HasUdp (content_of p whole).protocol (content_of p whole).bytes bytes → SpellsUdp (content_of p whole).protocol (content_of p whole).bytes udp → checksum ≡ checksum_of p (take (pair bytes 4) bytes)
+    → IsSentBy frame whole (Some (record { host = p.source; checksum = checksum }))
+tells_by frame whole p udp bytes checksum spells has spelled is = (
+  p,
+  udp,
+  (spells, spelled),
+  refl,
+  λ q others spelled_so has_so sized.
+      let e : q ≡ p = packet_one frame.link frame.bytes q p spelled_so spells in
+      let f : others ≡ bytes = has_one (content_of p whole).protocol (content_of p whole).bytes others bytes (subst (λ (x : Packet). HasUdp (content_of x whole).protocol (content_of x whole).bytes others) e has_so) has in
+      is ∙ ap (λ (x : Packet). checksum_of x (take (pair bytes 4) bytes)) (sym e) ∙ ap (λ (l : List ℕ). checksum_of q (take (pair l 4) l)) (sym f),
+)
+
+ethernet_tells : (time : ℕ) → IsSentBy (ethernet_step time).frame None (sent_with Right)
+ethernet_tells time = tells_by (ethernet_step time).frame None (ipv4_packet Unknown ipv4_bytes) acknowledgement udp_bytes Right ethernet_spells (0, inl (refl, (λ e. omega arith), refl)) says_acknowledgement refl
+
+cooked_tells : (number before time : ℕ) → IsSentBy (cooked_step New number before time).frame None (sent_with Right)
+cooked_tells number before time = tells_by (cooked_step New number before time).frame None (ipv4_packet Out ipv4_bytes) acknowledgement udp_bytes Right cooked_spells (0, inl (refl, (λ e. omega arith), refl)) says_acknowledgement refl
+
+last_tells : IsSentBy (raw_frame last_bytes) (Some worked_content) (sent_with Right)
+last_tells = tells_by (raw_frame last_bytes) (Some worked_content) last_part acknowledgement udp_bytes Right last_spells (0, inl (refl, (λ e. omega arith), refl)) says_acknowledgement refl
+
+right_stays : (before : List (Option Sent)) → IsDiscarded before (sent_with Right) → ⊥
+right_stays before h = let x : Right ≡ Wrong = h.0 in cc
+
 -- ---- copies
 
 none_before : (p : Recorded) → IsCopy [] p → ⊥
@@ -74,6 +108,8 @@ ethernet_history = (
   inl (is_whole 1 (two_tags ++ ipv4_bytes) (ipv4_packet Unknown ipv4_bytes) ethernet_spells refl, refl, refl),
   tt,
   inr (ipv4_packet Unknown ipv4_bytes, ethernet_spells, none_before (recorded_at 0 1000000000), refl),
+  ethernet_tells 1000000000,
+  right_stays [],
 )
 
 near_copy : IsCopy (recorded_at 0 1000000000 ∷ []) (recorded_at 1 1001000000)
@@ -86,13 +122,15 @@ no_copy_here : IsCopy (recorded_at 0 1000000000 ∷ []) (recorded_at 0 100100000
 no_copy_here copy = search rules
 
 pub copy_history : IsHistory (cooked_step Copy 1 1000000000 1001000000 ∷ ethernet_step 1000000000 ∷ [])
-copy_history = (inl (tt, refl, refl), ethernet_history, inr (ipv4_packet Out ipv4_bytes, cooked_spells, (near_copy, refl), refl))
+copy_history = (inl (tt, refl, refl), ethernet_history, inr (ipv4_packet Out ipv4_bytes, cooked_spells, (near_copy, refl), refl), refl, (λ h. h))
 
 pub later_history : IsHistory (cooked_step New 1 1000000000 1001000001 ∷ ethernet_step 1000000000 ∷ [])
 later_history = (
   inl (is_whole 113 (cooked_head ++ ipv4_bytes) (ipv4_packet Out ipv4_bytes) cooked_spells refl, refl, refl),
   ethernet_history,
   inr (ipv4_packet Out ipv4_bytes, cooked_spells, far_from, refl),
+  cooked_tells 1 1000000000 1001000001,
+  right_stays (sent_with Right ∷ []),
 )
 
 pub here_history : IsHistory (cooked_step New 0 1000000000 1001000000 ∷ ethernet_step 1000000000 ∷ [])
@@ -100,6 +138,8 @@ here_history = (
   inl (is_whole 113 (cooked_head ++ ipv4_bytes) (ipv4_packet Out ipv4_bytes) cooked_spells refl, refl, refl),
   ethernet_history,
   inr (ipv4_packet Out ipv4_bytes, cooked_spells, no_copy_here, refl),
+  cooked_tells 0 1000000000 1001000000,
+  right_stays (sent_with Right ∷ []),
 )
 
 -- ---- what is held of the fragments
@@ -228,6 +268,8 @@ first_history = (
   inr (first_part, record { id = 7; place = 0; more = true }, (first_spells, refl), first_takes, refl),
   tt,
   inr (first_part, first_spells, none_before recorded_first, refl),
+  refl,
+  (λ h. h),
 )
 
 -- ---- the last gives the content
@@ -266,16 +308,15 @@ module _ (content : Made) (frames : Vec ℕ Global) (e : put_together content �
     inr (last_part, record { id = 7; place = 8; more = false }, (last_spells, refl), last_takes, refl),
     first_history,
     inr (last_part, last_spells, not_one, refl),
+    subst (λ (whole : Content). IsSentBy (raw_frame last_bytes) (Some whole) (sent_with Right)) (sym e) last_tells,
+    right_stays (None ∷ []),
   )
 
 pub last_history : (content : Made) (frames : Vec ℕ Global) → put_together content ≡ worked_content → frames.items ≡ 1 ∷ 2 ∷ [] → IsHistory (last_step content frames ∷ first_step ∷ [])
 last_history = last_is
 
-says_acknowledgement : SpellsUdp 17 udp_bytes acknowledgement
-says_acknowledgement = (udp_bytes, (0, inl (refl, (λ e. omega arith), refl)), omega arith, (omega arith, omega arith), (λ e. omega arith), (λ e. omega arith), refl)
-
 pub datagram_fate : (content : Made) (frames : Vec ℕ Global) (d : Given) → put_together content ≡ worked_content → IsDatagram (last_step content frames).frame last_part acknowledgement d
-    → IsFateOf (last_step content frames).frame New (last_step content frames).brought.outcome (Datagram d)
+    → IsFateOf (last_step content frames).frame New (last_step content frames).brought.outcome false (Datagram d)
 datagram_fate content frames d e is = (last_part, acknowledgement, last_spells, subst (λ (c : Content). SpellsUdp c.protocol c.bytes acknowledgement) (sym e) says_acknowledgement, is)
 
 -- ---- of a packet of IPv6 the first fragment names the protocol
@@ -290,7 +331,7 @@ icmp_spells = (
       (0, inr (refl, omega arith, refl, refl)) refl,
 )
 
-pub udp_fate : (content : Made) (frames : Vec ℕ Global) (d : Given) → put_together content ≡ worked_content → IsDatagram icmp_frame part_of_icmp acknowledgement d → IsFateOf icmp_frame New (Some (Whole content frames)) (Datagram d)
+pub udp_fate : (content : Made) (frames : Vec ℕ Global) (d : Given) → put_together content ≡ worked_content → IsDatagram icmp_frame part_of_icmp acknowledgement d → IsFateOf icmp_frame New (Some (Whole content frames)) false (Datagram d)
 udp_fate content frames d e is = (part_of_icmp, acknowledgement, icmp_spells, subst (λ (c : Content). SpellsUdp c.protocol c.bytes acknowledgement) (sym e) says_acknowledgement, is)
 
 no_udp : (bytes : List ℕ) → HasUdp 58 udp_bytes bytes → ⊥
@@ -298,5 +339,115 @@ no_udp bytes (zero, inl h) = let e = ap (λ (r : Reached). r.protocol) h.2 in ab
 no_udp bytes (zero, inr h) = absurd (omega (arith, h.0))
 no_udp bytes (suc n, h) = elim h.0.2 [ inl e ↦ not_both false e refl | inr e ↦ absurd (omega (arith, e.0)) ]
 
-pub icmp_fate : (content : Made) (frames : Vec ℕ Global) → put_together content ≡ icmp_content → IsFateOf icmp_frame New (Some (Whole content frames)) (Left (Frame Protocol))
+pub icmp_fate : (content : Made) (frames : Vec ℕ Global) → put_together content ≡ icmp_content → IsFateOf icmp_frame New (Some (Whole content frames)) false (Left (Frame Protocol))
 icmp_fate content frames e = inr (refl, (part_of_icmp, icmp_spells, subst (λ (c : Content). HoldsUdp NotUdp c.protocol c.bytes) (sym e) no_udp))
+
+-- ---- discarded
+
+raw_spells : SpellsFrame 228 ipv4_bytes (ipv4_packet Unknown ipv4_bytes)
+raw_spells = (
+  record { direction = Unknown; network = Some Ipv4; content = ipv4_bytes },
+  Ipv4,
+  (RawIpv4, refl, (omega arith, refl, (refl, refl))),
+  refl,
+  spells_ip Unknown Ipv4 ipv4_bytes _ (omega arith, refl, omega arith, omega arith) (omega arith, omega arith) refl refl,
+)
+
+spoilt_spells : SpellsFrame 228 spoilt_bytes spoilt_packet
+spoilt_spells = (
+  record { direction = Unknown; network = Some Ipv4; content = spoilt_bytes },
+  Ipv4,
+  (RawIpv4, refl, (omega arith, refl, (refl, refl))),
+  refl,
+  spells_ip Unknown Ipv4 spoilt_bytes _ (omega arith, refl, omega arith, omega arith) (omega arith, omega arith) refl refl,
+)
+
+left_spells : SpellsFrame 228 left_bytes left_packet
+left_spells = (
+  record { direction = Unknown; network = Some Ipv4; content = left_bytes },
+  Ipv4,
+  (RawIpv4, refl, (omega arith, refl, (refl, refl))),
+  refl,
+  spells_ip Unknown Ipv4 left_bytes _ (omega arith, refl, omega arith, omega arith) (omega arith, omega arith) refl refl,
+)
+
+says_spoilt : SpellsUdp 17 spoilt_packet.content spoilt_acknowledgement
+says_spoilt = (spoilt_packet.content, (0, inl (refl, (λ e. omega arith), refl)), omega arith, (omega arith, omega arith), (λ e. omega arith), (λ e. omega arith), refl)
+
+says_left : SpellsUdp 17 udp_left acknowledgement
+says_left = (udp_left, (0, inl (refl, (λ e. omega arith), refl)), omega arith, (omega arith, omega arith), (λ e. omega arith), (λ e. omega arith), refl)
+
+raw_tells : IsSentBy (raw_frame ipv4_bytes) None (sent_with Right)
+raw_tells = tells_by (raw_frame ipv4_bytes) None (ipv4_packet Unknown ipv4_bytes) acknowledgement udp_bytes Right raw_spells (0, inl (refl, (λ e. omega arith), refl)) says_acknowledgement refl
+
+spoilt_tells : IsSentBy (raw_frame spoilt_bytes) None (sent_with Wrong)
+spoilt_tells = tells_by (raw_frame spoilt_bytes) None spoilt_packet spoilt_acknowledgement spoilt_packet.content Wrong spoilt_spells (0, inl (refl, (λ e. omega arith), refl)) says_spoilt refl
+
+left_tells : IsSentBy (raw_frame left_bytes) None (sent_with Partial)
+left_tells = tells_by (raw_frame left_bytes) None left_packet acknowledgement udp_left Partial left_spells (0, inl (refl, (λ e. omega arith), refl)) says_left refl
+
+left_stays : (before : List (Option Sent)) → IsDiscarded before (sent_with Partial) → ⊥
+left_stays before h = let x : Partial ≡ Wrong = h.0 in cc
+
+no_copy_of_right : IsCopy (recorded_raw ipv4_bytes ∷ []) (recorded_raw spoilt_bytes) → ⊥
+no_copy_of_right copy = search rules
+
+no_copy_of_left : IsCopy (recorded_raw left_bytes ∷ []) (recorded_raw ipv4_bytes) → ⊥
+no_copy_of_left copy = search rules
+
+no_copy_of_both : IsCopy (recorded_raw ipv4_bytes ∷ recorded_raw left_bytes ∷ []) (recorded_raw spoilt_bytes) → ⊥
+no_copy_of_both copy = search rules
+
+right_history : IsHistory (raw_step ipv4_bytes Right false [] ∷ [])
+right_history = (
+  inl (is_whole 228 ipv4_bytes (ipv4_packet Unknown ipv4_bytes) raw_spells refl, refl, refl),
+  tt,
+  inr (ipv4_packet Unknown ipv4_bytes, raw_spells, none_before (recorded_raw ipv4_bytes), refl),
+  raw_tells,
+  right_stays [],
+)
+
+pub discarded_history : IsHistory (raw_step spoilt_bytes Wrong true (recorded_raw ipv4_bytes ∷ []) ∷ raw_step ipv4_bytes Right false [] ∷ [])
+discarded_history = (
+  inl (is_whole 228 spoilt_bytes spoilt_packet spoilt_spells refl, refl, refl),
+  right_history,
+  inr (spoilt_packet, spoilt_spells, no_copy_of_right, refl),
+  spoilt_tells,
+  (refl, inl refl, (λ h. elim h [ inl e ↦ (let x : Right ≡ Partial = ap checksum_told e in cc) | inr b ↦ b ])),
+)
+
+pub discarded_fate : (d : Given) → IsDatagram (raw_frame spoilt_bytes) spoilt_packet spoilt_acknowledgement d → IsFateOf (raw_frame spoilt_bytes) New None true (Discarded d)
+discarded_fate d is = (spoilt_packet, spoilt_acknowledgement, spoilt_spells, says_spoilt, is)
+
+pub alone_history : IsHistory (raw_step spoilt_bytes Wrong false [] ∷ [])
+alone_history = (
+  inl (is_whole 228 spoilt_bytes spoilt_packet spoilt_spells refl, refl, refl),
+  tt,
+  inr (spoilt_packet, spoilt_spells, none_before (recorded_raw spoilt_bytes), refl),
+  spoilt_tells,
+  (λ h. h.1),
+)
+
+left_history : IsHistory (raw_step left_bytes Partial false [] ∷ [])
+left_history = (
+  inl (is_whole 228 left_bytes left_packet left_spells refl, refl, refl),
+  tt,
+  inr (left_packet, left_spells, none_before (recorded_raw left_bytes), refl),
+  left_tells,
+  left_stays [],
+)
+
+pub card_history : IsHistory (raw_step spoilt_bytes Wrong false (recorded_raw ipv4_bytes ∷ recorded_raw left_bytes ∷ []) ∷ raw_step ipv4_bytes Right false (recorded_raw left_bytes ∷ []) ∷ raw_step left_bytes Partial false [] ∷ [])
+card_history = (
+  inl (is_whole 228 spoilt_bytes spoilt_packet spoilt_spells refl, refl, refl),
+  (
+    inl (is_whole 228 ipv4_bytes (ipv4_packet Unknown ipv4_bytes) raw_spells refl, refl, refl),
+    left_history,
+    inr (ipv4_packet Unknown ipv4_bytes, raw_spells, no_copy_of_left, refl),
+    raw_tells,
+    right_stays (sent_with Partial ∷ []),
+  ),
+  inr (spoilt_packet, spoilt_spells, no_copy_of_both, refl),
+  spoilt_tells,
+  (λ h. h.2 (inr (inl refl))),
+)

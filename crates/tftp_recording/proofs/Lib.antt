@@ -1,6 +1,7 @@
 pub mod Accounting
 pub mod Bringing
 pub mod Continuing
+pub mod Discarding
 pub mod Gathering
 pub mod Keys
 pub mod Liking

@@ -1,5 +1,5 @@
 -- Which packets are copies, by what is told of them.
-use Rattle.std.proofs.Common.{◌≡◌, ◌↔◌, ℕ, Bool, true, false, inr, List, ◌∷◌, Option, Some, IsTrue, refl, sym, subst, ap}
+use Rattle.std.proofs.Common.{◌≡◌, ◌↔◌, ℕ, Bool, true, false, inr, List, ◌∷◌, Option, Some, IsTrue, refl, sym, subst}
 use Rattle.std.proofs.lemmas.Bool.{false≢true}
 use Rattle.tftp_copies.specs.{Interface, Packet as Recorded, IsCopy, RecentState, StandsFor}
 use Rattle.tftp_frames.specs.{Packet, is_identified, SpellsFrame, Fragment}

@@ -1,5 +1,5 @@
 -- What becomes of a frame is one thing.
-use Rattle.std.proofs.Common.{◌≡◌, ℕ, inl, inr, List, ◌∷◌, Option, Some, None, refl, sym, ap, ◌∙◌, subst}
+use Rattle.std.proofs.Common.{◌≡◌, Bool, true, false, inl, inr, List, ◌∷◌, Option, Some, None, refl, sym, ap, ◌∙◌, subst}
 use Rattle.std.proofs.lemmas.Bool.{false≢true}
 use Rattle.tftp_copies.specs.{Packet as Recorded}
 use Rattle.tftp_fragments.specs.{content_of as put_together, Outcome, Waits as Held, Apart as Torn, Empty as Bare, TooLong as Long, Full as Crowded}
@@ -11,7 +11,7 @@ use Rattle.tftp_frames.proofs.Datagrams.{fault_one, udp_one}
 use Rattle.tftp_frames.proofs.Datagrams as datagrams
 use Rattle.tftp_frames.proofs.FaultOrder.{first_one, no_fault, packet_one}
 use Rattle.tftp_pcap.specs.{FrameParts}
-use Rattle.tftp_recording.specs.{HasFault, IsDatagram, IsFate, IsFateOf, Says, content_of, sharers, Comes, IsLike, recorded, IsSameDatagram, IsSameFate, Fate, Left, Waits, LeftOut, Frame, Udp as NoUdp, Apart, Empty, TooLong, Full, Likeness}
+use Rattle.tftp_recording.specs.{HasFault, IsDatagram, IsFate, IsFateBy, IsFateOf, IsSent, IsSentBy, IsSentOf, Says, content_of, sharers, Comes, IsLike, recorded, IsSameDatagram, IsSameFate, Fate, Discarded, Left, Waits, LeftOut, Sent, Frame, Udp as NoUdp, Apart, Empty, TooLong, Full, Likeness}
 use Rattle.tftp_recording.specs.declared.fate.Datagram.{Datagram as Given}
 use Rattle.tftp_recording.specs.declared.fate.Fate.TheVariants.{Datagram}
 use Rattle.tftp_recording.specs.declared.fate.LeftOut.TheVariants.{Copy}
@@ -123,10 +123,66 @@ fate_one : (frame : FrameParts) (o m : Option Outcome) (fate same : Fate) → Is
 fate_one frame None m fate same e g h = says_one frame None fate same g (subst (λ (x : Option Outcome). IsFate frame x same) e h)
 fate_one frame (Some x) m fate same (y, e, is) g h = fate_with frame x y fate same is g (subst (λ (o : Option Outcome). IsFate frame o same) e h)
 
-pub fate_of_one : (frame : FrameParts) (l : Likeness) (o m : Option Outcome) (fate same : Fate) → IsSameIf o m → IsFateOf frame l o fate → IsFateOf frame l m same → IsSameFate fate same
-fate_of_one frame likeness.New o m fate same is g h = fate_one frame o m fate same is g h
-fate_of_one frame likeness.Doubtful o m fate same is g h = fate_one frame o m fate same is g h
-fate_of_one frame likeness.Copy o m fate same is g h = both_left Copy fate same g h
+none_discarded : (frame : FrameParts) (o : Option Outcome) (d : Given) → IsFate frame o (Discarded d) → ⊥
+none_discarded frame None d h = h
+none_discarded frame (Some Held) d h = cc
+none_discarded frame (Some (Whole content frames)) d h = h
+none_discarded frame (Some (Torn frames)) d h = cc
+none_discarded frame (Some Bare) d h = cc
+none_discarded frame (Some Long) d h = cc
+none_discarded frame (Some Crowded) d h = cc
+
+-- with the same datagram, by whether it is discarded
+discarded_one : (d e : Given) → IsSameFate (Datagram d) (Datagram e) → IsSameFate (Discarded d) (Discarded e)
+discarded_one d e (x, f, is) = (x, (let g : e ≡ x = cc in ap Discarded g), is)
+
+fate_by_one : (b : Bool) (frame : FrameParts) (o m : Option Outcome) (fate same : Fate) → IsSameIf o m → IsFateBy b frame o fate → IsFateBy b frame m same → IsSameFate fate same
+fate_by_one false frame o m fate same is g h = fate_one frame o m fate same is g h
+fate_by_one true frame o m (Datagram d) same is g h = absurd g
+fate_by_one true frame o m fate (Datagram e) is g h = absurd h
+fate_by_one true frame o m (Discarded d) (Discarded e) is g h = discarded_one d e (fate_one frame o m (Datagram d) (Datagram e) is g h)
+fate_by_one true frame o m (Discarded d) (Left why) is g h = let f = fate_one frame o m (Datagram d) (Left why) is g h in let e : Left why ≡ Datagram f.0 = f.1 in cc
+fate_by_one true frame o m (Discarded d) Waits is g h = let f = fate_one frame o m (Datagram d) Waits is g h in let e : Waits ≡ Datagram f.0 = f.1 in cc
+fate_by_one true frame o m (Left why) (Discarded e) is g h = let f : Datagram e ≡ Left why = fate_one frame o m (Left why) (Datagram e) is g h in cc
+fate_by_one true frame o m (Left why) (Left other) is g h = fate_one frame o m (Left why) (Left other) is g h
+fate_by_one true frame o m (Left why) Waits is g h = fate_one frame o m (Left why) Waits is g h
+fate_by_one true frame o m Waits (Discarded e) is g h = let f : Datagram e ≡ Waits = fate_one frame o m Waits (Datagram e) is g h in cc
+fate_by_one true frame o m Waits (Left other) is g h = fate_one frame o m Waits (Left other) is g h
+fate_by_one true frame o m Waits Waits is g h = refl
+
+pub fate_of_one : (frame : FrameParts) (l : Likeness) (o m : Option Outcome) (b : Bool) (fate same : Fate) → IsSameIf o m → IsFateOf frame l o b fate → IsFateOf frame l m b same → IsSameFate fate same
+fate_of_one frame likeness.New o m b fate same is g h = fate_by_one b frame o m fate same is g h
+fate_of_one frame likeness.Doubtful o m b fate same is g h = fate_by_one b frame o m fate same is g h
+fate_of_one frame likeness.Copy o m b fate same is g h = both_left Copy fate same g h
+
+-- ---- what a frame tells of who sent its datagram
+
+sent_by_one : (frame : FrameParts) (whole : Option Content) (s t : Option Sent) → IsSentBy frame whole s → IsSentBy frame whole t → s ≡ t
+sent_by_one frame whole None None g h = refl
+sent_by_one frame whole None (Some t) g (p, udp, has, host, checksum) = absurd (g p udp has)
+sent_by_one frame whole (Some s) None (p, udp, has, host, checksum) h = absurd (h p udp has)
+sent_by_one frame whole (Some s) (Some t) (p, udp, (spells, (bytes, has, long, sized, source, target, parts)), host, checksum) (q, other, (spelled, others), other_host, other_checksum) =
+    let e : s.host ≡ t.host = host ∙ ap (λ (x : Packet). x.source) (packet_one frame.link frame.bytes p q spells spelled) ∙ sym other_host in
+    let f : s.checksum ≡ t.checksum = checksum p bytes spells has sized ∙ sym (other_checksum p bytes spells has sized) in
+    λ i. Some (record { host = e i; checksum = f i })
+
+sent_with : (frame : FrameParts) (x y : Outcome) (s t : Option Sent) → IsSame x y → IsSent frame (Some x) s → IsSent frame (Some y) t → s ≡ t
+sent_with frame (Whole content frames) y s t (others, shares, e, is, are) g h =
+    sent_by_one frame (Some (put_together content)) s t g (subst (λ (l : Content). IsSentBy frame (Some l) t) (sym is) (subst (λ (o : Outcome). IsSent frame (Some o) t) e h))
+sent_with frame (Torn frames) y s t (shares, e, are) g h = g ∙ sym (subst (λ (o : Outcome). IsSent frame (Some o) t) e h)
+sent_with frame Held y s t e g h = g ∙ sym (subst (λ (o : Outcome). IsSent frame (Some o) t) e h)
+sent_with frame Bare y s t e g h = g ∙ sym (subst (λ (o : Outcome). IsSent frame (Some o) t) e h)
+sent_with frame Long y s t e g h = g ∙ sym (subst (λ (o : Outcome). IsSent frame (Some o) t) e h)
+sent_with frame Crowded y s t e g h = g ∙ sym (subst (λ (o : Outcome). IsSent frame (Some o) t) e h)
+
+sent_in_one : (frame : FrameParts) (o m : Option Outcome) (s t : Option Sent) → IsSameIf o m → IsSent frame o s → IsSent frame m t → s ≡ t
+sent_in_one frame None m s t e g h = sent_by_one frame None s t g (subst (λ (x : Option Outcome). IsSent frame x t) e h)
+sent_in_one frame (Some x) m s t (y, e, is) g h = sent_with frame x y s t is g (subst (λ (o : Option Outcome). IsSent frame o t) e h)
+
+pub sent_one : (frame : FrameParts) (l : Likeness) (o m : Option Outcome) (s t : Option Sent) → IsSameIf o m → IsSentOf frame l o s → IsSentOf frame l m t → s ≡ t
+sent_one frame likeness.New o m s t is g h = sent_in_one frame o m s t is g h
+sent_one frame likeness.Doubtful o m s t is g h = sent_in_one frame o m s t is g h
+sent_one frame likeness.Copy o m s t is g h = g ∙ sym h
 
 sharers_with : (x y : Outcome) → IsSame x y → sharers (Some x) ≡ sharers (Some y)
 sharers_with (Whole content frames) y (others, shares, e, is, are) = are ∙ ap (λ (o : Outcome). sharers (Some o)) (sym e)

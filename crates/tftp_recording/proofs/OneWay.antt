@@ -1,5 +1,5 @@
 -- A recording is read in one way.
-use Rattle.std.proofs.Common.{◌≡◌, ◌↔◌, ℕ, ◌+◌, Bool, true, false, inl, inr, List, [], ◌∷◌, length, map, reverse, Option, Some, None, refl, sym, ap, ◌∙◌, subst, arith}
+use Rattle.std.proofs.Common.{◌≡◌, ◌↔◌, ℕ, ◌+◌, Bool, true, false, inl, inr, List, [], ◌∷◌, length, map, reverse, Option, Some, None, refl, sym, ap, ◌∙◌, subst, arith, MatchBool}
 use Rattle.std.proofs.lemmas.List.{reverse-reverse}
 use Rattle.tftp_copies.specs.{Packet as Recorded}
 use Rattle.tftp_fragments.specs.{Sets, Outcome}
@@ -9,9 +9,10 @@ use Rattle.tftp_frames.proofs.FaultOrder.{packet_one}
 use Rattle.tftp_pcap.specs.{FrameParts, IsWrong, FaultKind}
 use Rattle.tftp_pcap.proofs.OneFault.{fault_one}
 use Rattle.tftp_pcap.proofs.OneReading.{fault_or_recording, recording_one}
-use Rattle.tftp_recording.specs.{BroughtState, DoesNothing, IsPart, Takes, TakesPart, arrival_of, key_of, IsFateOf, IsHistory, Step, frames_of, packets_of, waiting, Comes, is_copy, AreToldAlike, IsRead, IsReadTo, frames_at, Likeness}
+use Rattle.tftp_recording.specs.{BroughtState, DoesNothing, IsPart, Takes, TakesPart, arrival_of, key_of, IsDiscarded, IsFateOf, IsHistory, IsSentOf, Sent, Step, frames_of, packets_of, sent_in, waiting, Comes, is_copy, AreToldAlike, IsRead, IsReadTo, frames_at, Likeness}
 use Rattle.tftp_recording.proofs.KeptOnce.{Alike, IsSame, part_alike}
-use Rattle.tftp_recording.proofs.OneFate.{IsSameIf, comes_one, fate_of_one, sharers_one}
+use Rattle.tftp_recording.proofs.OneFate.{IsSameIf, comes_one, fate_of_one, sent_one, sharers_one}
+use Rattle.tftp_recording.proofs.Discarding.{one_of_two}
 
 no_part : (copy : Bool) (frame : FrameParts) (p : Packet) (f : Fragment) → DoesNothing copy frame → IsPart frame p f → copy ≡ false → ⊥
 no_part true frame p f d is e = cc
@@ -51,6 +52,7 @@ record Both (some others : List Step) : Type 0 where
   told : AreToldAlike some others
   sets : Alike (waiting some) (waiting others)
   came : packets_of some ≡ packets_of others
+  sent : sent_in some ≡ sent_in others
   count : length some ≡ length others
 
 abbrev frames_in : List Step → List FrameParts
@@ -74,13 +76,23 @@ step_alike s t before rest e both g h =
     (subst (λ (f : FrameParts). Takes (is_copy t.likeness) (waiting rest) f (length before + 1) t.brought t.waits) (sym e)
     (subst (λ (n : ℕ). Takes (is_copy t.likeness) (waiting rest) t.frame (n + 1) t.brought t.waits) (sym both.count) h.0)) in
     let alike = takes_alike (is_copy s.likeness) s.frame (length before + 1) (waiting before) s.waits (waiting rest) t.waits s.brought t.brought g.0 takes both.sets in
+    let told : IsSentOf s.frame s.likeness t.brought.outcome t.sent =
+    subst (λ (l : Likeness). IsSentOf s.frame l t.brought.outcome t.sent) (sym like.0) (subst (λ (f : FrameParts). IsSentOf f t.likeness t.brought.outcome t.sent) (sym e) h.3) in
+    let sent = sent_one s.frame s.likeness s.brought.outcome t.brought.outcome s.sent t.sent alike.2 g.3 told in
+    let discards : MatchBool t.is_discarded (IsDiscarded (sent_in before) s.sent) (IsDiscarded (sent_in before) s.sent → ⊥) =
+    subst (λ (x : Option Sent). MatchBool t.is_discarded (IsDiscarded (sent_in before) x) (IsDiscarded (sent_in before) x → ⊥)) (sym sent)
+    (subst (λ (l : List (Option Sent)). MatchBool t.is_discarded (IsDiscarded l t.sent) (IsDiscarded l t.sent → ⊥)) (sym both.sent) h.4) in
+    let discarded = one_of_two (IsDiscarded (sent_in before) s.sent) s.is_discarded t.is_discarded g.4 discards in
     record {
       told = (
         record {
           frame = e;
           likeness = like.0;
           fate = λ fate same is has.
-              fate_of_one s.frame s.likeness s.brought.outcome t.brought.outcome fate same alike.2 is (subst (λ (l : Likeness). IsFateOf s.frame l t.brought.outcome same) (sym like.0) (subst (λ (f : FrameParts). IsFateOf f t.likeness t.brought.outcome same) (sym e) has));
+              fate_of_one s.frame s.likeness s.brought.outcome t.brought.outcome s.is_discarded fate same alike.2 is
+              (subst (λ (b : Bool). IsFateOf s.frame s.likeness t.brought.outcome b same) (sym discarded)
+              (subst (λ (l : Likeness). IsFateOf s.frame l t.brought.outcome t.is_discarded same) (sym like.0) (subst (λ (f : FrameParts). IsFateOf f t.likeness t.brought.outcome t.is_discarded same) (sym e) has)));
+          sent = sent;
           sharers = sharers_one s.brought.outcome t.brought.outcome alike.2;
           old = alike.1;
           ousted = alike.3;
@@ -90,11 +102,12 @@ step_alike s t before rest e both g h =
       );
       sets = alike.0;
       came = like.1;
+      sent = λ i. sent i ∷ both.sent i;
       count = omega (arith, both.count);
     }
 
 all_alike : (some others : List Step) → frames_in some ≡ frames_in others → IsHistory some → IsHistory others → Both some others
-all_alike [] [] e g h = record { told = tt; sets = record { at = λ key. record { arrivals = []; one = refl; other = refl }; room = refl }; came = refl; count = refl }
+all_alike [] [] e g h = record { told = tt; sets = record { at = λ key. record { arrivals = []; one = refl; other = refl }; room = refl }; came = refl; sent = refl; count = refl }
 all_alike [] (t ∷ rest) e g h = absurd (no_frames t.frame (frames_in rest) e)
 all_alike (s ∷ before) [] e g h = absurd (no_frames s.frame (frames_in before) (sym e))
 all_alike (s ∷ before) (t ∷ rest) e g h =

@@ -1,5 +1,5 @@
 -- Which frames are copies, and which may be (RFC 791, section 3.2; RFC 8200, section 4.5).
-use Rattle.std.specs.Prelude.{◌≡◌, ◌⊎◌, ◌<◌, ℕ, Bool, true, false, List, ◌∷◌, length, Option, Some}
+use Rattle.std.specs.Prelude.{◌≡◌, ◌⊎◌, ◌<◌, Bool, true, false, List, ◌∷◌, length, Some}
 use Rattle.std.specs.List.{slice_get}
 use Rattle.tftp_copies.specs.{Interface, Packet as Recorded, IsCopy}
 use Rattle.tftp_frames.specs.{SpellsFrame, Packet, index_of, is_identified}

@@ -1,12 +1,15 @@
--- What the checksums say of a frame's datagram.
+-- What the checksums say of a frame's datagram, and who sent it.
 use Rattle.std.specs.Prelude.{◌≡◌, ℕ, List, Option, Some, None, take}
 use Rattle.tftp_fragments.specs.{content_of as put_together, Outcome}
 use Rattle.tftp_fragments.specs.Whole.{Content}
 use Rattle.tftp_fragments.specs.declared.outcome.Outcome.TheVariants as outcome
-use Rattle.tftp_frames.specs.{SpellsFrame, Packet, HasUdp, IsSized, pair, checksum_of, Absent}
+use Rattle.tftp_frames.specs.{SpellsFrame, Packet, HasUdp, IsSized, SpellsUdp, Udp, pair, checksum_of, Absent}
 use Rattle.tftp_frames.specs.declared.checksum.Checksum.{Checksum}
 use Rattle.tftp_pcap.specs.{FrameParts}
 use Rattle.tftp_recording.specs.Fates.{content_of}
+use Rattle.tftp_recording.specs.declared.likeness.Likeness.{Likeness}
+use Rattle.tftp_recording.specs.declared.likeness.Likeness.TheVariants as likeness
+use Rattle.tftp_recording.specs.declared.sent.Sent.{Sent}
 
 -- it is that of the datagram which the content of the frame's packet is, its own or that which was put together
 abbrev pub IsChecksum : FrameParts → Option Content → Checksum → Type 0
@@ -14,8 +17,28 @@ IsChecksum frame whole checksum =
     (p : Packet) (bytes : List ℕ) → SpellsFrame frame.link frame.bytes p → HasUdp (content_of p whole).protocol (content_of p whole).bytes bytes → IsSized bytes
     → checksum ≡ checksum_of p (take (pair bytes 4) bytes)
 
+-- the frame's packet has this datagram, in its content or in that which was put together
+abbrev pub HasDatagram : FrameParts → Option Content → Packet → Udp → Type 0
+HasDatagram frame whole p udp = SpellsFrame frame.link frame.bytes p × SpellsUdp (content_of p whole).protocol (content_of p whole).bytes udp
+
+-- of a datagram the host that sent it, and what its checksums say; of other frames nothing
+abbrev pub IsSentBy : FrameParts → Option Content → Option Sent → Type 0
+IsSentBy frame whole None = (p : Packet) (udp : Udp) → HasDatagram frame whole p udp → ⊥
+IsSentBy frame whole (Some sent) = (p : Packet) × (udp : Udp) × HasDatagram frame whole p udp × (sent.host ≡ p.source) × IsChecksum frame whole sent.checksum
+
 -- by what became of the frame as a fragment
-abbrev pub IsChecksumOf : FrameParts → Option Outcome → Checksum → Type 0
-IsChecksumOf frame None checksum = IsChecksum frame None checksum
-IsChecksumOf frame (Some (outcome.Whole content frames)) checksum = IsChecksum frame (Some (put_together content)) checksum
-IsChecksumOf frame _ checksum = checksum ≡ Absent
+abbrev pub IsSent : FrameParts → Option Outcome → Option Sent → Type 0
+IsSent frame None sent = IsSentBy frame None sent
+IsSent frame (Some (outcome.Whole content frames)) sent = IsSentBy frame (Some (put_together content)) sent
+IsSent frame _ sent = sent ≡ None
+
+-- a copy tells nothing
+abbrev pub IsSentOf : FrameParts → Likeness → Option Outcome → Option Sent → Type 0
+IsSentOf frame likeness.New outcome sent = IsSent frame outcome sent
+IsSentOf frame likeness.Doubtful outcome sent = IsSent frame outcome sent
+IsSentOf frame likeness.Copy outcome sent = sent ≡ None
+
+-- what the checksums say of a datagram, and Absent of all else
+abbrev pub checksum_told : Option Sent → Checksum
+checksum_told None = Absent
+checksum_told (Some sent) = sent.checksum

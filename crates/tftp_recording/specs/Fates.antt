@@ -1,5 +1,5 @@
 -- What became of a frame.
-use Rattle.std.specs.Prelude.{◌≡◌, ◌≢◌, ◌⊎◌, ℕ, List, [], Option, Some, None}
+use Rattle.std.specs.Prelude.{◌≡◌, ◌≢◌, ◌⊎◌, ℕ, Bool, true, false, List, [], Option, Some, None}
 use Rattle.tftp_fragments.specs.{content_of as put_together, Outcome}
 use Rattle.tftp_fragments.specs.Whole.{Content}
 use Rattle.tftp_fragments.specs.declared.outcome.Outcome.TheVariants as outcome
@@ -10,7 +10,7 @@ use Rattle.tftp_frames.specs.declared.packet.Direction.TheVariants as link
 use Rattle.tftp_pcap.specs.{FrameParts, Direction, In, Out}
 use Rattle.tftp_recording.specs.declared.fate.Datagram.{Datagram as Given}
 use Rattle.tftp_recording.specs.declared.fate.Fate.{Fate}
-use Rattle.tftp_recording.specs.declared.fate.Fate.TheVariants.{Datagram, Left, Waits}
+use Rattle.tftp_recording.specs.declared.fate.Fate.TheVariants.{Datagram, Discarded, Left, Waits}
 use Rattle.tftp_recording.specs.declared.fate.LeftOut.TheVariants.{Frame, Udp as NoUdp, Apart, Empty, TooLong, Full, Copy}
 use Rattle.tftp_recording.specs.declared.likeness.Likeness.{Likeness}
 use Rattle.tftp_recording.specs.declared.likeness.Likeness.TheVariants as likeness
@@ -51,6 +51,7 @@ Says frame whole (Left TooLong) = ⊥
 Says frame whole (Left Full) = ⊥
 Says frame whole (Left Copy) = ⊥
 Says frame whole Waits = ⊥
+Says frame whole (Discarded d) = ⊥
 
 -- what became of a frame that is no copy, by what became of it as a fragment
 abbrev pub IsFate : FrameParts → Option Outcome → Fate → Type 0
@@ -62,11 +63,19 @@ IsFate frame (Some outcome.Empty) fate = fate ≡ Left Empty
 IsFate frame (Some outcome.TooLong) fate = fate ≡ Left TooLong
 IsFate frame (Some outcome.Full) fate = fate ≡ Left Full
 
--- what became of a frame: a copy is left out
-abbrev pub IsFateOf : FrameParts → Likeness → Option Outcome → Fate → Type 0
-IsFateOf frame likeness.New outcome fate = IsFate frame outcome fate
-IsFateOf frame likeness.Doubtful outcome fate = IsFate frame outcome fate
-IsFateOf frame likeness.Copy outcome fate = fate ≡ Left Copy
+-- a datagram that its host discarded is left out
+abbrev pub IsFateBy : Bool → FrameParts → Option Outcome → Fate → Type 0
+IsFateBy false frame outcome fate = IsFate frame outcome fate
+IsFateBy true frame outcome (Datagram d) = ⊥
+IsFateBy true frame outcome (Left why) = IsFate frame outcome (Left why)
+IsFateBy true frame outcome Waits = IsFate frame outcome Waits
+IsFateBy true frame outcome (Discarded d) = IsFate frame outcome (Datagram d)
+
+-- what became of a frame, by whether its host discarded its datagram: a copy is left out
+abbrev pub IsFateOf : FrameParts → Likeness → Option Outcome → Bool → Fate → Type 0
+IsFateOf frame likeness.New outcome is_discarded fate = IsFateBy is_discarded frame outcome fate
+IsFateOf frame likeness.Doubtful outcome is_discarded fate = IsFateBy is_discarded frame outcome fate
+IsFateOf frame likeness.Copy outcome is_discarded fate = fate ≡ Left Copy
 
 -- the frames that share it
 abbrev pub sharers : Option Outcome → List ℕ
@@ -83,3 +92,4 @@ abbrev pub IsSoundFate : Fate → Type 0
 IsSoundFate (Datagram d) = IsSound (record { source_port = d.source_port; target_port = d.target_port; payload = d.payload.now })
 IsSoundFate (Left why) = Unit {0}
 IsSoundFate Waits = Unit {0}
+IsSoundFate (Discarded d) = IsSound (record { source_port = d.source_port; target_port = d.target_port; payload = d.payload.now })

@@ -7,7 +7,7 @@ use Rattle.tftp_recording.specs.Fates.{IsFateOf, sharers}
 use Rattle.tftp_recording.specs.History.{IsHistory, Step, frames_of}
 use Rattle.tftp_recording.specs.declared.fate.Datagram.{Datagram as Given}
 use Rattle.tftp_recording.specs.declared.fate.Fate.{Fate}
-use Rattle.tftp_recording.specs.declared.fate.Fate.TheVariants.{Datagram, Left, Waits}
+use Rattle.tftp_recording.specs.declared.fate.Fate.TheVariants.{Datagram, Discarded, Left, Waits}
 
 -- the bytes are a recording, and this became of its frames
 pub record IsRead (bytes : List ℕ) (history : List Step) : Type 0 where
@@ -33,17 +33,19 @@ abbrev pub IsSameFate : Fate → Fate → Type 0
 IsSameFate (Datagram d) other = (e : Given) × (other ≡ Datagram e) × IsSameDatagram d e
 IsSameFate (Left why) other = other ≡ Left why
 IsSameFate Waits other = other ≡ Waits
+IsSameFate (Discarded d) other = (e : Given) × (other ≡ Discarded e) × IsSameDatagram d e
 
 -- the frames that wait under a key
 abbrev pub frames_at : Key → Sets → List ℕ
 frames_at key sets = waiting_of (set_at key sets)
 
--- two readings tell the same of a frame: the same became of it, it is of the same frames, and the same frames were too old,
--- or had to make room
+-- two readings tell the same of a frame: the same became of it, it tells the same of who sent its datagram, it is of the same
+-- frames, and the same frames were too old, or had to make room
 pub record IsToldAlike (some other : Step) : Type 0 where
   pub frame : some.frame ≡ other.frame
   pub likeness : some.likeness ≡ other.likeness
-  pub fate : (fate same : Fate) → IsFateOf some.frame some.likeness some.brought.outcome fate → IsFateOf other.frame other.likeness other.brought.outcome same → IsSameFate fate same
+  pub fate : (fate same : Fate) → IsFateOf some.frame some.likeness some.brought.outcome some.is_discarded fate → IsFateOf other.frame other.likeness other.brought.outcome other.is_discarded same → IsSameFate fate same
+  pub sent : some.sent ≡ other.sent
   pub sharers : sharers some.brought.outcome ≡ sharers other.brought.outcome
   pub old : some.brought.old ≡ other.brought.old
   pub ousted : (key : Key) → frames_at key some.brought.ousted ≡ frames_at key other.brought.ousted

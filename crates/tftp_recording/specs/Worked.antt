@@ -1,5 +1,5 @@
 -- Frames for worked examples: the acknowledgement of the worked frames of tftp_frames, in two fragments, and recorded twice.
-use Rattle.std.specs.Prelude.{ℕ, List, [], ◌∷◌, ◌++◌, length, map, Option, Some, true, false}
+use Rattle.std.specs.Prelude.{ℕ, Bool, List, [], ◌∷◌, ◌++◌, length, map, Option, Some, None, true, false}
 use Rattle.std.specs.Global.{Vec}
 use Rattle.tftp_copies.specs.{Interface, Packet as Recorded}
 use Rattle.tftp_fragments.specs.{SetState, Waits}
@@ -7,13 +7,15 @@ use Rattle.tftp_fragments.specs.Whole.{Content}
 use Rattle.tftp_fragments.specs.declared.content.Content.{Content as Given}
 use Rattle.tftp_fragments.specs.declared.key.Key.{Key}
 use Rattle.tftp_fragments.specs.declared.outcome.Outcome.TheVariants.{Whole}
-use Rattle.tftp_frames.specs.{Packet, cooked_head, host, ipv4_bytes, ipv4_packet, ipv6_part, two_tags, udp_bytes, Unknown, Fragment}
+use Rattle.tftp_frames.specs.{Packet, Udp, acknowledgement, cooked_head, host, ipv4_bytes, ipv4_packet, ipv6_part, two_tags, udp_bytes, udp_left, Right, Unknown, Fragment}
+use Rattle.tftp_frames.specs.declared.checksum.Checksum.{Checksum}
 use Rattle.tftp_pcap.specs.{FrameParts}
 use Rattle.tftp_pcap.specs.declared.frame.Direction.TheVariants as recorded
 use Rattle.tftp_recording.specs.Brought.{nothing_brought}
 use Rattle.tftp_recording.specs.History.{Step}
 use Rattle.tftp_recording.specs.declared.likeness.Likeness.{Likeness}
-use Rattle.tftp_recording.specs.declared.likeness.Likeness.TheVariants.{New}
+use Rattle.tftp_recording.specs.declared.likeness.Likeness.TheVariants.{New, Doubtful, Copy}
+use Rattle.tftp_recording.specs.declared.sent.Sent.{Sent}
 
 -- ---- in two fragments, of the link type of raw IPv4, recorded at one time
 
@@ -49,16 +51,20 @@ first_set = record { held = record { cells = map (λ b. Some b) first_part.conte
 abbrev pub recorded_first : Recorded
 recorded_first = record { interface = first_of 0; time = worked_time; bytes = first_bytes }
 
+-- the host of all of these frames sent a datagram with such a checksum
+abbrev pub sent_with : Checksum → Option Sent
+sent_with checksum = Some (record { host = host 7; checksum = checksum })
+
 -- the first fragment waits
 abbrev pub first_step : Step
-first_step = record { frame = raw_frame first_bytes; likeness = New; brought = record nothing_brought { outcome = Some Waits }; waits = (worked_key, first_set) ∷ []; came = recorded_first ∷ [] }
+first_step = record { frame = raw_frame first_bytes; likeness = New; brought = record nothing_brought { outcome = Some Waits }; waits = (worked_key, first_set) ∷ []; came = recorded_first ∷ []; sent = None; is_discarded = false }
 
 abbrev pub worked_content : Content
 worked_content = record { protocol = 17; bytes = udp_bytes }
 
 -- the last one gives a content, of those frames, and none waits
 abbrev pub last_step : Given → Vec ℕ → Step
-last_step content frames = record { frame = raw_frame last_bytes; likeness = New; brought = record nothing_brought { outcome = Some (Whole content frames) }; waits = []; came = record { interface = first_of 0; time = worked_time; bytes = last_bytes } ∷ recorded_first ∷ [] }
+last_step content frames = record { frame = raw_frame last_bytes; likeness = New; brought = record nothing_brought { outcome = Some (Whole content frames) }; waits = []; came = record { interface = first_of 0; time = worked_time; bytes = last_bytes } ∷ recorded_first ∷ []; sent = sent_with Right; is_discarded = false }
 
 -- ---- the last fragment of a packet of IPv6, which names ICMP (58), of the link type of raw IPv6
 
@@ -95,7 +101,15 @@ ethernet_step time = record {
   brought = nothing_brought;
   waits = [];
   came = recorded_at 0 time ∷ [];
+  sent = sent_with Right;
+  is_discarded = false;
 }
+
+-- a copy tells nothing
+abbrev pub cooked_sent : Likeness → Option Sent
+cooked_sent New = sent_with Right
+cooked_sent Doubtful = sent_with Right
+cooked_sent Copy = None
 
 abbrev pub cooked_step : Likeness → ℕ → ℕ → ℕ → Step
 cooked_step likeness number before time = record {
@@ -104,4 +118,38 @@ cooked_step likeness number before time = record {
   brought = nothing_brought;
   waits = [];
   came = recorded_at number time ∷ recorded_at 0 before ∷ [];
+  sent = cooked_sent likeness;
+  is_discarded = false;
+}
+
+-- ---- with a byte changed on its way, so that it acknowledges block 2, and with a checksum that is left to the network card
+
+abbrev pub spoilt_bytes : List ℕ
+spoilt_bytes = 69 ∷ 0 ∷ 0 ∷ 32 ∷ 0 ∷ 7 ∷ 0 ∷ 0 ∷ 64 ∷ 17 ∷ 246 ∷ 189 ∷ 192 ∷ 0 ∷ 2 ∷ 7 ∷ 192 ∷ 0 ∷ 2 ∷ 1 ∷ 156 ∷ 64 ∷ 0 ∷ 69 ∷ 0 ∷ 12 ∷ 223 ∷ 66 ∷ 0 ∷ 4 ∷ 0 ∷ 2 ∷ []
+
+abbrev pub spoilt_packet : Packet
+spoilt_packet = record (ipv4_packet Unknown spoilt_bytes) { content = 156 ∷ 64 ∷ 0 ∷ 69 ∷ 0 ∷ 12 ∷ 223 ∷ 66 ∷ 0 ∷ 4 ∷ 0 ∷ 2 ∷ [] }
+
+abbrev pub spoilt_acknowledgement : Udp
+spoilt_acknowledgement = record acknowledgement { payload = 0 ∷ 4 ∷ 0 ∷ 2 ∷ [] }
+
+abbrev pub left_bytes : List ℕ
+left_bytes = 69 ∷ 0 ∷ 0 ∷ 32 ∷ 0 ∷ 7 ∷ 0 ∷ 0 ∷ 64 ∷ 17 ∷ 246 ∷ 189 ∷ 192 ∷ 0 ∷ 2 ∷ 7 ∷ 192 ∷ 0 ∷ 2 ∷ 1 ∷ 156 ∷ 64 ∷ 0 ∷ 69 ∷ 0 ∷ 12 ∷ 132 ∷ 38 ∷ 0 ∷ 4 ∷ 0 ∷ 1 ∷ []
+
+abbrev pub left_packet : Packet
+left_packet = record (ipv4_packet Unknown left_bytes) { content = udp_left }
+
+abbrev pub recorded_raw : List ℕ → Recorded
+recorded_raw bytes = record recorded_first { bytes = bytes }
+
+-- such a frame, after those packets
+abbrev pub raw_step : List ℕ → Checksum → Bool → List Recorded → Step
+raw_step bytes checksum is_discarded before = record {
+  frame = raw_frame bytes;
+  likeness = New;
+  brought = nothing_brought;
+  waits = [];
+  came = recorded_raw bytes ∷ before;
+  sent = sent_with checksum;
+  is_discarded = is_discarded;
 }

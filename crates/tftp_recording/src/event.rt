@@ -1,17 +1,19 @@
-ghost use Rattle.std.specs.Prelude.{◌≡◌, [], None, option_map, MatchOption};
+ghost use Rattle.std.specs.Prelude.{◌≡◌, [], None, Option, false, option_map, MatchOption};
 ghost use Rattle.std.specs.declared.net.ip_addr.IpAddr.{IpAddr as Host};
 ghost use Rattle.tftp_fragments.specs.{content_of as put_together};
 ghost use Rattle.tftp_frames.specs.{IsBetween, shown};
-ghost use Rattle.tftp_pcap.specs.{no_frame};
+ghost use Rattle.tftp_fragments.specs.{Outcome as Became};
+ghost use Rattle.tftp_pcap.specs.{FrameParts, no_frame};
 ghost use Rattle.tftp_recording.specs.Brought.{nothing_brought};
-ghost use Rattle.tftp_recording.specs.Fates.{content_of, direction_of, IsFate, IsFateOf, IsSoundFate, Says, sharers};
+ghost use Rattle.tftp_recording.specs.Fates.{content_of, direction_of, IsFate, IsFateBy, IsFateOf, IsSoundFate, Says, sharers};
 ghost use Rattle.tftp_recording.specs.Alike.{is_doubtful};
-ghost use Rattle.tftp_recording.specs.Checked.{IsChecksum, IsChecksumOf};
+ghost use Rattle.tftp_recording.specs.Checked.{checksum_told};
 ghost use Rattle.tftp_recording.specs.declared.likeness.Likeness.{Likeness};
 
 use crate::brought::Brought;
 use crate::fate::{Datagram, Fate, LeftOut};
 use crate::likeness::Likeness;
+use crate::sent::Sent;
 use std::alloc::Global;
 use std::marker::Model;
 use std::mem;
@@ -29,6 +31,8 @@ pub struct Event {
     pub(crate) frame: Frame,
     pub(crate) likeness: Likeness,
     pub(crate) brought: Brought,
+    pub(crate) sent: Option<Sent>,
+    pub(crate) is_discarded: bool,
 }
 
 impl Model for Event {
@@ -36,7 +40,7 @@ impl Model for Event {
 
     ghost Value = { EventState };
 
-    ghost view = { λ e. record { frame = e.frame; likeness = e.likeness; brought = e.brought } };
+    ghost view = { λ e. record { frame = e.frame; likeness = e.likeness; brought = e.brought; sent = e.sent; is_discarded = e.is_discarded } };
 }
 
 impl Event {
@@ -46,23 +50,38 @@ impl Event {
         ensures parts { result.frame.parts ≡ no_frame }
         ensures likeness { result.likeness ≡ Likeness.New }
         ensures brought { result.brought ≡ nothing_brought }
+        ensures sent { result.sent ≡ None }
+        ensures discarded { result.is_discarded ≡ false }
     {
         Event {
             frame: Frame::empty(alloc),
             likeness: Likeness::New,
             brought: Brought::nothing(alloc),
+            sent: None,
+            is_discarded: false,
         }
     }
 
-    /// Sets whether the frame is a copy, and what it did.
+    /// Sets whether the frame is a copy, what it did, what it tells of who sent its datagram, and whether that one's host
+    /// discarded it.
     #[inline]
-    pub(crate) fn bring(&mut self, likeness: Likeness, brought: Brought)
+    pub(crate) fn bring(
+        &mut self,
+        likeness: Likeness,
+        brought: Brought,
+        sent: Option<Sent>,
+        is_discarded: bool,
+    )
         ensures frame { self.new.frame ≡ self.old.frame }
         ensures likeness { self.new.likeness ≡ likeness }
         ensures brought { self.new.brought ≡ brought }
+        ensures sent { self.new.sent ≡ sent }
+        ensures discarded { self.new.is_discarded ≡ is_discarded }
     {
         self.likeness = likeness;
         self.brought = brought;
+        self.sent = sent;
+        self.is_discarded = is_discarded;
     }
 
     /// The frame's number in the recording, the first being 1.
@@ -94,26 +113,28 @@ impl Event {
     /// What became of the frame. A datagram borrows its payload from the frame, or from the packet that was put together.
     #[inline]
     pub fn fate(&self) -> Fate<'_>
-        ensures is { IsFateOf self.now.frame.parts self.now.likeness self.now.brought.outcome result }
+        ensures is { IsFateOf self.now.frame.parts self.now.likeness self.now.brought.outcome self.now.is_discarded result }
         ensures sound { IsSoundFate result }
     {
         match self.likeness {
-            Likeness::New | Likeness::Doubtful => fate_of(&self.frame, self.brought.outcome()),
+            Likeness::New | Likeness::Doubtful => {
+                let fate = fate_of(&self.frame, self.brought.outcome());
+                left_by(self.is_discarded, fate)
+            }
             Likeness::Copy => Fate::Left(LeftOut::Copy),
         }
     }
 
     /// What the checksums say of the datagram that the frame is, or that it made whole: the datagram's own, over all its bytes,
-    /// and that of the frame's IPv4 header. A host discards a datagram with a wrong one, unless none of what its sender sent
-    /// has a right one: then the recording was made before hardware made them. It is not left out for that. Of any other frame
-    /// it is Absent (RFC 768; RFC 791, section 3.1; RFC 8200, section 8.1).
+    /// and that of the frame's IPv4 header. Of any other frame, and of a copy, it is Absent (RFC 768; RFC 791, section 3.1; RFC
+    /// 8200, section 8.1).
+    #[inline]
     pub fn checksum(&self) -> Checksum
-        ensures { IsChecksumOf self.now.frame.parts self.now.brought.outcome result }
+        ensures { result ≡ checksum_told self.now.sent }
     {
-        match self.brought.outcome() {
-            None => checksum_of(&self.frame, None),
-            Some(Outcome::Whole { content, .. }) => checksum_of(&self.frame, Some(content)),
-            Some(_) => Checksum::Absent,
+        match self.sent {
+            Some(sent) => sent.checksum,
+            None => Checksum::Absent,
         }
     }
 
@@ -168,8 +189,22 @@ impl Event {
         ensures outcome { self.new.brought.outcome ≡ self.old.brought.outcome }
         ensures frame { self.new.frame ≡ self.old.frame }
         ensures likeness { self.new.likeness ≡ self.old.likeness }
+        ensures sent { self.new.sent ≡ self.old.sent }
+        ensures discarded { self.new.is_discarded ≡ self.old.is_discarded }
     {
         mem::replace(&mut self.brought.ousted, Fragments::new(alloc))
+    }
+}
+
+/// What became of a frame, by whether its host discarded its datagram, and what became of it else.
+#[inline]
+fn left_by(is_discarded: bool, fate: Fate<'_>) -> Fate<'_>
+    ensures is { (frame : FrameParts) (outcome : Option Became) → IsFate frame outcome fate.entry → IsFateBy is_discarded frame outcome result }
+    ensures sound { IsSoundFate fate.entry → IsSoundFate result }
+{
+    match fate {
+        Fate::Datagram(datagram) if is_discarded => Fate::Discarded(datagram),
+        fate => fate,
     }
 }
 
@@ -215,20 +250,9 @@ fn says<'a>(frame: &'a Frame, whole: Option<&'a Content>) -> Fate<'a>
     }
 }
 
-/// What the checksums say of a frame's datagram, or of that of the packet of that content which it made whole.
-fn checksum_of(frame: &Frame, whole: Option<&Content>) -> Checksum
-    ensures { IsChecksum frame.now.parts (option_map (λ content. put_together content.now) whole.entry) result }
-{
-    let Ok(packet) = read_frame(frame.link(), frame.bytes()) else {
-        return Checksum::Absent;
-    };
-    let (protocol, content) = content_of(whole, &packet);
-    packet.checksum(protocol, content)
-}
-
 /// The content of a packet, with what it begins and its bytes: the one that was put together, or else the packet's own.
 #[inline]
-fn content_of<'a>(whole: Option<&'a Content>, packet: &IpPacket<'a>) -> (u8, &'a [u8])
+pub(crate) fn content_of<'a>(whole: Option<&'a Content>, packet: &IpPacket<'a>) -> (u8, &'a [u8])
     ensures protocol { result.0 ≡ (content_of (shown packet.now) (option_map (λ content. put_together content.now) whole.entry)).protocol }
     ensures bytes { result.1.now ≡ (content_of (shown packet.now) (option_map (λ content. put_together content.now) whole.entry)).bytes }
 {

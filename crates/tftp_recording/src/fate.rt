@@ -47,4 +47,8 @@ pub enum Fate<'a> {
     Left(LeftOut),
     /// It is a fragment that waits for others of its packet.
     Waits,
+    /// It is a datagram, or the last part that was missing of one, that its host discarded, and is left out: its checksum is
+    /// wrong (RFC 1122, sections 3.2.1.2 and 4.1.3.4). It was wrong when it came, and not only when it was recorded: its
+    /// sender's host had sent one with a right one before, and none with one that was left to its network card.
+    Discarded(Datagram<'a>),
 }

@@ -1,8 +1,9 @@
-ghost use Rattle.std.specs.Prelude.{◌≡◌, ◌⊎◌, ◌≤◌, ◌∷◌, ℕ, List, [], Some, false, length};
+ghost use Rattle.std.specs.Prelude.{◌≡◌, ◌⊎◌, ◌≤◌, ◌∷◌, ℕ, List, [], Some, None, true, false, length};
 ghost use Rattle.std.specs.Global.{Vec};
 ghost use Rattle.tftp_fragments.specs.{content_of, same_key};
 ghost use Rattle.tftp_fragments.specs.declared.content.Content.{Content};
-ghost use Rattle.tftp_frames.specs.{SpellsUdp, acknowledgement};
+ghost use Rattle.tftp_frames.specs.{acknowledgement, ipv4_bytes};
+ghost use Rattle.tftp_frames.specs.declared.checksum.Checksum.{Checksum};
 ghost use Rattle.tftp_pcap.specs.{IsWrong, FaultKind};
 ghost use Rattle.tftp_recording.specs.Accounts.{IsSettled, IsWaiting, NoneTwice, ToldOneWay};
 ghost use Rattle.tftp_recording.specs.Brought.{key_of};
@@ -10,7 +11,7 @@ ghost use Rattle.tftp_recording.specs.Contents.{IsPutTogether};
 ghost use Rattle.tftp_recording.specs.History.{IsHistory, Step, waiting};
 ghost use Rattle.tftp_recording.specs.Fates.{IsDatagram, IsFateOf};
 ghost use Rattle.tftp_recording.specs.OneWay.{AreToldAlike, IsRead, IsReadTo};
-ghost use Rattle.tftp_recording.specs.Worked.{cooked_step, ethernet_step, first_step, icmp_content, icmp_frame, last_named, last_part, last_step, part_of_icmp, part_of_udp, worked_content};
+ghost use Rattle.tftp_recording.specs.Worked.{cooked_step, ethernet_step, first_step, icmp_content, icmp_frame, last_named, last_part, last_step, left_bytes, part_of_icmp, part_of_udp, raw_frame, raw_step, recorded_raw, spoilt_acknowledgement, spoilt_bytes, spoilt_packet, worked_content};
 ghost use Rattle.tftp_recording.specs.declared.fate.Datagram.{Datagram};
 ghost use Rattle.tftp_recording.specs.declared.fate.Fate.{Fate};
 ghost use Rattle.tftp_recording.specs.declared.fate.LeftOut.{LeftOut};
@@ -49,9 +50,9 @@ pub fn recording_is_read_in_one_way()
 /// both, of frames 1 and 2, and it is the datagram.
 pub fn worked_fragments()
     ensures history { (content : Content) (frames : Vec ℕ) → content_of content ≡ worked_content → frames.items ≡ 1 ∷ 2 ∷ [] → IsHistory (last_step content frames ∷ first_step ∷ []) }
-    ensures waits { IsFateOf first_step.frame first_step.likeness first_step.brought.outcome Fate.Waits }
+    ensures waits { IsFateOf first_step.frame first_step.likeness first_step.brought.outcome first_step.is_discarded Fate.Waits }
     ensures datagram { (content : Content) (frames : Vec ℕ) (d : Datagram) → content_of content ≡ worked_content → IsDatagram (last_step content frames).frame last_part acknowledgement d
-        → IsFateOf (last_step content frames).frame Likeness.New (last_step content frames).brought.outcome (Fate.Datagram d) }
+        → IsFateOf (last_step content frames).frame Likeness.New (last_step content frames).brought.outcome false (Fate.Datagram d) }
 {}
 
 /// Worked examples: fragments that name ICMP (58) and UDP (17) are of one packet in IPv6, and not in IPv4. Where the last
@@ -61,16 +62,26 @@ pub fn worked_protocols()
     ensures ipv6 { key_of part_of_icmp last_named ≡ key_of part_of_udp last_named }
     ensures ipv4 { same_key (key_of (record last_part { protocol = 1 }) last_named) (key_of last_part last_named) ≡ false }
     ensures udp { (content : Content) (frames : Vec ℕ) (d : Datagram) → content_of content ≡ worked_content → IsDatagram icmp_frame part_of_icmp acknowledgement d
-        → IsFateOf icmp_frame Likeness.New (Some (Outcome.Whole content frames)) (Fate.Datagram d) }
+        → IsFateOf icmp_frame Likeness.New (Some (Outcome.Whole content frames)) false (Fate.Datagram d) }
     ensures icmp { (content : Content) (frames : Vec ℕ) → content_of content ≡ icmp_content
-        → IsFateOf icmp_frame Likeness.New (Some (Outcome.Whole content frames)) (Fate.Left (LeftOut.Frame FrameFault.Protocol)) }
+        → IsFateOf icmp_frame Likeness.New (Some (Outcome.Whole content frames)) false (Fate.Left (LeftOut.Frame FrameFault.Protocol)) }
 {}
 
 /// Worked examples: a packet that is recorded in Ethernet, and 1 ms later at another interface, is a copy; at the same one, and
 /// one nanosecond later still, it is a datagram again.
 pub fn worked_copies()
     ensures copy { IsHistory (cooked_step Likeness.Copy 1 1000000000 1001000000 ∷ ethernet_step 1000000000 ∷ []) }
-    ensures left { IsFateOf (cooked_step Likeness.Copy 1 1000000000 1001000000).frame Likeness.Copy (cooked_step Likeness.Copy 1 1000000000 1001000000).brought.outcome (Fate.Left LeftOut.Copy) }
+    ensures left { IsFateOf (cooked_step Likeness.Copy 1 1000000000 1001000000).frame Likeness.Copy (cooked_step Likeness.Copy 1 1000000000 1001000000).brought.outcome false (Fate.Left LeftOut.Copy) }
     ensures here { IsHistory (cooked_step Likeness.New 0 1000000000 1001000000 ∷ ethernet_step 1000000000 ∷ []) }
     ensures later { IsHistory (cooked_step Likeness.New 1 1000000000 1001000001 ∷ ethernet_step 1000000000 ∷ []) }
+{}
+
+/// Worked examples: an acknowledgement that was changed on its way is discarded where its sender had sent one with a right
+/// checksum; not where it had sent none, nor where one had been left to its network card.
+pub fn worked_discarded()
+    ensures discarded { IsHistory (raw_step spoilt_bytes Checksum.Wrong true (recorded_raw ipv4_bytes ∷ []) ∷ raw_step ipv4_bytes Checksum.Right false [] ∷ []) }
+    ensures fate { (d : Datagram) → IsDatagram (raw_frame spoilt_bytes) spoilt_packet spoilt_acknowledgement d → IsFateOf (raw_frame spoilt_bytes) Likeness.New None true (Fate.Discarded d) }
+    ensures alone { IsHistory (raw_step spoilt_bytes Checksum.Wrong false [] ∷ []) }
+    ensures left { IsHistory (raw_step spoilt_bytes Checksum.Wrong false (recorded_raw ipv4_bytes ∷ recorded_raw left_bytes ∷ []) ∷ raw_step ipv4_bytes Checksum.Right false (recorded_raw left_bytes ∷ [])
+        ∷ raw_step left_bytes Checksum.Partial false [] ∷ []) }
 {}

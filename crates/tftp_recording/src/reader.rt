@@ -4,8 +4,9 @@ ghost use Rattle.tftp_pcap.specs.{FailsToBegin, FaultKind, lost_of};
 ghost use Rattle.tftp_streams.specs.{KeepsAnswer, Standing, standing_after};
 ghost use Rattle.tftp_recording.specs.History.{Continues, StandsFor, Step, standing_of};
 
-use crate::brought::take_frame;
 use crate::event::Event;
+use crate::senders::Senders;
+use crate::taken::take_event;
 use std::alloc::Global;
 use std::io::Read;
 use std::marker::Model;
@@ -15,12 +16,13 @@ use tftp_pcap::{FaultKind, FrameReader, PcapFault};
 use tftp_streams::Latched;
 
 /// A reader of what became of a recording's frames: it holds what a reader of frames does, the last 16 packets,
-/// and the fragments that wait for others of their packets, 64 MB at most.
+/// the fragments that wait for others of their packets, 64 MB at most, and the hosts that sent datagrams with checksums.
 #[derive(Drop)]
 pub struct RecordingReader {
     frames: FrameReader,
     recent: Recent,
     waiting: Fragments,
+    senders: Senders,
     refused: Option<PcapFault>,
 }
 
@@ -29,7 +31,7 @@ impl Model for RecordingReader {
 
     ghost Value = { RecordingState };
 
-    ghost view = { λ r. record { frames = r.frames; recent = r.recent; waiting = r.waiting; refused = r.refused } };
+    ghost view = { λ r. record { frames = r.frames; recent = r.recent; waiting = r.waiting; senders = r.senders; refused = r.refused } };
 }
 
 impl RecordingReader {
@@ -54,6 +56,7 @@ impl RecordingReader {
                 frames,
                 recent,
                 waiting: Fragments::new(alloc),
+                senders: Senders::new(alloc),
                 refused: None,
             }),
             Err(fault) => Err(fault),
@@ -88,13 +91,17 @@ impl RecordingReader {
         }
         match self.frames.next_into(reader, &mut event.frame) {
             Ok(true) => {}
-            answer => return answer,
+            Ok(false) => return Ok(false),
+            Err(fault) => return Err(fault),
         }
-        match take_frame(alloc, &mut self.recent, &mut self.waiting, &event.frame) {
-            Ok((likeness, brought)) => {
-                event.bring(likeness, brought);
-                Ok(true)
-            }
+        match take_event(
+            alloc,
+            &mut self.recent,
+            &mut self.waiting,
+            &mut self.senders,
+            event,
+        ) {
+            Ok(()) => Ok(true),
             Err(_) => {
                 let fault = PcapFault {
                     kind: FaultKind::Memory,
