@@ -1,5 +1,5 @@
 -- What a frame adds to what has passed.
-use Rattle.std.proofs.Common.{◌≡◌, ◌≢◌, ℕ, List, ◌∷◌, Result, Ok, Err, Option, Some, None, refl, sym, subst, IfSome}
+use Rattle.std.proofs.Common.{◌≡◌, ◌≢◌, ℕ, Bool, List, ◌∷◌, Result, Ok, Err, Option, Some, None, refl, sym, subst, IfSome}
 use Rattle.std.specs.Option.{unwrap_or}
 use Rattle.tftp_fragments.specs.{Outcome}
 use Rattle.tftp_pcap.specs.{FrameParts, PcapFault}
@@ -13,12 +13,13 @@ unwrapped None older = refl
 unwrapped (Some time) older = refl
 
 -- what became of the event's frame became of the frame that is it
-pub fate_here : (step : Step) (e : EventState) (fate : Fate) → IsOf step e → IsFateOf e.frame.parts e.likeness e.brought.outcome fate
-    → IsFateOf step.frame step.likeness step.brought.outcome fate
+pub fate_here : (step : Step) (e : EventState) (fate : Fate) → IsOf step e → IsFateOf e.frame.parts e.likeness e.brought.outcome e.is_discarded fate
+    → IsFateOf step.frame step.likeness step.brought.outcome step.is_discarded fate
 fate_here step e fate of is =
-    subst (λ (f : FrameParts). IsFateOf f step.likeness step.brought.outcome fate) (sym of.frame)
-    (subst (λ (l : Likeness). IsFateOf e.frame.parts l step.brought.outcome fate) (sym of.likeness)
-    (subst (λ (o : Option Outcome). IsFateOf e.frame.parts e.likeness o fate) (sym of.outcome) is))
+    subst (λ (f : FrameParts). IsFateOf f step.likeness step.brought.outcome step.is_discarded fate) (sym of.frame)
+    (subst (λ (l : Likeness). IsFateOf e.frame.parts l step.brought.outcome step.is_discarded fate) (sym of.likeness)
+    (subst (λ (o : Option Outcome). IsFateOf e.frame.parts e.likeness o step.is_discarded fate) (sym of.outcome)
+    (subst (λ (b : Bool). IsFateOf e.frame.parts e.likeness e.brought.outcome b fate) (sym of.is_discarded) is)))
 
 -- of what was found, more is known
 pub if_some : {X : Type 0} (P Q : X → Type 0) (found : Option X) → ((x : X) → P x → Q x) → IfSome found P → IfSome found Q

@@ -28,6 +28,7 @@ pub record IsOf (step : Step) (event : EventState) : Type 0 where
   pub frame : step.frame ≡ event.frame.parts
   pub likeness : step.likeness ≡ event.likeness
   pub outcome : step.brought.outcome ≡ event.brought.outcome
+  pub is_discarded : step.is_discarded ≡ event.is_discarded
 
 -- a datagram, after these
 abbrev pub placed_after : List ℕ → List Placed → Recorded → Placed

@@ -3,7 +3,7 @@ use Rattle.std.specs.Prelude.{◌≡◌, ◌↔◌, ℕ, List, [], ◌∷◌, tr
 use Rattle.std.specs.declared.net.ip_addr.IpAddr.{IpAddr}
 use Rattle.tftp_packet.specs.{Request, RequestParts, Spells}
 use Rattle.tftp_parties.specs.{address_of}
-use Rattle.tftp_recording.specs.{IsFateOf, Step, Fate, Left, Waits}
+use Rattle.tftp_recording.specs.{IsFateOf, Step, Fate, Discarded, Left, Waits}
 use Rattle.tftp_recording.specs.declared.fate.Datagram.{Datagram as Given}
 use Rattle.tftp_recording.specs.declared.fate.Fate.TheVariants.{Datagram}
 use Rattle.tftp_lines.specs.{Recorded, Endpoint}
@@ -33,15 +33,16 @@ pub record IsTaken (given : Given) (moment : ℕ) (d : Recorded) : Type 0 where
   pub payload : d.payload ≡ given.payload.now
   pub is_spelled : (d.is_spelled ≡ true) ↔ IsRequest given.payload.now
 
--- What a frame adds, by what became of it: its datagram, or nothing.
+-- What a frame adds, by what became of it: its datagram, or nothing, as where its host discarded it.
 abbrev pub Adds : Option ℕ → Fate → List Recorded → List Recorded → Type 0
 Adds time (Datagram given) older all = (d : Recorded) × IsTaken given (time_by time older) d × (all ≡ d ∷ older)
 Adds time (Left why) older all = all ≡ older
 Adds time Waits older all = all ≡ older
+Adds time (Discarded given) older all = all ≡ older
 
 -- What has passed is what these frames have given, one after another.
 abbrev pub HasPassed : List Step → List Recorded → Type 0
 HasPassed [] passed = passed ≡ []
 HasPassed (step ∷ before) passed =
-    (older : List Recorded) × (fate : Fate) × HasPassed before older × IsFateOf step.frame step.likeness step.brought.outcome fate
+    (older : List Recorded) × (fate : Fate) × HasPassed before older × IsFateOf step.frame step.likeness step.brought.outcome step.is_discarded fate
     × Adds step.frame.time fate older passed

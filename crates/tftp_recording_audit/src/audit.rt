@@ -63,7 +63,7 @@ impl<D: Delivered + Drop> RecordingAudit<D> {
             (AuditsAfter self.new.judge.attribution self.new.judge.watched self.new.judge.failed self.new.judge.judging self.new.last_time named out (step ∷ history) passed)
             (λ a. (d : Recorded) × IsAttributed named passed d a
             × AuditsAfter self.new.judge.attribution self.new.judge.watched self.new.judge.failed self.new.judge.judging self.new.last_time named out (step ∷ history) (d ∷ passed))) }
-        ensures spare { OnErr result ((given : Datagram) × IsFateOf event.now.frame.parts event.now.likeness event.now.brought.outcome (Fate.Datagram given)) }
+        ensures spare { OnErr result ((given : Datagram) × IsFateOf event.now.frame.parts event.now.likeness event.now.brought.outcome event.now.is_discarded (Fate.Datagram given)) }
         ensures full { result ≡ Err AttributionFault.TooMany → (self.old.judge.attribution.count + 1 ≡ 2 ^ 64) ⊎ AreCrowded self.old.judge.watched }
         ensures fails { OnErr result (self.new.judge.failed ≡ true) }
         ensures for_good { self.old.judge.failed ≡ true → self.new.judge.failed ≡ true }

@@ -13,8 +13,10 @@ returns-in-Ok-true-clause-continues g c named out bytes history passed stands af
       brought = c.next_into.new.event.brought;
       waits = c.next_into.new.self.waiting;
       came = read.came;
+      sent = c.next_into.new.event.sent;
+      is_discarded = c.next_into.new.event.is_discarded;
     } in
-    let noted = c.note.ensures.stands named out history passed step after (record { frame = refl; likeness = refl; outcome = refl }) in (
+    let noted = c.note.ensures.stands named out history passed step after (record { frame = refl; likeness = refl; outcome = refl; is_discarded = refl }) in (
       read.taken,
       read.consumed,
       noted_goes_on (StandsFor c.next_into.new.self (bytes ++ read.taken))
