@@ -79,6 +79,10 @@ fn put_event(rt: HostRuntime, event: &mut Event) -> io::Result<()> {
         }
         Fate::Left(why) => put_left_out(rt, event, why),
         Fate::Waits => Ok(()),
+        Fate::Discarded(_) => {
+            put_checksum(rt, event)?;
+            put_shared(rt, event, "Discarded")
+        }
     }
 }
 
@@ -118,6 +122,7 @@ fn put_checksum(rt: HostRuntime, event: &Event) -> io::Result<()> {
     match event.checksum() {
         Checksum::Right => Ok(()),
         Checksum::Absent => println!(rt; "checksum {} absent", event.number()),
+        Checksum::Partial => println!(rt; "checksum {} partial", event.number()),
         Checksum::Wrong => println!(rt; "checksum {} wrong", event.number()),
     }
 }

@@ -79,6 +79,8 @@ pub struct Notes {
     other_links: Frames,
     /// Datagrams that were left out as copies.
     copies: Frames,
+    /// Datagrams that were left out as discarded.
+    discarded: Frames,
     /// Datagrams of no transfer.
     of_none: Frames,
     /// Ports at which one of these looks like a request.
@@ -103,6 +105,7 @@ impl Notes {
             intact: IntactHosts::new(alloc),
             other_links: Frames::new(alloc),
             copies: Frames::new(alloc),
+            discarded: Frames::new(alloc),
             of_none: Frames::new(alloc),
             asked: Vec::new(alloc),
             backwards: Frames::new(alloc),
@@ -198,6 +201,12 @@ impl Notes {
         }
     }
 
+    /// Notes a datagram that its host discarded, and is left out.
+    pub(crate) fn discard(&mut self, alloc: Global, event: &Event) -> Result<(), AllocError> {
+        self.find(alloc, event.sharers())?;
+        self.discarded.add(event.number())
+    }
+
     /// Notes a datagram of no transfer.
     pub(crate) fn leave_out(&mut self, passing: &Passing<'_>) -> Result<(), AllocError> {
         let port = u64::from(passing.target.port);
@@ -248,6 +257,8 @@ impl Notes {
 
     fn put_lines(&self, alloc: Global, lines: &mut Vec<String>) -> Result<(), AllocError> {
         self.copies.put(alloc, lines, "left out as copies")?;
+        let discarded = "with a wrong checksum, that a host discarded";
+        self.discarded.put(alloc, lines, discarded)?;
         self.other_links.put(alloc, lines, "of another link type")?;
         self.of_none.put(alloc, lines, "of UDP of no transfer")?;
         self.backwards.put(

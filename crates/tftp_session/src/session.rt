@@ -10,7 +10,7 @@ use crate::unplaced::Unplaced;
 use std::alloc::{AllocError, Global};
 use std::collections::BTreeMap;
 use std::io::Read;
-use tftp_blame::{Missing, Passing, Trail, about};
+use tftp_blame::{Missing, Passing, Spoilt, Trail, about};
 use tftp_blocks::RingDelivered;
 use tftp_lines::{Endpoint, Place, Transfer};
 use tftp_parties::party_of;
@@ -97,8 +97,35 @@ impl Session {
             Fate::Datagram(datagram) => self.pass(alloc, event, &datagram, found)?,
             Fate::Left(why) => self.notes.leave(alloc, why, event)?,
             Fate::Waits => self.notes.wait(alloc, event)?,
+            Fate::Discarded(datagram) => self.discard(alloc, event, &datagram)?,
         }
         Ok(true)
+    }
+
+    /// Notes a datagram that its host discarded, also at the newest transfer of a client that sent it, or that it went to.
+    fn discard(
+        &mut self,
+        alloc: Global,
+        event: &Event,
+        datagram: &Datagram<'_>,
+    ) -> Result<(), AllocError> {
+        self.notes.discard(alloc, event)?;
+        let source = party_of(datagram.source, datagram.source_port).end;
+        let target = party_of(datagram.target, datagram.target_port).end;
+        let time = self.notes.clock.time_of(event.time());
+        for end in [source, target] {
+            let spoilt = Spoilt {
+                frame: event.number(),
+                host: source.address,
+            };
+            self.notes.intact.discard(end, spoilt, time)?;
+            if let Some(number) = self.unplaced.newest(end) {
+                if let Some(trail) = self.trails.get_mut(&number) {
+                    trail.discard(spoilt);
+                }
+            }
+        }
+        Ok(())
     }
 
     /// Notes a datagram that has its place.
@@ -156,6 +183,7 @@ impl Session {
         if let Ok(Some(frame)) = later {
             trail.leave_out(frame);
         }
+        self.notes.intact.open(&mut trail, time);
         self.trails.insert(transfer.number, trail)?;
         later?;
         asked
@@ -263,7 +291,7 @@ fn intact_in(event: &Event, found: &Attributed) -> Option<bool> {
     about(&found.place)?;
     match event.checksum() {
         Checksum::Right => Some(true),
-        Checksum::Wrong => Some(false),
+        Checksum::Partial | Checksum::Wrong => Some(false),
         Checksum::Absent => None,
     }
 }
