@@ -15,7 +15,7 @@ import subprocess
 import sys
 from dataclasses import dataclass
 
-from judged import CAN_TAKE, Row, checked
+from judged import CAN_TAKE, Row, checked, said
 from refusals import Rule
 from trial import Trial
 
@@ -43,6 +43,8 @@ LOST, CUT = "frame 4 is not there whole", "1 datagram not there whole.*"
 AHEAD = f"rule {Rule.ACK_AHEAD.number} {Rule.ACK_AHEAD.printed}"
 BACK = f"rule {Rule.GONE_BACK.number} {Rule.GONE_BACK.printed}"
 ELSEWHERE = f"rule {Rule.WRONG_PORT.number} {Rule.WRONG_PORT.printed}"
+DISCARDED = r"with a wrong checksum, that a host discarded \(frame 4\)"
+FOR_ITS_SUM = "frame 4 has a wrong checksum, so that its host discarded it"
 DROPPED = f"- doubtful refused datagram {{}} {AHEAD}: .*the recorder lost {{}}"
 CASES = (
     Case(
@@ -120,7 +122,24 @@ CASES = (
     ),
     Case(
         "a-wrong-checksum-then-the-right-one", "a host discards a block with a wrong checksum, and has it again",
-        ("- accepted .*",), is_open=True,
+        ("- accepted .*",), told=f".*: 1 datagram {DISCARDED}\n",
+    ),
+    Case(
+        "sums-left-but-for-a-fragmented-block", "a server leaves sums to its network card, but of what is in fragments",
+        ("- accepted get octet blocks 3 bytes 4099",), told="",
+    ),
+    Case(
+        "sums-of-anything-at-the-sender", "where its network card makes checksums a server has none that is right",
+        ("- accepted get octet blocks 3 bytes 4099",), told="",
+    ),
+    Case(
+        "a-refusal-after-a-discarded-block", "a host discards a block, and its client acknowledges one too many",
+        (f"- doubtful refused datagram 5 {AHEAD}: .*{FOR_ITS_SUM}",), told=f".*: 1 datagram {DISCARDED}\n",
+    ),
+    Case(
+        "a-refusal-after-a-discarded-request", "a host discards a request, which is sent again, and the same",
+        ("- accepted .*", f"- doubtful refused datagram 3 {AHEAD}: .*{FOR_ITS_SUM}"),
+        told=f".*: 1 datagram {DISCARDED}\n",
     ),
     Case(
         "repeated-data-at-the-server", "toybox acknowledges a block of a write that came twice by the next block's ACK",
@@ -149,11 +168,11 @@ def wrong(transfers: str, case: Case) -> list[object]:
     [path] = DATA.glob(f"{case.name}.*")
     for end in case.ends:
         rows, beside, _ = checked(transfers, path.read_bytes(), *(("--end", end) if end else ()))
-        said = [told(row) for row in rows]
-        pairs = zip(said + [""] * len(case.rows), case.rows)
-        holds = len(said) <= len(case.rows) and all(re.fullmatch(wanted, it) for it, wanted in pairs)
+        got = [told(row) for row in rows]
+        pairs = zip(got + [""] * len(case.rows), case.rows)
+        holds = len(got) <= len(case.rows) and all(re.fullmatch(wanted, it) for it, wanted in pairs)
         if not holds or not re.fullmatch(case.told, beside, re.DOTALL):
-            found.append((end or "no end", said, beside))
+            found.append((end or "no end", got, beside))
     return found
 
 
@@ -162,6 +181,18 @@ def repeated(match: str) -> str:
     pair = [str(DATA / f"repeated-by-the-network-{end}.pcap") for end in ("client", "server")]
     done = subprocess.run([match, *pair], capture_output=True, text=True, timeout=CAN_TAKE)
     return (done.stdout.splitlines() or [""])[-1]
+
+
+def texts(transfers: str, match: str) -> list[object]:
+    """The frames in the texts of a transfer of which a datagram was left out as discarded, at both ends, and what is
+    said last of both ends of that recording."""
+    path = DATA / "a-wrong-checksum-then-the-right-one.pcap"
+    found: list[object] = []
+    for words in (["text", "1", "client"], ["text", "1", "server"], ["texts", "client"]):
+        output, _, status = said(transfers, [*words, str(path)], b"")
+        found.append(([int(line.split()[2]) for line in output.splitlines() if line.startswith("# frame ")], status))
+    done = subprocess.run([match, str(path), str(path)], capture_output=True, text=True, timeout=CAN_TAKE)
+    return [*found, (done.stdout.splitlines() or [""])[-1]]
 
 
 def main(transfers: str, match: str) -> int:
@@ -173,8 +204,10 @@ def main(transfers: str, match: str) -> int:
         else:
             got = found or "it holds, and so is open no more"
             trial.check(f"{case.name} ({case.passed})", not found and not case.is_open, got)
-    said = repeated(match)
-    trial.check("repeated-by-the-network", said == "matched lost 0 repeated 1", said)
+    last = repeated(match)
+    trial.check("repeated-by-the-network", last == "matched lost 0 repeated 1", last)
+    got, kept = texts(transfers, match), [1, 2, 3, 5, 6, 7, 8]
+    trial.check("texts without what was discarded", got == [(kept, 0)] * 3 + ["matched lost 0 repeated 0"], got)
     names = {case.name for case in CASES} | {f"repeated-by-the-network-{end}" for end in ("client", "server")}
     left = {path.stem for path in DATA.glob("*.pcap*")} ^ names
     trial.check("each recording has its case", not left, left)

@@ -18,7 +18,7 @@ import struct
 import subprocess
 import sys
 import tempfile
-from collections.abc import Callable
+from collections.abc import Callable, Collection
 
 import recorded
 from fuzzing import slow_reader
@@ -139,6 +139,8 @@ class Maker:
         self.tags = chance.choice(recorded.TAGGED)
         # Whether fragments of IPv6 name anything, but for the first, where tshark goes by the one that comes last.
         self.is_naming = chance.random() < 0.2
+        # Whether hosts leave checksums to their network cards.
+        self.left: tuple[recorded.Sum, ...] = ("partial",) if chance.random() < 0.3 else ()
 
     def datagram(self, most: int = 60) -> Datagram:
         version = self.chance.choice((4, 4, 6))
@@ -148,11 +150,11 @@ class Maker:
 
     def packet(
         self, it: Datagram, content: bytes, protocol: int = recorded.UDP, part: Fragment | None = None,
-        is_right: bool = True,
+        header_sum: int | None = None,
     ) -> bytes:
         if it.version == 4:
             options = bytes(4 * self.chance.choice((0, 0, 1, 10)))
-            return recorded.ipv4(it, content, protocol, part, options, is_right=is_right)
+            return recorded.ipv4(it, content, protocol, part, options, header_sum=header_sum)
         every = (recorded.HOP_BY_HOP, recorded.ROUTING, recorded.DESTINATION)
         kinds = self.chance.choice(((), (), (recorded.HOP_BY_HOP,), every))
         return recorded.ipv6(it, content, protocol, part, kinds)
@@ -167,7 +169,7 @@ class Maker:
     def summed(self, it: Datagram) -> tuple[recorded.Sum, recorded.Sum]:
         """The kind of a datagram's checksum, and what is told of it: none is wrong over IPv6 (RFC 8200, section
         8.1)."""
-        kinds: tuple[recorded.Sum, ...] = ("right", "right", "absent", "wrong")
+        kinds: tuple[recorded.Sum, ...] = ("right", "right", "absent", "wrong", *self.left)
         kind = self.chance.choice(kinds)
         return kind, "wrong" if kind == "absent" and it.version == 6 else kind
 
@@ -176,10 +178,12 @@ class Maker:
         it = self.datagram()
         kind, told = self.summed(it)
         surplus = self.chance.randbytes(self.chance.choice((0, 0, 0, 4)))
-        # The header of IPv4 has a checksum of its own.
-        is_right = self.chance.random() < 0.8
-        frame = self.frame(self.packet(it, recorded.udp(it, surplus=surplus, kind=kind), is_right=is_right))
-        frame.sum = told if is_right or it.version == 6 else "wrong"
+        # The header of IPv4 has a checksum of its own: the right one, one of no packet here, or 0.
+        header_sum = self.chance.choice((None, None, None, None, 0x1357, *(0 for _ in self.left)))
+        frame = self.frame(self.packet(it, recorded.udp(it, surplus=surplus, kind=kind), header_sum=header_sum))
+        frame.sum = told
+        if it.version == 4 and header_sum is not None:
+            frame.sum = "partial" if header_sum == 0 or kind == "partial" else "wrong"
         return [(frame, it)]
 
     def parted(self) -> list[tuple[Frame, Datagram | None]]:
@@ -194,7 +198,7 @@ class Maker:
         link = [self.chance.choice(self.links)]
         packets = [self.packet(it, content, self.named(it, part), part) for part, content in parts]
         frames = [self.frame(packet, links=link) for packet in packets]
-        frames[-1].sum = told
+        frames[-1].sum, frames[-1].others = told, frames[:-1]
         return [(frame, None) for frame in frames[:-1]] + [(frames[-1], it)]
 
     def named(self, it: Datagram, part: Fragment) -> int:
@@ -318,11 +322,26 @@ def rounded(interface: Interface, time: int) -> int:
     return since + interface.offset * 1_000_000_000
 
 
+def discarded(taken: list[tuple[Frame, Datagram | None, bool]]) -> list[int]:
+    """The places of the datagrams that their hosts discarded: of those with a wrong checksum, where the sender's host
+    had sent one with a right one, and none with one that was left to its network card (RFC 1122, sections 3.2.1.2 and
+    4.1.3.4)."""
+    sent: list[tuple[recorded.Sum, str]] = []
+    found = []
+    for place, (frame, it, _) in enumerate(taken):
+        if it:
+            if frame.sum == "wrong" and ("right", it.source) in sent and ("partial", it.source) not in sent:
+                found.append(place)
+            sent.append((frame.sum, it.source))
+    return found
+
+
 def listed(file: bytes, taken: list[tuple[Frame, Datagram | None, bool]], is_compared: bool, lost: int = 0) -> Made:
-    numbered = list(enumerate(taken, 1))
-    rows = [row(number, frame, it) for number, (frame, it, _) in numbered if it]
+    numbered, gone = list(enumerate(taken, 1)), [taken[place][0] for place in discarded(taken)]
+    lost_with = [id(frame) for ends in gone for frame in (ends, *ends.others)]
+    rows = [row(number, frame, it) for number, (frame, it, _) in numbered if it and id(frame) not in lost_with]
     damaged = [number for number, (frame, _, _) in numbered if frame.is_damaged]
-    left = [number for number, (_, _, is_left) in numbered if is_left]
+    left = [number for number, (frame, _, is_left) in numbered if is_left or id(frame) in lost_with]
     sums = [(number, str(frame.sum)) for number, (frame, it, _) in numbered if it and frame.sum != "right"]
     return Made(file, rows, left, is_compared, damaged, lost, sums)
 
@@ -374,7 +393,7 @@ class DatagramTrial(Trial):
         self.check(f"{name}, each frame once", len(set(counted)) == len(counted), sorted(counted))
         self.check(f"{name}, its end", (fault, status) == ("", 0), (fault, status))
         if self.tshark and it.is_compared:
-            self.compare(name, it.file, rows)
+            self.compare(name, it.file, rows, {frame for frame, kind in left if kind == "Discarded"})
 
     def try_changed(self, name: str, file: bytes) -> None:
         """A changed recording: all that the program says of it is what the slow reader says."""
@@ -419,8 +438,8 @@ class DatagramTrial(Trial):
                 got = self.run(recorded.pcap(frames))
                 self.check(f"fragments of IPv6 that name {kinds}", got == (rows, left, "", 0), (got, rows, left))
 
-    def compare(self, name: str, file: bytes, rows: list[str]) -> None:
-        """The program's list beside the fields of tshark."""
+    def compare(self, name: str, file: bytes, rows: list[str], gone: Collection[int] = ()) -> None:
+        """The program's list beside the fields of tshark, but for the frames of what was discarded."""
         with tempfile.NamedTemporaryFile(suffix=".pcap") as path:
             path.write(file)
             path.flush()
@@ -430,7 +449,8 @@ class DatagramTrial(Trial):
             words += [word for it in FIELDS for word in ("-e", it)]
             done = subprocess.run(words, capture_output=True, text=True, check=False)
         fields = [dict(zip(FIELDS, line.split("\t"))) for line in done.stdout.splitlines()]
-        wanted = [told for told in (as_tshark(it) for it in fields) if told]
+        kept = [it for it in fields if int(it["frame.number"]) not in gone]
+        wanted = [told for told in (as_tshark(it) for it in kept) if told]
         got = [" ".join(words[:2] + words[4:]) for words in (line.split() for line in rows)]
         self.check(f"{name}, as tshark has it", got == wanted, difference(got, wanted))
 

@@ -18,7 +18,7 @@ HOP_BY_HOP, ROUTING, FRAGMENT, DESTINATION = 0, 43, 44, 60
 TAGGED = ((), (0x8100,), (0x88A8, 0x8100), (0x9100, 0x88A8, 0x8100))
 Direction = Literal["unknown", "in", "out"]
 # What the checksums of a datagram say.
-Sum = Literal["right", "absent", "wrong"]
+Sum = Literal["right", "absent", "partial", "wrong"]
 DIRECTIONS: dict[Direction, int] = {"unknown": 0, "in": 1, "out": 2}
 # What Linux writes of a packet's way: to us, to all, to some, to another host, from us.
 COOKED_TYPES = {"in": (0,), "unknown": (1, 2, 3), "out": (4,)}
@@ -58,8 +58,8 @@ class Fragment:
 @dataclasses.dataclass
 class Frame:
     """A frame as it was recorded: its bytes, how many it had, its time in nanoseconds since 1970, its direction,
-    whether it was received with a wrong checksum of its link, how many packets were lost before it, and what the
-    checksums say of the datagram that it ends."""
+    whether it was received with a wrong checksum of its link, how many packets were lost before it, what the checksums
+    say of the datagram that it ends, and the frames of that one's other parts."""
 
     link: int
     content: bytes
@@ -71,6 +71,7 @@ class Frame:
     is_damaged: bool = False
     missed: int = 0
     sum: Sum = "right"
+    others: list[Frame] = dataclasses.field(default_factory=list)
 
 
 def sum_of(content: bytes) -> int:
@@ -83,26 +84,29 @@ def sum_of(content: bytes) -> int:
 
 
 def udp(it: Datagram, length: Optional[int] = None, surplus: bytes = b"", kind: Sum = "right") -> bytes:
-    """The header, the payload, and what stands behind it in IP (RFC 768), with a checksum of that kind."""
+    """The header, the payload, and what stands behind it in IP (RFC 768), with a checksum of that kind: a partial one
+    is the sum of the pseudo header, as a sender leaves it to its network card."""
     size = 8 + len(it.payload) if length is None else length
     front, addresses = struct.pack("!HHH", it.source_port, it.target_port, size), b"".join(it.packed())
-    made = sum_of(addresses + struct.pack("!HH", UDP, size) + front + bytes(2) + it.payload) or 0xFFFF
-    checksum = {"right": made, "absent": 0, "wrong": made ^ 0x1234}[kind]
+    pseudo = addresses + struct.pack("!HH", UDP, size)
+    made = sum_of(pseudo + front + bytes(2) + it.payload) or 0xFFFF
+    checksum = {"right": made, "absent": 0, "partial": sum_of(pseudo) ^ 0xFFFF, "wrong": made ^ 0x1234}[kind]
     return front + struct.pack("!H", checksum) + it.payload + surplus
 
 
 def ipv4(
     it: Datagram, content: bytes, protocol: int = UDP, part: Optional[Fragment] = None, options: bytes = b"",
-    id: int = 7, is_right: bool = True,
+    id: int = 7, header_sum: Optional[int] = None,
 ) -> bytes:
-    """A packet of IPv4, of whole words of options (RFC 791, section 3.1); a part has its own identification."""
+    """A packet of IPv4, of whole words of options (RFC 791, section 3.1); a part has its own identification. Its
+    checksum is the right one, unless another is given."""
     head, place = 5 + len(options) // 4, 0x4000
     if part:
         place = part.place // EIGHT | (0x2000 if part.more else 0)
     size = 4 * head + len(content)
     first = struct.pack("!BBHHHBB", 0x40 | head, 0, size, part.id if part else id, place, 64, protocol)
     rest = b"".join(it.packed()) + options
-    checksum = sum_of(first + bytes(2) + rest) ^ (0 if is_right else 0x4321)
+    checksum = sum_of(first + bytes(2) + rest) if header_sum is None else header_sum
     return first + struct.pack("!H", checksum) + rest + content
 
 

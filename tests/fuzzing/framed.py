@@ -18,6 +18,7 @@ FRAME_KINDS: dict[str, str] = {
     "missing_fragments": "and some of them are not recorded",
     "drops": "the recorder dropped frames, and says how many",
     "checksums": "datagrams come with a wrong checksum, and the host discards them",
+    "offload": "a host leaves checksums to its network card, but of what it sends in fragments",
     "mirror": "each frame is recorded twice at one interface",
     "one_way": "one direction only is recorded",
 }
@@ -57,6 +58,20 @@ def checksum(it: recorded.Datagram, content: bytes) -> int:
     return (total ^ 0xFFFF) or 0xFFFF
 
 
+def left(it: recorded.Datagram, content: bytes) -> bytes:
+    """The UDP packet with the sum of the pseudo header in the place of its checksum, as a host leaves it to its network
+    card: the card adds the words of the packet, and puts the complement there."""
+    front = content[:6] + bytes(2) + content[8:]
+    made, rest = checksum(it, front), sum_of_words(front)
+    # What is in the field adds up with the packet to what the checksum is the complement of.
+    return front[:6] + struct.pack("!H", ((made ^ 0xFFFF) - rest) % 0xFFFF or 0xFFFF) + front[8:]
+
+
+def sum_of_words(content: bytes) -> int:
+    summed = content + bytes(len(content) % 2)
+    return sum(struct.unpack(f"!{len(summed) // 2}H", summed))
+
+
 def headed(it: recorded.Datagram) -> bytes:
     """The UDP packet with its right checksum."""
     bare = struct.pack("!HHHH", it.source_port, it.target_port, 8 + len(it.payload), 0) + it.payload
@@ -81,6 +96,10 @@ class Recorder:
     def __init__(self, recording: Recording, kinds: frozenset[str], seed: int) -> None:
         self.drawn, self.recording, self.kinds = random.Random(seed), recording, kinds
         self.dropped, self.id = 0, 0
+        hosts = sorted({it.source.host for it in recording.datagrams})
+        # The host that recorded, or between one of all.
+        self.leaving = (recording.host or self.drawn.choice(hosts)) if "offload" in kinds else None
+        self.is_header_left = self.leaving is not None and self.drawn.random() < 0.3
 
     def often(self, kind: str, chance: float) -> bool:
         return kind in self.kinds and self.drawn.random() < chance
@@ -95,11 +114,23 @@ class Recorder:
                 continue
             if it.payload and self.is_from_afar(it) and self.often("checksums", 0.15):
                 yield from self.packets(it, self.spoiled(it), 0)
-            yield from self.packets(it, headed(self.plain(it)), 0.3)
+            yield from self.packets(it, self.sent(it), 0.3)
 
     def is_from_afar(self, it: Datagram) -> bool:
         """Whether it has passed a network that may have spoilt it, and comes to a host that looks at its checksum."""
-        return not self.recording.host or it.source.host != self.recording.host
+        return it.source.host not in (self.recording.host, self.leaving)
+
+    def sent(self, it: Datagram) -> bytes:
+        """Its bytes as they are where it was recorded."""
+        content = headed(self.plain(it))
+        return left(self.plain(it), content) if self.is_left(it, content) else content
+
+    def is_left(self, it: Datagram, content: bytes) -> bool:
+        """Whether its host leaves its checksums to its network card."""
+        return it.source.host == self.leaving and not self.is_parted(content)
+
+    def is_parted(self, content: bytes) -> bool:
+        return "fragments" in self.kinds and len(content) > PIECE
 
     def is_in(self, it: Datagram) -> bool:
         """Whether it comes to the host, or between to a host of a client."""
@@ -118,8 +149,11 @@ class Recorder:
     def packets(self, it: Datagram, content: bytes, missing: float) -> Iterator[Row]:
         plain, time = self.plain(it), it.nanoseconds()
         self.id = self.id % MOST_ID + 1
-        if "fragments" not in self.kinds or len(content) <= PIECE:
-            yield Row(time, with_header_sum(recorded.ipv4(plain, content, id=self.id)), it.source)
+        if not self.is_parted(content):
+            packet = with_header_sum(recorded.ipv4(plain, content, id=self.id))
+            if self.is_header_left and self.is_left(it, content):
+                packet = packet[:10] + bytes(2) + packet[12:]
+            yield Row(time, packet, it.source)
             return
         parts = recorded.parts_of(content, PIECE, self.id)
         self.drawn.shuffle(parts)
@@ -152,7 +186,9 @@ def drawn_frame_kinds(seed: int) -> frozenset[str]:
     """None of them, or one or two."""
     drawn = random.Random(seed ^ 0xF4A3)
     found = set(drawn.sample(sorted(FRAME_KINDS), drawn.choice((0, 1, 1, 2))))
-    return frozenset(found | ({"fragments"} if "missing_fragments" in found else set()))
+    if "missing_fragments" in found or "offload" in found and drawn.random() < 0.7:
+        found.add("fragments")
+    return frozenset(found)
 
 
 def framed(recording: Recording, kinds: frozenset[str], seed: int) -> Framed:

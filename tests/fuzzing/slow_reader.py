@@ -404,13 +404,17 @@ def is_summed(content: bytes) -> bool:
 
 
 def sum_told(packet: Packet, it: Udp) -> str:
-    """What the checksums of a datagram and of its packet say."""
+    """What the checksums of a datagram and of its packet say: partial where the sender left one to its network card."""
+    pseudo = packet.source + packet.target + len(it.whole).to_bytes(4, "big") + UDP.to_bytes(4, "big")
+    # The field is the sum of the pseudo header, and not its complement, with which that would add up to all ones.
+    is_left = is_summed(pseudo + (number(it.whole, 6) ^ 0xFFFF).to_bytes(2, "big"))
     if packet.version == IPV4 and not is_summed(packet.whole[: 4 * (packet.whole[0] % 16)]):
-        return "wrong"
+        return "partial" if is_left or not number(packet.whole, 10) else "wrong"
     if not number(it.whole, 6):
         return "absent" if packet.version == IPV4 else "wrong"
-    pseudo = packet.source + packet.target + len(it.whole).to_bytes(4, "big") + UDP.to_bytes(4, "big")
-    return "right" if is_summed(pseudo + it.whole) else "wrong"
+    if is_summed(pseudo + it.whole):
+        return "right"
+    return "partial" if is_left else "wrong"
 
 
 def udp_of(protocol: int, content: bytes) -> Udp:
@@ -493,6 +497,8 @@ class Reader:
         self.rows: list[str] = []
         self.left: list[tuple[int, str]] = []
         self.sums: list[tuple[int, str]] = []
+        # The kinds of checksums that each host has sent.
+        self.sent: dict[bytes, set[str]] = {}
 
     def leave(self, frames: list[int], why: str) -> None:
         self.left += [(frame, why) for frame in frames]
@@ -550,6 +556,11 @@ class Reader:
         it = udp_of(packet.protocol, packet.content)
         if (told := sum_told(packet, it)) != "right":
             self.sums.append((at, told))
+        # Its host discarded it, if its sender's host makes its checksums itself (RFC 1122, section 4.1.3.4).
+        kinds = self.sent.setdefault(packet.source, set())
+        if told == "wrong" and "right" in kinds and "partial" not in kinds:
+            raise Fault("Discarded")
+        kinds.add(told)
         way = packet.way if packet.way != "unknown" else frame.way
         time = "-" if frame.time is None else str(frame.time)
         ends = written(packet.source), str(it.source), written(packet.target), str(it.target)
