@@ -664,11 +664,13 @@ def try_streams(trial: Trial, program: str) -> None:
             trial.check(f"{words}, {name}", told and done.returncode == 2, (done.stderr, done.returncode))
 
 
-def is_kept(line: str, right: str) -> bool:
+def is_kept(line: str, right: str, told: str) -> bool:
     """A line that stands where nothing is refused, or tells of memory, or says of one end what is right of both: the
-    other end's line then tells of memory."""
+    other end's line then tells of memory. Or a refusal at the ends that accuses nobody, where the line of what is said
+    between them tells of memory."""
     both = line.replace('"place":"client"', '"place":"both"').replace('"place":"server"', '"place":"both"')
-    return line in right or both in right or "memory" in line
+    unsaid = '"place":"between","frame":null,"verdict":"fault memory"' in told and UNPLACED in line
+    return line in right or both in right or "memory" in line or unsaid and both.partition('"accused"')[0] in right
 
 
 def try_growths(trial: Trial, program: str, refuse: str) -> None:
@@ -684,7 +686,7 @@ def try_growths(trial: Trial, program: str, refuse: str) -> None:
             done = subprocess.run([program, *words], input=given, capture_output=True, timeout=CAN_TAKE, env=env)
             output, told = done.stdout.decode("ascii"), done.stderr.decode()
             is_right = (output, told, done.returncode) == right
-            kept = all(is_kept(it, right[0]) for it in output.splitlines())
+            kept = all(is_kept(it, right[0], output) for it in output.splitlines())
             holds = is_right if not met.exists() else is_right or done.returncode == 2 and kept
             trial.check(f"{words}, growth {turn} refused", holds, (output, told, done.returncode))
         trial.check(f"{words}, growths", turn > 20, turn)

@@ -70,7 +70,7 @@ class Entry:
         if self.judged.is_between():
             return "judged between the ends"
         is_both = self.judged.row is not None and self.judged.row.place == "both"
-        where = "both ends are at one host" if is_both else f"recorded at the {self.judged.place}"
+        where = "both ends have one address" if is_both else f"recorded at the {self.judged.place}"
         return f"{where}, judged as the {self.judged.place} saw it"
 
     def size(self) -> str:

@@ -1,8 +1,8 @@
 -- What the datagrams of a transfer at its client are: its requests, which the client sent, and what passed between the client
 -- and another, of which none is a request to the port where the client asks.
 use Rattle.std.proofs.Common.{◌≡◌, ◌⊎◌, ◌+◌, ◌≤◌, ℕ, Bool, true, false, cond, List, [], ◌∷◌, Option, Some, None, inl, inr, refl, sym, ap, subst, arith, ◌∙◌, ◌==◌, ◌&&◌, ◌||◌, not, max, nat_le, bytes_eq, is_some, length, if◌then◌else◌}
-use Rattle.std.specs.List.{AllByRecursion, list_any}
-use Rattle.std.proofs.lemmas.Bool.{false≢true, eqb-true, eq-eqb, and_from, and_parts, or_left, or_right}
+use Rattle.std.specs.List.{AllByRecursion}
+use Rattle.std.proofs.lemmas.Bool.{false≢true, eqb-true, eq-eqb, and_from, and_parts, or_left}
 use Rattle.std.proofs.lemmas.List.Elements.{recursion_from_All}
 use Rattle.tftp_law.proofs.Division.Divided.{any_none, any_cases, any_first, any_later}
 use Rattle.tftp_lines.specs.{Endpoint, Place, Opens, Repeats, Talks, Transfer, Recorded, begins_request, is_again, goes, same_endpoint, silence, Placed, clock, is_apart, is_at, is_of, is_request, line, live, newest_of, asked_after, opened_by, talk_in}
