@@ -175,6 +175,13 @@ asks_two_hosts = requests 2 client (at 2 69) (codes "f") ∷ passes 1 server cli
 abbrev pub to_second_host : Recorded
 to_second_host = passes 3 client (at 2 41000) (ack_of 1)
 
+-- Who has the client's name and port tells the server an ERROR, and then the client tells it another.
+abbrev pub told_by_namesake : List Recorded
+told_by_namesake = passes 2 (at 9 40000) server (error_of 1) ∷ passes 1 server client (data_of 1) ∷ requests 0 client service (codes "f") ∷ []
+
+abbrev pub other_error : Recorded
+other_error = passes 3 client server (error_of 2)
+
 -- The client's request comes again behind its ACK; the server answers it by an ERROR, and the ACK comes again too.
 abbrev pub asked_late : List Recorded
 asked_late =

@@ -46,12 +46,14 @@ ghost use Rattle.tftp_spared.specs.Worked.{
   newest,
   one_client,
   one_name,
+  other_error,
   own_name,
   served_by_asker,
   service_client,
   silent_capture,
   stray_is_told,
   to_second_host,
+  told_by_namesake,
   two_captures,
   two_clients,
   two_served,
@@ -125,13 +127,18 @@ pub fn none_else_may_ask()
     ensures accused_there { IsAccusedAtServer own_name needs_doubt_there ack_of_block served_by_asker }
 {}
 
-/// Where two hosts have one name, a client may go on with the other: at the client, and by its address at the server too.
+/// Where two hosts have one name, a client may go on with the other; and at the server a stray's ERROR may be taken for the client's.
 pub fn hosts_must_have_their_own_names()
     ensures captures { (c : Endpoint) → Contains one_client c → FollowOneAnother (IsWholeCapture one_name c) (filter (is_with c) (to_second_host ∷ asks_two_hosts)) }
     ensures others { AskersAreElsewhere one_client (to_second_host ∷ asks_two_hosts) }
     ensures ports { HaveNoServicePort one_client }
     ensures order { AreInOrder (to_second_host ∷ asks_two_hosts) }
     ensures accused { IsAccusedAtClient one_name is_doubtful to_second_host asks_two_hosts }
+    ensures captures_there { (c : Endpoint) → Contains one_client c → FollowOneAnother (IsTimelyCapture one_name c) (filter (is_with c) (other_error ∷ told_by_namesake)) }
+    ensures here { AreAtHost service.address one_client (other_error ∷ told_by_namesake) }
+    ensures others_there { AskersAreElsewhere one_client (other_error ∷ told_by_namesake) }
+    ensures order_there { AreInOrder (other_error ∷ told_by_namesake) }
+    ensures accused_there { IsAccusedAtServer one_name is_doubtful_at_server other_error told_by_namesake }
 {}
 
 /// At a server the clients must speak with one host, whatever the names are: a capture there tells none of its addresses.
