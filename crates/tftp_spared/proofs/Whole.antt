@@ -16,7 +16,7 @@ use Rattle.tftp_spared.proofs.Lists.{all_at, all_from, any_filter, one_passes}
 use Rattle.tftp_spared.proofs.Stands.{new, IsPlain, talks, Has}
 use Rattle.tftp_spared.proofs.Stands.IsPlain.{asks as asked}
 use Rattle.tftp_spared.proofs.Recordings.{IsQuiet, IsQuietAt, quiet_at, Standing, nothing, asks_not, clock_now, on_time, order_rest, plain_asks}
-use Rattle.tftp_spared.proofs.Owned.{AreOwn, IsOwn, transfer_below}
+use Rattle.tftp_spared.proofs.Owned.{AreOwn, IsOwn, place_below, transfer_below}
 use Rattle.tftp_spared.proofs.Clients.{AreAtClients, all_own, at_more, own}
 use Rattle.tftp_spared.proofs.Kept.{AllBefore, At, IsGiven, ComesFromElsewhere, at_before, at_here, kept_at, all_kept, next_has, step}
 
@@ -262,6 +262,48 @@ module _ (lawful : Endpoint → List Recorded → Type 0) (clients : List Endpoi
         record { at = before.at; stood = λ k0 at. before.stood c is_client k0 at },
         all_before c is_client (newer ++ d ∷ []) ds later,
       )
+
+  -- ---- the clients ask at port 69
+
+  abbrev IsAskedThere : Transfer → Type 0
+  IsAskedThere x = Contains clients x.client → x.asked.port ≡ 69
+
+  asked_there : (d : Recorded) (newer ds : List Recorded) → recorded ≡ newer ++ d ∷ ds → asks [] (placed [] ds) (now d ds) d ≡ true → Contains clients d.source → d.target.port ≡ 69
+  asked_there d newer ds is says is_client = by k (at_here (lawful d.source) d.source d ds k with captures) where
+    with : is_with d.source d ≡ true
+    with = or_left (same_endpoint d.source d.source) (same_endpoint d.target d.source) (same_itself d.source)
+
+    captured : (k : List Recorded) × At (lawful d.source) d.source (d ∷ ds) k
+    captured = captures_at d.source is_client newer (d ∷ ds) is
+
+    k : List Recorded
+    k = captured.0
+
+    captures : At (lawful d.source) d.source (d ∷ ds) k
+    captures = captured.1
+
+    plain : begins_request d.payload ≡ false → d.target.port ≡ 69
+    plain none = absurd (false≢true (sym (plain_asks (placed [] ds) (now d ds) d none) ∙ says))
+
+    asked_it : (k0 : List Recorded) → Follows d.source k0 d → d.target.port ≡ 69
+    asked_it k0 follows = by_test (begins_request d.payload)
+        (λ begins_it. follows.service (and_from (goes_from d.source d) (begins_request d.payload) (same_itself d.source) begins_it))
+        plain
+
+    by : (k : List Recorded) → IsNext (lawful d.source) d.source (At (lawful d.source) d.source ds) d k → d.target.port ≡ 69
+    by k (begins k0 b follows good same) = asked_it [] follows
+    by k (goes_on e k0 b follows near good same) = asked_it (e ∷ k0) follows
+
+  all_asked_there : (newer ds : List Recorded) → recorded ≡ newer ++ ds → AreOwn IsAskedThere (placed [] ds)
+  all_asked_there newer [] is = tt
+  all_asked_there newer (d ∷ ds) is =
+      let before = all_asked_there (newer ++ d ∷ []) ds (is ∙ sym (append_assoc newer (d ∷ []) ds)) in
+      (place_below IsAskedThere [] (placed [] ds) (now d ds) d (λ says is_client. asked_there d newer ds is says is_client) before, before)
+
+  pub asked_of : (newer older : List Placed) (p : Placed) → placed [] recorded ≡ newer ++ p ∷ older → (x : Transfer) → transfer_of p.place ≡ Some x → Contains clients x.client → x.asked.port ≡ 69
+  asked_of newer older p are x at is_client =
+      let owned = subst (AreOwn IsAskedThere) are (all_asked_there [] recorded refl) in
+      transfer_below IsAskedThere p.place x (all_last (λ q. IsOwn IsAskedThere q.place) newer (p ∷ older) owned).0 at is_client
 
   pub own_of : (newer older : List Placed) (p : Placed) → placed [] recorded ≡ newer ++ p ∷ older → (x : Transfer) → transfer_of p.place ≡ Some x → own recorded x
   own_of newer older p are x at =
