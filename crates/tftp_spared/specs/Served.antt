@@ -100,7 +100,7 @@ SparesServersByFive =
     (write : Address → List ℕ) (host : Address) (clients : List Endpoint) (recorded : List Recorded) → AreServed (IsServedCapture write) write host clients recorded
     → (newer older : List Placed) (p : Placed) → placed [] recorded ≡ newer ++ p ∷ older
     → (x : Transfer) → transfer_beside p.place ≡ Some x → Contains clients x.client
-    → (rule : Rule) → IsRefused (at_server_of 69) (server_saw write x (placed [] recorded) older) (seen_at_server write x (placed [] recorded) p) rule
+    → (rule : Rule) → IsRefused (at_server_of x.asked.port) (server_saw write x (placed [] recorded) older) (seen_at_server write x (placed [] recorded) p) rule
     → (needs_doubt x.number (placed [] recorded) p older || is_beside p || is_shared p older) ≡ true
 
 -- where requests come in time, the last is not needed
@@ -109,7 +109,7 @@ SparesServersByFour =
     (write : Address → List ℕ) (host : Address) (clients : List Endpoint) (recorded : List Recorded) → AreServed (IsTimelyCapture write) write host clients recorded
     → (newer older : List Placed) (p : Placed) → placed [] recorded ≡ newer ++ p ∷ older
     → (x : Transfer) → transfer_beside p.place ≡ Some x → Contains clients x.client
-    → (rule : Rule) → IsRefused (at_server_of 69) (server_saw write x (placed [] recorded) older) (seen_at_server write x (placed [] recorded) p) rule
+    → (rule : Rule) → IsRefused (at_server_of x.asked.port) (server_saw write x (placed [] recorded) older) (seen_at_server write x (placed [] recorded) p) rule
     → (needs_doubt x.number (placed [] recorded) p older || is_beside p) ≡ true
 
 -- and so no server's view is refused without a doubt
@@ -118,5 +118,5 @@ SparesServers =
     (write : Address → List ℕ) (host : Address) (clients : List Endpoint) (recorded : List Recorded) → AreServed (IsTimelyCapture write) write host clients recorded
     → (newer older : List Placed) (p : Placed) → placed [] recorded ≡ newer ++ p ∷ older
     → (x : Transfer) → transfer_beside p.place ≡ Some x → Contains clients x.client
-    → (rule : Rule) → IsRefused (at_server_of 69) (server_saw write x (placed [] recorded) older) (seen_at_server write x (placed [] recorded) p) rule
+    → (rule : Rule) → IsRefused (at_server_of x.asked.port) (server_saw write x (placed [] recorded) older) (seen_at_server write x (placed [] recorded) p) rule
     → is_doubtful_at_server x.number (placed [] recorded) p older ≡ true

@@ -41,6 +41,7 @@ ghost use Rattle.tftp_spared.specs.Worked.{
   asks_two_hosts,
   back_in_time,
   back_in_time_there,
+  block_came,
   late_ack,
   needs_doubt_there,
   newest,
@@ -76,17 +77,17 @@ pub fn two_captures_meet_the_premises()
         ≡ false ∷ false ∷ [] }
 {}
 
-/// Who asks at a port that is no service port is accused, at the client and at the server: all other premises are met.
+/// Who asks again at the port that answered is accused, at the client and at the server: all other premises are met.
 pub fn captures_must_be_lawful()
-    ensures captures { (c : Endpoint) → Contains one_client c → FollowOneAnother HasNoSilence (filter (is_with c) (asks_elsewhere ∷ [])) }
-    ensures in_time { (c : Endpoint) → Contains one_client c → FollowOneAnother (AsksInTime c) (filter (is_with c) (asks_elsewhere ∷ [])) }
-    ensures here { AreAtHost service.address one_client (asks_elsewhere ∷ []) }
-    ensures others { AskersAreElsewhere one_client (asks_elsewhere ∷ []) }
+    ensures captures { (c : Endpoint) → Contains one_client c → FollowOneAnother HasNoSilence (filter (is_with c) (asks_elsewhere ∷ block_came)) }
+    ensures in_time { (c : Endpoint) → Contains one_client c → FollowOneAnother (AsksInTime c) (filter (is_with c) (asks_elsewhere ∷ block_came)) }
+    ensures here { AreAtHost service.address one_client (asks_elsewhere ∷ block_came) }
+    ensures others { AskersAreElsewhere one_client (asks_elsewhere ∷ block_came) }
     ensures hosts { HaveOwnNames own_name }
     ensures ports { HaveNoServicePort one_client }
-    ensures order { AreInOrder (asks_elsewhere ∷ []) }
-    ensures accused { IsAccusedAtClient own_name is_doubtful asks_elsewhere [] }
-    ensures accused_there { IsAccusedAtServer own_name is_doubtful_at_server asks_elsewhere [] }
+    ensures order { AreInOrder (asks_elsewhere ∷ block_came) }
+    ensures accused { IsAccusedAtClient own_name is_doubtful asks_elsewhere block_came }
+    ensures accused_there { IsAccusedAtServer own_name is_doubtful_at_server asks_elsewhere block_came }
 {}
 
 /// Where a client asks again after a silence, its ACK of the block before is refused.
