@@ -101,6 +101,7 @@ pub fn captures_must_be_steady()
     ensures others { AskersAreElsewhere one_client (ack_after_silence ∷ silent_capture) }
     ensures ports { HaveNoServicePort one_client }
     ensures order { AreInOrder (ack_after_silence ∷ silent_capture) }
+    ensures hosts { HaveOwnNames own_name }
     ensures accused { IsAccusedAtClient own_name is_doubtful ack_after_silence silent_capture }
     ensures accused_there { IsAccusedAtServer own_name needs_doubt_there ack_after_silence silent_capture }
 {}
@@ -113,6 +114,7 @@ pub fn times_must_not_go_back()
     ensures others { AskersAreElsewhere two_clients (late_ack ∷ back_in_time) }
     ensures others_there { AskersAreElsewhere two_clients (late_ack ∷ back_in_time_there) }
     ensures ports { HaveNoServicePort two_clients }
+    ensures hosts { HaveOwnNames own_name }
     ensures accused { IsAccusedAtClient own_name is_doubtful late_ack back_in_time }
     ensures accused_there { IsAccusedAtServer own_name needs_doubt_there late_ack back_in_time_there }
 {}
@@ -124,6 +126,7 @@ pub fn none_else_may_ask()
     ensures here { AreAtHost service.address one_client (ack_of_block ∷ served_by_asker) }
     ensures ports { HaveNoServicePort one_client }
     ensures order { AreInOrder (ack_of_block ∷ served_by_asker) }
+    ensures hosts { HaveOwnNames own_name }
     ensures accused { IsAccusedAtClient own_name is_doubtful ack_of_block served_by_asker }
     ensures accused_there { IsAccusedAtServer own_name needs_doubt_there ack_of_block served_by_asker }
 {}
@@ -148,6 +151,7 @@ pub fn clients_must_speak_with_one_host()
     ensures others { AskersAreElsewhere one_client (to_second_host ∷ asks_two_hosts) }
     ensures ports { HaveNoServicePort one_client }
     ensures order { AreInOrder (to_second_host ∷ asks_two_hosts) }
+    ensures hosts { HaveOwnNames own_name }
     ensures accused { IsAccusedAtServer own_name needs_doubt_there to_second_host asks_two_hosts }
 {}
 
@@ -157,6 +161,7 @@ pub fn clients_must_have_other_ports()
     ensures captures { (c : Endpoint) → Contains (service_client ∷ []) c → FollowOneAnother (IsWholeCapture own_name c) (filter (is_with c) (stray_is_told ∷ asked_by_stray)) }
     ensures others { AskersAreElsewhere (service_client ∷ []) (stray_is_told ∷ asked_by_stray) }
     ensures order { AreInOrder (stray_is_told ∷ asked_by_stray) }
+    ensures hosts { HaveOwnNames own_name }
     ensures accused { IsAccusedAtClient own_name needs_doubt stray_is_told asked_by_stray }
 {}
 
