@@ -18,7 +18,7 @@ use Rattle.tftp_spared.proofs.Views.{answered_lawful, asking_lawful, seen}
 use Rattle.tftp_packet.specs.{Client}
 use Rattle.tftp_spared.proofs.Repeated.{repeated_passes}
 use Rattle.tftp_spared.proofs.Spared.{IsStated, of_transfer, doubted_or}
-use Rattle.tftp_spared.proofs.Whole.{AreAll}
+use Rattle.tftp_spared.proofs.Whole.{AreAll, asked_of}
 
 module _ (write : Address → List ℕ) (c : Endpoint) where
   map_reverse : (k : List Recorded) → reverse (map (as_seen_by write c) (reverse k)) ≡ map (as_seen_by write c) k
@@ -49,15 +49,19 @@ module _ (write : Address → List ℕ) (write_one : (a b : Address) → write a
 
   pub client_is_spared : (clients : List Endpoint) (recorded : List Recorded) → AreAll (IsLawfulAt write) clients recorded
       → (newer older : List Placed) (p : Placed) → placed [] recorded ≡ newer ++ p ∷ older → (x : Transfer) → transfer_of p.place ≡ Some x → Contains clients x.client
-      → (rule : Rule) → IsRefused (at_client_of 69) (map (seen write x.client) (client_view x.number older)) (as_seen_by write x.client p.datagram) rule
+      → (rule : Rule) → IsRefused (at_client_of x.asked.port) (map (seen write x.client) (client_view x.number older)) (as_seen_by write x.client p.datagram) rule
       → needs_doubt x.number (placed [] recorded) p older ≡ true
   client_is_spared clients recorded g newer older p are x at is_client rule refused =
       elim (doubted_or (IsLawfulAt write) clients recorded g x.client (IsFair x.client) ⊥ tt (stated x.client) is_client newer older p are x at refl) [
         | inl doubt ↦ doubt
         | inr (inl none) ↦ absurd none.0
-        | inr (inr fair) ↦ absurd (refused_does_not_pass (at_client_of 69) (map (seen write x.client) (client_view x.number older)) (as_seen_by write x.client p.datagram) rule refused
+        | inr (inr fair) ↦ absurd (refused_does_not_pass (at_client_of 69) (map (seen write x.client) (client_view x.number older)) (as_seen_by write x.client p.datagram) rule at_69
             (subst (λ l. OneEnded (at_client_of 69) (map (seen write x.client) l)) (filter_kept (is_of x.number) p older this) fair))
       ]
     where
+      at_69 : IsRefused (at_client_of 69) (map (seen write x.client) (client_view x.number older)) (as_seen_by write x.client p.datagram) rule
+      at_69 = subst (λ port. IsRefused (at_client_of port) (map (seen write x.client) (client_view x.number older)) (as_seen_by write x.client p.datagram) rule)
+          (asked_of (IsLawfulAt write) clients recorded g newer older p are x at is_client) refused
+
       this : is_of x.number p ≡ true
       this = of_transfer x.number p.datagram p.moment p.place x at ∙ eq-eqb x.number x.number refl

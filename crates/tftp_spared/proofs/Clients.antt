@@ -122,7 +122,7 @@ module _ (whole : List Recorded) where
   all_own newer (d ∷ ds) is =
       let before = all_own (newer ++ d ∷ []) ds (is ∙ sym (append_assoc newer (d ∷ []) ds)) in
       let opens : own (opening (length (placed [] ds)) d) = ap (number_source whole) (length_placed [] ds) ∙ ap (λ l. number_source l (length ds)) is ∙ source_at newer ds d in
-      (place_below own [] (placed [] ds) (max d.time (clock (placed [] ds))) d opens before, before)
+      (place_below own [] (placed [] ds) (max d.time (clock (placed [] ds))) d (λ says. opens) before, before)
 
   one_client : (x z : Transfer) → own x → own z → (z.number == x.number) ≡ true → z.client ≡ x.client
   one_client x z of also same =

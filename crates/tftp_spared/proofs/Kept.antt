@@ -10,7 +10,7 @@ use Rattle.tftp_fair.proofs.Thinned.{filter_kept, filter_dropped}
 use Rattle.tftp_spared.specs.{AreCaptures, AreInOrder, IsNext, begins, goes_on, goes_from}
 use Rattle.tftp_spared.proofs.Stands.{new, Has}
 use Rattle.tftp_spared.proofs.Owned.{AreOwn, latest_below, line_below}
-use Rattle.tftp_spared.proofs.Recordings.{Standing, nothing, standing, clock_now, first_next, more_next, on_time, order_rest}
+use Rattle.tftp_spared.proofs.Recordings.{IsQuiet, quiet_at, Standing, nothing, standing, clock_now, first_next, more_next, on_time, order_rest}
 use Rattle.tftp_spared.proofs.Clients.{AreAtClients, all_own, alone, has_other, not_at, not_of, own}
 
 module _ (lawful : List Recorded → Type 0) (c : Endpoint) where
@@ -37,13 +37,13 @@ module _ (lawful : List Recorded → Type 0) (c : Endpoint) where
 
     pub record IsGiven (ds : List Recorded) : Type 0 where
       pub order : AreInOrder ds
-      pub port : c.port ≡ 69 → ⊥
+      pub quiet : IsQuiet lawful c
       pub elsewhere : ComesFromElsewhere ds
       pub newer : List Recorded
       pub is : whole ≡ newer ++ ds
 
     given_rest : (d : Recorded) (ds : List Recorded) → IsGiven (d ∷ ds) → IsGiven ds
-    given_rest d ds g = record { order = order_rest d ds g.order; port = g.port; elsewhere = g.elsewhere.1; newer = g.newer ++ d ∷ []; is = g.is ∙ sym (append_assoc g.newer (d ∷ []) ds) }
+    given_rest d ds g = record { order = order_rest d ds g.order; quiet = g.quiet; elsewhere = g.elsewhere.1; newer = g.newer ++ d ∷ []; is = g.is ∙ sym (append_assoc g.newer (d ∷ []) ds) }
 
     -- what stands of the recording before
     pub record Before (ds : List Recorded) : Type 0 where
@@ -59,7 +59,7 @@ module _ (lawful : List Recorded → Type 0) (c : Endpoint) where
         let (kp, rest, x, has) = first_next lawful c ds k0 d follows (b.stood k0 before) (moment d ds) in
         (kp, rest, x, subst (λ l. Has c l (placed [] (d ∷ ds)) (top d ds ∷ kp) rest x) (sym is) has)
     next_has d ds k g with b (goes_on e k0 before follows near good is) =
-        let (kp, rest, x, has) = more_next lawful c ds k0 e d follows (b.stood (e ∷ k0) before) (on_time ds (order_rest d ds g.order)) g.port (no_other d ds g b with) (moment d ds)
+        let (kp, rest, x, has) = more_next lawful c ds k0 e d follows (b.stood (e ∷ k0) before) (on_time ds (order_rest d ds g.order)) (quiet_at lawful c g.quiet d (e ∷ k0) good) (no_other d ds g b with) (moment d ds)
         (subst (λ t. t ≤ e.time + silence) (sym (clock_now d ds g.order)) near) in
         (kp, rest, x, subst (λ l. Has c l (placed [] (d ∷ ds)) (top d ds ∷ kp) rest x) (sym is) has)
 

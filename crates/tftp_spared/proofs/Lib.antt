@@ -29,3 +29,4 @@ pub mod WorkedReads
 pub mod WorkedPremises
 pub mod WorkedCaptures
 pub mod WorkedLate
+pub mod WorkedNames

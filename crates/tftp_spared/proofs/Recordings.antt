@@ -1,5 +1,5 @@
 -- A whole recording at one client, whose captures follow one another.
-use Rattle.std.proofs.Common.{◌≡◌, ◌≤◌, ℕ, ◌+◌, Bool, true, false, List, [], ◌∷◌, ◌++◌, refl, sym, ap, subst, ◌∙◌, ◌==◌, ◌&&◌, ◌||◌, not, map, length, nat_le, max, is_some, ne_eqb, arith, if◌then◌else◌}
+use Rattle.std.proofs.Common.{◌≡◌, ◌⊎◌, inl, inr, ◌≤◌, ℕ, ◌+◌, Bool, true, false, List, [], ◌∷◌, ◌++◌, refl, sym, ap, subst, ◌∙◌, ◌==◌, ◌&&◌, ◌||◌, not, map, length, nat_le, max, is_some, ne_eqb, arith, if◌then◌else◌}
 use Rattle.std.specs.List.{list_any, AllByRecursion}
 use Rattle.std.proofs.lemmas.Bool.{or_left, and_parts, eq-eqb, le-leb}
 use Rattle.tftp_lines.specs.{Endpoint, Place, Opens, Repeats, Talks, Transfer, Recorded, Placed, same_endpoint, other_of, is_of, is_request, is_at, live, line, latest_in, clock, silence, begins_request, place_asked, place_at, talk_in, goes}
@@ -155,6 +155,17 @@ clock_now d ds order = clock_on d ds order (on_time ds (order_rest d ds order))
 
 -- ---- each of a capture, after those before it
 
+-- the client's port is no service port, or what comes to it says no request
+abbrev pub IsQuietAt : Endpoint → Recorded → Type 0
+IsQuietAt c d = (c.port ≡ 69 → ⊥) ⊎ (goes_from c d ≡ false → begins_request d.payload ≡ false)
+
+-- so it is of each capture
+abbrev pub IsQuiet : (List Recorded → Type 0) → Endpoint → Type 0
+IsQuiet lawful c = (c.port ≡ 69 → ⊥) ⊎ ((d : Recorded) (k : List Recorded) → lawful (d ∷ k) → goes_from c d ≡ false → begins_request d.payload ≡ false)
+
+pub quiet_at : (lawful : List Recorded → Type 0) (c : Endpoint) → IsQuiet lawful c → (d : Recorded) (k : List Recorded) → lawful (d ∷ k) → IsQuietAt c d
+quiet_at lawful c quiet d k good = elim quiet [ inl port ↦ inl port | inr plain ↦ inr (plain d k good) ]
+
 module _ (lawful : List Recorded → Type 0) (c : Endpoint) where
   abbrev pub Next : List Recorded → Recorded → List Placed → ℕ → Place → Type 0
   Next k d older now place = (kp rest : List Placed) × (x : Transfer) × Has c (d ∷ k) (new d now place ∷ older) (new d now place ∷ kp) rest x
@@ -183,27 +194,30 @@ module _ (lawful : List Recorded → Type 0) (c : Endpoint) where
     live_case lived = by lived stands
 
   -- of a capture that goes on, what is no request of its client does not ask
-  pub asks_not : (ds k0 : List Recorded) (e d : Recorded) → Follows c (e ∷ k0) d → Standing c (e ∷ k0) (placed [] ds) → AllByRecursion IsOnTime (placed [] ds) → (c.port ≡ 69 → ⊥)
+  pub asks_not : (ds k0 : List Recorded) (e d : Recorded) → Follows c (e ∷ k0) d → Standing c (e ∷ k0) (placed [] ds) → AllByRecursion IsOnTime (placed [] ds) → IsQuietAt c d
       → (now : ℕ) → now ≤ e.time + silence → asks_from c d ≡ false → asks [] (placed [] ds) now d ≡ false
-  asks_not ds k0 e d follows (nothing none empty) clear other now near off = absurd (cc)
-  asks_not ds k0 e d follows (standing kp rest x has) clear other now near off = by_test (goes_from c d)
+  asks_not ds k0 e d follows (nothing none empty) clear quiet now near off = absurd (cc)
+  asks_not ds k0 e d follows (standing kp rest x has) clear quiet now near off = by_test (goes_from c d)
       (λ from. plain_asks (placed [] ds) now d (no_begin c d off from))
-      (λ came.
-      let lived = live_on c e k0 (placed [] ds) kp rest x now has clear near in
-      let to = and_parts (same_endpoint d.source (other_of c d)) (same_endpoint d.target c) (comes_to_it c d came follows.here) in
-      came_asks c (placed [] ds) now d other (is_same d.target c to.1)
-      (ap (λ l. is_some (latest_in l)) (lived ∙ has.whole) ∙ ap is_some has.latest))
+      (λ came. elim quiet [
+        | inl other ↦
+            let lived = live_on c e k0 (placed [] ds) kp rest x now has clear near in
+            let to = and_parts (same_endpoint d.source (other_of c d)) (same_endpoint d.target c) (comes_to_it c d came follows.here) in
+            came_asks c (placed [] ds) now d other (is_same d.target c to.1)
+            (ap (λ l. is_some (latest_in l)) (lived ∙ has.whole) ∙ ap is_some has.latest)
+        | inr plain ↦ plain_asks (placed [] ds) now d (plain came)
+      ])
 
   -- one more of it
-  pub more_next : (ds k0 : List Recorded) (e d : Recorded) → Follows c (e ∷ k0) d → Standing c (e ∷ k0) (placed [] ds) → AllByRecursion IsOnTime (placed [] ds) → (c.port ≡ 69 → ⊥) → (goes_from c d ≡ false → line d.source (placed [] ds) ≡ [])
+  pub more_next : (ds k0 : List Recorded) (e d : Recorded) → Follows c (e ∷ k0) d → Standing c (e ∷ k0) (placed [] ds) → AllByRecursion IsOnTime (placed [] ds) → IsQuietAt c d → (goes_from c d ≡ false → line d.source (placed [] ds) ≡ [])
       → (now : ℕ) → now ≤ e.time + silence → Next (e ∷ k0) d (placed [] ds) now (place_of [] (placed [] ds) now d)
-  more_next ds k0 e d follows (nothing none empty) clear other alone now near = absurd (cc)
-  more_next ds k0 e d follows (standing kp rest x has) clear other alone now near =
+  more_next ds k0 e d follows (nothing none empty) clear quiet alone now near = absurd (cc)
+  more_next ds k0 e d follows (standing kp rest x has) clear quiet alone now near =
       let lived = live_on c e k0 (placed [] ds) kp rest x now has clear near in
       by_test (asks_from c d)
       (λ is. let (y, next) = request_step c (e ∷ k0) (placed [] ds) kp rest x d now has follows is lived (fresh ds) (line_all (λ q. is_of (length (placed [] ds)) q ≡ false) c (placed [] ds) (fresh ds)) in
       subst (Next (e ∷ k0) d (placed [] ds) now) (ap (place_asked (length (placed [] ds)) d) (sym lived) ∙ sym (request_place c (placed [] ds) now d is (follows.service is))) (kp, rest, y, next))
       (λ off. let (y, client, place, next) = talk_step c (e ∷ k0) (placed [] ds) kp rest x d now has follows off lived in
-      let plain : asks [] (placed [] ds) now d ≡ false = asks_not ds k0 e d follows (standing kp rest x has) clear other now near off in
+      let plain : asks [] (placed [] ds) now d ≡ false = asks_not ds k0 e d follows (standing kp rest x has) clear quiet now near off in
       subst (Next (e ∷ k0) d (placed [] ds) now) (sym (talk_place c (placed [] ds) now d y alone plain (λ came. comes_to_it c d came follows.here)
       (ap (λ l. place_at c (other_of c d) l d) lived ∙ place))) (kp, rest, x, next))

@@ -11,7 +11,7 @@ use Rattle.tftp_law.proofs.Whole.TwoEnds.{lawful}
 use Rattle.tftp_lines.specs.{Address, Endpoint, Place, Opens, Repeats, Talks, Apart, Beside, Nowhere, Transfer, Recorded, Placed, same_address, same_endpoint, other_of, is_of, is_request, transfer_of, begins_error, begins_request, is_late, is_sent_by_client, speaks_first}
 use Rattle.tftp_lines.proofs.Endpoints.{is_same, same_itself}
 use Rattle.tftp_lines.proofs.Lines.{by_test}
-use Rattle.tftp_transfers.specs.{client_view, placed, place_of, comes, goes_on, answered_by, went_on_with, asked_of, server_of, is_server, is_at_server, has_host, has_port, goes_to_asked, is_beside, is_doubted, is_doubtful, is_doubtful_at_server, is_led_astray, some_of, comes_of_earlier, tells_strays}
+use Rattle.tftp_transfers.specs.{asked_of as asked_by, client_view, placed, place_of, comes, goes_on, answered_by, went_on_with, server_of, is_server, is_at_server, has_host, has_port, goes_to_asked, is_beside, is_doubted, is_doubtful, is_doubtful_at_server, is_led_astray, some_of, comes_of_earlier, tells_strays}
 use Rattle.tftp_fair.proofs.Thinned.{filter_kept, filter_dropped, kept_or_not}
 use Rattle.tftp_spared.specs.Seen.{HasNoSilence, is_with}
 use Rattle.tftp_spared.specs.{AreCaptures, AsksInTime, as_served, at_server_of, captured_there, goes_from, is_doubted_there, is_shared, needs_doubt, seen_at_server, server_saw, transfer_beside, went_out}
@@ -23,7 +23,7 @@ use Rattle.tftp_spared.proofs.Places.{of_talk, no_request_talks}
 use Rattle.tftp_spared.proofs.Talks.{first_some}
 use Rattle.tftp_spared.proofs.Captured.{captures_at}
 use Rattle.tftp_spared.proofs.Spared.{doubted_or, of_transfer}
-use Rattle.tftp_spared.proofs.Whole.{AreAll, IsApart, all_apart, kept_whole}
+use Rattle.tftp_spared.proofs.Whole.{AreAll, IsApart, all_apart, asked_of, kept_whole}
 use Rattle.tftp_spared.proofs.ServedLaw.{IsServed, follows_served, served_before, name, peer_seen}
 use Rattle.tftp_spared.proofs.ServedViews.{IsFair, seen, stated}
 use Rattle.tftp_spared.proofs.ServedTalks.{TalksWith, Told, doubtful, still, told, told_more, told_none, told_one}
@@ -92,19 +92,19 @@ module _ (c : Endpoint) (n : ℕ) (o : Endpoint) (whole : List Placed) (all : Al
     by (Some q) found =
         let on = went q found in
         let server : server_of n whole ≡ Some o = rw on refl in
-        and_from (has_port o (server_of n whole)) (has_host o (asked_of n whole) || has_host o (answered_by n whole) || has_host o (went_on_with n whole))
+        and_from (has_port o (server_of n whole)) (has_host o (asked_by n whole) || has_host o (answered_by n whole) || has_host o (went_on_with n whole))
         (ap (has_port o) server ∙ eq-eqb o.port o.port refl)
-        (or_right (has_host o (asked_of n whole) || has_host o (answered_by n whole)) (has_host o (went_on_with n whole)) (ap (has_host o) on ∙ same_there))
+        (or_right (has_host o (asked_by n whole) || has_host o (answered_by n whole)) (has_host o (went_on_with n whole)) (ap (has_host o) on ∙ same_there))
     by None found =
         let (q, first) = first_some (comes n) whole came in
         let (with, comes_in) = first_one (comes n) whole q all first in
         let answered : answered_by n whole ≡ Some o = ap (option_map (λ p. p.datagram.source)) first ∙ ap Some (came_from q with comes_in) in
         let none : went_on_with n whole ≡ None = ap (option_map (λ p. p.datagram.target)) found in
         let server : server_of n whole ≡ Some o = rw none answered in
-        and_from (has_port o (server_of n whole)) (has_host o (asked_of n whole) || has_host o (answered_by n whole) || has_host o (went_on_with n whole))
+        and_from (has_port o (server_of n whole)) (has_host o (asked_by n whole) || has_host o (answered_by n whole) || has_host o (went_on_with n whole))
         (ap (has_port o) server ∙ eq-eqb o.port o.port refl)
-        (or_left (has_host o (asked_of n whole) || has_host o (answered_by n whole)) (has_host o (went_on_with n whole))
-        (or_right (has_host o (asked_of n whole)) (has_host o (answered_by n whole)) (ap (has_host o) answered ∙ same_there)))
+        (or_left (has_host o (asked_by n whole) || has_host o (answered_by n whole)) (has_host o (went_on_with n whole))
+        (or_right (has_host o (asked_by n whole)) (has_host o (answered_by n whole)) (ap (has_host o) answered ∙ same_there)))
 
 -- ---- what is of a transfer passed with its client, and a request was sent by it
 
@@ -394,11 +394,15 @@ module _ (Late : Type 0) (write : Address → List ℕ) (write_one : (a b : Addr
 
   -- at each datagram that the server saw
   pub server_is_spared : (newer older : List Placed) (p : Placed) → placed [] recorded ≡ newer ++ p ∷ older → (x : Transfer) → transfer_beside p.place ≡ Some x → Contains clients x.client
-      → (rule : Rule) → IsRefused (at_server_of 69) (server_saw write x (placed [] recorded) older) (seen_at_server write x (placed [] recorded) p) rule
+      → (rule : Rule) → IsRefused (at_server_of x.asked.port) (server_saw write x (placed [] recorded) older) (seen_at_server write x (placed [] recorded) p) rule
       → ((needs_doubt x.number (placed [] recorded) p older || is_beside p) ≡ true) ⊎ (Late × (is_shared p older ≡ true))
   server_is_spared newer older p are x at is_client rule refused = by p.place refl where
+    at_69 : transfer_of p.place ≡ Some x → IsRefused (at_server_of 69) (server_saw write x (placed [] recorded) older) (seen_at_server write x (placed [] recorded) p) rule
+    at_69 there = subst (λ port. IsRefused (at_server_of port) (server_saw write x (placed [] recorded) older) (seen_at_server write x (placed [] recorded) p) rule)
+        (asked_of (IsServed Late write host) clients recorded g newer older p are x there is_client) refused
+
     mine : transfer_of p.place ≡ Some x → ((needs_doubt x.number (placed [] recorded) p older || is_beside p) ≡ true) ⊎ (Late × (is_shared p older ≡ true))
-    mine there = elim (own_spared newer older p are x there is_client rule refused) [
+    mine there = elim (own_spared newer older p are x there is_client rule (at_69 there)) [
       | inl doubt ↦ inl (or_left (needs_doubt x.number (placed [] recorded) p older) (is_beside p) doubt)
       | inr shared ↦ inr shared
     ]

@@ -172,6 +172,10 @@ module _ (write : Address → List ℕ) (host : Address) (c : Endpoint) where
       answers = λ off none. sym (ap is_answer (payload_seen d)) ∙ run.answers (went_seen d ∙ ap not off) (went_none k none);
     }
 
+    -- what comes to the client says no request
+    pub comes_plain : goes_from c d ≡ false → begins_request d.payload ≡ false
+    comes_plain off = sym (says_seen d) ∙ run.parts.0.plain (went_seen d ∙ ap not off)
+
     -- each request of it is lawful alone
     pub alone_lawful : (r : Recorded) → Contains (d ∷ k) r → asks_from c r ≡ true → OneEnded (at_server_of 69) (see r ∷ [])
     alone_lawful r there is =

@@ -56,34 +56,45 @@ module _ (m : Meaning) (wire : List ℕ) (ids : TransferIds) where
 
   -- ---- what each says
 
-  -- A request goes to the service port, and spells the request; all else goes to and from the server's own port.
+  -- A request goes to the service port, and spells the request; all else goes to and from the server's own port, and what goes out
+  -- is no request.
   pub record IsPart (d : Datagram) : Type 0 where
     pub asked : comes_in d ≡ true → begins_request d ≡ true → (d.local ≡ 69) × Spells d.payload (message_of m wire Req)
     pub other : (comes_in d && begins_request d) ≡ false → d.local ≡ ids.own
+    pub plain : goes_out d ≡ true → begins_request d ≡ false
 
   no_request : (p : MachinePacket) (d : Datagram) → (p ≡ Req → ⊥) → Spells d.payload (message_of m wire p) → begins_request d ≡ true → ⊥
   no_request p d other says begins = false≢true (sym (other_begins m wire d.payload p other says) ∙ begins)
 
   took_other : (d : Datagram) (p : MachinePacket) → d.dir ≡ In → (p ≡ Req → ⊥) → Spells d.payload (message_of m wire p) → d.local ≡ ids.own → IsPart d
-  took_other d p way other says here = record { asked = λ came begins. absurd (no_request p d other says begins); other = λ off. here }
+  took_other d p way other says here = record {
+    asked = λ came begins. absurd (no_request p d other says begins);
+    other = λ off. here;
+    plain = λ out. absurd (false≢true (sym (in_false d way) ∙ out));
+  }
 
-  sent_other : (d : Datagram) → d.dir ≡ Out → d.local ≡ ids.own → IsPart d
-  sent_other d way here = record { asked = λ came begins. absurd (false≢true (sym (out_false d way) ∙ came)); other = λ off. here }
+  sent_other : (d : Datagram) (p : MachinePacket) → d.dir ≡ Out → (p ≡ Req → ⊥) → Spells d.payload (message_of m wire p) → d.local ≡ ids.own → IsPart d
+  sent_other d p way other says here = record {
+    asked = λ came begins. absurd (false≢true (sym (out_false d way) ∙ came));
+    other = λ off. here;
+    plain = λ out. other_begins m wire d.payload p other says;
+  }
 
   part : (earlier : Division) (d : Datagram) (deed : Deed) → HasLabel at m wire ids earlier d (Main deed) → (deed ≡ Sent Req → ⊥) → IsPart d
   part earlier d (Took Req) has not_back = record {
     asked = λ came begins. (has.server.0, has.spells);
     other = λ off. absurd (false≢true (sym off ∙ and_from (comes_in d) (begins_request d) (in_true d has.dir) (request_begins d.payload _ has.spells)));
+    plain = λ out. absurd (false≢true (sym (in_false d has.dir) ∙ out));
   }
   part earlier d (Took Oack) has not_back = took_other d Oack has.dir (λ e. absurd (cc)) has.spells has.server.0
   part earlier d (Took (Data k)) has not_back = took_other d (Data k) has.dir (λ e. absurd (cc)) has.spells has.server.0
   part earlier d (Took (Ack j)) has not_back = took_other d (Ack j) has.dir (λ e. absurd (cc)) has.spells has.server.0
   part earlier d (Took (Error code text)) has not_back = took_other d (Error code text) has.dir (λ e. absurd (cc)) has.spells has.server.0
   part earlier d (Sent Req) has not_back = absurd (not_back refl)
-  part earlier d (Sent Oack) has not_back = sent_other d has.dir has.server.0
-  part earlier d (Sent (Data k)) has not_back = sent_other d has.dir has.server.0
-  part earlier d (Sent (Ack j)) has not_back = sent_other d has.dir has.server.0
-  part earlier d (Sent (Error code text)) has not_back = sent_other d has.dir has.server.0
+  part earlier d (Sent Oack) has not_back = sent_other d Oack has.dir (λ e. absurd (cc)) has.spells has.server.0
+  part earlier d (Sent (Data k)) has not_back = sent_other d (Data k) has.dir (λ e. absurd (cc)) has.spells has.server.0
+  part earlier d (Sent (Ack j)) has not_back = sent_other d (Ack j) has.dir (λ e. absurd (cc)) has.spells has.server.0
+  part earlier d (Sent (Error code text)) has not_back = sent_other d (Error code text) has.dir (λ e. absurd (cc)) has.spells has.server.0
 
   -- what stands on top of the others
   main_now : (earlier : Division) (d : Datagram) (label : Label) (deed : Deed) → label ≡ Main deed → HasLabel at m wire ids earlier d label → HasLabel at m wire ids earlier d (Main deed)

@@ -15,8 +15,8 @@ use Rattle.tftp_spared.proofs.Basics.{all_last}
 use Rattle.tftp_spared.proofs.Lists.{all_at, all_from, any_filter, one_passes}
 use Rattle.tftp_spared.proofs.Stands.{new, IsPlain, talks, Has}
 use Rattle.tftp_spared.proofs.Stands.IsPlain.{asks as asked}
-use Rattle.tftp_spared.proofs.Recordings.{Standing, nothing, asks_not, clock_now, on_time, order_rest, plain_asks}
-use Rattle.tftp_spared.proofs.Owned.{AreOwn, IsOwn, transfer_below}
+use Rattle.tftp_spared.proofs.Recordings.{IsQuiet, IsQuietAt, quiet_at, Standing, nothing, asks_not, clock_now, on_time, order_rest, plain_asks}
+use Rattle.tftp_spared.proofs.Owned.{AreOwn, IsOwn, place_below, transfer_below}
 use Rattle.tftp_spared.proofs.Clients.{AreAtClients, all_own, at_more, own}
 use Rattle.tftp_spared.proofs.Kept.{AllBefore, At, IsGiven, ComesFromElsewhere, at_before, at_here, kept_at, all_kept, next_has, step}
 
@@ -24,7 +24,7 @@ use Rattle.tftp_spared.proofs.Kept.{AllBefore, At, IsGiven, ComesFromElsewhere, 
 pub record AreAll (lawful : Endpoint → List Recorded → Type 0) (clients : List Endpoint) (recorded : List Recorded) : Type 0 where
   pub captures : (c : Endpoint) → Contains clients c → (k : List Recorded) × AreCaptures (lawful c) c (filter (is_with c) recorded) k
   pub others : AskersAreElsewhere clients recorded
-  pub ports : (c : Endpoint) → Contains clients c → c.port ≡ 69 → ⊥
+  pub quiet : (c : Endpoint) → Contains clients c → IsQuiet (lawful c) c
   pub order : AreInOrder recorded
 
 at_is : (e : Endpoint) (d : Recorded) (now : ℕ) (place : Place) (z : Transfer) → transfer_of place ≡ Some z → is_at e (new d now place) ≡ same_endpoint z.client e
@@ -127,13 +127,22 @@ module _ (lawful : Endpoint → List Recorded → Type 0) (clients : List Endpoi
     | inr later ↦ answered_between c e d ds to one.1 later
   ]
 
-  sent_between : (c e : Endpoint) → Contains clients e → (d : Recorded) (ds k : List Recorded) → IsNext (lawful c) c (At (lawful c) c ds) d k → d.source ≡ c → d.target ≡ e → AllByRecursion (AreOne c e) ds → c ≡ e
-  sent_between c e is_client d ds k next from to one = by next where
+  next_quiet : (e : Endpoint) → Contains clients e → (d : Recorded) (ds k : List Recorded) → IsNext (lawful e) e (At (lawful e) e ds) d k → IsQuietAt e d
+  next_quiet e is_client d ds k (begins k0 before follows good is) = quiet_at (lawful e) e (g.quiet e is_client) d [] good
+  next_quiet e is_client d ds k (goes_on r k0 before follows near good is) = quiet_at (lawful e) e (g.quiet e is_client) d (r ∷ k0) good
+
+  sent_between : (c e : Endpoint) (d : Recorded) → IsQuietAt e d → (ds k : List Recorded) → IsNext (lawful c) c (At (lawful c) c ds) d k → d.source ≡ c → d.target ≡ e → AllByRecursion (AreOne c e) ds → c ≡ e
+  sent_between c e d quiet ds k next from to one = by next where
     sent : goes_from c d ≡ true
     sent = subst (λ o. same_endpoint o c ≡ true) (sym from) (same_itself c)
 
     no_service : (k0 : List Recorded) → Follows c k0 d → asks_from c d ≡ true → c ≡ e
-    no_service k0 follows is = absurd (g.ports e is_client (ap (λ (o : Endpoint). o.port) (sym to) ∙ follows.service is))
+    no_service k0 follows is = elim quiet [
+      | inl port ↦ absurd (port (ap (λ (o : Endpoint). o.port) (sym to) ∙ follows.service is))
+      | inr plain ↦ by_test (goes_from e d)
+          (λ also. sym from ∙ is_same d.source e also)
+          (λ off. absurd (false≢true (sym (plain off) ∙ (and_parts (goes_from c d) (begins_request d.payload) is).1)))
+    ]
 
     by : IsNext (lawful c) c (At (lawful c) c ds) d k → c ≡ e
     by (begins k0 before follows good is) = no_service [] follows (follows.first refl)
@@ -157,7 +166,9 @@ module _ (lawful : Endpoint → List Recorded → Type 0) (clients : List Endpoi
         | inl source ↦ sym from ∙ is_same d.source b source
         | inr target ↦
             let (k, captures) = captures_at a one_client newer (d ∷ ds) is in
-            sent_between a b other_client d ds k (at_here (lawful a) a d ds k with_a captures) from (is_same d.target b target) all
+            let (kb, captures_b) = captures_at b other_client newer (d ∷ ds) is in
+            let quiet = next_quiet b other_client d ds kb (at_here (lawful b) b d ds kb with_b captures_b) in
+            sent_between a b d quiet ds k (at_here (lawful a) a d ds k with_a captures) from (is_same d.target b target) all
       ]
 
       now_two : AllByRecursion (AreOne c e) ds → AreOne c e d
@@ -193,7 +204,7 @@ module _ (lawful : Endpoint → List Recorded → Type 0) (clients : List Endpoi
   given : (c : Endpoint) (is_client : Contains clients c) (newer ds : List Recorded) → recorded ≡ newer ++ ds → IsGiven (lawful c) c Here recorded ds
   given c is_client newer ds is = record {
     order = in_order newer ds (subst AreInOrder is g.order);
-    port = g.ports c is_client;
+    quiet = g.quiet c is_client;
     elsewhere = all_last (λ d. is_with c d ≡ true → goes_from c d ≡ false → Here d.source → ⊥) newer ds
         (subst (AllByRecursion (λ d. is_with c d ≡ true → goes_from c d ≡ false → Here d.source → ⊥)) is (elsewhere c is_client));
     newer = newer;
@@ -231,7 +242,7 @@ module _ (lawful : Endpoint → List Recorded → Type 0) (clients : List Endpoi
       by c is_client k (begins k0 b follows good same) = found c is_client (follows.first refl)
       by c is_client k (goes_on e k0 b follows near good same) = by_test (asks_from c d)
           (λ from. found c is_client from)
-          (λ off. absurd (false≢true (sym (asks_not (lawful c) c ds k0 e d follows (before.stood c is_client (e ∷ k0) b) (on_time ds (order_rest d ds order)) (g.ports c is_client) (now d ds)
+          (λ off. absurd (false≢true (sym (asks_not (lawful c) c ds k0 e d follows (before.stood c is_client (e ∷ k0) b) (on_time ds (order_rest d ds order)) (quiet_at (lawful c) c (g.quiet c is_client) d (e ∷ k0) good) (now d ds)
           (subst (λ t. t ≤ e.time + silence) (sym (clock_now d ds order)) near) off) ∙ says)))
 
   global : (newer ds : List Recorded) → recorded ≡ newer ++ ds → Global ds
@@ -251,6 +262,48 @@ module _ (lawful : Endpoint → List Recorded → Type 0) (clients : List Endpoi
         record { at = before.at; stood = λ k0 at. before.stood c is_client k0 at },
         all_before c is_client (newer ++ d ∷ []) ds later,
       )
+
+  -- ---- the clients ask at port 69
+
+  abbrev IsAskedThere : Transfer → Type 0
+  IsAskedThere x = Contains clients x.client → x.asked.port ≡ 69
+
+  asked_there : (d : Recorded) (newer ds : List Recorded) → recorded ≡ newer ++ d ∷ ds → asks [] (placed [] ds) (now d ds) d ≡ true → Contains clients d.source → d.target.port ≡ 69
+  asked_there d newer ds is says is_client = by k (at_here (lawful d.source) d.source d ds k with captures) where
+    with : is_with d.source d ≡ true
+    with = or_left (same_endpoint d.source d.source) (same_endpoint d.target d.source) (same_itself d.source)
+
+    captured : (k : List Recorded) × At (lawful d.source) d.source (d ∷ ds) k
+    captured = captures_at d.source is_client newer (d ∷ ds) is
+
+    k : List Recorded
+    k = captured.0
+
+    captures : At (lawful d.source) d.source (d ∷ ds) k
+    captures = captured.1
+
+    plain : begins_request d.payload ≡ false → d.target.port ≡ 69
+    plain none = absurd (false≢true (sym (plain_asks (placed [] ds) (now d ds) d none) ∙ says))
+
+    asked_it : (k0 : List Recorded) → Follows d.source k0 d → d.target.port ≡ 69
+    asked_it k0 follows = by_test (begins_request d.payload)
+        (λ begins_it. follows.service (and_from (goes_from d.source d) (begins_request d.payload) (same_itself d.source) begins_it))
+        plain
+
+    by : (k : List Recorded) → IsNext (lawful d.source) d.source (At (lawful d.source) d.source ds) d k → d.target.port ≡ 69
+    by k (begins k0 b follows good same) = asked_it [] follows
+    by k (goes_on e k0 b follows near good same) = asked_it (e ∷ k0) follows
+
+  all_asked_there : (newer ds : List Recorded) → recorded ≡ newer ++ ds → AreOwn IsAskedThere (placed [] ds)
+  all_asked_there newer [] is = tt
+  all_asked_there newer (d ∷ ds) is =
+      let before = all_asked_there (newer ++ d ∷ []) ds (is ∙ sym (append_assoc newer (d ∷ []) ds)) in
+      (place_below IsAskedThere [] (placed [] ds) (now d ds) d (λ says is_client. asked_there d newer ds is says is_client) before, before)
+
+  pub asked_of : (newer older : List Placed) (p : Placed) → placed [] recorded ≡ newer ++ p ∷ older → (x : Transfer) → transfer_of p.place ≡ Some x → Contains clients x.client → x.asked.port ≡ 69
+  asked_of newer older p are x at is_client =
+      let owned = subst (AreOwn IsAskedThere) are (all_asked_there [] recorded refl) in
+      transfer_below IsAskedThere p.place x (all_last (λ q. IsOwn IsAskedThere q.place) newer (p ∷ older) owned).0 at is_client
 
   pub own_of : (newer older : List Placed) (p : Placed) → placed [] recorded ≡ newer ++ p ∷ older → (x : Transfer) → transfer_of p.place ≡ Some x → own recorded x
   own_of newer older p are x at =

@@ -1,5 +1,5 @@
 -- The captures of the worked recordings are lawful, at the client and at the server.
-use Rattle.std.proofs.Common.{◌≡◌, [], ◌∷◌, codes, refl, ap, ◌==◌, bytes_eq, map, reverse}
+use Rattle.std.proofs.Common.{◌≡◌, ℕ, [], ◌∷◌, codes, refl, ap, ◌==◌, bytes_eq, map, reverse}
 use Rattle.std.proofs.lemmas.Bool.{false≢true}
 use Rattle.tftp_packet.specs.{Client, Server}
 use Rattle.tftp_hosts.specs.{Datagram, PeerId, peer_of}
@@ -12,7 +12,7 @@ use Rattle.tftp_transfers.specs.{ack_of, client, data_of, service}
 use Rattle.tftp_transfers.specs.Worked.{at, error_of, next_server, other_client, passes, requests, server, stranger}
 use Rattle.tftp_spared.specs.{as_seen_by, as_served, at_client_of, at_server_of}
 use Rattle.tftp_spared.specs.Worked.{first_capture, first_served, one_name, own_name, second_capture, second_served, service_client}
-use Rattle.tftp_spared.proofs.WorkedReads.{shown, f_spelled, g_spelled, asked, came, acked, was_asked, went, was_acked, told_error, error_5}
+use Rattle.tftp_spared.proofs.WorkedReads.{shown, f_spelled, g_spelled, asked, came, acked, was_asked, went, was_acked, told_error, was_told, stop_spelled, full_spelled, error_5}
 
 abbrev label : Datagram → Label → Labelled
 label d l = record { datagram = d; label = l }
@@ -41,6 +41,13 @@ takes_ack = server_does (Took (Ack 1))
 
 abbrev sends_error : Step
 sends_error = server_does (Sent (Error 1 []))
+
+-- the client stops by this ERROR
+abbrev stops_by : ℕ → Step
+stops_by code = client_does (Sent (Error code []))
+
+abbrev is_stopped_by : ℕ → Step
+is_stopped_by code = server_does (Took (Error code []))
 
 -- two requests, a block, a stray that is told so, and the ACK
 
@@ -389,3 +396,39 @@ told_there_1 = label (as_served own_name client (passes 4 server client (error_o
 pub told_there_lawful : IsLawful (at_server_of 69) (map (as_served own_name client) (reverse (passes 4 server client (error_of 1) ∷ requests 3 client service (codes "f") ∷ [])))
 told_there_lawful = shown (codes "f") (at_server_of 69) told_there_ids (sends_error ∷ is_asked ∷ asks_it ∷ []) told_there_1 (map (as_served own_name client) (reverse (passes 4 server client (error_of 1) ∷ requests 3 client service (codes "f") ∷ []))) refl refl refl
     (told_error (codes "f") f_spelled told_there_ids told_there_0 (as_served own_name client (passes 4 server client (error_of 1))) refl refl refl refl, (was_asked (codes "f") f_spelled told_there_ids [] (as_served own_name client (requests 3 client service (codes "f"))) refl refl refl refl, tt))
+
+-- a block, and an ERROR of the client
+
+abbrev stopped_there_ids : TransferIds
+stopped_there_ids = record { own = 41000; peer = record { host = one_name client.address; port = 40000 }; asked = [] }
+
+abbrev stopped_there_0 : Division
+stopped_there_0 = label (as_served one_name client (requests 0 client service (codes "f"))) (Main (Took Req)) ∷ []
+
+abbrev stopped_there_1 : Division
+stopped_there_1 = label (as_served one_name client (passes 1 server client (data_of 1))) (Main (Sent (Data 1))) ∷ stopped_there_0
+
+abbrev stopped_there_2 : Division
+stopped_there_2 = label (as_served one_name client (passes 3 client server (error_of 2))) (Main (Took (Error 2 []))) ∷ stopped_there_1
+
+pub stopped_there_lawful : IsLawful (at_server_of 69) (map (as_served one_name client) (reverse (passes 3 client server (error_of 2) ∷ passes 1 server client (data_of 1) ∷ requests 0 client service (codes "f") ∷ [])))
+stopped_there_lawful = shown (codes "f") (at_server_of 69) stopped_there_ids (is_stopped_by 2 ∷ stops_by 2 ∷ takes_block ∷ sends_block ∷ is_asked ∷ asks_it ∷ []) stopped_there_2 (map (as_served one_name client) (reverse (passes 3 client server (error_of 2) ∷ passes 1 server client (data_of 1) ∷ requests 0 client service (codes "f") ∷ []))) refl refl refl
+    (was_told (codes "f") f_spelled stopped_there_ids stopped_there_1 (as_served one_name client (passes 3 client server (error_of 2))) 2 full_spelled refl refl refl refl (any_first _ _ stopped_there_0 refl), (went (codes "f") f_spelled stopped_there_ids stopped_there_0 (as_served one_name client (passes 1 server client (data_of 1))) refl refl refl refl, (was_asked (codes "f") f_spelled stopped_there_ids [] (as_served one_name client (requests 0 client service (codes "f"))) refl refl refl refl, tt)))
+
+-- and another ERROR
+
+abbrev namesake_there_ids : TransferIds
+namesake_there_ids = record { own = 41000; peer = record { host = one_name client.address; port = 40000 }; asked = [] }
+
+abbrev namesake_there_0 : Division
+namesake_there_0 = label (as_served one_name client (requests 0 client service (codes "f"))) (Main (Took Req)) ∷ []
+
+abbrev namesake_there_1 : Division
+namesake_there_1 = label (as_served one_name client (passes 1 server client (data_of 1))) (Main (Sent (Data 1))) ∷ namesake_there_0
+
+abbrev namesake_there_2 : Division
+namesake_there_2 = label (as_served one_name client (passes 2 client server (error_of 1))) (Main (Took (Error 1 []))) ∷ namesake_there_1
+
+pub namesake_there_lawful : IsLawful (at_server_of 69) (map (as_served one_name client) (reverse (passes 2 client server (error_of 1) ∷ passes 1 server client (data_of 1) ∷ requests 0 client service (codes "f") ∷ [])))
+namesake_there_lawful = shown (codes "f") (at_server_of 69) namesake_there_ids (is_stopped_by 1 ∷ stops_by 1 ∷ takes_block ∷ sends_block ∷ is_asked ∷ asks_it ∷ []) namesake_there_2 (map (as_served one_name client) (reverse (passes 2 client server (error_of 1) ∷ passes 1 server client (data_of 1) ∷ requests 0 client service (codes "f") ∷ []))) refl refl refl
+    (was_told (codes "f") f_spelled namesake_there_ids namesake_there_1 (as_served one_name client (passes 2 client server (error_of 1))) 1 stop_spelled refl refl refl refl (any_first _ _ namesake_there_0 refl), (went (codes "f") f_spelled namesake_there_ids namesake_there_0 (as_served one_name client (passes 1 server client (data_of 1))) refl refl refl refl, (was_asked (codes "f") f_spelled namesake_there_ids [] (as_served one_name client (requests 0 client service (codes "f"))) refl refl refl refl, tt)))

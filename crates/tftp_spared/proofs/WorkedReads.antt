@@ -67,6 +67,9 @@ ack_spelled = (bytes_are (ack_of 1) refl, (0, 1, (omega arith, omega arith, omeg
 pub stop_spelled : Spells (error_of 1) (Message.Error 1 [])
 stop_spelled = (bytes_are (error_of 1) refl, (0, 1, (omega arith, omega arith, omega arith), tt, refl))
 
+pub full_spelled : Spells (error_of 2) (Message.Error 2 [])
+full_spelled = (bytes_are (error_of 2) refl, (0, 2, (omega arith, omega arith, omega arith), tt, refl))
+
 error_spelled : Spells (error_of 5) (Message.Error 5 [])
 error_spelled = (bytes_are (error_of 5) refl, (0, 5, (omega arith, omega arith, omega arith), tt, refl))
 
@@ -156,6 +159,10 @@ module _ (name : List ℕ) where
 
     pub told_error : d.dir ≡ Out → peer_of d ≡ ids.peer → d.local ≡ ids.own → d.payload ≡ error_of 1 → HasLabel at_server meaning (5 ∷ []) ids earlier d (Main (Sent (Error 1 [])))
     told_error dir peer own payload = record { dir = dir; client = peer; server = (own, inl dir); spells = subst (λ p. Spells p (Message.Error 1 [])) (sym payload) stop_spelled }
+
+    pub was_told : (code : ℕ) → Spells (error_of code) (Message.Error code []) → d.dir ≡ In → peer_of d ≡ ids.peer → d.local ≡ ids.own → d.payload ≡ error_of code → Any (λ p. p.datagram.dir ≡ Out) earlier
+        → HasLabel at_server meaning (5 ∷ []) ids earlier d (Main (Took (Error code [])))
+    was_told code says dir peer own payload before = record { dir = dir; client = peer; server = (own, inr before); spells = subst (λ p. Spells p (Message.Error code [])) (sym payload) says }
 
 -- the answer to a stray says so
 pub error_5 : (text : List ℕ) × Spells (error_of 5) (Message.Error 5 text)

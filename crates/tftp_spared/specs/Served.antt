@@ -12,7 +12,7 @@ use Rattle.tftp_transfers.specs.Views.{is_at_server, is_end, server_of}
 use Rattle.tftp_transfers.specs.Doubts.{is_beside, is_doubtful_at_server}
 use Rattle.tftp_spared.specs.Seen.{HasNoSilence, is_with}
 use Rattle.tftp_spared.specs.Captures.{AreInOrder, AsksInTime}
-use Rattle.tftp_spared.specs.Spared.{AskersAreElsewhere, FollowOneAnother, HaveNoServicePort, HaveOwnNames, needs_doubt}
+use Rattle.tftp_spared.specs.Spared.{AskersAreElsewhere, FollowOneAnother, HaveOwnNames, needs_doubt}
 
 -- ---- one capture
 
@@ -45,13 +45,12 @@ abbrev pub AreAtHost : Address → List Endpoint → List Recorded → Type 0
 AreAtHost host clients recorded = (d : Recorded) (c : Endpoint) → Contains recorded d → Contains clients c → is_with c d ≡ true → (other_of c d).address ≡ host
 
 -- Between each of these clients and the server's host one such capture follows the other; who else asks speaks with none of them;
--- none of them has the service port; and the times do not go back.
+-- and the times do not go back.
 pub record AreServed (IsCapture : Endpoint → List Recorded → Type 0) (write : Address → List ℕ) (host : Address) (clients : List Endpoint) (recorded : List Recorded) : Type 0 where
   pub captures : (c : Endpoint) → Contains clients c → FollowOneAnother (IsCapture c) (filter (is_with c) recorded)
   pub here : AreAtHost host clients recorded
   pub others : AskersAreElsewhere clients recorded
   pub hosts : HaveOwnNames write
-  pub ports : HaveNoServicePort clients
   pub order : AreInOrder recorded
 
 -- ---- what the server saw of a transfer
@@ -101,7 +100,7 @@ SparesServersByFive =
     (write : Address → List ℕ) (host : Address) (clients : List Endpoint) (recorded : List Recorded) → AreServed (IsServedCapture write) write host clients recorded
     → (newer older : List Placed) (p : Placed) → placed [] recorded ≡ newer ++ p ∷ older
     → (x : Transfer) → transfer_beside p.place ≡ Some x → Contains clients x.client
-    → (rule : Rule) → IsRefused (at_server_of 69) (server_saw write x (placed [] recorded) older) (seen_at_server write x (placed [] recorded) p) rule
+    → (rule : Rule) → IsRefused (at_server_of x.asked.port) (server_saw write x (placed [] recorded) older) (seen_at_server write x (placed [] recorded) p) rule
     → (needs_doubt x.number (placed [] recorded) p older || is_beside p || is_shared p older) ≡ true
 
 -- where requests come in time, the last is not needed
@@ -110,7 +109,7 @@ SparesServersByFour =
     (write : Address → List ℕ) (host : Address) (clients : List Endpoint) (recorded : List Recorded) → AreServed (IsTimelyCapture write) write host clients recorded
     → (newer older : List Placed) (p : Placed) → placed [] recorded ≡ newer ++ p ∷ older
     → (x : Transfer) → transfer_beside p.place ≡ Some x → Contains clients x.client
-    → (rule : Rule) → IsRefused (at_server_of 69) (server_saw write x (placed [] recorded) older) (seen_at_server write x (placed [] recorded) p) rule
+    → (rule : Rule) → IsRefused (at_server_of x.asked.port) (server_saw write x (placed [] recorded) older) (seen_at_server write x (placed [] recorded) p) rule
     → (needs_doubt x.number (placed [] recorded) p older || is_beside p) ≡ true
 
 -- and so no server's view is refused without a doubt
@@ -119,5 +118,5 @@ SparesServers =
     (write : Address → List ℕ) (host : Address) (clients : List Endpoint) (recorded : List Recorded) → AreServed (IsTimelyCapture write) write host clients recorded
     → (newer older : List Placed) (p : Placed) → placed [] recorded ≡ newer ++ p ∷ older
     → (x : Transfer) → transfer_beside p.place ≡ Some x → Contains clients x.client
-    → (rule : Rule) → IsRefused (at_server_of 69) (server_saw write x (placed [] recorded) older) (seen_at_server write x (placed [] recorded) p) rule
+    → (rule : Rule) → IsRefused (at_server_of x.asked.port) (server_saw write x (placed [] recorded) older) (seen_at_server write x (placed [] recorded) p) rule
     → is_doubtful_at_server x.number (placed [] recorded) p older ≡ true

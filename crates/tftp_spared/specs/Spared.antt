@@ -54,7 +54,7 @@ SparesClientsByThree =
     (write : Address → List ℕ) (clients : List Endpoint) (recorded : List Recorded) → AreInterleaved write clients recorded
     → (newer older : List Placed) (p : Placed) → placed [] recorded ≡ newer ++ p ∷ older
     → (x : Transfer) → transfer_of p.place ≡ Some x → Contains clients x.client
-    → (rule : Rule) → IsRefused (at_client_of 69) (map (λ q. as_seen_by write x.client q.datagram) (client_view x.number older)) (as_seen_by write x.client p.datagram) rule
+    → (rule : Rule) → IsRefused (at_client_of x.asked.port) (map (λ q. as_seen_by write x.client q.datagram) (client_view x.number older)) (as_seen_by write x.client p.datagram) rule
     → needs_doubt x.number (placed [] recorded) p older ≡ true
 
 -- so no such client's view is refused without a doubt
@@ -63,5 +63,5 @@ SparesClients =
     (write : Address → List ℕ) (clients : List Endpoint) (recorded : List Recorded) → AreInterleaved write clients recorded
     → (newer older : List Placed) (p : Placed) → placed [] recorded ≡ newer ++ p ∷ older
     → (x : Transfer) → transfer_of p.place ≡ Some x → Contains clients x.client
-    → (rule : Rule) → IsRefused (at_client_of 69) (map (λ q. as_seen_by write x.client q.datagram) (client_view x.number older)) (as_seen_by write x.client p.datagram) rule
+    → (rule : Rule) → IsRefused (at_client_of x.asked.port) (map (λ q. as_seen_by write x.client q.datagram) (client_view x.number older)) (as_seen_by write x.client p.datagram) rule
     → is_doubtful x.number (placed [] recorded) p older ≡ true

@@ -33,7 +33,7 @@ pub record IsAccusedAtClient (write : Address → List ℕ) (doubt : Doubt) (d :
   pub transfer : Transfer
   pub at : transfer_of (newest d ds).place ≡ Some transfer
   pub rule : Rule
-  pub refused : IsRefused (at_client_of 69) (map (λ q. as_seen_by write transfer.client q.datagram) (client_view transfer.number (placed [] ds))) (as_seen_by write transfer.client d) rule
+  pub refused : IsRefused (at_client_of transfer.asked.port) (map (λ q. as_seen_by write transfer.client q.datagram) (client_view transfer.number (placed [] ds))) (as_seen_by write transfer.client d) rule
   pub doubtless : doubt transfer.number (placed [] (d ∷ ds)) (newest d ds) (placed [] ds) ≡ false
 
 -- the same at its server
@@ -41,7 +41,7 @@ pub record IsAccusedAtServer (write : Address → List ℕ) (doubt : Doubt) (d :
   pub transfer : Transfer
   pub at : transfer_beside (newest d ds).place ≡ Some transfer
   pub rule : Rule
-  pub refused : IsRefused (at_server_of 69) (server_saw write transfer (placed [] (d ∷ ds)) (placed [] ds)) (seen_at_server write transfer (placed [] (d ∷ ds)) (newest d ds)) rule
+  pub refused : IsRefused (at_server_of transfer.asked.port) (server_saw write transfer (placed [] (d ∷ ds)) (placed [] ds)) (seen_at_server write transfer (placed [] (d ∷ ds)) (newest d ds)) rule
   pub doubtless : doubt transfer.number (placed [] (d ∷ ds)) (newest d ds) (placed [] ds) ≡ false
 
 -- the four doubts of a server
@@ -113,9 +113,12 @@ two_served =
 
 -- ---- a premise is not met
 
--- The client asks at a port that is no service port.
+-- The client asks again where the block came from.
+abbrev pub block_came : List Recorded
+block_came = passes 1 server client (data_of 1) ∷ requests 0 client service (codes "f") ∷ []
+
 abbrev pub asks_elsewhere : Recorded
-asks_elsewhere = requests 0 client (at 1 1069) (codes "f")
+asks_elsewhere = requests 2 client server (codes "f")
 
 -- The ACK of a block that came before the client asked again.
 abbrev pub late_ack : Recorded
@@ -174,6 +177,13 @@ asks_two_hosts = requests 2 client (at 2 69) (codes "f") ∷ passes 1 server cli
 
 abbrev pub to_second_host : Recorded
 to_second_host = passes 3 client (at 2 41000) (ack_of 1)
+
+-- Who has the client's name and port tells the server an ERROR, and then the client tells it another.
+abbrev pub told_by_namesake : List Recorded
+told_by_namesake = passes 2 (at 9 40000) server (error_of 1) ∷ passes 1 server client (data_of 1) ∷ requests 0 client service (codes "f") ∷ []
+
+abbrev pub other_error : Recorded
+other_error = passes 3 client server (error_of 2)
 
 -- The client's request comes again behind its ACK; the server answers it by an ERROR, and the ACK comes again too.
 abbrev pub asked_late : List Recorded

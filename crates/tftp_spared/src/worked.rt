@@ -41,17 +41,20 @@ ghost use Rattle.tftp_spared.specs.Worked.{
   asks_two_hosts,
   back_in_time,
   back_in_time_there,
+  block_came,
   late_ack,
   needs_doubt_there,
   newest,
   one_client,
   one_name,
+  other_error,
   own_name,
   served_by_asker,
   service_client,
   silent_capture,
   stray_is_told,
   to_second_host,
+  told_by_namesake,
   two_captures,
   two_clients,
   two_served,
@@ -74,17 +77,17 @@ pub fn two_captures_meet_the_premises()
         ≡ false ∷ false ∷ [] }
 {}
 
-/// Who asks at a port that is no service port is accused, at the client and at the server: all other premises are met.
+/// Who asks again at the port that answered is accused, at the client and at the server: all other premises are met.
 pub fn captures_must_be_lawful()
-    ensures captures { (c : Endpoint) → Contains one_client c → FollowOneAnother HasNoSilence (filter (is_with c) (asks_elsewhere ∷ [])) }
-    ensures in_time { (c : Endpoint) → Contains one_client c → FollowOneAnother (AsksInTime c) (filter (is_with c) (asks_elsewhere ∷ [])) }
-    ensures here { AreAtHost service.address one_client (asks_elsewhere ∷ []) }
-    ensures others { AskersAreElsewhere one_client (asks_elsewhere ∷ []) }
+    ensures captures { (c : Endpoint) → Contains one_client c → FollowOneAnother HasNoSilence (filter (is_with c) (asks_elsewhere ∷ block_came)) }
+    ensures in_time { (c : Endpoint) → Contains one_client c → FollowOneAnother (AsksInTime c) (filter (is_with c) (asks_elsewhere ∷ block_came)) }
+    ensures here { AreAtHost service.address one_client (asks_elsewhere ∷ block_came) }
+    ensures others { AskersAreElsewhere one_client (asks_elsewhere ∷ block_came) }
     ensures hosts { HaveOwnNames own_name }
     ensures ports { HaveNoServicePort one_client }
-    ensures order { AreInOrder (asks_elsewhere ∷ []) }
-    ensures accused { IsAccusedAtClient own_name is_doubtful asks_elsewhere [] }
-    ensures accused_there { IsAccusedAtServer own_name is_doubtful_at_server asks_elsewhere [] }
+    ensures order { AreInOrder (asks_elsewhere ∷ block_came) }
+    ensures accused { IsAccusedAtClient own_name is_doubtful asks_elsewhere block_came }
+    ensures accused_there { IsAccusedAtServer own_name is_doubtful_at_server asks_elsewhere block_came }
 {}
 
 /// Where a client asks again after a silence, its ACK of the block before is refused.
@@ -98,6 +101,7 @@ pub fn captures_must_be_steady()
     ensures others { AskersAreElsewhere one_client (ack_after_silence ∷ silent_capture) }
     ensures ports { HaveNoServicePort one_client }
     ensures order { AreInOrder (ack_after_silence ∷ silent_capture) }
+    ensures hosts { HaveOwnNames own_name }
     ensures accused { IsAccusedAtClient own_name is_doubtful ack_after_silence silent_capture }
     ensures accused_there { IsAccusedAtServer own_name needs_doubt_there ack_after_silence silent_capture }
 {}
@@ -110,6 +114,7 @@ pub fn times_must_not_go_back()
     ensures others { AskersAreElsewhere two_clients (late_ack ∷ back_in_time) }
     ensures others_there { AskersAreElsewhere two_clients (late_ack ∷ back_in_time_there) }
     ensures ports { HaveNoServicePort two_clients }
+    ensures hosts { HaveOwnNames own_name }
     ensures accused { IsAccusedAtClient own_name is_doubtful late_ack back_in_time }
     ensures accused_there { IsAccusedAtServer own_name needs_doubt_there late_ack back_in_time_there }
 {}
@@ -121,17 +126,23 @@ pub fn none_else_may_ask()
     ensures here { AreAtHost service.address one_client (ack_of_block ∷ served_by_asker) }
     ensures ports { HaveNoServicePort one_client }
     ensures order { AreInOrder (ack_of_block ∷ served_by_asker) }
+    ensures hosts { HaveOwnNames own_name }
     ensures accused { IsAccusedAtClient own_name is_doubtful ack_of_block served_by_asker }
     ensures accused_there { IsAccusedAtServer own_name needs_doubt_there ack_of_block served_by_asker }
 {}
 
-/// Where two hosts have one name, a client may go on with the other: at the client, and by its address at the server too.
+/// Where two hosts have one name, a client may go on with the other; and at the server a stray's ERROR may be taken for the client's.
 pub fn hosts_must_have_their_own_names()
     ensures captures { (c : Endpoint) → Contains one_client c → FollowOneAnother (IsWholeCapture one_name c) (filter (is_with c) (to_second_host ∷ asks_two_hosts)) }
     ensures others { AskersAreElsewhere one_client (to_second_host ∷ asks_two_hosts) }
     ensures ports { HaveNoServicePort one_client }
     ensures order { AreInOrder (to_second_host ∷ asks_two_hosts) }
     ensures accused { IsAccusedAtClient one_name is_doubtful to_second_host asks_two_hosts }
+    ensures captures_there { (c : Endpoint) → Contains one_client c → FollowOneAnother (IsTimelyCapture one_name c) (filter (is_with c) (other_error ∷ told_by_namesake)) }
+    ensures here { AreAtHost service.address one_client (other_error ∷ told_by_namesake) }
+    ensures others_there { AskersAreElsewhere one_client (other_error ∷ told_by_namesake) }
+    ensures order_there { AreInOrder (other_error ∷ told_by_namesake) }
+    ensures accused_there { IsAccusedAtServer one_name is_doubtful_at_server other_error told_by_namesake }
 {}
 
 /// At a server the clients must speak with one host, whatever the names are: a capture there tells none of its addresses.
@@ -140,6 +151,7 @@ pub fn clients_must_speak_with_one_host()
     ensures others { AskersAreElsewhere one_client (to_second_host ∷ asks_two_hosts) }
     ensures ports { HaveNoServicePort one_client }
     ensures order { AreInOrder (to_second_host ∷ asks_two_hosts) }
+    ensures hosts { HaveOwnNames own_name }
     ensures accused { IsAccusedAtServer own_name needs_doubt_there to_second_host asks_two_hosts }
 {}
 
@@ -149,6 +161,7 @@ pub fn clients_must_have_other_ports()
     ensures captures { (c : Endpoint) → Contains (service_client ∷ []) c → FollowOneAnother (IsWholeCapture own_name c) (filter (is_with c) (stray_is_told ∷ asked_by_stray)) }
     ensures others { AskersAreElsewhere (service_client ∷ []) (stray_is_told ∷ asked_by_stray) }
     ensures order { AreInOrder (stray_is_told ∷ asked_by_stray) }
+    ensures hosts { HaveOwnNames own_name }
     ensures accused { IsAccusedAtClient own_name needs_doubt stray_is_told asked_by_stray }
 {}
 

@@ -9,7 +9,7 @@ use Rattle.tftp_spared.specs.Seen.{HasNoSilence}
 use Rattle.tftp_spared.proofs.Basics.{all_map}
 use Rattle.tftp_spared.proofs.Lists.{by_recursion}
 use Rattle.tftp_spared.proofs.Whole.{AreAll}
-use Rattle.tftp_spared.proofs.ServedLaw.{IsServed}
+use Rattle.tftp_spared.proofs.ServedLaw.{IsServed, comes_plain}
 use Rattle.tftp_spared.proofs.ServedEnd.{doubtful_there, served_each, served_lawful, server_captures, server_is_spared}
 use Rattle.tftp_spared.proofs.laws.no_lawful_end_is_refused_at_the_server_without_a_doubt.Goals as goal
 
@@ -26,7 +26,7 @@ given Late IsCapture write host clients recorded said g = record {
       (served_each Late write host c recorded each same (λ d there with. g.here d c there is_client with)
       (all_map (IsCapture c) (Said Late write c) (said c) each (by_recursion (IsCapture c) each all)));
   others = g.others;
-  ports = g.ports;
+  quiet = λ c is_client. inr (λ d k served. comes_plain write host c Late d k served);
   order = g.order;
 }
 

@@ -9,7 +9,7 @@ use Rattle.tftp_spared.specs.{AsksInTime, FollowOneAnother, as_served, at_server
 use Rattle.tftp_spared.specs.Worked.{ack_after_silence, one_client, own_name, silent_capture}
 use Rattle.tftp_spared.proofs.ClientEnd.{lawful_at}
 use Rattle.tftp_spared.proofs.ServedEnd.{served_lawful}
-use Rattle.tftp_spared.proofs.WorkedPremises.{at_one, follow_one, foreign_port, here_by, in_time_by, order_by, others_by, ports_by, wrong_port}
+use Rattle.tftp_spared.proofs.WorkedPremises.{at_one, follow_one, foreign_port, here_by, in_time_by, order_by, others_by, own_names, ports_by, wrong_port}
 use Rattle.tftp_spared.proofs.WorkedCaptures.{silent_lawful, silent_there_lawful}
 use Rattle.tftp_spared.proofs.worked.captures_must_be_steady.Goals as goal
 
@@ -54,3 +54,6 @@ returns-clause-accused_there x = record {
   refused = foreign_port (at_server_of 69) (as_served own_name client (requests 401 client service (codes "f")) ∷ []) (as_served own_name client ack_after_silence) (served_lawful own_name client (ack_after_silence ∷ silent_capture) silent_there_lawful).1.1.1 refl;
   doubtless = refl;
 }
+
+pub returns-clause-hosts : goal.returns-clause-hosts
+returns-clause-hosts x = own_names

@@ -7,7 +7,7 @@ use Rattle.tftp_spared.specs.Seen.{as_seen_by, at_client_of, is_with}
 use Rattle.tftp_spared.specs.{FollowOneAnother, IsWholeCapture}
 use Rattle.tftp_spared.specs.Worked.{asked_by_stray, own_name, service_client, stray_is_told}
 use Rattle.tftp_spared.proofs.ClientEnd.{lawful_at}
-use Rattle.tftp_spared.proofs.WorkedPremises.{at_one, follow_one, order_by, others_by, whole_by, wrong_port}
+use Rattle.tftp_spared.proofs.WorkedPremises.{at_one, follow_one, order_by, others_by, own_names, whole_by, wrong_port}
 use Rattle.tftp_spared.proofs.WorkedCaptures.{service_port_lawful}
 use Rattle.tftp_spared.proofs.worked.clients_must_have_other_ports.Goals as goal
 
@@ -29,3 +29,6 @@ returns-clause-accused x = record {
   refused = wrong_port (at_client_of 69) (as_seen_by own_name service_client (passes 1 server service_client (data_of 1)) ∷ as_seen_by own_name service_client (requests 0 service_client service (codes "f")) ∷ []) (as_seen_by own_name service_client stray_is_told) (lawful_at own_name service_client (filter (is_with service_client) (stray_is_told ∷ asked_by_stray)) service_port_lawful).1.1 refl;
   doubtless = refl;
 }
+
+pub returns-clause-hosts : goal.returns-clause-hosts
+returns-clause-hosts x = own_names

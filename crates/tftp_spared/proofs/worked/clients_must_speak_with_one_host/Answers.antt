@@ -7,7 +7,7 @@ use Rattle.tftp_spared.specs.Seen.{is_with}
 use Rattle.tftp_spared.specs.{IsTimelyCapture, FollowOneAnother, as_served, at_server_of}
 use Rattle.tftp_spared.specs.Worked.{asks_two_hosts, one_client, own_name, to_second_host}
 use Rattle.tftp_spared.proofs.ServedEnd.{served_lawful}
-use Rattle.tftp_spared.proofs.WorkedPremises.{at_one, follow_one, foreign_port, order_by, others_by, ports_by, served_by}
+use Rattle.tftp_spared.proofs.WorkedPremises.{at_one, follow_one, foreign_port, order_by, others_by, own_names, ports_by, served_by}
 use Rattle.tftp_spared.proofs.WorkedCaptures.{two_hosts_there_lawful}
 use Rattle.tftp_spared.proofs.worked.clients_must_speak_with_one_host.Goals as goal
 
@@ -32,3 +32,6 @@ returns-clause-accused x = record {
   refused = foreign_port (at_server_of 69) (as_served own_name client (requests 2 client (at 2 69) (codes "f")) ∷ []) (as_served own_name client to_second_host) (served_lawful own_name client (filter (is_with client) (to_second_host ∷ asks_two_hosts)) two_hosts_there_lawful).1.1.1 refl;
   doubtless = refl;
 }
+
+pub returns-clause-hosts : goal.returns-clause-hosts
+returns-clause-hosts x = own_names

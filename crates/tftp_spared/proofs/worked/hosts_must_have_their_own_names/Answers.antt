@@ -1,14 +1,15 @@
+use Rattle.tftp_spared.proofs.WorkedNames.{other_error_refused}
 use Rattle.std.proofs.Common.{false, [], ◌∷◌, codes, filter, refl}
 use Rattle.tftp_law.specs.{Rule}
 use Rattle.tftp_rules.specs.{PortRule}
-use Rattle.tftp_transfers.specs.{client}
+use Rattle.tftp_transfers.specs.{client, service}
 use Rattle.tftp_transfers.specs.Worked.{at, requests}
 use Rattle.tftp_spared.specs.Seen.{as_seen_by, at_client_of, is_with}
-use Rattle.tftp_spared.specs.{FollowOneAnother, IsWholeCapture}
-use Rattle.tftp_spared.specs.Worked.{asks_two_hosts, one_client, one_name, to_second_host}
+use Rattle.tftp_spared.specs.{FollowOneAnother, IsWholeCapture, IsTimelyCapture}
+use Rattle.tftp_spared.specs.Worked.{asks_two_hosts, one_client, one_name, to_second_host, other_error, told_by_namesake}
 use Rattle.tftp_spared.proofs.ClientEnd.{lawful_at}
-use Rattle.tftp_spared.proofs.WorkedPremises.{at_one, follow_one, order_by, others_by, ports_by, whole_by, wrong_port}
-use Rattle.tftp_spared.proofs.WorkedCaptures.{two_hosts_lawful}
+use Rattle.tftp_spared.proofs.WorkedPremises.{at_one, follow_one, order_by, others_by, ports_by, whole_by, wrong_port, served_by, here_by}
+use Rattle.tftp_spared.proofs.WorkedCaptures.{two_hosts_lawful, stopped_there_lawful}
 use Rattle.tftp_spared.proofs.worked.hosts_must_have_their_own_names.Goals as goal
 
 pub returns-clause-captures : goal.returns-clause-captures
@@ -30,5 +31,28 @@ returns-clause-accused x = record {
   at = refl;
   rule = Rule.Port PortRule.Wrong;
   refused = wrong_port (at_client_of 69) (as_seen_by one_name client (requests 2 client (at 2 69) (codes "f")) ∷ []) (as_seen_by one_name client to_second_host) (lawful_at one_name client (filter (is_with client) (to_second_host ∷ asks_two_hosts)) two_hosts_lawful).1.1.1 refl;
+  doubtless = refl;
+}
+
+pub returns-clause-captures_there : goal.returns-clause-captures_there
+returns-clause-captures_there x c there = at_one (λ e. FollowOneAnother (IsTimelyCapture one_name e) (filter (is_with e) (other_error ∷ told_by_namesake))) client c
+    (follow_one (IsTimelyCapture one_name client) (filter (is_with client) (other_error ∷ told_by_namesake)) (filter (is_with client) (other_error ∷ told_by_namesake)) refl
+    (served_by one_name client (filter (is_with client) (other_error ∷ told_by_namesake)) stopped_there_lawful refl refl)) there
+
+pub returns-clause-here : goal.returns-clause-here
+returns-clause-here x = here_by service one_client (other_error ∷ told_by_namesake) refl
+
+pub returns-clause-others_there : goal.returns-clause-others_there
+returns-clause-others_there x = others_by one_client (other_error ∷ told_by_namesake) refl
+
+pub returns-clause-order_there : goal.returns-clause-order_there
+returns-clause-order_there x = order_by (other_error ∷ told_by_namesake) refl
+
+pub returns-clause-accused_there : goal.returns-clause-accused_there
+returns-clause-accused_there x = record {
+  transfer = record { number = 0; client = client; asked = service; writes = false; has_window = false };
+  at = refl;
+  rule = Rule.AfterError;
+  refused = other_error_refused;
   doubtless = refl;
 }

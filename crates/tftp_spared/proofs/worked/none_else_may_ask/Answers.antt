@@ -8,7 +8,7 @@ use Rattle.tftp_spared.specs.{IsTimelyCapture, IsWholeCapture, FollowOneAnother,
 use Rattle.tftp_spared.specs.Worked.{ack_of_block, one_client, own_name, served_by_asker}
 use Rattle.tftp_spared.proofs.ClientEnd.{lawful_at}
 use Rattle.tftp_spared.proofs.ServedEnd.{served_lawful}
-use Rattle.tftp_spared.proofs.WorkedPremises.{at_one, follow_one, foreign_port, here_by, order_by, ports_by, served_by, whole_by, wrong_port}
+use Rattle.tftp_spared.proofs.WorkedPremises.{at_one, follow_one, foreign_port, here_by, order_by, own_names, ports_by, served_by, whole_by, wrong_port}
 use Rattle.tftp_spared.proofs.WorkedCaptures.{plain_lawful, plain_there_lawful}
 use Rattle.tftp_spared.proofs.worked.none_else_may_ask.Goals as goal
 
@@ -46,3 +46,6 @@ returns-clause-accused_there x = record {
   refused = foreign_port (at_server_of 69) (as_served own_name client (requests 1 client service (codes "f")) ∷ []) (as_served own_name client ack_of_block) (served_lawful own_name client (filter (is_with client) (ack_of_block ∷ served_by_asker)) plain_there_lawful).1.1 refl;
   doubtless = refl;
 }
+
+pub returns-clause-hosts : goal.returns-clause-hosts
+returns-clause-hosts x = own_names

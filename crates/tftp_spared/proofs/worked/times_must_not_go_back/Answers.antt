@@ -8,7 +8,7 @@ use Rattle.tftp_spared.specs.{IsTimelyCapture, IsWholeCapture, FollowOneAnother,
 use Rattle.tftp_spared.specs.Worked.{back_in_time, back_in_time_there, late_ack, own_name, two_clients}
 use Rattle.tftp_spared.proofs.ClientEnd.{lawful_at}
 use Rattle.tftp_spared.proofs.ServedEnd.{served_lawful}
-use Rattle.tftp_spared.proofs.WorkedPremises.{at_two, follow_one, foreign_port, here_by, others_by, ports_by, served_by, whole_by, wrong_port}
+use Rattle.tftp_spared.proofs.WorkedPremises.{at_two, follow_one, foreign_port, here_by, others_by, own_names, ports_by, served_by, whole_by, wrong_port}
 use Rattle.tftp_spared.proofs.WorkedCaptures.{back_lawful, back_there_lawful, other_lawful, other_there_lawful}
 use Rattle.tftp_spared.proofs.worked.times_must_not_go_back.Goals as goal
 
@@ -51,3 +51,6 @@ returns-clause-accused_there x = record {
   refused = foreign_port (at_server_of 69) (as_served own_name client (requests 601 client service (codes "f")) ∷ []) (as_served own_name client late_ack) (served_lawful own_name client (filter (is_with client) (late_ack ∷ back_in_time_there)) back_there_lawful).1.1.1.1 refl;
   doubtless = refl;
 }
+
+pub returns-clause-hosts : goal.returns-clause-hosts
+returns-clause-hosts x = own_names

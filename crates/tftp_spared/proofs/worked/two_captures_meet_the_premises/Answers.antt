@@ -24,6 +24,5 @@ returns-clause-server x = record {
   here = here_by service one_client two_served refl;
   others = others_by one_client two_served refl;
   hosts = own_names;
-  ports = ports_by one_client refl;
   order = order_by two_served refl;
 }
