@@ -97,7 +97,7 @@ class Doubt(NamedTuple):
     """Of refusals of a transfer from this datagram on, and why."""
 
     since: int
-    word: Literal["late", "disordered", "again", "apart", "strays", "unanswered"]
+    word: Literal["late", "disordered", "again", "apart", "strays", "unanswered", "unsure"]
     why: str
 
 
@@ -151,6 +151,10 @@ class Transfer:
 
     def has_window(self) -> bool:
         return b"windowsize" in self.seen[0].payload.lower().split(b"\0")
+
+    def has_error(self) -> bool:
+        """Whether an ERROR came to its client."""
+        return any(it.target == self.client and begins(it.payload, 5) for it in self.seen)
 
     # ---- what may be late from an earlier transfer between the same two
 
@@ -329,6 +333,9 @@ class Attribution:
         if line.latest.answered is None:
             why = "nobody had answered what its client asked before, and may still"
             one.doubts.append(Doubt(0, "unanswered", why))
+        elif line.only_asked and not line.latest.has_error():
+            why = "its client had not gone on with who answered what it asked before, and who it asked may still answer"
+            one.doubts.append(Doubt(0, "unsure", why))
         if line.only_asked and asks_alike(line.request, it):
             why = "its client had asked the same and sent nothing else since: the transfer before goes on"
             one.doubts.append(Doubt(0, "again", why))

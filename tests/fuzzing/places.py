@@ -31,7 +31,7 @@ def told(found: Attribution) -> list[str]:
     for one in found.transfers:
         late = [doubt.since for doubt in one.doubts if doubt.word == "late"]
         its = {doubt.word for doubt in one.doubts}
-        words = sorted({*(word for word in its if word in WORDS), *(("doubted",) if its - {"late"} else ())})
+        words = sorted({*(word for word in its if word in WORDS), *(("doubted",) if its - {"late", "unsure"} else ())})
         rows.append(" ".join((f"transfer {one.number}", *words, *(f"since {first}" for first in late[:1]))))
         rows.append(" ".join(("at-client", *(str(it.number) for it in one.view("client")))))
         rows.append(" ".join(("at-server", *(str(it.number) for it in one.view("server")))))
