@@ -21,6 +21,8 @@ pub enum Reason {
     FollowsStrays,
     /// What comes may be the late answer to the client's request before.
     FollowsUnanswered,
+    /// The client had not gone on with who answered its request before: who it asked then may still answer.
+    FollowsUnsure,
     /// The client did not go on with who sent it something first.
     LedAstray,
     /// The datagram is an ERROR 5, "Unknown transfer ID" (RFC 1350, section 5).
@@ -101,6 +103,9 @@ impl Reason {
             }
             Reason::FollowsUnanswered => {
                 "nobody had answered what its client asked for before: what comes may be the late answer"
+            }
+            Reason::FollowsUnsure => {
+                "its client had not gone on with who answered what it asked for before"
             }
             Reason::LedAstray => "its client did not go on with who sent it something first",
             Reason::UnknownId => {
