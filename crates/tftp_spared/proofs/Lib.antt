@@ -14,6 +14,8 @@ pub mod Rules
 pub mod Alike
 pub mod Begun
 pub mod Captured
+pub mod Renamed
+pub mod Retold
 pub mod Lawful
 pub mod Kept
 pub mod Whole

@@ -132,12 +132,15 @@ begins_with : ℕ → List ℕ → Bool
 begins_with n [] = false
 begins_with n (x ∷ xs) = x == n
 
-pub own_names : HaveOwnNames own_name
+own_one : (a b : Address) → own_name a ≡ own_name b → a ≡ b
 unfolding begins_with
-own_names (V4 a) (V4 b) is = let same : a ≡ b = cc in ap V4 same
-own_names (V6 a) (V6 b) is = let same : a ≡ b = cc in ap V6 same
-own_names (V4 a) (V6 b) is = absurd (false≢true (sym (ap (begins_with 4) is)))
-own_names (V6 a) (V4 b) is = absurd (false≢true (ap (begins_with 4) is))
+own_one (V4 a) (V4 b) is = let same : a ≡ b = cc in ap V4 same
+own_one (V6 a) (V6 b) is = let same : a ≡ b = cc in ap V6 same
+own_one (V4 a) (V6 b) is = absurd (false≢true (sym (ap (begins_with 4) is)))
+own_one (V6 a) (V4 b) is = absurd (false≢true (ap (begins_with 4) is))
+
+pub own_names : (recorded : List Recorded) → HaveOwnNames own_name recorded
+own_names recorded a b there also is = own_one a b is
 
 -- ---- captures
 

@@ -50,7 +50,7 @@ pub record AreServed (IsCapture : Endpoint → List Recorded → Type 0) (write 
   pub captures : (c : Endpoint) → Contains clients c → FollowOneAnother (IsCapture c) (filter (is_with c) recorded)
   pub here : AreAtHost host clients recorded
   pub others : AskersAreElsewhere clients recorded
-  pub hosts : HaveOwnNames write
+  pub hosts : HaveOwnNames write recorded
   pub order : AreInOrder recorded
 
 -- ---- what the server saw of a transfer

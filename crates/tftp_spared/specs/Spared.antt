@@ -1,5 +1,5 @@
 -- What holds of every recording in which captures of lawful transfers are interleaved. Lists have the newest first.
-use Rattle.std.specs.Prelude.{◌≡◌, ℕ, ◌||◌, Bool, true, false, List, [], ◌∷◌, ◌++◌, map, reverse, filter, All, Contains, Some}
+use Rattle.std.specs.Prelude.{◌≡◌, ◌⊎◌, ℕ, ◌||◌, Bool, true, false, List, [], ◌∷◌, ◌++◌, map, reverse, filter, All, Contains, Some}
 use Rattle.std.specs.List.{flat_map}
 use Rattle.tftp_law.specs.{IsLawful, IsRefused, Rule}
 use Rattle.tftp_lines.specs.{Address, Endpoint, Transfer, Recorded, Placed, transfer_of, begins_request, is_asked_again, is_late}
@@ -24,9 +24,13 @@ AskersAreElsewhere clients recorded = (request d : Recorded) → Contains record
     → ((c : Endpoint) → Contains clients c → is_with c request ≡ false) → begins_request request.payload ≡ true
     → (c : Endpoint) → Contains clients c → is_with c d ≡ true → is_with request.source d ≡ false
 
--- no two hosts have one name
-abbrev pub HaveOwnNames : (Address → List ℕ) → Type 0
-HaveOwnNames write = (a b : Address) → write a ≡ write b → a ≡ b
+-- the address of an endpoint of the recording
+abbrev pub IsAddressIn : List Recorded → Address → Type 0
+IsAddressIn recorded a = (d : Recorded) × Contains recorded d × ((d.source.address ≡ a) ⊎ (d.target.address ≡ a))
+
+-- no two of its hosts have one name
+abbrev pub HaveOwnNames : (Address → List ℕ) → List Recorded → Type 0
+HaveOwnNames write recorded = (a b : Address) → IsAddressIn recorded a → IsAddressIn recorded b → write a ≡ write b → a ≡ b
 
 abbrev pub HaveNoServicePort : List Endpoint → Type 0
 HaveNoServicePort clients = (c : Endpoint) → Contains clients c → c.port ≡ 69 → ⊥
@@ -36,7 +40,7 @@ HaveNoServicePort clients = (c : Endpoint) → Contains clients c → c.port ≡
 pub record AreInterleaved (write : Address → List ℕ) (clients : List Endpoint) (recorded : List Recorded) : Type 0 where
   pub captures : (c : Endpoint) → Contains clients c → FollowOneAnother (IsWholeCapture write c) (filter (is_with c) recorded)
   pub others : AskersAreElsewhere clients recorded
-  pub hosts : HaveOwnNames write
+  pub hosts : HaveOwnNames write recorded
   pub ports : HaveNoServicePort clients
   pub order : AreInOrder recorded
 

@@ -83,7 +83,7 @@ pub fn captures_must_be_lawful()
     ensures in_time { (c : Endpoint) → Contains one_client c → FollowOneAnother (AsksInTime c) (filter (is_with c) (asks_elsewhere ∷ block_came)) }
     ensures here { AreAtHost service.address one_client (asks_elsewhere ∷ block_came) }
     ensures others { AskersAreElsewhere one_client (asks_elsewhere ∷ block_came) }
-    ensures hosts { HaveOwnNames own_name }
+    ensures hosts { (recorded : List Recorded) → HaveOwnNames own_name recorded }
     ensures ports { HaveNoServicePort one_client }
     ensures order { AreInOrder (asks_elsewhere ∷ block_came) }
     ensures accused { IsAccusedAtClient own_name is_doubtful asks_elsewhere block_came }
@@ -101,7 +101,7 @@ pub fn captures_must_be_steady()
     ensures others { AskersAreElsewhere one_client (ack_after_silence ∷ silent_capture) }
     ensures ports { HaveNoServicePort one_client }
     ensures order { AreInOrder (ack_after_silence ∷ silent_capture) }
-    ensures hosts { HaveOwnNames own_name }
+    ensures hosts { (recorded : List Recorded) → HaveOwnNames own_name recorded }
     ensures accused { IsAccusedAtClient own_name is_doubtful ack_after_silence silent_capture }
     ensures accused_there { IsAccusedAtServer own_name needs_doubt_there ack_after_silence silent_capture }
 {}
@@ -114,7 +114,7 @@ pub fn times_must_not_go_back()
     ensures others { AskersAreElsewhere two_clients (late_ack ∷ back_in_time) }
     ensures others_there { AskersAreElsewhere two_clients (late_ack ∷ back_in_time_there) }
     ensures ports { HaveNoServicePort two_clients }
-    ensures hosts { HaveOwnNames own_name }
+    ensures hosts { (recorded : List Recorded) → HaveOwnNames own_name recorded }
     ensures accused { IsAccusedAtClient own_name is_doubtful late_ack back_in_time }
     ensures accused_there { IsAccusedAtServer own_name needs_doubt_there late_ack back_in_time_there }
 {}
@@ -126,7 +126,7 @@ pub fn none_else_may_ask()
     ensures here { AreAtHost service.address one_client (ack_of_block ∷ served_by_asker) }
     ensures ports { HaveNoServicePort one_client }
     ensures order { AreInOrder (ack_of_block ∷ served_by_asker) }
-    ensures hosts { HaveOwnNames own_name }
+    ensures hosts { (recorded : List Recorded) → HaveOwnNames own_name recorded }
     ensures accused { IsAccusedAtClient own_name is_doubtful ack_of_block served_by_asker }
     ensures accused_there { IsAccusedAtServer own_name needs_doubt_there ack_of_block served_by_asker }
 {}
@@ -151,7 +151,7 @@ pub fn clients_must_speak_with_one_host()
     ensures others { AskersAreElsewhere one_client (to_second_host ∷ asks_two_hosts) }
     ensures ports { HaveNoServicePort one_client }
     ensures order { AreInOrder (to_second_host ∷ asks_two_hosts) }
-    ensures hosts { HaveOwnNames own_name }
+    ensures hosts { (recorded : List Recorded) → HaveOwnNames own_name recorded }
     ensures accused { IsAccusedAtServer own_name needs_doubt_there to_second_host asks_two_hosts }
 {}
 
@@ -161,7 +161,7 @@ pub fn clients_must_have_other_ports()
     ensures captures { (c : Endpoint) → Contains (service_client ∷ []) c → FollowOneAnother (IsWholeCapture own_name c) (filter (is_with c) (stray_is_told ∷ asked_by_stray)) }
     ensures others { AskersAreElsewhere (service_client ∷ []) (stray_is_told ∷ asked_by_stray) }
     ensures order { AreInOrder (stray_is_told ∷ asked_by_stray) }
-    ensures hosts { HaveOwnNames own_name }
+    ensures hosts { (recorded : List Recorded) → HaveOwnNames own_name recorded }
     ensures accused { IsAccusedAtClient own_name needs_doubt stray_is_told asked_by_stray }
 {}
 
@@ -170,7 +170,7 @@ pub fn requests_must_not_come_late()
     ensures captures { (c : Endpoint) → Contains one_client c → FollowOneAnother (IsServedCapture own_name c) (filter (is_with c) (ack_again ∷ asked_late)) }
     ensures here { AreAtHost service.address one_client (ack_again ∷ asked_late) }
     ensures others { AskersAreElsewhere one_client (ack_again ∷ asked_late) }
-    ensures hosts { HaveOwnNames own_name }
+    ensures hosts { (recorded : List Recorded) → HaveOwnNames own_name recorded }
     ensures ports { HaveNoServicePort one_client }
     ensures order { AreInOrder (ack_again ∷ asked_late) }
     ensures accused { IsAccusedAtServer own_name needs_doubt_there ack_again asked_late }

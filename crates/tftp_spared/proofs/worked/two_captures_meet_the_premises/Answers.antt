@@ -12,7 +12,7 @@ returns-clause-client x = record {
   captures = λ c there. at_one (λ e. FollowOneAnother (IsWholeCapture own_name e) (filter (is_with e) two_captures)) client c
       (follow_two (IsWholeCapture own_name client) second_capture first_capture (filter (is_with client) two_captures) refl (whole_by own_name client second_capture second_lawful refl) (whole_by own_name client first_capture first_lawful refl)) there;
   others = others_by one_client two_captures refl;
-  hosts = own_names;
+  hosts = own_names two_captures;
   ports = ports_by one_client refl;
   order = order_by two_captures refl;
 }
@@ -23,6 +23,6 @@ returns-clause-server x = record {
       (follow_two (IsTimelyCapture own_name client) second_served first_served (filter (is_with client) two_served) refl (served_by own_name client second_served second_there_lawful refl refl) (served_by own_name client first_served first_there_lawful refl refl)) there;
   here = here_by service one_client two_served refl;
   others = others_by one_client two_served refl;
-  hosts = own_names;
+  hosts = own_names two_served;
   order = order_by two_served refl;
 }
