@@ -4,7 +4,7 @@ use Rattle.std.specs.Prelude.{◌≡◌, ℕ, ◌||◌, Bool, false, List, [], �
 use Rattle.tftp_law.specs.{IsRefused, Rule}
 use Rattle.tftp_lines.specs.{Address, Endpoint, Transfer, Recorded, Placed, clock, transfer_of, bytes_of, version_of}
 use Rattle.tftp_transfers.specs.{ack_of, client, data_of, service, client_view, is_beside, place_of, placed}
-use Rattle.tftp_transfers.specs.Worked.{at, error_of, next_server, other_client, passes, requests, server, stranger}
+use Rattle.tftp_transfers.specs.Worked.{at, error_of, next_server, oack, other_client, passes, requests, server, stranger}
 use Rattle.tftp_spared.specs.Seen.{as_seen_by, at_client_of}
 use Rattle.tftp_spared.specs.Spared.{needs_doubt}
 use Rattle.tftp_spared.specs.Served.{at_server_of, seen_at_server, server_saw, transfer_beside}
@@ -197,3 +197,16 @@ asked_late =
 
 abbrev pub ack_again : Recorded
 ack_again = passes 5 client server (ack_of 1)
+
+-- A client keeps its port and the server has one: what it agrees on with the second file may be late from the first, and block 7
+-- is no block of that.
+abbrev pub on_a_late_oack : List Recorded
+on_a_late_oack =
+    passes 6 server client (data_of 7)
+    ∷ passes 5 client server (ack_of 0)
+    ∷ passes 4 server client oack
+    ∷ requests 3 client service (codes "g")
+    ∷ passes 2 client server (ack_of 1)
+    ∷ passes 1 server client (data_of 1)
+    ∷ requests 0 client service (codes "f")
+    ∷ []

@@ -4,8 +4,8 @@
 ghost use Rattle.std.specs.Prelude.{◌≡◌, ◌||◌, true, false, List, [], ◌∷◌, codes, filter, map, reverse, Contains};
 ghost use Rattle.tftp_law.specs.{IsLawful};
 ghost use Rattle.tftp_lines.specs.{Endpoint, Recorded, is_late};
-ghost use Rattle.tftp_transfers.specs.{ack_of, client, data_of, read_of, service, is_doubtful, is_doubtful_at_server, placed, some_of};
-ghost use Rattle.tftp_transfers.specs.Worked.{error_of, seen_by_client, seen_by_server};
+ghost use Rattle.tftp_transfers.specs.{ack_of, client, data_of, read_of, service, is_doubtful, is_doubtful_at_client, is_doubtful_at_server, placed, some_of};
+ghost use Rattle.tftp_transfers.specs.Worked.{doubtful_in, earlier_words, error_of, seen_by_client, seen_by_server};
 ghost use Rattle.tftp_spared.specs.{
   AreAtHost,
   AreInOrder,
@@ -45,6 +45,7 @@ ghost use Rattle.tftp_spared.specs.Worked.{
   late_ack,
   needs_doubt_there,
   newest,
+  on_a_late_oack,
   one_client,
   one_name,
   other_error,
@@ -175,4 +176,11 @@ pub fn requests_must_not_come_late()
     ensures order { AreInOrder (ack_again ∷ asked_late) }
     ensures accused { IsAccusedAtServer own_name needs_doubt_there ack_again asked_late }
     ensures shared { is_shared (newest ack_again asked_late) (placed [] asked_late) ≡ true }
+{}
+
+/// What may rest on an OACK that may be late from an earlier transfer is doubtful at the client by that alone.
+pub fn what_rests_on_a_late_oack_is_doubtful()
+    ensures elsewhere { doubtful_in is_doubtful 3 on_a_late_oack ≡ false ∷ false ∷ false ∷ false ∷ false ∷ false ∷ false ∷ [] }
+    ensures earlier { earlier_words (placed [] on_a_late_oack) ≡ false ∷ true ∷ true ∷ false ∷ false ∷ false ∷ false ∷ [] }
+    ensures at_client { doubtful_in is_doubtful_at_client 3 on_a_late_oack ≡ true ∷ false ∷ true ∷ false ∷ false ∷ false ∷ false ∷ [] }
 {}
