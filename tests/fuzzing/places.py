@@ -7,11 +7,13 @@ import random
 import subprocess
 from ipaddress import ip_address
 
-from fuzzing.attribution import Attribution, Datagram, Endpoint, attributed
+from fuzzing.attribution import ERROR_5, Attribution, Datagram, Endpoint, Transfer, attributed, begins
 
 
-# The doubts that tftp_places tells by name; of the others it tells `doubted`.
+# The doubts of a transfer that tftp_places tells by name; of the others it tells `doubted`.
 WORDS = ("late", "disordered", "again", "apart")
+# What it tells of a datagram beside its place, and is compared.
+OF_DATAGRAMS = ("earlier", "terms")
 
 
 def row(it: Datagram) -> str:
@@ -20,18 +22,33 @@ def row(it: Datagram) -> str:
     return " ".join((str(it.nanoseconds()), *ends, it.payload.hex() or "-"))
 
 
+def beside_of(one: Transfer, it: Datagram) -> tuple[str, ...]:
+    """What is told of a datagram of a transfer, in these words."""
+    holds = (one.may_be_earlier(it), one.rests_on_terms(it))
+    return tuple(word for word, is_so in zip(OF_DATAGRAMS, holds) if is_so)
+
+
+def passed_in(one: Transfer) -> set[str]:
+    """Whether an OACK passed that may be late, and an ERROR 5."""
+    talked = list(one.talked())
+    agrees = any(begins(it.payload, 6) and one.may_be_earlier(it) for it in talked)
+    unknown = any(it.payload[:4] == ERROR_5 for it in talked)
+    return {word for word, is_so in (("agrees", agrees), ("unknown", unknown)) if is_so}
+
+
 def told(found: Attribution) -> list[str]:
     """What the prototype says of a recording: each datagram's place, and each transfer's doubts and views."""
     openings = {one.number for one in found.transfers}
+    beside = {it.number: beside_of(one, it) for one in found.transfers for it in one.talked()}
     rows = []
     for number, place in enumerate(found.places):
         asked = "opens" if number in openings else "repeats"
         kind = asked if place.kind == "request" else place.kind
-        rows.append(kind if place.transfer is None else f"{kind} {place.transfer}")
+        rows.append(" ".join((kind if place.transfer is None else f"{kind} {place.transfer}", *beside.get(number, ()))))
     for one in found.transfers:
         late = [doubt.since for doubt in one.doubts if doubt.word == "late"]
         its = {doubt.word for doubt in one.doubts}
-        words = sorted({*(word for word in its if word in WORDS), *(("doubted",) if its - {"late", "unsure"} else ())})
+        words = sorted({*(word for word in its if word in WORDS), *passed_in(one), *(("doubted",) if its - {"late", "unsure"} else ())})
         rows.append(" ".join((f"transfer {one.number}", *words, *(f"since {first}" for first in late[:1]))))
         rows.append(" ".join(("at-client", *(str(it.number) for it in one.view("client")))))
         rows.append(" ".join(("at-server", *(str(it.number) for it in one.view("server")))))
@@ -48,7 +65,7 @@ def said(lines: list[str]) -> list[str]:
             rows.append(line)
             continue
         if kind != "transfer":
-            rows.append(" ".join((kind, *words[:1])) if words else kind)
+            rows.append(" ".join((kind, *words[:1], *(word for word in words[1:] if word in OF_DATAGRAMS))))
             if "late" in words:
                 since.setdefault(words[0], number)
             continue
