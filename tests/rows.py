@@ -44,6 +44,7 @@ LISTED = """number client server kind mode file options datagrams frames
 SOUND = "accepted get octet blocks 1 bytes 2"
 WHOLE = Row(1, "between", None, SOUND)
 ONE_WAY = "nothing that came to its client is there: one direction only"
+UNSURE = "its client had not gone on with who answered what it asked for before"
 LED_ASTRAY = "its client did not go on with who sent it something first"
 UNPLACED = "it may have been recorded between its two ends: name the place with --end"
 AT_CLIENT, AT_SERVER, BETWEEN = ("--end", "client"), ("--end", "server"), ("--end", "between")
@@ -362,11 +363,11 @@ def try_doubts(trial: Trial, program: str) -> None:
         ("one host, between", at_one_host(late), BETWEEN, [Row(1, "between", None, sound)], 0),
         (
             "the same request again", asked_again(), AT_CLIENT,
-            [Row(1, "client", None, incomplete), Row(2, "client", 4, overrun, (again, LED_ASTRAY))], 1,
+            [Row(1, "client", None, incomplete), Row(2, "client", 4, overrun, (UNSURE, again, LED_ASTRAY))], 1,
         ),
         (
             "the same request again, between", asked_again(), (),
-            [Row(1, "between", None, incomplete), Row(2, "between", 4, overrun, (again, LED_ASTRAY))], 1,
+            [Row(1, "between", None, incomplete), Row(2, "between", 4, overrun, (UNSURE, again, LED_ASTRAY))], 1,
         ),
     )
     for name, passed, words, rows, status in cases:
