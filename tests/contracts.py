@@ -17,6 +17,7 @@ from links import is_good, links
 from repository import TOP
 from tftp_contracts.items import File, read_source
 from tftp_contracts.tokens import Unreadable
+from tftp_tools.crates import libraries_of
 from trial import Trial
 
 PAGES = pathlib.Path("docs", "contracts")
@@ -84,11 +85,6 @@ impl<'a, T: Trait> Pair<'a, T> {
     pub(crate) fn kept(&self) ensures { ⊥ } { '}' }
 }
 '''
-
-
-def libraries() -> list[str]:
-    names = (line.split(":")[0] for line in (TOP / "crates.txt").read_text().splitlines())
-    return [name for name in names if (TOP / "crates" / name / "src" / "lib.rt").exists()]
 
 
 def page_of(crate: str) -> str:
@@ -169,7 +165,7 @@ def passed_on(crate: str) -> set[str]:
 def try_names(trial: Trial) -> None:
     """Each library that hands out something has a page; it has each name that the library hands out, and no other."""
     index = (TOP / PAGES / "README.md").read_text()
-    found = [crate for crate in libraries() if passed_on(crate)]
+    found = [crate for crate in libraries_of(TOP) if passed_on(crate)]
     trial.check("the libraries have pages", len(found) > 30 and all(map(page_of, found)), found)
     there = {path.stem for path in (TOP / PAGES).glob("*")}
     trial.check("no other pages", there == {"README", *found}, there ^ {"README", *found})
@@ -213,7 +209,7 @@ def sections(page: str) -> Iterator[tuple[str, str]]:
 def try_clauses(trial: Trial) -> None:
     """Below each call and law of a page stand the clauses of its contract, all of them, as the source has them."""
     total = 0
-    for crate in libraries():
+    for crate in libraries_of(TOP):
         contracts = contracts_of(crate)
         for name, below in sections(page_of(crate)):
             calls = contracts.get(name.split("::")[-1])

@@ -7,6 +7,7 @@ sys.dont_write_bytecode = True
 
 from repository import TOP  # noqa: E402
 from tftp_plants import edits, rooms  # noqa: E402
+from tftp_tools.crates import crates_of  # noqa: E402
 
 
 def texts_of(crate: str) -> dict[str, str]:
@@ -26,7 +27,7 @@ def fault_of(edit: edits.Edit, texts: dict[str, str]) -> str:
 
 
 def main() -> int:
-    crates, passed, failed = rooms.libraries_of(TOP), 0, 0
+    crates, passed, failed = crates_of(TOP), 0, 0
     for folder in sorted((TOP / "crates").iterdir()):
         found = edits.edits_of(folder.name, TOP, None)
         texts = texts_of(folder.name) if found else {}

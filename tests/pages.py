@@ -17,6 +17,7 @@ from collections.abc import Iterator
 
 from links import is_good, links
 from repository import TOP
+from tftp_tools.crates import below
 from tftp_tools.rules import PACKET_FAULTS, Rule
 from tftp_tools.textfaults import MEANINGS
 from trial import Trial
@@ -172,17 +173,6 @@ def try_proof(trial: Trial, sources: Sources) -> None:
             trial.check(f"{crate}/{part} in PROOF.md, each file once", named == there, differ)
 
 
-def below(crate: str) -> set[str]:
-    """The crates of the repository that one stands on."""
-    rows = dict(line.split(":") for line in (TOP / "crates.txt").read_text().splitlines())
-    found, todo = set[str](), [crate]
-    while todo:
-        more = set(rows[todo.pop()].split()) & rows.keys() - found
-        found |= more
-        todo += more
-    return found
-
-
 def try_libraries(trial: Trial, sources: Sources) -> None:
     """docs/LIBRARIES.md shows code that stands so in the programs, what they print, their lines of crates.txt, and
     clauses of the functions that it names; and README's code is that of the program, without its contract."""
@@ -193,8 +183,8 @@ def try_libraries(trial: Trial, sources: Sources) -> None:
             trial.check(f"the line {line} of crates.txt in LIBRARIES.md", line in listed)
     needed = NEEDS.findall(page)
     for crate, names in needed:
-        is_all = set(QUOTED.findall(names)) == below(crate)
-        trial.check(f"what {crate} needs in LIBRARIES.md", is_all, sorted(below(crate)))
+        is_all = set(QUOTED.findall(names)) == below(TOP, crate)
+        trial.check(f"what {crate} needs in LIBRARIES.md", is_all, sorted(below(TOP, crate)))
     trial.check("LIBRARIES.md says what crates need", len(needed) > 1)
     parts = OF_CALLER.findall(page)
     trial.check("the programs of LIBRARIES.md", tuple(name for name, _ in parts) == CALLERS)

@@ -94,10 +94,12 @@ build_by() {
     done
 }
 
-# The crates of the repository that one is made of, its own first, each with those of them that it stands on.
+# The crates of the repository that one is made of, its own first, each with those of them that it stands on; in crates.txt
+# a comment goes from a # to the end of the line, and words may stand behind a crate's name.
 crates_of() {
     awk -F: -v of="$1" '
-        { uses[$1] = $2 }
+        { sub(/#.*/, ""); split($1, words, " ") }
+        words[1] != "" { uses[words[1]] = $2 }
         END {
             todo[1] = of
             seen[of]

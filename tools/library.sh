@@ -17,7 +17,7 @@ link_to() {
 
 mkdir "$copies/$name/crates"
 for it in "$name" "$@"; do
-    grep "^$it:" "$top/crates.txt" >>"$copies/$name/crates.txt"
+    grep "^$it[ :]" "$top/crates.txt" >>"$copies/$name/crates.txt"
     mkdir "$copies/$name/crates/$it"
     for part in src specs proofs; do
         [ ! -d "$top/crates/$it/$part" ] || cp -R "$top/crates/$it/$part" "$copies/$name/crates/$it"

@@ -8,6 +8,8 @@ import argparse
 import pathlib
 import sys
 
+from tftp_tools.crates import libraries_of
+
 from .crates import Crate, Definitions
 from .pages import Page, index, noted
 from .tokens import Unreadable
@@ -18,8 +20,7 @@ FOLDER, BY_HAND = pathlib.Path("docs", "contracts"), pathlib.Path("docs", "CONTR
 
 def libraries(top: pathlib.Path) -> dict[str, Crate]:
     """The libraries of the repository, each behind those that it stands on."""
-    names = (line.partition(":")[0] for line in (top / "crates.txt").read_text("utf-8").splitlines())
-    return {name: Crate(top, name) for name in names if (top / "crates" / name / "src" / "lib.rt").exists()}
+    return {name: Crate(top, name) for name in libraries_of(top)}
 
 
 def made(top: pathlib.Path) -> dict[pathlib.Path, str]:

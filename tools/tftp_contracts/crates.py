@@ -74,6 +74,8 @@ class Crate:
         first, *rest = use.path
         if first in ("self", "super"):
             path = (*module[: len(module) - (first == "super")], *rest)
+        elif (*module, first) in self.files:
+            path = (*module, *use.path)
         else:
             path = tuple(rest) if first == "crate" else use.path
         return path[:-1], path[-1]

@@ -10,6 +10,8 @@ import subprocess
 import tempfile
 from collections.abc import Iterable, Mapping
 
+from tftp_tools import crates
+
 PARTS = ("src", "specs", "proofs")
 
 
@@ -19,13 +21,6 @@ class NotProved(Exception):
 
 class Stopped(Exception):
     """No check begins any more."""
-
-
-def libraries_of(top: pathlib.Path) -> dict[str, list[str]]:
-    """The crates of the repository, each with those that it names."""
-    lines = (it.partition("#")[0].partition(":") for it in (top / "crates.txt").read_text(encoding="utf-8").split("\n"))
-    named = {words.split()[0]: libraries.split() for words, _, libraries in lines if words.strip()}
-    return {crate: [it for it in libraries if it in named] for crate, libraries in named.items()}
 
 
 def share(source: str, to: str) -> None:
@@ -50,7 +45,7 @@ class Rooms:
 
     def __init__(self, top: pathlib.Path, folder: str, seconds: int, is_fresh: bool) -> None:
         self.base, self.seconds, self.is_fresh = pathlib.Path(folder) / "base", seconds, is_fresh
-        self.top, self.libraries, self.is_over = top, libraries_of(top), False
+        self.top, self.libraries, self.is_over = top, crates.crates_of(top), False
         self.running: set[int] = set()
         for crate in self.libraries:
             self.copy_texts(top, self.base, crate)
@@ -58,7 +53,7 @@ class Rooms:
 
     def below(self, crate: str) -> set[str]:
         """The crates that a crate is built over."""
-        return set(self.libraries[crate]).union(*(self.below(it) for it in self.libraries[crate]))
+        return crates.below(self.top, crate)
 
     def copy_texts(self, top: pathlib.Path, to: pathlib.Path, crate: str) -> None:
         for part in PARTS:
