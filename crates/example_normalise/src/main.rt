@@ -4,7 +4,7 @@
 use std::io;
 use std::process::ExitCode;
 use tftp_normal::normalise;
-use tftp_streams::{Latched, LineWriter};
+use net_streams::streams::{Latched, LineWriter};
 
 /// Ends with status 2, and tells why on standard error, where no normal text was written, or only a part of one.
 fn main(rt: HostRuntime) -> ExitCode {

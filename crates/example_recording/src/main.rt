@@ -6,7 +6,7 @@ use anyhow::Result;
 use std::io::Read;
 use std::process::ExitCode;
 use tftp_recording::{Event, Fate, RecordingReader};
-use tftp_streams::Latched;
+use net_streams::streams::Latched;
 
 /// Ends with status 2, and tells why on standard error, where the recording was not read to its end.
 fn main(rt: HostRuntime) -> ExitCode {

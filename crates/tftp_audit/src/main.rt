@@ -4,7 +4,7 @@
 use std::process::ExitCode;
 use std::{env, io};
 use tftp_commands::run;
-use tftp_streams::{Latched, LineWriter};
+use net_streams::streams::{Latched, LineWriter};
 
 /// Ends with status 2, and no output, where it can't get its words.
 fn main(rt: HostRuntime) -> ExitCode {

@@ -16,7 +16,7 @@ use tftp_hosts::Dir;
 use tftp_netascii::{Decoder, encode};
 use tftp_packet::End;
 use tftp_recording::{Event, Fate, RecordingReader};
-use tftp_streams::{Latched, LineWriter};
+use net_streams::streams::{Latched, LineWriter};
 
 /// The most bytes that are read at once.
 const PIECE: usize = 65_536;

@@ -5,7 +5,7 @@ use Rattle.std.proofs.KnownBytes.{Consumes-nil}
 use Rattle.std.proofs.Math.Seq.{take-length, take-add}
 use Rattle.std.proofs.lemmas.List.{take_at, take_more}
 use Rattle.std.proofs.lemmas.List.Elements.{All-append, All-take}
-use Rattle.tftp_streams.proofs.Taking.{taken_step}
+use Rattle.net_streams.proofs.StreamsLemmas.Taking.{taken_step}
 use Rattle.tftp_capture.specs.{line_at, HasNoEnd, HasByteAt}
 
 pub nonempty : (xs : List ℕ) → length xs ≢ 0 → (byte : ℕ) × (more : List ℕ) × (xs ≡ byte ∷ more)

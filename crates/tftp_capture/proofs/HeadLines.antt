@@ -10,7 +10,7 @@ use Rattle.std.proofs.lemmas.List.Splits.{join_with_byte-slice_split}
 use Rattle.hex.specs.Hex.{decode_of}
 use Rattle.hex.proofs.HexLemmas.{decode_of-ok}
 use Rattle.tftp_hosts.specs.{IsHost}
-use Rattle.tftp_streams.specs.{most_ahead}
+use Rattle.net_streams.specs.Streams.{most_ahead}
 use Rattle.tftp_capture.specs.{BeginsWithDatagram, BeginsWithLine, GoesOnAfter, HasNoEnd, HeadState, HoldsPart, IsDecoded, IsHead, IsPartOfLine, IsPort, LineError, MayName, PayloadEnds, SaysDatagram, SpellsBehind, SpellsPayload, Version, One, Two, dir_word, filled, head_text, pieces, says_nothing}
 use Rattle.tftp_capture.specs.CaptureText.{Datagram}
 use Rattle.tftp_capture.proofs.Bytes.{held_first, no_end_on}

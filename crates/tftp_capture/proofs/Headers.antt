@@ -4,7 +4,7 @@ use Rattle.std.specs.Io.KnownBytes.{Consumes, IsAtEnd, prepend_known}
 use Rattle.std.proofs.KnownBytes.{Consumes-trans}
 use Rattle.tftp_packet.specs.{End}
 use Rattle.tftp_capture.specs.{BadHeader, BadEnd, BadService, Truncated, CaptureFault, Version, One, Two, LineError, Due, IsPort, Says, Stands, end_line, head_line, longest, longest_line, service_line, whole_lines, FailsToBegin, FaultTells, HasService, IsAtTextEnd, IsReadFault, FirstTells, LineEnds, LineState, ReachesLine, fault_at}
-use Rattle.tftp_streams.specs.{most_ahead}
+use Rattle.net_streams.specs.Streams.{most_ahead}
 use Rattle.tftp_capture.specs.declared.fault.CaptureFault.TheVariants as faults
 use Rattle.tftp_capture.specs.declared.line_error.LineError.TheVariants.{Text, Read, Memory}
 use Rattle.tftp_capture.specs.CaptureText.Due.{Head, EndLine, ServiceLine, Body}

@@ -5,11 +5,11 @@ use Rattle.std.proofs.lemmas.List.{map-append}
 use Rattle.std.proofs.lemmas.List.Concat.{flat_map-append}
 use Rattle.hex.specs.Hex.{encode_lower}
 use Rattle.tftp_capture.specs.{Version, One, Two, datagram_line, end_line, end_word, head_line, line_with_host, payload_text, service_line, text_of, total_line, whole_lines, Entry, comment_line, commented_text, entry_line, said_in, HasWritten, HasWrittenHosts, header_text_in, head_naming, line_naming}
-use Rattle.tftp_streams.specs.{Gathers, Sink}
+use Rattle.net_streams.specs.Streams.{Gathers, Sink}
 use Rattle.tftp_capture.specs.CaptureText.{Datagram, Header}
 use Rattle.tftp_capture.specs.Commented.Entry.{Comment, Passed}
-use Rattle.tftp_digits.proofs.Encoding.{encode-append}
-use Rattle.tftp_streams.proofs.Gathering.{gathers_more, gathers_written}
+use Rattle.net_streams.proofs.DigitsLemmas.Encoding.{encode-append}
+use Rattle.net_streams.proofs.StreamsLemmas.Gathering.{gathers_more, gathers_written}
 use Rattle.tftp_capture.proofs.Skips.{whole_lines-push}
 
 three_lines : (head named service : List ℕ) → head ++ ((10 ∷ codes "end ") ++ (named ++ ((10 ∷ codes "service ") ++ (service ++ 10 ∷ [])))) ≡ whole_lines (head ∷ (codes "end " ++ named) ∷ (codes "service " ++ service) ∷ [])

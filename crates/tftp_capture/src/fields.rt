@@ -12,7 +12,7 @@ use crate::line_error::LineError;
 use crate::version::Version;
 use hex::FromHexError;
 use itoa::Buffer;
-use tftp_digits::decode;
+use net_streams::digits::decode;
 use tftp_hosts::{Dir, Host};
 use tftp_packet::End;
 

@@ -7,7 +7,7 @@ ghost use Rattle.tftp_capture.specs.CaptureText.{SaysDatagram, SpellsPayload};
 ghost use Rattle.tftp_capture.specs.Fields.{datagram_of};
 ghost use Rattle.tftp_capture.specs.Heads.{BeginsWithDatagram, BeginsWithHead, GoesOnAfter, IsDecoded, SpellsBehind};
 ghost use Rattle.tftp_capture.specs.Lines.{HasNoEnd, HoldsPart, IsPartOfLine};
-ghost use Rattle.tftp_streams.specs.{most_ahead, most_of_line};
+ghost use Rattle.net_streams.specs.Streams.{most_ahead, most_of_line};
 
 use crate::datagram::Datagram;
 use crate::fields::{LONGEST_PAYLOAD, fill_payload};
@@ -17,9 +17,9 @@ use std::io::Read;
 use std::marker::Model;
 use std::simd::prelude::*;
 use std::{io, mem};
-use tftp_digits::decode_on;
+use net_streams::digits::decode_on;
 use tftp_hosts::{Dir, Host};
-use tftp_streams::{Latched, ReadBuffer};
+use net_streams::streams::{Latched, ReadBuffer};
 
 /// The most bytes of a head that is kept: `out`, a port of five digits, a host of 45 bytes, a port and four spaces.
 pub const LONGEST_HEAD: usize = 62;

@@ -1,6 +1,6 @@
 ghost use Rattle.std.specs.Prelude.{◌≡◌, ◌+◌, ◌^◌, ◌<◌, ◌≤◌, ◌++◌, ◌∷◌, [], List, length, IfOk, MatchResult, OnOk};
 ghost use Rattle.std.specs.Io.KnownBytes.{Appends};
-ghost use Rattle.tftp_streams.specs.Sinks.{Adds, Sink, Writes};
+ghost use Rattle.net_streams.specs.Streams.Sinks.{Adds, Sink, Writes};
 ghost use Rattle.tftp_capture.specs.CaptureText.{line_with_host, total_line, Header as HeaderParts, IsPort};
 ghost use Rattle.tftp_capture.specs.Commented.{comment_line, commented_text, Entry};
 ghost use Rattle.tftp_capture.specs.Commented.Entry.{Comment, Passed};
@@ -14,7 +14,7 @@ use crate::writer::{finish, put_datagram, put_header};
 use std::io::Write;
 use std::marker::Model;
 use tftp_hosts::{Dir, Host};
-use tftp_streams::{LineWriter, WriteFault};
+use net_streams::streams::{LineWriter, WriteFault};
 
 /// A capture text that is being written in its canonical form of version 2, in which each datagram names its host:
 /// contracts see the number of its datagrams. All its calls are to be made with the same writer of lines.

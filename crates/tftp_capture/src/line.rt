@@ -1,13 +1,13 @@
 ghost use Rattle.std.specs.Prelude.{◌≡◌, ◌≢◌, ◌+◌, ◌<◌, ◌≤◌, ◌++◌, ℕ, List, [], All, true, length, take, drop, slice_index, OnOk, OnErr};
 ghost use Rattle.std.specs.Io.KnownBytes.{prepend_known, Consumes, IsAtEnd};
 ghost use Rattle.tftp_capture.specs.Lines.{bytes_lying, line_at, HoldsPart, LineEnds};
-ghost use Rattle.tftp_streams.specs.{most_ahead, most_of_line};
+ghost use Rattle.net_streams.specs.Streams.{most_ahead, most_of_line};
 
 use crate::fault::TextFault;
 use crate::line_error::LineError;
 use memchr::memchr;
 use std::io::Read;
-use tftp_streams::{Latched, ReadBuffer};
+use net_streams::streams::{Latched, ReadBuffer};
 
 /// How many bytes stand before the first of that value, or before the end where there is none.
 #[inline]

@@ -1,7 +1,7 @@
 ghost use Rattle.std.specs.Prelude.{◌≡◌, ◌≢◌, ◌+◌, ◌-◌, ◌^◌, ◌≤◌, ◌⊎◌, ℕ, List, [], length, take, true, false, Ok, IfOk, OnOk, OnErr, Option};
 ghost use Rattle.std.specs.Io.KnownBytes.{prepend_known, Consumes, IsAtEnd};
 ghost use Rattle.tftp_capture.specs.Lines.{reading_of, unread, BeginsWithLine, HoldsLine, HoldsNoLine, LineEnds, ReachesLine, TextEnds};
-ghost use Rattle.tftp_streams.specs.{most_ahead};
+ghost use Rattle.net_streams.specs.Streams.{most_ahead};
 ghost use Rattle.tftp_capture.specs.CaptureText.{longest_line, says_nothing, SaysDatagram};
 ghost use Rattle.tftp_capture.specs.Fields.{datagram_of};
 
@@ -14,7 +14,7 @@ use crate::version::Version;
 use std::alloc::{AllocError, Global};
 use std::io::Read;
 use std::marker::Model;
-use tftp_streams::{Latched, ReadBuffer};
+use net_streams::streams::{Latched, ReadBuffer};
 
 /// The most bytes of a text.
 const LONGEST_TEXT: u64 = 1 << 40;
@@ -34,7 +34,7 @@ impl Model for Lines {
     ghost use Rattle.std.specs.Prelude.{◌+◌, ◌^◌, ◌≤◌, length, drop};
     ghost use Rattle.tftp_capture.specs.CaptureText.{longest_line};
     ghost use Rattle.tftp_capture.specs.Lines.{line_at, LineState};
-    ghost use Rattle.tftp_streams.specs.{most_ahead};
+    ghost use Rattle.net_streams.specs.Streams.{most_ahead};
 
     ghost Value = { LineState };
 

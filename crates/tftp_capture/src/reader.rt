@@ -3,7 +3,7 @@ ghost use Rattle.std.specs.Io.KnownBytes.{prepend_known, Consumes, IsAtEnd};
 ghost use Rattle.tftp_capture.specs.CaptureText.{Header as HeaderParts, Numbered, SaysDatagram};
 ghost use Rattle.tftp_capture.specs.Fields.{datagram_of, filled_if, header_of};
 ghost use Rattle.tftp_capture.specs.Lines.{HoldsLine, HoldsNoLine, ReachesLine};
-ghost use Rattle.tftp_streams.specs.{KeepsAnswer, most_ahead, standing_after};
+ghost use Rattle.net_streams.specs.Streams.{KeepsAnswer, most_ahead, standing_after};
 ghost use Rattle.tftp_capture.specs.History.{Answers, Continues, FailsToBegin, GoesOn, HasService, IsAtTextEnd, IsReadFault, IsReadStanding, StandsFor};
 
 use crate::datagram::{Datagram, Header};
@@ -16,7 +16,7 @@ use crate::version::Version;
 use std::alloc::Global;
 use std::io::Read;
 use std::marker::Model;
-use tftp_streams::{Latched, Standing};
+use net_streams::streams::{Latched, Standing};
 
 /// A reader of a capture text: it holds one line of at most 131,070 bytes, in version 2 of 131,116, at most 65,536 bytes
 /// read ahead, and the memory of one payload more than the caller, that of the last one that went the other way.

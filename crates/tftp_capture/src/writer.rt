@@ -1,7 +1,7 @@
 ghost use Rattle.std.specs.Prelude.{◌≡◌, ◌+◌, ◌^◌, ◌<◌, ◌≤◌, ◌++◌, ◌∷◌, [], List, length, option_map, IfOk, MatchResult, OnOk};
 ghost use Rattle.std.specs.Io.KnownBytes.{Appends};
 ghost use Rattle.tftp_hosts.specs.{no_host};
-ghost use Rattle.tftp_streams.specs.Sinks.{Adds, Sink, Writes};
+ghost use Rattle.net_streams.specs.Streams.Sinks.{Adds, Sink, Writes};
 ghost use Rattle.tftp_capture.specs.CaptureText.{datagram_line, payload_text, text_of, total_line, Datagram, Header as HeaderParts, IsPort};
 ghost use Rattle.tftp_capture.specs.Fields.{header_of};
 ghost use Rattle.tftp_capture.specs.Written.{header_text, header_text_in, line_naming, HasWritten};
@@ -14,7 +14,7 @@ use std::io::Write;
 use std::marker::Model;
 use tftp_hosts::{Dir, Host};
 use tftp_packet::End;
-use tftp_streams::{LineWriter, WriteFault};
+use net_streams::streams::{LineWriter, WriteFault};
 
 /// A capture text that is being written in its canonical form, which names no host: contracts see the number of its
 /// datagrams. All its calls are to be made with the same writer of lines.

@@ -6,7 +6,7 @@ ghost use Rattle.tftp_capture.specs.{IsReadStanding};
 use std::alloc::Global;
 use std::marker::Model;
 use tftp_capture::{CaptureFault, CaptureReader, Datagram, Header};
-use tftp_streams::Latched;
+use net_streams::streams::Latched;
 use tftp_trials::drip::DripReader;
 
 /// A text whose header was read. Contracts see nothing of it, so that what the library promises of its readers is read

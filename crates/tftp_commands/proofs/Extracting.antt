@@ -1,7 +1,7 @@
 -- What was written of a text whose file was asked for.
 use Rattle.std.proofs.Common.{◌≡◌, ℕ, List, Bool, true, false, true≢false, Option, Some, Result, Ok, Err, refl, sym, ap, ◌∙◌, subst}
 use Rattle.std.specs.Io.KnownBytes.{Consumes, IsAtEnd}
-use Rattle.tftp_streams.specs.{IsFresh, Sink}
+use Rattle.net_streams.specs.Streams.{IsFresh, Sink}
 use Rattle.tftp_model.specs.{Meaning}
 use Rattle.tftp_judge.specs.{Extracts, EndsText, IsReadVerdict, IsTextVerdict, SaysReadFailed, OutFault, Verdict}
 use Rattle.tftp_judge.specs.declared.extraction.OutFault.TheVariants as fault

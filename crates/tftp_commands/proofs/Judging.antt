@@ -2,7 +2,7 @@
 use Rattle.std.proofs.Common.{◌≡◌, ℕ, List, Bool, false, true, Option, Some, Result, refl, sym, ◌∙◌}
 use Rattle.std.proofs.lemmas.Bool.{false≢true}
 use Rattle.std.specs.Io.KnownBytes.{Consumes, IsAtEnd}
-use Rattle.tftp_streams.specs.{Sink}
+use Rattle.net_streams.specs.Streams.{Sink}
 use Rattle.tftp_model.specs.{Meaning}
 use Rattle.tftp_judge.specs.{EndsText, IsReadVerdict, IsTextVerdict, SaysReadFailed, Verdict}
 use Rattle.tftp_judge.proofs.ReadVerdicts.{read_is_text}

@@ -1,8 +1,8 @@
 -- What a writer was given, piece by piece.
 use Rattle.std.proofs.Common.{◌≡◌, ℕ, List, [], ◌++◌, Bool, true, false, true≢false, Option, Some, None, Result, Ok, Err, refl, sym, ap, ◌∙◌, subst, append-nil}
 use Rattle.std.proofs.KnownBytes.{Appends-nil}
-use Rattle.tftp_streams.specs.{Added, Gathers, IsFresh, Sink, Stops, Writes, Wrote}
-use Rattle.tftp_streams.proofs.Gathering.{gathers_written, prefix_after}
+use Rattle.net_streams.specs.Streams.{Added, Gathers, IsFresh, Sink, Stops, Writes, Wrote}
+use Rattle.net_streams.proofs.StreamsLemmas.Gathering.{gathers_written, prefix_after}
 use Rattle.tftp_commands.specs.{IsWritten, Output, Prints, Status}
 use Rattle.tftp_commands.specs.declared.status.Status.TheVariants as status
 

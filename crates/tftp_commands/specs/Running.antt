@@ -1,7 +1,7 @@
 -- What a command does with its reader and its writer.
 use Rattle.std.specs.Prelude.{◌≡◌, ℕ, List, Bool, false, Option, Some}
 use Rattle.std.specs.Io.KnownBytes.{Consumes}
-use Rattle.tftp_streams.specs.{Sink}
+use Rattle.net_streams.specs.Streams.{Sink}
 use Rattle.tftp_commands.specs.declared.status.Status.{Status}
 use Rattle.tftp_commands.specs.Outputs.{Output, Prints}
 use Rattle.tftp_commands.specs.Sources.{Source, given}

@@ -1,5 +1,5 @@
 ghost use Rattle.std.specs.Prelude.{Ok, Err};
-ghost use Rattle.tftp_streams.specs.{IsFresh};
+ghost use Rattle.net_streams.specs.Streams.{IsFresh};
 ghost use Rattle.tftp_commands.specs.Checked.{checked};
 ghost use Rattle.tftp_commands.specs.Outputs.{Prints};
 
@@ -8,7 +8,7 @@ use crate::status::Status;
 use crate::verdicts::{put_accepted, put_verdict, status_of};
 use std::io::Write;
 use tftp_judge::{Meaning, Verdict};
-use tftp_streams::LineWriter;
+use net_streams::streams::LineWriter;
 
 /// Says what a text means that is accepted.
 pub fn say_accepted<W: Write>(writer: &mut LineWriter<W>, meaning: &Meaning) -> Status

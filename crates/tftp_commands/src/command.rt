@@ -1,5 +1,5 @@
 ghost use Rattle.std.specs.Prelude.{◌≡◌, false};
-ghost use Rattle.tftp_streams.specs.{IsFresh};
+ghost use Rattle.net_streams.specs.Streams.{IsFresh};
 ghost use Rattle.tftp_commands.specs.Run.{IsOutputOf};
 ghost use Rattle.tftp_commands.specs.Running.{Runs};
 
@@ -13,7 +13,7 @@ use std::alloc::Global;
 use std::io::{Read, Write};
 use tftp_judge::{OutFault, extract, judge_text};
 use tftp_normal::{NormalFault, normalise};
-use tftp_streams::{Latched, LineWriter};
+use net_streams::streams::{Latched, LineWriter};
 
 /// Runs a command. `check` says in one line what a capture text means, and `count` how many datagrams its normal capture has;
 /// both say why a text is not accepted. `extract` writes its file (RFC 1350, section 1), and `normal` its normal text, and

@@ -1,5 +1,5 @@
 ghost use Rattle.std.specs.Prelude.{Ok};
-ghost use Rattle.tftp_streams.specs.{Adds, IsFresh};
+ghost use Rattle.net_streams.specs.Streams.{Adds, IsFresh};
 ghost use Rattle.tftp_commands.specs.Counted.{counted, counted_line};
 ghost use Rattle.tftp_commands.specs.Outputs.{Prints};
 
@@ -9,7 +9,7 @@ use itoa::Buffer;
 use std::io::Write;
 use tftp_judge::Meaning;
 use tftp_normal::normal_count;
-use tftp_streams::{LineWriter, WriteFault};
+use net_streams::streams::{LineWriter, WriteFault};
 
 /// Says how many datagrams the normal capture has.
 pub fn say_counted<W: Write>(writer: &mut LineWriter<W>, meaning: &Meaning) -> Status

@@ -1,12 +1,12 @@
 ghost use Rattle.std.specs.Prelude.{◌≡◌, ◌++◌};
-ghost use Rattle.tftp_streams.specs.{Adds};
+ghost use Rattle.net_streams.specs.Streams.{Adds};
 ghost use Rattle.tftp_commands.specs.Outputs.{fault_line};
 
 use crate::names::text_fault_name;
 use itoa::Buffer;
 use std::io::Write;
 use tftp_capture::CaptureFault;
-use tftp_streams::{LineWriter, WriteFault};
+use net_streams::streams::{LineWriter, WriteFault};
 
 /// Adds the line of a fault.
 pub fn put_fault<W: Write>(

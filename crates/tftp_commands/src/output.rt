@@ -1,10 +1,10 @@
 ghost use Rattle.std.specs.Prelude.{◌≡◌, false};
-ghost use Rattle.tftp_streams.specs.{IsFresh};
+ghost use Rattle.net_streams.specs.Streams.{IsFresh};
 ghost use Rattle.tftp_commands.specs.Outputs.{Output, Prints};
 
 use crate::status::Status;
 use std::io::Write;
-use tftp_streams::LineWriter;
+use net_streams::streams::LineWriter;
 
 /// Writes what waits, and answers the status, or that of a fault where a write failed.
 pub fn write_out<W: Write>(writer: &mut LineWriter<W>, status: Status) -> Status

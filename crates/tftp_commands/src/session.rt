@@ -1,6 +1,6 @@
 ghost use Rattle.std.specs.Prelude.{◌≡◌, ℕ, List, Some, false, map};
 ghost use Rattle.std.specs.Io.KnownBytes.{Consumes};
-ghost use Rattle.tftp_streams.specs.{IsFresh};
+ghost use Rattle.net_streams.specs.Streams.{IsFresh};
 ghost use Rattle.tftp_commands.specs.Outputs.{Output, Prints};
 ghost use Rattle.tftp_commands.specs.Run.{IsOutput};
 ghost use Rattle.tftp_commands.specs.Sources.{Source, given};
@@ -13,7 +13,7 @@ use crate::words::{UsageFault, action_of};
 use std::alloc::Global;
 use std::convert::AsStr;
 use std::io::{Read, Write};
-use tftp_streams::{Latched, LineWriter};
+use net_streams::streams::{Latched, LineWriter};
 
 /// Runs the command that the words name, the first of which is the program's name: reads a capture text, and writes
 /// lines, a file or a normal text. After a write that fails nothing more is written.

@@ -1,7 +1,7 @@
 ghost use Rattle.std.specs.Prelude.{◌≡◌, ◌++◌, ℕ, List, [], true, false, codes, decimal, OnOk};
 ghost use Rattle.tftp_packet.specs.{meaning};
 ghost use Rattle.tftp_capture.specs.{datagram_of};
-ghost use Rattle.tftp_streams.specs.{Adds, IsFresh};
+ghost use Rattle.net_streams.specs.Streams.{Adds, IsFresh};
 ghost use Rattle.tftp_commands.specs.Outputs.{Prints};
 ghost use Rattle.tftp_commands.specs.Running.{Runs};
 ghost use Rattle.tftp_commands.specs.Shown.{message_text, ending_of, last_line, status_of, IsDatagramLine, IsPayloadText, IsShown};
@@ -15,7 +15,7 @@ use std::alloc::Global;
 use std::io::{Read, Write};
 use tftp_capture::{CaptureFault, CaptureReader, Datagram};
 use tftp_packet::{Packet, read_packet};
-use tftp_streams::{Latched, LineWriter, WriteFault};
+use net_streams::streams::{Latched, LineWriter, WriteFault};
 
 /// Shows the datagrams of a capture text, up to its end or its first fault, as they come: a line each, numbered from
 /// 1. Nothing is judged; at most one line of the text, 65,536 bytes read ahead and 16,384 bytes to be written are held.

@@ -1,5 +1,5 @@
 ghost use Rattle.std.specs.Prelude.{◌≡◌, ◌++◌};
-ghost use Rattle.tftp_streams.specs.{Adds};
+ghost use Rattle.net_streams.specs.Streams.{Adds};
 ghost use Rattle.tftp_judge.specs.{Refusal};
 ghost use Rattle.tftp_commands.specs.Checked.{accepted_line, detail, refusal_line, verdict_line, verdict_status};
 
@@ -9,7 +9,7 @@ use crate::status::Status;
 use itoa::Buffer;
 use std::io::Write;
 use tftp_judge::{AbortedBy, Meaning, Refusal, Rule, Verdict};
-use tftp_streams::{LineWriter, WriteFault};
+use net_streams::streams::{LineWriter, WriteFault};
 
 /// The status that goes with a text that is not accepted.
 pub fn status_of(verdict: Verdict) -> Status

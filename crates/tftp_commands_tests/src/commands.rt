@@ -2,7 +2,7 @@
 
 use std::test::Fail;
 use tftp_commands::run;
-use tftp_streams::{Latched, LineWriter};
+use net_streams::streams::{Latched, LineWriter};
 use tftp_trials::drip::{DripReader, DripWriter};
 use tftp_trials::texts::READ;
 

@@ -4,7 +4,7 @@ use std::alloc::AllocError;
 use std::test::Fail;
 use tftp_judge::{Meaning, Verdict, judge_text};
 use tftp_normal::{NormalFault, normal_capture, normal_count, normalise};
-use tftp_streams::{Latched, LineWriter};
+use net_streams::streams::{Latched, LineWriter};
 use tftp_trials::drip::{DripReader, DripWriter};
 use tftp_trials::normals::SCRIPT;
 use tftp_trials::scripts::Script;

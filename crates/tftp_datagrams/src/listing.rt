@@ -3,7 +3,7 @@ use std::io;
 use tftp_fragments::Fragments;
 use tftp_pcap::{Direction, PcapFault};
 use tftp_recording::{Checksum, Datagram, Event, Fate, LeftOut, RecordingReader};
-use tftp_streams::Latched;
+use net_streams::streams::Latched;
 
 /// Lists what a recording has; whether it is one to its end.
 pub fn list(rt: HostRuntime) -> io::Result<bool> {

@@ -1,7 +1,7 @@
 -- What is said of a text by its first fault.
 use Rattle.std.proofs.Common.{◌≡◌, ◌≢◌, ℕ, ◌≤◌, ◌⊎◌, inl, inr, List, [], ◌∷◌, ◌++◌, length, Err, refl, sym, ap, ◌∙◌, subst, arith, append_assoc, append-nil}
 use Rattle.tftp_capture.specs.{Begins, BeginsWith, Numbered, FaultTells, FirstTells, MemoryTells, SaysOneMore, CaptureFault, Truncated}
-use Rattle.tftp_streams.specs.{most_ahead}
+use Rattle.net_streams.specs.Streams.{most_ahead}
 use Rattle.tftp_capture.specs.declared.fault.CaptureFault.TheVariants.{Text, Read, Memory}
 use Rattle.tftp_capture.proofs.Beginnings.{agree, fault_after, unfinished_has}
 use Rattle.tftp_capture.proofs.Staying.{stays}

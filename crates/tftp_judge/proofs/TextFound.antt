@@ -2,7 +2,7 @@
 use Rattle.std.proofs.Common.{◌≡◌, ◌≤◌, ◌⊎◌, ℕ, inl, inr, Bool, true, false, true≢false, List, [], ◌∷◌, ◌++◌, length, Option, Some, None, Result, Err, refl, sym, ap, ◌∙◌, subst, arith, append_assoc, append-nil}
 use Rattle.std.specs.Io.KnownBytes.{Consumes, IsAtEnd, prepend_known}
 use Rattle.tftp_capture.specs.{Numbered, FailsToBegin, FaultTells, IsAtTextEnd, IsReadFault, CaptureFault}
-use Rattle.tftp_streams.specs.{most_ahead}
+use Rattle.net_streams.specs.Streams.{most_ahead}
 use Rattle.tftp_capture.specs.declared.fault.CaptureFault.TheVariants.{Text, Read, Memory}
 use Rattle.tftp_capture.proofs.Headers.{at_end_rest}
 use Rattle.tftp_model.specs.{Meaning}

@@ -1,6 +1,6 @@
 -- What is written of a capture text: the file of what it means, and nothing of any other.
 use Rattle.std.specs.Prelude.{◌≡◌, ◌⊎◌, ℕ, List, Option, Result, Ok, Err}
-use Rattle.tftp_streams.specs.{Sink, Stops, Wrote}
+use Rattle.net_streams.specs.Streams.{Sink, Stops, Wrote}
 use Rattle.tftp_model.specs.{Meaning}
 use Rattle.tftp_judge.specs.TextVerdict.{WantsMemory}
 use Rattle.tftp_judge.specs.declared.extraction.OutFault.{OutFault}

@@ -1,7 +1,7 @@
 -- What there is to say of a capture text, by the runs of two ends.
 use Rattle.std.specs.Prelude.{◌≡◌, List, [], ◌∷◌, ◌++◌, ℕ, ◌<◌, ◌≤◌, ◌⊎◌, All, length, map, reverse, Result, Ok, Err}
 use Rattle.tftp_capture.specs.{Begins, Due, HasFault, IsCapture, Numbered, Stands, Unfinished, IsAtTextEnd, IsReadFault, SaysOneMore, Version, TextFault, CaptureFault}
-use Rattle.tftp_streams.specs.{most_ahead}
+use Rattle.net_streams.specs.Streams.{most_ahead}
 use Rattle.tftp_capture.specs.CaptureText.Due.{Body}
 use Rattle.tftp_capture.specs.declared.fault.CaptureFault.TheVariants.{Text, Read, Memory}
 use Rattle.tftp_hosts.specs.{Datagram, Header}

@@ -10,7 +10,7 @@ use crate::verdict::Verdict;
 use std::alloc::Global;
 use std::convert::From;
 use std::io::{Read, Write};
-use tftp_streams::{Latched, LineWriter, WriteFault};
+use net_streams::streams::{Latched, LineWriter, WriteFault};
 
 /// Why a file was not written, or not whole.
 #[derive(Clone, Copy, Debug, PartialEq, Eq)]

@@ -8,7 +8,7 @@ use tftp_capture::CaptureFault;
 use tftp_capture_tests::reading::Reading;
 use tftp_judge::{AbortedBy, Meaning, Refusal, Rule, Verdict, judge_text};
 use tftp_packet::{Mode, Side};
-use tftp_streams::Latched;
+use net_streams::streams::Latched;
 use tftp_trials::comparing::is_so;
 use tftp_trials::drip::DripReader;
 

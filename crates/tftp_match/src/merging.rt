@@ -1,5 +1,5 @@
 ghost use Rattle.std.specs.Prelude.{◌≡◌, ◌<◌, ◌≤◌, ◌^◌, true, false, None, is_some};
-ghost use Rattle.tftp_streams.specs.{Standing};
+ghost use Rattle.net_streams.specs.Streams.{Standing};
 ghost use Rattle.tftp_model.specs.Roles.{other_end};
 ghost use Rattle.tftp_pair_judge.specs.{HasSame, side_at};
 ghost use Rattle.tftp_match.specs.Merging.{BothRun, Runs, judge_at};
@@ -12,7 +12,7 @@ use tftp_blocks::RingDelivered;
 use tftp_capture::Datagram;
 use tftp_packet::End;
 use tftp_pair_judge::PairJudge;
-use tftp_streams::Latched;
+use net_streams::streams::Latched;
 
 impl Reading {
     /// Reads the text of an end till its last datagram waits for the other end, or no more of it is read.

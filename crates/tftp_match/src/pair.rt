@@ -1,7 +1,7 @@
 ghost use Rattle.std.specs.Prelude.{◌≡◌, ◌⊎◌, ◌↔◌, ℕ, List, false, true, Option, None, Some, Result, IfOk, IfErr};
 ghost use Rattle.std.specs.Io.KnownBytes.{Consumes, IsAtEnd};
 ghost use Rattle.tftp_capture.specs.{IsCapture, Numbered};
-ghost use Rattle.tftp_streams.specs.{Standing};
+ghost use Rattle.net_streams.specs.Streams.{Standing};
 ghost use Rattle.tftp_hosts.specs.{Header as HeaderParts};
 ghost use Rattle.tftp_model.specs.{Meaning as MeaningParts};
 ghost use Rattle.tftp_judge.specs.{EndsText, IsOfText, IsReadVerdict, IsTextVerdict, SaysReadFailed, WantsMemory, Verdict as VerdictKind};
@@ -21,7 +21,7 @@ use tftp_capture::{CaptureReader, Datagram};
 use tftp_judge::{Judge, Meaning, Verdict, judge_text};
 use tftp_packet::End;
 use tftp_pair_judge::PairJudge;
-use tftp_streams::Latched;
+use net_streams::streams::Latched;
 
 /// What there is to say of two capture texts, the first of a client and the second of a server, by the runs of two ends (RFC
 /// 1350; RFC 2347; RFC 7440). Of each it says what there is to say of it alone, and of both how far one run has them

@@ -1,6 +1,6 @@
 ghost use Rattle.std.specs.Prelude.{◌≡◌, ◌<◌, ◌≤◌, ◌^◌, ℕ, List, length, true, false, Option, None, Some};
 ghost use Rattle.tftp_capture.specs.{datagram_of};
-ghost use Rattle.tftp_streams.specs.{Standing};
+ghost use Rattle.net_streams.specs.Streams.{Standing};
 ghost use Rattle.tftp_hosts.specs.{Datagram as DatagramParts, Header as HeaderParts};
 ghost use Rattle.tftp_judge.specs.{IsJudgeAfter, Judge as JudgeParts};
 ghost use Rattle.tftp_match.specs.Reading.{GoesOnAt, IsGiven, IsHalted, said_by};
@@ -9,7 +9,7 @@ ghost use Rattle.tftp_match.specs.declared.reading.Halt.{Halt as HaltKind};
 use std::io::Read;
 use tftp_capture::{CaptureFault, CaptureReader, Datagram};
 use tftp_judge::{Meaning, Refusal, Verdict};
-use tftp_streams::Latched;
+use net_streams::streams::Latched;
 
 /// Why no more of a text is read.
 #[derive(Clone, Copy, Debug, PartialEq, Eq)]

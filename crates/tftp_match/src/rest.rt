@@ -1,5 +1,5 @@
 ghost use Rattle.std.specs.Prelude.{◌≡◌, ◌<◌, ◌≤◌, true, None, Some, is_some};
-ghost use Rattle.tftp_streams.specs.{Standing};
+ghost use Rattle.net_streams.specs.Streams.{Standing};
 ghost use Rattle.tftp_model.specs.Roles.{other_end};
 ghost use Rattle.tftp_pair_judge.specs.{left_at};
 ghost use Rattle.tftp_match.specs.Merging.{AloneRuns, RestRuns, left_judge_at};
@@ -14,7 +14,7 @@ use tftp_capture::Datagram;
 use tftp_judge::Judge;
 use tftp_packet::End;
 use tftp_pair_judge::PairRest;
-use tftp_streams::Latched;
+use net_streams::streams::Latched;
 
 impl Reading {
     /// Reads what is left of the text of an end, where its last datagram waited.

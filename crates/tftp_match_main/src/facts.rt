@@ -7,7 +7,7 @@ use tftp_commands::{Status, say_accepted, say_verdict};
 use tftp_counts::Carried;
 use tftp_judge::{Meaning, Refusal, Verdict};
 use tftp_match::{Apart, Matched, PairSaid, Wait};
-use tftp_streams::LineWriter;
+use net_streams::streams::LineWriter;
 
 /// The first datagram of a capture that is not matched.
 #[derive(Clone, Copy, Debug, PartialEq, Eq)]

@@ -11,7 +11,7 @@ use std::io::Read;
 use tftp_capture::{CaptureReader, Datagram};
 use tftp_packet::End;
 use tftp_session::{Asked, Session, TextAt, TextFault, requests_of, told};
-use tftp_streams::{Latched, LineWriter};
+use net_streams::streams::{Latched, LineWriter};
 
 /// A recording at an end.
 #[derive(Clone, Copy)]

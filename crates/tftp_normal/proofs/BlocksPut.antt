@@ -2,7 +2,7 @@
 use Rattle.std.proofs.Common.{◌≡◌, ℕ, suc, ◌+◌, ◌-◌, ◌*◌, ◌<◌, List, [], ◌∷◌, length, length-append, take, drop, Option, refl, sym, subst, ap, ◌∙◌, arith, suc-mul, zero-mul, drop-drop}
 use Rattle.std.proofs.lemmas.List.{length-map}
 use Rattle.tftp_packet.specs.{Message, canonical, End, Client, Server}
-use Rattle.tftp_streams.specs.{Sink, WritesPart}
+use Rattle.net_streams.specs.Streams.{Sink, WritesPart}
 use Rattle.tftp_hosts.specs.{Datagram}
 use Rattle.tftp_model.specs.{Meaning, blksize_of, block, MachinePacket, Data, Ack, message_of}
 use Rattle.tftp_model.specs.Machines.{sender_of, receiver_of}

@@ -1,7 +1,7 @@
 -- What was written of a text that a judge accepts.
 use Rattle.std.proofs.Common.{◌≡◌, ℕ, List, ◌++◌, Bool, true, false, Option, Result, Ok, Err, OnOk, ◌⊎◌, inl, inr, refl, sym, subst}
 use Rattle.std.specs.Io.KnownBytes.{Appends}
-use Rattle.tftp_streams.specs.{Sink}
+use Rattle.net_streams.specs.Streams.{Sink}
 use Rattle.tftp_model.specs.{Meaning}
 use Rattle.tftp_judge.specs.{IsTextVerdict, WantsMemory, Verdict}
 use Rattle.tftp_normal.specs.declared.fault.NormalFault.TheVariants as fault

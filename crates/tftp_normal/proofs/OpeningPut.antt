@@ -2,8 +2,8 @@
 use Rattle.std.proofs.Common.{◌≡◌, ◌≢◌, ℕ, zero, suc, ◌-◌, List, [], ◌∷◌, Option, refl, sym, subst, ap, ◌∙◌, arith}
 use Rattle.std.specs.FinMap as map
 use Rattle.tftp_packet.specs.{Message, canonical, Side, Get, Put, Client, Server}
-use Rattle.tftp_streams.specs.{Sink, Stops, WritesPart}
-use Rattle.tftp_streams.proofs.Gathering.{stops_short}
+use Rattle.net_streams.specs.Streams.{Sink, Stops, WritesPart}
+use Rattle.net_streams.proofs.StreamsLemmas.Gathering.{stops_short}
 use Rattle.tftp_hosts.specs.{Datagram}
 use Rattle.tftp_model.specs.{Meaning, request_of, Req, Oack, Ack}
 use Rattle.tftp_model.specs.Machines.{receiver_of}

@@ -3,8 +3,8 @@ use Rattle.std.proofs.Common.{◌≡◌, ℕ, ◌+◌, List, [], ◌∷◌, ◌+
 use Rattle.std.proofs.lemmas.List.{map-append}
 use Rattle.std.proofs.lemmas.List.Concat.{flat_map-append}
 use Rattle.tftp_capture.specs.{datagram_line, whole_lines}
-use Rattle.tftp_streams.specs.{Adds, Gathers, Sink, Stops, WritesPart}
-use Rattle.tftp_streams.proofs.Gathering.{gathers_none, gathers_more, gathers_prefix, stops_after, stops_now}
+use Rattle.net_streams.specs.Streams.{Adds, Gathers, Sink, Stops, WritesPart}
+use Rattle.net_streams.proofs.StreamsLemmas.Gathering.{gathers_none, gathers_more, gathers_prefix, stops_after, stops_now}
 use Rattle.tftp_hosts.specs.{Datagram}
 use Rattle.tftp_normal.specs.{lines_of, HasPut, Puts}
 

@@ -4,8 +4,8 @@ use Rattle.std.proofs.lemmas.List.{map-append}
 use Rattle.std.proofs.lemmas.List.Concat.{flat_map-append}
 use Rattle.std.specs.Io.KnownBytes.{Appends}
 use Rattle.tftp_capture.specs.{One, datagram_line, head_line, end_line, service_line, total_line, whole_lines, HasWritten, header_text}
-use Rattle.tftp_streams.specs.{Gathers, Sink, Stops, Writes, WritesPart}
-use Rattle.tftp_streams.proofs.Gathering.{gathers_more, gathers_prefix, prefix_after, stops_now, stops_short}
+use Rattle.net_streams.specs.Streams.{Gathers, Sink, Stops, Writes, WritesPart}
+use Rattle.net_streams.proofs.StreamsLemmas.Gathering.{gathers_more, gathers_prefix, prefix_after, stops_now, stops_short}
 use Rattle.tftp_capture.proofs.Skips.{whole_lines-push}
 use Rattle.tftp_hosts.specs.{Datagram}
 use Rattle.tftp_model.specs.{Meaning, windowsize_of}

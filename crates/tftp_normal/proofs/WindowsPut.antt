@@ -1,7 +1,7 @@
 -- The windows that are put one after another.
 use Rattle.std.proofs.Common.{◌≡◌, ℕ, zero, suc, ◌+◌, ◌-◌, ◌*◌, ◌<◌, ◌≤◌, min, List, [], ◌∷◌, ◌++◌, length, length-append, Option, sym, subst, arith, suc-mul, zero-mul}
 use Rattle.std.proofs.lemmas.List.{map-append}
-use Rattle.tftp_streams.specs.{Sink, WritesPart}
+use Rattle.net_streams.specs.Streams.{Sink, WritesPart}
 use Rattle.tftp_hosts.specs.{Datagram}
 use Rattle.tftp_model.specs.{Meaning, windowsize_of, Ack}
 use Rattle.tftp_law.specs.{blocks_of}

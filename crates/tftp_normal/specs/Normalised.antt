@@ -1,6 +1,6 @@
 -- What is written of a capture text: the normal text of what it means, and nothing of any other.
 use Rattle.std.specs.Prelude.{◌≡◌, ◌⊎◌, ℕ, List, Option, Result, Ok, Err}
-use Rattle.tftp_streams.specs.{Sink, Stops, Wrote}
+use Rattle.net_streams.specs.Streams.{Sink, Stops, Wrote}
 use Rattle.tftp_model.specs.{Meaning}
 use Rattle.tftp_judge.specs.{WantsMemory, Verdict}
 use Rattle.tftp_normal.specs.declared.fault.NormalFault.{NormalFault}

@@ -3,7 +3,7 @@ use Rattle.std.specs.Prelude.{◌≡◌, ℕ, ◌+◌, false, List, length, map 
 use Rattle.tftp_hosts.specs.{no_host, Dir, In, Out, Datagram}
 use Rattle.tftp_packet.specs.{End, Client, Server}
 use Rattle.tftp_capture.specs.{datagram_line, whole_lines}
-use Rattle.tftp_streams.specs.{Gathers, Sink, Stops}
+use Rattle.net_streams.specs.Streams.{Gathers, Sink, Stops}
 use Rattle.tftp_model.specs.{Meaning, MachinePacket}
 use Rattle.tftp_normal.specs.Normal.{normal_datagram}
 

@@ -16,7 +16,7 @@ use std::alloc::Global;
 use std::io::{Read, Write};
 use tftp_judge::{Meaning, MeaningParts, judge_text};
 use tftp_packet::Side;
-use tftp_streams::{Latched, LineWriter};
+use net_streams::streams::{Latched, LineWriter};
 
 /// Writes the normal text of a meaning, and nothing else. It takes all memory that it needs before it writes, so with
 /// `Memory` nothing was written; it never answers `Verdict`.

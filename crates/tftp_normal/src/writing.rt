@@ -3,7 +3,7 @@
 ghost use Rattle.std.specs.Prelude.{◌≡◌, ◌≢◌, ◌+◌, ◌-◌, ◌*◌, ◌^◌, ◌≤◌, [], ◌∷◌, ◌++◌, length, drop, true, false, Ok, OnOk};
 ghost use Rattle.std.specs.FinMap as map;
 ghost use Rattle.tftp_packet.specs.{Message, canonical, End};
-ghost use Rattle.tftp_streams.specs.{Writes};
+ghost use Rattle.net_streams.specs.Streams.{Writes};
 ghost use Rattle.tftp_model.specs.{Meaning, request_of, blksize_of, windowsize_of};
 ghost use Rattle.tftp_model.specs.Machines.{sender_of};
 ghost use Rattle.tftp_law.specs.{wire_of, blocks_of, CanBeWritten};
@@ -19,7 +19,7 @@ use std::io::Write;
 use tftp_capture::{CaptureWriter, Header};
 use tftp_hosts::Dir;
 use tftp_packet::{End, Side};
-use tftp_streams::{LineWriter, WriteFault};
+use net_streams::streams::{LineWriter, WriteFault};
 
 /// The client's own port.
 const CLIENT_PORT: u16 = 50_000;

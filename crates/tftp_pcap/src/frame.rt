@@ -11,7 +11,7 @@ use crate::step::Pieces;
 use std::alloc::Global;
 use std::io::Read;
 use std::marker::Model;
-use tftp_streams::Latched;
+use net_streams::streams::Latched;
 
 /// Which way a frame went, where the recording says so.
 #[derive(Clone, Copy, Debug, PartialEq, Eq)]

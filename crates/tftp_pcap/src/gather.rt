@@ -3,7 +3,7 @@ ghost use Rattle.std.specs.Io.KnownBytes.{prepend_known, Consumes, IsAtEnd};
 
 use crate::fault::FaultKind;
 use std::io::Read;
-use tftp_streams::{Latched, ReadBuffer};
+use net_streams::streams::{Latched, ReadBuffer};
 
 /// Reads on into what was read of a piece until it has so many bytes; false where the recording ends before.
 pub fn gather<R: Read>(

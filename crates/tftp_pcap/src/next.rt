@@ -10,7 +10,7 @@ use crate::found::Found;
 use crate::place::Place;
 use crate::step::Pieces;
 use std::io::Read;
-use tftp_streams::Latched;
+use net_streams::streams::Latched;
 
 /// Where the frame lies that was found, if it is one.
 #[inline]

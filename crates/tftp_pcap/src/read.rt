@@ -11,7 +11,7 @@ use crate::pieces::{said_by, skipped_in};
 use crate::sizes::{begins_as_one, front_of, size_of};
 use crate::skip::skip_rest;
 use std::io::Read;
-use tftp_streams::{Latched, ReadBuffer};
+use net_streams::streams::{Latched, ReadBuffer};
 
 /// What the end of the recording is within the first bytes of a piece: the end after the pieces before it, or a fault.
 fn ended(layout: Layout, piece: &[u8]) -> Result<Option<usize>, FaultKind>

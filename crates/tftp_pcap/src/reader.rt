@@ -3,7 +3,7 @@ ghost use Rattle.std.specs.Io.KnownBytes.{prepend_known, Consumes, IsAtEnd};
 ghost use Rattle.tftp_pcap.specs.Frames.{FrameParts};
 ghost use Rattle.tftp_pcap.specs.Pieces.{lost_of, start};
 ghost use Rattle.tftp_pcap.specs.History.{Continues, FailsToBegin, RunsOut, StandsFor};
-ghost use Rattle.tftp_streams.specs.{KeepsAnswer, standing_after};
+ghost use Rattle.net_streams.specs.Streams.{KeepsAnswer, standing_after};
 
 use crate::fault::{FaultKind, PcapFault};
 use crate::frame::Frame;
@@ -12,7 +12,7 @@ use crate::step::Pieces;
 use std::alloc::Global;
 use std::io::Read;
 use std::marker::Model;
-use tftp_streams::{Latched, Standing};
+use net_streams::streams::{Latched, Standing};
 
 /// A reader of a recording's frames, classic or of blocks: it holds at most 65,536 bytes read ahead and the interfaces of a
 /// section.

@@ -10,7 +10,7 @@ use crate::found::Found;
 use crate::gather::gather;
 use crate::numbers::Order;
 use std::io::Read;
-use tftp_streams::{Latched, ReadBuffer};
+use net_streams::streams::{Latched, ReadBuffer};
 
 /// Reads on over so many bytes, of which none is held; false where the recording ends before.
 fn skip<R: Read>(

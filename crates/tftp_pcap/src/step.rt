@@ -13,7 +13,7 @@ use crate::read::{read_front, read_rest};
 use std::alloc::{AllocError, Global};
 use std::io::Read;
 use std::marker::Model;
-use tftp_streams::{Latched, ReadBuffer};
+use net_streams::streams::{Latched, ReadBuffer};
 
 /// The most records and blocks of a recording.
 const MOST_PIECES: u64 = 1 << 40;

@@ -7,7 +7,7 @@ use Rattle.tftp_copies.specs.{Packet as Recorded, RecentState}
 use Rattle.tftp_copies.specs.Recently as copies
 use Rattle.tftp_fragments.specs.{Sets}
 use Rattle.tftp_pcap.specs.{FrameParts, FrameState, ReaderState, StandingTells, Memory, PcapFault}
-use Rattle.tftp_streams.specs.{KeepsAnswer, Open, Standing}
+use Rattle.net_streams.specs.Streams.{KeepsAnswer, Open, Standing}
 use Rattle.tftp_pcap.specs.History as pcap
 use Rattle.tftp_recording.specs.{IsDiscarded, IsHistory, IsSentOf, Knows, Makers, Sent, Takes, Continues, EventState, RecordingState, RefusedTells, StandsFor, Step, WantsNext, WantsToKnow, frames_of, packets_of, sent_in, waiting, Comes, is_copy, Likeness}
 

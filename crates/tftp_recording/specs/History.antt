@@ -5,7 +5,7 @@ use Rattle.tftp_copies.specs.{Packet as Recorded, RecentState}
 use Rattle.tftp_copies.specs.Recently as copies
 use Rattle.tftp_fragments.specs.{Sets}
 use Rattle.tftp_pcap.specs.{FrameParts, FrameState, ReaderState, Memory, PcapFault}
-use Rattle.tftp_streams.specs.{Failed, Standing}
+use Rattle.net_streams.specs.Streams.{Failed, Standing}
 use Rattle.tftp_pcap.specs.History as pcap
 use Rattle.tftp_recording.specs.Brought.{BroughtState, Takes, Wants}
 use Rattle.tftp_recording.specs.Alike.{Comes, WantsToHold, is_copy}

@@ -1,7 +1,7 @@
 ghost use Rattle.std.specs.Prelude.{◌≡◌, ◌≢◌, ◌+◌, ◌++◌, ℕ, List, [], true, false, None, Ok, Err, IfOk, IfErr, OnOk};
 ghost use Rattle.std.specs.Io.KnownBytes.{prepend_known, Consumes, IsAtEnd};
 ghost use Rattle.tftp_pcap.specs.{FailsToBegin, FaultKind, lost_of};
-ghost use Rattle.tftp_streams.specs.{KeepsAnswer, Standing, standing_after};
+ghost use Rattle.net_streams.specs.Streams.{KeepsAnswer, Standing, standing_after};
 ghost use Rattle.tftp_recording.specs.History.{Continues, StandsFor, Step, standing_of};
 
 use crate::event::Event;
@@ -13,7 +13,7 @@ use std::marker::Model;
 use tftp_copies::Recent;
 use tftp_fragments::Fragments;
 use tftp_pcap::{FaultKind, FrameReader, PcapFault};
-use tftp_streams::Latched;
+use net_streams::streams::Latched;
 
 /// A reader of what became of a recording's frames: it holds what a reader of frames does, the last 16 packets,
 /// the fragments that wait for others of their packets, 64 MB at most, and the hosts that sent datagrams with checksums.

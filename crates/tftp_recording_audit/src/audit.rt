@@ -3,7 +3,7 @@
 ghost use Rattle.std.specs.Prelude.{◌≡◌, ◌≤◌, ◌+◌, ◌++◌, ◌^◌, ◌∷◌, ◌⊎◌, ℕ, List, [], length, max, IfOk, IfSome, IsErr, IsSome, MatchBool, MatchOption, OnErr, Ok, Err, None, Some, false, true, ◌≢◌};
 ghost use Rattle.std.specs.Io.KnownBytes.{Consumes, prepend_known};
 ghost use Rattle.tftp_pcap.specs.{PcapFault};
-ghost use Rattle.tftp_streams.specs.{Standing};
+ghost use Rattle.net_streams.specs.Streams.{Standing};
 ghost use Rattle.tftp_recording.specs.{IsFateOf, StandsFor, Step, standing_of, Fate};
 ghost use Rattle.tftp_recording.specs.declared.fate.Datagram.{Datagram};
 ghost use Rattle.tftp_recording_audit.specs.Audited.{AuditsAfter, GoesOn, IsAttributed, IsNoted, IsOf};
@@ -25,7 +25,7 @@ use tftp_lines::{Endpoint, spells_request};
 use tftp_parties::party_of;
 use tftp_recording::{Datagram, Event, Fate, RecordingReader};
 use tftp_recording_judge::{Judging, RecordingJudge, Watched};
-use tftp_streams::Latched;
+use net_streams::streams::Latched;
 use tftp_transfers::{Attributed, AttributionFault};
 
 /// The judges of a recording's transfers, to be given what became of each of its frames, from the first to the last.

@@ -7,7 +7,7 @@ use std::alloc::{AllocError, Global};
 use std::io::Read;
 use tftp_pcap::{FaultKind, PcapFault};
 use tftp_recording::{Event, RecordingReader};
-use tftp_streams::Latched;
+use net_streams::streams::Latched;
 
 /// A recording that is being read.
 #[derive(Drop)]

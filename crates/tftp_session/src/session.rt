@@ -18,7 +18,7 @@ use tftp_pcap::{FaultKind, PcapFault};
 use tftp_recording::{Checksum, Datagram, Event, Fate, RecordingReader};
 use tftp_recording_audit::{AuditFault, NextFrame, RecordingAudit};
 use tftp_recording_judge::{Judging, Watched};
-use tftp_streams::Latched;
+use net_streams::streams::Latched;
 use tftp_transfers::{Attributed, AttributionFault};
 use tftp_views::Fed;
 

@@ -4,7 +4,7 @@ use Rattle.std.specs.Io.KnownBytes.{Appends}
 use Rattle.std.proofs.lemmas.List.Elements.{All-cons, All-nil}
 use Rattle.tftp_capture.specs.CaptureText.{Datagram, Header}
 use Rattle.tftp_capture.specs.{Entry, said_in, HasWrittenHosts}
-use Rattle.tftp_streams.specs.{Sink, WriteFault, Writes, Wrote}
+use Rattle.net_streams.specs.Streams.{Sink, WriteFault, Writes, Wrote}
 use Rattle.tftp_capture.specs.Commented.Entry.{Comment, Passed}
 use Rattle.tftp_hosts.specs.{Dir}
 use Rattle.tftp_packet.specs.{End}

@@ -3,7 +3,7 @@
 ghost use Rattle.std.specs.Prelude.{◌≡◌, ◌+◌, ◌^◌, ◌<◌, ◌≤◌, ◌∷◌, ◌++◌, ℕ, List, [], All, Option, length, IfSome, OnErr, OnOk, None, Ok, true, false};
 ghost use Rattle.tftp_capture.specs.CaptureText.{Header as HeaderParts};
 ghost use Rattle.tftp_capture.specs.{IsPort, Entry, said_in, HasWrittenHosts};
-ghost use Rattle.tftp_streams.specs.{Sink, Wrote};
+ghost use Rattle.net_streams.specs.Streams.{Sink, Wrote};
 ghost use Rattle.tftp_transfers.specs.{AreEndsAfter, is_about};
 ghost use Rattle.tftp_lines.specs.{Placed};
 ghost use Rattle.tftp_views.specs.{Naming, IsFed, held_of};
@@ -19,7 +19,7 @@ use tftp_capture::{Header, HostCaptureWriter};
 use tftp_hosts::Dir;
 use tftp_lines::{Endpoint, Place, Transfer};
 use tftp_packet::End;
-use tftp_streams::{LineWriter, WriteFault};
+use net_streams::streams::{LineWriter, WriteFault};
 use tftp_transfers::TransferEnds;
 use tftp_views::{Fed, sides, way_at_client, way_at_server};
 

@@ -7,7 +7,7 @@ use std::{fs, io};
 use tftp_packet::End;
 use tftp_recording_judge::Judging;
 use tftp_session::{Kept, Session, TextAt, TextFault, Wanted, read_whole, tell_asked, tell_notes};
-use tftp_streams::LineWriter;
+use net_streams::streams::LineWriter;
 use tftp_words::{TextRequest, TextsRequest};
 
 /// Writes the capture text of a transfer at an end, unless the recording is not whole.

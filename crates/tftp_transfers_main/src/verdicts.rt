@@ -8,7 +8,7 @@ use tftp_lines::Transfer;
 use tftp_packet::End;
 use tftp_recording_judge::Verdicts;
 use tftp_session::Ended;
-use tftp_streams::LineWriter;
+use net_streams::streams::LineWriter;
 use tftp_tap_judge::TapRefusal;
 use tftp_transfers::TransferEnds;
 use tftp_verdict_rows::{

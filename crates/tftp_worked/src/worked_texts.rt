@@ -2,7 +2,7 @@
 //! contract of a function that does nothing.
 
 ghost use Rattle.std.specs.Prelude.{[], ◌∷◌, ◌++◌, false, Ok, Err, codes};
-ghost use Rattle.tftp_digits.specs.{AreNibbles, IsNibble};
+ghost use Rattle.net_streams.specs.Digits.{AreNibbles, IsNibble};
 ghost use Rattle.tftp_capture.specs.{line, worked_text, BadHeader};
 ghost use Rattle.tftp_capture.specs.declared.fault.CaptureFault.TheVariants.{Text};
 ghost use Rattle.tftp_model.specs.{two_bytes};

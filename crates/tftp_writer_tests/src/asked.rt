@@ -5,7 +5,7 @@ ghost use Rattle.std.specs.Prelude.{◌≡◌, IfOk};
 use std::io;
 use std::io::{ErrorKind, Read, Write};
 use std::test::Fail;
-use tftp_streams::{Latched, LineWriter};
+use net_streams::streams::{Latched, LineWriter};
 use tftp_trials::comparing::is_so;
 
 /// Counts how often it was asked, and answers one call with an error.

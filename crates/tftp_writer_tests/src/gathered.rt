@@ -4,7 +4,7 @@ use crate::writes::has_written;
 use crate::writing::{Written, written};
 use std::alloc::AllocError;
 use std::test::Fail;
-use tftp_streams::{LineWriter, WriteFault};
+use net_streams::streams::{LineWriter, WriteFault};
 use tftp_trials::drip::DripWriter;
 use tftp_trials::texts::long;
 

@@ -6,7 +6,7 @@ use tftp_capture::Header;
 use tftp_capture_tests::outcomes::gives;
 use tftp_hosts::Dir;
 use tftp_packet::End;
-use tftp_streams::WriteFault;
+use net_streams::streams::WriteFault;
 use tftp_trials::comparing::{is_same, is_so};
 use tftp_trials::drip::DripWriter;
 use tftp_trials::texts::{READ, long};

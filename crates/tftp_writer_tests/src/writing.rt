@@ -6,7 +6,7 @@ use std::alloc::Global;
 use std::marker::Model;
 use tftp_capture::{CaptureWriter, Header, HostCaptureWriter};
 use tftp_hosts::{Dir, Host};
-use tftp_streams::{LineWriter, WriteFault};
+use net_streams::streams::{LineWriter, WriteFault};
 use tftp_trials::drip::DripWriter;
 
 /// A datagram by its direction, its port at the named end, the port at the other and its payload.

@@ -7,7 +7,7 @@ use std::io::{Read, Write};
 use std::slice::Iter;
 use std::test::Fail;
 use tftp_commands::run;
-use tftp_streams::{Latched, LineWriter};
+use net_streams::streams::{Latched, LineWriter};
 use tftp_trials::drip::DripReader;
 
 /// A piece of a text, and how many datagrams have come with it.

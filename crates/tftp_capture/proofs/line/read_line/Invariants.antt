@@ -1,7 +1,7 @@
 use Rattle.std.proofs.Common.{◌≡◌, ℕ, List, ◌++◌, ◌+◌, ◌-◌, ◌≤◌, length, take}
 use Rattle.std.specs.Io.KnownBytes.{prepend_known, Keeps}
 use Rattle.tftp_capture.specs.{IsPartOfLine}
-use Rattle.tftp_streams.specs.{most_ahead}
+use Rattle.net_streams.specs.Streams.{most_ahead}
 use Rattle.tftp_capture.proofs.line.read_line.Given as goal
 
 abbrev pub invariant-reads : goal.invariant-reads

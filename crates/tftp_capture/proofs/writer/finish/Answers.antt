@@ -1,5 +1,5 @@
 use Rattle.std.proofs.Common.{◌∙◌}
-use Rattle.tftp_streams.proofs.Gathering.{writes_err, writes_flushed}
+use Rattle.net_streams.proofs.StreamsLemmas.Gathering.{writes_err, writes_flushed}
 use Rattle.tftp_capture.proofs.writer.finish.Goals as goal
 
 pub returns-in_err-add_all : goal.returns-in_err-add_all

@@ -1,6 +1,6 @@
 use Rattle.std.proofs.Common.{◌≡◌, ◌∙◌, rules}
 use Rattle.tftp_capture.specs.{end_word, header_of}
-use Rattle.tftp_streams.proofs.Gathering.{adds_same}
+use Rattle.net_streams.proofs.StreamsLemmas.Gathering.{adds_same}
 use Rattle.tftp_capture.proofs.Spelling.{header_pieces}
 use Rattle.tftp_capture.proofs.writer.put_header.Goals as goal
 use Rattle.tftp_capture.proofs.writer.put_header.Goals.{in-Client, in-Server}

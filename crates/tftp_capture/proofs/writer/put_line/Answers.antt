@@ -1,6 +1,6 @@
 use Rattle.std.proofs.Common.{◌≡◌, ◌≢◌, ◌++◌, ◌∷◌, [], List, ℕ, length, length-append, arith, ap, refl}
 use Rattle.std.proofs.lemmas.Bool.Decides.{nat_tests}
-use Rattle.tftp_streams.proofs.Gathering.{adds_err, adds_same, line_added, stops_short}
+use Rattle.net_streams.proofs.StreamsLemmas.Gathering.{adds_err, adds_same, line_added, stops_short}
 use Rattle.tftp_capture.specs.CaptureText.{payload_text}
 use Rattle.tftp_capture.proofs.Spelling.{parts_digits}
 use Rattle.tftp_capture.proofs.writer.put_line.Goals as goal

@@ -1,5 +1,5 @@
 use Rattle.std.proofs.Common.{◌∙◌}
-use Rattle.tftp_streams.proofs.Gathering.{adds_same}
+use Rattle.net_streams.proofs.StreamsLemmas.Gathering.{adds_same}
 use Rattle.tftp_commands.proofs.FaultLines.{read_pieces, text_pieces}
 use Rattle.tftp_commands.proofs.faults.put_fault.Goals as goal
 

@@ -1,6 +1,6 @@
 use Rattle.std.proofs.Common.{◌++◌, codes, decimal, inl, inr, refl, ap, ◌∙◌}
 use Rattle.tftp_packet.specs.{meaning}
-use Rattle.tftp_streams.proofs.Gathering.{adds_err, line_added, stops_short}
+use Rattle.net_streams.proofs.StreamsLemmas.Gathering.{adds_err, line_added, stops_short}
 use Rattle.tftp_capture.specs.{dir_word}
 use Rattle.tftp_commands.specs.{message_text}
 use Rattle.tftp_commands.proofs.Lines.{line_pieces, payload_said}

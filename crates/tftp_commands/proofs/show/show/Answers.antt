@@ -1,5 +1,5 @@
 use Rattle.std.proofs.Common.{refl, sym, ◌∙◌, true≢false, arith}
-use Rattle.tftp_streams.proofs.Gathering.{added, not_added}
+use Rattle.net_streams.proofs.StreamsLemmas.Gathering.{added, not_added}
 use Rattle.tftp_commands.proofs.Showing.{cut_here, one_more, other_side, shown_fault, shown_nothing, shown_runs, shown_whole}
 use Rattle.tftp_commands.proofs.show.show.Goals as goal
 

@@ -1,5 +1,5 @@
 use Rattle.std.proofs.Common.{[]}
-use Rattle.tftp_streams.proofs.Gathering.{adds_err, writes_adds, writes_empty, writes_flushed}
+use Rattle.net_streams.proofs.StreamsLemmas.Gathering.{adds_err, writes_adds, writes_empty, writes_flushed}
 use Rattle.tftp_commands.proofs.show.show_datagram.Goals as goal
 
 pub returns-in_err-put_datagram-clause-adds : goal.returns-in_err-put_datagram-clause-adds

@@ -1,5 +1,5 @@
 use Rattle.std.proofs.Common.{decimal, ap, ◌∙◌}
-use Rattle.tftp_streams.proofs.Gathering.{adds_same}
+use Rattle.net_streams.proofs.StreamsLemmas.Gathering.{adds_same}
 use Rattle.tftp_commands.proofs.Unlawful.{unlawful_pieces}
 use Rattle.tftp_commands.proofs.verdicts.put_unlawful.Goals as goal
 

@@ -1,5 +1,5 @@
 use Rattle.std.proofs.Common.{◌≡◌, ◌<◌, ◌+◌, None}
-use Rattle.tftp_streams.specs.{Standing}
+use Rattle.net_streams.specs.Streams.{Standing}
 use Rattle.tftp_match.specs.{BothRun, lines_left, seen}
 use Rattle.tftp_match.proofs.merging.merge.Given as goal
 

@@ -1,5 +1,5 @@
 use Rattle.std.proofs.Common.{arith}
-use Rattle.tftp_streams.proofs.Gathering.{stops_now, writes_err}
+use Rattle.net_streams.proofs.StreamsLemmas.Gathering.{stops_now, writes_err}
 use Rattle.tftp_normal.specs.{normal_header, normal_datagrams}
 use Rattle.tftp_normal.proofs.TextPut.{count_of_all, begin_fails, opening_fails, windows_fail, written, close_fails, closed}
 use Rattle.tftp_normal.proofs.writing.write_capture.Goals as goal

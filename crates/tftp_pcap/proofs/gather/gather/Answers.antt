@@ -1,6 +1,6 @@
 use Rattle.std.proofs.Common.{◌≡◌, ◌++◌, take, ap, ◌∙◌, append_assoc, arith}
 use Rattle.std.proofs.lemmas.Grind.{common_steps}
-use Rattle.tftp_streams.proofs.Taking.{taken_step}
+use Rattle.net_streams.proofs.StreamsLemmas.Taking.{taken_step}
 use Rattle.tftp_pcap.proofs.gather.gather.Goals as goal
 
 pub reads-preserved : goal.reads-preserved

@@ -1,7 +1,7 @@
 use Rattle.std.proofs.Common.{◌≡◌, ◌≢◌, ◌≤◌, length, take, Result, Ok, Err, OnErr, ap, subst, arith, rules, refl, length-take}
 use Rattle.std.proofs.KnownBytes.{Keeps-refl, Keeps-trans}
 use Rattle.std.proofs.lemmas.List.Elements.{All-nil}
-use Rattle.tftp_digits.proofs.InPieces.{none_decoded}
+use Rattle.net_streams.proofs.DigitsLemmas.InPieces.{none_decoded}
 use native.Mathlib.Numerals.{unary_clauses}
 use Rattle.tftp_capture.specs.{HasNoEnd, HoldsPart}
 use Rattle.tftp_capture.proofs.HeadLines.{decoded_stays, line_held, line_spells, part_held, part_stays}

@@ -1,7 +1,7 @@
 use Rattle.std.proofs.Common.{◌≡◌, ◌+◌, ◌-◌, ◌*◌, length}
 use Rattle.std.specs.Io.KnownBytes.{prepend_known, Keeps}
 use Rattle.tftp_capture.specs.{HoldsPart, IsDecoded}
-use Rattle.tftp_streams.specs.{most_ahead}
+use Rattle.net_streams.specs.Streams.{most_ahead}
 use Rattle.tftp_capture.proofs.heads.Head.read_digits.Given as goal
 
 abbrev pub invariant-reads : goal.invariant-reads

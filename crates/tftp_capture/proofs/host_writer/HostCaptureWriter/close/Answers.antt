@@ -1,4 +1,4 @@
-use Rattle.tftp_streams.proofs.Gathering.{writes_then}
+use Rattle.net_streams.proofs.StreamsLemmas.Gathering.{writes_then}
 use Rattle.tftp_capture.proofs.Spelling.{hosts_written}
 use Rattle.tftp_capture.proofs.host_writer.HostCaptureWriter.close.Goals as goal
 

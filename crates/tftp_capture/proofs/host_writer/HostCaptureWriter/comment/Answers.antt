@@ -1,5 +1,5 @@
 use Rattle.std.proofs.Common.{refl}
-use Rattle.tftp_streams.proofs.Gathering.{adds_then}
+use Rattle.net_streams.proofs.StreamsLemmas.Gathering.{adds_then}
 use Rattle.tftp_capture.proofs.Spelling.{comment_written}
 use Rattle.tftp_capture.proofs.host_writer.HostCaptureWriter.comment.Goals as goal
 

@@ -1,5 +1,5 @@
 use Rattle.std.proofs.Common.{◌+◌, ap, append-nil}
-use Rattle.tftp_streams.proofs.Gathering.{adds_err}
+use Rattle.net_streams.proofs.StreamsLemmas.Gathering.{adds_err}
 use Rattle.tftp_capture.proofs.Spelling.{host_written}
 use Rattle.tftp_capture.proofs.host_writer.HostCaptureWriter.put.Goals as goal
 

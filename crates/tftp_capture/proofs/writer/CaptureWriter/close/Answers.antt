@@ -1,4 +1,4 @@
-use Rattle.tftp_streams.proofs.Gathering.{writes_then}
+use Rattle.net_streams.proofs.StreamsLemmas.Gathering.{writes_then}
 use Rattle.tftp_capture.proofs.Spelling.{text_written}
 use Rattle.tftp_capture.proofs.writer.CaptureWriter.close.Goals as goal
 

@@ -1,5 +1,5 @@
 use Rattle.std.proofs.Common.{◌+◌, ap}
-use Rattle.tftp_streams.proofs.Gathering.{adds_err}
+use Rattle.net_streams.proofs.StreamsLemmas.Gathering.{adds_err}
 use Rattle.tftp_capture.proofs.Spelling.{datagram_written}
 use Rattle.tftp_capture.proofs.writer.CaptureWriter.put_parts.Goals as goal
 

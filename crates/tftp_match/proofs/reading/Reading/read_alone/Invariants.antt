@@ -1,5 +1,5 @@
 use Rattle.std.proofs.Common.{◌≡◌, ◌<◌, ◌-◌, ◌^◌, None}
-use Rattle.tftp_streams.specs.{Standing}
+use Rattle.net_streams.specs.Streams.{Standing}
 use Rattle.tftp_match.specs.{AloneRuns, seen}
 use Rattle.tftp_match.proofs.reading.Reading.read_alone.Given as goal
 

@@ -1,5 +1,5 @@
 use Rattle.std.proofs.Common.{◌≡◌, ◌<◌, ◌≤◌, ◌-◌, ◌^◌, None}
-use Rattle.tftp_streams.specs.{Standing}
+use Rattle.net_streams.specs.Streams.{Standing}
 use Rattle.tftp_model.specs.Roles.{other_end}
 use Rattle.tftp_pair_judge.specs.{HasSame, side_at}
 use Rattle.tftp_match.specs.{Runs, judge_at, seen}

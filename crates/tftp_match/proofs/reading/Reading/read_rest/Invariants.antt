@@ -1,5 +1,5 @@
 use Rattle.std.proofs.Common.{◌≡◌, ◌<◌, ◌-◌, ◌^◌, true, is_some, None}
-use Rattle.tftp_streams.specs.{Standing}
+use Rattle.net_streams.specs.Streams.{Standing}
 use Rattle.tftp_model.specs.Roles.{other_end}
 use Rattle.tftp_pair_judge.specs.{left_at}
 use Rattle.tftp_match.specs.{RestRuns, left_judge_at, seen}

@@ -1,7 +1,7 @@
 use Rattle.std.proofs.Common.{◌≡◌, ◌≤◌, ◌++◌, List, All, take, reverse, filter}
 use Rattle.tftp_capture.specs.CaptureText.{Header}
 use Rattle.tftp_capture.specs.{Entry, said_in, HasWrittenHosts}
-use Rattle.tftp_streams.specs.{Sink}
+use Rattle.net_streams.specs.Streams.{Sink}
 use Rattle.tftp_lines.specs.{Placed}
 use Rattle.tftp_transfers.specs.{is_about}
 use Rattle.tftp_views.specs.{Naming}

@@ -1,0 +1,2 @@
+pub mod StreamsLemmas
+pub mod DigitsLemmas

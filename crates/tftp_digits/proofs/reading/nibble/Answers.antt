@@ -1,5 +1,0 @@
-use Rattle.tftp_digits.proofs.Nibbles.{IsNibble-nibble_of}
-use Rattle.tftp_digits.proofs.reading.nibble.Goals as goal
-
-pub returns : goal.returns
-returns c = rw (c.min.ensures, c.saturating_sub-digit.ensures) (IsNibble-nibble_of c.args.byte c.ranges.byte.fits)

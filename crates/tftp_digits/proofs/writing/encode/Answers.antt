@@ -1,7 +1,0 @@
-use Rattle.std.proofs.Common.{arith}
-use Rattle.std.proofs.lemmas.List.{take_rest}
-use Rattle.tftp_digits.proofs.Lanes.{rest_written}
-use Rattle.tftp_digits.proofs.writing.encode.Goals as goal
-
-pub returns : goal.returns
-returns c = rest_written c.args.bytes.now _ _ c.encode_fours-done.result _ (omega arith) (omega arith) c.encode_fours-done.ensures.written (rw take_rest at c.encode_rest.ensures)

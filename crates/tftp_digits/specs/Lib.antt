@@ -1,2 +1,0 @@
-pub mod Digits
-pub use Digits.{AreNibbles, IsNibble}

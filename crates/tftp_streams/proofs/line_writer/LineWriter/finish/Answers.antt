@@ -1,5 +1,0 @@
-use Rattle.tftp_streams.proofs.Gathering.{ends_written}
-use Rattle.tftp_streams.proofs.line_writer.LineWriter.finish.Goals as goal
-
-pub returns : goal.returns
-returns g c = record { ends = rw (← c.self.view_is, ← c.into_inner.ensures) at (ends_written g.W.Write.contents c.args.self c.flush-answer.new.self c.flush-answer.result c.flush-answer.ensures.writes) }
