@@ -1,7 +1,7 @@
 use std::alloc::Global;
 use std::io;
 use tftp_fragments::Fragments;
-use tftp_pcap::{Direction, PcapFault};
+use net_pcap::{Direction, PcapFault};
 use tftp_recording::{Checksum, Datagram, Event, Fate, LeftOut, RecordingReader};
 use net_streams::streams::Latched;
 

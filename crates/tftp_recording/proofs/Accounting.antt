@@ -6,7 +6,7 @@ use Rattle.tftp_fragments.specs.Whole.{Part}
 use Rattle.tftp_fragments.specs.declared.key.Key.{Key}
 use Rattle.tftp_fragments.specs.declared.outcome.Outcome.TheVariants.{Whole}
 use Rattle.tftp_fragments.proofs.Holding.{not_both}
-use Rattle.tftp_pcap.specs.{FrameParts}
+use Rattle.net_pcap.specs.{FrameParts}
 use Rattle.tftp_recording.specs.{IsIn, IsSettled, IsTold, IsWaiting, NoneTwice, ToldOneWay, WaitsAt, BroughtState, LetsGoOld, MakesRoom, Takes, TakesPart, nothing_brought, sharers, IsHistory, Step, waiting, is_copy}
 use Rattle.tftp_recording.proofs.Keys.{same_on, same_set_at}
 

@@ -6,9 +6,9 @@ use Rattle.std.specs.Io.KnownBytes.{prepend_known}
 use Rattle.tftp_copies.specs.{Packet as Recorded, RecentState}
 use Rattle.tftp_copies.specs.Recently as copies
 use Rattle.tftp_fragments.specs.{Sets}
-use Rattle.tftp_pcap.specs.{FrameParts, FrameState, ReaderState, StandingTells, Memory, PcapFault}
+use Rattle.net_pcap.specs.{FrameParts, FrameState, ReaderState, StandingTells, Memory, PcapFault}
 use Rattle.net_streams.specs.Streams.{KeepsAnswer, Open, Standing}
-use Rattle.tftp_pcap.specs.History as pcap
+use Rattle.net_pcap.specs.History as pcap
 use Rattle.tftp_recording.specs.{IsDiscarded, IsHistory, IsSentOf, Knows, Makers, Sent, Takes, Continues, EventState, RecordingState, RefusedTells, StandsFor, Step, WantsNext, WantsToKnow, frames_of, packets_of, sent_in, waiting, Comes, is_copy, Likeness}
 
 -- the frame comes, and the packets that are held are the last ones with its own

@@ -18,7 +18,7 @@ use Rattle.tftp_frames.specs.declared.fault.FrameFault.TheVariants.{Protocol}
 use Rattle.tftp_frames.specs.declared.fault.UdpFault.TheVariants.{Protocol as NotUdp}
 use Rattle.tftp_frames.proofs.Datagrams.{has_one}
 use Rattle.tftp_frames.proofs.FaultOrder.{packet_one}
-use Rattle.tftp_pcap.specs.{FrameParts}
+use Rattle.net_pcap.specs.{FrameParts}
 use Rattle.tftp_frames.proofs.Uppers.{spells_ip}
 use Rattle.tftp_recording.specs.{LetsGoOld, TakesPart, arrival_of, content_of, IsDatagram, IsDiscarded, IsFateOf, IsHistory, IsSentBy, checksum_told, cooked_step, ethernet_step, first_bytes, first_of, first_part, first_set, first_step, icmp_content, icmp_frame, last_bytes, last_named, last_of_icmp, last_part, last_step, left_bytes, left_packet, part_of_icmp, raw_frame, raw_step, recorded_at, recorded_first, recorded_raw, sent_with, spoilt_acknowledgement, spoilt_bytes, spoilt_packet, worked_content, worked_key, worked_time, Discarded, Left, Frame, New, Sent}
 use Rattle.tftp_recording.specs.declared.fate.Datagram.{Datagram as Given}

@@ -4,7 +4,7 @@ use Rattle.std.proofs.lemmas.Bool.{false≢true}
 use Rattle.tftp_copies.specs.{Interface, Packet as Recorded, IsCopy, RecentState, StandsFor}
 use Rattle.tftp_frames.specs.{Packet, is_identified, SpellsFrame, Fragment}
 use Rattle.tftp_fragments.specs.{Sets}
-use Rattle.tftp_pcap.specs.{FrameParts}
+use Rattle.net_pcap.specs.{FrameParts}
 use Rattle.tftp_recording.specs.{DoesNothing, IsNoPart, Wants, WantsPart, key_of, key_protocol, Comes, IsLike, interface_of, likeness_by, recorded, Likeness}
 
 -- a packet that was recorded where and when a frame was

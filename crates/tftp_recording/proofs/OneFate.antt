@@ -10,7 +10,7 @@ use Rattle.tftp_frames.specs.declared.fault.UdpFault.TheVariants.{Protocol as No
 use Rattle.tftp_frames.proofs.Datagrams.{fault_one, udp_one}
 use Rattle.tftp_frames.proofs.Datagrams as datagrams
 use Rattle.tftp_frames.proofs.FaultOrder.{first_one, no_fault, packet_one}
-use Rattle.tftp_pcap.specs.{FrameParts}
+use Rattle.net_pcap.specs.{FrameParts}
 use Rattle.tftp_recording.specs.{HasFault, IsDatagram, IsFate, IsFateBy, IsFateOf, IsSent, IsSentBy, IsSentOf, Says, content_of, sharers, Comes, IsLike, recorded, IsSameDatagram, IsSameFate, Fate, Discarded, Left, Waits, LeftOut, Sent, Frame, Udp as NoUdp, Apart, Empty, TooLong, Full, Likeness}
 use Rattle.tftp_recording.specs.declared.fate.Datagram.{Datagram as Given}
 use Rattle.tftp_recording.specs.declared.fate.Fate.TheVariants.{Datagram}

@@ -6,9 +6,9 @@ use Rattle.tftp_fragments.specs.{Sets, Outcome}
 use Rattle.tftp_fragments.specs.declared.key.Key.{Key}
 use Rattle.tftp_frames.specs.{Packet, Fragment}
 use Rattle.tftp_frames.proofs.FaultOrder.{packet_one}
-use Rattle.tftp_pcap.specs.{FrameParts, IsWrong, FaultKind}
-use Rattle.tftp_pcap.proofs.OneFault.{fault_one}
-use Rattle.tftp_pcap.proofs.OneReading.{fault_or_recording, recording_one}
+use Rattle.net_pcap.specs.{FrameParts, IsWrong, FaultKind}
+use Rattle.net_pcap.proofs.OneFault.{fault_one}
+use Rattle.net_pcap.proofs.OneReading.{fault_or_recording, recording_one}
 use Rattle.tftp_recording.specs.{BroughtState, DoesNothing, IsPart, Takes, TakesPart, arrival_of, key_of, IsDiscarded, IsFateOf, IsHistory, IsSentOf, Sent, Step, frames_of, packets_of, sent_in, waiting, Comes, is_copy, AreToldAlike, IsRead, IsReadTo, frames_at, Likeness}
 use Rattle.tftp_recording.proofs.KeptOnce.{Alike, IsSame, part_alike}
 use Rattle.tftp_recording.proofs.OneFate.{IsSameIf, comes_one, fate_of_one, sent_one, sharers_one}

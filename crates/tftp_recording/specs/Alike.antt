@@ -3,7 +3,7 @@ use Rattle.std.specs.Prelude.{◌≡◌, ◌⊎◌, ◌<◌, Bool, true, false, 
 use Rattle.std.specs.List.{slice_get}
 use Rattle.tftp_copies.specs.{Interface, Packet as Recorded, IsCopy}
 use Rattle.tftp_frames.specs.{SpellsFrame, Packet, index_of, is_identified}
-use Rattle.tftp_pcap.specs.{FrameParts}
+use Rattle.net_pcap.specs.{FrameParts}
 use Rattle.tftp_recording.specs.declared.likeness.Likeness.{Likeness}
 use Rattle.tftp_recording.specs.declared.likeness.Likeness.TheVariants.{New, Doubtful, Copy}
 

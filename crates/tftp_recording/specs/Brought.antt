@@ -6,7 +6,7 @@ use Rattle.tftp_frames.specs.{SpellsFrame, Packet, Fragment}
 use Rattle.tftp_fragments.specs.{same_key, Arrival, SetState, Sets, CountsAt, HasRoom, IsFull, IsTried, MayBePut, PutEnds, WantsMemory, is_long, room_of_all, set_at, Outcome, Full}
 use Rattle.tftp_fragments.specs.Whole.{Part}
 use Rattle.tftp_fragments.specs.declared.key.Key.{Key}
-use Rattle.tftp_pcap.specs.{FrameParts}
+use Rattle.net_pcap.specs.{FrameParts}
 
 -- the frames that had waited too long, the fragments that had to make room, and what became of the frame as a fragment
 pub record BroughtState : Type 0 where

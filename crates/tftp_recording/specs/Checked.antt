@@ -5,7 +5,7 @@ use Rattle.tftp_fragments.specs.Whole.{Content}
 use Rattle.tftp_fragments.specs.declared.outcome.Outcome.TheVariants as outcome
 use Rattle.tftp_frames.specs.{SpellsFrame, Packet, HasUdp, IsSized, SpellsUdp, Udp, pair, checksum_of, Absent}
 use Rattle.tftp_frames.specs.declared.checksum.Checksum.{Checksum}
-use Rattle.tftp_pcap.specs.{FrameParts}
+use Rattle.net_pcap.specs.{FrameParts}
 use Rattle.tftp_recording.specs.Fates.{content_of}
 use Rattle.tftp_recording.specs.declared.likeness.Likeness.{Likeness}
 use Rattle.tftp_recording.specs.declared.likeness.Likeness.TheVariants as likeness

@@ -7,7 +7,7 @@ use Rattle.tftp_frames.specs.{FirstFault, SpellsFrame, Packet, Udp, HoldsUdp, Is
 use Rattle.tftp_frames.specs.declared.fault.FrameFault.TheVariants.{Protocol}
 use Rattle.tftp_frames.specs.declared.fault.UdpFault.TheVariants.{Protocol as NotUdp}
 use Rattle.tftp_frames.specs.declared.packet.Direction.TheVariants as link
-use Rattle.tftp_pcap.specs.{FrameParts, Direction, In, Out}
+use Rattle.net_pcap.specs.{FrameParts, Direction, In, Out}
 use Rattle.tftp_recording.specs.declared.fate.Datagram.{Datagram as Given}
 use Rattle.tftp_recording.specs.declared.fate.Fate.{Fate}
 use Rattle.tftp_recording.specs.declared.fate.Fate.TheVariants.{Datagram, Discarded, Left, Waits}

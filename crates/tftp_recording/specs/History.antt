@@ -4,9 +4,9 @@ use Rattle.std.specs.Io.KnownBytes.{Consumes}
 use Rattle.tftp_copies.specs.{Packet as Recorded, RecentState}
 use Rattle.tftp_copies.specs.Recently as copies
 use Rattle.tftp_fragments.specs.{Sets}
-use Rattle.tftp_pcap.specs.{FrameParts, FrameState, ReaderState, Memory, PcapFault}
+use Rattle.net_pcap.specs.{FrameParts, FrameState, ReaderState, Memory, PcapFault}
 use Rattle.net_streams.specs.Streams.{Failed, Standing}
-use Rattle.tftp_pcap.specs.History as pcap
+use Rattle.net_pcap.specs.History as pcap
 use Rattle.tftp_recording.specs.Brought.{BroughtState, Takes, Wants}
 use Rattle.tftp_recording.specs.Alike.{Comes, WantsToHold, is_copy}
 use Rattle.tftp_recording.specs.Checked.{IsSentOf}

@@ -2,7 +2,7 @@
 use Rattle.std.specs.Prelude.{◌≡◌, ◌↔◌, ℕ, List, [], ◌∷◌}
 use Rattle.tftp_fragments.specs.{Sets, frames_of as waiting_of, set_at}
 use Rattle.tftp_fragments.specs.declared.key.Key.{Key}
-use Rattle.tftp_pcap.specs.{IsRecording, FailsAs, FaultKind}
+use Rattle.net_pcap.specs.{IsRecording, FailsAs, FaultKind}
 use Rattle.tftp_recording.specs.Fates.{IsFateOf, sharers}
 use Rattle.tftp_recording.specs.History.{IsHistory, Step, frames_of}
 use Rattle.tftp_recording.specs.declared.fate.Datagram.{Datagram as Given}

@@ -7,7 +7,7 @@ use Rattle.tftp_fragments.specs.{Outcome}
 use Rattle.tftp_fragments.specs.Key.{address_cmp}
 use Rattle.tftp_frames.specs.{Absent, Partial, Right, Wrong}
 use Rattle.tftp_frames.specs.declared.checksum.Checksum.{Checksum}
-use Rattle.tftp_pcap.specs.{FrameParts}
+use Rattle.net_pcap.specs.{FrameParts}
 use Rattle.tftp_recording.specs.Checked.{IsSentOf}
 use Rattle.tftp_recording.specs.Discards.{HasSent}
 use Rattle.tftp_recording.specs.declared.likeness.Likeness.{Likeness}

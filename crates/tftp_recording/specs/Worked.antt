@@ -9,8 +9,8 @@ use Rattle.tftp_fragments.specs.declared.key.Key.{Key}
 use Rattle.tftp_fragments.specs.declared.outcome.Outcome.TheVariants.{Whole}
 use Rattle.tftp_frames.specs.{Packet, Udp, acknowledgement, cooked_head, host, ipv4_bytes, ipv4_packet, ipv6_part, two_tags, udp_bytes, udp_left, Right, Unknown, Fragment}
 use Rattle.tftp_frames.specs.declared.checksum.Checksum.{Checksum}
-use Rattle.tftp_pcap.specs.{FrameParts}
-use Rattle.tftp_pcap.specs.declared.frame.Direction.TheVariants as recorded
+use Rattle.net_pcap.specs.{FrameParts}
+use Rattle.net_pcap.specs.declared.frame.Direction.TheVariants as recorded
 use Rattle.tftp_recording.specs.Brought.{nothing_brought}
 use Rattle.tftp_recording.specs.History.{Step}
 use Rattle.tftp_recording.specs.declared.likeness.Likeness.{Likeness}

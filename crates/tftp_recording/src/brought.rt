@@ -13,7 +13,7 @@ use std::net::IpAddr;
 use tftp_copies::Recent;
 use tftp_fragments::{Fragments, Key, Outcome, Part};
 use tftp_frames::read_frame;
-use tftp_pcap::Frame;
+use net_pcap::Frame;
 
 /// What a frame did among the fragments that wait.
 #[derive(Drop)]

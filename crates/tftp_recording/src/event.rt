@@ -3,7 +3,7 @@ ghost use Rattle.std.specs.declared.net.ip_addr.IpAddr.{IpAddr as Host};
 ghost use Rattle.tftp_fragments.specs.{content_of as put_together};
 ghost use Rattle.tftp_frames.specs.{IsBetween, shown};
 ghost use Rattle.tftp_fragments.specs.{Outcome as Became};
-ghost use Rattle.tftp_pcap.specs.{FrameParts, no_frame};
+ghost use Rattle.net_pcap.specs.{FrameParts, no_frame};
 ghost use Rattle.tftp_recording.specs.Brought.{nothing_brought};
 ghost use Rattle.tftp_recording.specs.Fates.{content_of, direction_of, IsFate, IsFateBy, IsFateOf, IsSoundFate, Says, sharers};
 ghost use Rattle.tftp_recording.specs.Alike.{is_doubtful};
@@ -23,7 +23,7 @@ use tftp_frames::{
     Checksum, Direction as LinkDirection, FrameFault, IpPacket, UdpFault, read_frame, read_hosts,
     read_udp,
 };
-use tftp_pcap::{Direction, Frame};
+use net_pcap::{Direction, Frame};
 
 /// A frame of a recording, what became of it, and of which frames it decided; to be filled by a reader, in its memory.
 #[derive(Drop)]

@@ -1,6 +1,6 @@
 use std::net::IpAddr;
 use tftp_frames::{FrameFault, UdpFault};
-use tftp_pcap::Direction;
+use net_pcap::Direction;
 
 /// A UDP datagram of a recording.
 #[derive(Clone, Copy, Debug)]

@@ -4,7 +4,7 @@ ghost use Rattle.tftp_fragments.specs.{content_of, same_key};
 ghost use Rattle.tftp_fragments.specs.declared.content.Content.{Content};
 ghost use Rattle.tftp_frames.specs.{acknowledgement, ipv4_bytes};
 ghost use Rattle.tftp_frames.specs.declared.checksum.Checksum.{Checksum};
-ghost use Rattle.tftp_pcap.specs.{IsWrong, FaultKind};
+ghost use Rattle.net_pcap.specs.{IsWrong, FaultKind};
 ghost use Rattle.tftp_recording.specs.Accounts.{IsSettled, IsWaiting, NoneTwice, ToldOneWay};
 ghost use Rattle.tftp_recording.specs.Brought.{key_of};
 ghost use Rattle.tftp_recording.specs.Contents.{IsPutTogether};

@@ -6,7 +6,7 @@ ghost use Rattle.tftp_recording.specs.Alike.{IsLike, interface_of, is_copy, is_d
 use std::alloc::{AllocError, Global};
 use tftp_copies::{Interface, Recent};
 use tftp_frames::{IpPacket, interface_index};
-use tftp_pcap::Frame;
+use net_pcap::Frame;
 
 /// Whether a frame's packet is one with a packet that came before.
 #[derive(Clone, Copy, Debug, PartialEq, Eq)]

@@ -1,6 +1,6 @@
 ghost use Rattle.std.specs.Prelude.{◌≡◌, ◌≢◌, ◌+◌, ◌++◌, ℕ, List, [], true, false, None, Ok, Err, IfOk, IfErr, OnOk};
 ghost use Rattle.std.specs.Io.KnownBytes.{prepend_known, Consumes, IsAtEnd};
-ghost use Rattle.tftp_pcap.specs.{FailsToBegin, FaultKind, lost_of};
+ghost use Rattle.net_pcap.specs.{FailsToBegin, FaultKind, lost_of};
 ghost use Rattle.net_streams.specs.Streams.{KeepsAnswer, Standing, standing_after};
 ghost use Rattle.tftp_recording.specs.History.{Continues, StandsFor, Step, standing_of};
 
@@ -12,7 +12,7 @@ use std::io::Read;
 use std::marker::Model;
 use tftp_copies::Recent;
 use tftp_fragments::Fragments;
-use tftp_pcap::{FaultKind, FrameReader, PcapFault};
+use net_pcap::{FaultKind, FrameReader, PcapFault};
 use net_streams::streams::Latched;
 
 /// A reader of what became of a recording's frames: it holds what a reader of frames does, the last 16 packets,

@@ -7,7 +7,7 @@ use crate::likeness::Likeness;
 use std::net::IpAddr;
 use tftp_fragments::{Content, Outcome};
 use tftp_frames::{Checksum, read_frame, read_udp};
-use tftp_pcap::Frame;
+use net_pcap::Frame;
 
 /// The host that sent a datagram, and what its checksums say.
 #[derive(Clone, Copy, Debug, PartialEq, Eq)]

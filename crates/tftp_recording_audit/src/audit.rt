@@ -2,7 +2,7 @@
 
 ghost use Rattle.std.specs.Prelude.{◌≡◌, ◌≤◌, ◌+◌, ◌++◌, ◌^◌, ◌∷◌, ◌⊎◌, ℕ, List, [], length, max, IfOk, IfSome, IsErr, IsSome, MatchBool, MatchOption, OnErr, Ok, Err, None, Some, false, true, ◌≢◌};
 ghost use Rattle.std.specs.Io.KnownBytes.{Consumes, prepend_known};
-ghost use Rattle.tftp_pcap.specs.{PcapFault};
+ghost use Rattle.net_pcap.specs.{PcapFault};
 ghost use Rattle.net_streams.specs.Streams.{Standing};
 ghost use Rattle.tftp_recording.specs.{IsFateOf, StandsFor, Step, standing_of, Fate};
 ghost use Rattle.tftp_recording.specs.declared.fate.Datagram.{Datagram};

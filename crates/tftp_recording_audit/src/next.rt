@@ -1,6 +1,6 @@
 //! What comes next in a recording.
 
-use tftp_pcap::PcapFault;
+use net_pcap::PcapFault;
 use tftp_transfers::{Attributed, AttributionFault};
 
 /// What was read of a recording.

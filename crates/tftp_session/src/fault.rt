@@ -1,7 +1,7 @@
 //! Why a recording is not read, or a text not written.
 
 use std::alloc::AllocError;
-use tftp_pcap::FaultKind;
+use net_pcap::FaultKind;
 use thiserror::Error;
 
 /// Why a recording is not read.

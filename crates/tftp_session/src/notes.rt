@@ -8,7 +8,7 @@ use std::alloc::{AllocError, Global};
 use tftp_blame::{Missing, Passing, Reason, Trail};
 use tftp_fragments::Fragments;
 use tftp_frames::{FrameFault, UdpFault};
-use tftp_pcap::PcapFault;
+use net_pcap::PcapFault;
 use tftp_recording::{Event, LeftOut};
 
 /// How many frames or ports are named.

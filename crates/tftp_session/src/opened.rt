@@ -5,7 +5,7 @@ use crate::headed::{Headed, hint};
 use crate::session::Session;
 use std::alloc::{AllocError, Global};
 use std::io::Read;
-use tftp_pcap::{FaultKind, PcapFault};
+use net_pcap::{FaultKind, PcapFault};
 use tftp_recording::{Event, RecordingReader};
 use net_streams::streams::Latched;
 

@@ -14,7 +14,7 @@ use tftp_blame::{Missing, Passing, Spoilt, Trail, about};
 use tftp_blocks::RingDelivered;
 use tftp_lines::{Endpoint, Place, Transfer};
 use tftp_parties::party_of;
-use tftp_pcap::{FaultKind, PcapFault};
+use net_pcap::{FaultKind, PcapFault};
 use tftp_recording::{Checksum, Datagram, Event, Fate, RecordingReader};
 use tftp_recording_audit::{AuditFault, NextFrame, RecordingAudit};
 use tftp_recording_judge::{Judging, Watched};

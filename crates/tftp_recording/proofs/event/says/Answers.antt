@@ -1,6 +1,6 @@
 use Rattle.std.proofs.Common.{inr, Err, refl, sym, ap, ◌∙◌}
 use Rattle.tftp_frames.specs.{shown, datagram}
-use Rattle.tftp_pcap.specs.{Direction}
+use Rattle.net_pcap.specs.{Direction}
 use Rattle.tftp_recording.specs.{direction_of}
 use Rattle.tftp_frames.specs.declared.fault.UdpFault.TheVariants.{Protocol as NotUdp}
 use Rattle.tftp_recording.proofs.Bringing.{holds_udp_here, spells_here, spells_udp_here}

@@ -1,6 +1,6 @@
 use Rattle.std.proofs.Common.{◌≡◌, inl, inr, sym, ap, subst}
 use Rattle.tftp_fragments.proofs.Rooms.{on_err}
-use Rattle.tftp_pcap.specs.{FrameState}
+use Rattle.net_pcap.specs.{FrameState}
 use Rattle.tftp_recording.specs.{Comes, EventState, IsSentOf, Likeness, WantsNext}
 use Rattle.tftp_recording.proofs.taken.take_event.Goals as goal
 

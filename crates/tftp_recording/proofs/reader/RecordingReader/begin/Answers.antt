@@ -1,4 +1,4 @@
-use Rattle.tftp_pcap.proofs.Standings.{refused_at_once}
+use Rattle.net_pcap.proofs.Standings.{refused_at_once}
 use Rattle.tftp_recording.proofs.reader.RecordingReader.begin.Goals as goal
 
 pub returns-in_default-clause-err : goal.returns-in_default-clause-err

@@ -1,6 +1,6 @@
 use Rattle.std.proofs.Common.{ℕ, Bool, true, false, Result, Ok, Err, refl, sym, ap, ◌∙◌, subst}
 use Rattle.std.specs.Io.KnownBytes.{prepend_known}
-use Rattle.tftp_pcap.specs.{FrameState, Memory, PcapFault}
+use Rattle.net_pcap.specs.{FrameState, Memory, PcapFault}
 use Rattle.tftp_recording.specs.{Continues, EventState, RecordingState}
 use Rattle.tftp_recording.proofs.Continuing.{answers_again, continued, passed_on, refused_for}
 use Rattle.tftp_recording.proofs.reader.RecordingReader.next_into.Goals as goal

@@ -1,5 +1,0 @@
-use Rattle.tftp_pcap.proofs.OneFault.{fault_one}
-use Rattle.tftp_pcap.proofs.laws.fault_is_one.Goals as goal
-
-pub returns : goal.returns
-returns c = fault_one

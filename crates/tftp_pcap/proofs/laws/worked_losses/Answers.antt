@@ -1,5 +1,0 @@
-use Rattle.tftp_pcap.proofs.WorkedRecordings.{statistics_is}
-use Rattle.tftp_pcap.proofs.laws.worked_losses.Goals as goal
-
-pub returns-clause-block : goal.returns-clause-block
-returns-clause-block c = statistics_is

@@ -1,8 +1,0 @@
-use Rattle.tftp_pcap.proofs.WorkedRecordings.{classic_is, blocks_are}
-use Rattle.tftp_pcap.proofs.laws.worked_recordings.Goals as goal
-
-pub returns-clause-classic : goal.returns-clause-classic
-returns-clause-classic c = classic_is
-
-pub returns-clause-blocks : goal.returns-clause-blocks
-returns-clause-blocks c = blocks_are
