@@ -5,7 +5,7 @@
 use anyhow::Result;
 use std::io::Read;
 use std::process::ExitCode;
-use tftp_recording::{Event, Fate, RecordingReader};
+use net_udp::recording::{Event, Fate, RecordingReader};
 use net_streams::streams::Latched;
 
 /// Ends with status 2, and tells why on standard error, where the recording was not read to its end.

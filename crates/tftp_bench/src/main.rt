@@ -15,7 +15,7 @@ use tftp_capture::{CaptureReader, CaptureWriter, Datagram, Header};
 use tftp_hosts::Dir;
 use tftp_netascii::{Decoder, encode};
 use tftp_packet::End;
-use tftp_recording::{Event, Fate, RecordingReader};
+use net_udp::recording::{Event, Fate, RecordingReader};
 use net_streams::streams::{Latched, LineWriter};
 
 /// The most bytes that are read at once.

@@ -1,8 +1,8 @@
 use std::alloc::Global;
 use std::io;
-use tftp_fragments::Fragments;
+use net_udp::fragments::Fragments;
 use net_pcap::{Direction, PcapFault};
-use tftp_recording::{Checksum, Datagram, Event, Fate, LeftOut, RecordingReader};
+use net_udp::recording::{Checksum, Datagram, Event, Fate, LeftOut, RecordingReader};
 use net_streams::streams::Latched;
 
 /// Lists what a recording has; whether it is one to its end.

@@ -6,7 +6,7 @@ ghost use Rattle.tftp_hosts.specs.{IsSign};
 ghost use Rattle.tftp_parties.specs.Naming.{IsAddress, address_of, host_name};
 
 use std::net::IpAddr;
-use tftp_frames::write_address;
+use net_udp::frames::write_address;
 use tftp_hosts::Host;
 use tftp_lines::{Address, Endpoint};
 use tftp_views::Party;

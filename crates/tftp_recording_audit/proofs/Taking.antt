@@ -1,9 +1,9 @@
 -- What a frame adds to what has passed.
 use Rattle.std.proofs.Common.{◌≡◌, ◌≢◌, ℕ, Bool, List, ◌∷◌, Result, Ok, Err, Option, Some, None, refl, sym, subst, IfSome}
 use Rattle.std.specs.Option.{unwrap_or}
-use Rattle.tftp_fragments.specs.{Outcome}
+use Rattle.net_udp.specs.Fragments.{Outcome}
 use Rattle.net_pcap.specs.{FrameParts, PcapFault}
-use Rattle.tftp_recording.specs.{IsFateOf, EventState, Step, Fate, Likeness}
+use Rattle.net_udp.specs.Recording.{IsFateOf, EventState, Step, Fate, Likeness}
 use Rattle.tftp_recording_audit.specs.{GoesOn, IsNoted, IsOf, AuditFault, Recording, Judges, NextFrame, End, Nothing, Datagram, last_time, time_by}
 use Rattle.tftp_lines.specs.{Recorded}
 

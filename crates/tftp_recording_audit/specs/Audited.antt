@@ -3,7 +3,7 @@ use Rattle.std.specs.Prelude.{◌≡◌, ◌∷◌, ℕ, Bool, List, max, Result
 use Rattle.std.specs.BTreeMap.{BTreeMap}
 use Rattle.std.specs.List.{AllByRecursion}
 use Rattle.tftp_parties.specs.{host_name}
-use Rattle.tftp_recording.specs.{EventState, Step}
+use Rattle.net_udp.specs.Recording.{EventState, Step}
 use Rattle.tftp_recording_judge.specs.{StandsAfter, Watched, Judging}
 use Rattle.tftp_recording_audit.specs.Passed.{HasPassed, last_time}
 use Rattle.tftp_recording_audit.specs.Sound.{IsSoundDatagram}

@@ -3,9 +3,9 @@ use Rattle.std.specs.Prelude.{◌≡◌, ◌↔◌, ℕ, List, [], ◌∷◌, tr
 use Rattle.std.specs.declared.net.ip_addr.IpAddr.{IpAddr}
 use Rattle.tftp_packet.specs.{Request, RequestParts, Spells}
 use Rattle.tftp_parties.specs.{address_of}
-use Rattle.tftp_recording.specs.{IsFateOf, Step, Fate, Discarded, Left, Waits}
-use Rattle.tftp_recording.specs.declared.fate.Datagram.{Datagram as Given}
-use Rattle.tftp_recording.specs.declared.fate.Fate.TheVariants.{Datagram}
+use Rattle.net_udp.specs.Recording.{IsFateOf, Step, Fate, Discarded, Left, Waits}
+use Rattle.net_udp.specs.declared.recording.fate.Datagram.{Datagram as Given}
+use Rattle.net_udp.specs.declared.recording.fate.Fate.TheVariants.{Datagram}
 use Rattle.tftp_lines.specs.{Recorded, Endpoint}
 
 abbrev pub end_of : IpAddr → ℕ → Endpoint

@@ -2,7 +2,7 @@
 
 use std::alloc::AllocError;
 use std::test::Fail;
-use tftp_copies::{Interface, Recent};
+use net_udp::copies::{Interface, Recent};
 
 /// A packet that is taken: its interface, its time, its bytes, and whether it is a copy.
 type Taken = (Interface, Option<u64>, &'static [u8], bool);

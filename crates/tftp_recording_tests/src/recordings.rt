@@ -3,7 +3,7 @@
 use crate::fragments::let_go_any;
 use std::test::Fail;
 use net_pcap::{FaultKind, PcapFault};
-use tftp_recording::{Event, Fate, LeftOut, RecordingReader};
+use net_udp::recording::{Event, Fate, LeftOut, RecordingReader};
 use net_streams::streams::Latched;
 use tftp_trials::comparing::is_so;
 use tftp_trials::drip::DripReader;

@@ -6,10 +6,10 @@ use crate::losses::{Losses, SILENCE, WAIT};
 use crate::plain::put_number;
 use std::alloc::{AllocError, Global};
 use tftp_blame::{Missing, Passing, Reason, Trail};
-use tftp_fragments::Fragments;
-use tftp_frames::{FrameFault, UdpFault};
+use net_udp::fragments::Fragments;
+use net_udp::frames::{FrameFault, UdpFault};
 use net_pcap::PcapFault;
-use tftp_recording::{Event, LeftOut};
+use net_udp::recording::{Event, LeftOut};
 
 /// How many frames or ports are named.
 const NAMED: usize = 5;

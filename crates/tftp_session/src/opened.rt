@@ -6,7 +6,7 @@ use crate::session::Session;
 use std::alloc::{AllocError, Global};
 use std::io::Read;
 use net_pcap::{FaultKind, PcapFault};
-use tftp_recording::{Event, RecordingReader};
+use net_udp::recording::{Event, RecordingReader};
 use net_streams::streams::Latched;
 
 /// A recording that is being read.

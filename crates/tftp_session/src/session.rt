@@ -1,6 +1,6 @@
 //! A recording, as far as it was read.
 
-ghost use Rattle.tftp_frames.specs.{IsSound};
+ghost use Rattle.net_udp.specs.Frames.{IsSound};
 
 use crate::fault::{ReadFault, TextFault};
 use crate::kept::Kept;
@@ -15,7 +15,7 @@ use tftp_blocks::RingDelivered;
 use tftp_lines::{Endpoint, Place, Transfer};
 use tftp_parties::party_of;
 use net_pcap::{FaultKind, PcapFault};
-use tftp_recording::{Checksum, Datagram, Event, Fate, RecordingReader};
+use net_udp::recording::{Checksum, Datagram, Event, Fate, RecordingReader};
 use tftp_recording_audit::{AuditFault, NextFrame, RecordingAudit};
 use tftp_recording_judge::{Judging, Watched};
 use net_streams::streams::Latched;

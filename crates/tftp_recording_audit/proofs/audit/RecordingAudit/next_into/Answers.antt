@@ -1,5 +1,5 @@
 use Rattle.std.proofs.Common.{◌++◌, Bool, Ok, refl, subst}
-use Rattle.tftp_recording.specs.{StandsFor, Step, with_step}
+use Rattle.net_udp.specs.Recording.{StandsFor, Step, with_step}
 use Rattle.tftp_recording_audit.specs.{AuditsAfter}
 use Rattle.tftp_recording_audit.proofs.Taking.{noted_goes_on}
 use Rattle.tftp_recording_audit.proofs.audit.RecordingAudit.next_into.Goals as goal

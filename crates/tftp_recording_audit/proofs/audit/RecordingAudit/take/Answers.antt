@@ -1,5 +1,5 @@
 use Rattle.std.proofs.Common.{ℕ, Option, refl, sym, ap, ◌∙◌, subst}
-use Rattle.tftp_recording.specs.declared.fate.Fate.TheVariants.{Datagram}
+use Rattle.net_udp.specs.declared.recording.fate.Fate.TheVariants.{Datagram}
 use Rattle.net_pcap.specs.{FrameParts}
 use Rattle.tftp_recording_audit.specs.{IsTaken, time_by}
 use Rattle.tftp_recording_audit.proofs.Taking.{fate_here}

@@ -1,0 +1,73 @@
+-- The headers of IPv6 that are skipped, one after another.
+use Rattle.std.proofs.Common.{◌≡◌, ◌≢◌, ◌↔◌, inl, inr, ℕ, zero, suc, ◌<◌, ◌≤◌, Bool, true, false, List, length, drop, refl, sym, ap, ◌∙◌, subst, arith, Some}
+use Rattle.std.proofs.lemmas.Bool.{false≢true}
+use Rattle.net_udp.specs.Frames.{at, Fragment, Reached, is_extension, is_atomic, fragment_header, fragment_of, skipped_size, IsSkipped, Stops, StopsAfter, ReachesOver}
+
+-- the number of a fragment header is none of the others
+no_extension : (next : ℕ) → next ≡ fragment_header → is_extension next ≡ true → ⊥
+no_extension next is test = false≢true (ap is_extension (sym is) ∙ test)
+
+skipped_does_not_stop : (next : ℕ) (bytes : List ℕ) (r : Reached) → IsSkipped next bytes → Stops next bytes r → ⊥
+skipped_does_not_stop next bytes r (long, fits, inl test) (inl (plain, other, is)) = false≢true (sym plain ∙ test)
+skipped_does_not_stop next bytes r (long, fits, inl test) (inr (is_part, room, part, is)) = no_extension next is_part test
+skipped_does_not_stop next bytes r (long, fits, inr (is_whole, whole)) (inl (plain, other, is)) = other is_whole
+skipped_does_not_stop next bytes r (long, fits, inr (is_whole, whole)) (inr (is_part, room, part, is)) = false≢true (sym part ∙ whole)
+
+-- a header that is skipped, and what follows it
+pub step : (next : ℕ) (bytes : List ℕ) (r : Reached) → IsSkipped next bytes → ReachesOver next bytes r ↔ ReachesOver (at bytes 0) (drop (skipped_size next bytes) bytes) r
+step next bytes r skipped = ((λ s. forth s.0 s.1), λ s. (suc s.0, (skipped, s.1)))
+  where
+    forth : (headers : ℕ) → StopsAfter headers next bytes r → ReachesOver (at bytes 0) (drop (skipped_size next bytes) bytes) r
+    forth zero s = absurd (skipped_does_not_stop next bytes r skipped s)
+    forth (suc headers) s = (headers, s.1)
+
+-- nothing is reached over a header that is cut
+pub cut_header : (next : ℕ) (bytes : List ℕ) (r : Reached) → (IsSkipped next bytes → ⊥) → (Stops next bytes r → ⊥) → ReachesOver next bytes r → ⊥
+cut_header next bytes r not_skipped not_there s = none s.0 s.1
+  where
+    none : (headers : ℕ) → StopsAfter headers next bytes r → ⊥
+    none zero p = not_there p
+    none (suc headers) p = not_skipped p.0
+
+pub no_stop_in_extension : (next : ℕ) (bytes : List ℕ) (r : Reached) → next ≢ fragment_header → is_extension next ≡ true → Stops next bytes r → ⊥
+no_stop_in_extension next bytes r other test (inl (plain, _, is)) = false≢true (sym plain ∙ test)
+no_stop_in_extension next bytes r other test (inr (is_part, room, part, is)) = other is_part
+
+pub no_stop_in_fragment : (next : ℕ) (bytes : List ℕ) (r : Reached) → next ≡ fragment_header → length bytes < 8 → Stops next bytes r → ⊥
+no_stop_in_fragment next bytes r is_fragment short (inl (plain, other, is)) = other is_fragment
+no_stop_in_fragment next bytes r is_fragment short (inr (is_part, room, part, is)) = omega (arith, room)
+
+-- a fragment header that is not skipped is one of a part
+pub stops_at_part : (next : ℕ) (bytes : List ℕ) (part : Fragment) (content : List ℕ) → next ≡ fragment_header → 8 ≤ length bytes → (IsSkipped next bytes → ⊥) → part ≡ fragment_of bytes → content ≡ drop 8 bytes
+    → Stops next bytes (record { protocol = at bytes 0; fragment = Some part; content = content })
+stops_at_part next bytes part content is_fragment long not_skipped part_is content_is =
+    inr (is_fragment, long, atom (is_atomic bytes) refl, λ i. record { protocol = at bytes 0; fragment = Some (part_is i); content = content_is i })
+  where
+    eight : skipped_size next bytes ≡ 8
+    eight = ap (λ n. skipped_size n bytes) is_fragment
+
+    atom : (b : Bool) → is_atomic bytes ≡ b → is_atomic bytes ≡ false
+    atom true e = absurd (not_skipped (long, omega (arith, eight, long), inr (is_fragment, e)))
+    atom false e = e
+
+stops_one : (next : ℕ) (bytes : List ℕ) (r s : Reached) → Stops next bytes r → Stops next bytes s → r ≡ s
+stops_one next bytes r s (inl (_, _, is)) (inl (_, _, as_well)) = is ∙ sym as_well
+stops_one next bytes r s (inl (_, other, is)) (inr (is_part, _, _, as_well)) = absurd (other is_part)
+stops_one next bytes r s (inr (is_part, _, _, is)) (inl (_, other, as_well)) = absurd (other is_part)
+stops_one next bytes r s (inr (_, _, _, is)) (inr (_, _, _, as_well)) = is ∙ sym as_well
+
+one : (headers others next : ℕ) (bytes : List ℕ) (r s : Reached) → StopsAfter headers next bytes r → StopsAfter others next bytes s → r ≡ s
+one zero zero next bytes r s p q = stops_one next bytes r s p q
+one zero (suc others) next bytes r s p q = absurd (skipped_does_not_stop next bytes r q.0 p)
+one (suc headers) zero next bytes r s p q = absurd (skipped_does_not_stop next bytes s p.0 q)
+one (suc headers) (suc others) next bytes r s p q = one headers others (at bytes 0) (drop (skipped_size next bytes) bytes) r s p.1 q.1
+
+-- one thing is reached
+pub reaches_one : (next : ℕ) (bytes : List ℕ) (r s : Reached) → ReachesOver next bytes r → ReachesOver next bytes s → r ≡ s
+reaches_one next bytes r s p q = one p.0 q.0 next bytes r s p.1 q.1
+
+-- the loop's step
+pub next_header : (next : ℕ) (bytes : List ℕ) (size : ℕ) (rest : List ℕ) → IsSkipped next bytes → size ≡ skipped_size next bytes → rest ≡ drop size bytes → (r : Reached) → ReachesOver next bytes r ↔ ReachesOver (at bytes 0) rest r
+next_header next bytes size rest skipped size_is rest_is r =
+    let all : rest ≡ drop (skipped_size next bytes) bytes = rest_is ∙ ap (λ n. drop n bytes) size_is in
+    subst (λ (x : List ℕ). ReachesOver next bytes r ↔ ReachesOver (at bytes 0) x r) (sym all) (step next bytes r skipped)

@@ -1,0 +1,36 @@
+-- A frame with a whole header of IP names two hosts.
+use Rattle.std.proofs.Common.{◌≡◌, ℕ, List, ◌∙◌, ap, sym, subst, Option, Some, None, MatchOption}
+use Rattle.std.specs.declared.net.ip_addr.IpAddr.{IpAddr}
+use Rattle.net_udp.specs.Frames.{Linked, HasHeader, source_of, target_of, IsBetween, IsLinked}
+use Rattle.net_udp.specs.declared.frames.link.Network.{Network}
+use Rattle.net_udp.proofs.FramesLemmas.Links.{linked_one}
+
+is_some : (n m : Network) → Some n ≡ Some m → n ≡ m
+is_some n m e = cc
+
+-- what is linked and has no whole header names none
+pub none_between : (number : ℕ) (frame : List ℕ) (c : Linked) (network : Network) → IsLinked number frame c → c.network ≡ Some network
+    → (HasHeader network c.content → ⊥) → (source target : IpAddr) → IsBetween number frame source target → ⊥
+none_between number frame c network linked is bare source target b =
+    let one = linked_one number frame b.linked c b.carries linked in
+    let same = is_some b.network network (sym b.of_ip ∙ ap (λ (l : Linked). l.network) one ∙ is) in
+    bare (subst (λ n. HasHeader n c.content) same (subst (λ (l : Linked). HasHeader b.network l.content) one b.header))
+
+pub hosts_found : (number : ℕ) (frame : List ℕ) (c : Linked) (network : Network) → IsLinked number frame c → c.network ≡ Some network → (found : Option (IpAddr × IpAddr))
+    → MatchOption found (HasHeader network c.content → ⊥) (λ hosts. HasHeader network c.content × (hosts ≡ (source_of network c.content, target_of network c.content)))
+    → MatchOption found ((source target : IpAddr) → IsBetween number frame source target → ⊥) (λ hosts. IsBetween number frame hosts.0 hosts.1)
+hosts_found number frame c network linked is None bare = none_between number frame c network linked is bare
+hosts_found number frame c network linked is (Some hosts) (has, are) = record {
+  linked = c;
+  network = network;
+  carries = linked;
+  of_ip = is;
+  header = has;
+  from = ap (λ h. h.0) are;
+  to = ap (λ h. h.1) are;
+}
+
+-- what carries nothing of IP names none
+pub no_network : (number : ℕ) (frame : List ℕ) (c : Linked) → IsLinked number frame c → c.network ≡ None → (source target : IpAddr) → IsBetween number frame source target → ⊥
+no_network number frame c linked is source target b =
+    let bad : Some b.network ≡ None = sym b.of_ip ∙ ap (λ (l : Linked). l.network) (linked_one number frame b.linked c b.carries linked) ∙ is in cc

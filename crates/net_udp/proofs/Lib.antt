@@ -1,0 +1,4 @@
+pub mod FramesLemmas
+pub mod FragmentsLemmas
+pub mod CopiesLemmas
+pub mod RecordingLemmas

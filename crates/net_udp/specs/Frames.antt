@@ -1,0 +1,38 @@
+pub mod Number
+pub mod Tag
+pub mod Link
+pub mod Extension
+pub mod Ip
+pub mod Frame
+pub mod UdpDatagrams
+pub mod Checksums
+pub mod Parts
+pub mod Faults
+pub mod Worked
+pub use Rattle.net_udp.specs.Frames.Number.{at, pair}
+pub use Rattle.net_udp.specs.Frames.Tag.{LeadsOver, LeadsTo, is_tag_type}
+pub use Rattle.net_udp.specs.Frames.Link.{Carries, CarriesTyped, Linked, SpellsLink, direction_said, index_of, least, link_named, packet_direction, type_network}
+pub use Rattle.net_udp.specs.Frames.Extension.{IsSkipped, Reached, ReachesOver, Stops, StopsAfter, fragment_header, fragment_of, is_atomic, is_extension, skipped_size}
+pub use Rattle.net_udp.specs.Frames.Ip.{HasHeader, Packet, Reaches, SpellsIp, held_of, is_identified, may_be_udp, packet_of, size_of, source_of, target_of, total_of}
+pub use Rattle.net_udp.specs.Frames.Frame.{IsBetween, IsLinked, SpellsFrame}
+pub use Rattle.net_udp.specs.Frames.UdpDatagrams.{HasUdp, HoldsUdp, IsSized, IsSound, JudgesUdp, SpellsUdp, Udp, datagram}
+pub use Rattle.net_udp.specs.Frames.Checksums.{address_bytes, checksum_of, headed_wrong, in_ones_complement, is_headed_right, is_left, is_right, is_unsummed, none_made, pseudo_sum, udp_checksum, udp_sum, verdict, word_sum}
+pub use Rattle.net_udp.specs.Frames.Parts.{linked, reached, shown}
+pub use Rattle.net_udp.specs.Frames.Faults.{FirstFault, FirstIpFault, Holds, HoldsIp, IsNotWhole, Judges, JudgesIp, place}
+pub use Rattle.net_udp.specs.Frames.Worked.{acknowledgement, cooked_head, host, ipv4_bytes, ipv4_fragment, ipv4_packet, ipv4_with_options, ipv6_fragment, ipv6_fragment_of_icmp, ipv6_part, ipv6_with_extensions, two_tags, udp_bytes, udp_bytes_of_ipv6, udp_left, udp_left_of_ipv6, udp_of_three}
+pub use Rattle.net_udp.specs.declared.frames.checksum.Checksum.{Checksum}
+pub use Rattle.net_udp.specs.declared.frames.checksum.Checksum.TheVariants.{Absent, Partial, Right, Wrong}
+pub use Rattle.net_udp.specs.declared.frames.extension.Upper.{Upper}
+pub use Rattle.net_udp.specs.declared.frames.fault.FrameFault.{FrameFault}
+pub use Rattle.net_udp.specs.declared.frames.fault.FrameFault.TheVariants.{Cut}
+pub use Rattle.net_udp.specs.declared.frames.fault.UdpFault.{UdpFault}
+pub use Rattle.net_udp.specs.declared.frames.fault.UdpFault.TheVariants.{Port}
+pub use Rattle.net_udp.specs.declared.frames.link.LinkContent.{LinkContent}
+pub use Rattle.net_udp.specs.declared.frames.link.LinkType.{LinkType}
+pub use Rattle.net_udp.specs.declared.frames.link.LinkType.TheVariants.{Cooked, CookedTwo, Ethernet, Loop, Null, Raw, RawIpv4, RawIpv6}
+pub use Rattle.net_udp.specs.declared.frames.link.Network.TheVariants.{Ipv4, Ipv6}
+pub use Rattle.net_udp.specs.declared.frames.packet.Direction.{Direction}
+pub use Rattle.net_udp.specs.declared.frames.packet.Direction.TheVariants.{In, Out, Unknown}
+pub use Rattle.net_udp.specs.declared.frames.packet.Fragment.{Fragment}
+pub use Rattle.net_udp.specs.declared.frames.packet.IpPacket.{IpPacket}
+pub use Rattle.net_udp.specs.declared.frames.packet.UdpDatagram.{UdpDatagram}

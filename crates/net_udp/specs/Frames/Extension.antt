@@ -1,0 +1,50 @@
+-- The headers of IPv6 that stand before what a packet carries (RFC 8200, section 4), and what is reached over them.
+use Rattle.std.specs.Prelude.{◌≡◌, ◌≢◌, ◌⊎◌, ◌+◌, ◌*◌, ◌/◌, ◌%◌, ◌≤◌, ◌==◌, ◌||◌, ◌&&◌, ℕ, zero, suc, Bool, true, false, List, length, drop, Option, Some, None, if◌then◌else◌}
+use Rattle.net_udp.specs.Frames.Number.{at, pair, four}
+use Rattle.net_udp.specs.declared.frames.packet.Fragment.{Fragment}
+
+-- with what a packet's content begins, which part it is, and its bytes
+pub record Reached : Type 0 where
+  pub protocol : ℕ
+  pub fragment : Option Fragment
+  pub content : List ℕ
+
+-- hop-by-hop options, routing and destination options, in any order and number
+abbrev pub is_extension : ℕ → Bool
+is_extension next = next == 0 || next == 43 || next == 60
+
+-- the number of a fragment header
+abbrev pub fragment_header : ℕ
+fragment_header = 44
+
+-- A fragment header says with 13 bits where the fragment begins, in units of 8 bytes, and with the last bit that more
+-- follow (RFC 8200, section 4.5).
+abbrev pub fragment_of : List ℕ → Fragment
+fragment_of header = record { id = four header 4; place = 8 * (pair header 2 / 8); more = pair header 2 % 2 == 1 }
+
+-- one that begins at 0 and that no more follow is the whole packet (RFC 6946)
+abbrev pub is_atomic : List ℕ → Bool
+is_atomic header = (pair header 2 / 8 == 0) && (pair header 2 % 2 == 0)
+
+-- the length of a header: the second byte counts units of 8 bytes after the first 8; a fragment header has 8
+abbrev pub skipped_size : ℕ → List ℕ → ℕ
+skipped_size next bytes = if next == 44 then 8 else 8 * (at bytes 1 + 1)
+
+-- the bytes begin with a header that is skipped
+abbrev pub IsSkipped : ℕ → List ℕ → Type 0
+IsSkipped next bytes = (8 ≤ length bytes) × (skipped_size next bytes ≤ length bytes) × ((is_extension next ≡ true) ⊎ ((next ≡ fragment_header) × (is_atomic bytes ≡ true)))
+
+-- the bytes begin with no header that is skipped, nor with one that is cut
+abbrev pub Stops : ℕ → List ℕ → Reached → Type 0
+Stops next bytes r =
+    ((is_extension next ≡ false) × (next ≢ fragment_header) × (r ≡ record { protocol = next; fragment = None; content = bytes }))
+    ⊎ ((next ≡ fragment_header) × (8 ≤ length bytes) × (is_atomic bytes ≡ false) × (r ≡ record { protocol = at bytes 0; fragment = Some (fragment_of bytes); content = drop 8 bytes }))
+
+-- over so many headers, each of which says with its first byte what follows it
+abbrev pub StopsAfter : ℕ → ℕ → List ℕ → Reached → Type 0
+StopsAfter zero next bytes r = Stops next bytes r
+StopsAfter (suc headers) next bytes r = IsSkipped next bytes × StopsAfter headers (at bytes 0) (drop (skipped_size next bytes) bytes) r
+
+-- what stands after all headers
+abbrev pub ReachesOver : ℕ → List ℕ → Reached → Type 0
+ReachesOver next bytes r = (headers : ℕ) × StopsAfter headers next bytes r

@@ -1,0 +1,120 @@
+-- Frames for worked examples, as scapy 2.5.0 makes them: 192.0.2.7 or 2001:db8::7 sends from port 40000 to port 69 of
+-- 192.0.2.1 or 2001:db8::1 an acknowledgement of TFTP.
+use Rattle.std.specs.Prelude.{ℕ, List, [], ◌∷◌, ◌++◌, take, drop, Some, None, true}
+use Rattle.std.specs.declared.net.ip_addr.IpAddr.{IpAddr}
+use Rattle.std.specs.declared.net.ip_addr.IpAddr.TheVariants.{V4, V6}
+use Rattle.net_udp.specs.Frames.Ip.{Packet}
+use Rattle.net_udp.specs.Frames.UdpDatagrams.{Udp}
+use Rattle.net_udp.specs.declared.frames.packet.Direction.{Direction}
+use Rattle.net_udp.specs.declared.frames.packet.Direction.TheVariants.{Unknown}
+
+-- a host of 192.0.2.0/24, by its last byte
+abbrev pub host : ℕ → IpAddr
+host last = V4 (record { octets = 192 ∷ 0 ∷ 2 ∷ last ∷ [] })
+
+-- a host of 2001:db8::/32, by its last group
+abbrev pub host_of_ipv6 : ℕ → IpAddr
+host_of_ipv6 last = V6 (record { segments = 8193 ∷ 3512 ∷ 0 ∷ 0 ∷ 0 ∷ 0 ∷ 0 ∷ last ∷ [] })
+
+-- a UDP header, and the acknowledgement
+abbrev pub udp_bytes : List ℕ
+udp_bytes = 156 ∷ 64 ∷ 0 ∷ 69 ∷ 0 ∷ 12 ∷ 223 ∷ 66 ∷ 0 ∷ 4 ∷ 0 ∷ 1 ∷ []
+
+-- the same in IPv6
+abbrev pub udp_bytes_of_ipv6 : List ℕ
+udp_bytes_of_ipv6 = 156 ∷ 64 ∷ 0 ∷ 69 ∷ 0 ∷ 12 ∷ 7 ∷ 210 ∷ 0 ∷ 4 ∷ 0 ∷ 1 ∷ []
+
+-- the same in IPv4, of three bytes; the checksum by Python's struct and RFC 1071, section 4.1
+abbrev pub udp_of_three : List ℕ
+udp_of_three = 156 ∷ 64 ∷ 0 ∷ 69 ∷ 0 ∷ 11 ∷ 214 ∷ 69 ∷ 0 ∷ 4 ∷ 9 ∷ []
+
+-- the acknowledgement as Linux 6.18 gives it to a recorder at the host that sends it, before a network card has made the
+-- checksum: a raw socket at an interface with these addresses got it so
+abbrev pub udp_left : List ℕ
+udp_left = 156 ∷ 64 ∷ 0 ∷ 69 ∷ 0 ∷ 12 ∷ 132 ∷ 38 ∷ 0 ∷ 4 ∷ 0 ∷ 1 ∷ []
+
+-- the same in IPv6
+abbrev pub udp_left_of_ipv6 : List ℕ
+udp_left_of_ipv6 = 156 ∷ 64 ∷ 0 ∷ 69 ∷ 0 ∷ 12 ∷ 91 ∷ 151 ∷ 0 ∷ 4 ∷ 0 ∷ 1 ∷ []
+
+-- an IPv4 packet with identification 7
+abbrev pub ipv4_bytes : List ℕ
+ipv4_bytes = 69 ∷ 0 ∷ 0 ∷ 32 ∷ 0 ∷ 7 ∷ 0 ∷ 0 ∷ 64 ∷ 17 ∷ 246 ∷ 189 ∷ 192 ∷ 0 ∷ 2 ∷ 7 ∷ 192 ∷ 0 ∷ 2 ∷ 1 ∷ 156 ∷ 64 ∷ 0 ∷ 69 ∷ 0 ∷ 12 ∷ 223 ∷ 66 ∷ 0 ∷ 4 ∷ 0 ∷ 1 ∷ []
+
+-- the same with an option, Router Alert (RFC 2113)
+abbrev pub ipv4_with_options : List ℕ
+ipv4_with_options = 70 ∷ 0 ∷ 0 ∷ 36 ∷ 0 ∷ 7 ∷ 0 ∷ 0 ∷ 64 ∷ 17 ∷ 97 ∷ 181 ∷ 192 ∷ 0 ∷ 2 ∷ 7 ∷ 192 ∷ 0 ∷ 2 ∷ 1 ∷ 148 ∷ 4 ∷ 0 ∷ 0 ∷ 156 ∷ 64 ∷ 0 ∷ 69 ∷ 0 ∷ 12 ∷ 223 ∷ 66 ∷ 0 ∷ 4 ∷ 0 ∷ 1 ∷ []
+
+-- a fragment, more following, of the packet with identification 7, at place 185 in units of 8 bytes
+abbrev pub ipv4_fragment : List ℕ
+ipv4_fragment = 69 ∷ 0 ∷ 0 ∷ 28 ∷ 0 ∷ 7 ∷ 32 ∷ 185 ∷ 64 ∷ 17 ∷ 214 ∷ 8 ∷ 192 ∷ 0 ∷ 2 ∷ 7 ∷ 192 ∷ 0 ∷ 2 ∷ 1 ∷ 104 ∷ 101 ∷ 108 ∷ 108 ∷ 111 ∷ 49 ∷ 50 ∷ 51 ∷ []
+
+-- an IPv6 packet with hop-by-hop and destination options
+abbrev pub ipv6_with_extensions : List ℕ
+ipv6_with_extensions = 96 ∷ 0 ∷ 0 ∷ 0 ∷ 0 ∷ 28 ∷ 0 ∷ 64 ∷ 32 ∷ 1 ∷ 13 ∷ 184 ∷ 0 ∷ 0 ∷ 0 ∷ 0 ∷ 0 ∷ 0 ∷ 0 ∷ 0 ∷ 0 ∷ 0 ∷ 0 ∷ 7 ∷ 32 ∷ 1 ∷ 13 ∷ 184 ∷ 0 ∷ 0 ∷ 0 ∷ 0 ∷ 0 ∷ 0 ∷ 0 ∷ 0 ∷ 0 ∷ 0 ∷ 0 ∷ 1 ∷ 60 ∷ 0 ∷ 1 ∷ 4 ∷ 0 ∷ 0 ∷ 0 ∷ 0 ∷ 17 ∷ 0 ∷ 1 ∷ 4 ∷ 0 ∷ 0 ∷ 0 ∷ 0 ∷ 156 ∷ 64 ∷ 0 ∷ 69 ∷ 0 ∷ 12 ∷ 7 ∷ 210 ∷ 0 ∷ 4 ∷ 0 ∷ 1 ∷ []
+
+-- a fragment of IPv6, more following, at place 181 in units of 8 bytes
+abbrev pub ipv6_fragment : List ℕ
+ipv6_fragment = 96 ∷ 0 ∷ 0 ∷ 0 ∷ 0 ∷ 16 ∷ 44 ∷ 64 ∷ 32 ∷ 1 ∷ 13 ∷ 184 ∷ 0 ∷ 0 ∷ 0 ∷ 0 ∷ 0 ∷ 0 ∷ 0 ∷ 0 ∷ 0 ∷ 0 ∷ 0 ∷ 7 ∷ 32 ∷ 1 ∷ 13 ∷ 184 ∷ 0 ∷ 0 ∷ 0 ∷ 0 ∷ 0 ∷ 0 ∷ 0 ∷ 0 ∷ 0 ∷ 0 ∷ 0 ∷ 1 ∷ 17 ∷ 0 ∷ 5 ∷ 169 ∷ 1 ∷ 2 ∷ 3 ∷ 4 ∷ 104 ∷ 101 ∷ 108 ∷ 108 ∷ 111 ∷ 49 ∷ 50 ∷ 51 ∷ []
+
+-- the same, whose fragment header names ICMP
+abbrev pub ipv6_fragment_of_icmp : List ℕ
+ipv6_fragment_of_icmp = take 40 ipv6_fragment ++ 58 ∷ drop 41 ipv6_fragment
+
+-- the head of an Ethernet frame with two tags (IEEE 802.1ad and 802.1Q)
+abbrev pub two_tags : List ℕ
+two_tags = 2 ∷ 0 ∷ 0 ∷ 0 ∷ 0 ∷ 2 ∷ 2 ∷ 0 ∷ 0 ∷ 0 ∷ 0 ∷ 1 ∷ 136 ∷ 168 ∷ 0 ∷ 9 ∷ 129 ∷ 0 ∷ 0 ∷ 5 ∷ 8 ∷ 0 ∷ []
+
+-- the head of Linux cooked, version 1: sent by the host that recorded
+abbrev pub cooked_head : List ℕ
+cooked_head = 0 ∷ 4 ∷ 0 ∷ 1 ∷ 0 ∷ 6 ∷ 2 ∷ 0 ∷ 0 ∷ 0 ∷ 0 ∷ 1 ∷ 0 ∷ 0 ∷ 8 ∷ 0 ∷ []
+
+-- that of version 2: sent to the host that recorded (protocol, reserved, interface, ARPHRD, type 0, address)
+abbrev pub cooked_two_head : List ℕ
+cooked_two_head = 8 ∷ 0 ∷ 0 ∷ 0 ∷ 0 ∷ 0 ∷ 0 ∷ 2 ∷ 0 ∷ 1 ∷ 0 ∷ 6 ∷ 2 ∷ 0 ∷ 0 ∷ 0 ∷ 0 ∷ 1 ∷ 0 ∷ 0 ∷ []
+
+-- BSD NULL of a little-endian host: family 30
+abbrev pub null_head : List ℕ
+null_head = 30 ∷ 0 ∷ 0 ∷ 0 ∷ []
+
+-- the packet with identification 7, whose bytes from its header on are these
+abbrev pub ipv4_packet : Direction → List ℕ → Packet
+ipv4_packet direction bytes = record {
+  direction = direction;
+  source = host 7;
+  target = host 1;
+  protocol = 17;
+  identification = Some 7;
+  fragment = None;
+  content = udp_bytes;
+  packet = bytes;
+}
+
+abbrev pub ipv4_part : Packet
+ipv4_part = record (ipv4_packet Unknown ipv4_fragment) {
+  fragment = Some (record { id = 7; place = 1480; more = true });
+  content = 104 ∷ 101 ∷ 108 ∷ 108 ∷ 111 ∷ 49 ∷ 50 ∷ 51 ∷ [];
+}
+
+abbrev pub ipv6_packet : Packet
+ipv6_packet = record {
+  direction = Unknown;
+  source = host_of_ipv6 7;
+  target = host_of_ipv6 1;
+  protocol = 17;
+  identification = None;
+  fragment = None;
+  content = udp_bytes_of_ipv6;
+  packet = ipv6_with_extensions;
+}
+
+abbrev pub ipv6_part : Packet
+ipv6_part = record ipv6_packet {
+  fragment = Some (record { id = 16909060; place = 1448; more = true });
+  content = 104 ∷ 101 ∷ 108 ∷ 108 ∷ 111 ∷ 49 ∷ 50 ∷ 51 ∷ [];
+  packet = ipv6_fragment;
+}
+
+-- the acknowledgement
+abbrev pub acknowledgement : Udp
+acknowledgement = record { source_port = 40000; target_port = 69; payload = 0 ∷ 4 ∷ 0 ∷ 1 ∷ [] }

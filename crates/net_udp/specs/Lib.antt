@@ -1,0 +1,4 @@
+pub mod Frames
+pub mod Fragments
+pub mod Copies
+pub mod Recording

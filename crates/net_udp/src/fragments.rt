@@ -1,0 +1,20 @@
+//! Fragments of IP packets, put together in whatever order they come.
+
+mod content;
+mod fragments;
+mod key;
+mod laws;
+mod outcome;
+mod part;
+mod parts;
+mod set;
+
+pub use content::Content;
+pub use fragments::Fragments;
+pub use key::Key;
+pub use laws::{
+    last_fragment_gives_the_content, parts_give_one_content, parts_in_any_order_give_their_content,
+    worked_protocols,
+};
+pub use outcome::Outcome;
+pub use part::Part;

@@ -1,0 +1,37 @@
+ghost use Rattle.std.specs.Prelude.{◌≡◌, ◌≢◌, ◌≤◌, ◌∷◌, [], List, Option, ℕ, length};
+ghost use Rattle.std.specs.Global.{Vec};
+ghost use Rattle.net_udp.specs.declared.fragments.content.Content.{Content as Given};
+ghost use Rattle.net_udp.specs.Fragments.Pieces.{content_of};
+ghost use Rattle.net_udp.specs.Fragments.Whole.{Content, Part, Give, IsCutInto, AreSame};
+ghost use Rattle.net_udp.specs.Fragments.Set.{AreApart, Arrival, SetState, parts_of};
+ghost use Rattle.net_udp.specs.Fragments.Store.{IsKeptOf, PutEnds};
+ghost use Rattle.net_udp.specs.Fragments.Worked.{first_of_icmp, first_of_udp, last_of_icmp, worked_content};
+
+use crate::fragments::outcome::Outcome;
+
+/// Parts give one content at most, of one protocol.
+pub fn parts_give_one_content()
+    ensures { (parts : List Part) (one other : Content) → Give parts one → Give parts other → one ≡ other }
+{}
+
+/// The parts that a packet's content was cut into give it back in any order, also where some come several times, and
+/// whatever protocols the others than the first name.
+pub fn parts_in_any_order_give_their_content()
+    ensures { (parts others : List Part) (whole : Content) → IsCutInto whole parts → AreSame parts others → Give others whole }
+{}
+
+/// Once the parts that a packet's content was cut into have all come, in whatever order and any of them several times, what
+/// becomes of the last one is that content, where there is room for it.
+pub fn last_fragment_gives_the_content()
+    ensures { (old new : Option SetState) (all : ℕ) (arrivals : List Arrival) (a : Arrival) (parts : List Part) (whole : Content) (outcome : Outcome)
+        → IsCutInto whole parts → AreSame parts (parts_of (a ∷ arrivals)) → length whole.bytes ≤ 65535 → a.part.content ≢ [] → IsKeptOf old arrivals → PutEnds old new all a outcome → outcome ≢ Outcome.Full
+        → (content : Given) × (frames : Vec ℕ) × (outcome ≡ Outcome.Whole content frames) × (content_of content ≡ whole) }
+{}
+
+/// Worked examples: of two parts the first names UDP (17) and the last ICMP (58), and the content is of UDP, in either order
+/// (RFC 8200, section 4.5); and two first parts of which one names UDP and one ICMP are of no content together.
+pub fn worked_protocols()
+    ensures first { Give (first_of_udp ∷ last_of_icmp ∷ []) worked_content }
+    ensures last { Give (last_of_icmp ∷ first_of_udp ∷ []) worked_content }
+    ensures apart { AreApart (first_of_udp ∷ first_of_icmp ∷ []) }
+{}

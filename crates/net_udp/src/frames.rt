@@ -1,0 +1,27 @@
+//! Frames of a network's recording: the IP packets that they carry, and the UDP datagrams of these.
+
+mod address;
+mod checksum;
+mod extension;
+mod fault;
+mod frame;
+mod ip;
+mod laws;
+mod link;
+mod number;
+mod packet;
+mod tag;
+mod udp;
+
+pub use address::write_address;
+pub use checksum::Checksum;
+pub use fault::{FrameFault, UdpFault};
+pub use frame::{read_frame, read_hosts};
+pub use laws::{
+    addresses_are_one_if_written_the_same, content_is_one_datagram, first_fault_is_one,
+    frame_spells_one_packet, spelled_frame_has_no_fault, worked_addresses, worked_checksums,
+    worked_datagrams, worked_faults, worked_frames, worked_identifications, worked_indexes,
+};
+pub use link::interface_index;
+pub use packet::{Direction, Fragment, IpPacket, UdpDatagram};
+pub use udp::read_udp;

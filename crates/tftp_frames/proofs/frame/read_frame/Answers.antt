@@ -1,8 +1,0 @@
-use Rattle.tftp_frames.proofs.FaultOrder.{only_of, fault_of}
-use Rattle.tftp_frames.proofs.frame.read_frame.Goals as goal
-
-pub returns-clause-only : goal.returns-clause-only
-returns-clause-only c = only_of c.args.link_number c.args.frame.now _ c.judge_frame.ensures
-
-pub returns-clause-fault : goal.returns-clause-fault
-returns-clause-fault c = fault_of c.args.link_number c.args.frame.now _ c.judge_frame.ensures

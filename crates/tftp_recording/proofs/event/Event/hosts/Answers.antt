@@ -1,4 +1,0 @@
-use Rattle.tftp_recording.proofs.event.Event.hosts.Goals as goal
-
-pub returns : goal.returns
-returns c = rw (← c.self.view_is) (rw c.link.ensures at (rw c.bytes.ensures at c.read_hosts.ensures))

@@ -1,7 +1,0 @@
-use Rattle.std.proofs.Common.{◌∷◌, Option, sym, subst}
-use Rattle.tftp_recording.specs.{Knows, Sent}
-use Rattle.tftp_recording.proofs.Discarding.{knows_nothing_new}
-use Rattle.tftp_recording.proofs.senders.Senders.note.Goals as goal
-
-pub returns-in-None-clause-knows : goal.returns-in-None-clause-knows
-returns-in-None-clause-knows c = λ before knows. subst (λ (s : Option Sent). Knows c.args.self.now (s ∷ before)) (sym c.in-None.is) (knows_nothing_new c.args.self.now before knows)
