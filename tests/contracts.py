@@ -328,7 +328,7 @@ def try_written(trial: Trial, copy: Copy) -> None:
     source = copy.top / "crates" / "tftp_hosts" / "src" / "host.rt"
     for old, new, why in (
         ("Rattle.tftp_hosts.specs.Host.", "Rattle.tftp_hosts.specs.Nowhere.", "no file of tftp_hosts has "),
-        ("impl Host {", "impl Host {{", "crates/tftp_hosts/src/host.rt:"),
+        ("impl Host {", "impl Host {{", "crates/tftp_packet/src/hosts/host.rt:"),
     ):
         text = source.read_text()
         source.write_text(text.replace(old, new))

@@ -10,7 +10,7 @@ use std::io;
 use std::process::ExitCode;
 use tftp_blocks::RingDelivered;
 use tftp_capture::{Datagram, Header};
-use tftp_hosts::{Dir, Host};
+use tftp_packet::hosts::{Dir, Host};
 use tftp_judge::{Judge, Meaning, Refusal};
 use tftp_packet::{Bytes, End};
 

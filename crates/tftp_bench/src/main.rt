@@ -12,7 +12,7 @@ use std::io::{ErrorKind, Read, Write};
 use std::{env, io};
 use tftp_blocks::{MapDelivered, RingDelivered};
 use tftp_capture::{CaptureReader, CaptureWriter, Datagram, Header};
-use tftp_hosts::Dir;
+use tftp_packet::hosts::Dir;
 use tftp_netascii::{Decoder, encode};
 use tftp_packet::End;
 use net_udp::recording::{Event, Fate, RecordingReader};

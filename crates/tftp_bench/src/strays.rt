@@ -5,7 +5,7 @@ use std::alloc::Global;
 use std::io;
 use std::io::{ErrorKind, Read};
 use tftp_ends::{PortFault, Ports, Route};
-use tftp_hosts::{Dir, Host};
+use tftp_packet::hosts::{Dir, Host};
 use tftp_packet::End;
 
 /// The most bytes that are read at once, two for each port.

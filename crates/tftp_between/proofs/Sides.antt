@@ -1,7 +1,7 @@
 -- When the client is none of the other two sides.
 use Rattle.std.proofs.Common.{◌≡◌, ◌⊎◌, Bool, true, false, true≢false, List, refl, sym, ap, ◌∙◌, inl, inr, ◌||◌, ◌==◌, not}
 use Rattle.std.proofs.lemmas.Bool.{and_from, eq-eqb, or_parts, or_cases}
-use Rattle.tftp_hosts.specs.{same_peer}
+use Rattle.tftp_packet.specs.Hosts.{same_peer}
 use Rattle.tftp_ends.proofs.NotedPeers.{is_same}
 use Rattle.tftp_parties.specs.{IsAddress}
 use Rattle.tftp_parties.proofs.Addresses.{called_one}

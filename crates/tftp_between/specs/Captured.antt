@@ -1,7 +1,7 @@
 -- What passed of a transfer at its client, as a tap between the two ends captures it, by a recording of unknown place. Lists
 -- have the newest first.
 use Rattle.std.specs.Prelude.{◌||◌, not, Bool, List, map, Option, Some, None}
-use Rattle.tftp_hosts.specs.{same_peer}
+use Rattle.tftp_packet.specs.Hosts.{same_peer}
 use Rattle.tftp_parties.specs.{host_name}
 use Rattle.tftp_tap.specs.{PeerId, TapDatagram, TapSides}
 use Rattle.tftp_lines.specs.{Endpoint, Transfer, Recorded, same_endpoint, Placed}

@@ -9,7 +9,7 @@ ghost use Rattle.tftp_lines.specs.{Placed};
 ghost use Rattle.tftp_views.specs.{held_of};
 
 use std::alloc::{AllocError, Global};
-use tftp_hosts::Peer;
+use tftp_packet::hosts::Peer;
 use tftp_lines::{Endpoint, Transfer};
 use tftp_packet::Bytes;
 use tftp_parties::host_of;

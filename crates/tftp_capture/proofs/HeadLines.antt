@@ -9,7 +9,7 @@ use Rattle.std.proofs.lemmas.List.Elements.{All-append, All-nil, All-push}
 use Rattle.std.proofs.lemmas.List.Splits.{join_with_byte-slice_split}
 use Rattle.hex.specs.Hex.{decode_of}
 use Rattle.hex.proofs.HexLemmas.{decode_of-ok}
-use Rattle.tftp_hosts.specs.{IsHost}
+use Rattle.tftp_packet.specs.Hosts.{IsHost}
 use Rattle.net_streams.specs.Streams.{most_ahead}
 use Rattle.tftp_capture.specs.{BeginsWithDatagram, BeginsWithLine, GoesOnAfter, HasNoEnd, HeadState, HoldsPart, IsDecoded, IsHead, IsPartOfLine, IsPort, LineError, MayName, PayloadEnds, SaysDatagram, SpellsBehind, SpellsPayload, Version, One, Two, dir_word, filled, head_text, pieces, says_nothing}
 use Rattle.tftp_capture.specs.CaptureText.{Datagram}

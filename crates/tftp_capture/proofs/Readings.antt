@@ -3,7 +3,7 @@ use Rattle.std.proofs.Common.{◌≡◌, ◌≢◌, ℕ, ◌+◌, ◌^◌, ◌<�
 use Rattle.std.proofs.lemmas.Bool.{cases_lt}
 use Rattle.tftp_capture.specs.{TextFault, BadHeader, BadEnd, BadService, LineTooLong, BadLine, BadPort, BadHost, BadHex, PayloadTooLong, TotalWrong, Truncated, TrailingText, TextTooLong, BodyFault, ByteFault, Due, FailsAt, HasFault, HasFields, HasPorts, IsCapture, IsOver, LineFault, Numbered, Reading, Reads, Says, SpellsPayload, SpellsPort, Stands, Unfinished, pieces, Version}
 use Rattle.tftp_capture.specs.CaptureText.{Header}
-use Rattle.tftp_hosts.specs.{IsHost}
+use Rattle.tftp_packet.specs.Hosts.{IsHost}
 use Rattle.tftp_capture.specs.CaptureText.Due.{Head, EndLine, ServiceLine, Body, Nothing}
 use Rattle.tftp_capture.specs.CaptureText.Reading.{Capture, Fault}
 use Rattle.tftp_capture.proofs.Pieces.{fields_same, ports_same, total_no_fields}

@@ -4,7 +4,7 @@ use Rattle.std.specs.List.{AllZip, join_with_byte, slice_split}
 use Rattle.std.proofs.lemmas.List.{map-append}
 use Rattle.std.proofs.lemmas.List.Elements.{All-cons, All-head, All-nil, All-tail}
 use Rattle.std.proofs.lemmas.List.Splits.{join_with_byte-slice_split}
-use Rattle.tftp_hosts.specs.{no_host}
+use Rattle.tftp_packet.specs.Hosts.{no_host}
 use Rattle.tftp_packet.specs.{End, Client, Server}
 use Rattle.tftp_capture.specs.{One, Two, IsCapture, Numbered, SaysDatagram, SaysDatagrams, Stands, dir_word, end_line, head_line, pieces, said, says_nothing, service_line, total_line, in_version_two, is_way, line_in_two, lines_in_two, pieces_in_two}
 use Rattle.tftp_capture.specs.CaptureText.{Datagram, Header}

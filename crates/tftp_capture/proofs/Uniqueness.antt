@@ -5,7 +5,7 @@ use Rattle.std.proofs.lemmas.List.Sums.{count_by-le-length}
 use Rattle.std.proofs.lemmas.List.Splits.{join_with_byte-slice_split, length-slice_split, slice_split_none}
 use Rattle.std.proofs.lemmas.Bool.{cases_eq}
 use Rattle.std.proofs.lemmas.List.Elements.{All-head, All-tail}
-use Rattle.tftp_hosts.specs.{IsHost}
+use Rattle.tftp_packet.specs.Hosts.{IsHost}
 use Rattle.tftp_capture.specs.{TextFault, BadHeader, BadEnd, BadService, LineTooLong, BadLine, BadPort, BadHost, BadHex, PayloadTooLong, TotalWrong, Truncated, TrailingText, TextTooLong, BodyFault, ByteFault, Due, HasFields, HasPorts, IsOver, LineFault, Numbered, SaysDatagram, Says, Stands, SpellsPayload, SpellsPort, dir_word, longest, pieces, total_line, Version}
 use Rattle.tftp_capture.specs.CaptureText.{Datagram}
 use Rattle.tftp_capture.specs.CaptureText.Due.{Head, EndLine, ServiceLine, Body, Nothing}

@@ -1,6 +1,6 @@
 -- What the fields of a line spell.
 use Rattle.std.specs.Prelude.{◌≡◌, true, false, Bool, ℕ, ◌<◌, ◌≤◌, List, ◌∷◌, length, Option, Some, None, Result, Ok, Err}
-use Rattle.tftp_hosts.specs.{no_host}
+use Rattle.tftp_packet.specs.Hosts.{no_host}
 use Rattle.tftp_capture.specs.declared.fault.TextFault.TheVariants.{BadHex, PayloadTooLong}
 use Rattle.tftp_capture.specs.declared.line_error.LineError.{LineError}
 use Rattle.tftp_capture.specs.declared.line_error.LineError.TheVariants.{Text, Read, Memory}

@@ -1,7 +1,7 @@
 -- A text of version 1 as one of version 2, in which each datagram's host is `-`.
 use Rattle.std.specs.Prelude.{ℕ, ◌==◌, ◌||◌, Bool, if◌then◌else◌, List, [], ◌∷◌, map, codes, bytes_eq}
 use Rattle.std.specs.List.{slice_split, join_with_byte}
-use Rattle.tftp_hosts.specs.{no_host}
+use Rattle.tftp_packet.specs.Hosts.{no_host}
 use Rattle.tftp_capture.specs.declared.version.Version.TheVariants.{Two}
 use Rattle.tftp_capture.specs.CaptureText.{head_line, pieces}
 

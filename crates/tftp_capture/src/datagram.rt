@@ -1,7 +1,7 @@
 ghost use Rattle.std.specs.Prelude.{◌≡◌, []};
 
 use std::alloc::Global;
-use tftp_hosts::{Dir, Host};
+use tftp_packet::hosts::{Dir, Host};
 use tftp_packet::{Bytes, End};
 
 /// Whose capture it is.

@@ -1,7 +1,7 @@
 ghost use Rattle.std.specs.Prelude.{◌≡◌, ◌≢◌, ◌∷◌, ℕ, List, [], codes, false, true, Err, MatchOption, OnOk};
 ghost use Rattle.std.specs.List.{list_all};
 ghost use Rattle.std.specs.Char.{is_ascii_hexdigit};
-ghost use Rattle.tftp_hosts.specs.{IsHost};
+ghost use Rattle.tftp_packet.specs.Hosts.{IsHost};
 ghost use Rattle.tftp_capture.specs.CaptureText.{dir_word, end_line, service_line, pieces, AreFields, IsPort, SpellsPort};
 ghost use Rattle.tftp_capture.specs.Fields.{BeginWithFields, BodyEnds, DatagramEnds, PayloadEnds, TotalEnds, filled, filled_if};
 
@@ -13,7 +13,7 @@ use crate::version::Version;
 use hex::FromHexError;
 use itoa::Buffer;
 use net_streams::digits::decode;
-use tftp_hosts::{Dir, Host};
+use tftp_packet::hosts::{Dir, Host};
 use tftp_packet::End;
 
 /// The most bytes of a payload: the 65,535 that a UDP length counts, less the header's 8 (RFC 768).

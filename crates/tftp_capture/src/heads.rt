@@ -18,7 +18,7 @@ use std::marker::Model;
 use std::simd::prelude::*;
 use std::{io, mem};
 use net_streams::digits::decode_on;
-use tftp_hosts::{Dir, Host};
+use tftp_packet::hosts::{Dir, Host};
 use net_streams::streams::{Latched, ReadBuffer};
 
 /// The most bytes of a head that is kept: `out`, a port of five digits, a host of 45 bytes, a port and four spaces.

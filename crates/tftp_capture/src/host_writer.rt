@@ -13,7 +13,7 @@ use crate::version::Version;
 use crate::writer::{finish, put_datagram, put_header};
 use std::io::Write;
 use std::marker::Model;
-use tftp_hosts::{Dir, Host};
+use tftp_packet::hosts::{Dir, Host};
 use net_streams::streams::{LineWriter, WriteFault};
 
 /// A capture text that is being written in its canonical form of version 2, in which each datagram names its host:

@@ -8,7 +8,7 @@ ghost use Rattle.tftp_capture.specs.Written.{head_naming, host_field};
 use crate::heads::LONGEST_HEAD;
 use itoa::Buffer;
 use std::marker::Model;
-use tftp_hosts::{Dir, Host};
+use tftp_packet::hosts::{Dir, Host};
 
 /// The bytes of a datagram's line before its digits, and what they say.
 #[derive(Drop)]

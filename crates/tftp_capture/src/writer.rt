@@ -1,6 +1,6 @@
 ghost use Rattle.std.specs.Prelude.{◌≡◌, ◌+◌, ◌^◌, ◌<◌, ◌≤◌, ◌++◌, ◌∷◌, [], List, length, option_map, IfOk, MatchResult, OnOk};
 ghost use Rattle.std.specs.Io.KnownBytes.{Appends};
-ghost use Rattle.tftp_hosts.specs.{no_host};
+ghost use Rattle.tftp_packet.specs.Hosts.{no_host};
 ghost use Rattle.net_streams.specs.Streams.Sinks.{Adds, Sink, Writes};
 ghost use Rattle.tftp_capture.specs.CaptureText.{datagram_line, payload_text, text_of, total_line, Datagram, Header as HeaderParts, IsPort};
 ghost use Rattle.tftp_capture.specs.Fields.{header_of};
@@ -12,7 +12,7 @@ use crate::version::Version;
 use itoa::Buffer;
 use std::io::Write;
 use std::marker::Model;
-use tftp_hosts::{Dir, Host};
+use tftp_packet::hosts::{Dir, Host};
 use tftp_packet::End;
 use net_streams::streams::{LineWriter, WriteFault};
 

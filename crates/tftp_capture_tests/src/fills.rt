@@ -5,7 +5,7 @@ use crate::texts::{BLOCKS, changed};
 use std::alloc::{AllocError, Global};
 use std::test::Fail;
 use tftp_capture::{CaptureFault, Datagram, TextFault};
-use tftp_hosts::Dir;
+use tftp_packet::hosts::Dir;
 use tftp_trials::comparing::is_so;
 use tftp_trials::drip::DripReader;
 use tftp_trials::texts::{READ, long};

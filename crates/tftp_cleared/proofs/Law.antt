@@ -3,7 +3,7 @@ use Rattle.std.proofs.Common.{◌≡◌, ℕ, List, [], ◌∷◌, Contains, inl
 use Rattle.std.specs.List.{AllByRecursion}
 use Rattle.std.proofs.lemmas.List.{reverse-reverse}
 use Rattle.tftp_packet.specs.{Client, Side, Get, Put}
-use Rattle.tftp_hosts.specs.{Datagram}
+use Rattle.tftp_packet.specs.Hosts.{Datagram}
 use Rattle.tftp_model.specs.{Meaning, MachinePacket, Ack, Took, History, HasTaken, IsOneSided, IsComplete, blksize_of, block_count}
 use Rattle.tftp_model.specs.Machines.{receiver_of}
 use Rattle.tftp_model.proofs.Members.{contains_first, contains_later, contains_cases, contains_none}

@@ -4,7 +4,7 @@ use Rattle.std.proofs.lemmas.Bool.{and_parts, ltb-true, true≢false}
 use Rattle.std.specs.Fmt.{digits}
 use Rattle.std.specs.List.{AllByRecursion, list_all}
 use Rattle.tftp_packet.specs.{Client, Get, IsString, Message, Num, Octet, Server, Spells, no_options}
-use Rattle.tftp_hosts.specs.{Datagram, In, Out}
+use Rattle.tftp_packet.specs.Hosts.{Datagram, In, Out}
 use Rattle.tftp_model.specs.{Ack, Data, History, IsView, Meaning, Req, Sent, Step, Took, blksize_of, block, block_count, request_of}
 use Rattle.tftp_model.proofs.Computed.{IsPlan, run_is}
 use Rattle.tftp_model.proofs.Defaults.{default_blksize, default_windowsize}

@@ -3,7 +3,7 @@ use Rattle.std.proofs.Common.{◌≡◌, ◌==◌, ℕ, Bool, false, cond, List,
 use Rattle.std.specs.List.{AllByRecursion}
 use Rattle.std.proofs.lemmas.Bool.{false≢true, eq-eqb, and_from}
 use Rattle.std.proofs.lemmas.List.Elements.{recursion_from_All}
-use Rattle.tftp_hosts.specs.{PeerId}
+use Rattle.tftp_packet.specs.Hosts.{PeerId}
 use Rattle.tftp_model.specs.{Meaning}
 use Rattle.tftp_law.specs.{OneEnded, Meant}
 use Rattle.tftp_law.proofs.Division.Divided.{any_none, any_cases}

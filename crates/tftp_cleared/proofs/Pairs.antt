@@ -3,7 +3,7 @@ use Rattle.std.proofs.Common.{◌≡◌, true, false, List, [], ◌∷◌, Any, 
 use Rattle.std.specs.List.{AllByRecursion}
 use Rattle.std.proofs.lemmas.Bool.{false≢true}
 use Rattle.tftp_packet.specs.{Client}
-use Rattle.tftp_hosts.specs.{In, Out, Datagram}
+use Rattle.tftp_packet.specs.Hosts.{In, Out, Datagram}
 use Rattle.tftp_law.specs.{Label, Labelled, Division, datagrams_of, view_in}
 use Rattle.tftp_law.specs.Dress.{Main, Stray, StrayAnswer}
 use Rattle.tftp_law.proofs.Division.Divided.{divided_more, divided_none}

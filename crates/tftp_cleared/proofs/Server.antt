@@ -2,7 +2,7 @@
 use Rattle.std.proofs.Common.{◌≡◌, ℕ, true, false, List, [], ◌∷◌, Any, Option, Some, None, inl, inr, refl, sym, ap, subst, ◌∙◌, ◌==◌, ◌&&◌, not}
 use Rattle.std.specs.List.{AllByRecursion}
 use Rattle.std.proofs.lemmas.Bool.{false≢true, and_parts, and_from, eq-eqb, not-true}
-use Rattle.tftp_hosts.specs.{Out}
+use Rattle.tftp_packet.specs.Hosts.{Out}
 use Rattle.tftp_model.specs.{Meaning}
 use Rattle.tftp_rules.specs.{first_of, or_this}
 use Rattle.tftp_law.specs.{TransferIds}

@@ -1,5 +1,5 @@
 ghost use Rattle.std.specs.Prelude.{List, IfSome, IfNone};
-ghost use Rattle.tftp_hosts.specs.{Datagram};
+ghost use Rattle.tftp_packet.specs.Hosts.{Datagram};
 ghost use Rattle.tftp_counts.specs.Counts.{AreLostBetween, AreRepeatedBetween, AreTooMany, IsCountOf};
 
 use crate::counts::Counts;

@@ -1,12 +1,12 @@
 ghost use Rattle.std.specs.Prelude.{◌≡◌, ◌<◌, List, [], ◌∷◌, Some, IfNone, slice_index_or};
-ghost use Rattle.tftp_hosts.specs.{Datagram};
+ghost use Rattle.tftp_packet.specs.Hosts.{Datagram};
 ghost use Rattle.tftp_counts.specs.Counts.{Answers, AreCounted, AreLost, AreRepeated, Counted, IsCountOf, TakesRoom, counts_of, number_of, packet_of as packet_number, sent, taken};
 
 use crate::packets::CountedPacket;
 use crate::table::Table;
 use std::alloc::Global;
 use std::marker::Model;
-use tftp_hosts::Dir;
+use tftp_packet::hosts::Dir;
 
 /// How often each packet of a transfer went out at an end, and how often it came in.
 #[derive(Debug, Drop)]

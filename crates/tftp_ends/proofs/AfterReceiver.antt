@@ -3,7 +3,7 @@ use Rattle.std.proofs.Common.{◌≡◌, ◌≢◌, ◌↔◌, ◌⊎◌, ℕ, m
 use Rattle.std.proofs.lemmas.Bool.{true≢false}
 use Rattle.std.specs.FinMap as map
 use Rattle.tftp_packet.specs.{Message, Data, Ack, Error, Spells}
-use Rattle.tftp_hosts.specs.{In, Out, Datagram}
+use Rattle.tftp_packet.specs.Hosts.{In, Out, Datagram}
 use Rattle.tftp_rules.specs.{Passed, HasPassed, IsGreatest, usable}
 use Rattle.tftp_blocks.specs.{Held, Placing, Places}
 use Rattle.tftp_ends.specs.{has_stopped, Receiver, IsReceiverAfter, Says, IsAside, IsBeforeBlocks}

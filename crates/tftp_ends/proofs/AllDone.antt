@@ -2,7 +2,7 @@
 use Rattle.std.proofs.Common.{◌≡◌, ◌↔◌, ℕ, ◌≤◌, IsTrue, nat_eq, eq-eqb, List, inl, inr, sym, subst, ◌∙◌, arith}
 use Rattle.std.proofs.lemmas.Bool.{eqb-true}
 use Rattle.tftp_packet.specs.{Ack}
-use Rattle.tftp_hosts.specs.{In, Out, Datagram}
+use Rattle.tftp_packet.specs.Hosts.{In, Out, Datagram}
 use Rattle.tftp_rules.specs.{Passed, IsLast, Terms, IsJoined}
 use Rattle.tftp_blocks.specs.{Held, IsHeldFront, IsJoin}
 use Rattle.tftp_ends.specs.{AreBlocks, IsHeld, Sender, Receiver, IsSenderAfter, IsReceiverAfter, IsAllAnswered, IsAllTaken, IsSound, IsSoundSender, IsSoundReceiver, IsEnd, Sends, Receives, HoldsWire}

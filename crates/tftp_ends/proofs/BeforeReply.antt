@@ -1,7 +1,7 @@
 -- The rules before a request is answered, and with a plain reply.
 use Rattle.std.proofs.Common.{◌≡◌, ◌↔◌, ℕ, List, length, inl, inr}
 use Rattle.tftp_packet.specs.{Message, Request, Data, Ack, Error, Oack, Get, Put}
-use Rattle.tftp_hosts.specs.{Datagram}
+use Rattle.tftp_packet.specs.Hosts.{Datagram}
 use Rattle.tftp_rules.specs.{HasWrongLength, BlockBreaks, AckBreaks, EndBroken, AckZeroWaits, usable, EndRule, NotStarted, BlockLength, AckZero, Reply, NoReply, Plain, Terms}
 use Rattle.tftp_ends.specs.{replied}
 

@@ -1,7 +1,7 @@
 -- Requests, OACKs and an ERROR that goes out leave the named end as it is.
 use Rattle.std.proofs.Common.{List, ◌∷◌}
 use Rattle.tftp_packet.specs.{Message, Spells}
-use Rattle.tftp_hosts.specs.{Datagram}
+use Rattle.tftp_packet.specs.Hosts.{Datagram}
 use Rattle.tftp_ends.specs.{NamedEnd, Sends, Receives, IsEndAfter, IsAside}
 use Rattle.tftp_ends.proofs.AfterSender.{sender_aside}
 use Rattle.tftp_ends.proofs.AfterReceiver.{receiver_aside}

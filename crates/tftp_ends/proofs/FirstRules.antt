@@ -2,7 +2,7 @@
 use Rattle.std.proofs.Common.{◌≡◌, ◌↔◌, ℕ, ◌≤◌, Bool, true, false, IsTrue, Result, Err, List, nat_lt, sym, subst, ap, ◌∙◌, arith}
 use Rattle.std.proofs.lemmas.Bool.{ltb-true, lt-ltb, false≢true}
 use Rattle.tftp_packet.specs.{Message, Data, Ack, NoneBelow}
-use Rattle.tftp_hosts.specs.{Datagram}
+use Rattle.tftp_packet.specs.Hosts.{Datagram}
 use Rattle.tftp_rules.specs.{end_number, EndBroken, FirstEndBroken, EndRule, BlockChanged, AckAhead, AckZero, Terms}
 use Rattle.tftp_ends.specs.{IsFound, Rejection}
 

@@ -2,7 +2,7 @@
 use Rattle.std.proofs.Common.{◌≡◌, ℕ, Bool, true, false, List, ◌∷◌, Option, Some, None, refl, sym, ap, subst, ◌∙◌, ◌&&◌, ◌||◌, option_map}
 use Rattle.std.proofs.lemmas.Bool.{false≢true}
 use Rattle.tftp_packet.specs.{Server}
-use Rattle.tftp_hosts.specs.{Datagram, Header, PeerId, peer_of, same_peer}
+use Rattle.tftp_packet.specs.Hosts.{Datagram, Header, PeerId, peer_of, same_peer}
 use Rattle.tftp_rules.specs.{Route, goes_out, asks, first_of, or_this, route_of}
 use Rattle.tftp_ends.specs.{KnownIds, StandsFor, answers, is_noted, is_other, other_end, sides_of}
 use Rattle.tftp_rules.specs.Ports.Route.{Request, Peer, Stray, StrayAnswer}

@@ -3,7 +3,7 @@ use Rattle.std.proofs.Common.{◌≡◌, ◌≢◌, ◌↔◌, ℕ, ◌+◌, ◌
 use Rattle.std.proofs.lemmas.Bool.{cases_lt}
 use Rattle.std.specs.FinMap as map
 use Rattle.tftp_packet.specs.{NoneBelow, Data, Ack}
-use Rattle.tftp_hosts.specs.{In, Out, Datagram}
+use Rattle.tftp_packet.specs.Hosts.{In, Out, Datagram}
 use Rattle.tftp_rules.specs.{Passed, HasPassed, IsFront, IsAckedAt, IsReachedAt, IsSender, end_number, EndBroken, FirstEndBroken, AckZeroWaits, usable, EndRule, BlockChanged, AckAhead, AckZero}
 use Rattle.tftp_blocks.specs.{IsHighest, IsHeldFront}
 use Rattle.tftp_ends.specs.{Receiver, IsReceiverAfter, IsHeld, IsSoundReceiver, IsKnown, CannotHold, IsFound, NoneBroken, Rejection}

@@ -1,7 +1,7 @@
 -- What a route says of a datagram, after the first request: which way it goes, and whether the other side is the other
 -- end.
 use Rattle.std.proofs.Common.{◌≡◌, ℕ, Bool, true, false, List, Option, Some, None, refl, if◌then◌else◌, ◌==◌, ◌&&◌, ◌||◌, not}
-use Rattle.tftp_hosts.specs.{Datagram, Header, PeerId, peer_of, same_peer}
+use Rattle.tftp_packet.specs.Hosts.{Datagram, Header, PeerId, peer_of, same_peer}
 use Rattle.tftp_rules.specs.{Route, goes_out, begins_request, begins_error, has_come_from, route_at_client, route_at_server}
 use Rattle.tftp_rules.specs.Ports.Route.{Request, Peer, Stray, StrayAnswer, ForeignPort, WrongPort, NoStrayAnswer}
 

@@ -5,7 +5,7 @@ use Rattle.std.proofs.Math.ListN as listn
 use Rattle.std.proofs.lemmas.Bool.{cases_eq, cases_Bool}
 use Rattle.std.proofs.lemmas.List.{length-map, map-append, get_or_append_left, get_or-set_same, get_or-set_other, get_or-map, map-set, set-get_or, take_more}
 use Rattle.std.proofs.lemmas.List.Folds.{list_any-append}
-use Rattle.tftp_hosts.specs.{PeerId, same_peer}
+use Rattle.tftp_packet.specs.Hosts.{PeerId, same_peer}
 use Rattle.tftp_ends.specs.{is_noted, Linked, AreLinked, IsLatest, mark_of, peers_of, rows_of}
 use Rattle.tftp_ends.proofs.NotedPeers.{is_same, same_itself}
 

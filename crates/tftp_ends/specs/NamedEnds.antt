@@ -2,7 +2,7 @@
 -- has the datagrams of the transfer that have passed at this end, the newest first.
 use Rattle.std.specs.Prelude.{◌≡◌, ℕ, List, Some}
 use Rattle.std.specs.FinMap as map
-use Rattle.tftp_hosts.specs.{Datagram}
+use Rattle.tftp_packet.specs.Hosts.{Datagram}
 use Rattle.tftp_rules.specs.{IsJoined, IsLast, Terms}
 use Rattle.tftp_blocks.specs.{Held, IsHeldFront, IsJoin}
 use Rattle.tftp_ends.specs.States.{Sender, Receiver, IsSenderAfter, IsReceiverAfter, IsAllAnswered, IsAllTaken}

@@ -2,7 +2,7 @@
 use Rattle.std.specs.Prelude.{◌≡◌, ◌≢◌, ℕ, List, Some, None, Result, Ok, Err}
 use Rattle.std.specs.FinMap as map
 use Rattle.tftp_packet.specs.{Message}
-use Rattle.tftp_hosts.specs.{Datagram}
+use Rattle.tftp_packet.specs.Hosts.{Datagram}
 use Rattle.tftp_rules.specs.{EndBroken, FirstEndBroken, EndRule, BlockChanged, Terms}
 use Rattle.tftp_blocks.specs.{Held}
 use Rattle.tftp_ends.specs.declared.rejection.Rejection.{Rejection}

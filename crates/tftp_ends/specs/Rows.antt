@@ -2,7 +2,7 @@
 use Rattle.std.specs.Prelude.{◌≡◌, ℕ, ◌-◌, ◌<◌, ◌≤◌, ◌%◌, List, fold, length, map as each, slice_index}
 use Rattle.std.specs.Hash as fed
 use Rattle.std.specs.Hash.DefaultHasher as sip
-use Rattle.tftp_hosts.specs.{PeerId}
+use Rattle.tftp_packet.specs.Hosts.{PeerId}
 use Rattle.tftp_ends.specs.declared.linked.Linked.{Linked}
 
 -- a hash of a peer, by SipHash-1-3 with fixed keys

@@ -3,7 +3,7 @@ use Rattle.std.specs.Prelude.{◌≡◌, ◌↔◌, ◌⊎◌, ℕ, ◌+◌, ◌
 use Rattle.std.specs.Coded.{Coded, code_by, coded×, coded_ℕ, coded_bool, coded_list, coded_option}
 use Rattle.std.specs.FinMap as map
 use Rattle.tftp_packet.specs.{Ack, side_code, Side, End, Client, Server}
-use Rattle.tftp_hosts.specs.{Datagram}
+use Rattle.tftp_packet.specs.Hosts.{Datagram}
 use Rattle.tftp_rules.specs.{HasPassed, IsSender, IsReceiver, IsAckedAt, usable, Reply, NoReply, Plain, Oacked, Terms}
 use Rattle.tftp_blocks.specs.{Held, IsHighest, IsHeldLast}
 use Rattle.tftp_ends.specs.States.{Sender, Receiver, AreBlocks, IsHeld, HasLengthBySize}

@@ -3,7 +3,7 @@
 ghost use Rattle.std.specs.Prelude.{◌≡◌, ◌↔◌, ℕ, ◌≤◌, List, length, Some, IsTrue, true, false, MatchOption, OnOk, OnErr, IfErr};
 ghost use Rattle.std.specs.FinMap as map;
 ghost use Rattle.tftp_packet.specs.{Data, Ack, NoneBelow};
-ghost use Rattle.tftp_hosts.specs.{Datagram};
+ghost use Rattle.tftp_packet.specs.Hosts.{Datagram};
 ghost use Rattle.tftp_blocks.specs.{IsHighest, IsOrderly, Takes, Placing, Places};
 ghost use Rattle.tftp_rules.specs.{HasPassed, HasWrongLength, BlocksWait, AckZeroWaits, EndBroken, FirstEndBroken, end_number};
 ghost use Rattle.tftp_ends.specs.Rejections.{CannotHold};

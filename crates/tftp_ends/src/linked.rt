@@ -7,7 +7,7 @@ ghost use Rattle.tftp_ends.specs.Rows.{AreLinked, IsLinked, mark_of, peers_of, r
 
 use std::alloc::{AllocError, Global};
 use std::hash::{DefaultHasher, Hasher};
-use tftp_hosts::Peer;
+use tftp_packet::hosts::Peer;
 
 /// How many rows there are at the least.
 const FIRST_ROWS: usize = 16;

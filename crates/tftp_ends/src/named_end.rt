@@ -1,6 +1,6 @@
 ghost use Rattle.std.specs.Prelude.{◌≡◌, ◌↔◌, ◌≤◌, List, ◌∷◌, IsTrue, true, Err, OnOk, OnErr};
 ghost use Rattle.tftp_packet.specs.{meaning};
-ghost use Rattle.tftp_hosts.specs.{Datagram};
+ghost use Rattle.tftp_packet.specs.Hosts.{Datagram};
 ghost use Rattle.tftp_model.specs.Roles.{sender_of as sends};
 ghost use Rattle.tftp_blocks.specs.{nothing_held};
 ghost use Rattle.tftp_ends.specs.Rejections.{IsFound};
@@ -14,7 +14,7 @@ use crate::sender_state::SenderState;
 use std::alloc::Global;
 use std::marker::Model;
 use tftp_blocks::Delivered;
-use tftp_hosts::Dir;
+use tftp_packet::hosts::Dir;
 use tftp_packet::{End, Packet, Side};
 use tftp_rules::Terms;
 

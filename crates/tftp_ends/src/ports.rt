@@ -1,6 +1,6 @@
 ghost use Rattle.std.specs.Prelude.{◌≡◌, ◌≢◌, ◌&&◌, not, ℕ, false, List, [], ◌∷◌, Some, None, is_some, option_map, Ok, Err, OnOk, OnErr};
 ghost use Rattle.tftp_packet.specs.{opcode_of};
-ghost use Rattle.tftp_hosts.specs.{Datagram, Header, same_peer};
+ghost use Rattle.tftp_packet.specs.Hosts.{Datagram, Header, same_peer};
 ghost use Rattle.tftp_rules.specs.Ports as definitions;
 ghost use Rattle.tftp_ends.specs.Known.{
   StandsFor,
@@ -20,7 +20,7 @@ use crate::strays::Strays;
 use std::alloc::{AllocError, Global};
 use std::convert::From;
 use std::marker::Model;
-use tftp_hosts::{Dir, Host, Peer};
+use tftp_packet::hosts::{Dir, Host, Peer};
 use tftp_packet::End;
 use tftp_rules::PortRule;
 

@@ -1,7 +1,7 @@
 ghost use Rattle.std.specs.Prelude.{◌≡◌, ◌↔◌, ℕ, ◌≤◌, List, ◌∷◌, None, Some, IsTrue, true, Err, OnOk, OnErr, IfErr};
 ghost use Rattle.std.specs.FinMap as map;
 ghost use Rattle.tftp_packet.specs.{Data, Ack, Error, meaning};
-ghost use Rattle.tftp_hosts.specs.{In, Out, Datagram};
+ghost use Rattle.tftp_packet.specs.Hosts.{In, Out, Datagram};
 ghost use Rattle.tftp_blocks.specs.{nothing_held};
 ghost use Rattle.tftp_rules.specs.{IsSender, FirstEndBroken};
 ghost use Rattle.tftp_ends.specs.NamedEnds.{Sends, HoldsWire};
@@ -24,7 +24,7 @@ use crate::rejection::Rejection;
 use std::alloc::Global;
 use std::marker::Model;
 use tftp_blocks::Delivered;
-use tftp_hosts::Dir;
+use tftp_packet::hosts::Dir;
 use tftp_packet::Packet;
 use tftp_rules::{EndRule, Terms};
 

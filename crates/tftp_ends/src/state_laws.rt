@@ -2,7 +2,7 @@
 
 ghost use Rattle.std.specs.Prelude.{◌≡◌, ◌↔◌, ℕ, List, ◌∷◌};
 ghost use Rattle.tftp_packet.specs.{Message, Spells, Get, Put};
-ghost use Rattle.tftp_hosts.specs.{Datagram};
+ghost use Rattle.tftp_packet.specs.Hosts.{Datagram};
 ghost use Rattle.tftp_rules.specs.{EndBroken, EndRule, NoReply, Plain, Terms};
 ghost use Rattle.tftp_ends.specs.States.{Sender, Receiver, IsSenderAfter, IsReceiverAfter, IsAside, replied};
 

@@ -1,13 +1,13 @@
 ghost use Rattle.std.specs.Prelude.{◌≡◌, ◌↔◌, ◌||◌, ℕ, List, [], false, IsTrue, OnOk, OnErr};
 ghost use Rattle.tftp_packet.specs.{Message, Spells};
-ghost use Rattle.tftp_hosts.specs.{PeerId, same_peer};
+ghost use Rattle.tftp_packet.specs.Hosts.{PeerId, same_peer};
 ghost use Rattle.tftp_ends.specs.Known.{is_noted};
 
 use crate::linked::{Linked, add, is_full, is_linked, mark};
 use std::alloc::{AllocError, Global};
 use std::collections::BTreeSet;
 use std::marker::Model;
-use tftp_hosts::Peer;
+use tftp_packet::hosts::Peer;
 use tftp_packet::{Packet, read_packet};
 
 /// The peers that strays came from, each in a row that its hash leads to, or in a tree where that row is full.
@@ -22,7 +22,7 @@ pub struct Strays {
 
 impl Model for Strays {
     ghost use Rattle.std.specs.Prelude.{List, ◌++◌};
-    ghost use Rattle.tftp_hosts.specs.Capture.{PeerId};
+    ghost use Rattle.tftp_packet.specs.Hosts.Capture.{PeerId};
     ghost use Rattle.tftp_ends.specs.Rows.{IsLinked, peers_of};
 
     ghost Value = { List PeerId };

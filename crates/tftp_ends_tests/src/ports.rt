@@ -2,7 +2,7 @@
 
 use std::test::Fail;
 use tftp_ends::{PortFault, Ports, Route, says_unknown_id};
-use tftp_hosts::{Dir, Host};
+use tftp_packet::hosts::{Dir, Host};
 use tftp_packet::End;
 use tftp_rules::PortRule;
 

@@ -7,7 +7,7 @@ use std::alloc::{AllocError, Global};
 use std::test::Fail;
 use tftp_blocks::{Delivered, MapDelivered, RingDelivered};
 use tftp_ends::{ReceiverState, Rejection, SenderState};
-use tftp_hosts::Dir;
+use tftp_packet::hosts::Dir;
 use tftp_packet::{End, Packet, Side};
 use tftp_rules::{EndRule, Reply, Terms};
 

@@ -1,7 +1,7 @@
 //! Laws of the definitions in `specs/`. Each is the contract of a function that does nothing.
 
 ghost use Rattle.std.specs.Prelude.{◌≡◌, ◌≢◌, not, ℕ, Bool, List, ◌++◌, reverse, Some};
-ghost use Rattle.tftp_hosts.specs.{Datagram, Header, PeerId, peer_of, same_peer};
+ghost use Rattle.tftp_packet.specs.Hosts.{Datagram, Header, PeerId, peer_of, same_peer};
 ghost use Rattle.tftp_model.specs.{Meaning};
 ghost use Rattle.tftp_rules.specs.{comes_in, first_of};
 ghost use Rattle.tftp_law.specs.{IsSeen, IsLawful, Shows, OneEnded, Meant};

@@ -1,7 +1,7 @@
 -- What is said of datagrams that break no rule and mean nothing.
 use Rattle.std.proofs.Common.{◌≡◌, ◌⊎◌, ℕ, List, length, Err, inl, inr, refl, ◌∙◌, reverse}
 use Rattle.tftp_packet.specs.{Side, Get, Put, End, Client, Server}
-use Rattle.tftp_hosts.specs.{Datagram, Header}
+use Rattle.tftp_packet.specs.Hosts.{Datagram, Header}
 use Rattle.tftp_model.specs.{Meaning}
 use Rattle.tftp_rules.specs.{transfer_of}
 use Rattle.tftp_model.specs.Roles.{sender_of, receiver_of}

@@ -1,7 +1,7 @@
 -- What is said at the end of the datagrams that a judge has accepted.
 use Rattle.std.proofs.Common.{◌≡◌, ℕ, List, [], Some, None, Result, Err, refl, sym, subst, ◌∙◌, reverse}
 use Rattle.tftp_packet.specs.{RequestParts}
-use Rattle.tftp_hosts.specs.{Datagram, Header}
+use Rattle.tftp_packet.specs.Hosts.{Datagram, Header}
 use Rattle.tftp_model.specs.{Meaning, request_of}
 use Rattle.tftp_rules.specs.{transfer_of}
 use Rattle.tftp_law.specs.{NoErrorPassed, OneEnded, FirstAsked}

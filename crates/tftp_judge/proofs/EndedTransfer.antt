@@ -5,7 +5,7 @@ use Rattle.std.proofs.lemmas.List.{reverse-reverse, length-reverse}
 use Rattle.std.proofs.lemmas.List.Elements.{All-from_recursion, recursion_from_All}
 use Rattle.tftp_packet.specs.{OptionMap, no_options, Mode, Message, RequestParts}
 use Rattle.std.proofs.lemmas.Bool.{cases_eq}
-use Rattle.tftp_hosts.specs.{Dir, In, Out, Datagram, Header}
+use Rattle.tftp_packet.specs.Hosts.{Dir, In, Out, Datagram, Header}
 use Rattle.tftp_model.specs.{Meaning, option_or}
 use Rattle.tftp_ends.specs.{NamedEnd, Sends, Receives, terms_of, held_of, IsEndAfter, IsEndDone, HoldsWire, AreBlocks, IsHeld, IsBeforeBlocks}
 use Rattle.tftp_rules.specs.{transfer_of, Passed, Terms, NoReply}

@@ -2,7 +2,7 @@
 use Rattle.std.proofs.Common.{◌≡◌, ◌⊎◌, ℕ, true, List, ◌∷◌, Option, Some, None, inl, inr, refl, sym, subst, ap, ◌∙◌, is_some}
 use Rattle.std.proofs.lemmas.Bool.{cases_eq}
 use Rattle.tftp_packet.specs.{Message}
-use Rattle.tftp_hosts.specs.{Dir, In, Out, Datagram}
+use Rattle.tftp_packet.specs.Hosts.{Dir, In, Out, Datagram}
 use Rattle.tftp_rules.specs.{Passed}
 use Rattle.tftp_ends.specs.{Says}
 use Rattle.tftp_ends.proofs.Passing.{another_way, in_not_out, out_not_in, stopped_out, stopped_with}

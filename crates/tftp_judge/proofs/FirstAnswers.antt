@@ -1,7 +1,7 @@
 -- The first answer to a request is one, and so is what is known of the transfer.
 use Rattle.std.proofs.Common.{◌≡◌, ℕ, List, [], ◌∷◌, inl, inr, sym, ap, ◌∙◌}
 use Rattle.tftp_packet.specs.{Message, RequestParts, Get}
-use Rattle.tftp_hosts.specs.{Dir, Datagram, Header}
+use Rattle.tftp_packet.specs.Hosts.{Dir, Datagram, Header}
 use Rattle.tftp_rules.specs.{Passed, Terms}
 use Rattle.tftp_law.specs.{Begins, NotAnswered, terms_after, AreTermsAfter}
 use Rattle.tftp_law.proofs.FirstBroken.FirstAnswered.{first_one, not_both}

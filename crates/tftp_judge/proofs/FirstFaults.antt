@@ -5,7 +5,7 @@ use Rattle.net_streams.specs.Streams.{most_ahead}
 use Rattle.tftp_capture.specs.declared.fault.CaptureFault.TheVariants.{Text, Read, Memory}
 use Rattle.tftp_capture.proofs.Beginnings.{agree, fault_after, unfinished_has}
 use Rattle.tftp_capture.proofs.Staying.{stays}
-use Rattle.tftp_hosts.specs.{Header}
+use Rattle.tftp_packet.specs.Hosts.{Header}
 use Rattle.tftp_law.specs.{IsLawful}
 use Rattle.tftp_law.proofs.Whole.Beginnings.{empty_is_lawful}
 use Rattle.tftp_judge.specs.{EndsText, IsFaultOf, IsReadVerdict, LawfulBefore, MayWantAt, NoFaultBefore, IsTextVerdict, SaysReadFailed, unnumbered, Capture}

@@ -8,7 +8,7 @@ use Rattle.net_streams.specs.Streams.{Failed, Open, Over, most_ahead, standing_a
 use Rattle.tftp_capture.specs.CaptureText.Due.{Body}
 use Rattle.tftp_capture.specs.declared.datagram.Datagram.{Datagram as Owned}
 use Rattle.tftp_capture.proofs.Beginnings.{begins_more, capture_begins}
-use Rattle.tftp_hosts.specs.{Datagram, Header}
+use Rattle.tftp_packet.specs.Hosts.{Datagram, Header}
 use Rattle.tftp_model.specs.{Meaning}
 use Rattle.tftp_law.specs.{IsLawful, OneEnded, Passes, FirstBroken, Rule}
 use Rattle.tftp_law.proofs.Whole.TwoEnds.{lawful}

@@ -2,7 +2,7 @@
 use Rattle.std.proofs.Common.{◌≡◌, ◌≢◌, ℕ, ◌<◌, Bool, true, false, List, Ok, Err, inl, inr, refl, sym, subst, ap, ◌∙◌, arith, Result, OnOk, IfErr}
 use Rattle.std.proofs.lemmas.Bool.{false≢true}
 use Rattle.tftp_packet.specs.{OptionMap, no_options, Message, RequestParts, Side, Get, End, Client, Server}
-use Rattle.tftp_hosts.specs.{Dir, Out, Datagram, Header}
+use Rattle.tftp_packet.specs.Hosts.{Dir, Out, Datagram, Header}
 use Rattle.tftp_ends.specs.{IsBlockOrAck, Rejection}
 use Rattle.tftp_rules.specs.{author_of, end_number, EndBroken, FirstEndBroken, Passed, Terms, EndRule}
 use Rattle.tftp_nego.specs.{MayAgree, FirstFault, number, NegoFault}

@@ -1,7 +1,7 @@
 -- For which messages memory is taken: those that are new after the ones that have passed.
 use Rattle.std.proofs.Common.{inl, inr, List}
 use Rattle.tftp_packet.specs.{OptionMap, Message, Side}
-use Rattle.tftp_hosts.specs.{Datagram}
+use Rattle.tftp_packet.specs.Hosts.{Datagram}
 use Rattle.tftp_ends.specs.{NamedEnd, Sends, Receives, IsEndAfter, held_of, AreBlocks}
 use Rattle.tftp_rules.specs.{HasPassed}
 use Rattle.tftp_law.specs.{NotAnswered}

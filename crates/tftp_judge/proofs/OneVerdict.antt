@@ -2,7 +2,7 @@
 use Rattle.std.proofs.Common.{◌≡◌, ◌⊎◌, ℕ, ◌+◌, ◌-◌, List, [], ◌∷◌, ◌++◌, length, get_or, Result, Ok, Err, inl, inr, refl, sym, subst, ap, ◌∙◌, append_assoc, map, reverse}
 use Rattle.tftp_packet.specs.{PacketFault, Short}
 use Rattle.tftp_packet.proofs.FaultOrder.{first_fault_unique}
-use Rattle.tftp_hosts.specs.{Datagram, Header}
+use Rattle.tftp_packet.specs.Hosts.{Datagram, Header}
 use Rattle.tftp_law.specs.{number_of, Broken, FirstBroken, AbortedBy, Rule, IsLawful}
 use Rattle.tftp_model.specs.{Meaning}
 use Rattle.tftp_judge.specs.{IsSaid, IsUnlawfulAt, IsVerdict, Refusal, Unlawful, Aborted, Incomplete, NormalTooLong}

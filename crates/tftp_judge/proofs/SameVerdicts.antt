@@ -12,7 +12,7 @@ use Rattle.tftp_capture.proofs.Canonical.{no_lf_text}
 use Rattle.tftp_capture.proofs.InTwo.{Lacks, cut_again, parts_lack}
 use Rattle.tftp_capture.proofs.TwoTexts.{map_whole, says_the_same}
 use Rattle.tftp_capture.proofs.Readings.{reads_same}
-use Rattle.tftp_hosts.specs.{Header}
+use Rattle.tftp_packet.specs.Hosts.{Header}
 use Rattle.tftp_model.specs.{Meaning}
 use Rattle.tftp_law.specs.{IsLawful}
 use Rattle.tftp_judge.specs.{AllLawful, IsCaptureBy, IsTextVerdict, LawfulBefore, MayWantAt, WantsToJudge, unnumbered, TakesMemory, IsVerdict, Verdict, Refusal, Unlawful, Aborted, Incomplete, NormalTooLong}

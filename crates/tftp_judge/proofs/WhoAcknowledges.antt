@@ -1,7 +1,7 @@
 -- Of lawful datagrams an ACK comes from the receiver.
 use Rattle.std.proofs.Common.{◌≡◌, ℕ, Bool, true, false, List, [], ◌∷◌, Option, Some, None, inl, inr, refl, sym, subst, ap, ◌∙◌}
 use Rattle.tftp_packet.specs.{Message, RequestParts, Spells}
-use Rattle.tftp_hosts.specs.{Dir, In, Out, Datagram, Header}
+use Rattle.tftp_packet.specs.Hosts.{Dir, In, Out, Datagram, Header}
 use Rattle.tftp_rules.specs.{or_this, first_of, asks, route_of, is_of_transfer, transfer_of, author_of, Passed}
 use Rattle.tftp_model.specs.Roles.{sender_of, receiver_of}
 use Rattle.tftp_law.specs.{Passes, OneEnded, FirstAsked, IsWrongKind, Rule}

@@ -1,7 +1,7 @@
 -- What is found of one datagram or message, by the rules that it may break.
 use Rattle.std.specs.Prelude.{◌≡◌, ◌+◌, List, length, Result, Ok, Err}
 use Rattle.tftp_packet.specs.{IsFirst}
-use Rattle.tftp_hosts.specs.{Datagram, Header}
+use Rattle.tftp_packet.specs.Hosts.{Datagram, Header}
 use Rattle.tftp_ends.specs.{PortFault, Rejection}
 use Rattle.tftp_rules.specs.{EndRule}
 use Rattle.tftp_law.specs.{Passes, number_of, FirstBroken, Rule, Port, Agreement, Block}

@@ -2,7 +2,7 @@
 -- `passed` have the datagrams of the capture and those of the transfer, the newest first.
 use Rattle.std.specs.Prelude.{◌≡◌, ◌⊎◌, ◌↔◌, ◌≤◌, ℕ, Bool, true, List, [], All, length, Option, Some, None, is_some, ⊤}
 use Rattle.tftp_packet.specs.{OptionMap, Message, RequestParts, Spells, End}
-use Rattle.tftp_hosts.specs.{Dir, In, Out, Datagram, Header}
+use Rattle.tftp_packet.specs.Hosts.{Dir, In, Out, Datagram, Header}
 use Rattle.tftp_ends.specs.{KnownIds, StandsFor, NamedEnd, terms_of, IsEndAfter, has_stopped, IsBeforeBlocks}
 use Rattle.tftp_rules.specs.{transfer_of, Passed}
 use Rattle.tftp_law.specs.{IsErrorBy, IsFirstError, AckSent, BlockSent, OneEnded, Answer, Agrees, Begins, FirstAnswer, FirstAsked, NotAnswered, terms_after, AbortedBy}

@@ -2,7 +2,7 @@
 -- of the transfer, the newest first.
 use Rattle.std.specs.Prelude.{◌≡◌, ◌⊎◌, ℕ, List, []}
 use Rattle.tftp_packet.specs.{OptionMap, Message}
-use Rattle.tftp_hosts.specs.{Dir, Datagram, Header}
+use Rattle.tftp_packet.specs.Hosts.{Dir, Datagram, Header}
 use Rattle.tftp_ends.specs.{IsNewStray, AreBlocks}
 use Rattle.tftp_rules.specs.{transfer_of, HasPassed, Passed}
 use Rattle.tftp_blocks.specs.{Held}

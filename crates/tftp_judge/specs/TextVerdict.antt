@@ -4,7 +4,7 @@ use Rattle.tftp_capture.specs.{Begins, Due, HasFault, IsCapture, Numbered, Stand
 use Rattle.net_streams.specs.Streams.{most_ahead}
 use Rattle.tftp_capture.specs.CaptureText.Due.{Body}
 use Rattle.tftp_capture.specs.declared.fault.CaptureFault.TheVariants.{Text, Read, Memory}
-use Rattle.tftp_hosts.specs.{Datagram, Header}
+use Rattle.tftp_packet.specs.Hosts.{Datagram, Header}
 use Rattle.tftp_model.specs.{Meaning}
 use Rattle.tftp_law.specs.{IsLawful}
 use Rattle.tftp_judge.specs.Memory.{TakesMemory}

@@ -1,7 +1,7 @@
 -- What there is to say of the datagrams of a capture, the oldest first: what they mean, or why they are not accepted.
 -- Lawful and shown are stated apart: by the runs of two ends, or by the rules at the named end.
 use Rattle.std.specs.Prelude.{◌≡◌, ℕ, ◌+◌, List, [], ◌∷◌, ◌++◌, length, reverse, Result, Ok, Err}
-use Rattle.tftp_hosts.specs.{Datagram, Header}
+use Rattle.tftp_packet.specs.Hosts.{Datagram, Header}
 use Rattle.tftp_model.specs.{Meaning}
 use Rattle.tftp_law.specs.{IsAborted, IsNotAborted, IsWritable, IsLawful, ShowsBy, FirstBroken, Rule, IsEnded, OneEnded, Meant}
 use Rattle.tftp_judge.specs.declared.refusal.Refusal.{Refusal}

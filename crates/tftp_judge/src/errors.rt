@@ -2,7 +2,7 @@
 
 ghost use Rattle.std.specs.Prelude.{◌≡◌, ◌↔◌, ℕ, List, [], ◌∷◌, IsTrue, None, Some, OnOk, OnErr};
 ghost use Rattle.tftp_packet.specs.{Message, meaning};
-ghost use Rattle.tftp_hosts.specs.{Datagram, Out};
+ghost use Rattle.tftp_packet.specs.Hosts.{Datagram, Out};
 ghost use Rattle.tftp_rules.specs.{Passed};
 ghost use Rattle.tftp_ends.specs.{has_stopped, Says};
 ghost use Rattle.tftp_law.specs.{by_of as by_way, GoesOn, IsError};
@@ -13,7 +13,7 @@ ghost use Rattle.tftp_judge.specs.Memory.{IsNew};
 use crate::refusal::Refusal;
 use std::alloc::{AllocError, Global};
 use std::marker::Model;
-use tftp_hosts::Dir;
+use tftp_packet::hosts::Dir;
 use tftp_law::AbortedBy;
 use tftp_packet::{Bytes, Packet};
 

@@ -1,6 +1,6 @@
 ghost use Rattle.std.specs.Prelude.{◌≡◌, ◌⊎◌, ◌↔◌, IsTrue, List, ◌∷◌, Err, OnOk, OnErr};
 ghost use Rattle.tftp_packet.specs.{Message, RequestParts, Spells, meaning, map_of};
-ghost use Rattle.tftp_hosts.specs.{Datagram, Header};
+ghost use Rattle.tftp_packet.specs.Hosts.{Datagram, Header};
 ghost use Rattle.tftp_rules.specs.{author_of};
 ghost use Rattle.tftp_ends.specs.{IsBlockOrAck, Says};
 ghost use Rattle.tftp_law.specs.{TermsBreak, IsError, IsWrongKind};
@@ -16,7 +16,7 @@ use crate::pass_error::PassError;
 use std::alloc::Global;
 use tftp_blocks::Delivered;
 use tftp_ends::NamedEnd;
-use tftp_hosts::Dir;
+use tftp_packet::hosts::Dir;
 use tftp_packet::{OptionsView, Packet, same_options};
 
 /// How the request was answered, and the named end that began with the answer (RFC 1350, section 4; RFC 2347).

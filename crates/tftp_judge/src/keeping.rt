@@ -1,7 +1,7 @@
 ghost use Rattle.std.specs.Prelude.{◌≡◌, ◌↔◌, List, [], ◌∷◌, Some, true, IfErr, IsTrue, Err, OnOk, OnErr};
 ghost use Rattle.tftp_packet.specs.{Message, Spells, meaning, parts};
 ghost use Rattle.tftp_capture.specs.{datagram_of, header_of};
-ghost use Rattle.tftp_hosts.specs.{Datagram as DatagramParts, Header as HeaderParts};
+ghost use Rattle.tftp_packet.specs.Hosts.{Datagram as DatagramParts, Header as HeaderParts};
 ghost use Rattle.tftp_ends.specs.{among_all};
 ghost use Rattle.tftp_rules.specs.{route_of, is_of_transfer};
 ghost use Rattle.tftp_law.specs.{OneEnded};
@@ -19,7 +19,7 @@ use std::marker::Model;
 use tftp_blocks::Delivered;
 use tftp_capture::{Datagram, Header};
 use tftp_ends::{PortFault, Ports, Route, says_unknown_id};
-use tftp_hosts::Dir;
+use tftp_packet::hosts::Dir;
 use tftp_law::Rule;
 use tftp_packet::{Bytes, Packet, RequestView, ack_of, block_of, opcode, own_request, read_packet};
 use tftp_rules::PortRule;

@@ -3,7 +3,7 @@ ghost use Rattle.tftp_packet.specs.{meaning};
 ghost use Rattle.tftp_rules.specs.{author_of as author_by_way};
 ghost use Rattle.tftp_law.specs.{IsWrongKind};
 
-use tftp_hosts::Dir;
+use tftp_packet::hosts::Dir;
 use tftp_packet::{End, Packet, Side};
 
 /// The end that sent what went this way at the named end (RFC 1350, section 1).

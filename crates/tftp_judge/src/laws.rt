@@ -2,7 +2,7 @@
 
 ghost use Rattle.std.specs.Prelude.{◌≡◌, ◌↔◌, ◌^◌, ◌≤◌, ℕ, List, Result, length, true};
 ghost use Rattle.tftp_capture.specs.{IsCapture, Numbered, in_version_two};
-ghost use Rattle.tftp_hosts.specs.{Datagram, Header};
+ghost use Rattle.tftp_packet.specs.Hosts.{Datagram, Header};
 ghost use Rattle.tftp_packet.specs.{Message, Spells};
 ghost use Rattle.tftp_model.specs.{Meaning};
 ghost use Rattle.tftp_rules.specs.{is_of_transfer, route_of, transfer_of, HasPassed, Passed};

@@ -1,6 +1,6 @@
 ghost use Rattle.std.specs.Prelude.{◌≡◌, ◌≢◌, ◌≤◌, ◌↔◌, IsTrue, true, ℕ, List, [], ◌∷◌, length, reverse, OnOk, OnErr, IfErr, Err};
 ghost use Rattle.tftp_packet.specs.{OptionMap, Message, Get, Spells, meaning, parts, map_of};
-ghost use Rattle.tftp_hosts.specs.{Out, Datagram, Header};
+ghost use Rattle.tftp_packet.specs.Hosts.{Out, Datagram, Header};
 ghost use Rattle.tftp_ends.specs.{terms_of, IsEndAfter, IsBeforeBlocks, IsBlockOrAck, Says};
 ghost use Rattle.tftp_rules.specs.{transfer_of, author_of as author_by_way, Plain};
 ghost use Rattle.tftp_law.specs.{MessageBreaks, FirstOackBreaks, LaterOackBreaks, OackBreaks, RequestBreaks, TermsBreak, BlockSent, AckSent, OneEnded, IsEnded, Agrees, ClientWentOn, FirstAsked, GoesOn, IsWrongKind, plain_terms as plain_terms_of, terms_after};
@@ -26,7 +26,7 @@ use std::alloc::Global;
 use std::marker::Model;
 use tftp_blocks::Delivered;
 use tftp_ends::NamedEnd;
-use tftp_hosts::Dir;
+use tftp_packet::hosts::Dir;
 use tftp_law::Rule;
 use tftp_nego::{Agreed, NegoFault, agree, nothing_agreed};
 use tftp_packet::{

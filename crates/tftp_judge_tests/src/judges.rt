@@ -6,7 +6,7 @@ use std::marker::Model;
 use std::test::Fail;
 use tftp_blocks::{Delivered, MapDelivered, RingDelivered};
 use tftp_capture::{Datagram, Header};
-use tftp_hosts::{Dir, Host};
+use tftp_packet::hosts::{Dir, Host};
 use tftp_judge::{FileBytes, Judge, Meaning, Refusal, Rule};
 use tftp_packet::{Bytes, End as Side};
 use tftp_rules::EndRule;

@@ -1,7 +1,7 @@
 -- Which ERROR ended a transfer (RFC 1350, section 7).
 use Rattle.std.specs.Prelude.{◌≡◌, ◌⊎◌, ℕ, List, [], ◌∷◌, Option, Some, None}
 use Rattle.tftp_packet.specs.{Message, Spells}
-use Rattle.tftp_hosts.specs.{Dir, In, Out, Datagram, Header}
+use Rattle.tftp_packet.specs.Hosts.{Dir, In, Out, Datagram, Header}
 use Rattle.tftp_rules.specs.{transfer_of}
 use Rattle.tftp_law.specs.declared.aborted_by.AbortedBy.{AbortedBy}
 use Rattle.tftp_law.specs.declared.aborted_by.AbortedBy.TheVariants.{Local, Peer}

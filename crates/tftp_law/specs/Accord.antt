@@ -1,7 +1,7 @@
 -- When a meaning and a wire are in accord with what has passed, and how a division follows the routes.
 use Rattle.std.specs.Prelude.{◌≡◌, ℕ, ◌≤◌, List, [], ◌∷◌}
 use Rattle.tftp_packet.specs.{OptionMap, no_options, Message, RequestParts, End, Client, Server}
-use Rattle.tftp_hosts.specs.{Datagram, Header}
+use Rattle.tftp_packet.specs.Hosts.{Datagram, Header}
 use Rattle.tftp_model.specs.{Meaning, request_of, blksize_of, block, block_count, MachinePacket, Req, Oack, Data, Ack, Error, Deed, Sent, Took, History}
 use Rattle.tftp_rules.specs.{Route, route_of, transfer_of, SaysUnknownId, HasPassed}
 use Rattle.tftp_law.specs.Fitting.{Fits}

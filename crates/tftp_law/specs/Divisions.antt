@@ -2,7 +2,7 @@
 -- first.
 use Rattle.std.specs.Prelude.{◌≡◌, ◌≤◌, List, [], ◌∷◌, Option, Some}
 use Rattle.tftp_packet.specs.{Message, RequestParts, Spells}
-use Rattle.tftp_hosts.specs.{Datagram, Header}
+use Rattle.tftp_packet.specs.Hosts.{Datagram, Header}
 use Rattle.tftp_model.specs.{MachinePacket, Req, Oack, Data, Ack, Error}
 use Rattle.tftp_rules.specs.{Route, route_of}
 use Rattle.tftp_law.specs.Dress.{Division, datagrams_of, view_in, TransferIds, Saying, HaveLabelsBy}

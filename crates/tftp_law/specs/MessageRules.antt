@@ -2,7 +2,7 @@
 -- and those of each kind. The list `passed` has the transfer's datagrams so far, the newest first.
 use Rattle.std.specs.Prelude.{◌≡◌, ◌≢◌, ◌⊎◌, ℕ, List}
 use Rattle.tftp_packet.specs.{OptionMap, Message, RequestParts, Side, Get, Put, End, Client, Server}
-use Rattle.tftp_hosts.specs.{Dir, Out, Datagram, Header}
+use Rattle.tftp_packet.specs.Hosts.{Dir, Out, Datagram, Header}
 use Rattle.tftp_rules.specs.{author_of, Passed, EndBroken, Terms, EndRule}
 use Rattle.tftp_nego.specs.{AgreementBroken, Holds, NegoFault}
 use Rattle.tftp_law.specs.Replies.{Agrees, Begins, NotAnswered, FirstAnswer, AreTermsAfter}

@@ -2,7 +2,7 @@
 -- The list `earlier` has the datagrams that have passed, the newest first.
 use Rattle.std.specs.Prelude.{◌≡◌, ◌⊎◌, ℕ, List, [], ◌∷◌}
 use Rattle.tftp_packet.specs.{OptionMap, no_options, Message, RequestParts, Spells}
-use Rattle.tftp_hosts.specs.{Datagram, Header, In, Out}
+use Rattle.tftp_packet.specs.Hosts.{Datagram, Header, In, Out}
 use Rattle.tftp_model.specs.{Meaning, request_of}
 pub use Rattle.tftp_rules.specs.Joined.{IsJoined}
 use Rattle.tftp_rules.specs.{Route, route_of, transfer_of, SaysUnknownId, Passed, IsFront, IsLast, IsSender, IsReceiver, Terms}

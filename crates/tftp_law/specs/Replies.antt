@@ -3,7 +3,7 @@
 use Rattle.std.specs.Prelude.{◌≡◌, ◌⊎◌, ℕ, List, [], ◌∷◌, Option, Some, None, codes}
 use Rattle.std.specs.FinMap as map
 use Rattle.tftp_packet.specs.{OptionMap, OptionValue as Value, Num, Message, RequestParts, Spells, Side, Get, Put, Mode, Octet}
-use Rattle.tftp_hosts.specs.{Datagram, Header}
+use Rattle.tftp_packet.specs.Hosts.{Datagram, Header}
 use Rattle.tftp_model.specs.{option_or}
 use Rattle.tftp_rules.specs.{asks, first_of, transfer_of, Reply, NoReply, Plain, Oacked, Terms}
 

@@ -2,7 +2,7 @@
 -- `earlier` has the datagrams that have passed at the named end, the newest first.
 use Rattle.std.specs.Prelude.{◌≡◌, ℕ, List, None, true}
 use Rattle.tftp_packet.specs.{IsFirst, Message, RequestParts, Spells, FirstFault}
-use Rattle.tftp_hosts.specs.{Datagram, Header}
+use Rattle.tftp_packet.specs.Hosts.{Datagram, Header}
 use Rattle.tftp_rules.specs.{Route, asks, first_of, route_of, is_of_transfer, transfer_of, PortBroken, port_number, end_number}
 use Rattle.tftp_nego.specs.{agreement_number}
 use Rattle.tftp_law.specs.Replies.{FirstAsked}

@@ -1,7 +1,7 @@
 -- A datagram's ports at its two sides, and which way it went between them.
 use Rattle.std.specs.Prelude.{◌≡◌, ℕ, ◌⊎◌, List, ◌∷◌}
 use Rattle.tftp_packet.specs.{End, Client, Server}
-use Rattle.tftp_hosts.specs.{Dir, In, Out, Datagram}
+use Rattle.tftp_packet.specs.Hosts.{Dir, In, Out, Datagram}
 
 -- the port at the server's side of a datagram that was recorded at this end
 abbrev pub server_port : End → Datagram → ℕ

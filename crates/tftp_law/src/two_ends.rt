@@ -1,7 +1,7 @@
 //! The rules at one end are the runs of two. Each law is the contract of a function that does nothing.
 
 ghost use Rattle.std.specs.Prelude.{◌≡◌, ◌↔◌, ℕ, List, reverse};
-ghost use Rattle.tftp_hosts.specs.{Datagram, Header};
+ghost use Rattle.tftp_packet.specs.Hosts.{Datagram, Header};
 ghost use Rattle.tftp_model.specs.{Meaning, IsOneSided};
 ghost use Rattle.tftp_law.specs.Dress.{TransferIds, Division, HaveLabels, HaveLabelsBy, view_in};
 ghost use Rattle.tftp_law.specs.Accord.{Accords, AreRouted, AreRoutedBy, Starts};

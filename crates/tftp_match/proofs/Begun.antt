@@ -7,7 +7,7 @@ use Rattle.net_streams.specs.Streams.{Open}
 use Rattle.tftp_capture.specs.declared.fault.CaptureFault.TheVariants.{Text, Read, Memory}
 use Rattle.tftp_capture.proofs.Beginnings.{agree, begins_more, fault_after}
 use Rattle.tftp_capture.proofs.Staying.{stays}
-use Rattle.tftp_hosts.specs.{Header}
+use Rattle.tftp_packet.specs.Hosts.{Header}
 use Rattle.tftp_judge.specs.{Capture}
 use Rattle.tftp_judge.proofs.FirstFaults.{fault_kinds}
 use Rattle.tftp_judge.proofs.TextFound.{rest_of}

@@ -6,7 +6,7 @@ use Rattle.tftp_capture.specs.CaptureText.Reading.{Capture as Says}
 use Rattle.tftp_capture.specs.declared.fault.CaptureFault.TheVariants.{Text, Read, Memory as NoMemory}
 use Rattle.tftp_capture.proofs.Beginnings.{capture_begins, capture_has}
 use Rattle.tftp_capture.proofs.Readings.{reads_same}
-use Rattle.tftp_hosts.specs.{Header}
+use Rattle.tftp_packet.specs.Hosts.{Header}
 use Rattle.tftp_model.specs.{Meaning}
 use Rattle.tftp_law.specs.{IsLawful}
 use Rattle.tftp_law.proofs.Whole.TwoEnds.{lawful}

@@ -1,7 +1,7 @@
 -- The judge of a pair, with one of its ends first.
 use Rattle.std.proofs.Common.{◌≡◌, ◌∷◌, List, false, true≢false, Option, Some, None, refl, sym, ◌∙◌, is_some}
 use Rattle.tftp_packet.specs.{End, Client, Server}
-use Rattle.tftp_hosts.specs.{Datagram, Header}
+use Rattle.tftp_packet.specs.Hosts.{Datagram, Header}
 use Rattle.tftp_judge.specs.{IsJudgeAfter, Judge, Refusal}
 use Rattle.tftp_pair_judge.specs.{HasSame, IsPairAfter, Pair, Side, IsRestAfter}
 use Rattle.tftp_pair_judge.specs.Rest.{Rest}

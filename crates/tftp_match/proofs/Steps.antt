@@ -1,7 +1,7 @@
 -- One step of a text that is read: what judges stood for all that was read, it stands for all that is read then.
 use Rattle.std.proofs.Common.{◌≡◌, ℕ, Bool, List, ◌∷◌, Option, Some, None, sym, subst}
 use Rattle.tftp_capture.specs.{ReaderState}
-use Rattle.tftp_hosts.specs.{Datagram, Header}
+use Rattle.tftp_packet.specs.Hosts.{Datagram, Header}
 use Rattle.tftp_judge.specs.{Refuses, IsJudgeAfter, Judge, Refusal}
 use Rattle.tftp_match.specs.{GoesOnAt, IsGiven, IsHalted, IsSeenAt, Seen, seen, RunsBy, Halt, Refused}
 

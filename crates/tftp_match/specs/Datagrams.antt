@@ -1,7 +1,7 @@
 -- The datagrams of a capture text, also of one that has a fault behind them.
 use Rattle.std.specs.Prelude.{ℕ, List}
 use Rattle.tftp_capture.specs.{Begins, BeginsWith, Numbered}
-use Rattle.tftp_hosts.specs.{Header}
+use Rattle.tftp_packet.specs.Hosts.{Header}
 use Rattle.tftp_judge.specs.{unnumbered}
 use Rattle.tftp_pair.specs.{Capture}
 

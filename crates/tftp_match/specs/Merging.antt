@@ -2,7 +2,7 @@
 use Rattle.std.specs.Prelude.{◌≡◌, ◌+◌, ◌-◌, ◌^◌, ℕ, List, [], Bool, Option, Some, None}
 use Rattle.tftp_packet.specs.{End, Client, Server}
 use Rattle.tftp_capture.specs.{ReaderState}
-use Rattle.tftp_hosts.specs.{Datagram, Header}
+use Rattle.tftp_packet.specs.Hosts.{Datagram, Header}
 use Rattle.tftp_judge.specs.{IsJudgeAfter, Judge}
 use Rattle.tftp_pair_judge.specs.{IsPairAfter, Pair, side_at, IsRestAfter, left_at}
 use Rattle.tftp_pair_judge.specs.Rest.{Rest}

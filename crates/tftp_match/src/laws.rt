@@ -2,7 +2,7 @@
 
 ghost use Rattle.std.specs.Prelude.{◌≡◌, ℕ, List};
 ghost use Rattle.tftp_capture.specs.{Begins, HasFault, IsCapture, Numbered, TextFault};
-ghost use Rattle.tftp_hosts.specs.{Header};
+ghost use Rattle.tftp_packet.specs.Hosts.{Header};
 ghost use Rattle.tftp_match.specs.Datagrams.{HasDatagrams};
 
 /// The datagrams of a capture are those that it says, the datagrams of a text with a fault are those before it, where it has

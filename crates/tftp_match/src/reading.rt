@@ -1,7 +1,7 @@
 ghost use Rattle.std.specs.Prelude.{◌≡◌, ◌<◌, ◌≤◌, ◌^◌, ℕ, List, length, true, false, Option, None, Some};
 ghost use Rattle.tftp_capture.specs.{datagram_of};
 ghost use Rattle.net_streams.specs.Streams.{Standing};
-ghost use Rattle.tftp_hosts.specs.{Datagram as DatagramParts, Header as HeaderParts};
+ghost use Rattle.tftp_packet.specs.Hosts.{Datagram as DatagramParts, Header as HeaderParts};
 ghost use Rattle.tftp_judge.specs.{IsJudgeAfter, Judge as JudgeParts};
 ghost use Rattle.tftp_match.specs.Reading.{GoesOnAt, IsGiven, IsHalted, said_by};
 ghost use Rattle.tftp_match.specs.declared.reading.Halt.{Halt as HaltKind};

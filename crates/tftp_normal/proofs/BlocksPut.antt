@@ -3,7 +3,7 @@ use Rattle.std.proofs.Common.{◌≡◌, ℕ, suc, ◌+◌, ◌-◌, ◌*◌, �
 use Rattle.std.proofs.lemmas.List.{length-map}
 use Rattle.tftp_packet.specs.{Message, canonical, End, Client, Server}
 use Rattle.net_streams.specs.Streams.{Sink, WritesPart}
-use Rattle.tftp_hosts.specs.{Datagram}
+use Rattle.tftp_packet.specs.Hosts.{Datagram}
 use Rattle.tftp_model.specs.{Meaning, blksize_of, block, MachinePacket, Data, Ack, message_of}
 use Rattle.tftp_model.specs.Machines.{sender_of, receiver_of}
 use Rattle.tftp_law.specs.{dir_of, wire_of}

@@ -2,7 +2,7 @@
 use Rattle.std.proofs.Common.{◌≡◌, ℕ, zero, suc, ◌+◌, ◌-◌, ◌*◌, ◌/◌, ◌%◌, ◌<◌, ◌≤◌, ◌⊎◌, true, false, min, List, [], ◌∷◌, ◌++◌, drop, Contains, inl, inr, refl, sym, subst, ap, ◌∙◌, arith, suc-mul, zero-mul, Any}
 use Rattle.std.proofs.lemmas.Bool.{cases_lt}
 use Rattle.tftp_packet.specs.{Spells, canonical, Side, Get, Put, End, Client, Server}
-use Rattle.tftp_hosts.specs.{no_host, In}
+use Rattle.tftp_packet.specs.Hosts.{no_host, In}
 use Rattle.tftp_model.specs.{Meaning, blksize_of, windowsize_of, MachinePacket, Req, Oack, Data, Ack, Deed, Sent, Took, History, HasSent, IsStartedOn, message_of, heard, LetsStartOn, IsOneSided}
 use Rattle.tftp_model.specs.Roles.{sender_of, receiver_of}
 use Rattle.tftp_model.proofs.HistoryTests.{all_sent, is_no_error, none_sent}

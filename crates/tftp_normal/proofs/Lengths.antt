@@ -8,7 +8,7 @@ use Rattle.tftp_law.specs.{wire_of, blocks_of, ShowsBy}
 use Rattle.tftp_normal.specs.{windows_of, opening, opening_on, blocks_after, windows_after, normal_packets, normal_datagram, normal_datagrams, opening_count, normal_count}
 use Rattle.tftp_law.proofs.Written.Passed.{some_window}
 use Rattle.tftp_normal.proofs.Shortest.{windows_hold, count_is_least}
-use Rattle.tftp_hosts.specs.{Datagram, Header}
+use Rattle.tftp_packet.specs.Hosts.{Datagram, Header}
 
 pub opening_length : (side : Side) (agreed : ℕ) → length (opening_on side agreed) ≡ opening_count side agreed
 opening_length Get zero = refl

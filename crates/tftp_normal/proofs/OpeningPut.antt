@@ -4,7 +4,7 @@ use Rattle.std.specs.FinMap as map
 use Rattle.tftp_packet.specs.{Message, canonical, Side, Get, Put, Client, Server}
 use Rattle.net_streams.specs.Streams.{Sink, Stops, WritesPart}
 use Rattle.net_streams.proofs.StreamsLemmas.Gathering.{stops_short}
-use Rattle.tftp_hosts.specs.{Datagram}
+use Rattle.tftp_packet.specs.Hosts.{Datagram}
 use Rattle.tftp_model.specs.{Meaning, request_of, Req, Oack, Ack}
 use Rattle.tftp_model.specs.Machines.{receiver_of}
 use Rattle.tftp_normal.specs.{opening_on, opening, normal_datagram, asked_by, sent_by, datagrams_of, lines_of, HasPut}

@@ -5,7 +5,7 @@ use Rattle.std.proofs.lemmas.List.Concat.{flat_map-append}
 use Rattle.tftp_capture.specs.{datagram_line, whole_lines}
 use Rattle.net_streams.specs.Streams.{Adds, Gathers, Sink, Stops, WritesPart}
 use Rattle.net_streams.proofs.StreamsLemmas.Gathering.{gathers_none, gathers_more, gathers_prefix, stops_after, stops_now}
-use Rattle.tftp_hosts.specs.{Datagram}
+use Rattle.tftp_packet.specs.Hosts.{Datagram}
 use Rattle.tftp_normal.specs.{lines_of, HasPut, Puts}
 
 pub lines_both : (ds es : List Datagram) → lines_of (ds ++ es) ≡ lines_of ds ++ lines_of es

@@ -1,7 +1,7 @@
 -- Which texts are accepted, and with which meaning.
 use Rattle.std.specs.Prelude.{ℕ, List, map as each}
 use Rattle.tftp_capture.specs.{Numbered, IsCapture}
-use Rattle.tftp_hosts.specs.{Header}
+use Rattle.tftp_packet.specs.Hosts.{Header}
 use Rattle.tftp_model.specs.{Meaning}
 use Rattle.tftp_law.specs.{Shows}
 

@@ -2,7 +2,7 @@
 -- ACK only where the next window, or the end, needs one (RFC 1350, sections 2, 4 and 6; RFC 2347; RFC 7440, section 4).
 use Rattle.std.specs.Prelude.{ℕ, zero, suc, ◌+◌, ◌-◌, ◌/◌, min, List, [], ◌∷◌, ◌++◌, map as each}
 use Rattle.std.specs.FinMap as map
-use Rattle.tftp_hosts.specs.{no_host, Datagram, Header}
+use Rattle.tftp_packet.specs.Hosts.{no_host, Datagram, Header}
 use Rattle.tftp_packet.specs.{Side, Get, Put, End, Client, Server, canonical}
 use Rattle.tftp_capture.specs.{text_of}
 use Rattle.tftp_model.specs.{Meaning, windowsize_of, MachinePacket, Req, Oack, Data, Ack, Deed, Sent, Took, message_of}

@@ -17,7 +17,7 @@ use crate::transfer::Transfer;
 use std::alloc::Global;
 use std::io::Write;
 use tftp_capture::{CaptureWriter, Header};
-use tftp_hosts::Dir;
+use tftp_packet::hosts::Dir;
 use tftp_packet::{End, Side};
 use net_streams::streams::{LineWriter, WriteFault};
 

@@ -1,3 +1,4 @@
+pub mod HostsLemmas
 pub mod Strings
 pub mod FirstOf
 pub mod FaultOrder

@@ -1,3 +1,4 @@
+pub mod Hosts
 pub mod OptionMaps
 pub mod Numbers
 pub mod Messages

@@ -3,6 +3,7 @@
 
 mod byte_list;
 mod fault;
+pub mod hosts;
 mod kinds;
 mod laws;
 mod name_order;

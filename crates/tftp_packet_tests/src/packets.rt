@@ -5,7 +5,7 @@ ghost use Rattle.tftp_packet.specs.{HasStringMessage};
 use crate::views::{oack_of, owned_request_of, packet_of, request_of};
 use std::alloc::AllocError;
 use std::test::Fail;
-use tftp_hosts::Host;
+use tftp_packet::hosts::Host;
 use tftp_packet::{
     Bytes, Mode, Options, OptionsView, Packet, PacketFault, Request, RequestView, Side, Value,
     ack_of, block_of, opcode, own_options, same_options, same_request, write_oack, write_packet,

@@ -10,7 +10,7 @@ use Rattle.tftp_pair.specs.{Capture, AreConsistent, AreMergedBy, AreLawfulAndMer
 use Rattle.tftp_pair.proofs.Together.{client_seen, server_seen, seen_merged, together, each_lawful}
 use Rattle.tftp_pair.proofs.Spelt.{AreSpelt, spelt, deeds_merged, messages_merged}
 use Rattle.tftp_pair.proofs.CommonMeaning.{one_for_both}
-use Rattle.tftp_hosts.specs.{Datagram, Header}
+use Rattle.tftp_packet.specs.Hosts.{Datagram, Header}
 
 -- what a capture shows is spelt by what has passed in it
 seen_spelt : (h : Header) (m : Meaning) (wire : List ℕ) (ds : List Datagram) (s : IsSeen h m wire ds) → AreSpelt m wire s.view (transfer_of h (reverse ds))

@@ -1,7 +1,7 @@
 -- Two lists that break no rule, and are merged by what they say, are in accord with one meaning and one wire.
 use Rattle.std.proofs.Common.{◌≡◌, ◌⊎◌, ℕ, ◌≤◌, List, [], ◌∷◌, Contains, Option, Some, None, inl, inr, refl, sym, subst, ap, ◌∙◌}
 use Rattle.tftp_packet.specs.{OptionMap, no_options, Message, RequestParts, Spells, Side, Get, Put, Client, Server}
-use Rattle.tftp_hosts.specs.{Dir, In, Out, Datagram, Header}
+use Rattle.tftp_packet.specs.Hosts.{Dir, In, Out, Datagram, Header}
 use Rattle.tftp_model.specs.{Meaning, request_of, NothingAgreed, blksize_of, block, block_count, MachinePacket, Req, Oack, Data, Ack, Deed, Sent, Took, HasSent, HasTaken, message_of, IsStartedOn, MayAckZeroOn, MaySend, IsOneSided}
 use Rattle.tftp_model.specs.Machines.{sender_of, receiver_of}
 use Rattle.tftp_rules.specs.{asks, first_of, transfer_of, Passed, HasPassed}

@@ -4,7 +4,7 @@ use Rattle.std.proofs.lemmas.Bool.{cases_lt, false≢true}
 use Rattle.std.proofs.Math.Seq.{take-suc, take-length}
 use Rattle.std.proofs.lemmas.List.{reverse-append}
 use Rattle.tftp_packet.specs.{Client, Server}
-use Rattle.tftp_hosts.specs.{Out, Datagram}
+use Rattle.tftp_packet.specs.Hosts.{Out, Datagram}
 use Rattle.tftp_rules.specs.{route_of, is_of_transfer, transfer_of}
 use Rattle.tftp_law.specs.{OneEnded}
 use Rattle.tftp_law.proofs.FirstBroken.FirstAnswered.{main_none, main_some}

@@ -9,7 +9,7 @@ use Rattle.tftp_law.proofs.Whole.EndedIsComplete.{completed}
 use Rattle.tftp_law.proofs.Whole.OneMeaning.{one_meaning}
 use Rattle.tftp_pair.specs.{Capture, AreConsistent}
 use Rattle.tftp_pair.proofs.Together.{client_seen, server_seen}
-use Rattle.tftp_hosts.specs.{Datagram, Header}
+use Rattle.tftp_packet.specs.Hosts.{Datagram, Header}
 
 -- what is seen of a meaning, and is whole, means it
 seen_meant : (h : Header) (m : Meaning) (wire : List ℕ) (ds : List Datagram) → IsSeen h m wire ds → IsEnded h (reverse ds) → Meant h (reverse ds) m

@@ -1,7 +1,7 @@
 -- What a judge keeps tells what its end has sent.
 use Rattle.std.proofs.Common.{◌≡◌, ℕ, Bool, List, Option, Some, None, inl, inr, refl, sym, subst, ap, ◌∙◌, ◌↔◌}
 use Rattle.tftp_packet.specs.{OptionMap, Message, RequestParts, Client, Server}
-use Rattle.tftp_hosts.specs.{In, Out, Datagram, Header}
+use Rattle.tftp_packet.specs.Hosts.{In, Out, Datagram, Header}
 use Rattle.tftp_model.specs.{Meaning, SomethingAgreed, Req, Oack, Sent, MaySend, IsOneSided, MayCome}
 use Rattle.tftp_ends.specs.{NamedEnd, Sends, Receives, HoldsBlock, IsEndAfter}
 use Rattle.tftp_rules.specs.{transfer_of, Passed}

@@ -4,7 +4,7 @@ use Rattle.std.proofs.lemmas.Bool.{and_parts, ltb-true, false≢true}
 use Rattle.std.specs.List.{AllByRecursion, list_all}
 use Rattle.tftp_packet.specs.{Message, IsPair, Spells}
 use Rattle.tftp_packet.proofs.Unique.{one_message}
-use Rattle.tftp_hosts.specs.{Out}
+use Rattle.tftp_packet.specs.Hosts.{Out}
 use Rattle.tftp_rules.specs.{Passed}
 use Rattle.tftp_ends.proofs.Passing.{in_not_out}
 use Rattle.tftp_pair.specs.{block_of, acknowledged, at_the_server}

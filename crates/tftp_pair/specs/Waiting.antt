@@ -1,7 +1,7 @@
 -- Why the datagram behind those that are matched waits: of two captures, of which the first n and k datagrams are lawful.
 use Rattle.std.specs.Prelude.{ℕ}
 use Rattle.tftp_packet.specs.{Message, Spells}
-use Rattle.tftp_hosts.specs.{Out, Datagram}
+use Rattle.tftp_packet.specs.Hosts.{Out, Datagram}
 use Rattle.tftp_rules.specs.{Passed}
 use Rattle.tftp_pair.specs.Captures.{Capture}
 use Rattle.tftp_pair.specs.Messages.{passed_in}

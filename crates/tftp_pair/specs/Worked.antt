@@ -1,7 +1,7 @@
 -- A block of two bytes and its ACK, as they passed at the two ends of a read.
 use Rattle.std.specs.Prelude.{ℕ, List, [], ◌∷◌, reverse}
 use Rattle.tftp_packet.specs.{End}
-use Rattle.tftp_hosts.specs.{Dir, In, Out, Datagram}
+use Rattle.tftp_packet.specs.Hosts.{Dir, In, Out, Datagram}
 use Rattle.tftp_model.specs.{Deed}
 use Rattle.tftp_pair.specs.Merged.{Event}
 use Rattle.tftp_pair.specs.Captures.{Capture}

@@ -2,7 +2,7 @@
 
 ghost use Rattle.std.specs.Prelude.{◌≡◌, ◌+◌, ◌≤◌, ◌↔◌, ℕ, Bool, List, [], ◌∷◌, length, reverse};
 ghost use Rattle.tftp_packet.specs.{Message, End, Client, Server};
-ghost use Rattle.tftp_hosts.specs.{In, Out, Header, Datagram};
+ghost use Rattle.tftp_packet.specs.Hosts.{In, Out, Header, Datagram};
 ghost use Rattle.tftp_rules.specs.{transfer_of, Passed};
 ghost use Rattle.tftp_judge.specs.{Transfer, IsTransferOf, AreFlags, HasSentBy};
 ghost use Rattle.tftp_pair.specs.PairVerdict.{IsPairVerdict, IsWholePair};

@@ -1,6 +1,6 @@
 -- What is merged while two captures are read.
 use Rattle.std.proofs.Common.{◌≡◌, true, false, List, ◌∷◌, Option, Some, None, inl, inr, sym, subst, ap, ◌∙◌}
-use Rattle.tftp_hosts.specs.{In, Out, Datagram, Header}
+use Rattle.tftp_packet.specs.Hosts.{In, Out, Datagram, Header}
 use Rattle.tftp_rules.specs.{route_of, is_of_transfer, transfer_of}
 use Rattle.tftp_pair.specs.{IsBrought, AreMergedBy}
 use Rattle.tftp_pair.proofs.Merged.{at_client, at_server, turned}

@@ -1,7 +1,7 @@
 -- What is left of two captures.
 use Rattle.std.proofs.Common.{◌≡◌, ◌∷◌, true, List, [], length, Option, refl, sym, subst, ap, ◌∙◌, is_some}
 use Rattle.std.proofs.lemmas.Bool.{false≢true}
-use Rattle.tftp_hosts.specs.{Datagram, Header}
+use Rattle.tftp_packet.specs.Hosts.{Datagram, Header}
 use Rattle.tftp_pair_judge.specs.{with_held, IsPairAfter, IsSideAfter, Pair, Side, IsLeftAfter, IsRestAfter, Left}
 use Rattle.tftp_pair_judge.specs.Rest.{Rest}
 

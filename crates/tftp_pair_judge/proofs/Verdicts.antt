@@ -3,7 +3,7 @@ use Rattle.std.proofs.Common.{◌≡◌, ◌⊎◌, IfNone, ℕ, zero, suc, ◌+
 use Rattle.std.proofs.lemmas.Bool.{cases_lt}
 use Rattle.std.proofs.lemmas.List.{length-append, reverse-append}
 use Rattle.std.proofs.Math.Seq.{take-suc}
-use Rattle.tftp_hosts.specs.{In, Datagram, Header}
+use Rattle.tftp_packet.specs.Hosts.{In, Datagram, Header}
 use Rattle.tftp_rules.specs.{route_of, is_of_transfer, transfer_of}
 use Rattle.tftp_law.specs.{OneEnded}
 use Rattle.tftp_pair.specs.{Capture, AreMergedBy, passed_in, begun, IsNextIn, IsShut, IsLawfulTo, IsPairVerdict, IsSentAmong, IsSentLater, IsUnsent}

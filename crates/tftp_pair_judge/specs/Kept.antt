@@ -1,7 +1,7 @@
 -- What the judge of a pair keeps, and for which datagrams of the two captures that stands. Lists have the newest first.
 use Rattle.std.specs.Prelude.{◌≡◌, ◌≤◌, ◌^◌, ℕ, List, All, length, Option, Some, None, IfNone}
 use Rattle.tftp_packet.specs.{End, Client, Server}
-use Rattle.tftp_hosts.specs.{Datagram, Header}
+use Rattle.tftp_packet.specs.Hosts.{Datagram, Header}
 use Rattle.tftp_rules.specs.{transfer_of}
 use Rattle.tftp_law.specs.{OneEnded}
 use Rattle.tftp_judge.specs.{IsJudgeAfter, IsKept, Judge, AreFlags, flags_of}

@@ -1,7 +1,7 @@
 -- What is left of two captures once neither goes further. Lists have the newest datagram first.
 use Rattle.std.specs.Prelude.{◌≡◌, ℕ, List, [], ◌++◌, length, Option, None}
 use Rattle.tftp_packet.specs.{End, Client, Server}
-use Rattle.tftp_hosts.specs.{Datagram, Header}
+use Rattle.tftp_packet.specs.Hosts.{Datagram, Header}
 use Rattle.tftp_pair_judge.specs.Merging.{AreMergedBut}
 use Rattle.tftp_pair_judge.specs.Kept.{IsSideAfter, Side}
 

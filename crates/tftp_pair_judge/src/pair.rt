@@ -1,7 +1,7 @@
 ghost use Rattle.std.specs.Prelude.{◌≡◌, ◌+◌, ◌^◌, ◌<◌, ◌≤◌, ℕ, List, [], ◌∷◌, length, None, Some, is_some, Err, OnOk, IfErr};
 ghost use Rattle.tftp_capture.specs.{datagram_of, header_of};
 ghost use Rattle.tftp_packet.specs.{Client, Server};
-ghost use Rattle.tftp_hosts.specs.{Datagram as DatagramParts, Header as HeaderParts};
+ghost use Rattle.tftp_packet.specs.Hosts.{Datagram as DatagramParts, Header as HeaderParts};
 ghost use Rattle.tftp_model.specs.Roles.{other_end};
 ghost use Rattle.tftp_law.specs.{Passes};
 ghost use Rattle.tftp_judge.specs.{Refuses, Refusal as RefusalKind};

@@ -1,6 +1,6 @@
 ghost use Rattle.std.specs.Prelude.{◌≡◌, ◌↔◌, ◌+◌, ◌^◌, ◌<◌, ◌≤◌, List, [], ◌∷◌, length, IsTrue, true, None, Some, is_some, Err, OnOk, IfOk, IfErr, IfNone, IfSome, ◌⊎◌};
 ghost use Rattle.tftp_capture.specs.{datagram_of, header_of};
-ghost use Rattle.tftp_hosts.specs.{Out, Datagram as DatagramParts, Header as HeaderParts};
+ghost use Rattle.tftp_packet.specs.Hosts.{Out, Datagram as DatagramParts, Header as HeaderParts};
 ghost use Rattle.tftp_rules.specs.{is_of_transfer, route_of, transfer_of};
 ghost use Rattle.tftp_law.specs.{Passes};
 ghost use Rattle.tftp_judge.specs.{Refuses, AreFlags, flags_of, Refusal as RefusalKind};
@@ -15,7 +15,7 @@ use std::mem;
 use tftp_blocks::Delivered;
 use tftp_capture::{Datagram, Header};
 use tftp_counts::{Carried, Counts};
-use tftp_hosts::Dir;
+use tftp_packet::hosts::Dir;
 use tftp_judge::{Judge, Refusal, SentAcks};
 use tftp_packet::{Packet, read_packet};
 

@@ -8,7 +8,7 @@ use Rattle.std.specs.declared.net.ip_addr.IpAddr.TheVariants as Ip
 use Rattle.std.specs.Net.Addr.{octets_of, segments_of}
 use Rattle.std.specs.Net.Grammar.{IsIpText}
 use Rattle.std.specs.Net.Text.{ip_text, ipv4_text, ipv6_text}
-use Rattle.tftp_hosts.specs.{IsHost, IsSign}
+use Rattle.tftp_packet.specs.Hosts.{IsHost, IsSign}
 use Rattle.tftp_lines.specs.{same_address, Address, V4, V6}
 use Rattle.tftp_lines.proofs.Endpoints.{is_same_address, address_itself}
 use Rattle.tftp_parties.specs.{AreBytes, IsAddress, address_of, host_name}

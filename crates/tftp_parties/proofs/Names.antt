@@ -13,7 +13,7 @@ use Rattle.std.proofs.lemmas.Bool.{cond_both, ltb-true}
 use Rattle.std.proofs.lemmas.List.Elements.{All-append, All-from_recursion}
 use Rattle.std.proofs.NetLemmas.Alphabet.{IsDigitOrDot, IsHexOrColon, All-ipv4_text, All-hex_groups_text}
 use Rattle.std.proofs.NetLemmas.Texts.{AllSegments, AllSegments-drop, IsZeroRun-longest_zero_run}
-use Rattle.tftp_hosts.specs.{IsSign}
+use Rattle.tftp_packet.specs.Hosts.{IsSign}
 
 digit_is_sign : (b : ℕ) → IsDigitOrDot b → IsSign b
 digit_is_sign b (inl d) = omega (arith, d)

@@ -3,7 +3,7 @@
 ghost use Rattle.std.specs.Prelude.{◌≡◌, ◌↔◌, ◌∷◌, [], codes, true};
 ghost use Rattle.std.specs.Net.Text.{ip_text};
 ghost use Rattle.std.specs.declared.net.ip_addr.IpAddr.{IpAddr};
-ghost use Rattle.tftp_hosts.specs.{IsHost};
+ghost use Rattle.tftp_packet.specs.Hosts.{IsHost};
 ghost use Rattle.tftp_parties.specs.Naming.{IsAddress, address_of, host_name};
 ghost use Rattle.tftp_lines.specs.{same_address, Address, V4, V6};
 

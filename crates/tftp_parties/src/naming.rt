@@ -2,12 +2,12 @@ ghost use Rattle.std.specs.Prelude.{◌≡◌, ◌≤◌, length};
 ghost use Rattle.std.specs.List.{All};
 ghost use Rattle.std.specs.Net.Addr.{segments_of};
 ghost use Rattle.std.specs.Net.Text.{ip_text, ipv4_text, ipv6_text};
-ghost use Rattle.tftp_hosts.specs.{IsSign};
+ghost use Rattle.tftp_packet.specs.Hosts.{IsSign};
 ghost use Rattle.tftp_parties.specs.Naming.{IsAddress, address_of, host_name};
 
 use std::net::IpAddr;
 use net_udp::frames::write_address;
-use tftp_hosts::Host;
+use tftp_packet::hosts::Host;
 use tftp_lines::{Address, Endpoint};
 use tftp_views::Party;
 

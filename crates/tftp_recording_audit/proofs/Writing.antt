@@ -4,7 +4,7 @@ use mathlib.Core.List.{reverse-cons}
 use Rattle.std.proofs.lemmas.List.Elements.{All-from_recursion}
 use Rattle.std.specs.List.{AllByRecursion}
 use Rattle.tftp_capture.specs.{IsLawful, IsPort}
-use Rattle.tftp_hosts.specs.{Dir, In, Out}
+use Rattle.tftp_packet.specs.Hosts.{Dir, In, Out}
 use Rattle.tftp_parties.specs.{host_name}
 use Rattle.tftp_parties.proofs.Addresses.{is_host}
 use Rattle.tftp_recording_audit.specs.{IsSoundDatagram, IsSoundEnd}

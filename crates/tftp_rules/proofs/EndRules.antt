@@ -4,7 +4,7 @@ use Rattle.std.specs.List.{AllByRecursion, Contains}
 use Rattle.std.proofs.lemmas.List.Elements.{All-from_recursion, All-contains, Contains-get_or}
 use Rattle.tftp_packet.specs.{Message, NoneBelow}
 use Rattle.tftp_packet.proofs.FirstOf.{Unless, none_more as none_with, none_unless, first_unless}
-use Rattle.tftp_hosts.specs.{Datagram}
+use Rattle.tftp_packet.specs.Hosts.{Datagram}
 use Rattle.tftp_rules.specs.{end_number, end_rules, EndBroken, FirstEndBroken, EndRule, NotStarted, Terms}
 
 -- the rule with this number

@@ -2,7 +2,7 @@
 -- transfer, the newest first.
 use Rattle.std.specs.Prelude.{◌≡◌, ℕ, ◌≤◌, List}
 use Rattle.tftp_packet.specs.{Message}
-use Rattle.tftp_hosts.specs.{Datagram}
+use Rattle.tftp_packet.specs.Hosts.{Datagram}
 use Rattle.tftp_model.specs.{block, block_count}
 use Rattle.tftp_rules.specs.Rules.{HasPassed}
 

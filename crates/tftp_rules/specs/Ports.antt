@@ -3,7 +3,7 @@
 use Rattle.std.specs.Prelude.{◌≡◌, ◌⊎◌, ℕ, ◌==◌, ◌&&◌, ◌||◌, not, Bool, true, false, List, [], ◌∷◌, Option, Some, None, option_map, if◌then◌else◌}
 use Rattle.std.specs.List.{list_any}
 use Rattle.tftp_packet.specs.{Message, Spells, opcode_of, End, Client, Server}
-use Rattle.tftp_hosts.specs.{Dir, In, Out, Datagram, Header, PeerId, peer_of, same_peer}
+use Rattle.tftp_packet.specs.Hosts.{Dir, In, Out, Datagram, Header, PeerId, peer_of, same_peer}
 use Rattle.tftp_rules.specs.declared.port_rule.PortRule.{PortRule}
 use Rattle.tftp_rules.specs.declared.port_rule.PortRule.TheVariants.{Foreign, Wrong, BadAnswer}
 

@@ -3,7 +3,7 @@
 use Rattle.std.specs.Prelude.{◌≡◌, ◌≢◌, ◌⊎◌, ℕ, ◌+◌, ◌/◌, ◌%◌, ◌<◌, ◌≤◌, List, [], ◌∷◌, length, Bool, Some, None, ◌&&◌, if◌then◌else◌}
 use Rattle.std.specs.List.{list_any}
 use Rattle.tftp_packet.specs.{IsFirst, Message, Data, Ack, Spells, Side, Get, Put}
-use Rattle.tftp_hosts.specs.{Dir, In, Out, Datagram}
+use Rattle.tftp_packet.specs.Hosts.{Dir, In, Out, Datagram}
 use Rattle.tftp_model.specs.Roles.{sender_of, receiver_of}
 use Rattle.tftp_rules.specs.Ports.{goes_out, comes_in, begins_error}
 use Rattle.tftp_rules.specs.declared.rule.EndRule.{EndRule}

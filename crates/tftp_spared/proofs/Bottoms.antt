@@ -1,7 +1,7 @@
 -- What was asked before in the same words changes nothing of a view, at either end.
 use Rattle.std.proofs.Common.{◌≡◌, ℕ, true, List, [], ◌∷◌, ◌++◌, refl, sym, ap, subst, ◌∙◌, map, append_assoc, append-nil}
 use Rattle.std.specs.List.{AllByRecursion, filter}
-use Rattle.tftp_hosts.specs.{Datagram, Header}
+use Rattle.tftp_packet.specs.Hosts.{Datagram, Header}
 use Rattle.tftp_law.specs.{OneEnded}
 use Rattle.tftp_lines.specs.{Recorded, Placed, is_of, is_request}
 use Rattle.tftp_transfers.specs.{client_view}

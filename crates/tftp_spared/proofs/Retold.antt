@@ -1,7 +1,7 @@
 -- A recording whose hosts are renamed as before looks as it did.
 use Rattle.std.proofs.Common.{◌≡◌, ℕ, Bool, true, false, List, [], ◌∷◌, ◌++◌, refl, sym, ap, subst, ◌∙◌, map, reverse, filter, not, if◌then◌else◌}
 use Rattle.std.specs.List.{AllByRecursion, flat_map}
-use Rattle.tftp_hosts.specs.{In, Out, Datagram}
+use Rattle.tftp_packet.specs.Hosts.{In, Out, Datagram}
 use Rattle.tftp_lines.specs.{Address, Endpoint, Recorded, Placed, Transfer, is_of, same_endpoint}
 use Rattle.tftp_transfers.specs.{client_view, is_at_server, placed}
 use Rattle.tftp_spared.specs.{as_served, captured_there, seen_at_server, server_saw, went_out}

@@ -4,7 +4,7 @@ use Rattle.std.specs.List.{list_any, AllByRecursion}
 use Rattle.std.proofs.lemmas.Bool.{false≢true, or_cases, or_left, or_right, and_from, and_parts}
 use Rattle.std.proofs.lemmas.Slice.Eq.{bytes_eq-Decides}
 use Rattle.tftp_packet.specs.{Spells}
-use Rattle.tftp_hosts.specs.{Datagram, PeerId, peer_of}
+use Rattle.tftp_packet.specs.Hosts.{Datagram, PeerId, peer_of}
 use Rattle.tftp_model.specs.{Meaning, Req, message_of, request_of}
 use Rattle.tftp_rules.specs.{begins_request as says_request, comes_in, goes_out}
 use Rattle.tftp_law.specs.{OneEnded, TransferIds}

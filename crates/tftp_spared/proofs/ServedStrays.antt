@@ -2,7 +2,7 @@
 use Rattle.std.proofs.Common.{◌≡◌, ◌⊎◌, ℕ, Bool, true, false, List, [], ◌∷◌, Option, Some, None, inl, inr, refl, sym, ap, subst, ◌∙◌, ◌==◌, ◌&&◌, ◌||◌, not, option_map, if◌then◌else◌}
 use Rattle.std.specs.List.{AllByRecursion, filter}
 use Rattle.std.proofs.lemmas.Bool.{false≢true}
-use Rattle.tftp_hosts.specs.{Datagram, Header, PeerId, peer_of, same_peer}
+use Rattle.tftp_packet.specs.Hosts.{Datagram, Header, PeerId, peer_of, same_peer}
 use Rattle.tftp_packet.specs.{Server}
 use Rattle.tftp_rules.specs.{Route, asks, begins_error, begins_request, comes_in, first_of, goes_out, has_come_from, is_of_transfer, or_this, route_at_server, route_before, route_of, route_out, route_to_service, transfer_of}
 use Rattle.tftp_rules.specs.{PortRule}

@@ -2,7 +2,7 @@
 use Rattle.std.proofs.Common.{◌≡◌, ℕ, Bool, true, false, List, [], ◌∷◌, inl, inr, refl, sym, ap, subst, ◌∙◌, not, map}
 use Rattle.std.specs.List.{list_any, AllByRecursion, filter}
 use Rattle.std.proofs.lemmas.Bool.{false≢true, or_cases, and_parts}
-use Rattle.tftp_hosts.specs.{Datagram}
+use Rattle.tftp_packet.specs.Hosts.{Datagram}
 use Rattle.tftp_packet.specs.{Server}
 use Rattle.tftp_law.specs.{OneEnded}
 use Rattle.tftp_lines.specs.{Address, Endpoint, Recorded, Placed, Transfer, same_endpoint, other_of, is_between, is_of, is_request}

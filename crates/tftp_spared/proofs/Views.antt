@@ -5,7 +5,7 @@ use Rattle.std.specs.List.{list_any, AllByRecursion, filter}
 use Rattle.std.proofs.lemmas.Bool.{false≢true, or_left, or_right, and_from, and_parts}
 use Rattle.std.proofs.lemmas.List.{reverse-reverse}
 use Rattle.tftp_packet.specs.{Client}
-use Rattle.tftp_hosts.specs.{In, Out, Datagram, PeerId, peer_of, same_peer}
+use Rattle.tftp_packet.specs.Hosts.{In, Out, Datagram, PeerId, peer_of, same_peer}
 use Rattle.tftp_rules.specs.{comes_in, goes_out, first_of, or_this}
 use Rattle.tftp_law.specs.{OneEnded}
 use Rattle.tftp_law.proofs.Division.RouteTests.{is_same as same_peers, same_is as peers_same}

@@ -3,7 +3,7 @@ use Rattle.std.proofs.Common.{◌≡◌, ◌<◌, ℕ, List, [], ◌∷◌, Some
 use Rattle.tftp_packet.specs.{Message, RequestParts, Side, Get, Put, Spells, Server}
 use Rattle.tftp_packet.specs.Spelling.{octet_read}
 use Rattle.tftp_packet.proofs.NoFault.{no_fault}
-use Rattle.tftp_hosts.specs.{In, Datagram, Header}
+use Rattle.tftp_packet.specs.Hosts.{In, Datagram, Header}
 use Rattle.tftp_rules.specs.{Terms, NoReply, EndRule, IsTop, PortRule, Route, transfer_of, author_of, EndBroken}
 use Rattle.tftp_law.specs.{Agrees, Answer, IsAnswer, Begins, Broken, FirstAsked, IsRefused, MessageBreaks, MessageBroken, NotAnswered, Rule, IsWrongKind, number_of, plain_terms}
 use Rattle.tftp_law.proofs.Spelled.{spelled_once}

@@ -2,7 +2,7 @@
 use Rattle.std.proofs.Common.{◌≡◌, ◌<◌, ◌+◌, ℕ, zero, suc, Bool, true, false, ◌==◌, ◌&&◌, ◌||◌, not, nat_le, List, [], ◌∷◌, ◌++◌, Contains, inl, inr, refl, sym, ap, subst, ◌∙◌, map, reverse, arith}
 use Rattle.std.specs.List.{All, AllByRecursion, list_all, list_any}
 use Rattle.std.proofs.lemmas.Bool.{false≢true, or_left, or_right, and_parts, leb-true, eq-eqb, or_cases}
-use Rattle.tftp_hosts.specs.{Datagram, Header}
+use Rattle.tftp_packet.specs.Hosts.{Datagram, Header}
 use Rattle.tftp_rules.specs.{PortRule, Route, route_of}
 use Rattle.tftp_law.specs.{Broken, IsLawful, IsRefused, OneEnded, Rule, number_of}
 use Rattle.tftp_law.proofs.FirstBroken.OneMessage.{agreement_from}

@@ -1,6 +1,6 @@
 -- Datagrams of a recording as a client's own capture has them. Lists have the newest first.
 use Rattle.std.specs.Prelude.{◌≤◌, ℕ, ◌+◌, ◌||◌, Bool, List, [], ◌∷◌, if◌then◌else◌}
-use Rattle.tftp_hosts.specs.{In, Out, Datagram, Header}
+use Rattle.tftp_packet.specs.Hosts.{In, Out, Datagram, Header}
 use Rattle.tftp_packet.specs.{Client}
 use Rattle.tftp_lines.specs.{Address, Endpoint, Recorded, same_endpoint, silence}
 

@@ -3,7 +3,7 @@
 use Rattle.std.specs.Prelude.{◌≡◌, ℕ, ◌&&◌, ◌||◌, not, Bool, true, false, List, [], ◌∷◌, ◌++◌, map, reverse, filter, Contains, Option, Some, None}
 use Rattle.std.specs.List.{list_any}
 use Rattle.tftp_packet.specs.{Server}
-use Rattle.tftp_hosts.specs.{In, Out, Datagram, Header}
+use Rattle.tftp_packet.specs.Hosts.{In, Out, Datagram, Header}
 use Rattle.tftp_law.specs.{IsLawful, IsRefused, Rule}
 use Rattle.tftp_lines.specs.{Address, Endpoint, Place, Opens, Repeats, Talks, Beside, Transfer, Recorded, Placed, same_endpoint, is_between, is_of, is_request, other_of}
 use Rattle.tftp_lines.specs.Doubting.{line_before}

@@ -3,7 +3,7 @@ use Rattle.std.proofs.Common.{◌≡◌, ◌⊎◌, ℕ, Bool, true, false, List
 use Rattle.std.specs.List.{list_any}
 use Rattle.std.proofs.lemmas.Bool.{true≢false, cases_lt, cases_Bool}
 use Rattle.tftp_packet.specs.{Message, RequestParts, Spells, Side, Get, Put, End, Client, Server}
-use Rattle.tftp_hosts.specs.{Datagram, Header, same_peer}
+use Rattle.tftp_packet.specs.Hosts.{Datagram, Header, same_peer}
 use Rattle.tftp_model.specs.Machines.{receiver_of}
 use Rattle.tftp_model.specs.{MachinePacket, Req, Oack, Data, Ack, Error, is_error}
 use Rattle.tftp_rules.specs.{Route, route_of, is_of_transfer, asks, EndRule}

@@ -3,7 +3,7 @@ use Rattle.std.proofs.Common.{◌≡◌, ◌<◌, Bool, true, false, List, [], �
 use Rattle.std.specs.List.{list_any}
 use Rattle.std.proofs.lemmas.Bool.{true≢false, or_parts, cases_Bool}
 use Rattle.tftp_packet.specs.{Message, RequestParts, Spells, Side, Get, Put, End, Client, Server, OptionMap}
-use Rattle.tftp_hosts.specs.{In, Out, Datagram, Header, same_peer}
+use Rattle.tftp_packet.specs.Hosts.{In, Out, Datagram, Header, same_peer}
 use Rattle.tftp_model.specs.Machines.{sender_of, receiver_of}
 use Rattle.tftp_model.specs.{MachinePacket, Req, Oack, Data, Ack, Error, is_error}
 use Rattle.tftp_rules.specs.{asks, transfer_of, IsSender, EndBroken, EndRule, NoReply, Terms}

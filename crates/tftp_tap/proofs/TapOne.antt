@@ -2,7 +2,7 @@
 use Rattle.std.proofs.Common.{◌≡◌, ℕ, Bool, true, false, List, [], ◌∷◌, Contains, Some, inl, inr, refl, sym, subst, ap, ◌∙◌, arith, ◌||◌, not}
 use Rattle.std.proofs.lemmas.Bool.{true≢false, cases_lt, or_parts, and_parts}
 use Rattle.tftp_packet.specs.{Message, End, Client, Server}
-use Rattle.tftp_hosts.specs.{same_peer}
+use Rattle.tftp_packet.specs.Hosts.{same_peer}
 use Rattle.tftp_model.specs.{Meaning, MachinePacket, Req, Error, is_error}
 use Rattle.tftp_rules.specs.{first_of}
 use Rattle.tftp_model.proofs.Members.{contains_cases, contains_none}

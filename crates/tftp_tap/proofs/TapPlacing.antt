@@ -2,7 +2,7 @@
 use Rattle.std.proofs.Common.{◌≡◌, ℕ, true, false, List, [], ◌∷◌, Any, inl, inr, refl, sym, subst, ◌∙◌, ◌&&◌, ◌==◌}
 use Rattle.std.proofs.lemmas.Bool.{true≢false, eq-eqb, cases_Bool, and_parts}
 use Rattle.tftp_packet.specs.{Message, Spells, End, Client, Server}
-use Rattle.tftp_hosts.specs.{same_peer}
+use Rattle.tftp_packet.specs.Hosts.{same_peer}
 use Rattle.tftp_model.specs.{MachinePacket, Req, Oack, Data, Ack, Error}
 use Rattle.tftp_rules.specs.{PortRule}
 use Rattle.tftp_law.specs.{BeginsAsRequest, says_some}

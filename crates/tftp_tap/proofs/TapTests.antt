@@ -1,7 +1,7 @@
 -- What a payload begins as, and what a packet is; the sides of an end.
 use Rattle.std.proofs.Common.{◌≡◌, ℕ, Bool, true, false, List, ◌∷◌, Some, refl, sym, subst, ap, ◌∙◌}
 use Rattle.tftp_packet.specs.{Message, RequestParts, Spells, side_opcode, Side, Get, Put, End, Client, Server}
-use Rattle.tftp_hosts.specs.{same_peer}
+use Rattle.tftp_packet.specs.Hosts.{same_peer}
 use Rattle.tftp_model.specs.{MachinePacket, Req, Oack, Data, Ack, Error, is_error}
 use Rattle.tftp_law.specs.{packet_in, says_some}
 use Rattle.tftp_law.proofs.Division.RouteTests.{request_begins, same_is, other_peer}

@@ -4,7 +4,7 @@ use Rattle.std.specs.Prelude.{◌≡◌, ◌&&◌, Bool, List}
 use Rattle.std.specs.List.{list_any}
 use Rattle.std.specs.declared.cmp.Ordering.{Ordering}
 use Rattle.std.specs.Ordering.{on, then_cmp}
-use Rattle.tftp_hosts.specs.{same_peer, peer_cmp}
+use Rattle.tftp_packet.specs.Hosts.{same_peer, peer_cmp}
 use Rattle.tftp_tap.specs.TapCapture.{PeerId, TapDatagram, TapSides}
 use Rattle.tftp_tap.specs.TapRoutes.{has_gone}
 

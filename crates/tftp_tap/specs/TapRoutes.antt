@@ -3,7 +3,7 @@
 use Rattle.std.specs.Prelude.{ℕ, ◌==◌, ◌&&◌, ◌||◌, Bool, true, false, List, [], ◌∷◌, if◌then◌else◌}
 use Rattle.std.specs.List.{list_any}
 use Rattle.tftp_packet.specs.{opcode_of}
-use Rattle.tftp_hosts.specs.{same_peer}
+use Rattle.tftp_packet.specs.Hosts.{same_peer}
 use Rattle.tftp_tap.specs.TapCapture.{PeerId, TapDatagram, TapSides, side_of}
 use Rattle.tftp_tap.specs.TapOrder.{Tests}
 use Rattle.tftp_tap.specs.declared.route.TapRoute.{TapRoute}

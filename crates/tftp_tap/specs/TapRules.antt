@@ -3,7 +3,7 @@
 use Rattle.std.specs.Prelude.{◌≡◌, ◌≢◌, ◌⊎◌, ℕ, ◌<◌, ◌≤◌, ◌&&◌, ◌||◌, not, Bool, true, false, List, [], ◌∷◌, map, Any, Option, Some, None, option_map, if◌then◌else◌}
 use Rattle.std.specs.List.{list_any}
 use Rattle.tftp_packet.specs.{Message, RequestParts, Spells, FirstFault, Side, Get, Put, End, Client, Server}
-use Rattle.tftp_hosts.specs.{In, Out, Datagram, Header, same_peer}
+use Rattle.tftp_packet.specs.Hosts.{In, Out, Datagram, Header, same_peer}
 use Rattle.tftp_model.specs.Roles.{receiver_of}
 use Rattle.tftp_rules.specs.{first_of, EndRule, PortRule}
 use Rattle.tftp_law.specs.{Broken, IsWrongKind, number_of, Rule}

@@ -9,7 +9,7 @@ use crate::sides::{Passing, Sides};
 use crate::ways::{Way, Ways};
 use std::alloc::{AllocError, Global};
 use std::marker::Model;
-use tftp_hosts::Peer;
+use tftp_packet::hosts::Peer;
 
 /// The ports of a tap: the sides of one transfer, and from where to where datagrams have gone (RFC 1350, section 4).
 #[derive(Drop)]

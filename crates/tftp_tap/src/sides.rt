@@ -5,7 +5,7 @@ ghost use Rattle.tftp_tap.specs.TapRoutes.{asks_in, ends_in, has_gone, route_ast
 
 use crate::route::TapRoute;
 use std::marker::Model;
-use tftp_hosts::Peer;
+use tftp_packet::hosts::Peer;
 
 /// The sides of one transfer, as a tap is told them: who asks, where, and who goes on with it (RFC 1350, section 4).
 #[derive(Clone, Copy)]

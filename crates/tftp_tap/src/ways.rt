@@ -4,7 +4,7 @@ ghost use Rattle.tftp_tap.specs.TapPorts.{WayIds, same_way, is_noted};
 use std::alloc::{AllocError, Global};
 use std::collections::BTreeSet;
 use std::marker::Model;
-use tftp_hosts::Peer;
+use tftp_packet::hosts::Peer;
 
 /// From where to where a datagram goes.
 #[derive(Clone, Copy, PartialEq, Eq, PartialOrd, Ord)]

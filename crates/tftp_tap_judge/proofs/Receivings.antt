@@ -3,7 +3,7 @@ use Rattle.std.proofs.Common.{◌≡◌, inl, inr, ℕ, Bool, true, false, List,
 use Rattle.std.specs.List.{list_any}
 use Rattle.std.proofs.lemmas.Bool.{true≢false, eqb-true, cases_Bool}
 use Rattle.tftp_packet.specs.{Side, End, Client, Server, opcode_of}
-use Rattle.tftp_hosts.specs.{Datagram}
+use Rattle.tftp_packet.specs.Hosts.{Datagram}
 use Rattle.tftp_model.specs.Roles.{receiver_of}
 use Rattle.tftp_judge.specs.{NoneBreaks, Refuses, IsJudgeAfter, Judge, TakesMemory, Refusal, Finds}
 use Rattle.tftp_judge.specs.declared.refusal.Refusal.TheVariants as of_end

@@ -3,7 +3,7 @@ use Rattle.std.proofs.Common.{◌≡◌, ◌⊎◌, ℕ, true, false, List, [], 
 use Rattle.std.proofs.lemmas.Bool.{true≢false, ltb-true, ltb-false, cases_Bool}
 use Rattle.tftp_packet.specs.{Message, RequestParts, Spells, FirstFault, meaning, Packet, PacketFault, End}
 use Rattle.tftp_judge.specs.{NoneBreaks, Finds, PassError}
-use Rattle.tftp_hosts.specs.{Datagram, Header}
+use Rattle.tftp_packet.specs.Hosts.{Datagram, Header}
 use Rattle.tftp_rules.specs.{is_of_transfer, or_this, route_of, PortRule}
 use Rattle.tftp_model.specs.Roles.{receiver_of}
 use Rattle.tftp_law.specs.{Broken, NoErrorBy, number_of, Rule}

@@ -1,4 +1,4 @@
-use tftp_hosts::Peer;
+use tftp_packet::hosts::Peer;
 use tftp_packet::Bytes;
 
 /// A datagram that passed between the ends: where it came from, where it went, and what it carried (RFC 768; RFC 1350, section

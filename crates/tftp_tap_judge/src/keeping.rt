@@ -14,7 +14,7 @@ use std::marker::Model;
 use tftp_blocks::Delivered;
 use tftp_capture::Datagram;
 use tftp_ends::says_unknown_id;
-use tftp_hosts::{Dir, Peer};
+use tftp_packet::hosts::{Dir, Peer};
 use tftp_judge::PassError;
 use tftp_law::Rule;
 use tftp_packet::{End, Packet, Request, opcode, own_request, read_packet};

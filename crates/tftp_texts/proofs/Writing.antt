@@ -6,7 +6,7 @@ use Rattle.tftp_capture.specs.CaptureText.{Datagram, Header}
 use Rattle.tftp_capture.specs.{Entry, said_in, HasWrittenHosts}
 use Rattle.net_streams.specs.Streams.{Sink, WriteFault, Writes, Wrote}
 use Rattle.tftp_capture.specs.Commented.Entry.{Comment, Passed}
-use Rattle.tftp_hosts.specs.{Dir}
+use Rattle.tftp_packet.specs.Hosts.{Dir}
 use Rattle.tftp_packet.specs.{End}
 use Rattle.tftp_lines.specs.{Transfer, Placed}
 use Rattle.tftp_transfers.specs.{AreEndsAfter, is_about}

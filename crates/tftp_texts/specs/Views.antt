@@ -1,6 +1,6 @@
 -- The capture text of what an end of a transfer saw. Lists of placed datagrams have the newest first.
 use Rattle.std.specs.Prelude.{◌≡◌, ℕ, ◌≤◌, Bool, List, All, filter, length, map, reverse}
-use Rattle.tftp_hosts.specs.{Dir}
+use Rattle.tftp_packet.specs.Hosts.{Dir}
 use Rattle.tftp_packet.specs.{End, Client, Server}
 use Rattle.tftp_capture.specs.CaptureText.{Datagram, Header}
 use Rattle.tftp_capture.specs.{Entry, commented_text, said_in, HasNoEnd}

@@ -2,7 +2,7 @@
 
 ghost use Rattle.std.specs.Prelude.{◌≡◌, ◌^◌, ◌≤◌, ℕ, List, Result, All, length, reverse};
 ghost use Rattle.tftp_capture.specs.{IsCapture, IsLawful, IsPort, Numbered};
-ghost use Rattle.tftp_hosts.specs.{Datagram, Header};
+ghost use Rattle.tftp_packet.specs.Hosts.{Datagram, Header};
 ghost use Rattle.tftp_model.specs.{Meaning};
 ghost use Rattle.tftp_judge.specs.{IsTextVerdict, unnumbered, IsSaid, IsVerdict, Refusal};
 ghost use Rattle.tftp_packet.specs.{Client, Server};

@@ -16,7 +16,7 @@ use std::alloc::{AllocError, Global};
 use std::io::Write;
 use std::marker::Model;
 use tftp_capture::{Header, HostCaptureWriter};
-use tftp_hosts::Dir;
+use tftp_packet::hosts::Dir;
 use tftp_lines::{Endpoint, Place, Transfer};
 use tftp_packet::End;
 use net_streams::streams::{LineWriter, WriteFault};

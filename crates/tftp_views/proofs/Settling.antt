@@ -6,7 +6,7 @@ use Rattle.tftp_rules.specs.{first_of, or_this}
 use Rattle.tftp_lines.specs.{Endpoint, Place, Beside, Recorded, Placed, Transfer}
 use Rattle.tftp_transfers.specs.{answered_by, asked_of, comes, goes_on, is_at_server, is_end, opened_it, server_of, server_view, went_on_with, is_settled, AreEndsAfter, TransferEnds}
 use Rattle.tftp_transfers.proofs.OwnDatagrams.{at_server_same, server_same, settled_same}
-use Rattle.tftp_hosts.specs.{In, Out}
+use Rattle.tftp_packet.specs.Hosts.{In, Out}
 use Rattle.tftp_views.specs.{Naming, captured, captured_at_server, server_capture, server_header, way_at_server, HasJudged, IsServerAfter, Server}
 
 first_stays : (test : Placed → Bool) (more placed : List Placed) (e : Placed) → first_of test placed ≡ Some e → first_of test (more ++ placed) ≡ Some e

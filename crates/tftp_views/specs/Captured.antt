@@ -1,6 +1,6 @@
 -- What is captured of a transfer at each end, by a recording. Lists have the newest first; `name` names each host.
 use Rattle.std.specs.Prelude.{ℕ, List, filter, map, if◌then◌else◌}
-use Rattle.tftp_hosts.specs.{Dir, In, Out, Datagram, Header}
+use Rattle.tftp_packet.specs.Hosts.{Dir, In, Out, Datagram, Header}
 use Rattle.tftp_packet.specs.{Client, Server}
 use Rattle.tftp_lines.specs.{Address, Place, Talks, Beside, Transfer, Recorded, same_endpoint, Placed}
 use Rattle.tftp_transfers.specs.{client_view, is_at_server, is_end, server_of}

@@ -1,7 +1,7 @@
 -- What a judge stands for that was given each datagram of a capture, also after it refused one. Lists have the newest first.
 use Rattle.std.specs.Prelude.{◌≡◌, ◌^◌, ◌≤◌, List, ◌∷◌, ◌++◌, All, length, reverse, Option, Some, None, Result, Ok, Err}
 use Rattle.tftp_capture.specs.{IsLawful, IsPort, text_with_hosts}
-use Rattle.tftp_hosts.specs.{Datagram, Header}
+use Rattle.tftp_packet.specs.Hosts.{Datagram, Header}
 use Rattle.tftp_model.specs.{Meaning}
 use Rattle.tftp_law.specs.{OneEnded}
 use Rattle.tftp_judge.specs.{Refuses, IsJudgeAfter, Judge, IsTextVerdict, IsSaid, IsVerdict, Refusal, Verdict, Refused}

@@ -1,6 +1,6 @@
 -- Captures of the worked recordings.
 use Rattle.std.specs.Prelude.{ℕ, List, [], ◌∷◌, codes, false}
-use Rattle.tftp_hosts.specs.{In, Out, Datagram}
+use Rattle.tftp_packet.specs.Hosts.{In, Out, Datagram}
 use Rattle.tftp_lines.specs.{Address, Transfer, bytes_of}
 use Rattle.tftp_transfers.specs.{client, service, ack_of, data_of, read_of}
 

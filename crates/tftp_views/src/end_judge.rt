@@ -2,7 +2,7 @@
 
 ghost use Rattle.std.specs.Prelude.{◌≡◌, ◌+◌, ◌^◌, ◌<◌, ◌≤◌, ◌∷◌, ℕ, List, [], length, vec_len, Err, None, Some, OnOk, OnErr};
 ghost use Rattle.tftp_capture.specs.{datagram_of, header_of};
-ghost use Rattle.tftp_hosts.specs.{Datagram as DatagramParts, Header as HeaderParts};
+ghost use Rattle.tftp_packet.specs.Hosts.{Datagram as DatagramParts, Header as HeaderParts};
 ghost use Rattle.tftp_rules.specs.{transfer_of};
 ghost use Rattle.tftp_judge.specs.{TakesForJoin, Refusal as RefusalKind};
 ghost use Rattle.tftp_law.specs.{IsEnded};
@@ -15,7 +15,7 @@ use std::alloc::{AllocError, Global};
 use std::marker::Model;
 use tftp_blocks::Delivered;
 use tftp_capture::{Datagram, Header};
-use tftp_hosts::Dir;
+use tftp_packet::hosts::Dir;
 use tftp_judge::{Judge, Meaning, Refusal};
 use tftp_packet::Bytes;
 

@@ -1,7 +1,7 @@
 //! Laws of the definitions in `specs/`. Each is the contract of a function that does nothing.
 
 ghost use Rattle.std.specs.Prelude.{◌≡◌, [], ◌++◌, ◌∷◌, ℕ, List, Result, filter, reverse, false, true};
-ghost use Rattle.tftp_hosts.specs.{Datagram, Header};
+ghost use Rattle.tftp_packet.specs.Hosts.{Datagram, Header};
 ghost use Rattle.tftp_model.specs.{Meaning};
 ghost use Rattle.tftp_judge.specs.{IsVerdict, IsTextVerdict, IsSaid, Refusal};
 ghost use Rattle.tftp_capture.specs.{text_with_hosts};

@@ -1,4 +1,4 @@
-use tftp_hosts::Host;
+use tftp_packet::hosts::Host;
 use tftp_lines::Endpoint;
 
 /// An end of a datagram, and what its host is called in a capture text.

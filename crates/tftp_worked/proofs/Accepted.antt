@@ -2,7 +2,7 @@
 use Rattle.std.proofs.Common.{◌≡◌, ℕ, ◌==◌, Bool, true, List, [], ◌∷◌, reverse, Some, codes, inl, inr, refl, subst, arith}
 use Rattle.std.proofs.lemmas.Bool.{false≢true}
 use Rattle.tftp_packet.specs.{OptionMap, Message, Get}
-use Rattle.tftp_hosts.specs.{Dir, In}
+use Rattle.tftp_packet.specs.Hosts.{Dir, In}
 use Rattle.tftp_model.specs.{request_of, block as slice, two_bytes}
 use Rattle.tftp_rules.specs.{transfer_of, Passed, HasPassed, IsFront, Plain}
 use Rattle.tftp_law.specs.{Agrees, Begins, plain_terms, OneEnded, IsEnded, Meant}

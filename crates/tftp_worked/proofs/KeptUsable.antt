@@ -2,7 +2,7 @@
 use Rattle.std.proofs.Common.{◌≡◌, ℕ, ◌+◌, ◌<◌, ◌≤◌, ◌==◌, ◌&&◌, ◌||◌, not, nat_le, zero, suc, Bool, true, false, List, inl, inr, refl, sym, subst, ap, ◌∙◌, arith}
 use Rattle.std.proofs.lemmas.Bool.{and_parts, or_cases, eqb-true, leb-true, cases_lt, false≢true}
 use Rattle.tftp_packet.specs.{Message, Side, Get, Put, End, Client, Server}
-use Rattle.tftp_hosts.specs.{Dir, In, Out, Datagram}
+use Rattle.tftp_packet.specs.Hosts.{Dir, In, Out, Datagram}
 use Rattle.tftp_model.specs.Roles.{sender_of, receiver_of}
 use Rattle.tftp_rules.specs.{Passed, HasPassed, BlockPassed, BlocksWait, AckZeroWaits, IsAckedAt, IsReachedAt, Reply, NoReply, Plain, Oacked, Terms}
 use Rattle.tftp_worked.proofs.Payloads.{Spelled, datagrams, AllSpelled}

@@ -3,7 +3,7 @@ use Rattle.std.proofs.Common.{◌≡◌, ◌<◌, true, List, [], codes, reverse
 use Rattle.std.proofs.lemmas.Bool.{false≢true}
 use Rattle.tftp_packet.specs.{FirstFault, Holds, number, PacketFault, Short, Opcode, AckLength, MailMode}
 use Rattle.tftp_packet.proofs.RequestCases.{mode_fault}
-use Rattle.tftp_hosts.specs.{Datagram, Header}
+use Rattle.tftp_packet.specs.Hosts.{Datagram, Header}
 use Rattle.tftp_rules.specs.{route_of, is_of_transfer}
 use Rattle.tftp_law.specs.{number_of, Broken, IsRefused, Rule}
 use Rattle.tftp_law.proofs.FirstBroken.OneMessage.{agreement_from, port_off}

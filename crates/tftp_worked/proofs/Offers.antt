@@ -5,7 +5,7 @@ use Rattle.std.proofs.lemmas.Slice.Eq.{bytes_eq-Decides}
 use Rattle.std.specs.FinMap as map
 use Rattle.tftp_packet.specs.{OptionMap, OptionValue, Num, Text, no_options, value_of, is_known_number, is_number, range_of, map_of, Message, RequestParts, Spells, Get, Octet}
 use Rattle.tftp_nego.specs.{Holds, NegoFault, AgreementRule, agreement_number, AgreementBroken}
-use Rattle.tftp_hosts.specs.{Datagram}
+use Rattle.tftp_packet.specs.Hosts.{Datagram}
 use Rattle.tftp_rules.specs.{route_of, is_of_transfer, transfer_of, Terms, NoReply}
 use Rattle.tftp_model.specs.{eight_a_block}
 use Rattle.tftp_model.proofs.Worked.{eight_for_blksize}

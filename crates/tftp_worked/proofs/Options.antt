@@ -4,7 +4,7 @@ use Rattle.std.specs.FinMap as map
 use Rattle.std.specs.Ordering.{nat_cmp, eq_by_cmp}
 use Rattle.std.specs.Cmp.Lexicographic.{slice_cmp, nat_list_cmp_total}
 use Rattle.tftp_packet.specs.{OptionMap, OptionValue, Num, no_options, RequestParts}
-use Rattle.tftp_hosts.specs.{Header}
+use Rattle.tftp_packet.specs.Hosts.{Header}
 use Rattle.tftp_model.specs.{number_or, option_or, eight_a_block, eight_by_four}
 use Rattle.tftp_model.proofs.Worked.{eight_for_blksize}
 use Rattle.tftp_rules.specs.{Oacked, Terms}

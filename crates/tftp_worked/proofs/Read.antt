@@ -1,7 +1,7 @@
 -- What the worked read says of its meaning, where one more datagram may follow.
 use Rattle.std.proofs.Common.{◌≡◌, ◌&&◌, ℕ, true, List, [], ◌∷◌, ◌++◌, codes, refl, sym, ◌∙◌}
 use Rattle.tftp_packet.specs.{Message}
-use Rattle.tftp_hosts.specs.{In, Out, peer_of}
+use Rattle.tftp_packet.specs.Hosts.{In, Out, peer_of}
 use Rattle.tftp_model.specs.{Meaning, request_of, blksize_of, block, Sent, Took, Req, Data, History, two_bytes}
 use Rattle.tftp_law.specs.{Division, datagrams_of, view_in, TransferIds, HaveLabels}
 use Rattle.tftp_law.proofs.FirstBroken.FirstRequests.{request_same}

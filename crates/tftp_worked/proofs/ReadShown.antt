@@ -1,7 +1,7 @@
 -- The worked captures: what they show, and what they cannot.
 use Rattle.std.proofs.Common.{◌≡◌, ◌≢◌, ℕ, ◌≤◌, ◌&&◌, true, List, [], ◌∷◌, ◌++◌, codes, reverse, inl, inr, refl, sym, subst, ap, ◌∙◌, arith}
 use Rattle.tftp_packet.specs.{Message, Client, Server}
-use Rattle.tftp_hosts.specs.{Datagram, Header}
+use Rattle.tftp_packet.specs.Hosts.{Datagram, Header}
 use Rattle.tftp_model.specs.{Meaning, NothingAgreed, blksize_of, block_count, Deed, Sent, Took, Req, Data, Ack, History, HasSent, HasTaken, Step, IsView, IsComplete, two_bytes, two_bytes_view}
 use Rattle.tftp_model.specs.Machines.{receiver_of}
 use Rattle.tftp_model.proofs.Members.{contains_first, contains_cases, contains_none}

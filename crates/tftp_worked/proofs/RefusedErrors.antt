@@ -2,7 +2,7 @@
 use Rattle.std.proofs.Common.{◌≡◌, ℕ, ◌≤◌, true, [], ◌∷◌, reverse, codes, inl, inr, refl, sym, subst, ap, ◌∙◌, arith}
 use Rattle.std.proofs.lemmas.Bool.{leb-true}
 use Rattle.tftp_packet.specs.{Message, no_options, Spells, Put}
-use Rattle.tftp_hosts.specs.{Out, Header}
+use Rattle.tftp_packet.specs.Hosts.{Out, Header}
 use Rattle.tftp_model.specs.{request_of, two_bytes}
 use Rattle.tftp_rules.specs.{transfer_of, Passed, IsAcked, usable, EndRule, PortRule}
 use Rattle.tftp_law.specs.{Rule, OneEnded, IsRefused}

@@ -3,7 +3,7 @@ use Rattle.std.proofs.Common.{ℕ, ◌+◌, ◌/◌, ◌%◌, ◌==◌, ◌&&◌
 use Rattle.std.specs.Str.{bytes_eq}
 use Rattle.std.specs.List.{list_all}
 use Rattle.tftp_packet.specs.{Message, Side, Get, Put, End, Client, Server}
-use Rattle.tftp_hosts.specs.{Dir, In, Out, Header}
+use Rattle.tftp_packet.specs.Hosts.{Dir, In, Out, Header}
 use Rattle.tftp_model.specs.Roles.{sender_of, receiver_of}
 use Rattle.tftp_rules.specs.{author_of, Route, route_of, is_of_transfer, Reply, NoReply, Plain, Oacked, Terms, end_rules, rule_count, EndRule, PortRule}
 use Rattle.tftp_law.specs.{Answer, Begins, number_of, Rule}

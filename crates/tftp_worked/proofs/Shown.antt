@@ -1,6 +1,6 @@
 -- What a dressed view shows.
 use Rattle.std.proofs.Common.{ℕ, List}
-use Rattle.tftp_hosts.specs.{Datagram, Header}
+use Rattle.tftp_packet.specs.Hosts.{Datagram, Header}
 use Rattle.tftp_model.specs.{Meaning, History, IsView, IsComplete}
 use Rattle.tftp_law.specs.{IsDressed, Fits, IsWritable, Shows}
 

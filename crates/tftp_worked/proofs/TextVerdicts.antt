@@ -1,7 +1,7 @@
 -- What there is to say of the worked texts.
 use Rattle.std.proofs.Common.{Bool, true, false, List, [], ◌∷◌, Ok, Err, codes, inl, inr, refl, arith}
 use Rattle.std.proofs.lemmas.Bool.{false≢true}
-use Rattle.tftp_hosts.specs.{no_host, Dir, Out, Header}
+use Rattle.tftp_packet.specs.Hosts.{no_host, Dir, Out, Header}
 use Rattle.tftp_packet.specs.{Message}
 use Rattle.tftp_capture.specs.{numbered, Numbered, BeginsWith, worked_header, worked_text, BadHeader}
 use Rattle.tftp_capture.specs.declared.fault.CaptureFault.TheVariants.{Text}

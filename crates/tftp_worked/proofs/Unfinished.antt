@@ -2,7 +2,7 @@
 use Rattle.std.proofs.Common.{◌≡◌, ℕ, ◌<◌, ◌==◌, ◌||◌, not, nat_le, Bool, true, List, [], ◌∷◌, length, Some, None, inl, inr, refl, sym, subst, ◌∙◌, arith}
 use Rattle.std.proofs.lemmas.Bool.{and_parts, or_cases, leb-true, eq-eqb, false≢true}
 use Rattle.tftp_packet.specs.{Message, Spells}
-use Rattle.tftp_hosts.specs.{Dir, In, Out, Datagram, Header}
+use Rattle.tftp_packet.specs.Hosts.{Dir, In, Out, Datagram, Header}
 use Rattle.tftp_model.specs.{Meaning}
 use Rattle.tftp_rules.specs.{transfer_of, Passed, IsReceiver, Terms}
 use Rattle.tftp_law.specs.{IsErrorBy, NoErrorPassed, AbortedBy, IsWhole, Meant}

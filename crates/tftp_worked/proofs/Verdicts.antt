@@ -1,6 +1,6 @@
 -- Worked verdicts, from the runs and the rules.
 use Rattle.std.proofs.Common.{List, [], ◌∷◌, ◌++◌, reverse, Ok, Err, refl}
-use Rattle.tftp_hosts.specs.{Datagram, Header}
+use Rattle.tftp_packet.specs.Hosts.{Datagram, Header}
 use Rattle.tftp_model.specs.{Meaning, two_bytes, six_blocks}
 use Rattle.tftp_rules.specs.{EndRule}
 use Rattle.tftp_law.specs.{Rule, Shows, IsNotAborted}

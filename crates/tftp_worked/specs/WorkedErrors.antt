@@ -1,7 +1,7 @@
 -- Captures of transfers in which an ERROR is sent (RFC 1350, section 7), and datagrams that no end sends after one.
 use Rattle.std.specs.Prelude.{ℕ, List, [], ◌∷◌, ◌++◌, codes}
 use Rattle.tftp_packet.specs.{terminated}
-use Rattle.tftp_hosts.specs.{Datagram}
+use Rattle.tftp_packet.specs.Hosts.{Datagram}
 use Rattle.tftp_worked.specs.Worked.{asks_for_a, brings_hi, acknowledges_hi}
 use Rattle.tftp_worked.specs.WorkedWindows.{request, oack, block, ack, by_eight, asks, goes, comes, is_asked}
 

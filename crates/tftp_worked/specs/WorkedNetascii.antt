@@ -1,6 +1,6 @@
 -- Captures of a read in netascii of `abcdefg`, the end of a line, and `h` (RFC 1350, section 1; RFC 764).
 use Rattle.std.specs.Prelude.{ℕ, List, [], ◌∷◌, ◌++◌, codes}
-use Rattle.tftp_hosts.specs.{Datagram}
+use Rattle.tftp_packet.specs.Hosts.{Datagram}
 use Rattle.tftp_worked.specs.WorkedWindows.{request_for, oack, block, ack, by_eight, asks, goes, comes}
 
 abbrev pub asks_for_lines : Datagram

@@ -1,7 +1,7 @@
 -- Packets and requests that no lawful end sends, and OACKs with options that no server may agree to.
 use Rattle.std.specs.Prelude.{List, [], ◌∷◌, codes}
 use Rattle.tftp_packet.specs.{Pair}
-use Rattle.tftp_hosts.specs.{Datagram}
+use Rattle.tftp_packet.specs.Hosts.{Datagram}
 use Rattle.tftp_worked.specs.WorkedWindows.{request, request_for, oack, by_eight, asks, goes, comes}
 
 -- an ACK with a byte too many, and a request in the mode "mail", which is obsolete (RFC 1350, section 5)

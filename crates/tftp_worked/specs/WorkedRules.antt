@@ -1,7 +1,7 @@
 -- Captures up to a datagram that breaks a rule, each named for that datagram.
 use Rattle.std.specs.Prelude.{ℕ, List, [], ◌∷◌, ◌++◌, codes}
 use Rattle.tftp_packet.specs.{Pair}
-use Rattle.tftp_hosts.specs.{In, Out, Datagram}
+use Rattle.tftp_packet.specs.Hosts.{In, Out, Datagram}
 use Rattle.tftp_worked.specs.Worked.{server_host, asks_for_a, brings_hi}
 use Rattle.tftp_worked.specs.WorkedWindows.{request, oack, block, ack, by_eight, by_four, asks, goes, comes, answers, hears, is_asked}
 

@@ -3,7 +3,7 @@
 use crate::writes::{DATAGRAMS, HEADER, has_written};
 use crate::writing::{write_with_comment, write_with_host};
 use std::test::Fail;
-use tftp_hosts::Host;
+use tftp_packet::hosts::Host;
 use tftp_trials::drip::DripWriter;
 use tftp_trials::texts::{COMMENTED, NAMED};
 

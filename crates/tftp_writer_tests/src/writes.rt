@@ -4,7 +4,7 @@ use crate::writing::{Row, Written, write};
 use std::test::Fail;
 use tftp_capture::Header;
 use tftp_capture_tests::outcomes::gives;
-use tftp_hosts::Dir;
+use tftp_packet::hosts::Dir;
 use tftp_packet::End;
 use net_streams::streams::WriteFault;
 use tftp_trials::comparing::{is_same, is_so};

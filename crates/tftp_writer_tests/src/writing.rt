@@ -5,7 +5,7 @@ ghost use Rattle.std.specs.Prelude.{◌≡◌};
 use std::alloc::Global;
 use std::marker::Model;
 use tftp_capture::{CaptureWriter, Header, HostCaptureWriter};
-use tftp_hosts::{Dir, Host};
+use tftp_packet::hosts::{Dir, Host};
 use net_streams::streams::{LineWriter, WriteFault};
 use tftp_trials::drip::DripWriter;
 

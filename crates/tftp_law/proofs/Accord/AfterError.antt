@@ -2,7 +2,7 @@
 use Rattle.std.proofs.Common.{◌≡◌, ℕ, Bool, true, false, List, ◌∷◌, Contains, inl, inr, refl, sym, subst, ap, ◌∙◌}
 use Rattle.std.proofs.lemmas.Bool.{true≢false}
 use Rattle.tftp_packet.specs.{Message}
-use Rattle.tftp_hosts.specs.{Dir, In, Out, Header}
+use Rattle.tftp_packet.specs.Hosts.{Dir, In, Out, Header}
 use Rattle.tftp_model.specs.{Meaning, MachinePacket, Error, Deed, Sent, Took, HasSent, HasTaken, NoErrorSent, message_of, MaySend, is_error, MayCome, IsOneSided}
 use Rattle.tftp_rules.specs.{transfer_of, Passed}
 use Rattle.tftp_model.proofs.Cut.{sends_before_error}

@@ -2,7 +2,7 @@
 use Rattle.std.proofs.Common.{◌≡◌, ℕ, true, List, [], ◌∷◌, Any, inl, inr, sym, subst, ◌∙◌}
 use Rattle.std.proofs.lemmas.Bool.{false≢true}
 use Rattle.tftp_packet.specs.{Put, Server}
-use Rattle.tftp_hosts.specs.{In, Out, Datagram, Header}
+use Rattle.tftp_packet.specs.Hosts.{In, Out, Datagram, Header}
 use Rattle.tftp_model.specs.{Meaning, NothingAgreed, SomethingAgreed, MachinePacket, Oack, Ack, Error, Sent, Took, History, HasSent, heard, IsOneSided}
 use Rattle.tftp_model.proofs.Members.{contains_first, contains_later}
 use Rattle.tftp_model.proofs.Stops.{stopped, either, heard_all, heard_stopped, first_error}

@@ -3,7 +3,7 @@ use Rattle.std.proofs.Common.{◌≡◌, ℕ, ◌+◌, ◌-◌, ◌*◌, ◌/◌
 use Rattle.std.proofs.lemmas.Bool.{cases_lt}
 use Rattle.std.proofs.lemmas.Nat.{mod_below, div-add-mod'}
 use Rattle.tftp_packet.specs.{Message}
-use Rattle.tftp_hosts.specs.{Datagram}
+use Rattle.tftp_packet.specs.Hosts.{Datagram}
 use Rattle.tftp_model.specs.{block, block_count}
 use Rattle.tftp_rules.specs.{HasPassed, IsLast, BlockBreaks, HasWrongLength, IsNotLengthOf, EndRule, Terms}
 use Rattle.tftp_rules.proofs.Joined.{length_block, whole_block, last_block}

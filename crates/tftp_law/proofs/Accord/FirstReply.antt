@@ -1,7 +1,7 @@
 -- The first answer to a request is the one that the meaning tells.
 use Rattle.std.proofs.Common.{◌≡◌, ◌⊎◌, ℕ, zero, suc, List, [], ◌∷◌, inl, inr, refl, sym, subst, arith}
 use Rattle.tftp_packet.specs.{Message, RequestParts, Spells, Side, Get, Put, End, OptionMap}
-use Rattle.tftp_hosts.specs.{Dir, In, Out, Datagram, Header}
+use Rattle.tftp_packet.specs.Hosts.{Dir, In, Out, Datagram, Header}
 use Rattle.tftp_packet.proofs.Unique.{one_message}
 use Rattle.tftp_model.specs.{Meaning, request_of, SomethingAgreed, NothingAgreed, Req, Oack, Data, Ack, Deed, Sent, Took, History, HasSent, HasTaken, message_of, IsStartedOn, MayAckZeroOn, MaySend, Error, LetsStartOn, LetsAckZeroOn, MayCome, IsOneSided, heard}
 use Rattle.tftp_rules.specs.{Route, route_of, is_of_transfer, transfer_of, Passed}

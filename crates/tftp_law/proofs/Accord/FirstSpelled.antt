@@ -1,7 +1,7 @@
 -- The first request of a division is the meaning's, and its blocks are numbered as those of the wire.
 use Rattle.std.proofs.Common.{◌≡◌, ℕ, ◌≤◌, List, [], ◌∷◌, Contains, Some, inl, inr, sym, subst, ◌∙◌}
 use Rattle.tftp_packet.specs.{Message, Spells}
-use Rattle.tftp_hosts.specs.{Datagram, Header}
+use Rattle.tftp_packet.specs.Hosts.{Datagram, Header}
 use Rattle.tftp_model.specs.{Meaning, request_of, blksize_of, block_count, Req, Data, Deed, Sent, Took, History, MaySend, MayCome, IsOneSided}
 use Rattle.tftp_rules.specs.{Route, asks, first_of}
 use Rattle.tftp_law.specs.{Label, Main, Division, datagrams_of, packet_of, label_route, SaysAs, AreRouted}

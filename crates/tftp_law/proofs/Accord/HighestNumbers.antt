@@ -2,7 +2,7 @@
 use Rattle.std.proofs.Common.{◌≡◌, ◌⊎◌, ℕ, zero, suc, ◌+◌, ◌<◌, ◌≤◌, List, [], ◌∷◌, length, inl, inr, refl, sym, subst, arith, if◌then◌else◌}
 use Rattle.std.proofs.lemmas.Bool.{cases_lt, cases_eq}
 use Rattle.tftp_packet.specs.{Message, Request, Data, Ack, Error, Oack, Spells}
-use Rattle.tftp_hosts.specs.{Dir, In, Out, Datagram, Header}
+use Rattle.tftp_packet.specs.Hosts.{Dir, In, Out, Datagram, Header}
 use Rattle.tftp_rules.specs.{Route, route_of, is_of_transfer, transfer_of, Passed, HasPassed, BlockPassed, IsGreatest, IsTop, IsAnswered, IsAcked, IsHigh, IsFront}
 use Rattle.tftp_law.specs.{IsRead, OneEnded}
 use Rattle.tftp_law.proofs.Spelled.{spelled_once}

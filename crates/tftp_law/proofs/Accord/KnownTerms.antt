@@ -2,7 +2,7 @@
 use Rattle.std.proofs.Common.{◌≡◌, ◌⊎◌, ℕ, ◌<◌, ◌≤◌, List, [], ◌∷◌, Contains, length, Some, None, codes, inl, inr, refl, sym, subst, ap, ◌∙◌, arith}
 use Rattle.std.specs.FinMap as map
 use Rattle.tftp_packet.specs.{Message, Side, Get, Put}
-use Rattle.tftp_hosts.specs.{Dir, In, Out, Datagram, Header}
+use Rattle.tftp_packet.specs.Hosts.{Dir, In, Out, Datagram, Header}
 use Rattle.tftp_nego.specs.{AreInRange}
 use Rattle.tftp_model.specs.{Meaning, request_of, SomethingAgreed, NothingAgreed, blksize_of, windowsize_of, block, block_count, Oack, Ack, Deed, Sent, Took, History, HasSent, HasTaken, message_of, IsStartedOn, LetsStartOn, IsOneSided, heard}
 use Rattle.tftp_model.specs.Roles.{sender_of, receiver_of}

@@ -2,7 +2,7 @@
 use Rattle.std.proofs.Common.{◌≡◌, ℕ, ◌+◌, ◌≤◌, Bool, true, false, List, [], ◌∷◌, Contains, inl, inr, refl, sym, subst, ap, ◌∙◌, arith, if◌then◌else◌}
 use Rattle.std.proofs.lemmas.Bool.{false≢true, true≢false}
 use Rattle.tftp_packet.specs.{Message, Spells, side_opcode, Side, Get, Put, opcode_of}
-use Rattle.tftp_hosts.specs.{Dir, In, Out, Datagram, Header}
+use Rattle.tftp_packet.specs.Hosts.{Dir, In, Out, Datagram, Header}
 use Rattle.tftp_packet.proofs.Unique.{one_message}
 use Rattle.tftp_model.specs.{Meaning, blksize_of, windowsize_of, block, MachinePacket, Req, Oack, Data, Ack, Deed, Sent, Took, History, HasSent, HasTaken, message_of, MaySendAck, Error, MayComeData, MayComeAck, is_error, takes_error, heard}
 use Rattle.tftp_model.specs.Machines.{sender_of, receiver_of}

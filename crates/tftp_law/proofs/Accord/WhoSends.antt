@@ -1,7 +1,7 @@
 -- Which end sends which kind of message.
 use Rattle.std.proofs.Common.{◌≡◌, ℕ, List, refl, sym, ◌∙◌}
 use Rattle.tftp_packet.specs.{OptionMap, Message, RequestParts, Side, Get, Put, End, Client, Server}
-use Rattle.tftp_hosts.specs.{In, Out}
+use Rattle.tftp_packet.specs.Hosts.{In, Out}
 use Rattle.tftp_model.specs.Roles.{sender_of, receiver_of}
 use Rattle.tftp_rules.specs.{author_of}
 use Rattle.tftp_law.specs.{IsWrongKind}

@@ -2,7 +2,7 @@
 -- no rule.
 use Rattle.std.proofs.Common.{◌≡◌, ◌⊎◌, ℕ, ◌+◌, ◌-◌, ◌<◌, ◌≤◌, List, ◌∷◌, inl, inr, refl, sym, subst, ◌∙◌, arith}
 use Rattle.tftp_packet.specs.{Message, Side, Get, Put, End, Client, Server}
-use Rattle.tftp_hosts.specs.{Dir, In, Out, Datagram, Header}
+use Rattle.tftp_packet.specs.Hosts.{Dir, In, Out, Datagram, Header}
 use Rattle.tftp_nego.specs.{NegoFault}
 use Rattle.tftp_model.specs.{Meaning, request_of, SomethingAgreed, NothingAgreed, blksize_of, block, block_count, MachinePacket, Req, Oack, Data, Ack, Deed, Sent, Took, History, HasSent, message_of, MayAckZeroOn, MaySend, MaySendReq, MaySendData, MaySendAck, Error, LetsAckZeroOn, MayCome, MayComeData, MayComeAck, IsOneSided, heard}
 use Rattle.tftp_model.specs.Roles.{sender_of, receiver_of}

@@ -1,6 +1,6 @@
 -- What a run shows breaks no rule, and where it is whole it means by the rules what the run means.
 use Rattle.std.proofs.Common.{ℕ, List, sym, subst, reverse}
-use Rattle.tftp_hosts.specs.{Datagram, Header}
+use Rattle.tftp_packet.specs.Hosts.{Datagram, Header}
 use Rattle.tftp_model.specs.{Meaning, IsOneSided, IsComplete}
 use Rattle.tftp_model.proofs.OneSided.{view_one_sided}
 use Rattle.tftp_law.specs.{IsSeen, ShowsBy, view_in, Accords, OneEnded, Meant}

@@ -2,7 +2,7 @@
 use Rattle.std.proofs.Common.{◌≡◌, ◌⊎◌, ℕ, true, List, [], ◌∷◌, Option, Some, option_map, Any, inl, inr, refl, sym, ap, ◌∙◌, ◌&&◌, ◌==◌}
 use Rattle.std.proofs.lemmas.Bool.{and_parts, eqb-true}
 use Rattle.tftp_packet.specs.{Client}
-use Rattle.tftp_hosts.specs.{In, Out, Datagram, Header, PeerId, peer_of}
+use Rattle.tftp_packet.specs.Hosts.{In, Out, Datagram, Header, PeerId, peer_of}
 use Rattle.tftp_model.specs.{Req, Oack, Data, Ack, Deed, Sent, Took, Error}
 use Rattle.tftp_rules.specs.{Route, goes_out, comes_in, begins_request, asks, first_of, route_at_client, route_of}
 use Rattle.tftp_law.specs.Dress.{StrayAnswer}

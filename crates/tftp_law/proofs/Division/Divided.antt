@@ -2,7 +2,7 @@
 use Rattle.std.proofs.Common.{◌≡◌, zero, suc, ◌⊎◌, List, [], ◌∷◌, Any, inl, inr, refl, sym, subst, arith}
 use Rattle.tftp_model.specs.{Deed}
 use Rattle.tftp_law.specs.{Main, Labelled, Division, datagrams_of, view_in}
-use Rattle.tftp_hosts.specs.{Datagram}
+use Rattle.tftp_packet.specs.Hosts.{Datagram}
 
 pub divided_more : (division : Division) (d : Datagram) (ds : List Datagram) → datagrams_of division ≡ d ∷ ds → (p : Labelled) × (rest : Division) × (division ≡ p ∷ rest) × (p.datagram ≡ d) × (datagrams_of rest ≡ ds)
 divided_more [] d ds e = absurd (cc)

@@ -1,7 +1,7 @@
 -- A list that finds its places divides, in one way, which is that of its routes.
 use Rattle.std.proofs.Common.{◌≡◌, ℕ, ◌≤◌, Bool, true, false, List, [], ◌∷◌, Some, inl, inr, refl, sym, subst, ap, ◌∙◌, arith, ◌||◌, ◌==◌}
 use Rattle.tftp_packet.specs.{Message, RequestParts, Spells, opcode_of, End, Client, Server}
-use Rattle.tftp_hosts.specs.{Dir, In, Out, Datagram, Header}
+use Rattle.tftp_packet.specs.Hosts.{Dir, In, Out, Datagram, Header}
 use Rattle.tftp_model.specs.{Meaning, MachinePacket, Req, Oack, Data, Ack, Deed, Sent, Took, message_of, Error, IsOneSided}
 use Rattle.tftp_rules.specs.{Route, asks, first_of, route_of, is_of_transfer, PortRule}
 use Rattle.tftp_packet.proofs.NoFault.{no_fault}

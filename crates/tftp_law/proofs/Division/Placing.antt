@@ -1,7 +1,7 @@
 -- What stands where in a division.
 use Rattle.std.proofs.Common.{◌≡◌, ℕ, [], ◌∷◌, Any, inl, inr, refl, sym, subst, ◌∙◌, true, Some}
 use Rattle.tftp_packet.specs.{End, Server}
-use Rattle.tftp_hosts.specs.{In, Out, Datagram, Header, PeerId, peer_of, Dir}
+use Rattle.tftp_packet.specs.Hosts.{In, Out, Datagram, Header, PeerId, peer_of, Dir}
 use Rattle.tftp_law.specs.Dress.{StrayAnswer}
 use Rattle.tftp_law.specs.{Label, Main, Stray, Labelled, Division, view_in, TransferIds, Saying, ComesAstray, HasLabelBy, HaveLabelsBy, IsMain, datagrams_of, Carries, Starts, request_at, from_server}
 use Rattle.tftp_law.proofs.Division.Divided.{any_none, any_cases, any_first, any_later}

@@ -2,7 +2,7 @@
 use Rattle.std.proofs.Common.{◌≡◌, ◌⊎◌, ℕ, Bool, List, [], ◌∷◌, Option, Some, option_map, Any, inl, inr, refl, sym, ◌∙◌, ◌&&◌, ◌==◌}
 use Rattle.std.proofs.lemmas.Bool.{false≢true, and_from, and_parts, eqb-true, eq-eqb}
 use Rattle.tftp_packet.specs.{Server}
-use Rattle.tftp_hosts.specs.{In, Out, Datagram, Header, peer_of, same_peer}
+use Rattle.tftp_packet.specs.Hosts.{In, Out, Datagram, Header, peer_of, same_peer}
 use Rattle.tftp_model.specs.{Req, Oack, Data, Ack, Deed, Sent, Took, Error}
 use Rattle.tftp_rules.specs.{Route, goes_out, comes_in, begins_request, asks, first_of, route_at_server, route_of}
 use Rattle.tftp_law.specs.Dress.{StrayAnswer}

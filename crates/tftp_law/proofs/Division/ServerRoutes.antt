@@ -2,7 +2,7 @@
 use Rattle.std.proofs.Common.{◌≡◌, ◌⊎◌, ℕ, ◌+◌, ◌*◌, Bool, true, false, List, [], ◌∷◌, Option, Some, None, Any, inl, inr, refl, sym, subst, ◌∙◌, arith, ◌&&◌, ◌||◌, ◌==◌}
 use Rattle.std.proofs.lemmas.Bool.{false≢true, and_from, and_parts, eqb-true, false_from_ne_true, or_cases}
 use Rattle.tftp_packet.specs.{opcode_of, Server}
-use Rattle.tftp_hosts.specs.{In, Out, Datagram, Header, peer_of, same_peer}
+use Rattle.tftp_packet.specs.Hosts.{In, Out, Datagram, Header, peer_of, same_peer}
 use Rattle.tftp_model.specs.{MachinePacket, Req, Oack, Data, Ack, Deed, Sent, Took, History, Error}
 use Rattle.tftp_rules.specs.{Route, goes_out, comes_in, begins_request, begins_error, asks, first_of, has_come_from, route_of}
 use Rattle.tftp_law.specs.Dress.{StrayAnswer}

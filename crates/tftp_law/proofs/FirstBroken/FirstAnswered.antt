@@ -2,7 +2,7 @@
 use Rattle.std.proofs.Common.{◌≡◌, Bool, true, false, List, [], ◌∷◌, Some, None, inl, inr, refl, sym, subst, ap, ◌∙◌, if◌then◌else◌}
 use Rattle.std.proofs.lemmas.Bool.{false≢true, true≢false}
 use Rattle.tftp_packet.specs.{RequestParts, Side}
-use Rattle.tftp_hosts.specs.{Datagram, Header}
+use Rattle.tftp_packet.specs.Hosts.{Datagram, Header}
 use Rattle.tftp_rules.specs.{or_this, transfer_of, Terms}
 use Rattle.tftp_law.specs.{FirstAsked, Answer, Answers, NotAnswered, FirstAnswer, terms_after, AreTerms, AreTermsAfter}
 use Rattle.tftp_law.proofs.Spelled.{spelled_once}

@@ -1,7 +1,7 @@
 -- The first rule that a datagram breaks.
 use Rattle.std.proofs.Common.{◌≡◌, List, ◌∷◌}
 use Rattle.tftp_packet.proofs.FirstOf.{first_number}
-use Rattle.tftp_hosts.specs.{Datagram, Header}
+use Rattle.tftp_packet.specs.Hosts.{Datagram, Header}
 use Rattle.tftp_law.specs.{number_of, Broken, FirstBroken, Rule, OneEnded, IsRefused}
 
 pub refused_does_not_pass : (header : Header) (earlier : List Datagram) (d : Datagram) (rule : Rule) → IsRefused header earlier d rule → OneEnded header (d ∷ earlier) → ⊥

@@ -3,7 +3,7 @@ use Rattle.std.proofs.Common.{◌≡◌, ◌<◌, ◌≤◌, true, false, List, 
 use Rattle.std.proofs.lemmas.Bool.{false≢true}
 use Rattle.tftp_packet.specs.{OptionMap, Message, RequestParts, Spells}
 use Rattle.tftp_packet.proofs.NoFault.{no_fault}
-use Rattle.tftp_hosts.specs.{Dir, Datagram, Header}
+use Rattle.tftp_packet.specs.Hosts.{Dir, Datagram, Header}
 use Rattle.tftp_rules.specs.{Route, asks, first_of, route_of, is_of_transfer, transfer_of, PortRule, PortBroken, EndBroken, Terms, EndRule}
 use Rattle.tftp_rules.proofs.EndRules.{from_18}
 use Rattle.tftp_nego.specs.{AgreementRule}

@@ -1,7 +1,7 @@
 -- Before a datagram: the first request is in the view, and the meaning and the wire are in accord with the list.
 use Rattle.std.proofs.Common.{◌≡◌, ◌⊎◌, ℕ, Bool, true, false, List, [], ◌∷◌, Some, inl, inr, sym, ◌∙◌, if◌then◌else◌}
 use Rattle.tftp_packet.specs.{Message}
-use Rattle.tftp_hosts.specs.{Datagram, Header}
+use Rattle.tftp_packet.specs.Hosts.{Datagram, Header}
 use Rattle.tftp_model.specs.{Meaning, Req, Deed, Sent, Took, History, HasSent, HasTaken}
 use Rattle.tftp_rules.specs.{Route, asks, first_of, route_of, is_of_transfer, transfer_of, HasPassed}
 use Rattle.tftp_model.proofs.Members.{contains_first, contains_later}

@@ -6,7 +6,7 @@ use Rattle.std.specs.Cmp.Lexicographic.{slice_cmp}
 use Rattle.std.proofs.lemmas.Bool.{leb-true, and_parts}
 use Rattle.tftp_packet.specs.{OptionMap, OptionValue, Num, Text, no_options, is_within, range_of, Message, RequestParts, Spells, Side, Get, Put, Mode, Octet, Netascii}
 use Rattle.tftp_nego.specs.{number_or, option_or, MayAgree, AreInRange, Holds, NegoFault}
-use Rattle.tftp_hosts.specs.{Datagram, Header}
+use Rattle.tftp_packet.specs.Hosts.{Datagram, Header}
 use Rattle.tftp_model.specs.{Meaning, request_of, block, block_count}
 use Rattle.tftp_rules.specs.{asks, first_of, or_this, route_of, is_of_transfer, transfer_of, HasPassed, NoReply, Plain, Terms, EndRule}
 use Rattle.tftp_nego.proofs.Numbers.{map_in_range}

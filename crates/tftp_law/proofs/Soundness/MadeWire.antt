@@ -5,7 +5,7 @@ use Rattle.std.proofs.lemmas.Nat.{div-mul-add, mod_below, div-add-mod'}
 use Rattle.std.proofs.lemmas.List.{length-append, length-replicate}
 use Rattle.std.proofs.lemmas.Bool.{cases_lt, cases_eq}
 use Rattle.tftp_packet.specs.{Message, Side}
-use Rattle.tftp_hosts.specs.{Dir, Datagram}
+use Rattle.tftp_packet.specs.Hosts.{Dir, Datagram}
 use Rattle.tftp_model.specs.{block, block_count}
 use Rattle.tftp_rules.specs.{Passed, HasPassed, IsLast, LastIsUnknown, Terms}
 use Rattle.tftp_rules.proofs.Joined.{block_added, block_kept, size_more}

@@ -2,7 +2,7 @@
 use Rattle.std.proofs.Common.{◌≡◌, ℕ, ◌≤◌, List, inl, inr, refl, sym, subst, ap, ◌∙◌, arith}
 use Rattle.std.proofs.lemmas.Bool.{cases_lt}
 use Rattle.tftp_packet.specs.{Message, Spells, Side, Get, Put}
-use Rattle.tftp_hosts.specs.{In, Out, Datagram, Header}
+use Rattle.tftp_packet.specs.Hosts.{In, Out, Datagram, Header}
 use Rattle.tftp_model.specs.{Meaning, request_of, SomethingAgreed, NothingAgreed, Ack, History, MayAckZeroOn, MaySendAck, heard, LetsAckZeroOn, MayComeAck}
 use Rattle.tftp_model.specs.Roles.{sender_of, receiver_of}
 use Rattle.tftp_rules.specs.{transfer_of, usable, AckZeroWaits, EndRule, NoReply, Plain, Oacked, Terms}

@@ -2,7 +2,7 @@
 use Rattle.std.proofs.Common.{◌≡◌, ◌⊎◌, ℕ, ◌+◌, ◌-◌, ◌≤◌, List, ◌∷◌, inl, inr, refl, sym, subst, ap, ◌∙◌, arith}
 use Rattle.std.proofs.lemmas.Bool.{cases_lt, cases_eq}
 use Rattle.tftp_packet.specs.{Message, Spells, Side, Get, Put}
-use Rattle.tftp_hosts.specs.{Dir, In, Out, Datagram, Header}
+use Rattle.tftp_packet.specs.Hosts.{Dir, In, Out, Datagram, Header}
 use Rattle.tftp_model.specs.{Meaning, request_of, SomethingAgreed, NothingAgreed, blksize_of, windowsize_of, block, block_count, Data, Ack, History, HasSent, HasTaken, IsStartedOn, MaySendData, heard, LetsStartOn, MayComeData}
 use Rattle.tftp_model.specs.Roles.{sender_of, receiver_of}
 use Rattle.tftp_rules.specs.{transfer_of, Passed, HasPassed, usable, BlocksWait, EndRule, NoReply, Oacked, Terms}

@@ -2,7 +2,7 @@
 use Rattle.std.proofs.Common.{◌≡◌, ◌⊎◌, ℕ, true, List, [], ◌∷◌, inl, inr, refl, sym, subst, ◌&&◌, if◌then◌else◌, Bool, false}
 use Rattle.std.specs.List.{list_any}
 use Rattle.tftp_packet.specs.{Message, Spells, Client, Server}
-use Rattle.tftp_hosts.specs.{Dir, In, Out, Datagram, Header}
+use Rattle.tftp_packet.specs.Hosts.{Dir, In, Out, Datagram, Header}
 use Rattle.tftp_model.specs.{Meaning, request_of, SomethingAgreed, NothingAgreed, message_of, MachinePacket, Req, Oack, Data, Ack, Error, Sent, Took, History, HasSent, HasTaken, NoErrorSent, is_error, heard, IsOneSided}
 use Rattle.tftp_rules.specs.{author_of, goes_out, route_of, is_of_transfer, transfer_of, Passed, HasPassed, usable, EndBroken, brings_error, EndRule, NoReply, Terms}
 use Rattle.tftp_law.specs.{Division, datagrams_of, view_in, Accords, AreRouted, Starts, FirstAsked, Agrees, Begins, IsAnswer, NotAnswered, FirstAnswer, plain_terms, terms_after, IsWrongKind, GoesOn, MessageBreaks, Rule, Passes, OneEnded, AreTermsAfter}

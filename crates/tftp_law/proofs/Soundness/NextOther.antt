@@ -2,7 +2,7 @@
 use Rattle.std.proofs.Common.{◌≡◌, ℕ, List, inl, inr, refl, sym, subst, ◌∙◌}
 use Rattle.std.proofs.lemmas.Bool.{cases_eq}
 use Rattle.tftp_packet.specs.{OptionMap, Message, RequestParts, Spells, Side, Get, Put, Server}
-use Rattle.tftp_hosts.specs.{Dir, In, Out, Datagram, Header}
+use Rattle.tftp_packet.specs.Hosts.{Dir, In, Out, Datagram, Header}
 use Rattle.tftp_model.specs.{Meaning, request_of, SomethingAgreed, Req, Oack, Ack, Error, Sent, Took, History, MaySendReq, MaySendOack, MaySendError, MayComeOack, MayComeError}
 use Rattle.tftp_rules.specs.{transfer_of, Passed, usable}
 use Rattle.tftp_nego.specs.{AgreementRule}

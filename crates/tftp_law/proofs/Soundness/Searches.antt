@@ -2,7 +2,7 @@
 use Rattle.std.proofs.Common.{◌≡◌, ◌⊎◌, ℕ, List, [], ◌∷◌, inl, inr, refl, subst, ap}
 use Rattle.std.proofs.lemmas.Bool.{cases_eq}
 use Rattle.tftp_packet.specs.{OptionMap, Message, Spells, Side, Put}
-use Rattle.tftp_hosts.specs.{Dir, In, Out, Datagram}
+use Rattle.tftp_packet.specs.Hosts.{Dir, In, Out, Datagram}
 use Rattle.tftp_rules.specs.{Passed, HasPassed}
 use Rattle.tftp_law.specs.{Agrees, Begins, IsAnswer, FirstAnswer}
 use Rattle.tftp_law.proofs.Accord.HighestNumbers.{AllSpelled, scan}

@@ -8,7 +8,7 @@ use Rattle.tftp_law.specs.{Label, Main, Stray, Labelled, Division, datagrams_of,
 use Rattle.tftp_law.specs.Dress.{StrayAnswer}
 use Rattle.tftp_law.proofs.Division.Divided.{divided_more}
 use Rattle.tftp_law.proofs.Whole.NothingAgreed.{two_bytes_fit}
-use Rattle.tftp_hosts.specs.{Datagram, Header}
+use Rattle.tftp_packet.specs.Hosts.{Datagram, Header}
 
 pub empty_is_lawful : (header : Header) → IsLawful header []
 empty_is_lawful header = (

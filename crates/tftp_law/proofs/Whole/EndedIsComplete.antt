@@ -1,7 +1,7 @@
 -- What has ended by the rules is complete at the named end, for each meaning and wire in accord with it.
 use Rattle.std.proofs.Common.{◌≡◌, ℕ, ◌≤◌, List, Some, None, inl, inr, sym, subst, ap, ◌∙◌}
 use Rattle.tftp_packet.specs.{RequestParts}
-use Rattle.tftp_hosts.specs.{Datagram, Header}
+use Rattle.tftp_packet.specs.Hosts.{Datagram, Header}
 use Rattle.tftp_model.specs.{Meaning, request_of, NothingAgreed, blksize_of, block_count, Ack, HasSent, HasTaken, IsOneSided, IsComplete}
 use Rattle.tftp_model.specs.Roles.{sender_of, receiver_of}
 use Rattle.tftp_rules.specs.{transfer_of, IsLast, IsSender, IsReceiver, Terms}

@@ -8,7 +8,7 @@ use Rattle.tftp_law.specs.{meaning_from, ReadsAs, Answer, Agrees, Begins, IsAnsw
 use Rattle.tftp_netascii.proofs.ReadsLemmas.{Reads-unique}
 use Rattle.tftp_nego.specs.{number_or, AreInRange}
 use Rattle.tftp_nego.proofs.Numbers.{map_in_range, blksize_range}
-use Rattle.tftp_hosts.specs.{Datagram, Header}
+use Rattle.tftp_packet.specs.Hosts.{Datagram, Header}
 use Rattle.tftp_model.specs.{Meaning, request_of, block, block_count}
 use Rattle.tftp_rules.specs.{transfer_of, IsLast, Terms}
 use Rattle.tftp_law.proofs.Soundness.Settled.{Settled, settled, last_one}

@@ -1,7 +1,7 @@
 -- A complete one-sided history is a whole transfer by the rules, of the same meaning.
 use Rattle.std.proofs.Common.{◌≡◌, ◌⊎◌, ℕ, ◌+◌, ◌<◌, ◌≤◌, List, [], ◌∷◌, length, Option, Some, None, inl, inr, refl, sym, subst, ap, ◌∙◌, arith}
 use Rattle.tftp_packet.specs.{Message, Side, Get, Put, End, Client, Server}
-use Rattle.tftp_hosts.specs.{Datagram, Header}
+use Rattle.tftp_packet.specs.Hosts.{Datagram, Header}
 use Rattle.tftp_model.specs.{Meaning, request_of, NothingAgreed, blksize_of, block, block_count, Req, Oack, Data, Ack, Deed, History, Sent, Took, HasSent, HasTaken, heard, LetsStartOn, MayCome, IsOneSided, IsComplete}
 use Rattle.tftp_model.specs.Roles.{sender_of, receiver_of}
 use Rattle.tftp_rules.specs.{asks, first_of, transfer_of, HasPassed, IsSender, IsReceiver, NoReply, Terms}

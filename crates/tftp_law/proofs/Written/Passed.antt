@@ -1,7 +1,7 @@
 -- What has passed where a one-sided history is complete: each block, and the ACK of the last one.
 use Rattle.std.proofs.Common.{◌≡◌, ℕ, ◌≤◌, ◌⊎◌, List, inl, inr, refl, arith}
 use Rattle.tftp_packet.specs.{Side, Get, Put, End, Client, Server}
-use Rattle.tftp_hosts.specs.{Datagram, Header}
+use Rattle.tftp_packet.specs.Hosts.{Datagram, Header}
 use Rattle.tftp_model.specs.{Meaning, blksize_of, windowsize_of, block_count, Data, Ack, History, IsOneSided, IsComplete}
 use Rattle.tftp_model.specs.Machines.{sender_of, receiver_of}
 use Rattle.tftp_model.proofs.OneSided.{view_one_sided}

@@ -6,7 +6,7 @@ use Rattle.std.specs.FinMap as finite
 use Rattle.tftp_packet.specs.{OptionValue, Num, range_of, is_within, Spells, Mode, Octet, Netascii, Side, Get, Put, End}
 use Rattle.tftp_netascii.specs.{nul, lf, cr, canonical_bytes, canonical_wire}
 use Rattle.tftp_nego.specs.{AreInRange, number_or}
-use Rattle.tftp_hosts.specs.{Datagram, Header}
+use Rattle.tftp_packet.specs.Hosts.{Datagram, Header}
 use Rattle.tftp_model.specs.{Meaning, NothingAgreed, blksize_of, MachinePacket, Req, Oack, Data, Deed, Sent, Took, History, message_of, IsOneSided, block, block_count}
 use Rattle.tftp_model.proofs.Defaults.{default_blksize}
 use Rattle.tftp_model.proofs.Members.{contains_first, contains_later, contains_cases, contains_none}

@@ -1,7 +1,7 @@
 use Rattle.std.proofs.Common.{◌≡◌, ◌+◌, ◌-◌, ◌<◌, ◌%◌, true, false, length, take, sym, ap, subst, ◌∙◌, arith, map}
 use Rattle.std.proofs.Math.ListN.{get_or}
 use Rattle.std.proofs.lemmas.List.{length-map, get_or-map, take_all}
-use Rattle.tftp_hosts.specs.{same_peer}
+use Rattle.tftp_packet.specs.Hosts.{same_peer}
 use Rattle.tftp_ends.specs.{is_noted, IsLatest, mark_of, peers_of, rows_of}
 use Rattle.tftp_ends.specs.declared.linked.Linked.{Linked}
 use Rattle.tftp_ends.proofs.RowLemmas.{not_this, is_this, up_to_latest}

@@ -1,5 +1,5 @@
 use Rattle.std.proofs.Common.{◌≡◌, ◌∙◌, ap, refl}
-use Rattle.tftp_hosts.specs.{PeerId}
+use Rattle.tftp_packet.specs.Hosts.{PeerId}
 use Rattle.tftp_ends.specs.Rows.{mark_of}
 use Rattle.tftp_ends.proofs.linked.mark.Goals as goal
 

@@ -1,6 +1,6 @@
 use Rattle.std.proofs.Common.{[], None, sym, ap, subst}
 use Rattle.tftp_capture.specs.{header_of}
-use Rattle.tftp_hosts.specs.{Header}
+use Rattle.tftp_packet.specs.Hosts.{Header}
 use Rattle.tftp_judge.specs.{Judge}
 use Rattle.tftp_pair_judge.specs.{IsPairAfter, Side, Left}
 use Rattle.tftp_match.specs.{AreSeenBoth, IsSeenAt, seen}

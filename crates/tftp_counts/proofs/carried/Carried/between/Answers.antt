@@ -1,5 +1,5 @@
 use Rattle.std.proofs.Common.{List, IfNone, inl, inr, subst, sym}
-use Rattle.tftp_hosts.specs.{Datagram}
+use Rattle.tftp_packet.specs.Hosts.{Datagram}
 use Rattle.tftp_counts.specs.{AreTooMany, Counted, IsCountOf, sent, taken}
 use Rattle.tftp_counts.proofs.Growing.{one_surplus, sum_over}
 use Rattle.tftp_counts.proofs.carried.Carried.between.Goals as goal

@@ -1,5 +1,5 @@
 use Rattle.std.proofs.Common.{◌≡◌, true, sym, subst, ap, ◌∙◌, List}
-use Rattle.tftp_hosts.specs.{Datagram}
+use Rattle.tftp_packet.specs.Hosts.{Datagram}
 use Rattle.tftp_ends.specs.{NamedEnd, IsEndAfter, HoldsWire, end_of}
 use Rattle.tftp_ends.proofs.named_end.NamedEnd.done.Goals as goal
 

@@ -1,6 +1,6 @@
 use Rattle.std.proofs.Common.{List, ◌∷◌, OnOk, sym, subst, ap, ◌∙◌}
 use Rattle.tftp_packet.specs.{meaning}
-use Rattle.tftp_hosts.specs.{Datagram}
+use Rattle.tftp_packet.specs.Hosts.{Datagram}
 use Rattle.tftp_ends.specs.{NamedEnd, Sends, Receives, terms_of, IsEndAfter, IsFound, IsOfItsAuthor, Says, end_of}
 use Rattle.tftp_ends.proofs.named_end.NamedEnd.pass.Goals.{in-Sends, in-Receives}
 use Rattle.tftp_ends.proofs.named_end.NamedEnd.pass.Goals as goal

@@ -1,6 +1,6 @@
 use Rattle.std.proofs.Common.{◌≡◌, ◌∙◌, List, Err, sym, ap, subst, ◌∷◌}
 use Rattle.std.proofs.lemmas.Result.{err_from_is_err_and}
-use Rattle.tftp_hosts.specs.{Datagram, Header, peer_of}
+use Rattle.tftp_packet.specs.Hosts.{Datagram, Header, peer_of}
 use Rattle.tftp_ends.specs.{StandsFor, HasNumbers, HasNoRequest, among_all, answer_of, is_noted}
 use Rattle.tftp_rules.specs.{route_of}
 use Rattle.tftp_ends.proofs.KeptSteps.{passing_is, route_takes_none, same_numbers, new_stray}

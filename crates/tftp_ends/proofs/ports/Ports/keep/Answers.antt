@@ -1,6 +1,6 @@
 use Rattle.std.proofs.Common.{◌≡◌, ◌∙◌, ◌||◌, sym, ap, subst, [], is_some}
 use Rattle.std.proofs.lemmas.Bool.{false≢true}
-use Rattle.tftp_hosts.specs.{PeerId, same_peer}
+use Rattle.tftp_packet.specs.Hosts.{PeerId, same_peer}
 use Rattle.tftp_ends.specs.{StandsFor, among_all, datagram_as, is_noted}
 use Rattle.tftp_ends.proofs.KeptIds.{ComesFirst}
 use Rattle.tftp_ends.proofs.KeptSteps.{request_stands, peer_stands, error_stands, stray_stands, answer_stands, never_first}

@@ -1,6 +1,6 @@
 use Rattle.std.proofs.Common.{List, subst, sym, inl, inr, refl}
 use Rattle.tftp_packet.specs.{Ack}
-use Rattle.tftp_hosts.specs.{Datagram}
+use Rattle.tftp_packet.specs.Hosts.{Datagram}
 use Rattle.tftp_rules.specs.{FirstEndBroken, usable, AckAhead, AckZero}
 use Rattle.tftp_ends.specs.{IsSenderAfter, NoneBroken}
 use Rattle.tftp_ends.proofs.AfterSender.{got}

@@ -2,7 +2,7 @@ use Rattle.std.proofs.Common.{◌≡◌, ◌↔◌, ℕ, true, List, ◌∷◌, 
 use Rattle.std.proofs.lemmas.Bool.{false≢true}
 use Rattle.tftp_packet.specs.{Message, Spells, opcode_of}
 use Rattle.tftp_capture.specs.{datagram_of, header_of}
-use Rattle.tftp_hosts.specs.{Datagram, Header}
+use Rattle.tftp_packet.specs.Hosts.{Datagram, Header}
 use Rattle.tftp_ends.specs.{KnownIds, StandsFor, HasNumbers, among_all}
 use Rattle.tftp_rules.specs.{is_of_transfer}
 use Rattle.tftp_judge.specs.{FindsOf, PassError, HasKept, JudgeState}

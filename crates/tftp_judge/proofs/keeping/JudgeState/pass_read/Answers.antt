@@ -1,7 +1,7 @@
 use Rattle.std.proofs.Common.{◌≡◌, true, List, [], ◌∷◌, Option, Some, None, Result, Ok, Err, OnOk, IfErr, inr, refl, rules, sym, subst, ap, ◌∙◌}
 use Rattle.std.proofs.lemmas.Bool.{false≢true}
 use Rattle.tftp_packet.specs.{End, Message, RequestParts, meaning, Spells, parts, Packet}
-use Rattle.tftp_hosts.specs.{Datagram, Header}
+use Rattle.tftp_packet.specs.Hosts.{Datagram, Header}
 use Rattle.tftp_rules.specs.{Route, route_of, is_of_transfer, transfer_of}
 use Rattle.tftp_ends.specs.declared.route.Route.TheVariants as may
 use Rattle.tftp_law.specs.{OneEnded, Passes}

@@ -1,6 +1,6 @@
 use Rattle.std.proofs.Common.{◌≡◌, ◌↔◌, ◌+◌, ◌/◌, ◌≤◌, List, length, Ok, refl, true≢false, sym, subst, ap, ◌∙◌, reverse}
 use Rattle.tftp_packet.specs.{OptionMap, RequestParts}
-use Rattle.tftp_hosts.specs.{Datagram, Header}
+use Rattle.tftp_packet.specs.Hosts.{Datagram, Header}
 use Rattle.tftp_model.specs.{Meaning}
 use Rattle.tftp_ends.specs.{held_of}
 use Rattle.tftp_rules.specs.{transfer_of}

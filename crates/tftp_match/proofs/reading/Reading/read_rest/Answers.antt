@@ -1,6 +1,6 @@
 use Rattle.std.proofs.Common.{arith, refl, ap, is_some, Option, ◌∙◌}
 use Rattle.tftp_capture.specs.{datagram_of}
-use Rattle.tftp_hosts.specs.{Datagram}
+use Rattle.tftp_packet.specs.Hosts.{Datagram}
 use Rattle.tftp_judge.specs.{Refuses}
 use Rattle.tftp_match.specs.{IsRestAt, left_judge_at}
 use Rattle.tftp_match.proofs.Sides.{own_of_rest, rest_grows, rest_says, rest_stays}

@@ -1,5 +1,5 @@
 use Rattle.std.proofs.Common.{◌≡◌, ◌∙◌, Option, Some, List, sym, ap, subst}
-use Rattle.tftp_hosts.specs.{Datagram, Header}
+use Rattle.tftp_packet.specs.Hosts.{Datagram, Header}
 use Rattle.tftp_rules.specs.{transfer_of}
 use Rattle.tftp_counts.specs.{AreCounted, Counted, IsCountOf}
 use Rattle.tftp_pair_judge.specs.{IsSideAfter, Side}

@@ -1,6 +1,6 @@
 use Rattle.std.proofs.Common.{[], ◌∷◌, false, sym, subst}
 use Rattle.tftp_packet.specs.{End}
-use Rattle.tftp_hosts.specs.{Datagram, Header}
+use Rattle.tftp_packet.specs.Hosts.{Datagram, Header}
 use Rattle.tftp_judge.specs.{IsJudgeAfter}
 use Rattle.tftp_tap.specs.{header_at}
 use Rattle.tftp_tap_judge.specs.{IsReceiving, IsRecorded}

@@ -1,6 +1,6 @@
 use Rattle.std.proofs.Common.{◌≡◌, ◌∷◌, true, Err, sym, subst, ap, ◌∙◌}
 use Rattle.tftp_packet.specs.{opcode_of, Server}
-use Rattle.tftp_hosts.specs.{Datagram}
+use Rattle.tftp_packet.specs.Hosts.{Datagram}
 use Rattle.tftp_model.specs.Roles.{receiver_of}
 use Rattle.tftp_judge.specs.{Refuses, IsJudgeAfter, Finds, PassError}
 use Rattle.tftp_law.specs.{Passes}

@@ -1,6 +1,6 @@
 use Rattle.std.proofs.Common.{◌≡◌, ℕ, List, ◌∷◌, [], true, sym, ap, ◌∙◌, subst}
 use Rattle.tftp_capture.specs.{IsPort}
-use Rattle.tftp_hosts.specs.{Datagram, Dir, In, Out}
+use Rattle.tftp_packet.specs.Hosts.{Datagram, Dir, In, Out}
 use Rattle.tftp_views.specs.{IsFed, Party, captured_as}
 use Rattle.tftp_texts.specs.{is_seen}
 use Rattle.tftp_texts.proofs.Writing.{ShowsNote, added_none, added_one, on_written, shown, unseen}

@@ -2,7 +2,7 @@
 use Rattle.std.proofs.Common.{◌≡◌, List, ℕ, ◌++◌, length, take, drop, replicate, ap, subst, sym, ◌∙◌}
 use Rattle.std.proofs.Math.Seq.{take-append_seam}
 use Rattle.std.proofs.lemmas.List.{drop-replicate}
-use Rattle.tftp_hosts.specs.{Holds, IsHost, padded}
+use Rattle.tftp_packet.specs.Hosts.{Holds, IsHost, padded}
 
 -- a host's bytes, written over the first of 45 zeros
 pub held : (bytes : List ℕ) → IsHost bytes → Holds (record { bytes = bytes ++ drop (length bytes) (replicate 45 0); len = length bytes })

@@ -1,6 +1,6 @@
 use Rattle.std.proofs.Common.{rules}
-use Rattle.tftp_hosts.proofs.Hosts.{held}
-use Rattle.tftp_hosts.proofs.host.Host.new.Goals as goal
+use Rattle.tftp_packet.proofs.HostsLemmas.Hosts.{held}
+use Rattle.tftp_packet.proofs.hosts.host.Host.new.Goals as goal
 
 pub invariant_of-result : goal.invariant_of-result
 invariant_of-result c =

@@ -2,7 +2,7 @@
 use Rattle.std.specs.Prelude.{◌≡◌, ℕ, ◌-◌, ◌≤◌, List, ◌++◌, length, take, replicate, codes}
 use Rattle.std.proofs.Common.{sym, ap, ◌∙◌}
 use Rattle.std.specs.List.{AllByRecursion}
-use Rattle.tftp_hosts.specs.declared.host.Host.TheInside.{Inside}
+use Rattle.tftp_packet.specs.declared.hosts.host.Host.TheInside.{Inside}
 
 -- an ASCII sign that is seen: any but space (RFC 20, section 4)
 abbrev pub IsSign : ℕ → Type 0

@@ -1,6 +1,6 @@
 ghost use Rattle.std.specs.Prelude.{◌≡◌, ◌↔◌, ℕ, List, IsTrue, MatchOption, bytes_eq};
 ghost use Rattle.std.specs.List.{AllByRecursion};
-ghost use Rattle.tftp_hosts.specs.Host.{IsHost, IsSign, no_host};
+ghost use Rattle.tftp_packet.specs.Hosts.Host.{IsHost, IsSign, no_host};
 
 use std::cmp::Ordering;
 use std::marker::Model;
@@ -20,7 +20,7 @@ impl Model for Host {
 
     ghost Value = { List ℕ };
 
-    ghost use Rattle.tftp_hosts.specs.Host.{held_bytes, held_as, held_again, Holds};
+    ghost use Rattle.tftp_packet.specs.Hosts.Host.{held_bytes, held_as, held_again, Holds};
 
     ghost view = { held_bytes };
 

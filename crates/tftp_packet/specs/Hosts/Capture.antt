@@ -4,7 +4,7 @@ use Rattle.std.specs.Str.{bytes_eq}
 use Rattle.std.specs.declared.cmp.Ordering.{Ordering}
 use Rattle.std.specs.Ordering.{nat_cmp, on, then_cmp}
 use Rattle.std.specs.Cmp.Lexicographic.{slice_cmp}
-use Rattle.tftp_hosts.specs.declared.dir.Dir.{Dir}
+use Rattle.tftp_packet.specs.declared.hosts.dir.Dir.{Dir}
 use Rattle.tftp_packet.specs.{End}
 
 -- whose capture it is, and the port at which a server is asked

@@ -1,5 +1,4 @@
 //! What a capture says of a datagram beside its payload: the host at the other side, and which way the datagram passed.
-#![tactic(auto)]
 
 mod dir;
 mod host;

@@ -1,4 +1,4 @@
-use crate::host::Host;
+use crate::hosts::host::Host;
 use std::marker::Model;
 
 /// The other side of a datagram: a host, and a port there (RFC 1350, section 4). Ordered by the port first, since many peers
@@ -12,7 +12,7 @@ pub struct Peer {
 }
 
 impl Model for Peer {
-    ghost use Rattle.tftp_hosts.specs.Capture.{PeerId};
+    ghost use Rattle.tftp_packet.specs.Hosts.Capture.{PeerId};
 
     ghost Value = { PeerId };
 
