@@ -1,7 +1,7 @@
 -- What a tap's judge stands for that was given each datagram of a capture, also after it refused one. Lists have the newest
 -- first.
 use Rattle.std.specs.Prelude.{◌≡◌, ◌⊎◌, List, ◌∷◌, ◌++◌, Option, Some, None, Result, Err}
-use Rattle.tftp_model.specs.{Meaning}
+use Rattle.law_model.specs.Model.{Meaning}
 use Rattle.tftp_tap.specs.{TapDatagram, TapSides, BreaksNoTapRule}
 use Rattle.tftp_tap_judge.specs.{IsTapJudge, TapJudge, RefusesAtTap, IsTapVerdict, TapRefusal, Unlawful}
 use Rattle.tftp_tap_judge.specs.declared.refusal.TapRefusal.TheVariants.{Memory}

@@ -4,10 +4,10 @@ use Rattle.std.specs.List.{AllByRecursion}
 use Rattle.std.proofs.lemmas.List.{reverse-reverse}
 use Rattle.tftp_packet.specs.{Client, Side, Get, Put}
 use Rattle.tftp_packet.specs.Hosts.{Datagram}
-use Rattle.tftp_model.specs.{Meaning, MachinePacket, Ack, Took, History, HasTaken, IsOneSided, IsComplete, blksize_of, block_count}
-use Rattle.tftp_model.specs.Machines.{receiver_of}
-use Rattle.tftp_model.proofs.Members.{contains_first, contains_later, contains_cases, contains_none}
-use Rattle.tftp_model.proofs.OneSided.{view_one_sided}
+use Rattle.law_model.specs.Model.{Meaning, MachinePacket, Ack, Took, History, HasTaken, IsOneSided, IsComplete, blksize_of, block_count}
+use Rattle.law_model.specs.Model.Machines.{receiver_of}
+use Rattle.law_model.proofs.ModelLemmas.Members.{contains_first, contains_later, contains_cases, contains_none}
+use Rattle.law_model.proofs.ModelLemmas.OneSided.{view_one_sided}
 use Rattle.tftp_law.specs.{IsSeen, IsLawful, ShowsBy, OneEnded, Meant, Division, view_in, HaveLabelsBy, says_of, Starts}
 use Rattle.tftp_law.proofs.Division.Routed.{starts_of}
 use Rattle.tftp_law.proofs.Whole.TwoEnds.{lawful, whole}

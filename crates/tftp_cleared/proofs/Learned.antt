@@ -5,10 +5,10 @@ use Rattle.std.specs.Fmt.{digits}
 use Rattle.std.specs.List.{AllByRecursion, list_all}
 use Rattle.tftp_packet.specs.{Client, Get, IsString, Message, Num, Octet, Server, Spells, no_options}
 use Rattle.tftp_packet.specs.Hosts.{Datagram, In, Out}
-use Rattle.tftp_model.specs.{Ack, Data, History, IsView, Meaning, Req, Sent, Step, Took, blksize_of, block, block_count, request_of}
-use Rattle.tftp_model.proofs.Computed.{IsPlan, run_is}
-use Rattle.tftp_model.proofs.Defaults.{default_blksize, default_windowsize}
-use Rattle.tftp_model.proofs.Worked.{one_block_plan}
+use Rattle.law_model.specs.Model.{Ack, Data, History, IsView, Meaning, Req, Sent, Step, Took, blksize_of, block, block_count, request_of}
+use Rattle.law_model.proofs.ModelLemmas.Computed.{IsPlan, run_is}
+use Rattle.law_model.proofs.ModelLemmas.Defaults.{default_blksize, default_windowsize}
+use Rattle.law_model.proofs.ModelLemmas.Worked.{one_block_plan}
 use Rattle.tftp_law.specs.{Division, Fits, IsDressed, Main, OneEnded, TransferIds}
 use Rattle.tftp_law.proofs.Whole.NothingAgreed.{none_there, nothing_may_be_agreed_by}
 use Rattle.tftp_law.proofs.Whole.TwoEnds.{lawful}

@@ -4,7 +4,7 @@ use Rattle.std.specs.List.{AllByRecursion}
 use Rattle.std.proofs.lemmas.Bool.{false≢true}
 use Rattle.tftp_packet.specs.{Message, Spells, End, Client, Server}
 use Rattle.tftp_packet.specs.Hosts.{In, Out, Datagram, PeerId}
-use Rattle.tftp_model.specs.{Meaning, MachinePacket, Deed, Sent, Took, Req, Oack, Data, Ack, Error}
+use Rattle.law_model.specs.Model.{Meaning, MachinePacket, Deed, Sent, Took, Req, Oack, Data, Ack, Error}
 use Rattle.tftp_law.specs.{Label, Labelled, Division, datagrams_of, view_in, TransferIds, IsMain, CarriesDeed, HasLabelBy, HaveLabelsBy, says_of}
 use Rattle.tftp_law.specs.Dress.{Main, Stray, StrayAnswer}
 use Rattle.tftp_law.proofs.Division.Divided.{any_none, any_cases, any_first, any_later, divided_more, divided_none, view_main}

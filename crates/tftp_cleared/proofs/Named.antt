@@ -4,7 +4,7 @@ use Rattle.std.specs.List.{AllByRecursion}
 use Rattle.std.proofs.lemmas.Bool.{false≢true, eq-eqb, and_from}
 use Rattle.std.proofs.lemmas.List.Elements.{recursion_from_All}
 use Rattle.tftp_packet.specs.Hosts.{PeerId}
-use Rattle.tftp_model.specs.{Meaning}
+use Rattle.law_model.specs.Model.{Meaning}
 use Rattle.tftp_law.specs.{OneEnded, Meant}
 use Rattle.tftp_law.proofs.Division.Divided.{any_none, any_cases}
 use Rattle.tftp_lines.specs.{Endpoint, Opens, Talks, Transfer, Recorded, same_address, same_endpoint, Placed, is_of}

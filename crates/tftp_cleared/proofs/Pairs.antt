@@ -10,7 +10,7 @@ use Rattle.tftp_law.proofs.Division.Divided.{divided_more, divided_none}
 use Rattle.tftp_lines.specs.{Transfer, same_endpoint, Placed}
 use Rattle.tftp_lines.proofs.Endpoints.{is_same, same_itself}
 use Rattle.tftp_lines.proofs.Lines.{by_test}
-use Rattle.tftp_model.proofs.Members.{contains_cases, contains_none}
+use Rattle.law_model.proofs.ModelLemmas.Members.{contains_cases, contains_none}
 use Rattle.tftp_tap.specs.{pass_of, tapped_at, TapLabel, TapLabelled, TapDivision, tapped_of}
 use Rattle.tftp_tap.specs.TapDress as tap
 use Rattle.tftp_views.specs.{captured, captured_at_client}

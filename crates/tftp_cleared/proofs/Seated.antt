@@ -5,7 +5,7 @@ use Rattle.std.proofs.lemmas.Bool.{false≢true, eq-eqb, and_from, and_parts, or
 use Rattle.std.proofs.lemmas.List.Elements.{recursion_from_All}
 use Rattle.tftp_packet.specs.Hosts.{In, Out, Datagram}
 use Rattle.tftp_law.specs.{OneEnded, Rule}
-use Rattle.tftp_rules.specs.{first_of}
+use Rattle.law_model.specs.Rules.{first_of}
 use Rattle.tftp_lines.specs.{Endpoint, Place, Opens, Repeats, Talks, Beside, Transfer, Recorded, begins_request, other_of, same_address, same_endpoint, Placed, clock, is_of, is_request}
 use Rattle.tftp_lines.proofs.Endpoints.{is_same, address_itself}
 use Rattle.tftp_lines.proofs.Lines.{by_test}

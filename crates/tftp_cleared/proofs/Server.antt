@@ -3,8 +3,8 @@ use Rattle.std.proofs.Common.{◌≡◌, ℕ, true, false, List, [], ◌∷◌, 
 use Rattle.std.specs.List.{AllByRecursion}
 use Rattle.std.proofs.lemmas.Bool.{false≢true, and_parts, and_from, eq-eqb, not-true}
 use Rattle.tftp_packet.specs.Hosts.{Out}
-use Rattle.tftp_model.specs.{Meaning}
-use Rattle.tftp_rules.specs.{first_of, or_this}
+use Rattle.law_model.specs.Model.{Meaning}
+use Rattle.law_model.specs.Rules.{first_of, or_this}
 use Rattle.tftp_law.specs.{TransferIds}
 use Rattle.tftp_law.proofs.Division.Divided.{any_none, any_cases, any_later}
 use Rattle.tftp_law.proofs.Division.RouteTests.{error_begins}

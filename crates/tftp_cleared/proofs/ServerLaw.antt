@@ -6,7 +6,7 @@ use Rattle.std.proofs.lemmas.Bool.{false≢true, true≢false}
 use Rattle.std.proofs.lemmas.List.{reverse-reverse}
 use Rattle.tftp_packet.specs.{Message, End, Client, Server}
 use Rattle.tftp_packet.specs.Hosts.{In, Out, Datagram, PeerId}
-use Rattle.tftp_model.specs.{Meaning, MachinePacket, Sent, Took, Req}
+use Rattle.law_model.specs.Model.{Meaning, MachinePacket, Sent, Took, Req}
 use Rattle.tftp_law.specs.{Label, Division, datagrams_of, TransferIds, HasLabelBy, HaveLabelsBy, says_of, says_some, IsLawful, OneEnded, Rule}
 use Rattle.tftp_law.specs.Dress.{Main, Stray, StrayAnswer}
 use Rattle.tftp_law.proofs.Division.Divided.{any_none, any_cases, any_first, any_later, divided_more}

@@ -2,7 +2,7 @@
 use Rattle.std.proofs.Common.{◌≡◌, ℕ, List, [], ◌∷◌, Any, inl, inr, refl, sym, ap, subst, ◌∙◌}
 use Rattle.std.specs.List.{AllByRecursion}
 use Rattle.tftp_packet.specs.{End, Client, Server}
-use Rattle.tftp_model.specs.{Meaning, MachinePacket, Req, Took, Sent}
+use Rattle.law_model.specs.Model.{Meaning, MachinePacket, Req, Took, Sent}
 use Rattle.tftp_law.specs.{TransferIds, says_of}
 use Rattle.tftp_law.specs.Dress.{Main, Stray, StrayAnswer}
 use Rattle.tftp_law.proofs.Division.Divided.{any_none, any_cases, any_first, any_later}

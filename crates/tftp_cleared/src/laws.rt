@@ -1,7 +1,7 @@
 //! Laws of the definitions in `specs/`. Each is the contract of a function that does nothing.
 
 ghost use Rattle.std.specs.Prelude.{◌≡◌, ◌++◌, ℕ, List, ◌∷◌, All};
-ghost use Rattle.tftp_model.specs.{Meaning};
+ghost use Rattle.law_model.specs.Model.{Meaning};
 ghost use Rattle.tftp_law.specs.{OneEnded, Meant, Rule};
 ghost use Rattle.tftp_parties.specs.{host_name};
 ghost use Rattle.tftp_lines.specs.{Endpoint, Transfer, Recorded};

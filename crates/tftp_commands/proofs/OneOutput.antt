@@ -3,7 +3,7 @@ use Rattle.std.proofs.Common.{◌≡◌, inl, inr, ℕ, ◌==◌, List, [], ◌�
 use Rattle.std.specs.List.{slice_split}
 use Rattle.tftp_capture.specs.{Due, Numbered, Unfinished}
 use Rattle.tftp_capture.specs.declared.fault.CaptureFault.TheVariants.{Text, Read}
-use Rattle.tftp_model.specs.{Meaning}
+use Rattle.law_model.specs.Model.{Meaning}
 use Rattle.tftp_judge.specs.{IsOfText, IsTextVerdict, SaysReadFailed, Verdict, Capture, Refused}
 use Rattle.tftp_commands.specs.{IsChecked, checked, IsCounted, counted, IsExtracted, extracted, IsJudged, IsNormalised, normalised, SaysNoMemory, Output, Source}
 

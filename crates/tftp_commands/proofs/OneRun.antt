@@ -4,7 +4,7 @@ use Rattle.std.specs.List.{AllByRecursion}
 use Rattle.std.specs.Str.{bytes_eq}
 use Rattle.std.proofs.lemmas.Slice.Eq.{bytes_eq-Decides}
 use Rattle.tftp_capture.specs.declared.fault.CaptureFault.TheVariants.{Text, Read, Memory}
-use Rattle.tftp_model.specs.{Meaning}
+use Rattle.law_model.specs.Model.{Meaning}
 use Rattle.tftp_judge.specs.declared.refusal.Refusal.TheVariants as refusal
 use Rattle.tftp_judge.specs.{Verdict, Capture, Refused}
 use Rattle.tftp_commands.specs.{Action, Check, Extract, Normal, Show, Count, checked, counted, extracted, normalised, IsMemoryOutput, IsNoMemoryEnding, SaysNoMemory, TellsOfMemory, Output, IsOutput, IsOutputOf, IsRefused, Cut, Ending, Faulty, Whole, last_line, status_of, Source, IsCommand, IsNoCommand, name_of}

@@ -1,7 +1,7 @@
 -- What `check` prints of a capture text: one line, with what its datagrams mean, or why it is not accepted.
 use Rattle.std.specs.Prelude.{ℕ, ◌++◌, List, [], length, codes, decimal, Result, Ok, Err}
 use Rattle.tftp_packet.specs.{mode_name}
-use Rattle.tftp_model.specs.{Meaning}
+use Rattle.law_model.specs.Model.{Meaning}
 use Rattle.tftp_law.specs.{blocks_of, rule_name, number_of, Rule, Malformed}
 use Rattle.tftp_judge.specs.{Refusal, Unlawful, Aborted, Incomplete, NormalTooLong, Verdict, Capture, Refused}
 use Rattle.tftp_judge.specs.declared.refusal.Refusal.TheVariants.{Memory}

@@ -1,7 +1,7 @@
 -- What `count` prints of a capture text: one line, with how many datagrams its normal capture has, or why it is not
 -- accepted.
 use Rattle.std.specs.Prelude.{ℕ, ◌++◌, List, codes, decimal, Result, Ok, Err}
-use Rattle.tftp_model.specs.{Meaning}
+use Rattle.law_model.specs.Model.{Meaning}
 use Rattle.tftp_judge.specs.{Verdict}
 use Rattle.tftp_normal.specs.{normal_count}
 use Rattle.tftp_commands.specs.declared.status.Status.TheVariants as status

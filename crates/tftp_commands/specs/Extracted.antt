@@ -1,6 +1,6 @@
 -- What `extract` writes of a capture text: its file, and nothing where it is not accepted.
 use Rattle.std.specs.Prelude.{[], Result, Ok, Err}
-use Rattle.tftp_model.specs.{Meaning}
+use Rattle.law_model.specs.Model.{Meaning}
 use Rattle.tftp_judge.specs.{Verdict}
 use Rattle.tftp_commands.specs.declared.status.Status.TheVariants as status
 use Rattle.tftp_commands.specs.Checked.{verdict_status}

@@ -1,7 +1,7 @@
 -- What there is to say of the text that a run reads.
 use Rattle.std.specs.Prelude.{◌≡◌, ◌↔◌, true, Result}
 use Rattle.std.specs.Io.KnownBytes.{IsAtEnd}
-use Rattle.tftp_model.specs.{Meaning}
+use Rattle.law_model.specs.Model.{Meaning}
 use Rattle.tftp_judge.specs.{EndsText, IsTextVerdict, SaysReadFailed, Verdict}
 use Rattle.tftp_commands.specs.Outputs.{Output}
 use Rattle.tftp_commands.specs.Sources.{Source}

@@ -1,6 +1,6 @@
 -- What `normal` writes of a capture text: its normal text, and nothing where it is not accepted.
 use Rattle.std.specs.Prelude.{[], Result, Ok, Err}
-use Rattle.tftp_model.specs.{Meaning}
+use Rattle.law_model.specs.Model.{Meaning}
 use Rattle.tftp_judge.specs.{Verdict}
 use Rattle.tftp_normal.specs.{normal_text}
 use Rattle.tftp_commands.specs.declared.status.Status.TheVariants as status

@@ -1,7 +1,7 @@
 -- When an output is the only one: where memory was not wanting.
 use Rattle.std.specs.Prelude.{◌≡◌, ◌⊎◌, ℕ, ◌++◌, List, [], Result}
 use Rattle.tftp_capture.specs.declared.fault.CaptureFault.TheVariants.{Memory}
-use Rattle.tftp_model.specs.{Meaning}
+use Rattle.law_model.specs.Model.{Meaning}
 use Rattle.tftp_judge.specs.{IsOfText, SaysReadFailed, Verdict}
 use Rattle.tftp_commands.specs.declared.status.Status.TheVariants as status
 use Rattle.tftp_commands.specs.declared.words.Action.{Action}

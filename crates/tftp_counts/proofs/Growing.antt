@@ -2,7 +2,7 @@
 use Rattle.std.proofs.Common.{◌≡◌, ◌≤◌, ◌<◌, ◌⊎◌, ◌+◌, ◌-◌, ◌*◌, ◌==◌, ◌&&◌, if◌then◌else◌, ℕ, zero, suc, Bool, true, false, List, [], ◌∷◌, length, inl, inr, subst, sym, ap, refl, ◌∙◌, arith}
 use Rattle.std.proofs.Math.Nat.{le-suc_iff}
 use Rattle.tftp_packet.specs.Hosts.{Datagram}
-use Rattle.tftp_rules.specs.{comes_in, goes_out}
+use Rattle.law_model.specs.Rules.{comes_in, goes_out}
 use Rattle.tftp_counts.specs.{AreBothWays, AreTooMany, IsSurplus, lost_below, packet_of, packets, repeated_below, sent, surplus_below, taken, times}
 
 -- a function that no step makes less

@@ -2,7 +2,7 @@
 -- (RFC 1350, section 2). Lists have the newest datagram first.
 use Rattle.std.specs.Prelude.{◌≡◌, ◌≢◌, ◌⊎◌, ◌≤◌, ◌+◌, ◌*◌, ◌^◌, ◌-◌, ◌==◌, ◌&&◌, ℕ, zero, suc, Bool, List, [], ◌∷◌, if◌then◌else◌, length, slice_index_or, Option, Some, None}
 use Rattle.tftp_packet.specs.Hosts.{Dir, In, Out, Datagram}
-use Rattle.tftp_rules.specs.{comes_in, goes_out}
+use Rattle.law_model.specs.Rules.{comes_in, goes_out}
 use Rattle.tftp_counts.specs.declared.packets.CountedPacket.{CountedPacket}
 use Rattle.tftp_counts.specs.declared.packets.CountedPacket.TheVariants.{Opening, Error, Data, Ack}
 

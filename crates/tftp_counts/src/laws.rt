@@ -3,7 +3,7 @@
 ghost use Rattle.std.specs.Prelude.{◌≡◌, ◌≤◌, ◌+◌, ◌^◌, ◌∷◌, ℕ, List, [], length};
 ghost use Rattle.tftp_packet.specs.{Message, Spells};
 ghost use Rattle.tftp_packet.specs.Hosts.{Datagram};
-ghost use Rattle.tftp_rules.specs.{comes_in, goes_out};
+ghost use Rattle.law_model.specs.Rules.{comes_in, goes_out};
 ghost use Rattle.tftp_counts.specs.Counts.{AreTooMany, TakesRoom, number_of, packet_of, sent, taken, times, lost_below, repeated_below};
 ghost use Rattle.tftp_counts.specs.Spelled.{named};
 ghost use Rattle.tftp_counts.specs.declared.packets.CountedPacket.TheVariants.{Opening, Error, Data, Ack};

@@ -3,7 +3,7 @@ use Rattle.std.proofs.Common.{◌≡◌, ◌↔◌, ℕ, ◌≤◌, IsTrue, nat_
 use Rattle.std.proofs.lemmas.Bool.{eqb-true}
 use Rattle.tftp_packet.specs.{Ack}
 use Rattle.tftp_packet.specs.Hosts.{In, Out, Datagram}
-use Rattle.tftp_rules.specs.{Passed, IsLast, Terms, IsJoined}
+use Rattle.law_model.specs.Rules.{Passed, IsLast, Terms, IsJoined}
 use Rattle.tftp_blocks.specs.{Held, IsHeldFront, IsJoin}
 use Rattle.tftp_ends.specs.{AreBlocks, IsHeld, Sender, Receiver, IsSenderAfter, IsReceiverAfter, IsAllAnswered, IsAllTaken, IsSound, IsSoundSender, IsSoundReceiver, IsEnd, Sends, Receives, HoldsWire}
 use Rattle.tftp_ends.proofs.HeldWire.{joined_held, last_is_front}

@@ -6,11 +6,11 @@ use Rattle.std.proofs.lemmas.List.{length-append}
 use Rattle.std.proofs.lemmas.Bool.{cases_lt}
 use Rattle.std.specs.FinMap as map
 use Rattle.tftp_packet.specs.Hosts.{Datagram}
-use Rattle.tftp_model.specs.{block, block_count}
-use Rattle.tftp_rules.specs.{IsJoined, Terms}
+use Rattle.law_model.specs.Model.{block, block_count}
+use Rattle.law_model.specs.Rules.{IsJoined, Terms}
 use Rattle.tftp_blocks.specs.{Held, IsHeldFront, IsJoin}
 use Rattle.tftp_ends.specs.{AreBlocks, IsHeld, IsEnd, AreWholeBelow}
-use Rattle.tftp_rules.proofs.Joined.{block_added, block_kept}
+use Rattle.law_model.proofs.RulesLemmas.Joined.{block_added, block_kept}
 
 -- whole blocks joined have this size
 join_size : (b : ℕ) (held : Held) (n : ℕ) (wire : List ℕ) → AreWholeBelow b held (n + 1) → IsJoin held n wire → length wire ≡ n * b

@@ -3,9 +3,9 @@ use Rattle.std.proofs.Common.{◌≡◌, ℕ, Bool, true, false, List, ◌∷◌
 use Rattle.std.proofs.lemmas.Bool.{false≢true}
 use Rattle.tftp_packet.specs.{Client}
 use Rattle.tftp_packet.specs.Hosts.{Datagram, Header, PeerId, peer_of, same_peer}
-use Rattle.tftp_rules.specs.{Route, goes_out, comes_in, asks, first_of, or_this, route_of}
+use Rattle.law_model.specs.Rules.{Route, goes_out, comes_in, asks, first_of, or_this, route_of}
 use Rattle.tftp_ends.specs.{KnownIds, StandsFor, NotesStrays, is_noted, is_other, other_end, sides_of}
-use Rattle.tftp_rules.specs.Ports.Route.{Request, Peer, Stray, StrayAnswer}
+use Rattle.law_model.specs.Rules.Ports.Route.{Request, Peer, Stray, StrayAnswer}
 use Rattle.tftp_ends.proofs.NotedPeers.{noted_first}
 use Rattle.tftp_ends.proofs.RouteSides.{AtClient, at_client}
 use Rattle.tftp_ends.proofs.KeptIds.{first_stays, or_kept, map_none, asked_is, answered_is, stands_on, stays_out, stays_in, strays_in, ComesFirst}

@@ -2,7 +2,7 @@
 use Rattle.std.proofs.Common.{◌≡◌, ◌⊎◌, inl, inr, Bool, true, false, List, ◌∷◌, Option, Some, None, refl, sym, ap, subst, ◌∙◌, ◌&&◌, ◌||◌, not, is_some, option_map}
 use Rattle.tftp_packet.specs.{End}
 use Rattle.tftp_packet.specs.Hosts.{Datagram, Header, PeerId, peer_of, same_peer}
-use Rattle.tftp_rules.specs.{goes_out, asks, first_of, or_this, is_from_client}
+use Rattle.law_model.specs.Rules.{goes_out, asks, first_of, or_this, is_from_client}
 use Rattle.tftp_ends.specs.{KnownIds, StandsFor, NotesStrays, answers, first_answer, is_noted, other_end, sides_of}
 use Rattle.tftp_ends.proofs.NotedPeers.{noted_out, noted_there, noted_stray}
 

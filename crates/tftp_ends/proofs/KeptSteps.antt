@@ -3,9 +3,9 @@ use Rattle.std.proofs.Common.{◌≡◌, ◌⊎◌, inl, inr, ℕ, Bool, true, f
 use Rattle.std.proofs.lemmas.Bool.{false≢true, and_parts}
 use Rattle.tftp_packet.specs.Hosts.{Dir, Datagram, Header, PeerId, peer_of, same_peer}
 use Rattle.tftp_packet.specs.{End, Client, Server}
-use Rattle.tftp_rules.specs.{Route, goes_out, comes_in, asks, begins_request, first_of, has_come_from, is_from_client, port_of_server, route_before, route_at_client, route_at_server, route_of}
+use Rattle.law_model.specs.Rules.{Route, goes_out, comes_in, asks, begins_request, first_of, has_come_from, is_from_client, port_of_server, route_before, route_at_client, route_at_server, route_of}
 use Rattle.tftp_ends.specs.{KnownIds, StandsFor, NotesStrays, HasNumbers, HasNoRequest, among_all, answers, answer_of, is_noted, is_other, other_end, sides_of, Route as MayPass, PortFault, Sides}
-use Rattle.tftp_rules.specs.Ports.Route.{Request, Peer, Stray, StrayAnswer, WrongPort, ForeignPort, NoStrayAnswer}
+use Rattle.law_model.specs.Rules.Ports.Route.{Request, Peer, Stray, StrayAnswer, WrongPort, ForeignPort, NoStrayAnswer}
 use Rattle.tftp_ends.specs.declared.route.Route.TheVariants as may
 use Rattle.tftp_ends.proofs.KeptIds.{two_ways, answered_is, ComesFirst}
 use Rattle.tftp_ends.proofs.KeptAtClient as client

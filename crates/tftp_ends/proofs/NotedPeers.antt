@@ -6,7 +6,7 @@ use Rattle.std.specs.Ordering.{is_eq}
 use Rattle.std.proofs.lemmas.Bool.{false≢true, and_from, and_parts, eqb-true, eq-eqb}
 use Rattle.std.proofs.lemmas.Slice.Eq.{bytes_eq-Decides}
 use Rattle.tftp_packet.specs.Hosts.{Datagram, PeerId, peer_of, same_peer, peer_cmp}
-use Rattle.tftp_rules.specs.{goes_out, comes_in, first_of, or_this, has_come_from}
+use Rattle.law_model.specs.Rules.{goes_out, comes_in, first_of, or_this, has_come_from}
 use Rattle.tftp_ends.specs.{is_noted, NotesStrays}
 
 same_by_order : (one other : PeerId) → is_eq (peer_cmp one other) ≡ same_peer one other

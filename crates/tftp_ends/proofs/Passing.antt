@@ -5,7 +5,7 @@ use Rattle.std.specs.FinMap as map
 use Rattle.tftp_packet.specs.{Message, Request, Data, Ack, Error, Oack, Spells, Side, Get, Put}
 use Rattle.tftp_packet.proofs.Unique.{message_opcode, layout_opcode, one_message}
 use Rattle.tftp_packet.specs.Hosts.{Dir, In, Out, Datagram}
-use Rattle.tftp_rules.specs.{goes_out, begins_error, Passed, HasPassed, BlockPassed, IsGreatest, brings_error, usable}
+use Rattle.law_model.specs.Rules.{goes_out, begins_error, Passed, HasPassed, BlockPassed, IsGreatest, brings_error, usable}
 use Rattle.tftp_blocks.specs.{Held, Placing, Differs, Places}
 use Rattle.tftp_ends.specs.{has_stopped, AreBlocks, Says, IsAside}
 use Rattle.tftp_blocks.proofs.Stores.{placed_is_held, others_are_kept}

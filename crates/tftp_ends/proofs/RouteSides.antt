@@ -2,8 +2,8 @@
 -- end.
 use Rattle.std.proofs.Common.{◌≡◌, ℕ, Bool, true, false, List, Option, Some, None, refl, if◌then◌else◌, ◌==◌, ◌&&◌, ◌||◌, not}
 use Rattle.tftp_packet.specs.Hosts.{Datagram, Header, PeerId, peer_of, same_peer}
-use Rattle.tftp_rules.specs.{Route, goes_out, begins_request, begins_error, has_come_from, route_at_client, route_at_server}
-use Rattle.tftp_rules.specs.Ports.Route.{Request, Peer, Stray, StrayAnswer, ForeignPort, WrongPort, NoStrayAnswer}
+use Rattle.law_model.specs.Rules.{Route, goes_out, begins_request, begins_error, has_come_from, route_at_client, route_at_server}
+use Rattle.law_model.specs.Rules.Ports.Route.{Request, Peer, Stray, StrayAnswer, ForeignPort, WrongPort, NoStrayAnswer}
 
 -- at the client, by where the server is known to be
 abbrev pub AtClient : Route → Bool → Option PeerId → Datagram → Type 0

@@ -4,11 +4,11 @@ use Rattle.std.proofs.lemmas.Bool.{cases_eq}
 use Rattle.std.specs.FinMap as map
 use Rattle.tftp_packet.specs.{NoneBelow, Data, Ack, Side, Get, Put, End, Client, Server}
 use Rattle.tftp_packet.specs.Hosts.{Dir, In, Out, Datagram}
-use Rattle.tftp_model.specs.Roles.{sender_of, receiver_of}
-use Rattle.tftp_rules.specs.{author_of, Passed, HasPassed, BlockPassed, IsTop, IsAckedAt, IsReachedAt, end_number, EndBroken, FirstEndBroken, AckZeroWaits, usable, EndRule, BlockSkipped, GoneBack, BlockChanged, AckAhead, AckZero}
+use Rattle.law_model.specs.Model.Roles.{sender_of, receiver_of}
+use Rattle.law_model.specs.Rules.{author_of, Passed, HasPassed, BlockPassed, IsTop, IsAckedAt, IsReachedAt, end_number, EndBroken, FirstEndBroken, AckZeroWaits, usable, EndRule, BlockSkipped, GoneBack, BlockChanged, AckAhead, AckZero}
 use Rattle.tftp_blocks.specs.{IsHighest}
 use Rattle.tftp_ends.specs.{Sender, IsSenderAfter, IsHeld, IsSoundSender, IsKnown, CannotHold, IsFound, NoneBroken, Rejection}
-use Rattle.tftp_rules.proofs.EndRules.{none_more}
+use Rattle.law_model.proofs.RulesLemmas.EndRules.{none_more}
 use Rattle.tftp_ends.proofs.FirstRules.{before_26, no_block_rule, no_ack_rule}
 use Rattle.tftp_ends.proofs.SoundStates.{held_from_one}
 use Rattle.tftp_ends.proofs.Passing.{came_usable, usable_passed, greatest_kept, greatest_one}

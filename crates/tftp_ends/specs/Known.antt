@@ -4,7 +4,7 @@ use Rattle.std.specs.Prelude.{◌≡◌, ℕ, ◌&&◌, not, Bool, false, List, 
 use Rattle.std.specs.List.{list_any}
 use Rattle.tftp_packet.specs.{opcode_of, End, Client, Server}
 use Rattle.tftp_packet.specs.Hosts.{Dir, Datagram, Header, PeerId, peer_of, same_peer}
-use Rattle.tftp_rules.specs.{Route, comes_in, goes_out, asks, first_of, has_come_from, route_of, PortRule}
+use Rattle.law_model.specs.Rules.{Route, comes_in, goes_out, asks, first_of, has_come_from, route_of, PortRule}
 use Rattle.tftp_ends.specs.declared.route.Route.{Route as MayPass}
 use Rattle.tftp_ends.specs.declared.route.Route.TheVariants as may
 use Rattle.tftp_ends.specs.declared.ports.PortFault.{PortFault}

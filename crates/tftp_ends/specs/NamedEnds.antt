@@ -3,7 +3,7 @@
 use Rattle.std.specs.Prelude.{◌≡◌, ℕ, List, Some}
 use Rattle.std.specs.FinMap as map
 use Rattle.tftp_packet.specs.Hosts.{Datagram}
-use Rattle.tftp_rules.specs.{IsJoined, IsLast, Terms}
+use Rattle.law_model.specs.Rules.{IsJoined, IsLast, Terms}
 use Rattle.tftp_blocks.specs.{Held, IsHeldFront, IsJoin}
 use Rattle.tftp_ends.specs.States.{Sender, Receiver, IsSenderAfter, IsReceiverAfter, IsAllAnswered, IsAllTaken}
 

@@ -5,8 +5,8 @@ use Rattle.std.specs.List.{list_any}
 use Rattle.std.specs.FinMap as map
 use Rattle.tftp_packet.specs.{Message, Request, Data, Ack, Error, Oack, Spells}
 use Rattle.tftp_packet.specs.Hosts.{Dir, In, Out, Datagram}
-use Rattle.tftp_model.specs.Roles.{sender_of, receiver_of}
-use Rattle.tftp_rules.specs.{author_of, Passed, HasPassed, brings_error, usable, IsTop, IsAnswered, IsAcked, IsFront, IsLast, Reply, Terms}
+use Rattle.law_model.specs.Model.Roles.{sender_of, receiver_of}
+use Rattle.law_model.specs.Rules.{author_of, Passed, HasPassed, brings_error, usable, IsTop, IsAnswered, IsAcked, IsFront, IsLast, Reply, Terms}
 use Rattle.tftp_blocks.specs.{Held}
 
 -- an ERROR of the other end has come in

@@ -5,7 +5,7 @@ ghost use Rattle.std.specs.FinMap as map;
 ghost use Rattle.tftp_packet.specs.{Data, Ack, NoneBelow};
 ghost use Rattle.tftp_packet.specs.Hosts.{Datagram};
 ghost use Rattle.tftp_blocks.specs.{IsHighest, IsOrderly, Takes, Placing, Places};
-ghost use Rattle.tftp_rules.specs.{HasPassed, HasWrongLength, BlocksWait, AckZeroWaits, EndBroken, FirstEndBroken, end_number};
+ghost use Rattle.law_model.specs.Rules.{HasPassed, HasWrongLength, BlocksWait, AckZeroWaits, EndBroken, FirstEndBroken, end_number};
 ghost use Rattle.tftp_ends.specs.Rejections.{CannotHold};
 ghost use Rattle.tftp_ends.specs.States.{AreBlocks, HasLengthBySize, IsHeld};
 ghost use Rattle.tftp_ends.specs.StatesKept.{IsSound, IsShortTop, AreWhole, IsEnd, HasNoEnd, EndsElsewhere, EndsThere, HasRightLength, IsKnown};
@@ -14,7 +14,7 @@ use crate::rejection::Rejection;
 use std::alloc::Global;
 use tftp_blocks::{Delivered, PutOutcome};
 use tftp_packet::Side;
-use tftp_rules::{EndRule, Reply, Terms};
+use law_model::rules::{EndRule, Reply, Terms};
 
 /// Whether blocks wait for an ACK 0 (RFC 1350, section 4; RFC 2347). `zero` tells whether one has passed.
 fn blocks_wait(terms: &Terms, zero: bool) -> bool

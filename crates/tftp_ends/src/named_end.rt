@@ -1,7 +1,7 @@
 ghost use Rattle.std.specs.Prelude.{◌≡◌, ◌↔◌, ◌≤◌, List, ◌∷◌, IsTrue, true, Err, OnOk, OnErr};
 ghost use Rattle.tftp_packet.specs.{meaning};
 ghost use Rattle.tftp_packet.specs.Hosts.{Datagram};
-ghost use Rattle.tftp_model.specs.Roles.{sender_of as sends};
+ghost use Rattle.law_model.specs.Model.Roles.{sender_of as sends};
 ghost use Rattle.tftp_blocks.specs.{nothing_held};
 ghost use Rattle.tftp_ends.specs.Rejections.{IsFound};
 ghost use Rattle.tftp_ends.specs.States.{has_stopped, IsBeforeBlocks, IsBlockOrAck, IsNewBlock, IsOfItsAuthor, Says};
@@ -16,7 +16,7 @@ use std::marker::Model;
 use tftp_blocks::Delivered;
 use tftp_packet::hosts::Dir;
 use tftp_packet::{End, Packet, Side};
-use tftp_rules::Terms;
+use law_model::rules::Terms;
 
 /// Which role the named end has.
 #[derive(Drop)]

@@ -1,7 +1,7 @@
 ghost use Rattle.std.specs.Prelude.{◌≡◌, ◌≢◌, ◌&&◌, not, ℕ, false, List, [], ◌∷◌, Some, None, is_some, option_map, Ok, Err, OnOk, OnErr};
 ghost use Rattle.tftp_packet.specs.{opcode_of};
 ghost use Rattle.tftp_packet.specs.Hosts.{Datagram, Header, same_peer};
-ghost use Rattle.tftp_rules.specs.Ports as definitions;
+ghost use Rattle.law_model.specs.Rules.Ports as definitions;
 ghost use Rattle.tftp_ends.specs.Known.{
   StandsFor,
   NotesStrays,
@@ -22,7 +22,7 @@ use std::convert::From;
 use std::marker::Model;
 use tftp_packet::hosts::{Dir, Host, Peer};
 use tftp_packet::End;
-use tftp_rules::PortRule;
+use law_model::rules::PortRule;
 
 /// Why a datagram is none of the transfer, nor a stray.
 #[derive(Clone, Copy, Debug, PartialEq, Eq)]

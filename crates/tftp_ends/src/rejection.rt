@@ -1,6 +1,6 @@
 use std::alloc::AllocError;
 use std::convert::From;
-use tftp_rules::EndRule;
+use law_model::rules::EndRule;
 
 /// Why a packet does not pass at an end.
 #[derive(Clone, Copy, Debug, PartialEq, Eq)]

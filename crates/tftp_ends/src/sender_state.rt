@@ -3,7 +3,7 @@ ghost use Rattle.std.specs.FinMap as map;
 ghost use Rattle.tftp_packet.specs.{Data, Ack, Error, meaning};
 ghost use Rattle.tftp_packet.specs.Hosts.{In, Out, Datagram};
 ghost use Rattle.tftp_blocks.specs.{nothing_held};
-ghost use Rattle.tftp_rules.specs.{IsSender, FirstEndBroken};
+ghost use Rattle.law_model.specs.Rules.{IsSender, FirstEndBroken};
 ghost use Rattle.tftp_ends.specs.NamedEnds.{Sends, HoldsWire};
 ghost use Rattle.tftp_ends.specs.Rejections.{IsFound, NoneBroken};
 ghost use Rattle.tftp_ends.specs.States.{
@@ -26,7 +26,7 @@ use std::marker::Model;
 use tftp_blocks::Delivered;
 use tftp_packet::hosts::Dir;
 use tftp_packet::Packet;
-use tftp_rules::{EndRule, Terms};
+use law_model::rules::{EndRule, Terms};
 
 /// The end that sends the file, from when the request is answered. It keeps the blocks and a few numbers, and no list of
 /// what has passed.

@@ -4,7 +4,7 @@ use std::test::Fail;
 use tftp_ends::{PortFault, Ports, Route, says_unknown_id};
 use tftp_packet::hosts::{Dir, Host};
 use tftp_packet::End;
-use tftp_rules::PortRule;
+use law_model::rules::PortRule;
 
 /// The faults that a datagram has by the rules of ports.
 const FOREIGN: Result<Route, PortFault> = Err(PortFault::Broken(PortRule::Foreign));

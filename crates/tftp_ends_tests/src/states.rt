@@ -1,7 +1,7 @@
 //! The states of the two ends, on each of the two stores by the same steps.
 
 ghost use Rattle.std.specs.Prelude.{◌≡◌, ◌≤◌, IfSome};
-ghost use Rattle.tftp_model.specs.Roles.{sender_of as sends_for, receiver_of as receives_for};
+ghost use Rattle.law_model.specs.Model.Roles.{sender_of as sends_for, receiver_of as receives_for};
 
 use std::alloc::{AllocError, Global};
 use std::test::Fail;
@@ -9,7 +9,7 @@ use tftp_blocks::{Delivered, MapDelivered, RingDelivered};
 use tftp_ends::{ReceiverState, Rejection, SenderState};
 use tftp_packet::hosts::Dir;
 use tftp_packet::{End, Packet, Side};
-use tftp_rules::{EndRule, Reply, Terms};
+use law_model::rules::{EndRule, Reply, Terms};
 
 /// A call of a state, and what it answers.
 enum Step {

@@ -4,11 +4,11 @@ use Rattle.std.proofs.lemmas.Bool.{false≢true}
 use Rattle.tftp_packet.specs.{Message, RequestParts, Spells}
 use Rattle.tftp_packet.specs.Hosts.{Dir, Datagram, Header}
 use Rattle.tftp_ends.specs.{KnownIds, StandsFor, HasNoRequest, IsNewStray, among_all, answer_of, Route as MayPass, PortFault}
-use Rattle.tftp_rules.specs.{Route, asks, first_of, or_this, begins_request, is_from_client, port_of_server, route_of, is_of_transfer, transfer_of, SaysUnknownId, PortRule, PortBroken}
+use Rattle.law_model.specs.Rules.{Route, asks, first_of, or_this, begins_request, is_from_client, port_of_server, route_of, is_of_transfer, transfer_of, SaysUnknownId, PortRule, PortBroken}
 use Rattle.tftp_ends.specs.declared.route.Route.TheVariants as may
 use Rattle.tftp_ends.proofs.KeptSteps.{passing_is}
 use Rattle.tftp_law.specs.{OneEnded, Passes, number_of, Broken, FirstAsked, FirstBroken, Rule, MessageBreaks}
-use Rattle.tftp_rules.proofs.EndRules.{from_18}
+use Rattle.law_model.proofs.RulesLemmas.EndRules.{from_18}
 use Rattle.tftp_law.proofs.FirstBroken.OneMessage.{agreement_from}
 use Rattle.tftp_law.proofs.FirstBroken.FirstRequests.{before_is, asks_is, first_stays}
 use Rattle.tftp_law.proofs.FirstBroken.OneMessage.{first_by, lawful_by}

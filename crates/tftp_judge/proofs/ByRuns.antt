@@ -1,7 +1,7 @@
 -- The verdict by the runs of two ends is the verdict by the rules at one.
 use Rattle.std.proofs.Common.{ℕ, List, Result, Ok, Err, reverse, ◌↔◌}
 use Rattle.tftp_packet.specs.Hosts.{Datagram, Header}
-use Rattle.tftp_model.specs.{Meaning}
+use Rattle.law_model.specs.Model.{Meaning}
 use Rattle.tftp_law.specs.{IsLawful, ShowsBy, OneEnded, Meant}
 use Rattle.tftp_judge.specs.{Refusal, Unlawful, Aborted, Incomplete, NormalTooLong, IsVerdictBy, IsVerdict, IsVerdictByRules}
 use Rattle.tftp_judge.specs.declared.refusal.Refusal.TheVariants.{Memory}

@@ -2,9 +2,9 @@
 use Rattle.std.proofs.Common.{◌≡◌, ◌⊎◌, ℕ, List, length, Err, inl, inr, refl, ◌∙◌, reverse}
 use Rattle.tftp_packet.specs.{Side, Get, Put, End, Client, Server}
 use Rattle.tftp_packet.specs.Hosts.{Datagram, Header}
-use Rattle.tftp_model.specs.{Meaning}
-use Rattle.tftp_rules.specs.{transfer_of}
-use Rattle.tftp_model.specs.Roles.{sender_of, receiver_of}
+use Rattle.law_model.specs.Model.{Meaning}
+use Rattle.law_model.specs.Rules.{transfer_of}
+use Rattle.law_model.specs.Model.Roles.{sender_of, receiver_of}
 use Rattle.tftp_law.specs.{OneEnded, Meant}
 use Rattle.tftp_judge.specs.{IsUnfinished, IsVerdictByRules, Refusal, Aborted, Incomplete}
 

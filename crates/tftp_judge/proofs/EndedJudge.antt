@@ -2,8 +2,8 @@
 use Rattle.std.proofs.Common.{◌≡◌, ℕ, List, [], Some, None, Result, Err, refl, sym, subst, ◌∙◌, reverse}
 use Rattle.tftp_packet.specs.{RequestParts}
 use Rattle.tftp_packet.specs.Hosts.{Datagram, Header}
-use Rattle.tftp_model.specs.{Meaning, request_of}
-use Rattle.tftp_rules.specs.{transfer_of}
+use Rattle.law_model.specs.Model.{Meaning, request_of}
+use Rattle.law_model.specs.Rules.{transfer_of}
 use Rattle.tftp_law.specs.{NoErrorPassed, OneEnded, FirstAsked}
 use Rattle.tftp_judge.specs.{IsJudgeAfter, IsKept, IsTransferAfter, Judge, Transfer, IsVerdict, IsVerdictByRules, Refusal, Incomplete}
 use Rattle.tftp_judge.proofs.ByRuns.{verdict}

@@ -6,10 +6,10 @@ use Rattle.std.proofs.lemmas.List.Elements.{All-from_recursion, recursion_from_A
 use Rattle.tftp_packet.specs.{OptionMap, no_options, Mode, Message, RequestParts}
 use Rattle.std.proofs.lemmas.Bool.{cases_eq}
 use Rattle.tftp_packet.specs.Hosts.{Dir, In, Out, Datagram, Header}
-use Rattle.tftp_model.specs.{Meaning, option_or}
+use Rattle.law_model.specs.Model.{Meaning, option_or}
 use Rattle.tftp_ends.specs.{NamedEnd, Sends, Receives, terms_of, held_of, IsEndAfter, IsEndDone, HoldsWire, AreBlocks, IsHeld, IsBeforeBlocks}
-use Rattle.tftp_rules.specs.{transfer_of, Passed, Terms, NoReply}
-use Rattle.tftp_model.specs.Roles.{sender_of, receiver_of}
+use Rattle.law_model.specs.Rules.{transfer_of, Passed, Terms, NoReply}
+use Rattle.law_model.specs.Model.Roles.{sender_of, receiver_of}
 use Rattle.tftp_blocks.specs.{Held, IsHeldFront, IsJoin}
 use Rattle.tftp_law.specs.{CanBeWritten, ReadsAs, written_wire, IsWritable, OneEnded, IsAgreed, IsEnded, IsWhole, Meant, meaning_from, Answer, AreTerms, FirstAnswer, FirstAsked, NotAnswered, plain_terms, terms_after}
 use Rattle.tftp_law.proofs.Written.EachOf.{all_reverse}

@@ -3,7 +3,7 @@ use Rattle.std.proofs.Common.{◌≡◌, ◌⊎◌, ℕ, true, List, ◌∷◌, 
 use Rattle.std.proofs.lemmas.Bool.{cases_eq}
 use Rattle.tftp_packet.specs.{Message}
 use Rattle.tftp_packet.specs.Hosts.{Dir, In, Out, Datagram}
-use Rattle.tftp_rules.specs.{Passed}
+use Rattle.law_model.specs.Rules.{Passed}
 use Rattle.tftp_ends.specs.{Says}
 use Rattle.tftp_ends.proofs.Passing.{another_way, in_not_out, out_not_in, stopped_out, stopped_with}
 use Rattle.tftp_law.specs.{by_of, GoesOn, AbortedBy, Local, Peer, IsErrorBy, IsFirstError}

@@ -1,7 +1,7 @@
 -- What was written of a text that is accepted.
 use Rattle.std.proofs.Common.{◌≡◌, ◌⊎◌, ℕ, List, Option, Result, Ok, Err, inl, inr, refl, sym, subst}
 use Rattle.net_streams.specs.Streams.{Sink}
-use Rattle.tftp_model.specs.{Meaning}
+use Rattle.law_model.specs.Model.{Meaning}
 use Rattle.tftp_judge.specs.{Extracts, WritesFile, WantsMemory, OutFault, Verdict}
 use Rattle.tftp_judge.specs.declared.extraction.OutFault.TheVariants as fault
 

@@ -2,7 +2,7 @@
 use Rattle.std.proofs.Common.{◌≡◌, ℕ, List, [], ◌∷◌, inl, inr, sym, ap, ◌∙◌}
 use Rattle.tftp_packet.specs.{Message, RequestParts, Get}
 use Rattle.tftp_packet.specs.Hosts.{Dir, Datagram, Header}
-use Rattle.tftp_rules.specs.{Passed, Terms}
+use Rattle.law_model.specs.Rules.{Passed, Terms}
 use Rattle.tftp_law.specs.{Begins, NotAnswered, terms_after, AreTermsAfter}
 use Rattle.tftp_law.proofs.FirstBroken.FirstAnswered.{first_one, not_both}
 

@@ -4,7 +4,7 @@ use Rattle.std.proofs.lemmas.Bool.{false≢true}
 use Rattle.tftp_packet.specs.{OptionMap, no_options, Message, RequestParts, Side, Get, End, Client, Server}
 use Rattle.tftp_packet.specs.Hosts.{Dir, Out, Datagram, Header}
 use Rattle.tftp_ends.specs.{IsBlockOrAck, Rejection}
-use Rattle.tftp_rules.specs.{author_of, end_number, EndBroken, FirstEndBroken, Passed, Terms, EndRule}
+use Rattle.law_model.specs.Rules.{author_of, end_number, EndBroken, FirstEndBroken, Passed, Terms, EndRule}
 use Rattle.tftp_nego.specs.{MayAgree, FirstFault, number, NegoFault}
 use Rattle.tftp_nego.proofs.Tested.{no_fault}
 use Rattle.tftp_law.specs.{number_of, Agrees, Begins, NotAnswered, FirstAnswer, IsWrongKind, GoesOn, ClientWentOn, AreTermsAfter, BlockSent, RequestBreaks, FirstOackBreaks, LaterOackBreaks, OackBreaks, TermsBreak, KindBreaks, MessageBreaks, Rule}

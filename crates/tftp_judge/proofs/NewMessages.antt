@@ -3,7 +3,7 @@ use Rattle.std.proofs.Common.{inl, inr, List}
 use Rattle.tftp_packet.specs.{OptionMap, Message, Side}
 use Rattle.tftp_packet.specs.Hosts.{Datagram}
 use Rattle.tftp_ends.specs.{NamedEnd, Sends, Receives, IsEndAfter, held_of, AreBlocks}
-use Rattle.tftp_rules.specs.{HasPassed}
+use Rattle.law_model.specs.Rules.{HasPassed}
 use Rattle.tftp_law.specs.{NotAnswered}
 use Rattle.tftp_law.proofs.Accord.FirstReply.{no_oack as none_this_way}
 

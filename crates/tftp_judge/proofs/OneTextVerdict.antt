@@ -7,7 +7,7 @@ use Rattle.tftp_capture.specs.declared.fault.CaptureFault.TheVariants.{Text}
 use Rattle.tftp_capture.proofs.Beginnings.{agree, capture_has}
 use Rattle.tftp_capture.proofs.Readings.{reads_same}
 use Rattle.tftp_packet.specs.Hosts.{Header}
-use Rattle.tftp_model.specs.{Meaning}
+use Rattle.law_model.specs.Model.{Meaning}
 use Rattle.tftp_law.specs.{IsLawful, Rule}
 use Rattle.tftp_law.proofs.Whole.Beginnings.{beginning_is_lawful}
 use Rattle.tftp_judge.specs.{AllLawful, BeginsBy, IsOfText, IsTextVerdict, unnumbered, IsSaid, IsVerdict, Refusal, Unlawful, Verdict}

@@ -4,10 +4,10 @@ use Rattle.tftp_packet.specs.{PacketFault, Short}
 use Rattle.tftp_packet.proofs.FaultOrder.{first_fault_unique}
 use Rattle.tftp_packet.specs.Hosts.{Datagram, Header}
 use Rattle.tftp_law.specs.{number_of, Broken, FirstBroken, AbortedBy, Rule, IsLawful}
-use Rattle.tftp_model.specs.{Meaning}
+use Rattle.law_model.specs.Model.{Meaning}
 use Rattle.tftp_judge.specs.{IsSaid, IsUnlawfulAt, IsVerdict, Refusal, Unlawful, Aborted, Incomplete, NormalTooLong}
 use Rattle.tftp_judge.specs.declared.refusal.Refusal.TheVariants.{Memory}
-use Rattle.tftp_rules.specs.{end_rules, transfer_of, EndRule, PortRule}
+use Rattle.law_model.specs.Rules.{end_rules, transfer_of, EndRule, PortRule}
 use Rattle.tftp_nego.specs.{AgreementRule}
 use Rattle.tftp_law.proofs.FirstBroken.FirstError.{one_first, none_first}
 use Rattle.tftp_law.proofs.Whole.Beginnings.{beginning_is_lawful}

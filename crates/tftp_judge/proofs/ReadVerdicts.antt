@@ -1,7 +1,7 @@
 -- What is said of what was read is said of it as a text.
 use Rattle.std.proofs.Common.{ℕ, inl, inr, List, [], Result, Err, sym, subst, append-nil}
 use Rattle.tftp_capture.specs.declared.fault.CaptureFault.TheVariants.{Memory}
-use Rattle.tftp_model.specs.{Meaning}
+use Rattle.law_model.specs.Model.{Meaning}
 use Rattle.tftp_judge.specs.{IsReadVerdict, IsTextVerdict, MayWantAt, NoFaultBefore, WantsToRead, Verdict, Capture, Refused}
 use Rattle.tftp_judge.specs.declared.refusal.Refusal.TheVariants as refusal
 use Rattle.tftp_judge.proofs.WantOfMemory.{no_fault_before, wanted_at, wants_first_line}

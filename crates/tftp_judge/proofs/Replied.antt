@@ -4,9 +4,9 @@ use Rattle.std.proofs.lemmas.Bool.{cases_lt}
 use Rattle.tftp_packet.specs.{Message, RequestParts, Side, Get, Put, End, Client, Server}
 use Rattle.tftp_packet.specs.Hosts.{Dir, In, Out, Datagram, Header}
 use Rattle.tftp_ends.specs.{NamedEnd, terms_of, IsEndAfter, IsOfItsAuthor, IsBeforeBlocks, IsBlockOrAck, Says, IsFound, NoneBroken, Rejection}
-use Rattle.tftp_model.specs.Roles.{sender_of, receiver_of}
-use Rattle.tftp_rules.specs.{author_of, BlocksWait, AckZeroWaits, AckBreaks, BlockPassed, EndBroken, FirstEndBroken, IsFront, IsReachedAt, IsTop, usable, EndRule, NoReply, Plain, Terms}
-use Rattle.tftp_rules.proofs.EndRules.{from_18}
+use Rattle.law_model.specs.Model.Roles.{sender_of, receiver_of}
+use Rattle.law_model.specs.Rules.{author_of, BlocksWait, AckZeroWaits, AckBreaks, BlockPassed, EndBroken, FirstEndBroken, IsFront, IsReachedAt, IsTop, usable, EndRule, NoReply, Plain, Terms}
+use Rattle.law_model.proofs.RulesLemmas.EndRules.{from_18}
 use Rattle.tftp_ends.proofs.BeforeReply.{read_alike, ack_put_alike}
 use Rattle.tftp_ends.proofs.Passing.{none_greatest, usable_passed}
 use Rattle.tftp_law.specs.{AreTermsAfter, TermsBreak, Answer, Agrees, Begins, IsAnswer, IsWrongKind, NotAnswered, plain_terms, terms_after, Rule}

@@ -4,7 +4,7 @@ use Rattle.std.proofs.lemmas.Bool.{false≢true}
 use Rattle.tftp_packet.specs.{Message, Spells}
 use Rattle.tftp_packet.specs.Hosts.{Datagram, Header}
 use Rattle.tftp_ends.specs.{IsNewStray}
-use Rattle.tftp_rules.specs.{is_of_transfer, route_of, transfer_of, HasPassed, Passed}
+use Rattle.law_model.specs.Rules.{is_of_transfer, route_of, transfer_of, HasPassed, Passed}
 use Rattle.tftp_law.proofs.Spelled.{spelled_once}
 use Rattle.tftp_judge.specs.{IsNew, TakesMemory}
 

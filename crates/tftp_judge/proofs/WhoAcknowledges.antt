@@ -2,8 +2,8 @@
 use Rattle.std.proofs.Common.{◌≡◌, ℕ, Bool, true, false, List, [], ◌∷◌, Option, Some, None, inl, inr, refl, sym, subst, ap, ◌∙◌}
 use Rattle.tftp_packet.specs.{Message, RequestParts, Spells}
 use Rattle.tftp_packet.specs.Hosts.{Dir, In, Out, Datagram, Header}
-use Rattle.tftp_rules.specs.{or_this, first_of, asks, route_of, is_of_transfer, transfer_of, author_of, Passed}
-use Rattle.tftp_model.specs.Roles.{sender_of, receiver_of}
+use Rattle.law_model.specs.Rules.{or_this, first_of, asks, route_of, is_of_transfer, transfer_of, author_of, Passed}
+use Rattle.law_model.specs.Model.Roles.{sender_of, receiver_of}
 use Rattle.tftp_law.specs.{Passes, OneEnded, FirstAsked, IsWrongKind, Rule}
 use Rattle.tftp_law.proofs.FirstBroken.FirstAnswered.{or_new, main_none, main_some}
 use Rattle.tftp_law.proofs.FirstBroken.OneMessage.{none_by}

@@ -1,7 +1,7 @@
 -- What is written of a capture text: the file of what it means, and nothing of any other.
 use Rattle.std.specs.Prelude.{◌≡◌, ◌⊎◌, ℕ, List, Option, Result, Ok, Err}
 use Rattle.net_streams.specs.Streams.{Sink, Stops, Wrote}
-use Rattle.tftp_model.specs.{Meaning}
+use Rattle.law_model.specs.Model.{Meaning}
 use Rattle.tftp_judge.specs.TextVerdict.{WantsMemory}
 use Rattle.tftp_judge.specs.declared.extraction.OutFault.{OutFault}
 use Rattle.tftp_judge.specs.declared.extraction.OutFault.TheVariants as fault

@@ -4,7 +4,7 @@ use Rattle.std.specs.Prelude.{◌≡◌, ◌⊎◌, ℕ, List, []}
 use Rattle.tftp_packet.specs.{OptionMap, Message}
 use Rattle.tftp_packet.specs.Hosts.{Dir, Datagram, Header}
 use Rattle.tftp_ends.specs.{IsNewStray, AreBlocks}
-use Rattle.tftp_rules.specs.{transfer_of, HasPassed, Passed}
+use Rattle.law_model.specs.Rules.{transfer_of, HasPassed, Passed}
 use Rattle.tftp_blocks.specs.{Held}
 use Rattle.tftp_law.specs.{Says}
 

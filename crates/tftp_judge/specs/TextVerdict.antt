@@ -5,7 +5,7 @@ use Rattle.net_streams.specs.Streams.{most_ahead}
 use Rattle.tftp_capture.specs.CaptureText.Due.{Body}
 use Rattle.tftp_capture.specs.declared.fault.CaptureFault.TheVariants.{Text, Read, Memory}
 use Rattle.tftp_packet.specs.Hosts.{Datagram, Header}
-use Rattle.tftp_model.specs.{Meaning}
+use Rattle.law_model.specs.Model.{Meaning}
 use Rattle.tftp_law.specs.{IsLawful}
 use Rattle.tftp_judge.specs.Memory.{TakesMemory}
 use Rattle.tftp_judge.specs.Verdicts.{IsVerdict}

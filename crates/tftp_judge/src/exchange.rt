@@ -1,7 +1,7 @@
 ghost use Rattle.std.specs.Prelude.{◌≡◌, ◌⊎◌, ◌↔◌, IsTrue, List, ◌∷◌, Err, OnOk, OnErr};
 ghost use Rattle.tftp_packet.specs.{Message, RequestParts, Spells, meaning, map_of};
 ghost use Rattle.tftp_packet.specs.Hosts.{Datagram, Header};
-ghost use Rattle.tftp_rules.specs.{author_of};
+ghost use Rattle.law_model.specs.Rules.{author_of};
 ghost use Rattle.tftp_ends.specs.{IsBlockOrAck, Says};
 ghost use Rattle.tftp_law.specs.{TermsBreak, IsError, IsWrongKind};
 ghost use Rattle.tftp_judge.specs.Exchanges.{HasAnswer, IsNewBlockOn};

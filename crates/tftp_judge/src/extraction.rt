@@ -1,6 +1,6 @@
 ghost use Rattle.std.specs.Prelude.{◌≡◌, ℕ, List, Some, true, false, Result, Ok};
 ghost use Rattle.std.specs.Io.KnownBytes.{Consumes, IsAtEnd};
-ghost use Rattle.tftp_model.specs.{Meaning};
+ghost use Rattle.law_model.specs.Model.{Meaning};
 ghost use Rattle.tftp_judge.specs.Extracted.{Extracts, WritesFile};
 ghost use Rattle.tftp_judge.specs.TextVerdict.{EndsText, IsReadVerdict, IsTextVerdict, SaysReadFailed};
 ghost use Rattle.tftp_judge.specs.declared.verdict.Verdict.{Verdict as Refused};

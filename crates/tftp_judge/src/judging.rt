@@ -1,7 +1,7 @@
 ghost use Rattle.std.specs.Prelude.{◌≡◌, ◌↔◌, IsTrue, ◌+◌, ◌^◌, ◌<◌, ◌≤◌, ℕ, List, [], ◌∷◌, length, reverse, None, Some, OnOk, IfErr, Err};
 ghost use Rattle.tftp_capture.specs.{datagram_of, header_of};
 ghost use Rattle.tftp_packet.specs.{meaning};
-ghost use Rattle.tftp_rules.specs.{is_of_transfer, route_of, transfer_of};
+ghost use Rattle.law_model.specs.Rules.{is_of_transfer, route_of, transfer_of};
 ghost use Rattle.tftp_packet.specs.Hosts.{Datagram as DatagramParts, Header as HeaderParts};
 ghost use Rattle.tftp_law.specs.{Passes, IsEnded};
 ghost use Rattle.tftp_judge.specs.Found.{Refuses};

@@ -1,6 +1,6 @@
 ghost use Rattle.std.specs.Prelude.{◌≡◌, ◌↔◌, IsTrue};
 ghost use Rattle.tftp_packet.specs.{meaning};
-ghost use Rattle.tftp_rules.specs.{author_of as author_by_way};
+ghost use Rattle.law_model.specs.Rules.{author_of as author_by_way};
 ghost use Rattle.tftp_law.specs.{IsWrongKind};
 
 use tftp_packet::hosts::Dir;

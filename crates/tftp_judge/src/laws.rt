@@ -4,8 +4,8 @@ ghost use Rattle.std.specs.Prelude.{◌≡◌, ◌↔◌, ◌^◌, ◌≤◌, �
 ghost use Rattle.tftp_capture.specs.{IsCapture, Numbered, in_version_two};
 ghost use Rattle.tftp_packet.specs.Hosts.{Datagram, Header};
 ghost use Rattle.tftp_packet.specs.{Message, Spells};
-ghost use Rattle.tftp_model.specs.{Meaning};
-ghost use Rattle.tftp_rules.specs.{is_of_transfer, route_of, transfer_of, HasPassed, Passed};
+ghost use Rattle.law_model.specs.Model.{Meaning};
+ghost use Rattle.law_model.specs.Rules.{is_of_transfer, route_of, transfer_of, HasPassed, Passed};
 ghost use Rattle.tftp_judge.specs.Memory.{TakesMemory};
 ghost use Rattle.tftp_judge.specs.TextVerdict.{IsOfText, IsTextVerdict};
 ghost use Rattle.tftp_judge.specs.Verdicts.{IsSaid, IsVerdict, IsVerdictByRules};

@@ -27,7 +27,7 @@ pub struct MeaningParts {
 
 impl Model for Meaning {
     ghost use Rattle.std.specs.Prelude.{◌≡◌};
-    ghost use Rattle.tftp_model.specs.Meanings.{Meaning as Parts};
+    ghost use Rattle.law_model.specs.Model.Meanings.{Meaning as Parts};
     ghost use Rattle.tftp_law.specs.Writable.{blocks_of, CanBeWritten};
     ghost use Rattle.tftp_law.specs.Owned.{meaning_code, meaning_from};
 
@@ -42,7 +42,7 @@ impl Model for Meaning {
 
 impl Meaning {
     ghost use Rattle.std.specs.Prelude.{◌≡◌, length};
-    ghost use Rattle.tftp_model.specs.Meanings.{request_of};
+    ghost use Rattle.law_model.specs.Model.Meanings.{request_of};
     ghost use Rattle.tftp_law.specs.Writable.{blocks_of, CanBeWritten};
     ghost use Rattle.tftp_law.specs.Owned.{meaning_from};
     ghost use Rattle.tftp_judge.specs.Contents.{file_in, IsCanonical};

@@ -1,6 +1,6 @@
 ghost use Rattle.std.specs.Prelude.{◌≡◌, ◌⊎◌, ℕ, List, Some, true, false, Result};
 ghost use Rattle.std.specs.Io.KnownBytes.{Consumes, IsAtEnd};
-ghost use Rattle.tftp_model.specs.{Meaning as MeaningParts};
+ghost use Rattle.law_model.specs.Model.{Meaning as MeaningParts};
 ghost use Rattle.tftp_judge.specs.TextVerdict.{EndsText, IsOfText, IsReadVerdict, IsTextVerdict, SaysReadFailed, WantsMemory};
 ghost use Rattle.tftp_judge.specs.declared.verdict.Verdict.{Verdict as VerdictKind};
 

@@ -2,7 +2,7 @@ ghost use Rattle.std.specs.Prelude.{◌≡◌, ◌≢◌, ◌≤◌, ◌↔◌, 
 ghost use Rattle.tftp_packet.specs.{OptionMap, Message, Get, Spells, meaning, parts, map_of};
 ghost use Rattle.tftp_packet.specs.Hosts.{Out, Datagram, Header};
 ghost use Rattle.tftp_ends.specs.{terms_of, IsEndAfter, IsBeforeBlocks, IsBlockOrAck, Says};
-ghost use Rattle.tftp_rules.specs.{transfer_of, author_of as author_by_way, Plain};
+ghost use Rattle.law_model.specs.Rules.{transfer_of, author_of as author_by_way, Plain};
 ghost use Rattle.tftp_law.specs.{MessageBreaks, FirstOackBreaks, LaterOackBreaks, OackBreaks, RequestBreaks, TermsBreak, BlockSent, AckSent, OneEnded, IsEnded, Agrees, ClientWentOn, FirstAsked, GoesOn, IsWrongKind, plain_terms as plain_terms_of, terms_after};
 ghost use Rattle.tftp_judge.specs.Found.{Finds, error_of_fault};
 ghost use Rattle.tftp_judge.specs.Exchanges.{WaitsForReply, DiffersByExchange, DiffersBySent};
@@ -32,7 +32,7 @@ use tftp_nego::{Agreed, NegoFault, agree, nothing_agreed};
 use tftp_packet::{
     End, Mode, OptionsView, Packet, Request, RequestView, Side, same_options, same_request,
 };
-use tftp_rules::{EndRule, Reply, Terms};
+use law_model::rules::{EndRule, Reply, Terms};
 
 /// The transfer from its first request on: what was asked for and answered, the named end, and what it has sent.
 #[derive(Drop)]

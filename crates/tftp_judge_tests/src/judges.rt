@@ -9,7 +9,7 @@ use tftp_capture::{Datagram, Header};
 use tftp_packet::hosts::{Dir, Host};
 use tftp_judge::{FileBytes, Judge, Meaning, Refusal, Rule};
 use tftp_packet::{Bytes, End as Side};
-use tftp_rules::EndRule;
+use law_model::rules::EndRule;
 use tftp_trials::comparing::is_so;
 
 /// A judge on this store. Contracts see nothing of it, so that what the library promises of its judges is read only here,

@@ -2,7 +2,7 @@
 use Rattle.std.specs.Prelude.{◌≡◌, ◌⊎◌, ℕ, List, [], ◌∷◌, Option, Some, None}
 use Rattle.tftp_packet.specs.{Message, Spells}
 use Rattle.tftp_packet.specs.Hosts.{Dir, In, Out, Datagram, Header}
-use Rattle.tftp_rules.specs.{transfer_of}
+use Rattle.law_model.specs.Rules.{transfer_of}
 use Rattle.tftp_law.specs.declared.aborted_by.AbortedBy.{AbortedBy}
 use Rattle.tftp_law.specs.declared.aborted_by.AbortedBy.TheVariants.{Local, Peer}
 

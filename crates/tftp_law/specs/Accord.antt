@@ -2,8 +2,8 @@
 use Rattle.std.specs.Prelude.{◌≡◌, ℕ, ◌≤◌, List, [], ◌∷◌}
 use Rattle.tftp_packet.specs.{OptionMap, no_options, Message, RequestParts, End, Client, Server}
 use Rattle.tftp_packet.specs.Hosts.{Datagram, Header}
-use Rattle.tftp_model.specs.{Meaning, request_of, blksize_of, block, block_count, MachinePacket, Req, Oack, Data, Ack, Error, Deed, Sent, Took, History}
-use Rattle.tftp_rules.specs.{Route, route_of, transfer_of, SaysUnknownId, HasPassed}
+use Rattle.law_model.specs.Model.{Meaning, request_of, blksize_of, block, block_count, MachinePacket, Req, Oack, Data, Ack, Error, Deed, Sent, Took, History}
+use Rattle.law_model.specs.Rules.{Route, route_of, transfer_of, SaysUnknownId, HasPassed}
 use Rattle.tftp_law.specs.Fitting.{Fits}
 use Rattle.tftp_law.specs.Dress.{Label, Main, Stray, StrayAnswer, Division, datagrams_of, dir_of, packet_of, Saying, says_of}
 use Rattle.tftp_law.specs.Replies.{FirstAsked, Agrees, Begins, FirstAnswer}

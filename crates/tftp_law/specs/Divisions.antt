@@ -3,8 +3,8 @@
 use Rattle.std.specs.Prelude.{◌≡◌, ◌≤◌, List, [], ◌∷◌, Option, Some}
 use Rattle.tftp_packet.specs.{Message, RequestParts, Spells}
 use Rattle.tftp_packet.specs.Hosts.{Datagram, Header}
-use Rattle.tftp_model.specs.{MachinePacket, Req, Oack, Data, Ack, Error}
-use Rattle.tftp_rules.specs.{Route, route_of}
+use Rattle.law_model.specs.Model.{MachinePacket, Req, Oack, Data, Ack, Error}
+use Rattle.law_model.specs.Rules.{Route, route_of}
 use Rattle.tftp_law.specs.Dress.{Division, datagrams_of, view_in, TransferIds, Saying, HaveLabelsBy}
 use Rattle.tftp_law.specs.Accord.{Starts}
 use Rattle.tftp_law.specs.Rules.{Broken, number_of}

@@ -2,7 +2,7 @@
 use Rattle.std.specs.Prelude.{◌≡◌, ◌≢◌, ℕ, ◌⊎◌, List, [], ◌∷◌, map, reverse, filter_map, Any, Option, Some, None}
 use Rattle.tftp_packet.specs.{Message, End, Client, Server, Spells}
 use Rattle.tftp_packet.specs.Hosts.{Dir, In, Out, Datagram, Header, PeerId, peer_of}
-use Rattle.tftp_model.specs.{Meaning, MachinePacket, Req, Deed, Sent, Took, History, message_of}
+use Rattle.law_model.specs.Model.{Meaning, MachinePacket, Req, Deed, Sent, Took, History, message_of}
 use Rattle.tftp_law.specs.Sides.{server_port, from_server, BeginsAsRequest}
 
 -- What a datagram is to the transfer: what its end sent or took, a stray from elsewhere, or the answer to one.

@@ -1,6 +1,6 @@
 -- Which captures are lawful, and which show a whole transfer.
 use Rattle.std.specs.Prelude.{ℕ, ◌+◌, ◌<◌, List, length, take}
-use Rattle.tftp_model.specs.{Meaning, History, IsView, IsComplete}
+use Rattle.law_model.specs.Model.{Meaning, History, IsView, IsComplete}
 use Rattle.tftp_packet.specs.Hosts.{Datagram, Header}
 use Rattle.tftp_law.specs.Fitting.{Fits, IsWritable}
 use Rattle.tftp_law.specs.Dress.{IsDressed}

@@ -3,7 +3,7 @@
 use Rattle.std.specs.Prelude.{◌≡◌, ◌≢◌, ◌⊎◌, ℕ, List}
 use Rattle.tftp_packet.specs.{OptionMap, Message, RequestParts, Side, Get, Put, End, Client, Server}
 use Rattle.tftp_packet.specs.Hosts.{Dir, Out, Datagram, Header}
-use Rattle.tftp_rules.specs.{author_of, Passed, EndBroken, Terms, EndRule}
+use Rattle.law_model.specs.Rules.{author_of, Passed, EndBroken, Terms, EndRule}
 use Rattle.tftp_nego.specs.{AgreementBroken, Holds, NegoFault}
 use Rattle.tftp_law.specs.Replies.{Agrees, Begins, NotAnswered, FirstAnswer, AreTermsAfter}
 use Rattle.tftp_law.specs.declared.rule.Rule.{Rule}

@@ -3,9 +3,9 @@
 use Rattle.std.specs.Prelude.{◌≡◌, ◌⊎◌, ℕ, List, [], ◌∷◌}
 use Rattle.tftp_packet.specs.{OptionMap, no_options, Message, RequestParts, Spells}
 use Rattle.tftp_packet.specs.Hosts.{Datagram, Header, In, Out}
-use Rattle.tftp_model.specs.{Meaning, request_of}
-pub use Rattle.tftp_rules.specs.Joined.{IsJoined}
-use Rattle.tftp_rules.specs.{Route, route_of, transfer_of, SaysUnknownId, Passed, IsFront, IsLast, IsSender, IsReceiver, Terms}
+use Rattle.law_model.specs.Model.{Meaning, request_of}
+pub use Rattle.law_model.specs.Rules.Joined.{IsJoined}
+use Rattle.law_model.specs.Rules.{Route, route_of, transfer_of, SaysUnknownId, Passed, IsFront, IsLast, IsSender, IsReceiver, Terms}
 use Rattle.tftp_law.specs.Fitting.{ReadsAs}
 use Rattle.tftp_law.specs.Replies.{FirstAsked, Agrees, FirstAnswer, AreTerms}
 use Rattle.tftp_law.specs.Rules.{Broken, FirstBroken}

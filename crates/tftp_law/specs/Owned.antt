@@ -2,7 +2,7 @@
 use Rattle.std.specs.Prelude.{ℕ, List, refl}
 use Rattle.std.specs.Coded.{Coded, code_by, coded×, coded_ℕ, coded_list}
 use Rattle.tftp_packet.specs.{OptionMap, RequestParts, options_code, parts_code}
-use Rattle.tftp_model.specs.{Meaning, request_of}
+use Rattle.law_model.specs.Model.{Meaning, request_of}
 
 abbrev pub meaning_from : RequestParts × (OptionMap × List ℕ) → Meaning
 meaning_from p = record { side = p.0.side; name = p.0.name; mode = p.0.mode; requested = p.0.options; agreed = p.1.0; file = p.1.1 }

@@ -4,8 +4,8 @@ use Rattle.std.specs.Prelude.{◌≡◌, ◌⊎◌, ℕ, List, [], ◌∷◌, Op
 use Rattle.std.specs.FinMap as map
 use Rattle.tftp_packet.specs.{OptionMap, OptionValue as Value, Num, Message, RequestParts, Spells, Side, Get, Put, Mode, Octet}
 use Rattle.tftp_packet.specs.Hosts.{Datagram, Header}
-use Rattle.tftp_model.specs.{option_or}
-use Rattle.tftp_rules.specs.{asks, first_of, transfer_of, Reply, NoReply, Plain, Oacked, Terms}
+use Rattle.law_model.specs.Model.{option_or}
+use Rattle.law_model.specs.Rules.{asks, first_of, transfer_of, Reply, NoReply, Plain, Oacked, Terms}
 
 -- the first request spells this
 abbrev pub FirstAsked : Header → List Datagram → RequestParts → Type 0

@@ -1,7 +1,7 @@
 -- The names of the rules, as they are printed.
 use Rattle.std.specs.Prelude.{ℕ, List, codes}
 use Rattle.tftp_nego.specs.{agreement_name}
-use Rattle.tftp_rules.specs.{port_name, end_name}
+use Rattle.law_model.specs.Rules.{port_name, end_name}
 use Rattle.tftp_law.specs.declared.rule.Rule.{Rule}
 use Rattle.tftp_law.specs.declared.rule.Rule.TheVariants.{Port, NoRequest, Malformed, WrongKind, AfterError, RequestChanged, RequestAfterStart, ReplyChanged, Agreement, OackChanged, OackAfterStart, Block}
 

@@ -3,7 +3,7 @@
 use Rattle.std.specs.Prelude.{◌≡◌, ℕ, List, None, true}
 use Rattle.tftp_packet.specs.{IsFirst, Message, RequestParts, Spells, FirstFault}
 use Rattle.tftp_packet.specs.Hosts.{Datagram, Header}
-use Rattle.tftp_rules.specs.{Route, asks, first_of, route_of, is_of_transfer, transfer_of, PortBroken, port_number, end_number}
+use Rattle.law_model.specs.Rules.{Route, asks, first_of, route_of, is_of_transfer, transfer_of, PortBroken, port_number, end_number}
 use Rattle.tftp_nego.specs.{agreement_number}
 use Rattle.tftp_law.specs.Replies.{FirstAsked}
 use Rattle.tftp_law.specs.MessageRules.{MessageBreaks}

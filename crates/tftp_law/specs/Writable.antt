@@ -2,7 +2,7 @@
 use Rattle.std.specs.Prelude.{ℕ, ◌<◌, ◌≤◌, List, length}
 use Rattle.std.specs.List.{AllByRecursion}
 use Rattle.tftp_packet.specs.{Message, Spells, canonical}
-use Rattle.tftp_model.specs.{Meaning, request_of, SomethingAgreed, blksize_of, windowsize_of, block_count}
+use Rattle.law_model.specs.Model.{Meaning, request_of, SomethingAgreed, blksize_of, windowsize_of, block_count}
 use Rattle.tftp_law.specs.Fitting.{Fits, written_wire}
 
 -- the wire that is written for a meaning, and its blocks

@@ -3,7 +3,7 @@
 ghost use Rattle.std.specs.Prelude.{◌≡◌, ◌≢◌, ◌≤◌, ◌↔◌, ◌⊎◌, ℕ, List, [], ◌∷◌, ◌++◌, All, length};
 ghost use Rattle.tftp_packet.specs.{Mode, OptionMap, no_options, RequestParts};
 ghost use Rattle.tftp_nego.specs.{MayAgree, Holds, NegoFault};
-ghost use Rattle.tftp_model.specs.{Meaning};
+ghost use Rattle.law_model.specs.Model.{Meaning};
 ghost use Rattle.tftp_packet.specs.Hosts.{Datagram, Header};
 ghost use Rattle.tftp_law.specs.Fitting.{ReadsAs, carried_file};
 ghost use Rattle.tftp_law.specs.Writable.{CanBeWritten};

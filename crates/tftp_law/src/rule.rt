@@ -4,7 +4,7 @@ ghost use Rattle.tftp_law.specs.Rules.{number_of};
 
 use tftp_nego::AgreementRule;
 use tftp_packet::PacketFault;
-use tftp_rules::{EndRule, PortRule};
+use law_model::rules::{EndRule, PortRule};
 
 /// A rule that a datagram may break, in the order in which the rules are tried.
 #[derive(Clone, Copy, Debug, PartialEq, Eq)]

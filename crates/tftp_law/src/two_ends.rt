@@ -2,7 +2,7 @@
 
 ghost use Rattle.std.specs.Prelude.{◌≡◌, ◌↔◌, ℕ, List, reverse};
 ghost use Rattle.tftp_packet.specs.Hosts.{Datagram, Header};
-ghost use Rattle.tftp_model.specs.{Meaning, IsOneSided};
+ghost use Rattle.law_model.specs.Model.{Meaning, IsOneSided};
 ghost use Rattle.tftp_law.specs.Dress.{TransferIds, Division, HaveLabels, HaveLabelsBy, view_in};
 ghost use Rattle.tftp_law.specs.Accord.{Accords, AreRouted, AreRoutedBy, Starts};
 ghost use Rattle.tftp_law.specs.Divisions.{says_some, FindPlaces, Divides};

@@ -1,7 +1,7 @@
 -- A line with one datagram more, which is no request.
 use Rattle.std.proofs.Common.{◌≡◌, Bool, true, false, List, [], ◌∷◌, Option, Some, None, cond, inl, inr, refl, sym, ap, subst, ◌∙◌, ◌&&◌, ◌||◌, not, option_map, if◌then◌else◌}
 use Rattle.std.proofs.lemmas.Bool.{false≢true, and_parts, or_cases}
-use Rattle.tftp_rules.specs.{first_of, or_this}
+use Rattle.law_model.specs.Rules.{first_of, or_this}
 use Rattle.tftp_lines.specs.{Endpoint, Transfer, Recorded, same_endpoint, is_ack_0, goes, is_between, Placed, opens, is_request, newest_of, reach, answers, answered_in, talked_of, talk_in, last_was_ack_0, seen_of, talk_after, acked_0_in}
 use Rattle.tftp_lines.proofs.Endpoints.{is_same, same_itself}
 

@@ -4,7 +4,7 @@ use Rattle.std.specs.List.{list_any}
 use Rattle.std.specs.Str.{bytes_eq}
 use Rattle.std.specs.BTreeMap.{get, BTreeMap}
 use Rattle.std.specs.Ordering.{is_eq, nat_cmp}
-use Rattle.tftp_rules.specs.{or_this}
+use Rattle.law_model.specs.Rules.{or_this}
 use Rattle.tftp_lines.specs.{Endpoint, Repeats, Transfer, Line, Recorded, same_endpoint, endpoint_cmp, is_between, Placed, opens, is_request, newest_of, latest_in, reach, answers, answered_in, talked_of, talk_in, place_asked, IsLineOf, seen_of, asked_by, history_of, opened_by, place_of_talk, comes_to, talk_after, ends_after, went_on_after, AreTimed, is_past, asked_part, says_more, is_alike_in, is_later}
 use Rattle.tftp_lines.proofs.Endpoints.{same_by_order, is_same}
 use Rattle.tftp_lines.specs.{History, Talked, is_talk, number_of, IsHistoryOf}

@@ -4,7 +4,7 @@ use Rattle.std.specs.Str.{bytes_eq}
 use Rattle.std.specs.BTreeMap.{get, BTreeMap}
 use Rattle.std.proofs.lemmas.Bool.{and_parts}
 use Rattle.std.proofs.lemmas.Slice.Eq.{bytes_eq-Decides}
-use Rattle.tftp_rules.specs.{or_this}
+use Rattle.law_model.specs.Rules.{or_this}
 use Rattle.tftp_lines.specs.{Endpoint, Place, Opens, Repeats, Transfer, Line, Recorded, asked_part, asks_alike, same_endpoint, is_again, Placed, answered_in, endpoint_cmp, has_window, begins_write, history_of, opened_by, place_asked, IsLineOf, IsRequestOf, IsTimed}
 use Rattle.tftp_lines.proofs.Endpoints.{is_same, same_itself}
 use Rattle.tftp_lines.proofs.Lines.{answered_more}

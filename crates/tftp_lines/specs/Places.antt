@@ -1,6 +1,6 @@
 -- The line of a client, and where a datagram belongs by one line. Lists have the newest first.
 use Rattle.std.specs.Prelude.{ℕ, ◌+◌, ◌==◌, ◌&&◌, ◌||◌, not, nat_le, Bool, true, false, List, [], ◌∷◌, Option, Some, None, option_map, if◌then◌else◌}
-use Rattle.tftp_rules.specs.{first_of}
+use Rattle.law_model.specs.Rules.{first_of}
 use Rattle.tftp_lines.specs.declared.endpoint.Endpoint.{Endpoint}
 use Rattle.tftp_lines.specs.declared.place.Place.{Place}
 use Rattle.tftp_lines.specs.declared.place.Place.TheVariants.{Opens, Repeats, Talks, Apart, Nowhere}

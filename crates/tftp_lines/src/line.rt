@@ -6,7 +6,7 @@ ghost use Rattle.tftp_lines.specs.Recording.{Recorded, same_endpoint, is_between
 ghost use Rattle.tftp_lines.specs.Places.{Placed, live, place_at, place_talked, place_asked, is_known_host, may_answer, silence};
 ghost use Rattle.tftp_lines.specs.Kept.{IsLineOf, IsRequestOf, IsHistoryAfter, history_of, seen_of, place_of_talk, comes_to, talk_after, ends_after, went_on_after, IsTimed, AreTimed};
 ghost use Rattle.tftp_lines.specs.Doubting.{acked_0_in};
-ghost use Rattle.tftp_rules.specs.{or_this};
+ghost use Rattle.law_model.specs.Rules.{or_this};
 ghost use Rattle.tftp_lines.specs.declared.place.Place.{Place};
 ghost use Rattle.tftp_lines.specs.declared.place.Transfer.{Transfer};
 

@@ -7,7 +7,7 @@ use Rattle.tftp_capture.specs.declared.fault.CaptureFault.TheVariants.{Text, Rea
 use Rattle.tftp_capture.proofs.Beginnings.{capture_begins, capture_has}
 use Rattle.tftp_capture.proofs.Readings.{reads_same}
 use Rattle.tftp_packet.specs.Hosts.{Header}
-use Rattle.tftp_model.specs.{Meaning}
+use Rattle.law_model.specs.Model.{Meaning}
 use Rattle.tftp_law.specs.{IsLawful}
 use Rattle.tftp_law.proofs.Whole.TwoEnds.{lawful}
 use Rattle.tftp_judge.specs.{IsOfText, IsTextVerdict, SaysReadFailed, WantsMemory, unnumbered, IsVerdict, Unlawful, Verdict, Capture, Refused}

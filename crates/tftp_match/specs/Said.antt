@@ -4,7 +4,7 @@ use Rattle.tftp_packet.specs.{End, Client, Server}
 use Rattle.tftp_capture.specs.{Begins, Numbered}
 use Rattle.tftp_capture.specs.declared.fault.CaptureFault.TheVariants.{Text, Read, Memory}
 use Rattle.tftp_packet.specs.Hosts.{Header}
-use Rattle.tftp_model.specs.{Meaning}
+use Rattle.law_model.specs.Model.{Meaning}
 use Rattle.tftp_judge.specs.{IsOfText, Verdict, Capture, Refused}
 use Rattle.tftp_judge.specs.declared.refusal.Refusal.TheVariants as refusal
 use Rattle.tftp_pair.specs.{Capture as Captured, IsPairVerdict}

@@ -1,6 +1,6 @@
 ghost use Rattle.std.specs.Prelude.{◌≡◌, ◌<◌, ◌≤◌, true, None, Some, is_some};
 ghost use Rattle.net_streams.specs.Streams.{Standing};
-ghost use Rattle.tftp_model.specs.Roles.{other_end};
+ghost use Rattle.law_model.specs.Model.Roles.{other_end};
 ghost use Rattle.tftp_pair_judge.specs.{left_at};
 ghost use Rattle.tftp_match.specs.Merging.{AloneRuns, RestRuns, left_judge_at};
 ghost use Rattle.tftp_match.specs.Reading.{seen};

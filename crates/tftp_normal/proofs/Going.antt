@@ -3,11 +3,11 @@ use Rattle.std.proofs.Common.{◌≡◌, ℕ, zero, suc, ◌+◌, ◌-◌, ◌*�
 use Rattle.std.proofs.lemmas.Bool.{cases_lt}
 use Rattle.tftp_packet.specs.{Spells, canonical, Side, Get, Put, End, Client, Server}
 use Rattle.tftp_packet.specs.Hosts.{no_host, In}
-use Rattle.tftp_model.specs.{Meaning, blksize_of, windowsize_of, MachinePacket, Req, Oack, Data, Ack, Deed, Sent, Took, History, HasSent, IsStartedOn, message_of, heard, LetsStartOn, IsOneSided}
-use Rattle.tftp_model.specs.Roles.{sender_of, receiver_of}
-use Rattle.tftp_model.proofs.HistoryTests.{all_sent, is_no_error, none_sent}
-use Rattle.tftp_model.proofs.Stops.{stopped, heard_all}
-use Rattle.tftp_model.proofs.Members.{contains_first, contains_later, contains_cases}
+use Rattle.law_model.specs.Model.{Meaning, blksize_of, windowsize_of, MachinePacket, Req, Oack, Data, Ack, Deed, Sent, Took, History, HasSent, IsStartedOn, message_of, heard, LetsStartOn, IsOneSided}
+use Rattle.law_model.specs.Model.Roles.{sender_of, receiver_of}
+use Rattle.law_model.proofs.ModelLemmas.HistoryTests.{all_sent, is_no_error, none_sent}
+use Rattle.law_model.proofs.ModelLemmas.Stops.{stopped, heard_all}
+use Rattle.law_model.proofs.ModelLemmas.Members.{contains_first, contains_later, contains_cases}
 use Rattle.tftp_law.specs.{Labelled, Main, TransferIds, Division, view_in, dir_of, packet_of, HaveLabels, wire_of, blocks_of, CanBeWritten}
 use Rattle.tftp_law.proofs.Written.EachOf.{all_take, all_drop}
 use Rattle.tftp_normal.specs.{blocks_after, windows_after, author, deed_of_client, client_deed, normal_remote, normal_header}

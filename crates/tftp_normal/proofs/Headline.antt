@@ -1,6 +1,6 @@
 -- A text is accepted exactly if a run of two ends shows it as a whole transfer, and what follows for its normal text.
 use Rattle.std.proofs.Common.{◌≡◌, ◌↔◌, ℕ, List, Ok}
-use Rattle.tftp_model.specs.{Meaning}
+use Rattle.law_model.specs.Model.{Meaning}
 use Rattle.tftp_judge.specs.{IsTextVerdict, unnumbered}
 use Rattle.tftp_law.proofs.Whole.Beginnings.{shown_is_lawful}
 use Rattle.tftp_normal.specs.{IsAccepted, normal_text}

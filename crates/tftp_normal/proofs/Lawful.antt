@@ -8,7 +8,7 @@ use Rattle.std.specs.Cmp.Lexicographic.{slice_cmp}
 use Rattle.tftp_packet.specs.{OptionValue, Side, Get, Put, canonical}
 use Rattle.tftp_capture.specs.{IsLawful}
 use Rattle.tftp_packet.specs.Hosts.{IsHost, no_host}
-use Rattle.tftp_model.specs.{Meaning, SomethingAgreed, blksize_of, windowsize_of, MachinePacket, Req, Oack, Data, Ack, Error, message_of}
+use Rattle.law_model.specs.Model.{Meaning, SomethingAgreed, blksize_of, windowsize_of, MachinePacket, Req, Oack, Data, Ack, Error, message_of}
 use Rattle.tftp_law.specs.{wire_of, blocks_of, CanBeWritten}
 use Rattle.tftp_normal.specs.{windows_of, opening_on, opening, blocks_after, windows_after, normal_packets, normal_remote, normal_datagram, normal_datagrams, opening_count, normal_count}
 use Rattle.hex.specs.Hex.{IsBytes}

@@ -3,7 +3,7 @@ use Rattle.std.proofs.Common.{◌≡◌, ℕ, zero, suc, ◌+◌, ◌-◌, ◌*�
 use Rattle.std.proofs.lemmas.List.{length-map}
 use Rattle.std.specs.FinMap as finite
 use Rattle.tftp_packet.specs.{Side, Get, Put}
-use Rattle.tftp_model.specs.{Meaning, windowsize_of, Ack}
+use Rattle.law_model.specs.Model.{Meaning, windowsize_of, Ack}
 use Rattle.tftp_law.specs.{wire_of, blocks_of, ShowsBy}
 use Rattle.tftp_normal.specs.{windows_of, opening, opening_on, blocks_after, windows_after, normal_packets, normal_datagram, normal_datagrams, opening_count, normal_count}
 use Rattle.tftp_law.proofs.Written.Passed.{some_window}

@@ -2,7 +2,7 @@
 use Rattle.std.proofs.Common.{◌≡◌, ℕ, List, ◌++◌, Bool, true, false, Option, Result, Ok, Err, OnOk, ◌⊎◌, inl, inr, refl, sym, subst}
 use Rattle.std.specs.Io.KnownBytes.{Appends}
 use Rattle.net_streams.specs.Streams.{Sink}
-use Rattle.tftp_model.specs.{Meaning}
+use Rattle.law_model.specs.Model.{Meaning}
 use Rattle.tftp_judge.specs.{IsTextVerdict, WantsMemory, Verdict}
 use Rattle.tftp_normal.specs.declared.fault.NormalFault.TheVariants as fault
 use Rattle.tftp_normal.specs.{IsAccepted, normal_text, Normalises, WritesNormal, NormalFault}

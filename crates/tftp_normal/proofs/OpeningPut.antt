@@ -5,8 +5,8 @@ use Rattle.tftp_packet.specs.{Message, canonical, Side, Get, Put, Client, Server
 use Rattle.net_streams.specs.Streams.{Sink, Stops, WritesPart}
 use Rattle.net_streams.proofs.StreamsLemmas.Gathering.{stops_short}
 use Rattle.tftp_packet.specs.Hosts.{Datagram}
-use Rattle.tftp_model.specs.{Meaning, request_of, Req, Oack, Ack}
-use Rattle.tftp_model.specs.Machines.{receiver_of}
+use Rattle.law_model.specs.Model.{Meaning, request_of, Req, Oack, Ack}
+use Rattle.law_model.specs.Model.Machines.{receiver_of}
 use Rattle.tftp_normal.specs.{opening_on, opening, normal_datagram, asked_by, sent_by, datagrams_of, lines_of, HasPut}
 use Rattle.tftp_normal.proofs.Putting.{lines_both, put_failed}
 use Rattle.tftp_normal.proofs.BlocksPut.{ack_datagram}

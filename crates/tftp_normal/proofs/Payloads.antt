@@ -5,7 +5,7 @@ use Rattle.std.specs.FinMap.{len-empty}
 use Rattle.std.specs.Ordering.{nat_cmp}
 use Rattle.std.specs.Cmp.Lexicographic.{slice_cmp}
 use Rattle.tftp_packet.specs.{OptionValue, Message, canonical}
-use Rattle.tftp_model.specs.{Meaning}
+use Rattle.law_model.specs.Model.{Meaning}
 use Rattle.tftp_law.specs.{CanBeWritten}
 
 pub oack_short : (m : Meaning) → CanBeWritten m → map.len m.agreed ≢ 0 → length (canonical (Message.Oack m.agreed)) ≤ 65527

@@ -8,9 +8,9 @@ use Rattle.std.specs.Ordering.{nat_cmp}
 use Rattle.std.specs.Cmp.Lexicographic.{slice_cmp}
 use Rattle.tftp_packet.specs.{OptionValue, Side, Get, Put, End}
 use Rattle.tftp_packet.specs.Hosts.{Datagram, Header}
-use Rattle.tftp_model.specs.{Meaning, NothingAgreed, blksize_of, windowsize_of, block_count, MachinePacket, Req, Oack, Data, Ack, Error, Deed, Sent, Took, History, IsOneSided, IsComplete}
-use Rattle.tftp_model.proofs.Members.{contains_first, contains_later, contains_cases, contains_none}
-use Rattle.tftp_model.proofs.OneSided.{view_one_sided}
+use Rattle.law_model.specs.Model.{Meaning, NothingAgreed, blksize_of, windowsize_of, block_count, MachinePacket, Req, Oack, Data, Ack, Error, Deed, Sent, Took, History, IsOneSided, IsComplete}
+use Rattle.law_model.proofs.ModelLemmas.Members.{contains_first, contains_later, contains_cases, contains_none}
+use Rattle.law_model.proofs.ModelLemmas.OneSided.{view_one_sided}
 use Rattle.tftp_law.specs.Dress.{StrayAnswer}
 use Rattle.tftp_law.specs.{Label, Main, Stray, Division, view_in, packet_of, ShowsBy, wire_of}
 use Rattle.tftp_normal.specs.{window_count, opening_count, normal_count}

@@ -6,11 +6,11 @@ use Rattle.std.specs.FinMap.{len-empty, empty_of_len}
 use Rattle.std.specs.Ordering.{nat_cmp}
 use Rattle.std.specs.Cmp.Lexicographic.{slice_cmp}
 use Rattle.tftp_packet.specs.{OptionValue, Side, Get, Put, Client, Server}
-use Rattle.tftp_model.specs.{Meaning, NothingAgreed, SomethingAgreed, windowsize_of, MachinePacket, Req, Oack, Data, Ack, Sent, Took, MaySendReq, MayAckZeroOn, LetsAckZeroOn, IsComplete}
-use Rattle.tftp_model.specs.Roles.{sender_of, receiver_of}
-use Rattle.tftp_model.proofs.HistoryTests.{none_sent}
-use Rattle.tftp_model.proofs.Members.{contains_first, contains_cases, contains_none}
-use Rattle.tftp_model.proofs.MadeRuns.{one_sided_view}
+use Rattle.law_model.specs.Model.{Meaning, NothingAgreed, SomethingAgreed, windowsize_of, MachinePacket, Req, Oack, Data, Ack, Sent, Took, MaySendReq, MayAckZeroOn, LetsAckZeroOn, IsComplete}
+use Rattle.law_model.specs.Model.Roles.{sender_of, receiver_of}
+use Rattle.law_model.proofs.ModelLemmas.HistoryTests.{none_sent}
+use Rattle.law_model.proofs.ModelLemmas.Members.{contains_first, contains_cases, contains_none}
+use Rattle.law_model.proofs.ModelLemmas.MadeRuns.{one_sided_view}
 use Rattle.tftp_law.specs.{Division, view_in, datagrams_of, ShowsBy, Shows, wire_of, blocks_of, CanBeWritten}
 use Rattle.tftp_law.proofs.Whole.TwoEnds.{one}
 use Rattle.tftp_normal.specs.{windows_of, opening_on, opening, windows_after, normal_packets, normal_datagram, normal_datagrams, normal_header}

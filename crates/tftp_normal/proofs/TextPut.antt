@@ -8,7 +8,7 @@ use Rattle.net_streams.specs.Streams.{Gathers, Sink, Stops, Writes, WritesPart}
 use Rattle.net_streams.proofs.StreamsLemmas.Gathering.{gathers_more, gathers_prefix, prefix_after, stops_now, stops_short}
 use Rattle.tftp_capture.proofs.Skips.{whole_lines-push}
 use Rattle.tftp_packet.specs.Hosts.{Datagram}
-use Rattle.tftp_model.specs.{Meaning, windowsize_of}
+use Rattle.law_model.specs.Model.{Meaning, windowsize_of}
 use Rattle.tftp_law.specs.{blocks_of}
 use Rattle.tftp_normal.specs.{opening, windows_after, windows_of, normal_datagram, normal_datagrams, normal_header, normal_text, normal_count, datagrams_of, lines_of, HasPut}
 use Rattle.tftp_normal.proofs.Lengths.{counted}

@@ -8,7 +8,7 @@ use Rattle.tftp_capture.specs.CaptureText.Reading.{Capture, Fault}
 use Rattle.tftp_capture.proofs.Canonical.{canonical_is_read}
 use Rattle.tftp_capture.proofs.Readings.{reads_same}
 use Rattle.tftp_packet.specs.Hosts.{Datagram}
-use Rattle.tftp_model.specs.{Meaning, MachinePacket}
+use Rattle.law_model.specs.Model.{Meaning, MachinePacket}
 use Rattle.tftp_law.specs.{Shows, CanBeWritten}
 use Rattle.tftp_law.proofs.Whole.TwoEnds.{one}
 use Rattle.tftp_normal.specs.{normal_packets, normal_datagram, normal_datagrams, normal_header, normal_text, IsAccepted}

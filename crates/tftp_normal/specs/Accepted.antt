@@ -2,7 +2,7 @@
 use Rattle.std.specs.Prelude.{ℕ, List, map as each}
 use Rattle.tftp_capture.specs.{Numbered, IsCapture}
 use Rattle.tftp_packet.specs.Hosts.{Header}
-use Rattle.tftp_model.specs.{Meaning}
+use Rattle.law_model.specs.Model.{Meaning}
 use Rattle.tftp_law.specs.{Shows}
 
 -- the text is a capture, and its datagrams show the meaning

@@ -1,7 +1,7 @@
 -- What is written of a capture text: the normal text of what it means, and nothing of any other.
 use Rattle.std.specs.Prelude.{◌≡◌, ◌⊎◌, ℕ, List, Option, Result, Ok, Err}
 use Rattle.net_streams.specs.Streams.{Sink, Stops, Wrote}
-use Rattle.tftp_model.specs.{Meaning}
+use Rattle.law_model.specs.Model.{Meaning}
 use Rattle.tftp_judge.specs.{WantsMemory, Verdict}
 use Rattle.tftp_normal.specs.declared.fault.NormalFault.{NormalFault}
 use Rattle.tftp_normal.specs.declared.fault.NormalFault.TheVariants as fault

@@ -4,7 +4,7 @@ use Rattle.std.specs.Prelude.{ℕ, List, [], ◌∷◌, ◌++◌, codes}
 use Rattle.tftp_packet.specs.Hosts.{no_host, In, Out, Datagram}
 use Rattle.tftp_packet.specs.{Get, Put, Octet, Netascii}
 use Rattle.tftp_capture.specs.{line}
-use Rattle.tftp_model.specs.{Meaning, eight_a_block}
+use Rattle.law_model.specs.Model.{Meaning, eight_a_block}
 
 -- what goes out from the client first, to the service port, and what goes on between the two ends' own ports
 abbrev pub asks : List ℕ → Datagram

@@ -4,7 +4,7 @@ use Rattle.tftp_packet.specs.Hosts.{no_host, Dir, In, Out, Datagram}
 use Rattle.tftp_packet.specs.{End, Client, Server}
 use Rattle.tftp_capture.specs.{datagram_line, whole_lines}
 use Rattle.net_streams.specs.Streams.{Gathers, Sink, Stops}
-use Rattle.tftp_model.specs.{Meaning, MachinePacket}
+use Rattle.law_model.specs.Model.{Meaning, MachinePacket}
 use Rattle.tftp_normal.specs.Normal.{normal_datagram}
 
 -- a datagram that an end sent from its own port, seen at the client

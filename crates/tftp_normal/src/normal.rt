@@ -3,7 +3,7 @@
 ghost use Rattle.std.specs.Prelude.{◌≡◌, ◌++◌, ℕ, List, Some, length, true, false, Result, Ok, OnOk};
 ghost use Rattle.std.specs.FinMap as map;
 ghost use Rattle.std.specs.Io.KnownBytes.{Appends, Consumes, IsAtEnd};
-ghost use Rattle.tftp_model.specs.{Meaning as Parts};
+ghost use Rattle.law_model.specs.Model.{Meaning as Parts};
 ghost use Rattle.tftp_judge.specs.{EndsText, IsReadVerdict, IsTextVerdict, SaysReadFailed, Verdict};
 ghost use Rattle.tftp_normal.specs.Accepted.{IsAccepted};
 ghost use Rattle.tftp_normal.specs.Normal.{normal_count as count_of, normal_datagrams, normal_text, opening_count};

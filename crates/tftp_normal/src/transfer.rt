@@ -1,7 +1,7 @@
 //! What is to be written, by its parts.
 
 ghost use Rattle.std.specs.Prelude.{◌≡◌, codes};
-ghost use Rattle.tftp_model.specs.{option_or};
+ghost use Rattle.law_model.specs.Model.{option_or};
 
 use crate::wire_blocks::WireBlocks;
 use std::alloc::{AllocError, Global};
@@ -19,7 +19,7 @@ pub(crate) struct Transfer<'a> {
 }
 
 impl<'a> Model for Transfer<'a> {
-    ghost use Rattle.tftp_model.specs.Meanings.{Meaning};
+    ghost use Rattle.law_model.specs.Model.Meanings.{Meaning};
     ghost use Rattle.tftp_normal.specs.Transfer.{meaning_in, IsToBeWritten};
     ghost use Rattle.tftp_law.specs.Owned.{meaning_code};
 
@@ -37,7 +37,7 @@ impl<'a> Transfer<'a> {
     ghost use Rattle.std.specs.FinMap as map;
     ghost use Rattle.tftp_packet.specs.Messages.{Message};
     ghost use Rattle.tftp_packet.specs.Canonical.{canonical};
-    ghost use Rattle.tftp_model.specs.Meanings.{request_of, blksize_of, windowsize_of};
+    ghost use Rattle.law_model.specs.Model.Meanings.{request_of, blksize_of, windowsize_of};
     ghost use Rattle.tftp_law.specs.Owned.{meaning_from};
     ghost use Rattle.tftp_law.specs.Writable.{blocks_of, CanBeWritten};
     ghost use Rattle.tftp_law.specs.Fitting.{written_wire};

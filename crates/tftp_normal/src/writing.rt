@@ -4,8 +4,8 @@ ghost use Rattle.std.specs.Prelude.{◌≡◌, ◌≢◌, ◌+◌, ◌-◌, ◌*
 ghost use Rattle.std.specs.FinMap as map;
 ghost use Rattle.tftp_packet.specs.{Message, canonical, End};
 ghost use Rattle.net_streams.specs.Streams.{Writes};
-ghost use Rattle.tftp_model.specs.{Meaning, request_of, blksize_of, windowsize_of};
-ghost use Rattle.tftp_model.specs.Machines.{sender_of};
+ghost use Rattle.law_model.specs.Model.{Meaning, request_of, blksize_of, windowsize_of};
+ghost use Rattle.law_model.specs.Model.Machines.{sender_of};
 ghost use Rattle.tftp_law.specs.{wire_of, blocks_of, CanBeWritten};
 ghost use Rattle.tftp_normal.specs.Normal.{opening, blocks_after, windows_after, windows_of, normal_count, normal_text};
 ghost use Rattle.tftp_normal.specs.Normalised.{Normalises};

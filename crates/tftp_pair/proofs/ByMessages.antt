@@ -1,8 +1,8 @@
 -- Two captures are consistent exactly if each breaks no rule and they are merged by what they say.
 use Rattle.std.proofs.Common.{ℕ, List, sym, subst, ◌↔◌, reverse}
-use Rattle.tftp_model.specs.{Meaning, IsOneSided}
-use Rattle.tftp_rules.specs.{transfer_of}
-use Rattle.tftp_model.proofs.OneSided.{view_one_sided}
+use Rattle.law_model.specs.Model.{Meaning, IsOneSided}
+use Rattle.law_model.specs.Rules.{transfer_of}
+use Rattle.law_model.proofs.ModelLemmas.OneSided.{view_one_sided}
 use Rattle.tftp_law.specs.{view_in, IsSeen}
 use Rattle.tftp_law.proofs.Division.Routed.{routed}
 use Rattle.tftp_law.proofs.Whole.TwoEnds.{seen}

@@ -2,10 +2,10 @@
 use Rattle.std.proofs.Common.{◌≡◌, ◌⊎◌, ℕ, ◌≤◌, List, [], ◌∷◌, Contains, Option, Some, None, inl, inr, refl, sym, subst, ap, ◌∙◌}
 use Rattle.tftp_packet.specs.{OptionMap, no_options, Message, RequestParts, Spells, Side, Get, Put, Client, Server}
 use Rattle.tftp_packet.specs.Hosts.{Dir, In, Out, Datagram, Header}
-use Rattle.tftp_model.specs.{Meaning, request_of, NothingAgreed, blksize_of, block, block_count, MachinePacket, Req, Oack, Data, Ack, Deed, Sent, Took, HasSent, HasTaken, message_of, IsStartedOn, MayAckZeroOn, MaySend, IsOneSided}
-use Rattle.tftp_model.specs.Machines.{sender_of, receiver_of}
-use Rattle.tftp_rules.specs.{asks, first_of, transfer_of, Passed, HasPassed}
-use Rattle.tftp_model.proofs.MadeRuns.{one_sided_view}
+use Rattle.law_model.specs.Model.{Meaning, request_of, NothingAgreed, blksize_of, block, block_count, MachinePacket, Req, Oack, Data, Ack, Deed, Sent, Took, HasSent, HasTaken, message_of, IsStartedOn, MayAckZeroOn, MaySend, IsOneSided}
+use Rattle.law_model.specs.Model.Machines.{sender_of, receiver_of}
+use Rattle.law_model.specs.Rules.{asks, first_of, transfer_of, Passed, HasPassed}
+use Rattle.law_model.proofs.ModelLemmas.MadeRuns.{one_sided_view}
 use Rattle.tftp_law.specs.{Division, datagrams_of, view_in, dir_of, packet_of, Accords, AreRouted, Answer, Agrees, Begins, IsAnswer, NotAnswered, FirstAnswer, OneEnded}
 use Rattle.tftp_law.proofs.Whole.TwoEnds.{some}
 use Rattle.tftp_law.proofs.Soundness.RulesDivide.{divides}

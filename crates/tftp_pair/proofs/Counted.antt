@@ -1,7 +1,7 @@
 -- How often a packet was sent and taken.
 use Rattle.std.proofs.Common.{◌≡◌, ◌⊎◌, ℕ, zero, suc, [], ◌∷◌, Contains, inl, inr, refl, sym, subst, ◌∙◌, arith}
-use Rattle.tftp_model.specs.{Deed, Sent, Took, MachinePacket, History, HasSent, HasTaken}
-use Rattle.tftp_model.proofs.Members.{contains_first, contains_later, contains_cases, contains_none}
+use Rattle.law_model.specs.Model.{Deed, Sent, Took, MachinePacket, History, HasSent, HasTaken}
+use Rattle.law_model.proofs.ModelLemmas.Members.{contains_first, contains_later, contains_cases, contains_none}
 use Rattle.tftp_pair.specs.{IsOpen, AreMerged, Times, PassedSoOften}
 use Rattle.tftp_pair.proofs.Merged.{turned, to_client_went}
 

@@ -5,7 +5,7 @@ use Rattle.std.proofs.Math.Seq.{take-suc, take-length}
 use Rattle.std.proofs.lemmas.List.{reverse-append}
 use Rattle.tftp_packet.specs.{Client, Server}
 use Rattle.tftp_packet.specs.Hosts.{Out, Datagram}
-use Rattle.tftp_rules.specs.{route_of, is_of_transfer, transfer_of}
+use Rattle.law_model.specs.Rules.{route_of, is_of_transfer, transfer_of}
 use Rattle.tftp_law.specs.{OneEnded}
 use Rattle.tftp_law.proofs.FirstBroken.FirstAnswered.{main_none, main_some}
 use Rattle.tftp_pair.specs.{Capture, AreConsistent, IsBrought, AreMergedBy, passed_in, begun, IsNextIn, IsOpenIn, AreMatchedTo, IsShut}

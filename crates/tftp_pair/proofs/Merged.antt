@@ -2,7 +2,7 @@
 use Rattle.std.proofs.Common.{◌≡◌, ◌⊎◌, ◌≤◌, List, [], ◌∷◌, length, inl, inr, refl, sym, subst, ap, arith}
 use Rattle.std.proofs.lemmas.Bool.{cases_lt}
 use Rattle.tftp_packet.specs.{End, Client, Server}
-use Rattle.tftp_model.specs.Roles.{other_end}
+use Rattle.law_model.specs.Model.Roles.{other_end}
 use Rattle.tftp_pair.specs.{Event, seen_at, AreAllOpen, HaveOneOrder}
 
 module _ {X : Type 0} (Open : List X → X → Type 0) where

@@ -1,7 +1,7 @@
 -- Two whole captures that are consistent mean the same transfer.
 use Rattle.std.proofs.Common.{◌≡◌, ℕ, List, sym, subst, ◌∙◌, reverse}
-use Rattle.tftp_model.specs.{Meaning, IsOneSided, IsComplete}
-use Rattle.tftp_model.proofs.OneSided.{view_one_sided}
+use Rattle.law_model.specs.Model.{Meaning, IsOneSided, IsComplete}
+use Rattle.law_model.proofs.ModelLemmas.OneSided.{view_one_sided}
 use Rattle.tftp_law.specs.{IsSeen, Accords, IsEnded, Meant}
 use Rattle.tftp_law.proofs.Division.Routed.{routed}
 use Rattle.tftp_law.proofs.Whole.TwoEnds.{rules, meant_by}

@@ -2,9 +2,9 @@
 use Rattle.std.proofs.Common.{◌≡◌, ℕ, Bool, List, Option, Some, None, inl, inr, refl, sym, subst, ap, ◌∙◌, ◌↔◌}
 use Rattle.tftp_packet.specs.{OptionMap, Message, RequestParts, Client, Server}
 use Rattle.tftp_packet.specs.Hosts.{In, Out, Datagram, Header}
-use Rattle.tftp_model.specs.{Meaning, SomethingAgreed, Req, Oack, Sent, MaySend, IsOneSided, MayCome}
+use Rattle.law_model.specs.Model.{Meaning, SomethingAgreed, Req, Oack, Sent, MaySend, IsOneSided, MayCome}
 use Rattle.tftp_ends.specs.{NamedEnd, Sends, Receives, HoldsBlock, IsEndAfter}
-use Rattle.tftp_rules.specs.{transfer_of, Passed}
+use Rattle.law_model.specs.Rules.{transfer_of, Passed}
 use Rattle.tftp_law.specs.{Division, datagrams_of, view_in, Accords, AreRouted, FirstAsked, FirstAnswer, Agrees, Begins}
 use Rattle.tftp_law.proofs.Soundness.EarlierList.{requested}
 use Rattle.tftp_law.proofs.Accord.FirstReply.{no_oack}

@@ -5,7 +5,7 @@ use Rattle.std.specs.List.{AllByRecursion, list_all}
 use Rattle.tftp_packet.specs.{Message, IsPair, Spells}
 use Rattle.tftp_packet.proofs.Unique.{one_message}
 use Rattle.tftp_packet.specs.Hosts.{Out}
-use Rattle.tftp_rules.specs.{Passed}
+use Rattle.law_model.specs.Rules.{Passed}
 use Rattle.tftp_ends.proofs.Passing.{in_not_out}
 use Rattle.tftp_pair.specs.{block_of, acknowledged, at_the_server}
 

@@ -1,6 +1,6 @@
 -- How often a packet was sent at one end and taken at the other (RFC 1350, section 2).
 use Rattle.std.specs.Prelude.{◌≡◌, ◌≢◌, ◌⊎◌, ℕ, ◌+◌, [], ◌∷◌}
-use Rattle.tftp_model.specs.{Deed, Sent, Took, MachinePacket, History}
+use Rattle.law_model.specs.Model.{Deed, Sent, Took, MachinePacket, History}
 
 -- the history has the deed so often
 abbrev pub Times : History → Deed → ℕ → Type 0

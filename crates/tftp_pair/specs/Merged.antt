@@ -2,7 +2,7 @@
 -- loses, repeats and reorders, and makes nothing up (RFC 1350, section 2). Lists have the newest first.
 use Rattle.std.specs.Prelude.{◌≡◌, List, [], ◌∷◌, filter_map, Option, Some, None}
 use Rattle.tftp_packet.specs.{End, Client, Server}
-use Rattle.tftp_model.specs.Roles.{other_end}
+use Rattle.law_model.specs.Model.Roles.{other_end}
 
 -- It went on at an end.
 pub record Event (X : Type 0) : Type 0 where

@@ -2,7 +2,7 @@
 use Rattle.std.specs.Prelude.{ℕ}
 use Rattle.tftp_packet.specs.{Message, Spells}
 use Rattle.tftp_packet.specs.Hosts.{Out, Datagram}
-use Rattle.tftp_rules.specs.{Passed}
+use Rattle.law_model.specs.Rules.{Passed}
 use Rattle.tftp_pair.specs.Captures.{Capture}
 use Rattle.tftp_pair.specs.Messages.{passed_in}
 use Rattle.tftp_pair.specs.MatchedCaptures.{begun, IsNextIn}

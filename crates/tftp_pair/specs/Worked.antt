@@ -2,7 +2,7 @@
 use Rattle.std.specs.Prelude.{ℕ, List, [], ◌∷◌, reverse}
 use Rattle.tftp_packet.specs.{End}
 use Rattle.tftp_packet.specs.Hosts.{Dir, In, Out, Datagram}
-use Rattle.tftp_model.specs.{Deed}
+use Rattle.law_model.specs.Model.{Deed}
 use Rattle.tftp_pair.specs.Merged.{Event}
 use Rattle.tftp_pair.specs.Captures.{Capture}
 

@@ -3,10 +3,10 @@
 ghost use Rattle.std.specs.Prelude.{◌≡◌, ◌+◌, ◌≤◌, ◌↔◌, ℕ, Bool, List, [], ◌∷◌, length, reverse};
 ghost use Rattle.tftp_packet.specs.{Message, End, Client, Server};
 ghost use Rattle.tftp_packet.specs.Hosts.{In, Out, Header, Datagram};
-ghost use Rattle.tftp_rules.specs.{transfer_of, Passed};
+ghost use Rattle.law_model.specs.Rules.{transfer_of, Passed};
 ghost use Rattle.tftp_judge.specs.{Transfer, IsTransferOf, AreFlags, HasSentBy};
 ghost use Rattle.tftp_pair.specs.PairVerdict.{IsPairVerdict, IsWholePair};
-ghost use Rattle.tftp_model.specs.{Meaning, Deed, Sent, Took, MachinePacket, Data, Ack, History};
+ghost use Rattle.law_model.specs.Model.{Meaning, Deed, Sent, Took, MachinePacket, Data, Ack, History};
 ghost use Rattle.tftp_law.specs.{Divides, IsSeen, OneEnded, Meant};
 ghost use Rattle.tftp_pair.specs.Captures.{Capture, AreSeenTogether, AreConsistent, AreConsistentByRules};
 ghost use Rattle.tftp_pair.specs.Merged.{AreAllOpen};

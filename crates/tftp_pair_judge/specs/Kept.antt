@@ -2,7 +2,7 @@
 use Rattle.std.specs.Prelude.{◌≡◌, ◌≤◌, ◌^◌, ℕ, List, All, length, Option, Some, None, IfNone}
 use Rattle.tftp_packet.specs.{End, Client, Server}
 use Rattle.tftp_packet.specs.Hosts.{Datagram, Header}
-use Rattle.tftp_rules.specs.{transfer_of}
+use Rattle.law_model.specs.Rules.{transfer_of}
 use Rattle.tftp_law.specs.{OneEnded}
 use Rattle.tftp_judge.specs.{IsJudgeAfter, IsKept, Judge, AreFlags, flags_of}
 use Rattle.tftp_counts.specs.{AreCounted, Counted, TakesRoom, counts_of, packet_of}

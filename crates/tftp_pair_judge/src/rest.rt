@@ -2,8 +2,8 @@ ghost use Rattle.std.specs.Prelude.{◌≡◌, ◌+◌, ◌^◌, ◌<◌, ◌≤
 ghost use Rattle.tftp_capture.specs.{datagram_of};
 ghost use Rattle.tftp_packet.specs.{Client, Server};
 ghost use Rattle.tftp_packet.specs.Hosts.{Datagram as DatagramParts, Header as HeaderParts};
-ghost use Rattle.tftp_rules.specs.{transfer_of};
-ghost use Rattle.tftp_model.specs.Roles.{other_end};
+ghost use Rattle.law_model.specs.Rules.{transfer_of};
+ghost use Rattle.law_model.specs.Model.Roles.{other_end};
 ghost use Rattle.tftp_judge.specs.{Refuses, TakesForJoin, IsVerdict, Refusal as RefusalKind};
 ghost use Rattle.tftp_pair.specs.{Capture, IsLawfulTo, IsPairVerdict};
 ghost use Rattle.tftp_pair_judge.specs.Merging.{IsWaitFor, with_held};

@@ -1,7 +1,7 @@
 -- The sides of a recording's transfers are addresses of hosts.
 use Rattle.std.proofs.Common.{◌≡◌, ℕ, Bool, true, false, List, [], ◌∷◌, Option, Some, None, refl, sym, ◌∙◌, subst, IfSome, option_map}
 use Rattle.std.specs.List.{AllByRecursion}
-use Rattle.tftp_rules.specs.{first_of, or_this}
+use Rattle.law_model.specs.Rules.{first_of, or_this}
 use Rattle.tftp_between.specs.{is_to_itself, server_or_asked, sides_of}
 use Rattle.tftp_between.proofs.Sides.{apart_from_both}
 use Rattle.tftp_tap.specs.{AreApart}

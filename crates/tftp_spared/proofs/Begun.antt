@@ -5,13 +5,13 @@ use Rattle.std.proofs.lemmas.Bool.{false≢true, or_left, or_right, and_parts, o
 use Rattle.std.proofs.lemmas.List.{reverse-reverse}
 use Rattle.tftp_packet.specs.{Message, Side, Get, Put, Client, Server, IsPair, Spells}
 use Rattle.tftp_packet.specs.Hosts.{In, Datagram, Header}
-use Rattle.tftp_model.specs.{Meaning, windowsize_of, MachinePacket, Req, Oack, Data, Ack, Error, Deed, Sent, Took, History, message_of, request_of, HasSent, HasTaken, IsStartedOn, MayAckZeroOn, LetsStartOn, IsOneSided, MayCome, heard}
-use Rattle.tftp_model.specs.Roles.{receiver_of}
-use Rattle.tftp_model.proofs.Members.{contains_first, contains_later, contains_none}
-use Rattle.tftp_model.proofs.Stops.{heard_done}
-use Rattle.tftp_model.proofs.Defaults.{default_windowsize}
-use Rattle.tftp_model.proofs.OneSided.{view_one_sided}
-use Rattle.tftp_rules.specs.{begins_error, begins_request, comes_in, goes_out}
+use Rattle.law_model.specs.Model.{Meaning, windowsize_of, MachinePacket, Req, Oack, Data, Ack, Error, Deed, Sent, Took, History, message_of, request_of, HasSent, HasTaken, IsStartedOn, MayAckZeroOn, LetsStartOn, IsOneSided, MayCome, heard}
+use Rattle.law_model.specs.Model.Roles.{receiver_of}
+use Rattle.law_model.proofs.ModelLemmas.Members.{contains_first, contains_later, contains_none}
+use Rattle.law_model.proofs.ModelLemmas.Stops.{heard_done}
+use Rattle.law_model.proofs.ModelLemmas.Defaults.{default_windowsize}
+use Rattle.law_model.proofs.ModelLemmas.OneSided.{view_one_sided}
+use Rattle.law_model.specs.Rules.{begins_error, begins_request, comes_in, goes_out}
 use Rattle.tftp_law.specs.{Label, Main, Stray, Labelled, Division, datagrams_of, view_in, TransferIds, HasLabel, HaveLabels, OneEnded}
 use Rattle.tftp_law.specs.Dress.{StrayAnswer}
 use Rattle.tftp_law.proofs.Division.Divided.{divided_more, any_none, any_cases}

@@ -2,7 +2,7 @@
 use Rattle.std.proofs.Common.{◌≡◌, ◌≤◌, ℕ, zero, suc, Bool, true, false, ◌||◌, List, [], ◌∷◌, Contains, inl, inr, sym, ap, subst, ◌∙◌, length, max, nat_eq, if◌then◌else◌, arith}
 use Rattle.std.specs.List.{AllByRecursion, list_any}
 use Rattle.std.proofs.lemmas.Bool.{false≢true, or_cases, or_left, or_right}
-use Rattle.tftp_model.proofs.Members.{contains_cases, contains_first, contains_later, contains_none}
+use Rattle.law_model.proofs.ModelLemmas.Members.{contains_cases, contains_first, contains_later, contains_none}
 use Rattle.tftp_lines.specs.{Address, V4, V6, Endpoint, Recorded, same_address, version_of, bytes_of}
 use Rattle.tftp_lines.proofs.Endpoints.{is_same, same_itself}
 use Rattle.tftp_lines.proofs.Lines.{by_test}

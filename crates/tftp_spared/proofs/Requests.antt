@@ -10,7 +10,7 @@ use Rattle.tftp_transfers.proofs.AllLines.{line_here}
 use Rattle.tftp_fair.proofs.Thinned.{filter_kept, filter_dropped, kept_or_not}
 use Rattle.tftp_spared.specs.{Follows, asks_from, comes_at, goes_from, goes_on_from}
 use Rattle.tftp_spared.proofs.Basics.{doubted_more, doubted_again, all_and, all_first}
-use Rattle.tftp_model.proofs.Members.{contains_first, contains_later}
+use Rattle.law_model.proofs.ModelLemmas.Members.{contains_first, contains_later}
 use Rattle.tftp_spared.proofs.Stands.{new, ends_in_request, IsPlain, asks, talks, Same, OthersOf, Asking, State, doubted, asking, answered, reopened, taken, mixed, Has}
 use Rattle.tftp_spared.proofs.Talks.{asked_more}
 

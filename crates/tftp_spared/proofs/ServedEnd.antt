@@ -4,7 +4,7 @@ use Rattle.std.specs.List.{AllByRecursion, flat_map, list_any}
 use Rattle.std.proofs.lemmas.Bool.{false≢true, or_cases, or_left, or_right, and_from, and_parts, eq-eqb}
 use Rattle.std.proofs.lemmas.List.{reverse-reverse}
 use Rattle.tftp_packet.specs.Hosts.{Datagram, PeerId, peer_of}
-use Rattle.tftp_rules.specs.{asks, first_of, or_this}
+use Rattle.law_model.specs.Rules.{asks, first_of, or_this}
 use Rattle.tftp_law.specs.{OneEnded, IsLawful, IsRefused, Passes, Rule}
 use Rattle.tftp_law.proofs.Division.RouteTests.{same_is as peers_same, is_same as same_peers}
 use Rattle.tftp_law.proofs.Whole.TwoEnds.{lawful}

@@ -5,11 +5,11 @@ use Rattle.std.proofs.lemmas.Bool.{false≢true, or_left, or_right, and_from, or
 use Rattle.std.proofs.lemmas.List.{reverse-reverse}
 use Rattle.tftp_packet.specs.{Client, Server, IsPair, Spells}
 use Rattle.tftp_packet.specs.Hosts.{Dir, In, Out, Datagram, Header, PeerId, peer_of}
-use Rattle.tftp_model.specs.{Meaning, MachinePacket, Req, Oack, Data, Ack, Error, Deed, Sent, Took, History, message_of, HasSent, HasTaken, IsOneSided}
-use Rattle.tftp_model.proofs.Members.{contains_cases, contains_none}
-use Rattle.tftp_model.proofs.OneSided.{view_one_sided}
-use Rattle.tftp_model.proofs.MadeRuns.{one_sided_view}
-use Rattle.tftp_rules.specs.{begins_request, comes_in, goes_out}
+use Rattle.law_model.specs.Model.{Meaning, MachinePacket, Req, Oack, Data, Ack, Error, Deed, Sent, Took, History, message_of, HasSent, HasTaken, IsOneSided}
+use Rattle.law_model.proofs.ModelLemmas.Members.{contains_cases, contains_none}
+use Rattle.law_model.proofs.ModelLemmas.OneSided.{view_one_sided}
+use Rattle.law_model.proofs.ModelLemmas.MadeRuns.{one_sided_view}
+use Rattle.law_model.specs.Rules.{begins_request, comes_in, goes_out}
 use Rattle.tftp_law.specs.{Label, Main, Stray, Division, datagrams_of, view_in, TransferIds, HasLabel, HaveLabels, IsMain, Starts, Fits, OneEnded}
 use Rattle.tftp_law.specs.Dress.{StrayAnswer}
 use Rattle.tftp_law.proofs.Division.Divided.{divided_more, any_none, any_cases}

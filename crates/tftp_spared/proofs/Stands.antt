@@ -2,7 +2,7 @@
 -- part of the newest capture and what was asked before in the same words.
 use Rattle.std.proofs.Common.{◌≡◌, ◌≢◌, ℕ, Bool, true, false, List, [], ◌∷◌, ◌++◌, ◌&&◌, not, Contains, Some, map}
 use Rattle.std.specs.List.{list_any, AllByRecursion, filter}
-use Rattle.tftp_rules.specs.{first_of}
+use Rattle.law_model.specs.Rules.{first_of}
 use Rattle.tftp_lines.specs.{Endpoint, Place, Talks, Transfer, Recorded, Placed, is_between, other_of, is_of, is_request, newest_of, reach, line, transfer_of, latest_in, answered_in, says_more, asks_alike, is_alike_in}
 use Rattle.tftp_transfers.specs.{client_view, comes}
 use Rattle.tftp_transfers.proofs.Ends.{spoken}

@@ -3,7 +3,7 @@ use Rattle.std.proofs.Common.{◌≡◌, ◌⊎◌, ◌≤◌, ◌+◌, ◌==◌
 use Rattle.std.specs.List.{AllByRecursion, list_any}
 use Rattle.std.proofs.lemmas.Bool.{false≢true, and_from, and_parts, or_cases, or_left, or_right}
 use Rattle.std.proofs.lemmas.List.Elements.{Contains-append_right}
-use Rattle.tftp_model.proofs.Members.{contains_first}
+use Rattle.law_model.proofs.ModelLemmas.Members.{contains_first}
 use Rattle.tftp_lines.specs.{Endpoint, Place, Opens, Repeats, Talks, Beside, Transfer, Recorded, Placed, same_endpoint, goes, is_at, is_of, is_request, transfer_of, begins_request, clock, silence, is_again, is_apart, newest_of, live, line, opened_by, asked_after, talk_in}
 use Rattle.tftp_lines.proofs.Endpoints.{is_same, same_itself}
 use Rattle.tftp_lines.proofs.Lines.{by_test}

@@ -3,8 +3,8 @@ use Rattle.std.proofs.Common.{◌≡◌, ℕ, [], ◌∷◌, codes, refl, ap, �
 use Rattle.std.proofs.lemmas.Bool.{false≢true}
 use Rattle.tftp_packet.specs.{Client, Server}
 use Rattle.tftp_packet.specs.Hosts.{Datagram, PeerId, peer_of}
-use Rattle.tftp_model.specs.{Req, Data, Ack, Error, Sent, Took, Step}
-use Rattle.tftp_model.specs.Worked.{client as client_does, server as server_does}
+use Rattle.law_model.specs.Model.{Req, Data, Ack, Error, Sent, Took, Step}
+use Rattle.law_model.specs.Model.Worked.{client as client_does, server as server_does}
 use Rattle.tftp_law.specs.{IsLawful, Label, Main, Stray, Labelled, Division, TransferIds}
 use Rattle.tftp_law.specs.Dress.{StrayAnswer}
 use Rattle.tftp_law.proofs.Division.Divided.{any_first, any_later}

@@ -4,7 +4,7 @@ use Rattle.tftp_packet.specs.{Message, RequestParts, Side, Get, Put, Spells, Ser
 use Rattle.tftp_packet.specs.Spelling.{octet_read}
 use Rattle.tftp_packet.proofs.NoFault.{no_fault}
 use Rattle.tftp_packet.specs.Hosts.{In, Datagram, Header}
-use Rattle.tftp_rules.specs.{Terms, NoReply, EndRule, IsTop, PortRule, Route, transfer_of, author_of, EndBroken}
+use Rattle.law_model.specs.Rules.{Terms, NoReply, EndRule, IsTop, PortRule, Route, transfer_of, author_of, EndBroken}
 use Rattle.tftp_law.specs.{Agrees, Answer, IsAnswer, Begins, Broken, FirstAsked, IsRefused, MessageBreaks, MessageBroken, NotAnswered, Rule, IsWrongKind, number_of, plain_terms}
 use Rattle.tftp_law.proofs.Spelled.{spelled_once}
 use Rattle.tftp_law.proofs.FirstBroken.FirstRequests.{request_same, some_same}

@@ -4,8 +4,8 @@ use Rattle.tftp_packet.specs.{Message, Side, Get, Put, Server}
 use Rattle.tftp_packet.specs.Spelling.{octet_read}
 use Rattle.tftp_packet.proofs.NoFault.{no_fault}
 use Rattle.tftp_packet.specs.Hosts.{In, Datagram, Header}
-use Rattle.tftp_rules.specs.{PortRule, Route, transfer_of, author_of}
-use Rattle.tftp_rules.proofs.EndRules.{from_18}
+use Rattle.law_model.specs.Rules.{PortRule, Route, transfer_of, author_of}
+use Rattle.law_model.proofs.RulesLemmas.EndRules.{from_18}
 use Rattle.tftp_law.specs.{Broken, IsRefused, MessageBreaks, MessageBroken, Rule, IsWrongKind, number_of}
 use Rattle.tftp_law.proofs.Spelled.{spelled_once}
 use Rattle.tftp_law.proofs.FirstBroken.OneMessage.{agreement_from}

@@ -5,9 +5,9 @@ use Rattle.std.specs.List.{AllByRecursion, list_all}
 use Rattle.tftp_packet.specs.{Message, OptionValue, no_options, Get, Octet, Client, Server, IsString, Spells}
 use Rattle.tftp_packet.specs.Spelling.{octet_read}
 use Rattle.tftp_packet.specs.Hosts.{In, Out, Datagram, Header, peer_of}
-use Rattle.tftp_model.specs.{Meaning, request_of, block, block_count, blksize_of, Req, Data, Ack, Error, Sent, Took, message_of, Step, view_of}
-use Rattle.tftp_model.proofs.Computed.{Plan, IsPlan, is_run, run_is}
-use Rattle.tftp_model.proofs.Defaults.{default_blksize, default_windowsize}
+use Rattle.law_model.specs.Model.{Meaning, request_of, block, block_count, blksize_of, Req, Data, Ack, Error, Sent, Took, message_of, Step, view_of}
+use Rattle.law_model.proofs.ModelLemmas.Computed.{Plan, IsPlan, is_run, run_is}
+use Rattle.law_model.proofs.ModelLemmas.Defaults.{default_blksize, default_windowsize}
 use Rattle.tftp_law.specs.{Fits, IsLawful, Main, Division, datagrams_of, view_in, TransferIds, HasLabel, HaveLabels}
 use Rattle.tftp_law.proofs.Whole.NothingAgreed.{none_there, nothing_may_be_agreed_by}
 use Rattle.tftp_transfers.specs.{ack_of, data_of}

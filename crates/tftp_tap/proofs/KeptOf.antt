@@ -3,7 +3,7 @@ use Rattle.std.proofs.Common.{◌≡◌, Bool, true, false, List, [], ◌∷◌,
 use Rattle.std.specs.List.{list_any}
 use Rattle.std.proofs.lemmas.Bool.{true≢false, or_parts, cases_Bool}
 use Rattle.tftp_packet.specs.{End, Client}
-use Rattle.tftp_model.proofs.Members.{contains_first, contains_later, contains_cases, contains_none}
+use Rattle.law_model.proofs.ModelLemmas.Members.{contains_first, contains_later, contains_cases, contains_none}
 use Rattle.tftp_tap.specs.{Tests, is_left_out, kept_of, before_error}
 
 module _ {X : Type 0} where

@@ -1,7 +1,7 @@
 -- A capture between the ends divides in one way.
 use Rattle.std.proofs.Common.{◌≡◌, ℕ, List, [], ◌∷◌, Any, Some, inl, inr, refl, sym, subst, ap, ◌∙◌}
 use Rattle.tftp_packet.specs.{Message, End, Client, Server}
-use Rattle.tftp_model.specs.{Meaning, MachinePacket, Req, Oack, Data, Ack, Error, message_of}
+use Rattle.law_model.specs.Model.{Meaning, MachinePacket, Req, Oack, Data, Ack, Error, message_of}
 use Rattle.tftp_law.specs.{says_of, packet_in, says_some}
 use Rattle.tftp_law.proofs.Spelled.{spelled_once}
 use Rattle.tftp_law.proofs.Division.Divided.{any_none, any_cases}

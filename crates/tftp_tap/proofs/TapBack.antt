@@ -3,8 +3,8 @@ use Rattle.std.proofs.Common.{◌≡◌, ◌⊎◌, ◌↔◌, ℕ, Bool, true, 
 use Rattle.std.specs.List.{list_any}
 use Rattle.std.proofs.lemmas.Bool.{true≢false, cases_Bool}
 use Rattle.tftp_packet.specs.{Side, Get, Put, End, Client, Server}
-use Rattle.tftp_model.specs.{Meaning, MachinePacket, Req, Oack, Data, Ack, Error, HasSent, is_error, heard, LetsStartOn, MayComeOack, MayComeData, IsOneSided}
-use Rattle.tftp_model.specs.Machines.{other_end, receiver_of}
+use Rattle.law_model.specs.Model.{Meaning, MachinePacket, Req, Oack, Data, Ack, Error, HasSent, is_error, heard, LetsStartOn, MayComeOack, MayComeData, IsOneSided}
+use Rattle.law_model.specs.Model.Machines.{other_end, receiver_of}
 use Rattle.tftp_tap.specs.{Pass, as_at, MayPass, MayPassEach, is_left_out, before_error, same_end, is_request, pass_tests, kept_at, IsAnsweredInTime, IsInTime, AreInTime}
 use Rattle.tftp_tap.proofs.Passed.{at_sent, sent_passed}
 use Rattle.tftp_tap.proofs.OneTap.{Has}

@@ -3,8 +3,8 @@ use Rattle.std.proofs.Common.{◌≡◌, ℕ, Bool, true, false, List, [], ◌�
 use Rattle.std.specs.List.{list_any}
 use Rattle.std.proofs.lemmas.Bool.{true≢false, or_parts, cases_Bool, and_parts}
 use Rattle.tftp_packet.specs.{End, Client, Server}
-use Rattle.tftp_model.specs.{Meaning, MachinePacket, Req, Ack, Error, HasSent, is_error, takes_error, heard, IsOneSided}
-use Rattle.tftp_model.specs.Machines.{other_end, receiver_of}
+use Rattle.law_model.specs.Model.{Meaning, MachinePacket, Req, Ack, Error, HasSent, is_error, takes_error, heard, IsOneSided}
+use Rattle.law_model.specs.Model.Machines.{other_end, receiver_of}
 use Rattle.tftp_tap.specs.{Pass, deed_at, as_at, MayPass, MayPassEach, KeepsOrder, KeepsOrderEach, is_left_out, before_error, same_end, is_request, pass_tests, kept_at}
 use Rattle.tftp_tap.proofs.Passed.{at_sent, at_took, sent_passed, took_passed}
 use Rattle.tftp_tap.proofs.Ordered.{ack_asked, client_reads}

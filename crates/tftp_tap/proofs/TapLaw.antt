@@ -3,8 +3,8 @@ use Rattle.std.proofs.Common.{◌≡◌, ◌↔◌, ℕ, true, List, [], ◌∷�
 use Rattle.std.specs.List.{list_any}
 use Rattle.std.proofs.lemmas.Bool.{cases_Bool, and_parts}
 use Rattle.tftp_packet.specs.{Message, RequestParts, Spells, Get}
-use Rattle.tftp_model.specs.{Meaning}
-use Rattle.tftp_rules.specs.{first_of}
+use Rattle.law_model.specs.Model.{Meaning}
+use Rattle.law_model.specs.Rules.{first_of}
 use Rattle.tftp_law.specs.{says_of, says_some}
 use Rattle.tftp_law.proofs.Soundness.MadeMeaning.{some_accord}
 use Rattle.tftp_law.proofs.FirstBroken.FirstRequests.{begins_asked}

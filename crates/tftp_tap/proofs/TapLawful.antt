@@ -3,9 +3,9 @@ use Rattle.std.proofs.Common.{◌≡◌, ◌⊎◌, Bool, true, false, List, [],
 use Rattle.std.specs.List.{list_any}
 use Rattle.std.proofs.lemmas.Bool.{true≢false, cases_Bool}
 use Rattle.tftp_packet.specs.{Message, RequestParts, Spells, Side, Get, Put, End, Client, Server}
-use Rattle.tftp_model.specs.Machines.{sender_of, receiver_of}
-use Rattle.tftp_model.specs.{MachinePacket, Req, Oack, Data, Ack, Error}
-use Rattle.tftp_rules.specs.{first_of, or_this}
+use Rattle.law_model.specs.Model.Machines.{sender_of, receiver_of}
+use Rattle.law_model.specs.Model.{MachinePacket, Req, Oack, Data, Ack, Error}
+use Rattle.law_model.specs.Rules.{first_of, or_this}
 use Rattle.tftp_law.specs.{packet_in, says_some, IsWrongKind, Rule}
 use Rattle.tftp_law.specs.declared.rule.Rule.TheVariants as rule
 use Rattle.tftp_law.proofs.FirstBroken.FirstRequests.{some_same, or_none, first_stays}

@@ -3,9 +3,9 @@ use Rattle.std.proofs.Common.{◌≡◌, ℕ, Bool, true, false, List, [], ◌�
 use Rattle.std.proofs.lemmas.Bool.{true≢false, cases_lt, or_parts, and_parts}
 use Rattle.tftp_packet.specs.{Message, End, Client, Server}
 use Rattle.tftp_packet.specs.Hosts.{same_peer}
-use Rattle.tftp_model.specs.{Meaning, MachinePacket, Req, Error, is_error}
-use Rattle.tftp_rules.specs.{first_of}
-use Rattle.tftp_model.proofs.Members.{contains_cases, contains_none}
+use Rattle.law_model.specs.Model.{Meaning, MachinePacket, Req, Error, is_error}
+use Rattle.law_model.specs.Rules.{first_of}
+use Rattle.law_model.proofs.ModelLemmas.Members.{contains_cases, contains_none}
 use Rattle.tftp_law.specs.{says_of, says_some, number_of, Rule}
 use Rattle.tftp_law.proofs.Division.RouteTests.{is_same}
 use Rattle.tftp_tap.specs.{Tapped, AreCarried, IsSeenAtTap, ShowsAtTap, TapDatagram, TapSides, side_of, AreApart, TapLabel, Main, TapDivision, tapped_of, passed_of, GoesThere, HasTapLabel, HaveTapLabels, IsSeenBetween, ShowsBetween, IsLawfulBetween, is_request, asks_in, ends_in, FirstTapBroken, BreaksNoTapRule, IsTapRefused, goes_on_to, told_server}

@@ -3,8 +3,8 @@ use Rattle.std.proofs.Common.{◌≡◌, ℕ, true, false, List, [], ◌∷◌, 
 use Rattle.std.proofs.lemmas.Bool.{true≢false, eq-eqb, cases_Bool, and_parts}
 use Rattle.tftp_packet.specs.{Message, Spells, End, Client, Server}
 use Rattle.tftp_packet.specs.Hosts.{same_peer}
-use Rattle.tftp_model.specs.{MachinePacket, Req, Oack, Data, Ack, Error}
-use Rattle.tftp_rules.specs.{PortRule}
+use Rattle.law_model.specs.Model.{MachinePacket, Req, Oack, Data, Ack, Error}
+use Rattle.law_model.specs.Rules.{PortRule}
 use Rattle.tftp_law.specs.{BeginsAsRequest, says_some}
 use Rattle.tftp_law.specs.declared.rule.Rule.TheVariants as rule
 use Rattle.tftp_law.proofs.Division.RouteTests.{same_is, is_same, apart_is}

@@ -4,8 +4,8 @@ use Rattle.std.specs.List.{list_any}
 use Rattle.std.proofs.lemmas.Bool.{true≢false, cases_Bool}
 use Rattle.tftp_packet.specs.{End, Client, Server}
 use Rattle.tftp_packet.specs.Hosts.{In, Out, Datagram, Header, peer_of, same_peer}
-use Rattle.tftp_model.specs.Machines.{other_end}
-use Rattle.tftp_model.specs.{MachinePacket, Req, Oack, Data, Ack, Error}
+use Rattle.law_model.specs.Model.Machines.{other_end}
+use Rattle.law_model.specs.Model.{MachinePacket, Req, Oack, Data, Ack, Error}
 use Rattle.tftp_law.specs.{from_server, Main, Labelled, Division, datagrams_of, view_in, TransferIds, Saying, GoesToServer, Carries, HaveLabelsBy, AreRoutedBy, Stands, Starts, request_at, request_back, says_some}
 use Rattle.tftp_law.proofs.Division.RouteTests.{same_is, IsTold}
 use Rattle.tftp_law.proofs.Division.Routed.{routed_by}

@@ -3,7 +3,7 @@ use Rattle.std.proofs.Common.{◌≡◌, true, false, List, [], ◌∷◌, Any, 
 use Rattle.std.proofs.lemmas.Bool.{eqb-true, cases_Bool, and_parts}
 use Rattle.tftp_packet.specs.{Message, End, Client, Server}
 use Rattle.tftp_packet.specs.Hosts.{same_peer}
-use Rattle.tftp_model.specs.{MachinePacket, Req, Oack, Data, Ack, Error}
+use Rattle.law_model.specs.Model.{MachinePacket, Req, Oack, Data, Ack, Error}
 use Rattle.tftp_law.specs.{says_some}
 use Rattle.tftp_law.proofs.Division.RouteTests.{same_is, other_peer}
 use Rattle.tftp_law.proofs.Division.ServerRoutes.{byte_begins}

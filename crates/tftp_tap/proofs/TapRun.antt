@@ -3,11 +3,11 @@ use Rattle.std.proofs.Common.{◌≡◌, ◌⊎◌, ℕ, ◌≤◌, Bool, true, 
 use Rattle.std.specs.List.{list_any}
 use Rattle.std.proofs.lemmas.Bool.{true≢false, cases_Bool, cases_eq}
 use Rattle.tftp_packet.specs.{no_options, Message, RequestParts, Spells, Side, Get, Put, End, Client, Server}
-use Rattle.tftp_model.specs.{Meaning, request_of, SomethingAgreed, MachinePacket, Req, Oack, Data, Ack, Error, HasSent, HasTaken, MayAckZeroOn, is_error, heard, LetsAckZeroOn, MayComeError, IsOneSided}
-use Rattle.tftp_model.specs.Machines.{other_end, sender_of, receiver_of}
-use Rattle.tftp_model.proofs.Members.{contains_first, contains_later, contains_cases, contains_none}
-use Rattle.tftp_model.proofs.Stops.{lawful_tail}
-use Rattle.tftp_rules.specs.{EndRule}
+use Rattle.law_model.specs.Model.{Meaning, request_of, SomethingAgreed, MachinePacket, Req, Oack, Data, Ack, Error, HasSent, HasTaken, MayAckZeroOn, is_error, heard, LetsAckZeroOn, MayComeError, IsOneSided}
+use Rattle.law_model.specs.Model.Machines.{other_end, sender_of, receiver_of}
+use Rattle.law_model.proofs.ModelLemmas.Members.{contains_first, contains_later, contains_cases, contains_none}
+use Rattle.law_model.proofs.ModelLemmas.Stops.{lawful_tail}
+use Rattle.law_model.specs.Rules.{EndRule}
 use Rattle.tftp_law.specs.{view_in, says_of, Fits, AreRouted, packet_in, says_some}
 use Rattle.tftp_law.specs.declared.rule.Rule.TheVariants as rule
 use Rattle.tftp_law.proofs.Soundness.MadeMeaning.{some_accord}

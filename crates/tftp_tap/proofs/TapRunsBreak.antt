@@ -4,10 +4,10 @@ use Rattle.std.specs.List.{list_any}
 use Rattle.std.proofs.lemmas.Bool.{true≢false, cases_Bool}
 use Rattle.tftp_packet.specs.{Message, RequestParts, Spells, Side, Get, Put, End, Client, Server, no_options}
 use Rattle.tftp_packet.proofs.NoFault.{no_fault}
-use Rattle.tftp_model.specs.{Meaning, request_of, MachinePacket, Req, Oack, Data, Ack, Error, HasSent, message_of, is_error, heard, LetsStartOn, LetsAckZeroOn, IsOneSided}
-use Rattle.tftp_model.specs.Machines.{other_end, sender_of, receiver_of}
-use Rattle.tftp_model.proofs.Members.{contains_first, contains_later}
-use Rattle.tftp_rules.specs.{EndRule, PortRule}
+use Rattle.law_model.specs.Model.{Meaning, request_of, MachinePacket, Req, Oack, Data, Ack, Error, HasSent, message_of, is_error, heard, LetsStartOn, LetsAckZeroOn, IsOneSided}
+use Rattle.law_model.specs.Model.Machines.{other_end, sender_of, receiver_of}
+use Rattle.law_model.proofs.ModelLemmas.Members.{contains_first, contains_later}
+use Rattle.law_model.specs.Rules.{EndRule, PortRule}
 use Rattle.tftp_law.specs.{Fits, says_of, view_in, says_some, OneEnded, IsWrongKind, Broken, Rule}
 use Rattle.tftp_law.specs.declared.rule.Rule.TheVariants as rule
 use Rattle.tftp_law.proofs.Spelled.{spelled_once}

@@ -3,11 +3,11 @@ use Rattle.std.proofs.Common.{◌≡◌, ℕ, ◌≤◌, ◌<◌, true, [], ◌�
 use Rattle.std.proofs.lemmas.Bool.{true≢false}
 use Rattle.std.specs.FinMap as map
 use Rattle.tftp_packet.specs.{Message, Spells, IsPair, Client, Server, End}
-use Rattle.tftp_model.specs.{number_or, request_of, block, block_count, Sent, Took, Req, Oack, Data, Ack, HasSent, IsRun, IsView, two_bytes, two_bytes_view, ten_bytes, ten_bytes_view, eight_by_four, window_repeated, window_repeated_steps}
-use Rattle.tftp_model.proofs.Members.{contains_first, contains_cases, contains_none}
-use Rattle.tftp_model.proofs.OneSided.{view_one_sided}
-use Rattle.tftp_model.proofs.Worked.{two_bytes_is_view, ten_bytes_is_view, eight_of_both, four_of_both, has_some, one_block, one_at_a_time}
-use Rattle.tftp_model.proofs.Computed.{IsPlan, run_is}
+use Rattle.law_model.specs.Model.{number_or, request_of, block, block_count, Sent, Took, Req, Oack, Data, Ack, HasSent, IsRun, IsView, two_bytes, two_bytes_view, ten_bytes, ten_bytes_view, eight_by_four, window_repeated, window_repeated_steps}
+use Rattle.law_model.proofs.ModelLemmas.Members.{contains_first, contains_cases, contains_none}
+use Rattle.law_model.proofs.ModelLemmas.OneSided.{view_one_sided}
+use Rattle.law_model.proofs.ModelLemmas.Worked.{two_bytes_is_view, ten_bytes_is_view, eight_of_both, four_of_both, has_some, one_block, one_at_a_time}
+use Rattle.law_model.proofs.ModelLemmas.Computed.{IsPlan, run_is}
 use Rattle.tftp_law.specs.{says_of, BeginsAsRequest}
 use Rattle.tftp_law.proofs.Whole.NothingAgreed.{two_bytes_fit}
 use Rattle.tftp_law.proofs.Division.Divided.{any_first, any_later}
@@ -16,7 +16,7 @@ use Rattle.tftp_tap.specs.TapDress.{Stray, StrayAnswer}
 use Rattle.tftp_tap.specs.WorkedTap.{request_passes}
 use Rattle.tftp_tap.proofs.Beside.{view_is_tapped}
 use Rattle.tftp_tap.proofs.TapRunsBreak.{runs_break_none}
-use Rattle.tftp_model.proofs.Defaults.{default_blksize}
+use Rattle.law_model.proofs.ModelLemmas.Defaults.{default_blksize}
 use Rattle.tftp_tap.proofs.Apart.{earlier_passed}
 use Rattle.tftp_tap.proofs.Wholes.{passes_again}
 use Rattle.tftp_tap.proofs.Projects.{view_may_pass}

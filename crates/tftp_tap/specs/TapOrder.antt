@@ -3,7 +3,7 @@
 use Rattle.std.specs.Prelude.{◌≡◌, ◌⊎◌, ◌&&◌, ◌||◌, not, ℕ, Bool, true, false, List, [], ◌∷◌, Contains, if◌then◌else◌}
 use Rattle.std.specs.List.{list_any}
 use Rattle.tftp_packet.specs.{End, Client, Server, Side, Get, Put}
-use Rattle.tftp_model.specs.{Meaning, MachinePacket, Req, Oack, Data, Ack, Error, is_error}
+use Rattle.law_model.specs.Model.{Meaning, MachinePacket, Req, Oack, Data, Ack, Error, is_error}
 use Rattle.tftp_tap.specs.Tap.{Pass, MayPass}
 
 -- what is asked of one that passed: whether it is the client's request, whether the server's, and whose ERROR it is

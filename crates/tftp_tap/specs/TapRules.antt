@@ -4,8 +4,8 @@ use Rattle.std.specs.Prelude.{◌≡◌, ◌≢◌, ◌⊎◌, ℕ, ◌<◌, ◌
 use Rattle.std.specs.List.{list_any}
 use Rattle.tftp_packet.specs.{Message, RequestParts, Spells, FirstFault, Side, Get, Put, End, Client, Server}
 use Rattle.tftp_packet.specs.Hosts.{In, Out, Datagram, Header, same_peer}
-use Rattle.tftp_model.specs.Roles.{receiver_of}
-use Rattle.tftp_rules.specs.{first_of, EndRule, PortRule}
+use Rattle.law_model.specs.Model.Roles.{receiver_of}
+use Rattle.law_model.specs.Rules.{first_of, EndRule, PortRule}
 use Rattle.tftp_law.specs.{Broken, IsWrongKind, number_of, Rule}
 use Rattle.tftp_law.specs.declared.rule.Rule.TheVariants as rule
 use Rattle.tftp_tap.specs.TapCapture.{PeerId, TapDatagram, TapSides, side_of}

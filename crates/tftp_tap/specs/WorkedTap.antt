@@ -1,7 +1,7 @@
 -- Small transfers, as they pass a point between their ends. Lists have the newest first.
 use Rattle.std.specs.Prelude.{List, [], ◌∷◌, codes}
 use Rattle.tftp_packet.specs.{Client, Server}
-use Rattle.tftp_model.specs.{Req, Oack, Data, Ack}
+use Rattle.law_model.specs.Model.{Req, Oack, Data, Ack}
 use Rattle.tftp_tap.specs.Tap.{Pass}
 use Rattle.tftp_tap.specs.TapCapture.{PeerId, TapDatagram, TapSides}
 

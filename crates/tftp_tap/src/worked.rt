@@ -2,7 +2,7 @@
 
 ghost use Rattle.std.specs.Prelude.{◌≡◌};
 ghost use Rattle.tftp_packet.specs.{Client, Server};
-ghost use Rattle.tftp_model.specs.{IsView, two_bytes, ten_bytes, window_repeated};
+ghost use Rattle.law_model.specs.Model.{IsView, two_bytes, ten_bytes, window_repeated};
 ghost use Rattle.tftp_tap.specs.Tap.{IsTapView, as_at};
 ghost use Rattle.tftp_tap.specs.TapDress.{ShowsBetween, IsLawfulBetween};
 ghost use Rattle.tftp_tap.specs.TapRules.{BreaksNoTapRule};

@@ -1,7 +1,7 @@
 -- What the end that gets the file would keep of a lawful capture between the ends is lawful there.
 use Rattle.std.proofs.Common.{◌≡◌, List, inr, sym, subst, ap, ◌∙◌, map}
 use Rattle.tftp_packet.specs.{RequestParts}
-use Rattle.tftp_model.specs.Roles.{receiver_of}
+use Rattle.law_model.specs.Model.Roles.{receiver_of}
 use Rattle.tftp_law.specs.{says_some, OneEnded}
 use Rattle.tftp_tap.specs.{TapDatagram, TapSides, AreApart, kept_of, tap_tests, transfer_between, BreaksNoTapRule, FirstTapAsked, header_at, kept_between, recorded_at}
 use Rattle.tftp_tap.proofs.TapRouted.{Carried, mains, transfer_is}

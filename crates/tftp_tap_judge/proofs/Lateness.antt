@@ -1,8 +1,8 @@
 -- What a message breaks by itself, by its kind.
 use Rattle.std.proofs.Common.{◌≡◌, ◌⊎◌, ℕ, ◌+◌, ◌<◌, ◌≤◌, List, Option, Some, None, inl, inr, refl, sym, subst, arith}
 use Rattle.tftp_packet.specs.{Message, RequestParts, Side, End, Client, Server}
-use Rattle.tftp_model.specs.Roles.{receiver_of}
-use Rattle.tftp_rules.specs.{EndRule}
+use Rattle.law_model.specs.Model.Roles.{receiver_of}
+use Rattle.law_model.specs.Rules.{EndRule}
 use Rattle.tftp_law.specs.{IsWrongKind, number_of, Rule}
 use Rattle.tftp_law.specs.declared.rule.Rule.TheVariants as rule
 use Rattle.tftp_tap.specs.{TapDatagram, TapSides, before_error, tap_tests, LateBreaks, IsLateAck, IsLateZero, IsLateBlock}

@@ -4,7 +4,7 @@ use Rattle.std.specs.List.{list_any}
 use Rattle.std.proofs.lemmas.Bool.{true≢false, eqb-true, cases_Bool}
 use Rattle.tftp_packet.specs.{Side, End, Client, Server, opcode_of}
 use Rattle.tftp_packet.specs.Hosts.{Datagram}
-use Rattle.tftp_model.specs.Roles.{receiver_of}
+use Rattle.law_model.specs.Model.Roles.{receiver_of}
 use Rattle.tftp_judge.specs.{NoneBreaks, Refuses, IsJudgeAfter, Judge, TakesMemory, Refusal, Finds}
 use Rattle.tftp_judge.specs.declared.refusal.Refusal.TheVariants as of_end
 use Rattle.tftp_tap.specs.{TapDatagram, TapSides, side_of, AreApart, is_left_out, same_end, asks_in, ends_in, tap_tests, header_at, kept_between, recorded_at}

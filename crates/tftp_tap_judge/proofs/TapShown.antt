@@ -4,11 +4,11 @@ use Rattle.std.proofs.lemmas.List.{reverse-reverse}
 use Rattle.std.specs.List.{list_any}
 use Rattle.tftp_packet.specs.{RequestParts, End}
 use Rattle.tftp_packet.specs.Hosts.{Datagram, Header}
-use Rattle.tftp_model.specs.{Meaning, blksize_of, request_of, block_count, Ack, Data, HasSent, HasTaken, IsView, IsOneSided}
-use Rattle.tftp_model.specs.Machines.{receiver_of, sender_of}
-use Rattle.tftp_model.proofs.Members.{contains_none}
-use Rattle.tftp_model.proofs.OneSided.{view_one_sided}
-use Rattle.tftp_model.proofs.MadeRuns.{one_sided_view}
+use Rattle.law_model.specs.Model.{Meaning, blksize_of, request_of, block_count, Ack, Data, HasSent, HasTaken, IsView, IsOneSided}
+use Rattle.law_model.specs.Model.Machines.{receiver_of, sender_of}
+use Rattle.law_model.proofs.ModelLemmas.Members.{contains_none}
+use Rattle.law_model.proofs.ModelLemmas.OneSided.{view_one_sided}
+use Rattle.law_model.proofs.ModelLemmas.MadeRuns.{one_sided_view}
 use Rattle.tftp_law.specs.{ShowsBy, datagrams_of, view_in, says_of, AreRouted, says_some}
 use Rattle.tftp_law.proofs.Division.Parted.{parts_of}
 use Rattle.tftp_law.proofs.Division.OneDivision.{run_divides, division_one}

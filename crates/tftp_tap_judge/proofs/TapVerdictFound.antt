@@ -3,7 +3,7 @@ use Rattle.std.proofs.Common.{◌≡◌, ℕ, List, [], ◌∷◌, ◌++◌, Opt
 use Rattle.std.proofs.lemmas.List.{reverse-reverse}
 use Rattle.tftp_packet.specs.{RequestParts, End}
 use Rattle.tftp_packet.specs.Hosts.{Datagram, Header}
-use Rattle.tftp_model.specs.{Meaning}
+use Rattle.law_model.specs.Model.{Meaning}
 use Rattle.tftp_judge.specs.{IsUnlawfulAt, IsVerdict, Refusal}
 use Rattle.tftp_judge.specs.declared.refusal.Refusal.TheVariants as of_end
 use Rattle.tftp_law.specs.{IsLawful, IsEnded, IsFirstError, OneEnded, Rule}

@@ -4,8 +4,8 @@ use Rattle.std.proofs.lemmas.Bool.{true≢false, ltb-true, ltb-false, cases_Bool
 use Rattle.tftp_packet.specs.{Message, RequestParts, Spells, FirstFault, meaning, Packet, PacketFault, End}
 use Rattle.tftp_judge.specs.{NoneBreaks, Finds, PassError}
 use Rattle.tftp_packet.specs.Hosts.{Datagram, Header}
-use Rattle.tftp_rules.specs.{is_of_transfer, or_this, route_of, PortRule}
-use Rattle.tftp_model.specs.Roles.{receiver_of}
+use Rattle.law_model.specs.Rules.{is_of_transfer, or_this, route_of, PortRule}
+use Rattle.law_model.specs.Model.Roles.{receiver_of}
 use Rattle.tftp_law.specs.{Broken, NoErrorBy, number_of, Rule}
 use Rattle.tftp_law.specs.declared.rule.Rule.TheVariants as rule
 use Rattle.tftp_law.proofs.Division.RouteTests.{same_is}

@@ -4,7 +4,7 @@ use Rattle.std.specs.Prelude.{◌≡◌, ◌⊎◌, ◌+◌, ◌&&◌, not, ℕ,
 use Rattle.tftp_packet.specs.{Message, RequestParts, Spells, FirstFault, Side, End}
 use Rattle.tftp_capture.specs.declared.datagram.Datagram.{Datagram as OwnedDatagram}
 use Rattle.tftp_capture.specs.{datagram_of}
-use Rattle.tftp_model.specs.Roles.{receiver_of}
+use Rattle.law_model.specs.Model.Roles.{receiver_of}
 use Rattle.tftp_judge.specs.{TakesMemory, Refusal}
 use Rattle.tftp_judge.specs.declared.refusal.Refusal.TheVariants as of_end
 use Rattle.tftp_law.specs.{Broken, number_of, Rule}

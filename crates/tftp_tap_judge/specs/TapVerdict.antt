@@ -2,7 +2,7 @@
 -- first.
 use Rattle.std.specs.Prelude.{◌≡◌, ℕ, List, length, Option, Some, None, Result, Ok, Err}
 use Rattle.tftp_packet.specs.{RequestParts, End}
-use Rattle.tftp_model.specs.{Meaning}
+use Rattle.law_model.specs.Model.{Meaning}
 use Rattle.tftp_judge.specs.{Refusal}
 use Rattle.tftp_judge.specs.declared.refusal.Refusal.TheVariants as of_end
 use Rattle.tftp_law.specs.{FirstErrorBy, IsWritable, IsEnded, NoErrorBy}

@@ -18,7 +18,7 @@ use tftp_packet::hosts::{Dir, Peer};
 use tftp_judge::PassError;
 use tftp_law::Rule;
 use tftp_packet::{End, Packet, Request, opcode, own_request, read_packet};
-use tftp_rules::PortRule;
+use law_model::rules::PortRule;
 use tftp_tap::{Sides, TapPorts, TapRoute};
 
 /// What is kept of the datagrams that have passed between the ends: the ways that they went, and the transfer from its first

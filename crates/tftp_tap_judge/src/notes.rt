@@ -14,7 +14,7 @@ use std::marker::Model;
 use tftp_judge::is_wrong_kind;
 use tftp_law::Rule;
 use tftp_packet::{End, Packet, PacketFault, Request, Side, same_request};
-use tftp_rules::EndRule;
+use law_model::rules::EndRule;
 
 /// What has passed of a transfer between its ends, and what had passed before the first ERROR of each (RFC 1350, section 7).
 #[derive(Drop)]

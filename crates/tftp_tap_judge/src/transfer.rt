@@ -1,6 +1,6 @@
 ghost use Rattle.std.specs.Prelude.{◌≡◌, ◌+◌, ◌^◌, ◌<◌, ◌≤◌, List, [], ◌∷◌, length, true, IfErr, IfOk, OnOk, Err};
 ghost use Rattle.tftp_packet.specs.{Message, meaning, Spells};
-ghost use Rattle.tftp_model.specs.Roles.{receiver_of};
+ghost use Rattle.law_model.specs.Model.Roles.{receiver_of};
 ghost use Rattle.tftp_judge.specs.{Finds};
 ghost use Rattle.tftp_law.specs.{Passes, IsFirstError};
 ghost use Rattle.tftp_tap.specs.{TapDatagram, TapSides, side_of, AreApart, is_passing, tap_route, transfer_between, BreaksNoTapRule, header_at, recorded_at};

@@ -6,7 +6,7 @@ use Rattle.tftp_capture.specs.{IsCapture, IsLawful, IsPort, Numbered, Entry, IsE
 use Rattle.tftp_capture.specs.Commented.Entry.{Comment, Passed}
 use Rattle.tftp_capture.proofs.Beginnings.{capture_begins}
 use Rattle.tftp_capture.proofs.Commented.{commented_is_read, unnumbered-in}
-use Rattle.tftp_model.specs.{Meaning}
+use Rattle.law_model.specs.Model.{Meaning}
 use Rattle.tftp_judge.specs.{IsTextVerdict, unnumbered, IsSaid, IsVerdict, Refusal, Unlawful}
 use Rattle.tftp_judge.specs.declared.refusal.Refusal.TheVariants.{Memory}
 use Rattle.tftp_views.specs.{of_text}

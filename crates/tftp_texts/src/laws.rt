@@ -3,7 +3,7 @@
 ghost use Rattle.std.specs.Prelude.{◌≡◌, ◌^◌, ◌≤◌, ℕ, List, Result, All, length, reverse};
 ghost use Rattle.tftp_capture.specs.{IsCapture, IsLawful, IsPort, Numbered};
 ghost use Rattle.tftp_packet.specs.Hosts.{Datagram, Header};
-ghost use Rattle.tftp_model.specs.{Meaning};
+ghost use Rattle.law_model.specs.Model.{Meaning};
 ghost use Rattle.tftp_judge.specs.{IsTextVerdict, unnumbered, IsSaid, IsVerdict, Refusal};
 ghost use Rattle.tftp_packet.specs.{Client, Server};
 ghost use Rattle.tftp_lines.specs.{Placed, Transfer};

@@ -1,7 +1,7 @@
 -- A transfer's own datagrams tell who its ends are, and what each of them saw.
 use Rattle.std.proofs.Common.{◌≡◌, ℕ, Bool, false, cond, List, [], ◌∷◌, Option, Some, None, refl, sym, ap, ◌∙◌, ◌==◌, ◌&&◌, ◌||◌, not, filter, is_some, option_map}
 use Rattle.std.proofs.lemmas.List.Elements.{filter_agree}
-use Rattle.tftp_rules.specs.{first_of, or_this}
+use Rattle.law_model.specs.Rules.{first_of, or_this}
 use Rattle.tftp_lines.specs.{Endpoint, Place, Opens, Repeats, Talks, Apart, Beside, Nowhere, Recorded, begins_error, other_of, same_endpoint, Placed, is_of}
 use Rattle.tftp_transfers.specs.{is_settled, answered_by, asked_of, client_view, comes, goes_on, goes_to_asked, has_host, has_port, is_about, is_at_server, is_end, is_server, opened_it, server_of, server_view, went_on_with}
 use Rattle.tftp_lines.proofs.Lines.{by_test}

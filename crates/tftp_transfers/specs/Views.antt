@@ -1,6 +1,6 @@
 -- What each end of a transfer saw of it. Lists have the newest first; a transfer is known by its number.
 use Rattle.std.specs.Prelude.{ℕ, ◌==◌, ◌&&◌, ◌||◌, not, Bool, false, List, filter, Option, Some, None, option_map}
-use Rattle.tftp_rules.specs.{first_of}
+use Rattle.law_model.specs.Rules.{first_of}
 use Rattle.tftp_lines.specs.{Endpoint, Transfer, Recorded, Place, Opens, Repeats, Talks, Apart, Beside, Nowhere, same_address, same_endpoint, other_of, begins_error, Placed, is_of}
 
 abbrev pub client_view : ℕ → List Placed → List Placed

@@ -1,7 +1,7 @@
 //! The two ends of one transfer, and which datagrams each of them saw.
 
 ghost use Rattle.std.specs.Prelude.{◌≡◌, ◌∷◌, ℕ, List, [], false};
-ghost use Rattle.tftp_rules.specs.{or_this};
+ghost use Rattle.law_model.specs.Rules.{or_this};
 ghost use Rattle.tftp_lines.specs.{Placed, Recorded, is_of};
 ghost use Rattle.tftp_transfers.specs.Views.{is_about, opened_it, comes, goes_on, goes_to_asked, server_of, has_host, has_port, is_end, is_server, is_at_server};
 ghost use Rattle.tftp_transfers.specs.Kept.{AreEndsAfter};

@@ -3,7 +3,7 @@
 ghost use Rattle.std.specs.Prelude.{◌≡◌, ◌≢◌, ◌∷◌, ◌||◌, [], ℕ, List, Any, Bool, IsSome, None, Option, Some, true, false};
 ghost use Rattle.tftp_lines.specs.{Place, Placed, Transfer, same_endpoint};
 ghost use Rattle.tftp_packet.specs.{Client as ClientEnd, Server as ServerEnd};
-ghost use Rattle.tftp_rules.specs.{BadAnswer, EndRule};
+ghost use Rattle.law_model.specs.Rules.{BadAnswer, EndRule};
 ghost use Rattle.tftp_law.specs.{Block, Port};
 ghost use Rattle.tftp_transfers.specs.{asked_twice, client, service};
 ghost use Rattle.tftp_transfers.specs.Worked.{at, passes};

@@ -2,7 +2,7 @@ ghost use Rattle.std.specs.Prelude.{◌≡◌, Option, Result};
 ghost use Rattle.tftp_verdict_rows.specs.Told.{is_refused, may_be_asked, refused_frame, said_between, said_of, status_of};
 
 use tftp_judge::{Meaning, Refusal, Rule};
-use tftp_rules::PortRule;
+use law_model::rules::PortRule;
 use tftp_tap_judge::TapRefusal;
 
 /// What is said of a transfer at one of the points where it was judged.

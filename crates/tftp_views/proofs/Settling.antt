@@ -2,7 +2,7 @@
 use Rattle.std.proofs.Common.{◌≡◌, ℕ, ◌&&◌, Bool, true, true≢false, List, [], ◌∷◌, ◌++◌, Option, Some, None, refl, sym, ap, subst, map, ◌∙◌, filter, is_some, option_map, if◌then◌else◌}
 use Rattle.std.proofs.lemmas.Bool.{and_parts}
 use Rattle.std.proofs.lemmas.List.Elements.{filter-append, filter_agree}
-use Rattle.tftp_rules.specs.{first_of, or_this}
+use Rattle.law_model.specs.Rules.{first_of, or_this}
 use Rattle.tftp_lines.specs.{Endpoint, Place, Beside, Recorded, Placed, Transfer}
 use Rattle.tftp_transfers.specs.{answered_by, asked_of, comes, goes_on, is_at_server, is_end, opened_it, server_of, server_view, went_on_with, is_settled, AreEndsAfter, TransferEnds}
 use Rattle.tftp_transfers.proofs.OwnDatagrams.{at_server_same, server_same, settled_same}

@@ -2,7 +2,7 @@
 use Rattle.std.specs.Prelude.{◌≡◌, ◌^◌, ◌≤◌, List, ◌∷◌, ◌++◌, All, length, reverse, Option, Some, None, Result, Ok, Err}
 use Rattle.tftp_capture.specs.{IsLawful, IsPort, text_with_hosts}
 use Rattle.tftp_packet.specs.Hosts.{Datagram, Header}
-use Rattle.tftp_model.specs.{Meaning}
+use Rattle.law_model.specs.Model.{Meaning}
 use Rattle.tftp_law.specs.{OneEnded}
 use Rattle.tftp_judge.specs.{Refuses, IsJudgeAfter, Judge, IsTextVerdict, IsSaid, IsVerdict, Refusal, Verdict, Refused}
 

@@ -2,7 +2,7 @@
 
 ghost use Rattle.std.specs.Prelude.{◌≡◌, [], ◌++◌, ◌∷◌, ℕ, List, Result, filter, reverse, false, true};
 ghost use Rattle.tftp_packet.specs.Hosts.{Datagram, Header};
-ghost use Rattle.tftp_model.specs.{Meaning};
+ghost use Rattle.law_model.specs.Model.{Meaning};
 ghost use Rattle.tftp_judge.specs.{IsVerdict, IsTextVerdict, IsSaid, Refusal};
 ghost use Rattle.tftp_capture.specs.{text_with_hosts};
 ghost use Rattle.tftp_lines.specs.{Placed, may_be_answer_of};

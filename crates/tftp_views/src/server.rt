@@ -1,7 +1,7 @@
 //! The judge of a transfer's server, fed with a recording once it is known who the server is.
 
 ghost use Rattle.std.specs.Prelude.{◌≡◌, ◌+◌, ◌^◌, ◌<◌, ◌≤◌, ◌∷◌, ℕ, List, [], length, OnOk, OnErr, Ok, Err, None, Some, true, false};
-ghost use Rattle.tftp_rules.specs.{transfer_of};
+ghost use Rattle.law_model.specs.Rules.{transfer_of};
 ghost use Rattle.tftp_judge.specs.{TakesForJoin, Refusal as RefusalKind};
 ghost use Rattle.tftp_law.specs.{IsEnded};
 ghost use Rattle.tftp_transfers.specs.{AreEndsAfter, is_settled, is_at_server};

@@ -4,8 +4,8 @@ use Rattle.std.specs.FinMap as map
 use Rattle.std.specs.Cmp.Lexicographic.{nat_list_cmp_total}
 use Rattle.tftp_packet.specs.{OptionMap, OptionValue, Num, value_of, is_known_number, is_number, range_of, map_of, Message, RequestParts, Spells, Side, Get, Put, Octet}
 use Rattle.tftp_packet.specs.Hosts.{Datagram, Header}
-use Rattle.tftp_model.specs.{number_or, eight_a_block, eight_by_four, request_of, two_bytes}
-use Rattle.tftp_model.proofs.Worked.{eight_for_blksize}
+use Rattle.law_model.specs.Model.{number_or, eight_a_block, eight_by_four, request_of, two_bytes}
+use Rattle.law_model.proofs.ModelLemmas.Worked.{eight_for_blksize}
 use Rattle.tftp_nego.specs.{MayAnswer}
 use Rattle.tftp_law.specs.{Agrees}
 use Rattle.tftp_worked.specs.{at_client, asks_for_a, brings_hi, request, oack, by_eight, by_four, by_two, asks, comes, answers, is_asked, at_service, by_most, sized}

@@ -6,9 +6,9 @@ use Rattle.std.specs.Str.{bytes_eq}
 use Rattle.std.specs.List.{list_all}
 use Rattle.tftp_packet.specs.{Spells, Message, End, Client, Server}
 use Rattle.tftp_packet.specs.Hosts.{Dir, In, Out, Datagram, Header, PeerId, peer_of, same_peer}
-use Rattle.tftp_model.specs.{Meaning, blksize_of, request_of, block, MachinePacket, Req, Oack, Data, Ack, Error, Deed, message_of, History}
-use Rattle.tftp_rules.specs.{SaysUnknownId}
-use Rattle.tftp_model.proofs.HistoryTests.{same_end}
+use Rattle.law_model.specs.Model.{Meaning, blksize_of, request_of, block, MachinePacket, Req, Oack, Data, Ack, Error, Deed, message_of, History}
+use Rattle.law_model.specs.Rules.{SaysUnknownId}
+use Rattle.law_model.proofs.ModelLemmas.HistoryTests.{same_end}
 use Rattle.tftp_law.specs.{server_port, from_server, BeginsAsRequest, Label, Main, Stray, Labelled, Division, datagrams_of, view_in, TransferIds, HasClientId, HasServerId, GoesToServer, dir_of, packet_of, IsMain, HasLabel, HaveLabels, IsDressed}
 use Rattle.tftp_law.specs.Dress.{StrayAnswer}
 use Rattle.tftp_law.proofs.Division.Divided.{any_first, any_later}

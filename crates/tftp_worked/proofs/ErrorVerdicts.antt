@@ -2,8 +2,8 @@
 use Rattle.std.proofs.Common.{ℕ, List, [], ◌∷◌, ◌++◌, reverse, codes, Some, None, inl, inr, Ok, Err, refl}
 use Rattle.tftp_packet.specs.{Num, Get}
 use Rattle.tftp_packet.specs.Hosts.{Datagram, Header}
-use Rattle.tftp_model.specs.{Meaning, two_bytes, eight_a_block}
-use Rattle.tftp_rules.specs.{NoReply, Plain, EndRule}
+use Rattle.law_model.specs.Model.{Meaning, two_bytes, eight_a_block}
+use Rattle.law_model.specs.Rules.{NoReply, Plain, EndRule}
 use Rattle.tftp_law.specs.{IsAborted, AbortedBy, Local, Peer, IsLawful, Meant, plain_terms, Rule}
 use Rattle.tftp_law.proofs.Whole.TwoEnds.{whole}
 use Rattle.tftp_judge.specs.{IsVerdict, Unlawful, Aborted}

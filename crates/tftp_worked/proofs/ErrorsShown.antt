@@ -3,12 +3,12 @@ use Rattle.std.proofs.Common.{◌≡◌, ◌⊎◌, ℕ, ◌+◌, ◌≤◌, nat
 use Rattle.std.proofs.lemmas.Bool.{leb-true}
 use Rattle.tftp_packet.specs.{Message, Get, Client}
 use Rattle.tftp_packet.specs.Hosts.{In, Out, Datagram}
-use Rattle.tftp_model.specs.{Meaning, request_of, option_or, windowsize_of, MachinePacket, Sent, Took, Req, Oack, Data, Ack, Error, History, IsOneSided, Step, IsView, client, server, two_bytes, ten_bytes, eight_a_block, read_refused_view, read_given_up_view, given_up_view, stopped_at_the_end_view, one_block_view, block_after_error_view}
-use Rattle.tftp_model.proofs.Members.{contains_first}
-use Rattle.tftp_model.proofs.Worked.{one_block_plan, two_is_plan, eights_plan, ten_is_plan, blocks_of_eight, one_at_a_time}
-use Rattle.tftp_model.proofs.WorkedErrors.{read_refused_is_view, read_given_up_is_view, stopped_at_the_end_is_view, stopped_at_the_end_complete, block_after_error_is_view}
-use Rattle.tftp_model.proofs.Computed.{run_is, complete_is, all_is}
-use Rattle.tftp_model.proofs.OneSided.{view_one_sided}
+use Rattle.law_model.specs.Model.{Meaning, request_of, option_or, windowsize_of, MachinePacket, Sent, Took, Req, Oack, Data, Ack, Error, History, IsOneSided, Step, IsView, client, server, two_bytes, ten_bytes, eight_a_block, read_refused_view, read_given_up_view, given_up_view, stopped_at_the_end_view, one_block_view, block_after_error_view}
+use Rattle.law_model.proofs.ModelLemmas.Members.{contains_first}
+use Rattle.law_model.proofs.ModelLemmas.Worked.{one_block_plan, two_is_plan, eights_plan, ten_is_plan, blocks_of_eight, one_at_a_time}
+use Rattle.law_model.proofs.ModelLemmas.WorkedErrors.{read_refused_is_view, read_given_up_is_view, stopped_at_the_end_is_view, stopped_at_the_end_complete, block_after_error_is_view}
+use Rattle.law_model.proofs.ModelLemmas.Computed.{run_is, complete_is, all_is}
+use Rattle.law_model.proofs.ModelLemmas.OneSided.{view_one_sided}
 use Rattle.tftp_law.specs.Dress.{StrayAnswer}
 use Rattle.tftp_law.specs.{Label, Main, Stray, Labelled, IsMain, TransferIds, HasLabel, HaveLabels, IsDressed, IsLawful, Shows}
 use Rattle.tftp_law.proofs.Division.Divided.{divided_more, divided_none, any_none, any_cases}

@@ -3,8 +3,8 @@ use Rattle.std.proofs.Common.{◌≡◌, ℕ, ◌++◌, lit≤, List, ◌∷◌,
 use Rattle.std.specs.Fmt.{digits}
 use Rattle.hex.specs.Hex.{encode_with}
 use Rattle.tftp_capture.specs.{text_of, line}
-use Rattle.tftp_model.specs.{block_count}
-use Rattle.tftp_model.proofs.Worked.{blocks_of_eight}
+use Rattle.law_model.specs.Model.{block_count}
+use Rattle.law_model.proofs.ModelLemmas.Worked.{blocks_of_eight}
 use Rattle.tftp_law.specs.{CanBeWritten, blocks_of}
 use Rattle.tftp_law.proofs.Written.Written.{can_be_written}
 use Rattle.tftp_judge.specs.{IsTextVerdict}

@@ -6,9 +6,9 @@ use Rattle.tftp_packet.specs.{Message, Spells, Get, Netascii, Client}
 use Rattle.tftp_netascii.specs.{Reads}
 use Rattle.tftp_netascii.proofs.CanonicalLemmas.{Reads-canonical}
 use Rattle.tftp_netascii.proofs.RunReads.{run_to_end}
-use Rattle.tftp_model.specs.{block_count, request_of, IsView, IsComplete, eight_a_block, ten_bytes_view, ten_bytes_steps}
-use Rattle.tftp_model.proofs.Computed.{Plan, IsPlan, run_is, complete_is}
-use Rattle.tftp_model.proofs.Worked.{blocks_of_eight, one_at_a_time, something_agreed}
+use Rattle.law_model.specs.Model.{block_count, request_of, IsView, IsComplete, eight_a_block, ten_bytes_view, ten_bytes_steps}
+use Rattle.law_model.proofs.ModelLemmas.Computed.{Plan, IsPlan, run_is, complete_is}
+use Rattle.law_model.proofs.ModelLemmas.Worked.{blocks_of_eight, one_at_a_time, something_agreed}
 use Rattle.tftp_law.specs.{IsDressed, Fits, IsWritable, Shows}
 use Rattle.tftp_worked.specs.{at_client, oack, by_eight, comes, asks_for_lines, read_of_lines, read_of_bare_lines}
 use Rattle.tftp_normal.specs.{line_end_cut}

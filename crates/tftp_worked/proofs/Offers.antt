@@ -6,13 +6,13 @@ use Rattle.std.specs.FinMap as map
 use Rattle.tftp_packet.specs.{OptionMap, OptionValue, Num, Text, no_options, value_of, is_known_number, is_number, range_of, map_of, Message, RequestParts, Spells, Get, Octet}
 use Rattle.tftp_nego.specs.{Holds, NegoFault, AgreementRule, agreement_number, AgreementBroken}
 use Rattle.tftp_packet.specs.Hosts.{Datagram}
-use Rattle.tftp_rules.specs.{route_of, is_of_transfer, transfer_of, Terms, NoReply}
-use Rattle.tftp_model.specs.{eight_a_block}
-use Rattle.tftp_model.proofs.Worked.{eight_for_blksize}
+use Rattle.law_model.specs.Rules.{route_of, is_of_transfer, transfer_of, Terms, NoReply}
+use Rattle.law_model.specs.Model.{eight_a_block}
+use Rattle.law_model.proofs.ModelLemmas.Worked.{eight_for_blksize}
 use Rattle.tftp_law.specs.{number_of, plain_terms, NotAnswered, OackBreaks, MessageBreaks, Broken, OneEnded, IsRefused, Rule}
 use Rattle.tftp_law.proofs.FirstBroken.OneMessage.{agreement_from, port_to, breaks_by, back}
 use Rattle.tftp_worked.specs.{at_client, asks_for_a, one_block_read, request, oack, by_eight, only_asked, asks_for_b, agrees_to_none, agrees_unasked, by_multicast, only_multicast_asked, agrees_to_multicast, by_foo, only_foo_asked, agrees_to_foo, only_512_asked, agrees_to_1024}
-use Rattle.tftp_rules.proofs.EndRules.{from_18}
+use Rattle.law_model.proofs.RulesLemmas.EndRules.{from_18}
 use Rattle.tftp_worked.proofs.Spelled.{request_spelled, ack_spelled}
 use Rattle.tftp_worked.proofs.Payloads.{Spelled, request_spells, request_for_spells, oack_spells, eight_is}
 use Rattle.tftp_worked.proofs.Passing.{asked_by, asked_back, asked_there, first_answer, first_asked, main_of, terms_of, unanswered_there}

@@ -5,9 +5,9 @@ use Rattle.std.specs.Ordering.{nat_cmp, eq_by_cmp}
 use Rattle.std.specs.Cmp.Lexicographic.{slice_cmp, nat_list_cmp_total}
 use Rattle.tftp_packet.specs.{OptionMap, OptionValue, Num, no_options, RequestParts}
 use Rattle.tftp_packet.specs.Hosts.{Header}
-use Rattle.tftp_model.specs.{number_or, option_or, eight_a_block, eight_by_four}
-use Rattle.tftp_model.proofs.Worked.{eight_for_blksize}
-use Rattle.tftp_rules.specs.{Oacked, Terms}
+use Rattle.law_model.specs.Model.{number_or, option_or, eight_a_block, eight_by_four}
+use Rattle.law_model.proofs.ModelLemmas.Worked.{eight_for_blksize}
+use Rattle.law_model.specs.Rules.{Oacked, Terms}
 use Rattle.tftp_nego.specs.{MayAnswer, MayAgree, Holds, NegoFault}
 use Rattle.tftp_law.specs.{Agrees, size_from, terms_after}
 use Rattle.tftp_nego.proofs.Tested.{AllAsked, agreement_kept}

@@ -9,7 +9,7 @@ use Rattle.std.specs.FinMap as map
 use Rattle.tftp_packet.specs.{OptionMap, Num, lower, value_of, is_known_number, is_number, range_of, Message, IsString, AreStrings, Pair, pair_strings, AreNamed, SameName, AreApart, map_of, Spells, mode_name, side_opcode, Side, Mode, Octet}
 use Rattle.tftp_packet.specs.Hosts.{Datagram}
 use Rattle.tftp_worked.specs.{request, request_for, oack, block, ack, by_eight, by_four, by_two, error}
-use Rattle.tftp_model.specs.{eight_a_block, eight_by_four}
+use Rattle.law_model.specs.Model.{eight_a_block, eight_by_four}
 
 -- a datagram with what it spells
 abbrev pub Spelled : Type 0

@@ -1,11 +1,11 @@
 -- What the runs of the worked read have in common.
 use Rattle.std.proofs.Common.{◌≡◌, ◌≢◌, ℕ, ◌≤◌, ◌⊎◌, List, [], ◌∷◌, Contains, length, take, codes, inl, inr, sym, subst, ap, ◌∙◌, arith, length-take, take_all}
 use Rattle.tftp_packet.specs.{Get, Client, Server}
-use Rattle.tftp_model.specs.{Meaning, request_of, NothingAgreed, blksize_of, block, block_count, Deed, Sent, Took, Req, Data, Ack, History, HasSent, HasTaken, IsStartedOn, Step, view_of, IsRun, IsView, two_bytes}
-use Rattle.tftp_model.proofs.Members.{contains_first, contains_later, contains_cases, contains_none}
-use Rattle.tftp_model.proofs.Moments.{moment, taken_was_sent}
-use Rattle.tftp_model.proofs.Blocks.{block_of_sender}
-use Rattle.tftp_model.proofs.Defaults.{default_blksize}
+use Rattle.law_model.specs.Model.{Meaning, request_of, NothingAgreed, blksize_of, block, block_count, Deed, Sent, Took, Req, Data, Ack, History, HasSent, HasTaken, IsStartedOn, Step, view_of, IsRun, IsView, two_bytes}
+use Rattle.law_model.proofs.ModelLemmas.Members.{contains_first, contains_later, contains_cases, contains_none}
+use Rattle.law_model.proofs.ModelLemmas.Moments.{moment, taken_was_sent}
+use Rattle.law_model.proofs.ModelLemmas.Blocks.{block_of_sender}
+use Rattle.law_model.proofs.ModelLemmas.Defaults.{default_blksize}
 use Rattle.tftp_law.specs.{Fits, ReadsAs}
 
 -- a read whose client took a block and sent no ACK 0 has agreed to nothing

@@ -2,11 +2,11 @@
 use Rattle.std.proofs.Common.{◌≡◌, ◌≢◌, ℕ, ◌≤◌, ◌&&◌, true, List, [], ◌∷◌, ◌++◌, codes, reverse, inl, inr, refl, sym, subst, ap, ◌∙◌, arith}
 use Rattle.tftp_packet.specs.{Message, Client, Server}
 use Rattle.tftp_packet.specs.Hosts.{Datagram, Header}
-use Rattle.tftp_model.specs.{Meaning, NothingAgreed, blksize_of, block_count, Deed, Sent, Took, Req, Data, Ack, History, HasSent, HasTaken, Step, IsView, IsComplete, two_bytes, two_bytes_view}
-use Rattle.tftp_model.specs.Machines.{receiver_of}
-use Rattle.tftp_model.proofs.Members.{contains_first, contains_cases, contains_none}
-use Rattle.tftp_model.proofs.Defaults.{default_blksize}
-use Rattle.tftp_model.proofs.Worked.{one_block, two_bytes_run, two_bytes_is_view, two_bytes_complete}
+use Rattle.law_model.specs.Model.{Meaning, NothingAgreed, blksize_of, block_count, Deed, Sent, Took, Req, Data, Ack, History, HasSent, HasTaken, Step, IsView, IsComplete, two_bytes, two_bytes_view}
+use Rattle.law_model.specs.Model.Machines.{receiver_of}
+use Rattle.law_model.proofs.ModelLemmas.Members.{contains_first, contains_cases, contains_none}
+use Rattle.law_model.proofs.ModelLemmas.Defaults.{default_blksize}
+use Rattle.law_model.proofs.ModelLemmas.Worked.{one_block, two_bytes_run, two_bytes_is_view, two_bytes_complete}
 use Rattle.tftp_law.specs.{TransferIds, datagrams_of, view_in, IsDressed, IsSeen, IsLawful, ShowsBy, Shows}
 use Rattle.tftp_worked.specs.{at_client, server_host, acknowledges_hi, brings_more, one_block_read, read_without_its_ack, read_past_its_end}
 use Rattle.tftp_law.proofs.Whole.NothingAgreed.{two_bytes_fit}

@@ -3,9 +3,9 @@ use Rattle.std.proofs.Common.{◌≡◌, ◌+◌, ◌/◌, ◌<◌, [], ◌∷�
 use Rattle.std.specs.FinMap as map
 use Rattle.std.specs.Cmp.Lexicographic.{nat_list_cmp_total}
 use Rattle.tftp_packet.specs.{Num, Message, RequestParts, Get}
-use Rattle.tftp_model.specs.{number_or, request_of, two_bytes, eight_a_block, eight_by_four}
-use Rattle.tftp_rules.specs.{IsFront, BlockPassed, transfer_of, EndRule, PortRule}
-use Rattle.tftp_model.proofs.Worked.{four_of_both}
+use Rattle.law_model.specs.Model.{number_or, request_of, two_bytes, eight_a_block, eight_by_four}
+use Rattle.law_model.specs.Rules.{IsFront, BlockPassed, transfer_of, EndRule, PortRule}
+use Rattle.law_model.proofs.ModelLemmas.Worked.{four_of_both}
 use Rattle.tftp_nego.specs.{Holds, NegoFault}
 use Rattle.tftp_law.specs.{Begins, Agrees, Broken, Rule, IsRefused}
 use Rattle.tftp_packet.specs.Hosts.{Dir, In}

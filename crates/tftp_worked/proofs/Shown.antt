@@ -1,7 +1,7 @@
 -- What a dressed view shows.
 use Rattle.std.proofs.Common.{ℕ, List}
 use Rattle.tftp_packet.specs.Hosts.{Datagram, Header}
-use Rattle.tftp_model.specs.{Meaning, History, IsView, IsComplete}
+use Rattle.law_model.specs.Model.{Meaning, History, IsView, IsComplete}
 use Rattle.tftp_law.specs.{IsDressed, Fits, IsWritable, Shows}
 
 pub shown_by : (h : Header) (m : Meaning) (wire : List ℕ) (view : History) (ds : List Datagram) → Fits m wire → IsWritable m → IsView m wire h.named view → IsComplete m wire h.named view

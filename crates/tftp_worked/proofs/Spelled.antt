@@ -1,7 +1,7 @@
 -- What the worked payloads spell.
 use Rattle.std.proofs.Common.{◌≡◌, [], ◌∷◌, codes, refl}
 use Rattle.tftp_packet.specs.{value_of, is_known_number, is_number, range_of, no_options, map_of, Message, Spells, Get, Put, Octet}
-use Rattle.tftp_model.specs.{request_of, two_bytes, two_bytes_written, ten_bytes, eight_a_block}
+use Rattle.law_model.specs.Model.{request_of, two_bytes, two_bytes_written, ten_bytes, eight_a_block}
 use Rattle.tftp_worked.specs.{asks_for_a, brings_hi, acknowledges_hi, answers_stray, offers_a, asks_for_eights, agrees_to_eights, by_eight}
 use Rattle.tftp_worked.proofs.Payloads.{request_spells, request_for_spells, oack_spells, data_spells, ack_spells, error_spells, eight_is}
 

@@ -6,10 +6,10 @@ use Rattle.tftp_packet.specs.{Message}
 use Rattle.tftp_capture.specs.{numbered, Numbered, BeginsWith, worked_header, worked_text, BadHeader}
 use Rattle.tftp_capture.specs.declared.fault.CaptureFault.TheVariants.{Text}
 use Rattle.tftp_capture.proofs.Beginnings.{capture_begins, fault_after}
-use Rattle.tftp_model.specs.{two_bytes, two_bytes_view}
-use Rattle.tftp_rules.specs.{transfer_of, IsAcked, EndRule}
-use Rattle.tftp_model.proofs.Defaults.{default_blksize}
-use Rattle.tftp_model.proofs.Worked.{two_bytes_is_view, two_bytes_complete}
+use Rattle.law_model.specs.Model.{two_bytes, two_bytes_view}
+use Rattle.law_model.specs.Rules.{transfer_of, IsAcked, EndRule}
+use Rattle.law_model.proofs.ModelLemmas.Defaults.{default_blksize}
+use Rattle.law_model.proofs.ModelLemmas.Worked.{two_bytes_is_view, two_bytes_complete}
 use Rattle.tftp_law.specs.{TransferIds, IsDressed, IsLawful, IsRefused, Rule}
 use Rattle.tftp_law.proofs.Whole.Beginnings.{empty_is_lawful}
 use Rattle.tftp_judge.specs.{IsTextVerdict, unnumbered, IsVerdictByRules, Unlawful, Capture, Refused}

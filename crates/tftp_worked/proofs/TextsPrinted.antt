@@ -8,9 +8,9 @@ use Rattle.std.specs.Fmt.{digits}
 use Rattle.tftp_packet.specs.{Message, OptionValue, Get}
 use Rattle.tftp_capture.specs.{numbered, line, worked_header, worked_text, BadHeader}
 use Rattle.tftp_capture.specs.declared.fault.CaptureFault.TheVariants.{Text}
-use Rattle.tftp_model.specs.{two_bytes}
-use Rattle.tftp_model.proofs.Worked.{one_block, two_is_plan}
-use Rattle.tftp_rules.specs.{EndRule}
+use Rattle.law_model.specs.Model.{two_bytes}
+use Rattle.law_model.proofs.ModelLemmas.Worked.{one_block, two_is_plan}
+use Rattle.law_model.specs.Rules.{EndRule}
 use Rattle.tftp_law.specs.{Rule}
 use Rattle.tftp_judge.specs.{Unlawful, Capture, Refused}
 use Rattle.tftp_normal.specs.{normal_count, opening_count, window_count, two_bytes_text}

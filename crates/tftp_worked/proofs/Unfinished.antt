@@ -3,8 +3,8 @@ use Rattle.std.proofs.Common.{◌≡◌, ℕ, ◌<◌, ◌==◌, ◌||◌, not, 
 use Rattle.std.proofs.lemmas.Bool.{and_parts, or_cases, leb-true, eq-eqb, false≢true}
 use Rattle.tftp_packet.specs.{Message, Spells}
 use Rattle.tftp_packet.specs.Hosts.{Dir, In, Out, Datagram, Header}
-use Rattle.tftp_model.specs.{Meaning}
-use Rattle.tftp_rules.specs.{transfer_of, Passed, IsReceiver, Terms}
+use Rattle.law_model.specs.Model.{Meaning}
+use Rattle.law_model.specs.Rules.{transfer_of, Passed, IsReceiver, Terms}
 use Rattle.tftp_law.specs.{IsErrorBy, NoErrorPassed, AbortedBy, IsWhole, Meant}
 use Rattle.tftp_law.proofs.Spelled.{spelled_once}
 use Rattle.tftp_worked.proofs.Payloads.{Spelled, datagrams, AllSpelled}

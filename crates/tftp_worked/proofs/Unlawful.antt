@@ -2,12 +2,12 @@
 use Rattle.std.proofs.Common.{◌≡◌, ℕ, not, nat_le, Bool, true, List, [], ◌∷◌, ◌++◌, codes, inl, inr, refl, sym, subst, ap, ◌∙◌, arith}
 use Rattle.std.proofs.lemmas.Bool.{false≢true, leb-true}
 use Rattle.tftp_packet.specs.{Message, RequestParts, Get, Put, Client}
-use Rattle.tftp_model.specs.{Meaning, request_of, number_or, option_or, windowsize_of, MachinePacket, Data, Ack, HasSent, HasTaken, Step, view_of, IsRun, eight_by_four, six_blocks}
-use Rattle.tftp_model.specs.Roles.{sender_of, receiver_of}
-use Rattle.tftp_model.proofs.Moments.{taken_was_sent}
-use Rattle.tftp_model.proofs.Blocks.{blocks_sent, block_in_given_window}
-use Rattle.tftp_model.proofs.Computed.{same_packet, taken_is, sent_is, all_is}
-use Rattle.tftp_model.proofs.Worked.{four_of_both}
+use Rattle.law_model.specs.Model.{Meaning, request_of, number_or, option_or, windowsize_of, MachinePacket, Data, Ack, HasSent, HasTaken, Step, view_of, IsRun, eight_by_four, six_blocks}
+use Rattle.law_model.specs.Model.Roles.{sender_of, receiver_of}
+use Rattle.law_model.proofs.ModelLemmas.Moments.{taken_was_sent}
+use Rattle.law_model.proofs.ModelLemmas.Blocks.{blocks_sent, block_in_given_window}
+use Rattle.law_model.proofs.ModelLemmas.Computed.{same_packet, taken_is, sent_is, all_is}
+use Rattle.law_model.proofs.ModelLemmas.Worked.{four_of_both}
 use Rattle.tftp_law.specs.{IsLawful, IsLawfulUpTo}
 use Rattle.tftp_law.proofs.Whole.Beginnings.{beginning_is_lawful, shown_is_lawful}
 use Rattle.tftp_worked.specs.{at_client, request, oack, block, ack, by_four, by_two, asks, goes, comes, before_overrun, block_seven, before_skip, block_two, window_out_of_order}

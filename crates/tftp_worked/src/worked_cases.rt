@@ -1,7 +1,7 @@
 //! Worked cases of the law, proved from its definitions alone. Each is the contract of a function that does nothing.
 
 ghost use Rattle.std.specs.Prelude.{◌≡◌, ℕ, List, [], ◌∷◌, ◌++◌};
-ghost use Rattle.tftp_model.specs.{Meaning, two_bytes, two_bytes_written, ten_bytes, six_blocks, six_blocks_steps, block_repeated, window_repeated, IsRun, view_of};
+ghost use Rattle.law_model.specs.Model.{Meaning, two_bytes, two_bytes_written, ten_bytes, six_blocks, six_blocks_steps, block_repeated, window_repeated, IsRun, view_of};
 ghost use Rattle.tftp_packet.specs.{Client, Server};
 ghost use Rattle.tftp_law.specs.{IsDressed, Shows, ShowsBy, IsSeen, IsLawful, IsLawfulUpTo};
 ghost use Rattle.tftp_worked.specs.WorkedWindows.{at_service};

@@ -5,8 +5,8 @@ ghost use Rattle.std.specs.Prelude.{[], ◌∷◌, ◌++◌, false, Ok, Err, cod
 ghost use Rattle.net_streams.specs.Digits.{AreNibbles, IsNibble};
 ghost use Rattle.tftp_capture.specs.{line, worked_text, BadHeader};
 ghost use Rattle.tftp_capture.specs.declared.fault.CaptureFault.TheVariants.{Text};
-ghost use Rattle.tftp_model.specs.{two_bytes};
-ghost use Rattle.tftp_rules.specs.{EndRule};
+ghost use Rattle.law_model.specs.Model.{two_bytes};
+ghost use Rattle.law_model.specs.Rules.{EndRule};
 ghost use Rattle.tftp_law.specs.{Rule};
 ghost use Rattle.tftp_judge.specs.{IsTextVerdict, Unlawful, Capture, Refused};
 ghost use Rattle.tftp_normal.specs.{line_end_cut, two_bytes_text};

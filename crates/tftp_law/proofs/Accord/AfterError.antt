@@ -3,9 +3,9 @@ use Rattle.std.proofs.Common.{◌≡◌, ℕ, Bool, true, false, List, ◌∷◌
 use Rattle.std.proofs.lemmas.Bool.{true≢false}
 use Rattle.tftp_packet.specs.{Message}
 use Rattle.tftp_packet.specs.Hosts.{Dir, In, Out, Header}
-use Rattle.tftp_model.specs.{Meaning, MachinePacket, Error, Deed, Sent, Took, HasSent, HasTaken, NoErrorSent, message_of, MaySend, is_error, MayCome, IsOneSided}
-use Rattle.tftp_rules.specs.{transfer_of, Passed}
-use Rattle.tftp_model.proofs.Cut.{sends_before_error}
+use Rattle.law_model.specs.Model.{Meaning, MachinePacket, Error, Deed, Sent, Took, HasSent, HasTaken, NoErrorSent, message_of, MaySend, is_error, MayCome, IsOneSided}
+use Rattle.law_model.specs.Rules.{transfer_of, Passed}
+use Rattle.law_model.proofs.ModelLemmas.Cut.{sends_before_error}
 use Rattle.tftp_law.specs.{Division, datagrams_of, view_in, dir_of, packet_of, AreRouted, GoesOn}
 use Rattle.tftp_law.proofs.Accord.PassedIsDone.{passed_told, told_passed}
 

@@ -3,9 +3,9 @@ use Rattle.std.proofs.Common.{◌≡◌, ℕ, true, List, [], ◌∷◌, Any, in
 use Rattle.std.proofs.lemmas.Bool.{false≢true}
 use Rattle.tftp_packet.specs.{Put, Server}
 use Rattle.tftp_packet.specs.Hosts.{In, Out, Datagram, Header}
-use Rattle.tftp_model.specs.{Meaning, NothingAgreed, SomethingAgreed, MachinePacket, Oack, Ack, Error, Sent, Took, History, HasSent, heard, IsOneSided}
-use Rattle.tftp_model.proofs.Members.{contains_first, contains_later}
-use Rattle.tftp_model.proofs.Stops.{stopped, either, heard_all, heard_stopped, first_error}
+use Rattle.law_model.specs.Model.{Meaning, NothingAgreed, SomethingAgreed, MachinePacket, Oack, Ack, Error, Sent, Took, History, HasSent, heard, IsOneSided}
+use Rattle.law_model.proofs.ModelLemmas.Members.{contains_first, contains_later}
+use Rattle.law_model.proofs.ModelLemmas.Stops.{stopped, either, heard_all, heard_stopped, first_error}
 use Rattle.tftp_law.specs.Dress.{StrayAnswer}
 use Rattle.tftp_law.specs.{Label, Main, Stray, Labelled, Division, view_in, TransferIds, Saying, says_of, Carries, HasLabelBy, HaveLabelsBy, IsMain, AreRouted, Starts}
 use Rattle.tftp_law.proofs.Division.Divided.{any_none, any_cases}

@@ -4,9 +4,9 @@ use Rattle.std.proofs.lemmas.Bool.{cases_lt}
 use Rattle.std.proofs.lemmas.Nat.{mod_below, div-add-mod'}
 use Rattle.tftp_packet.specs.{Message}
 use Rattle.tftp_packet.specs.Hosts.{Datagram}
-use Rattle.tftp_model.specs.{block, block_count}
-use Rattle.tftp_rules.specs.{HasPassed, IsLast, BlockBreaks, HasWrongLength, IsNotLengthOf, EndRule, Terms}
-use Rattle.tftp_rules.proofs.Joined.{length_block, whole_block, last_block}
+use Rattle.law_model.specs.Model.{block, block_count}
+use Rattle.law_model.specs.Rules.{HasPassed, IsLast, BlockBreaks, HasWrongLength, IsNotLengthOf, EndRule, Terms}
+use Rattle.law_model.proofs.RulesLemmas.Joined.{length_block, whole_block, last_block}
 
 module _ (wire : List ℕ) (t : Terms) (some : 0 < t.blksize) (numbered : block_count t.blksize wire ≤ 65535) (size : (size : ℕ) → t.size ≡ Some size → length wire ≡ size)
     (passed : List Datagram) (blocks : (k : ℕ) (bytes : List ℕ) → HasPassed (Message.Data k bytes) passed → (1 ≤ k) × (k ≤ block_count t.blksize wire) × (bytes ≡ block t.blksize wire k)) where

@@ -3,11 +3,11 @@ use Rattle.std.proofs.Common.{◌≡◌, ◌⊎◌, ℕ, zero, suc, List, [], �
 use Rattle.tftp_packet.specs.{Message, RequestParts, Spells, Side, Get, Put, End, OptionMap}
 use Rattle.tftp_packet.specs.Hosts.{Dir, In, Out, Datagram, Header}
 use Rattle.tftp_packet.proofs.Unique.{one_message}
-use Rattle.tftp_model.specs.{Meaning, request_of, SomethingAgreed, NothingAgreed, Req, Oack, Data, Ack, Deed, Sent, Took, History, HasSent, HasTaken, message_of, IsStartedOn, MayAckZeroOn, MaySend, Error, LetsStartOn, LetsAckZeroOn, MayCome, IsOneSided, heard}
-use Rattle.tftp_rules.specs.{Route, route_of, is_of_transfer, transfer_of, Passed}
+use Rattle.law_model.specs.Model.{Meaning, request_of, SomethingAgreed, NothingAgreed, Req, Oack, Data, Ack, Deed, Sent, Took, History, HasSent, HasTaken, message_of, IsStartedOn, MayAckZeroOn, MaySend, Error, LetsStartOn, LetsAckZeroOn, MayCome, IsOneSided, heard}
+use Rattle.law_model.specs.Rules.{Route, route_of, is_of_transfer, transfer_of, Passed}
 use Rattle.std.proofs.Common.{false}
-use Rattle.tftp_model.proofs.Stops.{heard_done}
-use Rattle.tftp_model.proofs.Members.{contains_later, contains_cases, contains_none}
+use Rattle.law_model.proofs.ModelLemmas.Stops.{heard_done}
+use Rattle.law_model.proofs.ModelLemmas.Members.{contains_later, contains_cases, contains_none}
 use Rattle.tftp_law.specs.Dress.{StrayAnswer}
 use Rattle.tftp_law.specs.{Label, Main, Stray, Division, datagrams_of, view_in, packet_of, label_route, SaysAs, AreRouted, Answer, Agrees, Begins, IsAnswer, NotAnswered, FirstAnswer}
 use Rattle.tftp_law.proofs.Accord.PassedIsDone.{told_passed, with_main, with_stray}

@@ -2,8 +2,8 @@
 use Rattle.std.proofs.Common.{◌≡◌, ℕ, ◌≤◌, List, [], ◌∷◌, Contains, Some, inl, inr, sym, subst, ◌∙◌}
 use Rattle.tftp_packet.specs.{Message, Spells}
 use Rattle.tftp_packet.specs.Hosts.{Datagram, Header}
-use Rattle.tftp_model.specs.{Meaning, request_of, blksize_of, block_count, Req, Data, Deed, Sent, Took, History, MaySend, MayCome, IsOneSided}
-use Rattle.tftp_rules.specs.{Route, asks, first_of}
+use Rattle.law_model.specs.Model.{Meaning, request_of, blksize_of, block_count, Req, Data, Deed, Sent, Took, History, MaySend, MayCome, IsOneSided}
+use Rattle.law_model.specs.Rules.{Route, asks, first_of}
 use Rattle.tftp_law.specs.{Label, Main, Division, datagrams_of, packet_of, label_route, SaysAs, AreRouted}
 use Rattle.tftp_law.proofs.FirstBroken.FirstRequests.{or_some, asks_route}
 use Rattle.tftp_law.proofs.Accord.Moments.{sent_moment, took_moment}

@@ -1,11 +1,11 @@
 -- A server that had sent anything when an ERROR came had sent its answer, or never sends it.
 use Rattle.std.proofs.Common.{◌≡◌, ◌⊎◌, ℕ, zero, suc, false, List, [], ◌∷◌, Contains, inl, inr, refl, sym, subst, arith}
 use Rattle.tftp_packet.specs.{Side, Get, Put, End, Client, Server}
-use Rattle.tftp_model.specs.{Meaning, NothingAgreed, SomethingAgreed, MachinePacket, Req, Oack, Data, Ack, Error, Deed, Sent, Took, History, HasSent, HasTaken, IsStartedOn, MayAckZeroOn, MaySend, is_error, heard, LetsStartOn, LetsAckZeroOn, IsOneSided}
-use Rattle.tftp_model.specs.Machines.{sender_of, receiver_of}
-use Rattle.tftp_model.proofs.Stops.{either, heard_all, heard_stopped, heard_done, lawful_tail}
-use Rattle.tftp_model.proofs.Members.{contains_later, contains_cases, contains_none}
-use Rattle.tftp_model.proofs.Cut.{sends_before_error}
+use Rattle.law_model.specs.Model.{Meaning, NothingAgreed, SomethingAgreed, MachinePacket, Req, Oack, Data, Ack, Error, Deed, Sent, Took, History, HasSent, HasTaken, IsStartedOn, MayAckZeroOn, MaySend, is_error, heard, LetsStartOn, LetsAckZeroOn, IsOneSided}
+use Rattle.law_model.specs.Model.Machines.{sender_of, receiver_of}
+use Rattle.law_model.proofs.ModelLemmas.Stops.{either, heard_all, heard_stopped, heard_done, lawful_tail}
+use Rattle.law_model.proofs.ModelLemmas.Members.{contains_later, contains_cases, contains_none}
+use Rattle.law_model.proofs.ModelLemmas.Cut.{sends_before_error}
 use Rattle.tftp_law.proofs.Accord.FirstReply.{sent_data, took_data, sent_zero, took_zero}
 
 pub heard_own : (m : Meaning) (wire : List ℕ) (e : End) (h : History) → IsOneSided m wire e h → IsOneSided m wire e (heard h)

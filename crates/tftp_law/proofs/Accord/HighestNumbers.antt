@@ -3,7 +3,7 @@ use Rattle.std.proofs.Common.{◌≡◌, ◌⊎◌, ℕ, zero, suc, ◌+◌, ◌
 use Rattle.std.proofs.lemmas.Bool.{cases_lt, cases_eq}
 use Rattle.tftp_packet.specs.{Message, Request, Data, Ack, Error, Oack, Spells}
 use Rattle.tftp_packet.specs.Hosts.{Dir, In, Out, Datagram, Header}
-use Rattle.tftp_rules.specs.{Route, route_of, is_of_transfer, transfer_of, Passed, HasPassed, BlockPassed, IsGreatest, IsTop, IsAnswered, IsAcked, IsHigh, IsFront}
+use Rattle.law_model.specs.Rules.{Route, route_of, is_of_transfer, transfer_of, Passed, HasPassed, BlockPassed, IsGreatest, IsTop, IsAnswered, IsAcked, IsHigh, IsFront}
 use Rattle.tftp_law.specs.{IsRead, OneEnded}
 use Rattle.tftp_law.proofs.Spelled.{spelled_once}
 

@@ -2,10 +2,10 @@
 use Rattle.std.proofs.Common.{◌≡◌, ℕ, zero, suc, ◌+◌, ◌-◌, ◌<◌, ◌≤◌, List, [], ◌∷◌, Contains, inl, inr, sym, subst, arith}
 use Rattle.std.proofs.lemmas.Bool.{cases_eq}
 use Rattle.tftp_packet.specs.{End, Client, Server}
-use Rattle.tftp_model.specs.{Meaning, windowsize_of, MachinePacket, Req, Oack, Data, Ack, Deed, Sent, Took, History, HasSent, HasTaken, IsAcknowledged, MaySend, MayCome, IsOneSided}
-use Rattle.tftp_model.specs.Roles.{sender_of, receiver_of}
-use Rattle.tftp_model.proofs.Stops.{heard_done}
-use Rattle.tftp_model.proofs.Members.{contains_later, contains_cases, contains_none}
+use Rattle.law_model.specs.Model.{Meaning, windowsize_of, MachinePacket, Req, Oack, Data, Ack, Deed, Sent, Took, History, HasSent, HasTaken, IsAcknowledged, MaySend, MayCome, IsOneSided}
+use Rattle.law_model.specs.Model.Roles.{sender_of, receiver_of}
+use Rattle.law_model.proofs.ModelLemmas.Stops.{heard_done}
+use Rattle.law_model.proofs.ModelLemmas.Members.{contains_later, contains_cases, contains_none}
 
 module _ (m : Meaning) (wire : List ℕ) (e : End) where
   abbrev pub Keeps : History → History → Type 0

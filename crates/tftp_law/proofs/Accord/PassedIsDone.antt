@@ -4,13 +4,13 @@ use Rattle.std.proofs.lemmas.Bool.{false≢true, true≢false}
 use Rattle.tftp_packet.specs.{Message, Spells, side_opcode, Side, Get, Put, opcode_of}
 use Rattle.tftp_packet.specs.Hosts.{Dir, In, Out, Datagram, Header}
 use Rattle.tftp_packet.proofs.Unique.{one_message}
-use Rattle.tftp_model.specs.{Meaning, blksize_of, windowsize_of, block, MachinePacket, Req, Oack, Data, Ack, Deed, Sent, Took, History, HasSent, HasTaken, message_of, MaySendAck, Error, MayComeData, MayComeAck, is_error, takes_error, heard}
-use Rattle.tftp_model.specs.Machines.{sender_of, receiver_of}
-use Rattle.tftp_rules.specs.{route_of, is_of_transfer, transfer_of, goes_out, begins_error, Passed, BlockPassed, IsSender, IsReceiver, AckBreaks, BlockBreaks, usable, brings_error, EndRule, Terms}
+use Rattle.law_model.specs.Model.{Meaning, blksize_of, windowsize_of, block, MachinePacket, Req, Oack, Data, Ack, Deed, Sent, Took, History, HasSent, HasTaken, message_of, MaySendAck, Error, MayComeData, MayComeAck, is_error, takes_error, heard}
+use Rattle.law_model.specs.Model.Machines.{sender_of, receiver_of}
+use Rattle.law_model.specs.Rules.{route_of, is_of_transfer, transfer_of, goes_out, begins_error, Passed, BlockPassed, IsSender, IsReceiver, AckBreaks, BlockBreaks, usable, brings_error, EndRule, Terms}
 use Rattle.std.specs.List.{list_any}
 use Rattle.std.proofs.Common.{◌&&◌, ◌||◌, ◌==◌}
-use Rattle.tftp_model.proofs.Stops.{stopped, either, heard_all, heard_stopped, heard_more, heard_sent}
-use Rattle.tftp_model.proofs.Members.{contains_first, contains_later, contains_cases, contains_none}
+use Rattle.law_model.proofs.ModelLemmas.Stops.{stopped, either, heard_all, heard_stopped, heard_more, heard_sent}
+use Rattle.law_model.proofs.ModelLemmas.Members.{contains_first, contains_later, contains_cases, contains_none}
 use Rattle.tftp_law.specs.Dress.{StrayAnswer}
 use Rattle.tftp_law.specs.{Label, Main, Stray, Division, datagrams_of, view_in, dir_of, packet_of, packet_route, label_route, SaysAs, AreRouted}
 

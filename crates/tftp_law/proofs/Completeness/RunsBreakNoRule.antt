@@ -1,8 +1,8 @@
 -- What a run shows breaks no rule, and where it is whole it means by the rules what the run means.
 use Rattle.std.proofs.Common.{ℕ, List, sym, subst, reverse}
 use Rattle.tftp_packet.specs.Hosts.{Datagram, Header}
-use Rattle.tftp_model.specs.{Meaning, IsOneSided, IsComplete}
-use Rattle.tftp_model.proofs.OneSided.{view_one_sided}
+use Rattle.law_model.specs.Model.{Meaning, IsOneSided, IsComplete}
+use Rattle.law_model.proofs.ModelLemmas.OneSided.{view_one_sided}
 use Rattle.tftp_law.specs.{IsSeen, ShowsBy, view_in, Accords, OneEnded, Meant}
 use Rattle.tftp_law.proofs.Division.Routed.{routed, starts_of}
 use Rattle.tftp_law.proofs.Completeness.RunsPass.{ruled, accords}

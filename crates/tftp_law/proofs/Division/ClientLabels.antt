@@ -3,8 +3,8 @@ use Rattle.std.proofs.Common.{◌≡◌, ◌⊎◌, ℕ, true, List, [], ◌∷�
 use Rattle.std.proofs.lemmas.Bool.{and_parts, eqb-true}
 use Rattle.tftp_packet.specs.{Client}
 use Rattle.tftp_packet.specs.Hosts.{In, Out, Datagram, Header, PeerId, peer_of}
-use Rattle.tftp_model.specs.{Req, Oack, Data, Ack, Deed, Sent, Took, Error}
-use Rattle.tftp_rules.specs.{Route, goes_out, comes_in, begins_request, asks, first_of, route_at_client, route_of}
+use Rattle.law_model.specs.Model.{Req, Oack, Data, Ack, Deed, Sent, Took, Error}
+use Rattle.law_model.specs.Rules.{Route, goes_out, comes_in, begins_request, asks, first_of, route_at_client, route_of}
 use Rattle.tftp_law.specs.Dress.{StrayAnswer}
 use Rattle.tftp_law.specs.{Label, Main, Stray, Division, datagrams_of, view_in, dir_of, packet_of, TransferIds, Saying, Carries, ComesAstray, AnswersStray, HasLabelBy, HaveLabelsBy, packet_route, label_route, SaysAsBy, AreRoutedBy, Stands, Starts}
 use Rattle.tftp_law.proofs.FirstBroken.FirstRequests.{asks_is, first_stays, first_passes}

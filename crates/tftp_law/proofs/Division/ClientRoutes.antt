@@ -3,8 +3,8 @@ use Rattle.std.proofs.Common.{◌≡◌, ◌⊎◌, ℕ, true, false, List, [], 
 use Rattle.std.proofs.lemmas.Bool.{false≢true, and_from, and_parts, eqb-true}
 use Rattle.tftp_packet.specs.{Client}
 use Rattle.tftp_packet.specs.Hosts.{In, Out, Datagram, Header, peer_of, same_peer}
-use Rattle.tftp_model.specs.{MachinePacket, Req, Oack, Data, Ack, Deed, Sent, Took, History, Error}
-use Rattle.tftp_rules.specs.{Route, goes_out, comes_in, begins_request, begins_error, asks, first_of, has_come_from, route_of}
+use Rattle.law_model.specs.Model.{MachinePacket, Req, Oack, Data, Ack, Deed, Sent, Took, History, Error}
+use Rattle.law_model.specs.Rules.{Route, goes_out, comes_in, begins_request, begins_error, asks, first_of, has_come_from, route_of}
 use Rattle.tftp_law.specs.Dress.{StrayAnswer}
 use Rattle.tftp_law.specs.{Label, Main, Stray, Labelled, Division, datagrams_of, view_in, packet_of, TransferIds, Saying, Carries, ComesAstray, AnswersStray, HasLabelBy, HaveLabelsBy, HasServerId, packet_route, label_route, SaysAsBy, AreRoutedBy, Starts}
 use Rattle.tftp_law.proofs.Division.RouteTests.{same_true, out_true, in_false, in_true, out_false, error_begins, two_ways, now, same_is, other_peer, IsTold}

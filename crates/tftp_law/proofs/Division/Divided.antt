@@ -1,6 +1,6 @@
 -- What a division says of its datagrams, one at a time.
 use Rattle.std.proofs.Common.{◌≡◌, zero, suc, ◌⊎◌, List, [], ◌∷◌, Any, inl, inr, refl, sym, subst, arith}
-use Rattle.tftp_model.specs.{Deed}
+use Rattle.law_model.specs.Model.{Deed}
 use Rattle.tftp_law.specs.{Main, Labelled, Division, datagrams_of, view_in}
 use Rattle.tftp_packet.specs.Hosts.{Datagram}
 

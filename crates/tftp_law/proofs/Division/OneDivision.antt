@@ -2,13 +2,13 @@
 use Rattle.std.proofs.Common.{◌≡◌, ℕ, ◌≤◌, Bool, true, false, List, [], ◌∷◌, Some, inl, inr, refl, sym, subst, ap, ◌∙◌, arith, ◌||◌, ◌==◌}
 use Rattle.tftp_packet.specs.{Message, RequestParts, Spells, opcode_of, End, Client, Server}
 use Rattle.tftp_packet.specs.Hosts.{Dir, In, Out, Datagram, Header}
-use Rattle.tftp_model.specs.{Meaning, MachinePacket, Req, Oack, Data, Ack, Deed, Sent, Took, message_of, Error, IsOneSided}
-use Rattle.tftp_rules.specs.{Route, asks, first_of, route_of, is_of_transfer, PortRule}
+use Rattle.law_model.specs.Model.{Meaning, MachinePacket, Req, Oack, Data, Ack, Deed, Sent, Took, message_of, Error, IsOneSided}
+use Rattle.law_model.specs.Rules.{Route, asks, first_of, route_of, is_of_transfer, PortRule}
 use Rattle.tftp_packet.proofs.NoFault.{no_fault}
 use Rattle.tftp_law.specs.Dress.{StrayAnswer}
 use Rattle.tftp_law.specs.{Label, Main, Stray, Division, datagrams_of, view_in, dir_of, packet_of, TransferIds, says_of, HasLabelBy, HaveLabelsBy, HaveLabels, packet_route, label_route, SaysAsBy, AreRoutedBy, request_at, request_back, Starts, packet_in, says_some, FindsPlace, FindPlaces, Divides, Broken, number_of, IsRead, Rule}
 use Rattle.tftp_law.proofs.Spelled.{spelled_once}
-use Rattle.tftp_rules.proofs.EndRules.{from_18}
+use Rattle.law_model.proofs.RulesLemmas.EndRules.{from_18}
 use Rattle.tftp_law.proofs.FirstBroken.OneMessage.{agreement_from}
 use Rattle.tftp_law.proofs.FirstBroken.FirstRequests.{begins_asked, or_some, asks_route}
 use Rattle.tftp_law.proofs.Division.RouteTests.{two_ways, IsTold, request_begins}

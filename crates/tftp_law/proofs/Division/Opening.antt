@@ -2,8 +2,8 @@
 -- a request of the server.
 use Rattle.std.proofs.Common.{◌≡◌, ℕ, zero, suc, List, [], ◌∷◌, inl, inr, refl, subst, arith}
 use Rattle.tftp_packet.specs.{Side, Get, Put, End, Client, Server}
-use Rattle.tftp_model.specs.{Meaning, MachinePacket, Req, Oack, Data, Ack, Deed, Sent, Took, History, HasSent, HasTaken, IsStartedOn, MayAckZeroOn, Error, LetsStartOn, LetsAckZeroOn, IsOneSided}
-use Rattle.tftp_model.proofs.Members.{contains_none}
+use Rattle.law_model.specs.Model.{Meaning, MachinePacket, Req, Oack, Data, Ack, Deed, Sent, Took, History, HasSent, HasTaken, IsStartedOn, MayAckZeroOn, Error, LetsStartOn, LetsAckZeroOn, IsOneSided}
+use Rattle.law_model.proofs.ModelLemmas.Members.{contains_none}
 use Rattle.tftp_law.specs.{request_at, request_back, Starts}
 
 -- ---- the first deed of a client

@@ -2,8 +2,8 @@
 use Rattle.std.proofs.Common.{◌≡◌, ℕ, Bool, List, [], Option, Some, None, option_map, refl, sym, subst, ◌&&◌}
 use Rattle.tftp_packet.specs.{End, Client, Server}
 use Rattle.tftp_packet.specs.Hosts.{Datagram, Header, PeerId, peer_of, same_peer}
-use Rattle.tftp_model.specs.{Meaning}
-use Rattle.tftp_rules.specs.{goes_out, comes_in, asks, first_of}
+use Rattle.law_model.specs.Model.{Meaning}
+use Rattle.law_model.specs.Rules.{goes_out, comes_in, asks, first_of}
 use Rattle.tftp_law.specs.{Division, datagrams_of, view_in, TransferIds, Saying, HaveLabelsBy, HaveLabels, says_of, AreRoutedBy, AreRouted, Starts}
 use Rattle.tftp_law.proofs.Division.Routed.{named_is}
 use Rattle.tftp_law.proofs.Division.ClientLabels.{ClientIds, parted_at_client}

@@ -6,8 +6,8 @@ use Rattle.tftp_law.specs.Dress.{StrayAnswer}
 use Rattle.tftp_law.specs.{Label, Main, Stray, Labelled, Division, view_in, TransferIds, Saying, ComesAstray, HasLabelBy, HaveLabelsBy, IsMain, datagrams_of, Carries, Starts, request_at, from_server}
 use Rattle.tftp_law.proofs.Division.Divided.{any_none, any_cases, any_first, any_later}
 use Rattle.std.proofs.lemmas.Bool.{and_from, or_left, or_right}
-use Rattle.tftp_model.specs.{Deed, History}
-use Rattle.tftp_rules.specs.{asks, first_of, has_come_from}
+use Rattle.law_model.specs.Model.{Deed, History}
+use Rattle.law_model.specs.Rules.{asks, first_of, has_come_from}
 use Rattle.tftp_law.proofs.Division.RouteTests.{in_true, now, same_is}
 use Rattle.tftp_law.proofs.FirstBroken.FirstRequests.{first_stays}
 

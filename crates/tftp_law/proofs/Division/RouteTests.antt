@@ -4,8 +4,8 @@ use Rattle.std.proofs.lemmas.Bool.{false≢true, eqb-true, eq-eqb, false_from_ne
 use Rattle.std.proofs.lemmas.Slice.Eq.{bytes_eq-Decides}
 use Rattle.tftp_packet.specs.{Message, RequestParts, Spells, side_opcode, opcode_of, Side, Get, Put}
 use Rattle.tftp_packet.specs.Hosts.{In, Out, Datagram, PeerId, same_peer}
-use Rattle.tftp_model.specs.{Meaning, MachinePacket, Req, Oack, Data, Ack, message_of, Error}
-use Rattle.tftp_rules.specs.{goes_out, comes_in, begins_request, begins_error, first_of, or_this}
+use Rattle.law_model.specs.Model.{Meaning, MachinePacket, Req, Oack, Data, Ack, message_of, Error}
+use Rattle.law_model.specs.Rules.{goes_out, comes_in, begins_request, begins_error, first_of, or_this}
 use Rattle.tftp_law.specs.{Saying}
 use Rattle.tftp_law.proofs.FirstBroken.FirstRequests.{first_stays}
 

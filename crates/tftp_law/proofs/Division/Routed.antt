@@ -2,7 +2,7 @@
 use Rattle.std.proofs.Common.{◌≡◌, ℕ, List, refl, sym, subst, ap}
 use Rattle.tftp_packet.specs.{End, Client, Server}
 use Rattle.tftp_packet.specs.Hosts.{Header}
-use Rattle.tftp_model.specs.{Meaning, IsOneSided}
+use Rattle.law_model.specs.Model.{Meaning, IsOneSided}
 use Rattle.tftp_law.specs.{Division, view_in, TransferIds, Saying, says_of, HaveLabelsBy, HaveLabels, AreRoutedBy, AreRouted, Starts}
 use Rattle.tftp_law.proofs.Division.Opening.{one_sided_starts}
 use Rattle.tftp_law.proofs.Division.RouteTests.{request_begins, other_begins, IsTold}

@@ -3,7 +3,7 @@ use Rattle.std.proofs.Common.{◌≡◌, ◌⊎◌, ℕ, Bool, true, false, List
 use Rattle.std.proofs.lemmas.Bool.{false≢true, true≢false, and_parts, eqb-true}
 use Rattle.tftp_packet.specs.{End, Client, Server, opcode_of}
 use Rattle.tftp_packet.specs.Hosts.{Dir, In, Out, Datagram, Header, PeerId, peer_of, same_peer}
-use Rattle.tftp_rules.specs.{Route, goes_out, comes_in, begins_request, begins_error, is_from_client, port_of_server, asks, first_of, or_this, has_come_from, route_out, route_at_client, route_to_service, route_at_server, route_after, route_of}
+use Rattle.law_model.specs.Rules.{Route, goes_out, comes_in, begins_request, begins_error, is_from_client, port_of_server, asks, first_of, or_this, has_come_from, route_out, route_at_client, route_to_service, route_at_server, route_after, route_of}
 use Rattle.tftp_law.specs.{Labelled, Division, datagrams_of, dir_of, BeginsAsRequest, request_at}
 use Rattle.tftp_law.proofs.FirstBroken.FirstRequests.{asks_is, or_some, before_is}
 use Rattle.tftp_law.proofs.Division.RouteTests.{out_true, in_false, out_false, two_ways, is_same, apart_is}

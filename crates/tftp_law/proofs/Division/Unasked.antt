@@ -3,7 +3,7 @@ use Rattle.std.proofs.Common.{◌≡◌, true, false, [], ◌∷◌, None, Any, 
 use Rattle.std.proofs.lemmas.Bool.{false≢true, and_parts, or_cases}
 use Rattle.tftp_packet.specs.{End, Client, Server}
 use Rattle.tftp_packet.specs.Hosts.{In, Datagram, Header, PeerId, peer_of, same_peer}
-use Rattle.tftp_rules.specs.{Route, comes_in, asks, first_of, has_come_from, route_of}
+use Rattle.law_model.specs.Rules.{Route, comes_in, asks, first_of, has_come_from, route_of}
 use Rattle.tftp_law.specs.Dress.{StrayAnswer}
 use Rattle.tftp_law.specs.{Label, Main, Stray, Division, datagrams_of, view_in, packet_of, TransferIds, Saying, HasLabelBy, HaveLabelsBy, packet_route, label_route, AreRoutedBy, request_at, Starts}
 use Rattle.tftp_law.proofs.FirstBroken.FirstRequests.{or_none, asks_is}

@@ -5,7 +5,7 @@ use Rattle.std.proofs.lemmas.Slice.Eq.{bytes_eq-Decides}
 use Rattle.std.specs.Str.{bytes_eq}
 use Rattle.std.specs.FinMap as map
 use Rattle.tftp_packet.specs.{OptionMap, OptionValue, Num, Text, RequestParts, Side}
-use Rattle.tftp_model.specs.{option_or}
+use Rattle.law_model.specs.Model.{option_or}
 use Rattle.tftp_nego.specs.{MayAnswer, MayAgree, IsOutsideProfile, IsWrongNumber, Holds, NegoFault, Broken, OptionNotRequested, OptionOutsideProfile, OptionValue as BadValue, BeyondBlock65535}
 
 -- one of the four options that may be agreed

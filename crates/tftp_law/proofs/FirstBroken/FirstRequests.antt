@@ -3,7 +3,7 @@ use Rattle.std.proofs.Common.{◌≡◌, ◌⊎◌, ℕ, ◌<◌, Bool, true, fa
 use Rattle.std.proofs.lemmas.Bool.{and_parts, or_cases, eqb-true, false≢true}
 use Rattle.tftp_packet.specs.{Message, RequestParts, Spells, opcode_of}
 use Rattle.tftp_packet.specs.Hosts.{Datagram, Header}
-use Rattle.tftp_rules.specs.{Route, asks, first_of, or_this, begins_request, is_from_client, port_of_server, route_before, route_of, is_of_transfer, transfer_of}
+use Rattle.law_model.specs.Rules.{Route, asks, first_of, or_this, begins_request, is_from_client, port_of_server, route_before, route_of, is_of_transfer, transfer_of}
 use Rattle.tftp_law.specs.{FirstAsked, Rule, IsRead, OneEnded}
 use Rattle.tftp_law.proofs.Spelled.{spelled_once}
 

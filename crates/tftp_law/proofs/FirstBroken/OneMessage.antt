@@ -4,8 +4,8 @@ use Rattle.std.proofs.lemmas.Bool.{false≢true}
 use Rattle.tftp_packet.specs.{OptionMap, Message, RequestParts, Spells}
 use Rattle.tftp_packet.proofs.NoFault.{no_fault}
 use Rattle.tftp_packet.specs.Hosts.{Dir, Datagram, Header}
-use Rattle.tftp_rules.specs.{Route, asks, first_of, route_of, is_of_transfer, transfer_of, PortRule, PortBroken, EndBroken, Terms, EndRule}
-use Rattle.tftp_rules.proofs.EndRules.{from_18}
+use Rattle.law_model.specs.Rules.{Route, asks, first_of, route_of, is_of_transfer, transfer_of, PortRule, PortBroken, EndBroken, Terms, EndRule}
+use Rattle.law_model.proofs.RulesLemmas.EndRules.{from_18}
 use Rattle.tftp_nego.specs.{AgreementRule}
 use Rattle.tftp_law.specs.{number_of, FirstBroken, FirstAsked, Broken, MessageBroken, AreTermsAfter, RequestBreaks, OackBreaks, TermsBreak, KindBreaks, MessageBreaks, Rule}
 use Rattle.tftp_law.proofs.Spelled.{spelled_once}

@@ -2,9 +2,9 @@
 use Rattle.std.proofs.Common.{◌≡◌, ◌⊎◌, ℕ, Bool, true, false, List, [], ◌∷◌, Some, inl, inr, sym, ◌∙◌, if◌then◌else◌}
 use Rattle.tftp_packet.specs.{Message}
 use Rattle.tftp_packet.specs.Hosts.{Datagram, Header}
-use Rattle.tftp_model.specs.{Meaning, Req, Deed, Sent, Took, History, HasSent, HasTaken}
-use Rattle.tftp_rules.specs.{Route, asks, first_of, route_of, is_of_transfer, transfer_of, HasPassed}
-use Rattle.tftp_model.proofs.Members.{contains_first, contains_later}
+use Rattle.law_model.specs.Model.{Meaning, Req, Deed, Sent, Took, History, HasSent, HasTaken}
+use Rattle.law_model.specs.Rules.{Route, asks, first_of, route_of, is_of_transfer, transfer_of, HasPassed}
+use Rattle.law_model.proofs.ModelLemmas.Members.{contains_first, contains_later}
 use Rattle.tftp_law.specs.Dress.{StrayAnswer}
 use Rattle.tftp_law.specs.{Label, Main, Stray, Division, datagrams_of, view_in, Accords, label_route, AreRouted, Answer, Agrees, Begins, FirstAnswer}
 use Rattle.tftp_law.proofs.FirstBroken.FirstRequests.{or_some, asks_route, first_stays}

@@ -6,9 +6,9 @@ use Rattle.std.proofs.lemmas.List.{length-append, length-replicate}
 use Rattle.std.proofs.lemmas.Bool.{cases_lt, cases_eq}
 use Rattle.tftp_packet.specs.{Message, Side}
 use Rattle.tftp_packet.specs.Hosts.{Dir, Datagram}
-use Rattle.tftp_model.specs.{block, block_count}
-use Rattle.tftp_rules.specs.{Passed, HasPassed, IsLast, LastIsUnknown, Terms}
-use Rattle.tftp_rules.proofs.Joined.{block_added, block_kept, size_more}
+use Rattle.law_model.specs.Model.{block, block_count}
+use Rattle.law_model.specs.Rules.{Passed, HasPassed, IsLast, LastIsUnknown, Terms}
+use Rattle.law_model.proofs.RulesLemmas.Joined.{block_added, block_kept, size_more}
 use Rattle.tftp_law.proofs.Accord.HighestNumbers.{AllSpelled, has_block, high_of}
 use Rattle.tftp_law.proofs.Soundness.Settled.{Settled, known_last, last_one}
 

@@ -3,9 +3,9 @@ use Rattle.std.proofs.Common.{◌≡◌, ℕ, ◌≤◌, List, inl, inr, refl, s
 use Rattle.std.proofs.lemmas.Bool.{cases_lt}
 use Rattle.tftp_packet.specs.{Message, Spells, Side, Get, Put}
 use Rattle.tftp_packet.specs.Hosts.{In, Out, Datagram, Header}
-use Rattle.tftp_model.specs.{Meaning, request_of, SomethingAgreed, NothingAgreed, Ack, History, MayAckZeroOn, MaySendAck, heard, LetsAckZeroOn, MayComeAck}
-use Rattle.tftp_model.specs.Roles.{sender_of, receiver_of}
-use Rattle.tftp_rules.specs.{transfer_of, usable, AckZeroWaits, EndRule, NoReply, Plain, Oacked, Terms}
+use Rattle.law_model.specs.Model.{Meaning, request_of, SomethingAgreed, NothingAgreed, Ack, History, MayAckZeroOn, MaySendAck, heard, LetsAckZeroOn, MayComeAck}
+use Rattle.law_model.specs.Model.Roles.{sender_of, receiver_of}
+use Rattle.law_model.specs.Rules.{transfer_of, usable, AckZeroWaits, EndRule, NoReply, Plain, Oacked, Terms}
 use Rattle.tftp_law.specs.{Division, datagrams_of, view_in, Agrees, Begins, IsAnswer, FirstAnswer, plain_terms, terms_after, AreTermsAfter}
 use Rattle.tftp_law.proofs.Accord.HighestNumbers.{top_of, front_of}
 use Rattle.tftp_law.proofs.Accord.PassedIsDone.{block_sent, block_came, usable_passed}

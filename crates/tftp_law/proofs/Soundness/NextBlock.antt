@@ -3,9 +3,9 @@ use Rattle.std.proofs.Common.{◌≡◌, ◌⊎◌, ℕ, ◌+◌, ◌-◌, ◌�
 use Rattle.std.proofs.lemmas.Bool.{cases_lt, cases_eq}
 use Rattle.tftp_packet.specs.{Message, Spells, Side, Get, Put}
 use Rattle.tftp_packet.specs.Hosts.{Dir, In, Out, Datagram, Header}
-use Rattle.tftp_model.specs.{Meaning, request_of, SomethingAgreed, NothingAgreed, blksize_of, windowsize_of, block, block_count, Data, Ack, History, HasSent, HasTaken, IsStartedOn, MaySendData, heard, LetsStartOn, MayComeData}
-use Rattle.tftp_model.specs.Roles.{sender_of, receiver_of}
-use Rattle.tftp_rules.specs.{transfer_of, Passed, HasPassed, usable, BlocksWait, EndRule, NoReply, Oacked, Terms}
+use Rattle.law_model.specs.Model.{Meaning, request_of, SomethingAgreed, NothingAgreed, blksize_of, windowsize_of, block, block_count, Data, Ack, History, HasSent, HasTaken, IsStartedOn, MaySendData, heard, LetsStartOn, MayComeData}
+use Rattle.law_model.specs.Model.Roles.{sender_of, receiver_of}
+use Rattle.law_model.specs.Rules.{transfer_of, Passed, HasPassed, usable, BlocksWait, EndRule, NoReply, Oacked, Terms}
 use Rattle.tftp_law.specs.{Division, datagrams_of, view_in, Agrees, Begins, IsAnswer, FirstAnswer, plain_terms, terms_after, AreTermsAfter}
 use Rattle.tftp_law.proofs.Accord.HighestNumbers.{top_of, answered_of, acked_of}
 use Rattle.tftp_law.proofs.Accord.PassedIsDone.{block_sent, ack_went, ack_came_in, sent_block, usable_passed, used_ack}

@@ -3,8 +3,8 @@ use Rattle.std.proofs.Common.{◌≡◌, ◌⊎◌, ℕ, true, List, [], ◌∷�
 use Rattle.std.specs.List.{list_any}
 use Rattle.tftp_packet.specs.{Message, Spells, Client, Server}
 use Rattle.tftp_packet.specs.Hosts.{Dir, In, Out, Datagram, Header}
-use Rattle.tftp_model.specs.{Meaning, request_of, SomethingAgreed, NothingAgreed, message_of, MachinePacket, Req, Oack, Data, Ack, Error, Sent, Took, History, HasSent, HasTaken, NoErrorSent, is_error, heard, IsOneSided}
-use Rattle.tftp_rules.specs.{author_of, goes_out, route_of, is_of_transfer, transfer_of, Passed, HasPassed, usable, EndBroken, brings_error, EndRule, NoReply, Terms}
+use Rattle.law_model.specs.Model.{Meaning, request_of, SomethingAgreed, NothingAgreed, message_of, MachinePacket, Req, Oack, Data, Ack, Error, Sent, Took, History, HasSent, HasTaken, NoErrorSent, is_error, heard, IsOneSided}
+use Rattle.law_model.specs.Rules.{author_of, goes_out, route_of, is_of_transfer, transfer_of, Passed, HasPassed, usable, EndBroken, brings_error, EndRule, NoReply, Terms}
 use Rattle.tftp_law.specs.{Division, datagrams_of, view_in, Accords, AreRouted, Starts, FirstAsked, Agrees, Begins, IsAnswer, NotAnswered, FirstAnswer, plain_terms, terms_after, IsWrongKind, GoesOn, MessageBreaks, Rule, Passes, OneEnded, AreTermsAfter}
 use Rattle.tftp_law.proofs.Accord.HighestNumbers.{AllSpelled, transfer_spelled}
 use Rattle.tftp_law.proofs.FirstBroken.FirstAnswered.{main_some}
@@ -13,7 +13,7 @@ use Rattle.tftp_law.proofs.Accord.PassedIsDone.{Told as Heard, passed_told, used
 use Rattle.tftp_law.proofs.Accord.AfterError.{none_sent_before}
 use Rattle.tftp_law.proofs.Accord.HeardAnswer.{heard_own}
 use Rattle.tftp_law.proofs.Accord.AnsweredBefore.{oack_used}
-use Rattle.tftp_model.proofs.Stops.{asked_heard}
+use Rattle.law_model.proofs.ModelLemmas.Stops.{asked_heard}
 use Rattle.tftp_law.proofs.Completeness.NextDeed.{reply_now}
 use Rattle.tftp_law.proofs.Accord.Moments.{who_sent_oack, who_took_oack, who_sent_request, who_took_request}
 use Rattle.tftp_law.proofs.Accord.WhoSends.{two_ends}

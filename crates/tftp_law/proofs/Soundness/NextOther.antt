@@ -3,8 +3,8 @@ use Rattle.std.proofs.Common.{◌≡◌, ℕ, List, inl, inr, refl, sym, subst, 
 use Rattle.std.proofs.lemmas.Bool.{cases_eq}
 use Rattle.tftp_packet.specs.{OptionMap, Message, RequestParts, Spells, Side, Get, Put, Server}
 use Rattle.tftp_packet.specs.Hosts.{Dir, In, Out, Datagram, Header}
-use Rattle.tftp_model.specs.{Meaning, request_of, SomethingAgreed, Req, Oack, Ack, Error, Sent, Took, History, MaySendReq, MaySendOack, MaySendError, MayComeOack, MayComeError}
-use Rattle.tftp_rules.specs.{transfer_of, Passed, usable}
+use Rattle.law_model.specs.Model.{Meaning, request_of, SomethingAgreed, Req, Oack, Ack, Error, Sent, Took, History, MaySendReq, MaySendOack, MaySendError, MayComeOack, MayComeError}
+use Rattle.law_model.specs.Rules.{transfer_of, Passed, usable}
 use Rattle.tftp_nego.specs.{AgreementRule}
 use Rattle.tftp_law.proofs.Soundness.SameOrNot.{same_request, same_options, same_text}
 use Rattle.tftp_law.specs.{Division, datagrams_of, view_in, Agrees, IsAnswer, FirstAnswer, Rule}

@@ -4,9 +4,9 @@ use Rattle.std.proofs.Common.{◌≡◌, ◌⊎◌, ℕ, Bool, true, false, List
 use Rattle.std.proofs.lemmas.Bool.{false≢true, and_parts}
 use Rattle.tftp_packet.specs.{Message, RequestParts, Spells, End, Client, Server}
 use Rattle.tftp_packet.specs.Hosts.{Dir, In, Out, Datagram, Header, PeerId, peer_of, same_peer}
-use Rattle.tftp_model.specs.{Meaning, request_of, Req, Oack, Data, Ack, Error, Deed, Sent, Took, HasSent, HasTaken, IsOneSided}
-use Rattle.tftp_rules.specs.{Route, goes_out, comes_in, begins_request, begins_error, is_from_client, asks, first_of, or_this, has_come_from, route_out, route_at_client, route_to_service, route_at_server, route_after, route_of, is_of_transfer}
-use Rattle.tftp_model.proofs.Members.{contains_none}
+use Rattle.law_model.specs.Model.{Meaning, request_of, Req, Oack, Data, Ack, Error, Deed, Sent, Took, HasSent, HasTaken, IsOneSided}
+use Rattle.law_model.specs.Rules.{Route, goes_out, comes_in, begins_request, begins_error, is_from_client, asks, first_of, or_this, has_come_from, route_out, route_at_client, route_to_service, route_at_server, route_after, route_of, is_of_transfer}
+use Rattle.law_model.proofs.ModelLemmas.Members.{contains_none}
 use Rattle.tftp_law.proofs.Division.Opening.{none_back}
 use Rattle.tftp_law.proofs.Division.Unasked.{none_view}
 use Rattle.tftp_law.specs.Dress.{StrayAnswer}

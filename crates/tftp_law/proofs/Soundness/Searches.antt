@@ -3,7 +3,7 @@ use Rattle.std.proofs.Common.{◌≡◌, ◌⊎◌, ℕ, List, [], ◌∷◌, in
 use Rattle.std.proofs.lemmas.Bool.{cases_eq}
 use Rattle.tftp_packet.specs.{OptionMap, Message, Spells, Side, Put}
 use Rattle.tftp_packet.specs.Hosts.{Dir, In, Out, Datagram}
-use Rattle.tftp_rules.specs.{Passed, HasPassed}
+use Rattle.law_model.specs.Rules.{Passed, HasPassed}
 use Rattle.tftp_law.specs.{Agrees, Begins, IsAnswer, FirstAnswer}
 use Rattle.tftp_law.proofs.Accord.HighestNumbers.{AllSpelled, scan}
 use Rattle.tftp_law.proofs.Soundness.MadeMeaning.{oack_spelled}

@@ -2,8 +2,8 @@
 use Rattle.std.proofs.Common.{◌≡◌, ℕ, ◌+◌, ◌<◌, ◌⊎◌, List, [], ◌∷◌, ◌++◌, take, drop, reverse, inl, inr, refl, sym, subst, ap, ◌∙◌, arith, append_assoc, append-nil, take-append-drop, take-take}
 use Rattle.std.proofs.lemmas.Bool.{cases_lt}
 use Rattle.std.proofs.lemmas.List.{reverse-append}
-use Rattle.tftp_model.specs.{Meaning, Deed, History, IsView, two_bytes}
-use Rattle.tftp_model.proofs.Moments.{earlier_view}
+use Rattle.law_model.specs.Model.{Meaning, Deed, History, IsView, two_bytes}
+use Rattle.law_model.proofs.ModelLemmas.Moments.{earlier_view}
 use Rattle.tftp_law.specs.{Label, Main, Stray, Labelled, Division, datagrams_of, view_in, HaveLabels, IsLawful, Shows, IsLawfulUpTo}
 use Rattle.tftp_law.specs.Dress.{StrayAnswer}
 use Rattle.tftp_law.proofs.Division.Divided.{divided_more}

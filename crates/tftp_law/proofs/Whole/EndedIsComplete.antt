@@ -2,9 +2,9 @@
 use Rattle.std.proofs.Common.{◌≡◌, ℕ, ◌≤◌, List, Some, None, inl, inr, sym, subst, ap, ◌∙◌}
 use Rattle.tftp_packet.specs.{RequestParts}
 use Rattle.tftp_packet.specs.Hosts.{Datagram, Header}
-use Rattle.tftp_model.specs.{Meaning, request_of, NothingAgreed, blksize_of, block_count, Ack, HasSent, HasTaken, IsOneSided, IsComplete}
-use Rattle.tftp_model.specs.Roles.{sender_of, receiver_of}
-use Rattle.tftp_rules.specs.{transfer_of, IsLast, IsSender, IsReceiver, Terms}
+use Rattle.law_model.specs.Model.{Meaning, request_of, NothingAgreed, blksize_of, block_count, Ack, HasSent, HasTaken, IsOneSided, IsComplete}
+use Rattle.law_model.specs.Model.Roles.{sender_of, receiver_of}
+use Rattle.law_model.specs.Rules.{transfer_of, IsLast, IsSender, IsReceiver, Terms}
 use Rattle.tftp_law.specs.{Division, datagrams_of, view_in, Accords, AreRouted, NotAnswered, IsEnded, AreTermsAfter}
 use Rattle.tftp_law.proofs.FirstBroken.FirstAnswered.{not_both}
 use Rattle.tftp_law.proofs.Soundness.Settled.{settled}

@@ -4,8 +4,8 @@ use Rattle.std.specs.FinMap as map
 use Rattle.std.specs.Ordering.{nat_cmp}
 use Rattle.std.specs.Cmp.Lexicographic.{slice_cmp}
 use Rattle.tftp_packet.specs.{RequestParts, OptionValue, no_options}
-use Rattle.tftp_model.specs.{request_of, two_bytes}
-use Rattle.tftp_model.proofs.Worked.{one_block}
+use Rattle.law_model.specs.Model.{request_of, two_bytes}
+use Rattle.law_model.proofs.ModelLemmas.Worked.{one_block}
 use Rattle.tftp_nego.specs.{MayAgree}
 use Rattle.tftp_law.specs.{Fits}
 

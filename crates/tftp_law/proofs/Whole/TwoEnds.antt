@@ -1,8 +1,8 @@
 -- The rules at one end are the runs of two.
 use Rattle.std.proofs.Common.{◌≡◌, ℕ, List, sym, subst, refl, reverse, ◌↔◌}
 use Rattle.tftp_packet.specs.Hosts.{Datagram, Header}
-use Rattle.tftp_model.specs.{Meaning, IsOneSided}
-use Rattle.tftp_model.proofs.MadeRuns.{one_sided_view}
+use Rattle.law_model.specs.Model.{Meaning, IsOneSided}
+use Rattle.law_model.proofs.ModelLemmas.MadeRuns.{one_sided_view}
 use Rattle.tftp_law.specs.{IsSeen, IsLawful, ShowsBy, Shows, Division, datagrams_of, view_in, Starts, Accords, AreRouted, OneEnded, IsEnded, Meant, Divides}
 use Rattle.tftp_law.proofs.Whole.OneMeaning.{one_meaning}
 use Rattle.tftp_law.proofs.Soundness.MadeMeaning.{some_accord}

@@ -2,14 +2,14 @@
 use Rattle.std.proofs.Common.{◌≡◌, ◌⊎◌, ℕ, ◌+◌, ◌<◌, ◌≤◌, List, [], ◌∷◌, length, Option, Some, None, inl, inr, refl, sym, subst, ap, ◌∙◌, arith}
 use Rattle.tftp_packet.specs.{Message, Side, Get, Put, End, Client, Server}
 use Rattle.tftp_packet.specs.Hosts.{Datagram, Header}
-use Rattle.tftp_model.specs.{Meaning, request_of, NothingAgreed, blksize_of, block, block_count, Req, Oack, Data, Ack, Deed, History, Sent, Took, HasSent, HasTaken, heard, LetsStartOn, MayCome, IsOneSided, IsComplete}
-use Rattle.tftp_model.specs.Roles.{sender_of, receiver_of}
-use Rattle.tftp_rules.specs.{asks, first_of, transfer_of, HasPassed, IsSender, IsReceiver, NoReply, Terms}
-use Rattle.tftp_model.proofs.Members.{contains_cases, contains_none}
-use Rattle.tftp_model.proofs.Stops.{heard_more}
+use Rattle.law_model.specs.Model.{Meaning, request_of, NothingAgreed, blksize_of, block, block_count, Req, Oack, Data, Ack, Deed, History, Sent, Took, HasSent, HasTaken, heard, LetsStartOn, MayCome, IsOneSided, IsComplete}
+use Rattle.law_model.specs.Model.Roles.{sender_of, receiver_of}
+use Rattle.law_model.specs.Rules.{asks, first_of, transfer_of, HasPassed, IsSender, IsReceiver, NoReply, Terms}
+use Rattle.law_model.proofs.ModelLemmas.Members.{contains_cases, contains_none}
+use Rattle.law_model.proofs.ModelLemmas.Stops.{heard_more}
 use Rattle.tftp_law.specs.{Fits, says_of, Division, datagrams_of, view_in, Starts, AreRouted, FirstAsked, Agrees, Begins, NotAnswered, plain_terms, terms_after, IsAgreed, IsJoined, Meant, AreTermsAfter}
 use Rattle.tftp_law.proofs.FirstBroken.FirstAnswered.{first_one, not_both}
-use Rattle.tftp_rules.proofs.Joined.{last_block}
+use Rattle.law_model.proofs.RulesLemmas.Joined.{last_block}
 use Rattle.tftp_law.proofs.Accord.PassedIsDone.{told_passed}
 use Rattle.tftp_law.proofs.Accord.FirstReply.{sent_data}
 use Rattle.tftp_law.proofs.Accord.FirstSpelled.{request_spelled}

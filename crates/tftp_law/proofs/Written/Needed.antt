@@ -3,9 +3,9 @@
 use Rattle.std.proofs.Common.{◌≡◌, ℕ, ◌+◌, ◌<◌, ◌≤◌, ◌⊎◌, List, [], ◌∷◌, inl, inr, refl, subst, arith}
 use Rattle.std.proofs.lemmas.Bool.{cases_lt}
 use Rattle.tftp_packet.specs.{Get, Put, End}
-use Rattle.tftp_model.specs.{Meaning, NothingAgreed, windowsize_of, MachinePacket, Req, Oack, Data, Ack, Deed, Sent, Took, History, HasSent, HasTaken, IsStartedOn, MayAckZeroOn, heard, LetsStartOn, LetsAckZeroOn, MayComeData, MayCome, IsOneSided}
-use Rattle.tftp_model.proofs.Stops.{heard_done}
-use Rattle.tftp_model.proofs.Members.{contains_later, contains_cases, contains_none}
+use Rattle.law_model.specs.Model.{Meaning, NothingAgreed, windowsize_of, MachinePacket, Req, Oack, Data, Ack, Deed, Sent, Took, History, HasSent, HasTaken, IsStartedOn, MayAckZeroOn, heard, LetsStartOn, LetsAckZeroOn, MayComeData, MayCome, IsOneSided}
+use Rattle.law_model.proofs.ModelLemmas.Stops.{heard_done}
+use Rattle.law_model.proofs.ModelLemmas.Members.{contains_later, contains_cases, contains_none}
 use Rattle.tftp_law.proofs.Accord.Moments.{sent_moment, took_moment, sent_in_window}
 
 -- it went this way or the other

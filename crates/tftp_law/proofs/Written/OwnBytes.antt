@@ -2,7 +2,7 @@
 use Rattle.std.proofs.Common.{◌≡◌, ℕ, zero, suc, ◌+◌, ◌-◌, ◌*◌, ◌/◌, ◌<◌, ◌≤◌, List, length, take, drop, sym, subst, ap, ◌∙◌, arith, div-add-mod', mod-lt, suc-mul, zero-mul, drop-drop, take-append-drop}
 use Rattle.tftp_packet.specs.{Mode, Octet, Netascii}
 use Rattle.tftp_netascii.specs.{Reads, end, line_end, bare_return, itself}
-use Rattle.tftp_model.specs.{block, block_count}
+use Rattle.law_model.specs.Model.{block, block_count}
 use Rattle.tftp_law.proofs.Written.EachOf.{Bytes, all_both, drop_all}
 use Rattle.tftp_law.specs.{ReadsAs}
 

@@ -2,9 +2,9 @@
 use Rattle.std.proofs.Common.{◌≡◌, ℕ, ◌≤◌, ◌⊎◌, List, inl, inr, refl, arith}
 use Rattle.tftp_packet.specs.{Side, Get, Put, End, Client, Server}
 use Rattle.tftp_packet.specs.Hosts.{Datagram, Header}
-use Rattle.tftp_model.specs.{Meaning, blksize_of, windowsize_of, block_count, Data, Ack, History, IsOneSided, IsComplete}
-use Rattle.tftp_model.specs.Machines.{sender_of, receiver_of}
-use Rattle.tftp_model.proofs.OneSided.{view_one_sided}
+use Rattle.law_model.specs.Model.{Meaning, blksize_of, windowsize_of, block_count, Data, Ack, History, IsOneSided, IsComplete}
+use Rattle.law_model.specs.Model.Machines.{sender_of, receiver_of}
+use Rattle.law_model.proofs.ModelLemmas.OneSided.{view_one_sided}
 use Rattle.tftp_law.specs.{ShowsBy}
 use Rattle.tftp_law.proofs.Accord.Moments.{acknowledged_was_sent}
 use Rattle.tftp_law.proofs.Written.Needed.{HasPassed, let_go}

@@ -7,10 +7,10 @@ use Rattle.tftp_packet.specs.{OptionValue, Num, range_of, is_within, Spells, Mod
 use Rattle.tftp_netascii.specs.{nul, lf, cr, canonical_bytes, canonical_wire}
 use Rattle.tftp_nego.specs.{AreInRange, number_or}
 use Rattle.tftp_packet.specs.Hosts.{Datagram, Header}
-use Rattle.tftp_model.specs.{Meaning, NothingAgreed, blksize_of, MachinePacket, Req, Oack, Data, Deed, Sent, Took, History, message_of, IsOneSided, block, block_count}
-use Rattle.tftp_model.proofs.Defaults.{default_blksize}
-use Rattle.tftp_model.proofs.Members.{contains_first, contains_later, contains_cases, contains_none}
-use Rattle.tftp_model.proofs.OneSided.{view_one_sided}
+use Rattle.law_model.specs.Model.{Meaning, NothingAgreed, blksize_of, MachinePacket, Req, Oack, Data, Deed, Sent, Took, History, message_of, IsOneSided, block, block_count}
+use Rattle.law_model.proofs.ModelLemmas.Defaults.{default_blksize}
+use Rattle.law_model.proofs.ModelLemmas.Members.{contains_first, contains_later, contains_cases, contains_none}
+use Rattle.law_model.proofs.ModelLemmas.OneSided.{view_one_sided}
 use Rattle.tftp_law.specs.Dress.{StrayAnswer}
 use Rattle.tftp_law.specs.{Label, Main, Stray, Division, TransferIds, view_in, datagrams_of, packet_of, HasLabel, HaveLabels, Fits, ReadsAs, written_wire, IsWritable, Shows, wire_of, HasPayload, CanBeWritten}
 use Rattle.tftp_packet.proofs.CanonicalLaws.{spells_again, shortest as canonical_shortest}

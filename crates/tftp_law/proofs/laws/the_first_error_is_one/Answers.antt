@@ -1,4 +1,4 @@
-use Rattle.tftp_rules.specs.{transfer_of}
+use Rattle.law_model.specs.Rules.{transfer_of}
 use Rattle.tftp_law.proofs.FirstBroken.FirstError.{one_first, none_first, aborted_or_not}
 use Rattle.tftp_law.proofs.laws.the_first_error_is_one.Goals as goal
 

@@ -1,6 +1,6 @@
 use Rattle.std.proofs.Common.{◌≡◌, ◌+◌, ◌≤◌, ap, subst, sym, ◌∙◌, codes}
 use Rattle.tftp_packet.specs.{OptionMap}
-use Rattle.tftp_model.specs.{option_or, windowsize_of}
+use Rattle.law_model.specs.Model.{option_or, windowsize_of}
 use Rattle.tftp_normal.specs.{normal_count}
 use Rattle.tftp_normal.proofs.Lengths.{counted}
 use Rattle.tftp_normal.proofs.Windows.{counted_by_parts}

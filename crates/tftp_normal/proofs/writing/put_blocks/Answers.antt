@@ -1,7 +1,7 @@
 use Rattle.std.proofs.Common.{rules, ◌≡◌, ◌-◌, ◌<◌, ◌+◌, ◌++◌, ap, ◌∙◌, arith, length-append}
 use Rattle.tftp_packet.specs.{Message, canonical}
-use Rattle.tftp_model.specs.Machines.{sender_of}
-use Rattle.tftp_model.specs.{Data}
+use Rattle.law_model.specs.Model.Machines.{sender_of}
+use Rattle.law_model.specs.Model.{Data}
 use Rattle.tftp_normal.specs.{normal_datagram, sent_by}
 use Rattle.tftp_normal.proofs.Putting.{puts_err}
 use Rattle.tftp_normal.proofs.BlocksPut.{data_datagram, next_packet, next_left, step_putting, step_put, step_failed, length-blocks, putting_count}

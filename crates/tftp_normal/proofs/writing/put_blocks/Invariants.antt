@@ -1,5 +1,5 @@
 use Rattle.std.proofs.Common.{◌≡◌, ◌-◌, ◌*◌, ◌≤◌, drop, false}
-use Rattle.tftp_model.specs.{blksize_of}
+use Rattle.law_model.specs.Model.{blksize_of}
 use Rattle.tftp_law.specs.{wire_of}
 use Rattle.tftp_normal.specs.{blocks_after, datagrams_of}
 use Rattle.tftp_normal.proofs.Putting.{Putting}

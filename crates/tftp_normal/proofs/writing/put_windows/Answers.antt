@@ -1,7 +1,7 @@
 use Rattle.std.proofs.Common.{rules, ◌≡◌, ◌+◌, ◌-◌, ◌^◌, ◌<◌, ◌≤◌, subst, ap, ◌∙◌, arith}
 use Rattle.tftp_packet.specs.{Message, canonical}
-use Rattle.tftp_model.specs.Machines.{receiver_of}
-use Rattle.tftp_model.specs.{Ack}
+use Rattle.law_model.specs.Model.Machines.{receiver_of}
+use Rattle.law_model.specs.Model.{Ack}
 use Rattle.tftp_law.specs.{blocks_of}
 use Rattle.tftp_normal.specs.{normal_datagram, sent_by}
 use Rattle.tftp_normal.proofs.Putting.{puts_err}

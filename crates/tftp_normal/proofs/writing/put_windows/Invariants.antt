@@ -1,5 +1,5 @@
 use Rattle.std.proofs.Common.{◌≡◌, ◌-◌, ◌*◌, ◌≤◌, drop, false}
-use Rattle.tftp_model.specs.{blksize_of}
+use Rattle.law_model.specs.Model.{blksize_of}
 use Rattle.tftp_law.specs.{wire_of, blocks_of}
 use Rattle.tftp_normal.proofs.WindowsPut.{WindowsLeft}
 use Rattle.tftp_normal.proofs.writing.put_windows.Given as goal

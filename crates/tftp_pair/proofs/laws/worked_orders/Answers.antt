@@ -1,8 +1,8 @@
 use Rattle.std.proofs.Common.{◌≡◌, List, [], ◌∷◌, inl, inr, refl, subst, arith}
 use Rattle.tftp_packet.specs.{End, Client, Server}
-use Rattle.tftp_model.specs.{MachinePacket, Data, Ack, Deed, Sent, Took, History}
-use Rattle.tftp_model.specs.Roles.{other_end}
-use Rattle.tftp_model.proofs.Members.{contains_first, contains_later, contains_none}
+use Rattle.law_model.specs.Model.{MachinePacket, Data, Ack, Deed, Sent, Took, History}
+use Rattle.law_model.specs.Model.Roles.{other_end}
+use Rattle.law_model.proofs.ModelLemmas.Members.{contains_first, contains_later, contains_none}
 use Rattle.tftp_pair.specs.{Event, seen_at, AreAllOpen, IsOpen, AreMerged, did}
 use Rattle.tftp_pair.proofs.Merged.{earlier_all, IsShutAt, no_longer}
 use Rattle.tftp_pair.proofs.laws.worked_orders.Goals as goal

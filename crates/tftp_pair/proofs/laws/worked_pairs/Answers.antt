@@ -2,7 +2,7 @@ use Rattle.std.proofs.Common.{◌≡◌, true, List, [], ◌∷◌, inl, inr, re
 use Rattle.tftp_packet.specs.{Message, Spells, Client, Server}
 use Rattle.tftp_packet.proofs.Unique.{one_message}
 use Rattle.tftp_packet.specs.Hosts.{In, Out, Datagram}
-use Rattle.tftp_rules.specs.{route_of, is_of_transfer, Passed}
+use Rattle.law_model.specs.Rules.{route_of, is_of_transfer, Passed}
 use Rattle.tftp_ends.proofs.Passing.{in_not_out, out_not_in}
 use Rattle.tftp_pair.specs.{Event, AreAllOpen, IsBrought, AreMergedBy, IsShut, worked_datagram, block_of, acknowledged, at_the_client, at_the_server, captured_at}
 use Rattle.tftp_pair.proofs.Merged.{nothing, at_server}

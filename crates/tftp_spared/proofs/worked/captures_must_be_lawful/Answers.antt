@@ -1,6 +1,6 @@
 use Rattle.std.proofs.Common.{false, [], ◌∷◌, codes, filter, map, refl}
 use Rattle.tftp_law.specs.{Rule}
-use Rattle.tftp_rules.specs.{PortRule}
+use Rattle.law_model.specs.Rules.{PortRule}
 use Rattle.tftp_transfers.specs.{ack_of, client, data_of, service}
 use Rattle.tftp_transfers.specs.Worked.{passes, requests, server}
 use Rattle.tftp_spared.specs.Seen.{HasNoSilence, as_seen_by, at_client_of, is_with}

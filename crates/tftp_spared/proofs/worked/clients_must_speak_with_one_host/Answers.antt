@@ -1,6 +1,6 @@
 use Rattle.std.proofs.Common.{false, [], ◌∷◌, codes, filter, refl}
 use Rattle.tftp_law.specs.{Rule}
-use Rattle.tftp_rules.specs.{PortRule}
+use Rattle.law_model.specs.Rules.{PortRule}
 use Rattle.tftp_transfers.specs.{client}
 use Rattle.tftp_transfers.specs.Worked.{at, requests}
 use Rattle.tftp_spared.specs.Seen.{is_with}

@@ -5,7 +5,7 @@ use Rattle.tftp_spared.specs.Seen.{is_with}
 use Rattle.tftp_spared.specs.{IsServedCapture, FollowOneAnother}
 use Rattle.tftp_spared.specs.Worked.{ack_again, asked_late, one_client, own_name}
 use Rattle.tftp_spared.proofs.WorkedPremises.{at_one, follow_one, late_by, here_by, order_by, others_by, own_names, ports_by}
-use Rattle.tftp_rules.specs.{EndRule}
+use Rattle.law_model.specs.Rules.{EndRule}
 use Rattle.tftp_spared.proofs.WorkedLate.{late_refused}
 use Rattle.tftp_spared.proofs.WorkedCaptures.{late_there_lawful}
 use Rattle.tftp_spared.proofs.worked.requests_must_not_come_late.Goals as goal

@@ -1,4 +1,4 @@
-use Rattle.tftp_model.proofs.Worked.{six_run}
+use Rattle.law_model.proofs.ModelLemmas.Worked.{six_run}
 use Rattle.tftp_worked.proofs.WindowsShown.{six_shown, six_server_shown, six_dressed, six_server_dressed}
 use Rattle.tftp_worked.proofs.worked_cases.window_out_of_order_is_shown.Goals as goal
 

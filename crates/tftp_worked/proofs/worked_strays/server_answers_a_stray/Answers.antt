@@ -1,4 +1,4 @@
-use Rattle.tftp_model.specs.{two_bytes}
+use Rattle.law_model.specs.Model.{two_bytes}
 use Rattle.tftp_worked.specs.{at_server, read_with_a_stray_at_server}
 use Rattle.tftp_worked.proofs.Strays.{stray_at_server_is_shown}
 use Rattle.tftp_worked.proofs.Verdicts.{accepted}

@@ -1,5 +1,5 @@
 use Rattle.std.proofs.Common.{refl}
-use Rattle.tftp_rules.specs.{PortRule}
+use Rattle.law_model.specs.Rules.{PortRule}
 use Rattle.tftp_law.specs.{Rule}
 use Rattle.tftp_worked.specs.{at_client, acknowledges_nobody, acknowledges_stray, before_answering, comes_to_another_port}
 use Rattle.tftp_worked.proofs.ByRules.{refused_verdict}

@@ -2,7 +2,7 @@ use Rattle.std.proofs.Common.{◌≡◌, ◌∙◌, List, Err, sym, ap, subst, �
 use Rattle.std.proofs.lemmas.Result.{err_from_is_err_and}
 use Rattle.tftp_packet.specs.Hosts.{Datagram, Header, peer_of}
 use Rattle.tftp_ends.specs.{StandsFor, HasNumbers, HasNoRequest, among_all, answer_of, is_noted}
-use Rattle.tftp_rules.specs.{route_of}
+use Rattle.law_model.specs.Rules.{route_of}
 use Rattle.tftp_ends.proofs.KeptSteps.{passing_is, route_takes_none, same_numbers, new_stray}
 use Rattle.tftp_ends.proofs.ports.Ports.class.Goals as goal
 use Rattle.tftp_ends.proofs.ports.Ports.class.Goals.{After-route}

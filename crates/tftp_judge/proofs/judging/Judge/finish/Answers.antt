@@ -1,6 +1,6 @@
 use Rattle.std.proofs.Common.{sym, ap, ◌∙◌}
 use Rattle.tftp_law.specs.{IsEnded}
-use Rattle.tftp_rules.specs.{transfer_of}
+use Rattle.law_model.specs.Rules.{transfer_of}
 use Rattle.tftp_judge.specs.{Judge, TakesForJoin}
 use Rattle.tftp_judge.proofs.EndedJudge.{of_transfer, said_of_transfer, said_of_nothing}
 use Rattle.tftp_judge.proofs.judging.Judge.finish.Goals as goal

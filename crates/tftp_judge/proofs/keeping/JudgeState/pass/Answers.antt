@@ -4,7 +4,7 @@ use Rattle.tftp_packet.specs.{Message, Spells, opcode_of}
 use Rattle.tftp_capture.specs.{datagram_of, header_of}
 use Rattle.tftp_packet.specs.Hosts.{Datagram, Header}
 use Rattle.tftp_ends.specs.{KnownIds, StandsFor, HasNumbers, among_all}
-use Rattle.tftp_rules.specs.{is_of_transfer}
+use Rattle.law_model.specs.Rules.{is_of_transfer}
 use Rattle.tftp_judge.specs.{FindsOf, PassError, HasKept, JudgeState}
 use Rattle.tftp_judge.proofs.Accepting.{Routed, fault_found, state_found, routed_by, stray_first, stray_found}
 use Rattle.tftp_judge.proofs.keeping.JudgeState.pass.Given.{Over}

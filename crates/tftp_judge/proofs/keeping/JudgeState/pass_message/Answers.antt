@@ -1,7 +1,7 @@
 use Rattle.std.proofs.Common.{◌≡◌, true, List, Option, Some, inr, refl, sym, subst, ap, ◌∙◌}
 use Rattle.std.proofs.lemmas.Slice.Eq.{bytes_eq-Decides}
 use Rattle.tftp_packet.specs.{Message, Spells}
-use Rattle.tftp_rules.specs.{route_of, is_of_transfer, transfer_of}
+use Rattle.law_model.specs.Rules.{route_of, is_of_transfer, transfer_of}
 use Rattle.tftp_judge.specs.{AreBytesOf, JudgeState, Transfer, IsKept, IsNew}
 use Rattle.tftp_judge.proofs.Accepting.{message_found}
 use Rattle.tftp_judge.proofs.keeping.JudgeState.pass_message.Goals as goal

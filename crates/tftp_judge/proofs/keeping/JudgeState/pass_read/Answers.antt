@@ -2,7 +2,7 @@ use Rattle.std.proofs.Common.{◌≡◌, true, List, [], ◌∷◌, Option, Some
 use Rattle.std.proofs.lemmas.Bool.{false≢true}
 use Rattle.tftp_packet.specs.{End, Message, RequestParts, meaning, Spells, parts, Packet}
 use Rattle.tftp_packet.specs.Hosts.{Datagram, Header}
-use Rattle.tftp_rules.specs.{Route, route_of, is_of_transfer, transfer_of}
+use Rattle.law_model.specs.Rules.{Route, route_of, is_of_transfer, transfer_of}
 use Rattle.tftp_ends.specs.declared.route.Route.TheVariants as may
 use Rattle.tftp_law.specs.{OneEnded, Passes}
 use Rattle.tftp_judge.specs.{FindsOf, JudgeState, Transfer, IsKept, IsTransferAfter, IsNew}

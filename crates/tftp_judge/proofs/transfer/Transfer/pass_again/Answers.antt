@@ -2,7 +2,7 @@ use Rattle.std.proofs.Common.{◌≡◌, List, true≢false, sym, subst, ap, rul
 use Rattle.std.proofs.lemmas.Bool.{false≢true}
 use Rattle.tftp_packet.specs.{End, Server}
 use Rattle.tftp_packet.specs.Hosts.{Out, Datagram, Header}
-use Rattle.tftp_rules.specs.{author_of}
+use Rattle.law_model.specs.Rules.{author_of}
 use Rattle.tftp_judge.specs.{Errors, AreErrors, Transfer, IsTransferAfter}
 use Rattle.tftp_judge.proofs.MessageFound.{again_goes, again_late, again_passes}
 use Rattle.tftp_judge.proofs.StaysAfter.{transfer_with_request}

@@ -2,7 +2,7 @@ use Rattle.std.proofs.Common.{◌≡◌, List, true≢false, sym, subst, ap, rul
 use Rattle.std.proofs.lemmas.Bool.{false≢true}
 use Rattle.tftp_packet.specs.{End, Client}
 use Rattle.tftp_packet.specs.Hosts.{Out, Datagram, Header}
-use Rattle.tftp_rules.specs.{author_of}
+use Rattle.law_model.specs.Rules.{author_of}
 use Rattle.tftp_judge.specs.{Errors, AreErrors, Transfer, IsTransferAfter}
 use Rattle.tftp_judge.proofs.MessageFound.{oack_again_ended, oack_again_goes, oack_again_late, oack_again_passes}
 use Rattle.tftp_judge.proofs.StaysAfter.{agreed_first, transfer_with_oack_again}

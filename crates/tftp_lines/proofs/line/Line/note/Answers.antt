@@ -2,7 +2,7 @@ use Rattle.std.proofs.Common.{cond, option_map, refl, sym, ap, subst, ◌∙◌,
 use Rattle.std.specs.BTreeMap.{get}
 use Rattle.std.specs.Ordering.{is_eq}
 use Rattle.tftp_lines.specs.{History, Talked, endpoint_cmp, history_of, seen_of, comes_to, talk_after, went_on_after, AreTimed}
-use Rattle.tftp_rules.specs.{or_this}
+use Rattle.law_model.specs.Rules.{or_this}
 use Rattle.tftp_lines.specs.Kept.{IsHistoryAfter}
 use Rattle.tftp_lines.proofs.Endpoints.{same_by_order, same_itself}
 use Rattle.tftp_lines.proofs.Noted.{cond_history, cond_talk, note_stands}

@@ -3,7 +3,7 @@ use Rattle.tftp_capture.specs.{datagram_of}
 use Rattle.tftp_judge.specs.{Refuses}
 use Rattle.tftp_law.specs.{Passes}
 use Rattle.tftp_pair_judge.specs.{side_at}
-use Rattle.tftp_model.specs.Roles.{other_end}
+use Rattle.law_model.specs.Model.Roles.{other_end}
 use Rattle.tftp_match.specs.{IsPairAt, judge_at}
 use Rattle.tftp_match.proofs.Sides.{none_held, own_of_pair, pair_grows, pair_says, pair_stays, same_twice}
 use Rattle.tftp_match.proofs.Steps.{accepted_step, halted_step, refused_step}

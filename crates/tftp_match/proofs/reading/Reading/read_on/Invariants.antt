@@ -1,6 +1,6 @@
 use Rattle.std.proofs.Common.{◌≡◌, ◌<◌, ◌≤◌, ◌-◌, ◌^◌, None}
 use Rattle.net_streams.specs.Streams.{Standing}
-use Rattle.tftp_model.specs.Roles.{other_end}
+use Rattle.law_model.specs.Model.Roles.{other_end}
 use Rattle.tftp_pair_judge.specs.{HasSame, side_at}
 use Rattle.tftp_match.specs.{Runs, judge_at, seen}
 use Rattle.tftp_match.proofs.reading.Reading.read_on.Given as goal

@@ -1,6 +1,6 @@
 use Rattle.std.proofs.Common.{◌≡◌, ◌<◌, ◌-◌, ◌^◌, true, is_some, None}
 use Rattle.net_streams.specs.Streams.{Standing}
-use Rattle.tftp_model.specs.Roles.{other_end}
+use Rattle.law_model.specs.Model.Roles.{other_end}
 use Rattle.tftp_pair_judge.specs.{left_at}
 use Rattle.tftp_match.specs.{RestRuns, left_judge_at, seen}
 use Rattle.tftp_match.proofs.reading.Reading.read_rest.Given as goal

@@ -1,6 +1,6 @@
 use Rattle.std.proofs.Common.{ℕ, ◌≢◌, ◌≤◌, length, subst, IfOk, Vec, Global}
 use Rattle.std.specs.FinMap as map
-use Rattle.tftp_model.specs.{Meaning}
+use Rattle.law_model.specs.Model.{Meaning}
 use Rattle.tftp_normal.specs.{meaning_in}
 use Rattle.tftp_normal.proofs.Payloads.{short_result}
 use Rattle.tftp_normal.proofs.transfer.Transfer.oack_payload.Goals as goal

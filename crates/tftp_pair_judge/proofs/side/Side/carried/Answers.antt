@@ -1,6 +1,6 @@
 use Rattle.std.proofs.Common.{◌≡◌, ◌∙◌, Option, Some, List, sym, ap, subst}
 use Rattle.tftp_packet.specs.Hosts.{Datagram, Header}
-use Rattle.tftp_rules.specs.{transfer_of}
+use Rattle.law_model.specs.Rules.{transfer_of}
 use Rattle.tftp_counts.specs.{AreCounted, Counted, IsCountOf}
 use Rattle.tftp_pair_judge.specs.{IsSideAfter, Side}
 use Rattle.tftp_pair_judge.proofs.Sides.{none_map, not_too_many, some_map}

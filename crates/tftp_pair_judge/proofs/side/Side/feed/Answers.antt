@@ -1,6 +1,6 @@
 use Rattle.std.proofs.Common.{◌∷◌, sym, subst, ◌∙◌}
 use Rattle.tftp_capture.specs.{datagram_of}
-use Rattle.tftp_rules.specs.{transfer_of}
+use Rattle.law_model.specs.Rules.{transfer_of}
 use Rattle.tftp_judge.specs.{IsJudgeAfter, Judge, flags_of}
 use Rattle.tftp_pair_judge.specs.{IsSideAfter, Side}
 use Rattle.tftp_pair_judge.proofs.Sides.{counted_after_main, counted_after_stray, flags_after_main, flags_after_stray, not_refused, one_more, side_of_judge}

@@ -1,7 +1,7 @@
 use Rattle.std.proofs.Common.{◌∷◌, sym, subst, ◌∙◌}
 use Rattle.std.proofs.lemmas.Bool.{false≢true}
 use Rattle.tftp_capture.specs.{datagram_of}
-use Rattle.tftp_rules.specs.{transfer_of}
+use Rattle.law_model.specs.Rules.{transfer_of}
 use Rattle.tftp_pair_judge.specs.{WasSent}
 use Rattle.tftp_pair_judge.proofs.Sides.{sides_out, sides_in, sides_held}
 use Rattle.tftp_pair_judge.proofs.side.Side.merge.Goals as goal

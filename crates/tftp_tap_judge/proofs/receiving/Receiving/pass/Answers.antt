@@ -1,7 +1,7 @@
 use Rattle.std.proofs.Common.{◌≡◌, ◌∷◌, true, Err, sym, subst, ap, ◌∙◌}
 use Rattle.tftp_packet.specs.{opcode_of, Server}
 use Rattle.tftp_packet.specs.Hosts.{Datagram}
-use Rattle.tftp_model.specs.Roles.{receiver_of}
+use Rattle.law_model.specs.Model.Roles.{receiver_of}
 use Rattle.tftp_judge.specs.{Refuses, IsJudgeAfter, Finds, PassError}
 use Rattle.tftp_law.specs.{Passes}
 use Rattle.tftp_tap.specs.{same_end, header_at, kept_between}

@@ -1,6 +1,6 @@
 use Rattle.std.proofs.Common.{◌≡◌, [], sym, subst, ap, ◌∙◌}
 use Rattle.tftp_packet.specs.{Message, End}
-use Rattle.tftp_model.specs.Roles.{receiver_of}
+use Rattle.law_model.specs.Model.Roles.{receiver_of}
 use Rattle.tftp_law.specs.{Passes}
 use Rattle.tftp_tap.specs.{header_at, recorded_at}
 use Rattle.tftp_tap.proofs.TapTests.{asks_says}

@@ -1,0 +1,2 @@
+pub mod ModelLemmas
+pub mod RulesLemmas

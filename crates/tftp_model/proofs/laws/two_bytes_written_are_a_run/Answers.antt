@@ -1,8 +1,0 @@
-use Rattle.tftp_model.proofs.Worked.{written_is_view, written_complete}
-use Rattle.tftp_model.proofs.laws.two_bytes_written_are_a_run.Goals as goal
-
-pub returns-clause-view : goal.returns-clause-view
-returns-clause-view c = written_is_view
-
-pub returns-clause-complete : goal.returns-clause-complete
-returns-clause-complete c = written_complete
