@@ -34,7 +34,7 @@ FENCED = re.compile(r"(?ms)^```(\w*)\n(.*?)^```$")
 IN_BRACKETS = re.compile(r"\((?:`\w+`(?:, )?)+\)")
 # The crates of which docs/PROOF.md names each file.
 MAPPED = (
-    "tftp_hosts", "tftp_model", "tftp_rules", "tftp_blocks", "tftp_ends", "tftp_law", "tftp_judge", "tftp_normal",
+    "tftp_hosts", "tftp_model", "tftp_rules", "tftp_blocks", "tftp_ends", "law_end", "tftp_judge", "tftp_normal",
     "tftp_commands",
 )
 QUOTED = re.compile(r"`([^`]+)`")

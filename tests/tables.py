@@ -22,7 +22,7 @@ TABLE, CRATES = "tools/tftp_tools/rules.py", TOP / "crates"
 # Changes of earlier versions are told with the names that were printed then, so the page of changes is none of these.
 SCRIPTS, PAGES = ("tools", "tests", "bench"), ("docs", "share", "README.md", "CONTRIBUTING.md")
 # What the sources call their rules and files, and messages of commits: these are no printed names.
-OF_SOURCES = re.compile(r"`[A-Z]\w+`|Unlawful\(\d+, \w+(?:\(\w+\))?\)|\"tftp_law: [^\"]*\"")
+OF_SOURCES = re.compile(r"`[A-Z]\w+`|Unlawful\(\d+, \w+(?:\(\w+\))?\)|\"law_end: [^\"]*\"")
 # Pages that are made of the sources, and so have what these call their rules.
 MADE = "docs/contracts/"
 # What has each rule.
@@ -38,11 +38,11 @@ def defined(file: str, function: str, value: str) -> dict[str, str]:
 def try_definition(trial: Trial) -> None:
     """The numbers and names of the table are those of the definitions."""
     decimal, quoted = r"(\d+)", r'codes "(\w+)"'
-    numbers = defined("tftp_law/specs/Rules.antt", "number_of", decimal)
+    numbers = defined("law_end/specs/Rules.antt", "number_of", decimal)
     numbers |= defined("tftp_rules/specs/Rules.antt", "end_number", decimal)
     numbers |= defined("tftp_rules/specs/PortNames.antt", "port_number", decimal)
     numbers |= defined("tftp_nego/specs/AgreementNames.antt", "agreement_number", decimal)
-    names = defined("tftp_law/specs/RuleNames.antt", "rule_name", quoted)
+    names = defined("law_end/specs/RuleNames.antt", "rule_name", quoted)
     names |= defined("tftp_rules/specs/EndNames.antt", "end_name", quoted)
     names |= defined("tftp_rules/specs/PortNames.antt", "port_name", quoted)
     names |= defined("tftp_nego/specs/AgreementNames.antt", "agreement_name", quoted)

@@ -3,7 +3,7 @@
 
 ghost use Rattle.std.specs.Prelude.{◌≡◌, ◌≤◌, ◌^◌, All, IfOk, length, map};
 ghost use Rattle.tftp_capture.specs.{datagram_of, header_of};
-ghost use Rattle.tftp_law.specs.{Shows};
+ghost use Rattle.law_end.specs.{Shows};
 
 use std::alloc::{AllocError, Global};
 use std::io;

@@ -10,7 +10,7 @@ use Rattle.tftp_lines.specs.{Endpoint, Transfer, same_address, same_endpoint, Pl
 use Rattle.tftp_transfers.specs.{server_of}
 use Rattle.tftp_lines.proofs.Endpoints.{is_same as is_same_endpoint}
 use Rattle.tftp_between.specs.{are_apart, is_to_itself, peer_of, server_or_asked, sides_of}
-use Rattle.tftp_law.proofs.Division.RouteTests.{same_is}
+use Rattle.law_end.proofs.Division.RouteTests.{same_is}
 
 neither : (a b : Bool) → not (a || b) ≡ true → (a ≡ false) × (b ≡ false)
 neither false false e = (refl, refl)

@@ -3,7 +3,7 @@
 use Rattle.std.proofs.Common.{◌≡◌, ◌≢◌, ◌⊎◌, ◌≤◌, ◌+◌, ◌==◌, ◌&&◌, ℕ, Bool, true, false, List, [], ◌∷◌, Option, Some, None, inl, inr, arith, refl, sym, ap, subst, ◌∙◌, not, nat_le, max, length, if◌then◌else◌}
 use Rattle.std.specs.List.{AllByRecursion}
 use Rattle.std.proofs.lemmas.Bool.{false≢true, leb-true, le-leb, eqb-true}
-use Rattle.tftp_law.proofs.Division.Divided.{any_cases, any_later}
+use Rattle.law_end.proofs.Division.Divided.{any_cases, any_later}
 use Rattle.tftp_lines.specs.{Endpoint, Place, Opens, Repeats, Talks, Apart, Beside, Nowhere, Transfer, Talk, Recorded, same_endpoint, goes, is_again, Placed, opens, is_apart, is_at, newest_of, live, line, silence, latest_in, answered_in, is_known_host, talk_in, place_talked, place_at, opened_by, asked_after, clock}
 use Rattle.tftp_lines.proofs.Endpoints.{is_same, same_itself}
 use Rattle.tftp_lines.proofs.Lines.{by_test}

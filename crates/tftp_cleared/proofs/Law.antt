@@ -8,9 +8,9 @@ use Rattle.law_model.specs.Model.{Meaning, MachinePacket, Ack, Took, History, Ha
 use Rattle.law_model.specs.Model.Machines.{receiver_of}
 use Rattle.law_model.proofs.ModelLemmas.Members.{contains_first, contains_later, contains_cases, contains_none}
 use Rattle.law_model.proofs.ModelLemmas.OneSided.{view_one_sided}
-use Rattle.tftp_law.specs.{IsSeen, IsLawful, ShowsBy, OneEnded, Meant, Division, view_in, HaveLabelsBy, says_of, Starts}
-use Rattle.tftp_law.proofs.Division.Routed.{starts_of}
-use Rattle.tftp_law.proofs.Whole.TwoEnds.{lawful, whole}
+use Rattle.law_end.specs.{IsSeen, IsLawful, ShowsBy, OneEnded, Meant, Division, view_in, HaveLabelsBy, says_of, Starts}
+use Rattle.law_end.proofs.Division.Routed.{starts_of}
+use Rattle.law_end.proofs.Whole.TwoEnds.{lawful, whole}
 use Rattle.tftp_lines.specs.{Transfer, Placed}
 use Rattle.tftp_transfers.specs.{server_of}
 use Rattle.tftp_tap.specs.{pass_of, tapped_at, TapDatagram, TapSides, AreApart, IsLawfulBetween, ShowsBetween, BreaksNoTapRule}

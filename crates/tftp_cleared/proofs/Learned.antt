@@ -9,9 +9,9 @@ use Rattle.law_model.specs.Model.{Ack, Data, History, IsView, Meaning, Req, Sent
 use Rattle.law_model.proofs.ModelLemmas.Computed.{IsPlan, run_is}
 use Rattle.law_model.proofs.ModelLemmas.Defaults.{default_blksize, default_windowsize}
 use Rattle.law_model.proofs.ModelLemmas.Worked.{one_block_plan}
-use Rattle.tftp_law.specs.{Division, Fits, IsDressed, Main, OneEnded, TransferIds}
-use Rattle.tftp_law.proofs.Whole.NothingAgreed.{none_there, nothing_may_be_agreed_by}
-use Rattle.tftp_law.proofs.Whole.TwoEnds.{lawful}
+use Rattle.law_end.specs.{Division, Fits, IsDressed, Main, OneEnded, TransferIds}
+use Rattle.law_end.proofs.Whole.NothingAgreed.{none_there, nothing_may_be_agreed_by}
+use Rattle.law_end.proofs.Whole.TwoEnds.{lawful}
 use Rattle.tftp_parties.specs.{host_name}
 use Rattle.tftp_transfers.specs.{ack_of, client, data_of, placed, read_of}
 use Rattle.tftp_transfers.specs.Worked.{passes, requests, server}

@@ -5,8 +5,8 @@ use Rattle.std.proofs.lemmas.Bool.{false≢true, eq-eqb, and_from}
 use Rattle.std.proofs.lemmas.List.Elements.{recursion_from_All}
 use Rattle.tftp_packet.specs.Hosts.{PeerId}
 use Rattle.law_model.specs.Model.{Meaning}
-use Rattle.tftp_law.specs.{OneEnded, Meant}
-use Rattle.tftp_law.proofs.Division.Divided.{any_none, any_cases}
+use Rattle.law_end.specs.{OneEnded, Meant}
+use Rattle.law_end.proofs.Division.Divided.{any_none, any_cases}
 use Rattle.tftp_lines.specs.{Endpoint, Opens, Talks, Transfer, Recorded, same_address, same_endpoint, Placed, is_of}
 use Rattle.tftp_lines.proofs.Lines.{by_test}
 use Rattle.tftp_transfers.specs.{client_view, placed, server_of}

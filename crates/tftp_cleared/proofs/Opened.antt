@@ -1,7 +1,7 @@
 -- Each transfer that a place names was opened by a datagram before it or by itself, and one number is one transfer's.
 use Rattle.std.proofs.Common.{◌≡◌, ◌⊎◌, ◌<◌, ℕ, ◌+◌, Bool, true, false, List, [], ◌∷◌, Option, Some, None, inl, inr, arith, refl, sym, ap, subst, ◌∙◌, not, ◌&&◌, nat_le, max, option_map, length, if◌then◌else◌}
 use Rattle.std.specs.List.{AllByRecursion}
-use Rattle.tftp_law.proofs.Division.Divided.{any_none, any_cases, any_first, any_later}
+use Rattle.law_end.proofs.Division.Divided.{any_none, any_cases, any_first, any_later}
 use Rattle.tftp_lines.specs.{Endpoint, Place, Opens, Repeats, Talks, Apart, Transfer, Talk, Recorded, same_endpoint, is_again, Placed, opens, is_apart, is_at, newest_of, live, line, silence, transfer_of, latest_in, answered_in, talked_of, talk_in, place_talked, place_at, opened_by, asked_after, is_known_host, last_was_ack_0, clock}
 use Rattle.tftp_transfers.specs.{at_client, beside, beside_by, served_at, is_nowhere, asks, place_of, placed}
 use Rattle.tftp_lines.proofs.Lines.{by_test}

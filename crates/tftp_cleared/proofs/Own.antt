@@ -4,7 +4,7 @@ use Rattle.std.proofs.Common.{◌≡◌, ◌⊎◌, ◌+◌, ◌≤◌, ℕ, Boo
 use Rattle.std.specs.List.{AllByRecursion}
 use Rattle.std.proofs.lemmas.Bool.{false≢true, eqb-true, eq-eqb, and_from, and_parts, or_left}
 use Rattle.std.proofs.lemmas.List.Elements.{recursion_from_All}
-use Rattle.tftp_law.proofs.Division.Divided.{any_none, any_cases, any_first, any_later}
+use Rattle.law_end.proofs.Division.Divided.{any_none, any_cases, any_first, any_later}
 use Rattle.tftp_lines.specs.{Endpoint, Place, Opens, Repeats, Talks, Transfer, Recorded, begins_request, is_again, goes, same_endpoint, silence, Placed, clock, is_apart, is_at, is_of, is_request, line, live, newest_of, asked_after, opened_by, talk_in}
 use Rattle.tftp_transfers.specs.{asks, at_client, beside, client_view, is_about, is_client, is_nowhere, is_service, place_of, placed, served_at}
 use Rattle.tftp_lines.proofs.Endpoints.{is_same}

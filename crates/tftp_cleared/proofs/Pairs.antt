@@ -4,9 +4,9 @@ use Rattle.std.specs.List.{AllByRecursion}
 use Rattle.std.proofs.lemmas.Bool.{false≢true}
 use Rattle.tftp_packet.specs.{Client}
 use Rattle.tftp_packet.specs.Hosts.{In, Out, Datagram}
-use Rattle.tftp_law.specs.{Label, Labelled, Division, datagrams_of, view_in}
-use Rattle.tftp_law.specs.Dress.{Main, Stray, StrayAnswer}
-use Rattle.tftp_law.proofs.Division.Divided.{divided_more, divided_none}
+use Rattle.law_end.specs.{Label, Labelled, Division, datagrams_of, view_in}
+use Rattle.law_end.specs.Dress.{Main, Stray, StrayAnswer}
+use Rattle.law_end.proofs.Division.Divided.{divided_more, divided_none}
 use Rattle.tftp_lines.specs.{Transfer, same_endpoint, Placed}
 use Rattle.tftp_lines.proofs.Endpoints.{is_same, same_itself}
 use Rattle.tftp_lines.proofs.Lines.{by_test}

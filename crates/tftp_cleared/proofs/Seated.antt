@@ -4,7 +4,7 @@ use Rattle.std.specs.List.{AllByRecursion}
 use Rattle.std.proofs.lemmas.Bool.{false≢true, eq-eqb, and_from, and_parts, or_left, or_right}
 use Rattle.std.proofs.lemmas.List.Elements.{recursion_from_All}
 use Rattle.tftp_packet.specs.Hosts.{In, Out, Datagram}
-use Rattle.tftp_law.specs.{OneEnded, Rule}
+use Rattle.law_end.specs.{OneEnded, Rule}
 use Rattle.law_model.specs.Rules.{first_of}
 use Rattle.tftp_lines.specs.{Endpoint, Place, Opens, Repeats, Talks, Beside, Transfer, Recorded, begins_request, other_of, same_address, same_endpoint, Placed, clock, is_of, is_request}
 use Rattle.tftp_lines.proofs.Endpoints.{is_same, address_itself}

@@ -5,10 +5,10 @@ use Rattle.std.proofs.lemmas.Bool.{false≢true, and_parts, and_from, eq-eqb, no
 use Rattle.tftp_packet.specs.Hosts.{Out}
 use Rattle.law_model.specs.Model.{Meaning}
 use Rattle.law_model.specs.Rules.{first_of, or_this}
-use Rattle.tftp_law.specs.{TransferIds}
-use Rattle.tftp_law.proofs.Division.Divided.{any_none, any_cases, any_later}
-use Rattle.tftp_law.proofs.Division.RouteTests.{error_begins}
-use Rattle.tftp_law.proofs.Division.Routed.{told_of}
+use Rattle.law_end.specs.{TransferIds}
+use Rattle.law_end.proofs.Division.Divided.{any_none, any_cases, any_later}
+use Rattle.law_end.proofs.Division.RouteTests.{error_begins}
+use Rattle.law_end.proofs.Division.Routed.{told_of}
 use Rattle.tftp_lines.specs.{Endpoint, Place, Opens, Repeats, Talks, Transfer, begins_error, same_endpoint, Placed, is_request}
 use Rattle.tftp_lines.proofs.Endpoints.{same_itself}
 use Rattle.tftp_lines.proofs.Lines.{by_test}

@@ -7,12 +7,12 @@ use Rattle.std.proofs.lemmas.List.{reverse-reverse}
 use Rattle.tftp_packet.specs.{Message, End, Client, Server}
 use Rattle.tftp_packet.specs.Hosts.{In, Out, Datagram, PeerId}
 use Rattle.law_model.specs.Model.{Meaning, MachinePacket, Sent, Took, Req}
-use Rattle.tftp_law.specs.{Label, Division, datagrams_of, TransferIds, HasLabelBy, HaveLabelsBy, says_of, says_some, IsLawful, OneEnded, Rule}
-use Rattle.tftp_law.specs.Dress.{Main, Stray, StrayAnswer}
-use Rattle.tftp_law.proofs.Division.Divided.{any_none, any_cases, any_first, any_later, divided_more}
-use Rattle.tftp_law.proofs.Division.RouteTests.{request_begins}
-use Rattle.tftp_law.proofs.Division.ServerRoutes.{byte_begins}
-use Rattle.tftp_law.proofs.Whole.TwoEnds.{lawful}
+use Rattle.law_end.specs.{Label, Division, datagrams_of, TransferIds, HasLabelBy, HaveLabelsBy, says_of, says_some, IsLawful, OneEnded, Rule}
+use Rattle.law_end.specs.Dress.{Main, Stray, StrayAnswer}
+use Rattle.law_end.proofs.Division.Divided.{any_none, any_cases, any_first, any_later, divided_more}
+use Rattle.law_end.proofs.Division.RouteTests.{request_begins}
+use Rattle.law_end.proofs.Division.ServerRoutes.{byte_begins}
+use Rattle.law_end.proofs.Whole.TwoEnds.{lawful}
 use Rattle.tftp_lines.specs.{Endpoint, Opens, Transfer, begins_request, Placed, is_of}
 use Rattle.tftp_lines.proofs.Lines.{by_test}
 use Rattle.tftp_tap.specs.{tapped_at, TapDatagram, TapSides, AreApart, TapLabel, TapLabelled, TapDivision, tapped_of, CarriesPass, HasTapLabel, HaveTapLabels, IsLawfulBetween, BreaksNoTapRule, IsTapRefused}

@@ -3,9 +3,9 @@ use Rattle.std.proofs.Common.{◌≡◌, ℕ, List, [], ◌∷◌, Any, inl, inr
 use Rattle.std.specs.List.{AllByRecursion}
 use Rattle.tftp_packet.specs.{End, Client, Server}
 use Rattle.law_model.specs.Model.{Meaning, MachinePacket, Req, Took, Sent}
-use Rattle.tftp_law.specs.{TransferIds, says_of}
-use Rattle.tftp_law.specs.Dress.{Main, Stray, StrayAnswer}
-use Rattle.tftp_law.proofs.Division.Divided.{any_none, any_cases, any_first, any_later}
+use Rattle.law_end.specs.{TransferIds, says_of}
+use Rattle.law_end.specs.Dress.{Main, Stray, StrayAnswer}
+use Rattle.law_end.proofs.Division.Divided.{any_none, any_cases, any_first, any_later}
 use Rattle.tftp_lines.specs.{Endpoint, Transfer}
 use Rattle.tftp_tap.specs.{PeerId, TapDatagram, TapSides, side_of, TapLabelled, TapDivision, IsMainFrom, GoesThere, HasTapLabel, HaveTapLabels}
 use Rattle.tftp_tap.specs.TapDress as tap

@@ -5,10 +5,10 @@ use Rattle.std.proofs.lemmas.Bool.{false≢true}
 use Rattle.tftp_packet.specs.{Message, Spells, Client}
 use Rattle.tftp_packet.specs.Hosts.{In, Out, Datagram, PeerId, peer_of}
 use Rattle.law_model.specs.Model.{Meaning, MachinePacket, Sent, Took, Req, Oack, Data, Ack, Error}
-use Rattle.tftp_law.specs.{Label, Labelled, view_in, TransferIds, IsMain, CarriesDeed, HasLabelBy, HaveLabelsBy, says_of, Starts}
-use Rattle.tftp_law.specs.Dress.{Main, Stray, StrayAnswer}
-use Rattle.tftp_law.proofs.Division.Divided.{any_none, any_cases, any_first, any_later}
-use Rattle.tftp_law.proofs.Division.Placing.{CameIn, one, starts_before}
+use Rattle.law_end.specs.{Label, Labelled, view_in, TransferIds, IsMain, CarriesDeed, HasLabelBy, HaveLabelsBy, says_of, Starts}
+use Rattle.law_end.specs.Dress.{Main, Stray, StrayAnswer}
+use Rattle.law_end.proofs.Division.Divided.{any_none, any_cases, any_first, any_later}
+use Rattle.law_end.proofs.Division.Placing.{CameIn, one, starts_before}
 use Rattle.tftp_lines.specs.{Transfer, Recorded, same_endpoint}
 use Rattle.tftp_lines.proofs.Endpoints.{same_itself}
 use Rattle.tftp_views.specs.{captured, captured_at_client, client_header}

@@ -2,7 +2,7 @@
 
 ghost use Rattle.std.specs.Prelude.{◌≡◌, ◌++◌, ℕ, List, ◌∷◌, All};
 ghost use Rattle.law_model.specs.Model.{Meaning};
-ghost use Rattle.tftp_law.specs.{OneEnded, Meant, Rule};
+ghost use Rattle.law_end.specs.{OneEnded, Meant, Rule};
 ghost use Rattle.tftp_parties.specs.{host_name};
 ghost use Rattle.tftp_lines.specs.{Endpoint, Transfer, Recorded};
 ghost use Rattle.tftp_transfers.specs.{placed};

@@ -4,7 +4,7 @@ ghost use Rattle.std.specs.Prelude.{◌≡◌, [], ◌∷◌, All, false};
 ghost use Rattle.tftp_packet.specs.Hosts.{In, Out};
 ghost use Rattle.tftp_lines.specs.{same_endpoint};
 ghost use Rattle.law_model.specs.Rules.{Route, route_of};
-ghost use Rattle.tftp_law.specs.{OneEnded};
+ghost use Rattle.law_end.specs.{OneEnded};
 ghost use Rattle.tftp_parties.specs.{host_name};
 ghost use Rattle.tftp_transfers.specs.{asked_twice, client, is_service, placed, server_view};
 ghost use Rattle.tftp_transfers.specs.Worked.{server};

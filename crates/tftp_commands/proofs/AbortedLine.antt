@@ -1,6 +1,6 @@
 -- The line of a transfer that an ERROR ended.
 use Rattle.std.proofs.Common.{◌≡◌, ℕ, List, ◌++◌, codes, decimal, sym, ap, ◌∙◌, append_assoc}
-use Rattle.tftp_law.specs.{AbortedBy}
+use Rattle.law_end.specs.{AbortedBy}
 use Rattle.tftp_judge.specs.{Aborted}
 use Rattle.tftp_commands.specs.{by_name, refusal_line}
 

@@ -8,7 +8,7 @@ use Rattle.tftp_capture.specs.CaptureText.Due.{Head, EndLine, ServiceLine, Body,
 use Rattle.tftp_capture.specs.CaptureText.Reading.{Capture, Fault}
 use Rattle.tftp_capture.specs.declared.fault.CaptureFault.TheVariants.{Text, Read, Memory}
 use Rattle.tftp_capture.proofs.Readings.{reads_same}
-use Rattle.tftp_law.proofs.Spelled.{spelled_once}
+use Rattle.law_end.proofs.Spelled.{spelled_once}
 use Rattle.tftp_commands.specs.{packet_fault_name, IsNoMemoryEnding, Output, AreLines, Cut, Ending, EndsBy, Faulty, IsDatagramLine, IsPayloadText, IsShown, Whole, last_line, message_text, status_of, Source}
 use Rattle.tftp_commands.proofs.OneOutput.{last_line_is}
 

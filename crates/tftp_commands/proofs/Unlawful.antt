@@ -1,6 +1,6 @@
 -- The line of an unlawful datagram.
 use Rattle.std.proofs.Common.{◌≡◌, ℕ, List, ◌++◌, codes, decimal, sym, ap, ◌∙◌, append_assoc}
-use Rattle.tftp_law.specs.{rule_name, number_of, Rule}
+use Rattle.law_end.specs.{rule_name, number_of, Rule}
 use Rattle.tftp_judge.specs.{Unlawful}
 use Rattle.tftp_commands.specs.{detail, refusal_line}
 

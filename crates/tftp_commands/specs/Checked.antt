@@ -2,7 +2,7 @@
 use Rattle.std.specs.Prelude.{ℕ, ◌++◌, List, [], length, codes, decimal, Result, Ok, Err}
 use Rattle.tftp_packet.specs.{mode_name}
 use Rattle.law_model.specs.Model.{Meaning}
-use Rattle.tftp_law.specs.{blocks_of, rule_name, number_of, Rule, Malformed}
+use Rattle.law_end.specs.{blocks_of, rule_name, number_of, Rule, Malformed}
 use Rattle.tftp_judge.specs.{Refusal, Unlawful, Aborted, Incomplete, NormalTooLong, Verdict, Capture, Refused}
 use Rattle.tftp_judge.specs.declared.refusal.Refusal.TheVariants.{Memory}
 use Rattle.tftp_commands.specs.declared.status.Status.{Status}

@@ -2,7 +2,7 @@
 use Rattle.std.specs.Prelude.{ℕ, List, codes}
 use Rattle.tftp_packet.specs.{Side, Get, Put, PacketFault, Short, Opcode, AckLength, NoTerminator, OddOptions, EmptyOptionName, DuplicateOption, UnknownMode, MailMode, RequestTooLong}
 use Rattle.tftp_capture.specs.{TextFault, BadHeader, BadEnd, BadService, LineTooLong, BadLine, BadPort, BadHost, BadHex, PayloadTooLong, TotalWrong, Truncated, TrailingText, TextTooLong}
-use Rattle.tftp_law.specs.{AbortedBy, Local, Peer}
+use Rattle.law_end.specs.{AbortedBy, Local, Peer}
 
 abbrev pub side_name : Side → List ℕ
 side_name Get = codes "get"

@@ -4,7 +4,7 @@ ghost use Rattle.std.specs.Prelude.{◌≡◌, ◌≢◌, not, ℕ, Bool, List, 
 ghost use Rattle.tftp_packet.specs.Hosts.{Datagram, Header, PeerId, peer_of, same_peer};
 ghost use Rattle.law_model.specs.Model.{Meaning};
 ghost use Rattle.law_model.specs.Rules.{comes_in, first_of};
-ghost use Rattle.tftp_law.specs.{IsSeen, IsLawful, Shows, OneEnded, Meant};
+ghost use Rattle.law_end.specs.{IsSeen, IsLawful, Shows, OneEnded, Meant};
 ghost use Rattle.tftp_fair.specs.Apart.{without, AreApart, wholly_without, AreUnasked};
 ghost use Rattle.tftp_fair.specs.Worked.{at_client, stray, with_stray, without_stray};
 

@@ -7,11 +7,11 @@ use Rattle.tftp_ends.specs.{KnownIds, StandsFor, HasNoRequest, IsNewStray, among
 use Rattle.law_model.specs.Rules.{Route, asks, first_of, or_this, begins_request, is_from_client, port_of_server, route_of, is_of_transfer, transfer_of, SaysUnknownId, PortRule, PortBroken}
 use Rattle.tftp_ends.specs.declared.route.Route.TheVariants as may
 use Rattle.tftp_ends.proofs.KeptSteps.{passing_is}
-use Rattle.tftp_law.specs.{OneEnded, Passes, number_of, Broken, FirstAsked, FirstBroken, Rule, MessageBreaks}
+use Rattle.law_end.specs.{OneEnded, Passes, number_of, Broken, FirstAsked, FirstBroken, Rule, MessageBreaks}
 use Rattle.law_model.proofs.RulesLemmas.EndRules.{from_18}
-use Rattle.tftp_law.proofs.FirstBroken.OneMessage.{agreement_from}
-use Rattle.tftp_law.proofs.FirstBroken.FirstRequests.{before_is, asks_is, first_stays}
-use Rattle.tftp_law.proofs.FirstBroken.OneMessage.{first_by, lawful_by}
+use Rattle.law_end.proofs.FirstBroken.OneMessage.{agreement_from}
+use Rattle.law_end.proofs.FirstBroken.FirstRequests.{before_is, asks_is, first_stays}
+use Rattle.law_end.proofs.FirstBroken.OneMessage.{first_by, lawful_by}
 use Rattle.tftp_judge.specs.{Finds, FindsOf, error_by_port, PassError, JudgeState, Transfer, HasKept, IsKept, IsTransferAfter}
 use Rattle.tftp_judge.proofs.PassFound.{off_passes, main_passes, first_lawful}
 

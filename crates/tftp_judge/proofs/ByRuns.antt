@@ -2,10 +2,10 @@
 use Rattle.std.proofs.Common.{ℕ, List, Result, Ok, Err, reverse, ◌↔◌}
 use Rattle.tftp_packet.specs.Hosts.{Datagram, Header}
 use Rattle.law_model.specs.Model.{Meaning}
-use Rattle.tftp_law.specs.{IsLawful, ShowsBy, OneEnded, Meant}
+use Rattle.law_end.specs.{IsLawful, ShowsBy, OneEnded, Meant}
 use Rattle.tftp_judge.specs.{Refusal, Unlawful, Aborted, Incomplete, NormalTooLong, IsVerdictBy, IsVerdict, IsVerdictByRules}
 use Rattle.tftp_judge.specs.declared.refusal.Refusal.TheVariants.{Memory}
-use Rattle.tftp_law.proofs.Whole.TwoEnds.{lawful, whole}
+use Rattle.law_end.proofs.Whole.TwoEnds.{lawful, whole}
 
 -- by two laws that are the same, the verdicts are
 

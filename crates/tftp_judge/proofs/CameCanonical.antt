@@ -1,7 +1,7 @@
 -- A wire that is as long as the one that is written for its file is that one.
 use Rattle.std.proofs.Common.{◌≡◌, ℕ, List, length, refl}
 use Rattle.tftp_packet.specs.{Mode, Octet, Netascii}
-use Rattle.tftp_law.specs.{carried_file, written_wire}
+use Rattle.law_end.specs.{carried_file, written_wire}
 use Rattle.tftp_netascii.proofs.ReadsLemmas.{Reads-file_of}
 use Rattle.tftp_netascii.proofs.LengthLemmas.{as_long}
 

@@ -5,7 +5,7 @@ use Rattle.tftp_packet.specs.Hosts.{Datagram, Header}
 use Rattle.law_model.specs.Model.{Meaning}
 use Rattle.law_model.specs.Rules.{transfer_of}
 use Rattle.law_model.specs.Model.Roles.{sender_of, receiver_of}
-use Rattle.tftp_law.specs.{OneEnded, Meant}
+use Rattle.law_end.specs.{OneEnded, Meant}
 use Rattle.tftp_judge.specs.{IsUnfinished, IsVerdictByRules, Refusal, Aborted, Incomplete}
 
 pub end_is : (named : End) (side : Side) → (named ≡ receiver_of side) ⊎ (named ≡ sender_of side)

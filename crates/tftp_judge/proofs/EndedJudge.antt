@@ -4,7 +4,7 @@ use Rattle.tftp_packet.specs.{RequestParts}
 use Rattle.tftp_packet.specs.Hosts.{Datagram, Header}
 use Rattle.law_model.specs.Model.{Meaning, request_of}
 use Rattle.law_model.specs.Rules.{transfer_of}
-use Rattle.tftp_law.specs.{NoErrorPassed, OneEnded, FirstAsked}
+use Rattle.law_end.specs.{NoErrorPassed, OneEnded, FirstAsked}
 use Rattle.tftp_judge.specs.{IsJudgeAfter, IsKept, IsTransferAfter, Judge, Transfer, IsVerdict, IsVerdictByRules, Refusal, Incomplete}
 use Rattle.tftp_judge.proofs.ByRuns.{verdict}
 use Rattle.tftp_judge.proofs.EndedTransfer.{unfinished_verdict}

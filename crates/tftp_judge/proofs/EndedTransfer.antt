@@ -11,14 +11,14 @@ use Rattle.tftp_ends.specs.{NamedEnd, Sends, Receives, terms_of, held_of, IsEndA
 use Rattle.law_model.specs.Rules.{transfer_of, Passed, Terms, NoReply}
 use Rattle.law_model.specs.Model.Roles.{sender_of, receiver_of}
 use Rattle.tftp_blocks.specs.{Held, IsHeldFront, IsJoin}
-use Rattle.tftp_law.specs.{CanBeWritten, ReadsAs, written_wire, IsWritable, OneEnded, IsAgreed, IsEnded, IsWhole, Meant, meaning_from, Answer, AreTerms, FirstAnswer, FirstAsked, NotAnswered, plain_terms, terms_after}
-use Rattle.tftp_law.proofs.Written.EachOf.{all_reverse}
-use Rattle.tftp_law.proofs.FirstBroken.FirstAnswered.{known_by, terms_one, first_one}
-use Rattle.tftp_law.proofs.Whole.OneMeaning.{one_meaning}
-use Rattle.tftp_law.proofs.Soundness.Settled.{settled, last_one}
-use Rattle.tftp_law.proofs.Whole.TwoEnds.{whole}
-use Rattle.tftp_law.proofs.Accord.WhoSends.{two_parts}
-use Rattle.tftp_law.proofs.Written.Written.{shown_can_be_written}
+use Rattle.law_end.specs.{CanBeWritten, ReadsAs, written_wire, IsWritable, OneEnded, IsAgreed, IsEnded, IsWhole, Meant, meaning_from, Answer, AreTerms, FirstAnswer, FirstAsked, NotAnswered, plain_terms, terms_after}
+use Rattle.law_end.proofs.Written.EachOf.{all_reverse}
+use Rattle.law_end.proofs.FirstBroken.FirstAnswered.{known_by, terms_one, first_one}
+use Rattle.law_end.proofs.Whole.OneMeaning.{one_meaning}
+use Rattle.law_end.proofs.Soundness.Settled.{settled, last_one}
+use Rattle.law_end.proofs.Whole.TwoEnds.{whole}
+use Rattle.law_end.proofs.Accord.WhoSends.{two_parts}
+use Rattle.law_end.proofs.Written.Written.{shown_can_be_written}
 use Rattle.tftp_judge.specs.{IsUnfinished, HasBegun, IsExchange, Transfer, IsTransferAfter, IsVerdictByRules, Refusal, NormalTooLong}
 use Rattle.tftp_judge.specs.Kept.{Exchange}
 use Rattle.tftp_judge.specs.declared.refusal.Refusal.TheVariants.{Memory}

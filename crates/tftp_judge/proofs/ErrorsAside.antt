@@ -5,8 +5,8 @@ use Rattle.tftp_packet.specs.Hosts.{Dir, In, Out, Datagram}
 use Rattle.law_model.specs.Rules.{Passed}
 use Rattle.tftp_ends.specs.{has_stopped}
 use Rattle.tftp_ends.proofs.Passing.{another, stopped_out, stopped_with}
-use Rattle.tftp_law.specs.{IsErrorBy, AbortedBy, IsFirstError}
-use Rattle.tftp_law.proofs.Spelled.{spelled_once}
+use Rattle.law_end.specs.{IsErrorBy, AbortedBy, IsFirstError}
+use Rattle.law_end.proofs.Spelled.{spelled_once}
 use Rattle.tftp_judge.specs.{ErrorText, Errors, IsErrorOf, AreErrors}
 
 module _ (d : Datagram) (passed : List Datagram) (m : Message) (spells : Spells d.payload m) (other : (code : ℕ) (text : List ℕ) → m ≡ Message.Error code text → ⊥) where

@@ -3,8 +3,8 @@ use Rattle.std.proofs.Common.{◌≡◌, ℕ, List, [], ◌∷◌, inl, inr, sym
 use Rattle.tftp_packet.specs.{Message, RequestParts, Get}
 use Rattle.tftp_packet.specs.Hosts.{Dir, Datagram, Header}
 use Rattle.law_model.specs.Rules.{Passed, Terms}
-use Rattle.tftp_law.specs.{Begins, NotAnswered, terms_after, AreTermsAfter}
-use Rattle.tftp_law.proofs.FirstBroken.FirstAnswered.{first_one, not_both}
+use Rattle.law_end.specs.{Begins, NotAnswered, terms_after, AreTermsAfter}
+use Rattle.law_end.proofs.FirstBroken.FirstAnswered.{first_one, not_both}
 
 pub terms_once : (h : Header) (asked : RequestParts) (ds : List Datagram) (t u : Terms) → AreTermsAfter h asked ds t → AreTermsAfter h asked ds u → t ≡ u
 terms_once h asked ds t u (inl none) (inl other) = none.1 ∙ sym other.1

@@ -6,8 +6,8 @@ use Rattle.tftp_capture.specs.declared.fault.CaptureFault.TheVariants.{Text, Rea
 use Rattle.tftp_capture.proofs.Beginnings.{agree, fault_after, unfinished_has}
 use Rattle.tftp_capture.proofs.Staying.{stays}
 use Rattle.tftp_packet.specs.Hosts.{Header}
-use Rattle.tftp_law.specs.{IsLawful}
-use Rattle.tftp_law.proofs.Whole.Beginnings.{empty_is_lawful}
+use Rattle.law_end.specs.{IsLawful}
+use Rattle.law_end.proofs.Whole.Beginnings.{empty_is_lawful}
 use Rattle.tftp_judge.specs.{EndsText, IsFaultOf, IsReadVerdict, LawfulBefore, MayWantAt, NoFaultBefore, IsTextVerdict, SaysReadFailed, unnumbered, Capture}
 use Rattle.tftp_judge.proofs.WantOfMemory.{before_want, no_fault_before, wanted_at, wants_first_line}
 use Rattle.tftp_judge.proofs.OneTextVerdict.{front_lawful}

@@ -10,8 +10,8 @@ use Rattle.tftp_capture.specs.declared.datagram.Datagram.{Datagram as Owned}
 use Rattle.tftp_capture.proofs.Beginnings.{begins_more, capture_begins}
 use Rattle.tftp_packet.specs.Hosts.{Datagram, Header}
 use Rattle.law_model.specs.Model.{Meaning}
-use Rattle.tftp_law.specs.{IsLawful, OneEnded, Passes, FirstBroken, Rule}
-use Rattle.tftp_law.proofs.Whole.TwoEnds.{lawful}
+use Rattle.law_end.specs.{IsLawful, OneEnded, Passes, FirstBroken, Rule}
+use Rattle.law_end.proofs.Whole.TwoEnds.{lawful}
 use Rattle.tftp_judge.specs.{Refuses, IsJudgeAfter, Judge, EndsText, IsReadVerdict, IsTextVerdict, SaysReadFailed, WantsToJudge, unnumbered, Verdict, IsUnlawfulAt, IsVerdict, Refusal, Unlawful, Capture, Refused}
 use Rattle.tftp_judge.specs.declared.refusal.Refusal.TheVariants.{Memory}
 use Rattle.tftp_judge.proofs.FirstFaults.{begins_longer, lawful_in, wants_more}

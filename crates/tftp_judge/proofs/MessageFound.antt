@@ -7,10 +7,10 @@ use Rattle.tftp_ends.specs.{IsBlockOrAck, Rejection}
 use Rattle.law_model.specs.Rules.{author_of, end_number, EndBroken, FirstEndBroken, Passed, Terms, EndRule}
 use Rattle.tftp_nego.specs.{MayAgree, FirstFault, number, NegoFault}
 use Rattle.tftp_nego.proofs.Tested.{no_fault}
-use Rattle.tftp_law.specs.{number_of, Agrees, Begins, NotAnswered, FirstAnswer, IsWrongKind, GoesOn, ClientWentOn, AreTermsAfter, BlockSent, RequestBreaks, FirstOackBreaks, LaterOackBreaks, OackBreaks, TermsBreak, KindBreaks, MessageBreaks, Rule}
-use Rattle.tftp_law.proofs.FirstBroken.OneMessage.{kind_from}
-use Rattle.tftp_law.proofs.FirstBroken.FirstAnswered.{first_one, not_both}
-use Rattle.tftp_law.proofs.Accord.WhoSends.{request_kind, oack_kind}
+use Rattle.law_end.specs.{number_of, Agrees, Begins, NotAnswered, FirstAnswer, IsWrongKind, GoesOn, ClientWentOn, AreTermsAfter, BlockSent, RequestBreaks, FirstOackBreaks, LaterOackBreaks, OackBreaks, TermsBreak, KindBreaks, MessageBreaks, Rule}
+use Rattle.law_end.proofs.FirstBroken.OneMessage.{kind_from}
+use Rattle.law_end.proofs.FirstBroken.FirstAnswered.{first_one, not_both}
+use Rattle.law_end.proofs.Accord.WhoSends.{request_kind, oack_kind}
 use Rattle.tftp_judge.specs.{Finds, NoneBreaks, IsFirstOf, error_of_fault, error_of_rejection, PassError}
 use Rattle.tftp_judge.proofs.FirstAnswers.{terms_once, block_answers}
 

@@ -4,8 +4,8 @@ use Rattle.tftp_packet.specs.{OptionMap, Message, Side}
 use Rattle.tftp_packet.specs.Hosts.{Datagram}
 use Rattle.tftp_ends.specs.{NamedEnd, Sends, Receives, IsEndAfter, held_of, AreBlocks}
 use Rattle.law_model.specs.Rules.{HasPassed}
-use Rattle.tftp_law.specs.{NotAnswered}
-use Rattle.tftp_law.proofs.Accord.FirstReply.{no_oack as none_this_way}
+use Rattle.law_end.specs.{NotAnswered}
+use Rattle.law_end.proofs.Accord.FirstReply.{no_oack as none_this_way}
 
 -- ---- blocks
 

@@ -8,8 +8,8 @@ use Rattle.tftp_capture.proofs.Beginnings.{agree, capture_has}
 use Rattle.tftp_capture.proofs.Readings.{reads_same}
 use Rattle.tftp_packet.specs.Hosts.{Header}
 use Rattle.law_model.specs.Model.{Meaning}
-use Rattle.tftp_law.specs.{IsLawful, Rule}
-use Rattle.tftp_law.proofs.Whole.Beginnings.{beginning_is_lawful}
+use Rattle.law_end.specs.{IsLawful, Rule}
+use Rattle.law_end.proofs.Whole.Beginnings.{beginning_is_lawful}
 use Rattle.tftp_judge.specs.{AllLawful, BeginsBy, IsOfText, IsTextVerdict, unnumbered, IsSaid, IsVerdict, Refusal, Unlawful, Verdict}
 use Rattle.tftp_judge.specs.declared.refusal.Refusal.TheVariants as refusal
 use Rattle.tftp_judge.specs.declared.verdict.Verdict.TheVariants as verdict

@@ -3,16 +3,16 @@ use Rattle.std.proofs.Common.{◌≡◌, ◌⊎◌, ℕ, ◌+◌, ◌-◌, List,
 use Rattle.tftp_packet.specs.{PacketFault, Short}
 use Rattle.tftp_packet.proofs.FaultOrder.{first_fault_unique}
 use Rattle.tftp_packet.specs.Hosts.{Datagram, Header}
-use Rattle.tftp_law.specs.{number_of, Broken, FirstBroken, AbortedBy, Rule, IsLawful}
+use Rattle.law_end.specs.{number_of, Broken, FirstBroken, AbortedBy, Rule, IsLawful}
 use Rattle.law_model.specs.Model.{Meaning}
 use Rattle.tftp_judge.specs.{IsSaid, IsUnlawfulAt, IsVerdict, Refusal, Unlawful, Aborted, Incomplete, NormalTooLong}
 use Rattle.tftp_judge.specs.declared.refusal.Refusal.TheVariants.{Memory}
 use Rattle.law_model.specs.Rules.{end_rules, transfer_of, EndRule, PortRule}
 use Rattle.tftp_nego.specs.{AgreementRule}
-use Rattle.tftp_law.proofs.FirstBroken.FirstError.{one_first, none_first}
-use Rattle.tftp_law.proofs.Whole.Beginnings.{beginning_is_lawful}
-use Rattle.tftp_law.proofs.Whole.TwoEnds.{one_shown}
-use Rattle.tftp_law.proofs.FirstBroken.FirstBroken.{one_first_broken}
+use Rattle.law_end.proofs.FirstBroken.FirstError.{one_first, none_first}
+use Rattle.law_end.proofs.Whole.Beginnings.{beginning_is_lawful}
+use Rattle.law_end.proofs.Whole.TwoEnds.{one_shown}
+use Rattle.law_end.proofs.FirstBroken.FirstBroken.{one_first_broken}
 
 -- ---- the rule
 

@@ -9,7 +9,7 @@ use Rattle.law_model.specs.Rules.{author_of, BlocksWait, AckZeroWaits, AckBreaks
 use Rattle.law_model.proofs.RulesLemmas.EndRules.{from_18}
 use Rattle.tftp_ends.proofs.BeforeReply.{read_alike, ack_put_alike}
 use Rattle.tftp_ends.proofs.Passing.{none_greatest, usable_passed}
-use Rattle.tftp_law.specs.{AreTermsAfter, TermsBreak, Answer, Agrees, Begins, IsAnswer, IsWrongKind, NotAnswered, plain_terms, terms_after, Rule}
+use Rattle.law_end.specs.{AreTermsAfter, TermsBreak, Answer, Agrees, Begins, IsAnswer, IsWrongKind, NotAnswered, plain_terms, terms_after, Rule}
 use Rattle.tftp_judge.specs.{WaitsForReply, Finds, NoneBreaks, IsFirstOf, HasBegun, error_of_rejection}
 use Rattle.tftp_judge.proofs.MessageFound.{no_end, first_end}
 

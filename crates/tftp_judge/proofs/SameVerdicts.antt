@@ -14,7 +14,7 @@ use Rattle.tftp_capture.proofs.TwoTexts.{map_whole, says_the_same}
 use Rattle.tftp_capture.proofs.Readings.{reads_same}
 use Rattle.tftp_packet.specs.Hosts.{Header}
 use Rattle.law_model.specs.Model.{Meaning}
-use Rattle.tftp_law.specs.{IsLawful}
+use Rattle.law_end.specs.{IsLawful}
 use Rattle.tftp_judge.specs.{AllLawful, IsCaptureBy, IsTextVerdict, LawfulBefore, MayWantAt, WantsToJudge, unnumbered, TakesMemory, IsVerdict, Verdict, Refusal, Unlawful, Aborted, Incomplete, NormalTooLong}
 use Rattle.tftp_judge.specs.declared.verdict.Verdict.TheVariants as verdict
 use Rattle.tftp_judge.specs.declared.refusal.Refusal.TheVariants.{Memory as NoMemory}

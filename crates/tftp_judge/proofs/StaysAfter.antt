@@ -5,8 +5,8 @@ use Rattle.tftp_packet.specs.Hosts.{Dir, In, Out, Datagram, Header}
 use Rattle.tftp_ends.specs.{NamedEnd, terms_of, IsEndAfter, IsBeforeBlocks, IsAside, IsBlockOrAck, Says}
 use Rattle.tftp_ends.proofs.EndsAside.{end_aside}
 use Rattle.tftp_ends.proofs.Passing.{another, aside_no_block, aside_no_ack}
-use Rattle.tftp_law.specs.{AckSent, BlockSent, Answer, Agrees, Begins, FirstAnswer, IsAnswer, IsWrongKind, NotAnswered, terms_after}
-use Rattle.tftp_law.proofs.Spelled.{spelled_once}
+use Rattle.law_end.specs.{AckSent, BlockSent, Answer, Agrees, Begins, FirstAnswer, IsAnswer, IsWrongKind, NotAnswered, terms_after}
+use Rattle.law_end.proofs.Spelled.{spelled_once}
 use Rattle.tftp_judge.proofs.ErrorsAside.{errors_aside}
 use Rattle.tftp_judge.specs.{DiffersByExchange, DiffersBySent, HasAgreed, HasAnswer, Unanswered, Begun, Agreed, HasBegun, IsExchange, Transfer, IsTransferAfter, Errors, AreErrors, exchange_of}
 use Rattle.tftp_judge.specs.Kept.{Exchange}

@@ -5,7 +5,7 @@ use Rattle.tftp_packet.specs.{Message, Spells}
 use Rattle.tftp_packet.specs.Hosts.{Datagram, Header}
 use Rattle.tftp_ends.specs.{IsNewStray}
 use Rattle.law_model.specs.Rules.{is_of_transfer, route_of, transfer_of, HasPassed, Passed}
-use Rattle.tftp_law.proofs.Spelled.{spelled_once}
+use Rattle.law_end.proofs.Spelled.{spelled_once}
 use Rattle.tftp_judge.specs.{IsNew, TakesMemory}
 
 module _ (h : Header) (earlier : List Datagram) (d : Datagram) (on : is_of_transfer (route_of h earlier d) ≡ true) where

@@ -5,7 +5,7 @@ use Rattle.tftp_capture.specs.CaptureText.{Datagram, Header}
 use Rattle.tftp_capture.specs.{Begins, BeginsWith, Due, Numbered, Stands, SaysOneMore, TextFault}
 use Rattle.tftp_capture.specs.CaptureText.Due.{Head, EndLine, ServiceLine, Body, Nothing}
 use Rattle.std.specs.List.{slice_split}
-use Rattle.tftp_law.proofs.Whole.Beginnings.{empty_is_lawful}
+use Rattle.law_end.proofs.Whole.Beginnings.{empty_is_lawful}
 use Rattle.tftp_judge.specs.{LawfulBefore, MayWantAt, NoFaultBefore}
 use Rattle.tftp_capture.proofs.Readings.{FaultIs, fault_is}
 use Rattle.tftp_capture.proofs.Readings.FaultIs.{cut, wrong}

@@ -4,12 +4,12 @@ use Rattle.tftp_packet.specs.{Message, RequestParts, Spells}
 use Rattle.tftp_packet.specs.Hosts.{Dir, In, Out, Datagram, Header}
 use Rattle.law_model.specs.Rules.{or_this, first_of, asks, route_of, is_of_transfer, transfer_of, author_of, Passed}
 use Rattle.law_model.specs.Model.Roles.{sender_of, receiver_of}
-use Rattle.tftp_law.specs.{Passes, OneEnded, FirstAsked, IsWrongKind, Rule}
-use Rattle.tftp_law.proofs.FirstBroken.FirstAnswered.{or_new, main_none, main_some}
-use Rattle.tftp_law.proofs.FirstBroken.OneMessage.{none_by}
-use Rattle.tftp_law.proofs.FirstBroken.FirstRequests.{some_same, first_stays, none_before}
-use Rattle.tftp_law.proofs.Spelled.{spelled_once}
-use Rattle.tftp_law.proofs.Accord.WhoSends.{ack_in_who, ack_out_who}
+use Rattle.law_end.specs.{Passes, OneEnded, FirstAsked, IsWrongKind, Rule}
+use Rattle.law_end.proofs.FirstBroken.FirstAnswered.{or_new, main_none, main_some}
+use Rattle.law_end.proofs.FirstBroken.OneMessage.{none_by}
+use Rattle.law_end.proofs.FirstBroken.FirstRequests.{some_same, first_stays, none_before}
+use Rattle.law_end.proofs.Spelled.{spelled_once}
+use Rattle.law_end.proofs.Accord.WhoSends.{ack_in_who, ack_out_who}
 
 module _ (h : Header) (asked : RequestParts) (dir : Dir) (j : ℕ) where
   abbrev IsRightKind : List Datagram → Type 0

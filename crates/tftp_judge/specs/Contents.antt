@@ -1,7 +1,7 @@
 -- What is kept of a file: its bytes, or those of the wire that carries it (RFC 1350, section 1).
 use Rattle.std.specs.Prelude.{◌≡◌, ℕ, List}
 use Rattle.tftp_packet.specs.{Mode}
-use Rattle.tftp_law.specs.{carried_file, written_wire}
+use Rattle.law_end.specs.{carried_file, written_wire}
 use Rattle.tftp_judge.specs.declared.file.FileBytes.{FileBytes}
 
 -- the file that is kept

@@ -1,7 +1,7 @@
 -- What there is to say of a lawful transfer that is not whole. The list `passed` has its datagrams, the newest first.
 use Rattle.std.specs.Prelude.{◌≡◌, ℕ, List}
 use Rattle.tftp_packet.specs.Hosts.{Datagram}
-use Rattle.tftp_law.specs.{FirstError, NoErrorPassed}
+use Rattle.law_end.specs.{FirstError, NoErrorPassed}
 use Rattle.tftp_judge.specs.declared.refusal.Refusal.{Refusal}
 use Rattle.tftp_judge.specs.declared.refusal.Refusal.TheVariants.{Aborted, Incomplete}
 

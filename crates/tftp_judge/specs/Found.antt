@@ -4,7 +4,7 @@ use Rattle.tftp_packet.specs.{IsFirst}
 use Rattle.tftp_packet.specs.Hosts.{Datagram, Header}
 use Rattle.tftp_ends.specs.{PortFault, Rejection}
 use Rattle.law_model.specs.Rules.{EndRule}
-use Rattle.tftp_law.specs.{Passes, number_of, FirstBroken, Rule, Port, Agreement, Block}
+use Rattle.law_end.specs.{Passes, number_of, FirstBroken, Rule, Port, Agreement, Block}
 use Rattle.tftp_nego.specs.{NegoFault}
 use Rattle.tftp_judge.specs.Memory.{TakesMemory}
 use Rattle.tftp_judge.specs.declared.refusal.Refusal.{Refusal}

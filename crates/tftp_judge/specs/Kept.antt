@@ -5,7 +5,7 @@ use Rattle.tftp_packet.specs.{OptionMap, Message, RequestParts, Spells, End}
 use Rattle.tftp_packet.specs.Hosts.{Dir, In, Out, Datagram, Header}
 use Rattle.tftp_ends.specs.{KnownIds, StandsFor, NamedEnd, terms_of, IsEndAfter, has_stopped, IsBeforeBlocks}
 use Rattle.law_model.specs.Rules.{transfer_of, Passed}
-use Rattle.tftp_law.specs.{IsErrorBy, IsFirstError, AckSent, BlockSent, OneEnded, Answer, Agrees, Begins, FirstAnswer, FirstAsked, NotAnswered, terms_after, AbortedBy}
+use Rattle.law_end.specs.{IsErrorBy, IsFirstError, AckSent, BlockSent, OneEnded, Answer, Agrees, Begins, FirstAnswer, FirstAsked, NotAnswered, terms_after, AbortedBy}
 use Rattle.tftp_judge.specs.declared.refusal.Refusal.{Refusal}
 
 -- ---- ERRORs

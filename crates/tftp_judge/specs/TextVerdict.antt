@@ -6,7 +6,7 @@ use Rattle.tftp_capture.specs.CaptureText.Due.{Body}
 use Rattle.tftp_capture.specs.declared.fault.CaptureFault.TheVariants.{Text, Read, Memory}
 use Rattle.tftp_packet.specs.Hosts.{Datagram, Header}
 use Rattle.law_model.specs.Model.{Meaning}
-use Rattle.tftp_law.specs.{IsLawful}
+use Rattle.law_end.specs.{IsLawful}
 use Rattle.tftp_judge.specs.Memory.{TakesMemory}
 use Rattle.tftp_judge.specs.Verdicts.{IsVerdict}
 use Rattle.tftp_judge.specs.declared.refusal.Refusal.{Refusal}

@@ -3,7 +3,7 @@
 use Rattle.std.specs.Prelude.{◌≡◌, ℕ, ◌+◌, List, [], ◌∷◌, ◌++◌, length, reverse, Result, Ok, Err}
 use Rattle.tftp_packet.specs.Hosts.{Datagram, Header}
 use Rattle.law_model.specs.Model.{Meaning}
-use Rattle.tftp_law.specs.{IsAborted, IsNotAborted, IsWritable, IsLawful, ShowsBy, FirstBroken, Rule, IsEnded, OneEnded, Meant}
+use Rattle.law_end.specs.{IsAborted, IsNotAborted, IsWritable, IsLawful, ShowsBy, FirstBroken, Rule, IsEnded, OneEnded, Meant}
 use Rattle.tftp_judge.specs.declared.refusal.Refusal.{Refusal}
 use Rattle.tftp_judge.specs.declared.refusal.Refusal.TheVariants.{Unlawful, Aborted, Incomplete, NormalTooLong, Memory}
 

@@ -5,7 +5,7 @@ ghost use Rattle.tftp_packet.specs.{Message, meaning};
 ghost use Rattle.tftp_packet.specs.Hosts.{Datagram, Out};
 ghost use Rattle.law_model.specs.Rules.{Passed};
 ghost use Rattle.tftp_ends.specs.{has_stopped, Says};
-ghost use Rattle.tftp_law.specs.{by_of as by_way, GoesOn, IsError};
+ghost use Rattle.law_end.specs.{by_of as by_way, GoesOn, IsError};
 ghost use Rattle.tftp_judge.specs.Ending.{IsUnfinished};
 ghost use Rattle.tftp_judge.specs.Kept.{AreErrors, ErrorText as ErrorParts};
 ghost use Rattle.tftp_judge.specs.Memory.{IsNew};
@@ -14,7 +14,7 @@ use crate::refusal::Refusal;
 use std::alloc::{AllocError, Global};
 use std::marker::Model;
 use tftp_packet::hosts::Dir;
-use tftp_law::AbortedBy;
+use law_end::AbortedBy;
 use tftp_packet::{Bytes, Packet};
 
 /// An ERROR that has passed (RFC 1350, section 5).

@@ -3,7 +3,7 @@ ghost use Rattle.tftp_packet.specs.{Message, RequestParts, Spells, meaning, map_
 ghost use Rattle.tftp_packet.specs.Hosts.{Datagram, Header};
 ghost use Rattle.law_model.specs.Rules.{author_of};
 ghost use Rattle.tftp_ends.specs.{IsBlockOrAck, Says};
-ghost use Rattle.tftp_law.specs.{TermsBreak, IsError, IsWrongKind};
+ghost use Rattle.law_end.specs.{TermsBreak, IsError, IsWrongKind};
 ghost use Rattle.tftp_judge.specs.Exchanges.{HasAnswer, IsNewBlockOn};
 ghost use Rattle.tftp_judge.specs.Found.{Finds};
 ghost use Rattle.tftp_judge.specs.Kept.{IsExchange};

@@ -2,7 +2,7 @@
 
 ghost use Rattle.std.specs.Prelude.{◌≡◌, ◌/◌, ◌+◌, ◌≤◌, ℕ, List, length, MatchOption, IfOk, OnErr};
 ghost use Rattle.tftp_blocks.specs.{IsHeldFront, IsJoin};
-ghost use Rattle.tftp_law.specs.{ReadsAs, written_wire};
+ghost use Rattle.law_end.specs.{ReadsAs, written_wire};
 
 use std::alloc::{AllocError, Global};
 use std::marker::Model;
@@ -30,7 +30,7 @@ pub struct CarriedFile {
 impl Model for CarriedFile {
     ghost use Rattle.std.specs.Prelude.{◌≡◌, ℕ, List, length};
     ghost use Rattle.tftp_packet.specs.declared.kinds.Mode.{Mode};
-    ghost use Rattle.tftp_law.specs.Fitting.{carried_file, written_wire};
+    ghost use Rattle.law_end.specs.Fitting.{carried_file, written_wire};
 
     ghost Value = { Mode × List ℕ };
 
@@ -42,7 +42,7 @@ impl Model for CarriedFile {
 
 impl CarriedFile {
     ghost use Rattle.std.specs.Prelude.{◌≡◌, length};
-    ghost use Rattle.tftp_law.specs.Fitting.{ReadsAs, written_wire};
+    ghost use Rattle.law_end.specs.Fitting.{ReadsAs, written_wire};
     ghost use Rattle.tftp_judge.specs.Contents.{file_in, IsCanonical};
 
     /// The file that a wire reads as (RFC 1350, section 1). It is counted, and takes no memory.

@@ -3,7 +3,7 @@ ghost use Rattle.tftp_capture.specs.{datagram_of, header_of};
 ghost use Rattle.tftp_packet.specs.{meaning};
 ghost use Rattle.law_model.specs.Rules.{is_of_transfer, route_of, transfer_of};
 ghost use Rattle.tftp_packet.specs.Hosts.{Datagram as DatagramParts, Header as HeaderParts};
-ghost use Rattle.tftp_law.specs.{Passes, IsEnded};
+ghost use Rattle.law_end.specs.{Passes, IsEnded};
 ghost use Rattle.tftp_judge.specs.Found.{Refuses};
 ghost use Rattle.tftp_judge.specs.Kept.{IsJudgeAfter};
 ghost use Rattle.tftp_judge.specs.Memory.{TakesForJoin};

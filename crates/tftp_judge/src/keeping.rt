@@ -4,7 +4,7 @@ ghost use Rattle.tftp_capture.specs.{datagram_of, header_of};
 ghost use Rattle.tftp_packet.specs.Hosts.{Datagram as DatagramParts, Header as HeaderParts};
 ghost use Rattle.tftp_ends.specs.{among_all};
 ghost use Rattle.law_model.specs.Rules.{route_of, is_of_transfer};
-ghost use Rattle.tftp_law.specs.{OneEnded};
+ghost use Rattle.law_end.specs.{OneEnded};
 ghost use Rattle.tftp_judge.specs.Found.{FindsOf, error_by_port};
 ghost use Rattle.tftp_judge.specs.Kept.{HasKept, IsKept, IsTransferAfter, Transfer as TransferParts};
 ghost use Rattle.tftp_judge.specs.Memory.{TakesMemory};
@@ -20,7 +20,7 @@ use tftp_blocks::Delivered;
 use tftp_capture::{Datagram, Header};
 use tftp_ends::{PortFault, Ports, Route, says_unknown_id};
 use tftp_packet::hosts::Dir;
-use tftp_law::Rule;
+use law_end::Rule;
 use tftp_packet::{Bytes, Packet, RequestView, ack_of, block_of, opcode, own_request, read_packet};
 use law_model::rules::PortRule;
 

@@ -1,7 +1,7 @@
 ghost use Rattle.std.specs.Prelude.{◌≡◌, ◌↔◌, IsTrue};
 ghost use Rattle.tftp_packet.specs.{meaning};
 ghost use Rattle.law_model.specs.Rules.{author_of as author_by_way};
-ghost use Rattle.tftp_law.specs.{IsWrongKind};
+ghost use Rattle.law_end.specs.{IsWrongKind};
 
 use tftp_packet::hosts::Dir;
 use tftp_packet::{End, Packet, Side};

@@ -27,5 +27,5 @@ pub use pass_error::PassError;
 pub use refusal::Refusal;
 pub use sent_acks::SentAcks;
 pub use text::judge_text;
-pub use tftp_law::{AbortedBy, Rule};
+pub use law_end::{AbortedBy, Rule};
 pub use verdict::Verdict;

@@ -28,8 +28,8 @@ pub struct MeaningParts {
 impl Model for Meaning {
     ghost use Rattle.std.specs.Prelude.{◌≡◌};
     ghost use Rattle.law_model.specs.Model.Meanings.{Meaning as Parts};
-    ghost use Rattle.tftp_law.specs.Writable.{blocks_of, CanBeWritten};
-    ghost use Rattle.tftp_law.specs.Owned.{meaning_code, meaning_from};
+    ghost use Rattle.law_end.specs.Writable.{blocks_of, CanBeWritten};
+    ghost use Rattle.law_end.specs.Owned.{meaning_code, meaning_from};
 
     ghost Value = { Parts };
 
@@ -43,8 +43,8 @@ impl Model for Meaning {
 impl Meaning {
     ghost use Rattle.std.specs.Prelude.{◌≡◌, length};
     ghost use Rattle.law_model.specs.Model.Meanings.{request_of};
-    ghost use Rattle.tftp_law.specs.Writable.{blocks_of, CanBeWritten};
-    ghost use Rattle.tftp_law.specs.Owned.{meaning_from};
+    ghost use Rattle.law_end.specs.Writable.{blocks_of, CanBeWritten};
+    ghost use Rattle.law_end.specs.Owned.{meaning_from};
     ghost use Rattle.tftp_judge.specs.Contents.{file_in, IsCanonical};
 
     /// Takes the parts over, and no memory. The number of the blocks is that of the canonical wire.

@@ -1,4 +1,4 @@
-use tftp_law::{AbortedBy, Rule};
+use law_end::{AbortedBy, Rule};
 
 /// Why the datagrams of a capture are not accepted.
 #[derive(Clone, Copy, Debug, PartialEq, Eq)]

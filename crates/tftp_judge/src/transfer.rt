@@ -3,7 +3,7 @@ ghost use Rattle.tftp_packet.specs.{OptionMap, Message, Get, Spells, meaning, pa
 ghost use Rattle.tftp_packet.specs.Hosts.{Out, Datagram, Header};
 ghost use Rattle.tftp_ends.specs.{terms_of, IsEndAfter, IsBeforeBlocks, IsBlockOrAck, Says};
 ghost use Rattle.law_model.specs.Rules.{transfer_of, author_of as author_by_way, Plain};
-ghost use Rattle.tftp_law.specs.{MessageBreaks, FirstOackBreaks, LaterOackBreaks, OackBreaks, RequestBreaks, TermsBreak, BlockSent, AckSent, OneEnded, IsEnded, Agrees, ClientWentOn, FirstAsked, GoesOn, IsWrongKind, plain_terms as plain_terms_of, terms_after};
+ghost use Rattle.law_end.specs.{MessageBreaks, FirstOackBreaks, LaterOackBreaks, OackBreaks, RequestBreaks, TermsBreak, BlockSent, AckSent, OneEnded, IsEnded, Agrees, ClientWentOn, FirstAsked, GoesOn, IsWrongKind, plain_terms as plain_terms_of, terms_after};
 ghost use Rattle.tftp_judge.specs.Found.{Finds, error_of_fault};
 ghost use Rattle.tftp_judge.specs.Exchanges.{WaitsForReply, DiffersByExchange, DiffersBySent};
 ghost use Rattle.tftp_judge.specs.Memory.{IsNew, TakesForJoin};
@@ -27,7 +27,7 @@ use std::marker::Model;
 use tftp_blocks::Delivered;
 use tftp_ends::NamedEnd;
 use tftp_packet::hosts::Dir;
-use tftp_law::Rule;
+use law_end::Rule;
 use tftp_nego::{Agreed, NegoFault, agree, nothing_agreed};
 use tftp_packet::{
     End, Mode, OptionsView, Packet, Request, RequestView, Side, same_options, same_request,

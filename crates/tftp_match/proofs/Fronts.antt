@@ -6,7 +6,7 @@ use Rattle.std.proofs.lemmas.List.{length-append, length-reverse, map-append, re
 use Rattle.tftp_capture.specs.{Begins, BeginsWith, HasFault, IsCapture, Numbered, TextFault}
 use Rattle.tftp_capture.proofs.Beginnings.{agree, capture_begins, capture_has, fault_after}
 use Rattle.tftp_packet.specs.Hosts.{Datagram, Header}
-use Rattle.tftp_law.specs.{OneEnded}
+use Rattle.law_end.specs.{OneEnded}
 use Rattle.tftp_judge.specs.{unnumbered}
 use Rattle.tftp_pair.specs.{IsLawfulTo}
 use Rattle.tftp_pair_judge.specs.{IsReadOf}

@@ -11,7 +11,7 @@ use Rattle.tftp_capture.proofs.Beginnings.{begins_more, capture_begins}
 use Rattle.tftp_capture.proofs.Staying.{stays}
 use Rattle.tftp_packet.specs.Hosts.{Datagram, Header}
 use Rattle.law_model.specs.Model.{Meaning}
-use Rattle.tftp_law.specs.{OneEnded}
+use Rattle.law_end.specs.{OneEnded}
 use Rattle.tftp_judge.specs.{Refuses, IsJudgeAfter, Judge, IsOfText, IsReadVerdict, IsTextVerdict, SaysReadFailed, unnumbered, IsVerdict, Refusal, Unlawful, Verdict, Capture, Refused as RefusedFor}
 use Rattle.tftp_judge.specs.declared.refusal.Refusal.TheVariants.{Memory}
 use Rattle.tftp_judge.proofs.FirstFaults.{begins_longer, fault_kinds}

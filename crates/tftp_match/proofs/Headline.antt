@@ -8,8 +8,8 @@ use Rattle.tftp_capture.proofs.Beginnings.{capture_begins, capture_has}
 use Rattle.tftp_capture.proofs.Readings.{reads_same}
 use Rattle.tftp_packet.specs.Hosts.{Header}
 use Rattle.law_model.specs.Model.{Meaning}
-use Rattle.tftp_law.specs.{IsLawful}
-use Rattle.tftp_law.proofs.Whole.TwoEnds.{lawful}
+use Rattle.law_end.specs.{IsLawful}
+use Rattle.law_end.proofs.Whole.TwoEnds.{lawful}
 use Rattle.tftp_judge.specs.{IsOfText, IsTextVerdict, SaysReadFailed, WantsMemory, unnumbered, IsVerdict, Unlawful, Verdict, Capture, Refused}
 use Rattle.tftp_judge.specs.declared.refusal.Refusal.TheVariants.{Memory}
 use Rattle.tftp_judge.proofs.OneTextVerdict.{captured_or_faulty, longer_unlawful}

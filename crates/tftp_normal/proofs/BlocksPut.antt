@@ -6,7 +6,7 @@ use Rattle.net_streams.specs.Streams.{Sink, WritesPart}
 use Rattle.tftp_packet.specs.Hosts.{Datagram}
 use Rattle.law_model.specs.Model.{Meaning, blksize_of, block, MachinePacket, Data, Ack, message_of}
 use Rattle.law_model.specs.Model.Machines.{sender_of, receiver_of}
-use Rattle.tftp_law.specs.{dir_of, wire_of}
+use Rattle.law_end.specs.{dir_of, wire_of}
 use Rattle.tftp_normal.specs.{blocks_after, deed_of_client, normal_datagram, dir_from, sent_by, datagrams_of, lines_of, HasPut}
 use Rattle.tftp_normal.proofs.Lengths.{blocks_length}
 use Rattle.tftp_normal.proofs.Putting.{Putting, putting_next, putting_failed}

@@ -6,7 +6,7 @@ use Rattle.std.specs.FinMap as map
 use Rattle.std.specs.Fmt.{digits}
 use Rattle.tftp_packet.specs.{OptionValue, Num, no_options, Side, Get, Put}
 use Rattle.law_model.specs.Model.{Meaning, NothingAgreed, windowsize_of, number_or, two_bytes, eight_a_block, eight_by_four, six_blocks, block_count, MachinePacket, Req, Oack, Data, Ack}
-use Rattle.tftp_law.specs.{blocks_of}
+use Rattle.law_end.specs.{blocks_of}
 use Rattle.tftp_normal.specs.{normal_datagrams, normal_count, normal_packets, normal_datagram, normal_header, normal_text, opening_on, opening_count, windows_after, window_count, two_bytes_datagrams, two_bytes_text, six_blocks_datagrams, six_blocks_text, ten_bytes_written, ten_bytes_written_datagrams, line_end_cut, line_end_cut_datagrams}
 use Rattle.tftp_capture.specs.{text_of}
 use Rattle.hex.specs.Hex.{encode_with}

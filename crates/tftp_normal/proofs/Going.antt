@@ -8,8 +8,8 @@ use Rattle.law_model.specs.Model.Roles.{sender_of, receiver_of}
 use Rattle.law_model.proofs.ModelLemmas.HistoryTests.{all_sent, is_no_error, none_sent}
 use Rattle.law_model.proofs.ModelLemmas.Stops.{stopped, heard_all}
 use Rattle.law_model.proofs.ModelLemmas.Members.{contains_first, contains_later, contains_cases}
-use Rattle.tftp_law.specs.{Labelled, Main, TransferIds, Division, view_in, dir_of, packet_of, HaveLabels, wire_of, blocks_of, CanBeWritten}
-use Rattle.tftp_law.proofs.Written.EachOf.{all_take, all_drop}
+use Rattle.law_end.specs.{Labelled, Main, TransferIds, Division, view_in, dir_of, packet_of, HaveLabels, wire_of, blocks_of, CanBeWritten}
+use Rattle.law_end.proofs.Written.EachOf.{all_take, all_drop}
 use Rattle.tftp_normal.specs.{blocks_after, windows_after, author, deed_of_client, client_deed, normal_remote, normal_header}
 
 abbrev pub ids : TransferIds

@@ -2,7 +2,7 @@
 use Rattle.std.proofs.Common.{◌≡◌, ◌↔◌, ℕ, List, Ok}
 use Rattle.law_model.specs.Model.{Meaning}
 use Rattle.tftp_judge.specs.{IsTextVerdict, unnumbered}
-use Rattle.tftp_law.proofs.Whole.Beginnings.{shown_is_lawful}
+use Rattle.law_end.proofs.Whole.Beginnings.{shown_is_lawful}
 use Rattle.tftp_normal.specs.{IsAccepted, normal_text}
 use Rattle.tftp_normal.proofs.Texts.{normal_accepted, normal_again, same_texts}
 

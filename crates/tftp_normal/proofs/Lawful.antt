@@ -9,10 +9,10 @@ use Rattle.tftp_packet.specs.{OptionValue, Side, Get, Put, canonical}
 use Rattle.tftp_capture.specs.{IsLawful}
 use Rattle.tftp_packet.specs.Hosts.{IsHost, no_host}
 use Rattle.law_model.specs.Model.{Meaning, SomethingAgreed, blksize_of, windowsize_of, MachinePacket, Req, Oack, Data, Ack, Error, message_of}
-use Rattle.tftp_law.specs.{wire_of, blocks_of, CanBeWritten}
+use Rattle.law_end.specs.{wire_of, blocks_of, CanBeWritten}
 use Rattle.tftp_normal.specs.{windows_of, opening_on, opening, blocks_after, windows_after, normal_packets, normal_remote, normal_datagram, normal_datagrams, opening_count, normal_count}
 use Rattle.hex.specs.Hex.{IsBytes}
-use Rattle.tftp_law.proofs.Written.EachOf.{Bytes, all_both, all_each}
+use Rattle.law_end.proofs.Written.EachOf.{Bytes, all_both, all_each}
 use Rattle.tftp_normal.proofs.Going.{data_spells, ack_spells}
 
 pub at_each : (bytes : List ℕ) → Bytes bytes → IsBytes bytes

@@ -4,9 +4,9 @@ use Rattle.std.proofs.lemmas.List.{length-map}
 use Rattle.std.specs.FinMap as finite
 use Rattle.tftp_packet.specs.{Side, Get, Put}
 use Rattle.law_model.specs.Model.{Meaning, windowsize_of, Ack}
-use Rattle.tftp_law.specs.{wire_of, blocks_of, ShowsBy}
+use Rattle.law_end.specs.{wire_of, blocks_of, ShowsBy}
 use Rattle.tftp_normal.specs.{windows_of, opening, opening_on, blocks_after, windows_after, normal_packets, normal_datagram, normal_datagrams, opening_count, normal_count}
-use Rattle.tftp_law.proofs.Written.Passed.{some_window}
+use Rattle.law_end.proofs.Written.Passed.{some_window}
 use Rattle.tftp_normal.proofs.Shortest.{windows_hold, count_is_least}
 use Rattle.tftp_packet.specs.Hosts.{Datagram, Header}
 

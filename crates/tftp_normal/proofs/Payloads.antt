@@ -6,7 +6,7 @@ use Rattle.std.specs.Ordering.{nat_cmp}
 use Rattle.std.specs.Cmp.Lexicographic.{slice_cmp}
 use Rattle.tftp_packet.specs.{OptionValue, Message, canonical}
 use Rattle.law_model.specs.Model.{Meaning}
-use Rattle.tftp_law.specs.{CanBeWritten}
+use Rattle.law_end.specs.{CanBeWritten}
 
 pub oack_short : (m : Meaning) → CanBeWritten m → map.len m.agreed ≢ 0 → length (canonical (Message.Oack m.agreed)) ≤ 65527
 oack_short m can some = (can.oack (λ none. some (ap map.len none ∙ len-empty (slice_cmp nat_cmp) OptionValue))).1

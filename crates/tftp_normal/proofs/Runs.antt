@@ -8,7 +8,7 @@ use Rattle.std.specs.List.{between}
 use Rattle.tftp_packet.specs.{Mode, Octet, Netascii}
 use Rattle.tftp_netascii.specs.{IsPlain}
 use Rattle.tftp_netascii.proofs.CanonicalLemmas.{canonical_run}
-use Rattle.tftp_law.specs.{written_wire}
+use Rattle.law_end.specs.{written_wire}
 
 written_run : (mode : Mode) (run rest : List ℕ) → AllByRecursion IsPlain run → written_wire mode (run ++ rest) ≡ run ++ written_wire mode rest
 written_run Octet run rest plain = refl

@@ -11,12 +11,12 @@ use Rattle.tftp_packet.specs.Hosts.{Datagram, Header}
 use Rattle.law_model.specs.Model.{Meaning, NothingAgreed, blksize_of, windowsize_of, block_count, MachinePacket, Req, Oack, Data, Ack, Error, Deed, Sent, Took, History, IsOneSided, IsComplete}
 use Rattle.law_model.proofs.ModelLemmas.Members.{contains_first, contains_later, contains_cases, contains_none}
 use Rattle.law_model.proofs.ModelLemmas.OneSided.{view_one_sided}
-use Rattle.tftp_law.specs.Dress.{StrayAnswer}
-use Rattle.tftp_law.specs.{Label, Main, Stray, Division, view_in, packet_of, ShowsBy, wire_of}
+use Rattle.law_end.specs.Dress.{StrayAnswer}
+use Rattle.law_end.specs.{Label, Main, Stray, Division, view_in, packet_of, ShowsBy, wire_of}
 use Rattle.tftp_normal.specs.{window_count, opening_count, normal_count}
 use Rattle.tftp_normal.proofs.Counted.{at_least}
-use Rattle.tftp_law.proofs.Written.Passed.{each_block, last_ack, first, some_block}
-use Rattle.tftp_law.proofs.Written.Needed.{HasPassed, let_go, opened_get, opened_put}
+use Rattle.law_end.proofs.Written.Passed.{each_block, last_ack, first, some_block}
+use Rattle.law_end.proofs.Written.Needed.{HasPassed, let_go, opened_get, opened_put}
 
 contains_map : {A B : Type 0} (f : A → B) (x : A) (xs : List A) → Contains xs x → Contains (each f xs) (f x)
 contains_map f x [] at = absurd (contains_none x at)

@@ -11,8 +11,8 @@ use Rattle.law_model.specs.Model.Roles.{sender_of, receiver_of}
 use Rattle.law_model.proofs.ModelLemmas.HistoryTests.{none_sent}
 use Rattle.law_model.proofs.ModelLemmas.Members.{contains_first, contains_cases, contains_none}
 use Rattle.law_model.proofs.ModelLemmas.MadeRuns.{one_sided_view}
-use Rattle.tftp_law.specs.{Division, view_in, datagrams_of, ShowsBy, Shows, wire_of, blocks_of, CanBeWritten}
-use Rattle.tftp_law.proofs.Whole.TwoEnds.{one}
+use Rattle.law_end.specs.{Division, view_in, datagrams_of, ShowsBy, Shows, wire_of, blocks_of, CanBeWritten}
+use Rattle.law_end.proofs.Whole.TwoEnds.{one}
 use Rattle.tftp_normal.specs.{windows_of, opening_on, opening, windows_after, normal_packets, normal_datagram, normal_datagrams, normal_header}
 use Rattle.tftp_normal.proofs.Shortest.{windows_hold}
 use Rattle.tftp_normal.proofs.Going.{ids, place, after, after_both, Going, windows, ack_spells, answer_first}

@@ -9,7 +9,7 @@ use Rattle.net_streams.proofs.StreamsLemmas.Gathering.{gathers_more, gathers_pre
 use Rattle.tftp_capture.proofs.Skips.{whole_lines-push}
 use Rattle.tftp_packet.specs.Hosts.{Datagram}
 use Rattle.law_model.specs.Model.{Meaning, windowsize_of}
-use Rattle.tftp_law.specs.{blocks_of}
+use Rattle.law_end.specs.{blocks_of}
 use Rattle.tftp_normal.specs.{opening, windows_after, windows_of, normal_datagram, normal_datagrams, normal_header, normal_text, normal_count, datagrams_of, lines_of, HasPut}
 use Rattle.tftp_normal.proofs.Lengths.{counted}
 use Rattle.tftp_normal.proofs.Putting.{lines_both}

@@ -9,14 +9,14 @@ use Rattle.tftp_capture.proofs.Canonical.{canonical_is_read}
 use Rattle.tftp_capture.proofs.Readings.{reads_same}
 use Rattle.tftp_packet.specs.Hosts.{Datagram}
 use Rattle.law_model.specs.Model.{Meaning, MachinePacket}
-use Rattle.tftp_law.specs.{Shows, CanBeWritten}
-use Rattle.tftp_law.proofs.Whole.TwoEnds.{one}
+use Rattle.law_end.specs.{Shows, CanBeWritten}
+use Rattle.law_end.proofs.Whole.TwoEnds.{one}
 use Rattle.tftp_normal.specs.{normal_packets, normal_datagram, normal_datagrams, normal_header, normal_text, IsAccepted}
 use Rattle.tftp_normal.proofs.Lawful.{lawful, few}
 use Rattle.tftp_normal.proofs.Lengths.{counted}
 use Rattle.tftp_normal.proofs.TextLength.{text_fits}
 use Rattle.tftp_normal.proofs.Shown.{shows}
-use Rattle.tftp_law.proofs.Written.Written.{can_be_written}
+use Rattle.law_end.proofs.Written.Written.{can_be_written}
 
 -- the datagrams of a capture, without the numbers of their lines
 abbrev unnumbered : List Numbered → List Datagram

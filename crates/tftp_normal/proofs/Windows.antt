@@ -4,7 +4,7 @@ use Rattle.std.proofs.lemmas.Bool.{cases_lt}
 use Rattle.std.proofs.lemmas.Grind.{div_ceil_times}
 use Rattle.std.specs.FinMap as map
 use Rattle.law_model.specs.Model.{Meaning, windowsize_of}
-use Rattle.tftp_law.specs.{blocks_of}
+use Rattle.law_end.specs.{blocks_of}
 use Rattle.tftp_normal.specs.{window_count, opening_count, normal_count}
 use Rattle.tftp_normal.proofs.Shortest.{windows_hold}
 

@@ -4,7 +4,7 @@ use Rattle.std.proofs.lemmas.List.{map-append}
 use Rattle.net_streams.specs.Streams.{Sink, WritesPart}
 use Rattle.tftp_packet.specs.Hosts.{Datagram}
 use Rattle.law_model.specs.Model.{Meaning, windowsize_of, Ack}
-use Rattle.tftp_law.specs.{blocks_of}
+use Rattle.law_end.specs.{blocks_of}
 use Rattle.tftp_normal.specs.{windows_of, blocks_after, windows_after, normal_datagram, datagrams_of, lines_of, HasPut}
 use Rattle.tftp_normal.proofs.Shortest.{windows_hold}
 use Rattle.tftp_normal.proofs.Putting.{Putting, putting_first, putting_next, putting_failed, putting_all}

@@ -3,7 +3,7 @@ use Rattle.std.specs.Prelude.{ℕ, List, map as each}
 use Rattle.tftp_capture.specs.{Numbered, IsCapture}
 use Rattle.tftp_packet.specs.Hosts.{Header}
 use Rattle.law_model.specs.Model.{Meaning}
-use Rattle.tftp_law.specs.{Shows}
+use Rattle.law_end.specs.{Shows}
 
 -- the text is a capture, and its datagrams show the meaning
 abbrev pub IsAccepted : List ℕ → Meaning → Type 0

@@ -7,7 +7,7 @@ use Rattle.tftp_packet.specs.{Side, Get, Put, End, Client, Server, canonical}
 use Rattle.tftp_capture.specs.{text_of}
 use Rattle.law_model.specs.Model.{Meaning, windowsize_of, MachinePacket, Req, Oack, Data, Ack, Deed, Sent, Took, message_of}
 use Rattle.law_model.specs.Model.Machines.{sender_of, receiver_of}
-use Rattle.tftp_law.specs.{dir_of, wire_of, blocks_of}
+use Rattle.law_end.specs.{dir_of, wire_of, blocks_of}
 
 -- how many windows of w blocks hold n blocks
 abbrev pub window_count : (w n : ℕ) → ℕ

@@ -1,7 +1,7 @@
 -- What is left of the wire that is written for a file (RFC 1350, section 1; RFC 764).
 use Rattle.std.specs.Prelude.{◌≡◌, ℕ, List, [], ◌∷◌, ◌++◌, Option, Some, None}
 use Rattle.tftp_packet.specs.{Octet}
-use Rattle.tftp_law.specs.{written_wire}
+use Rattle.law_end.specs.{written_wire}
 use Rattle.tftp_normal.specs.declared.wire_blocks.WireBlocks.TheInside.{Inside}
 
 -- the byte, where there is one

@@ -5,7 +5,7 @@ ghost use Rattle.tftp_capture.specs.CaptureText.{Datagram, Header};
 ghost use Rattle.tftp_capture.specs.{IsCapture, IsLawful as IsLawfulDatagram, NamesNoHost, numbered};
 ghost use Rattle.law_model.specs.Model.{Meaning, windowsize_of};
 ghost use Rattle.tftp_judge.specs.{IsTextVerdict};
-ghost use Rattle.tftp_law.specs.{Shows, ShowsBy, wire_of, CanBeWritten};
+ghost use Rattle.law_end.specs.{Shows, ShowsBy, wire_of, CanBeWritten};
 ghost use Rattle.tftp_normal.specs.Normal.{normal_datagrams, normal_header, normal_text, normal_count};
 ghost use Rattle.tftp_normal.specs.Accepted.{IsAccepted};
 

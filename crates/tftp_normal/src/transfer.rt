@@ -21,7 +21,7 @@ pub(crate) struct Transfer<'a> {
 impl<'a> Model for Transfer<'a> {
     ghost use Rattle.law_model.specs.Model.Meanings.{Meaning};
     ghost use Rattle.tftp_normal.specs.Transfer.{meaning_in, IsToBeWritten};
-    ghost use Rattle.tftp_law.specs.Owned.{meaning_code};
+    ghost use Rattle.law_end.specs.Owned.{meaning_code};
 
     ghost Value = { Meaning };
 
@@ -38,9 +38,9 @@ impl<'a> Transfer<'a> {
     ghost use Rattle.tftp_packet.specs.Messages.{Message};
     ghost use Rattle.tftp_packet.specs.Canonical.{canonical};
     ghost use Rattle.law_model.specs.Model.Meanings.{request_of, blksize_of, windowsize_of};
-    ghost use Rattle.tftp_law.specs.Owned.{meaning_from};
-    ghost use Rattle.tftp_law.specs.Writable.{blocks_of, CanBeWritten};
-    ghost use Rattle.tftp_law.specs.Fitting.{written_wire};
+    ghost use Rattle.law_end.specs.Owned.{meaning_from};
+    ghost use Rattle.law_end.specs.Writable.{blocks_of, CanBeWritten};
+    ghost use Rattle.law_end.specs.Fitting.{written_wire};
     ghost use Rattle.tftp_judge.specs.{file_in, IsCanonical};
     ghost use Rattle.tftp_normal.specs.Normal.{normal_count};
 

@@ -4,7 +4,7 @@ ghost use Rattle.std.specs.Prelude.{◌≡◌, [], ◌∷◌, ◌++◌, ◌≤�
 ghost use Rattle.std.specs.Prelude.{take, drop};
 ghost use Rattle.tftp_packet.specs.{Octet, Netascii};
 ghost use Rattle.tftp_netascii.specs.{canonical_bytes, IsPlain};
-ghost use Rattle.tftp_law.specs.{written_wire};
+ghost use Rattle.law_end.specs.{written_wire};
 ghost use Rattle.tftp_normal.specs.WireLeft.{bytes_of};
 
 use memchr::memchr2;
@@ -41,7 +41,7 @@ impl<'a> Model for WireBlocks<'a> {
 
 impl<'a> WireBlocks<'a> {
     ghost use Rattle.std.specs.Prelude.{◌≡◌, ◌≤◌, [], ◌++◌, length, take, drop, IfNone, IfSome};
-    ghost use Rattle.tftp_law.specs.Fitting.{written_wire};
+    ghost use Rattle.law_end.specs.Fitting.{written_wire};
     ghost use Rattle.tftp_normal.specs.WireLeft.{bytes_of};
 
     /// The whole wire of a file.

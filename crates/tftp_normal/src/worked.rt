@@ -4,7 +4,7 @@ ghost use Rattle.std.specs.Prelude.{◌≡◌, ℕ, suc, length};
 ghost use Rattle.std.specs.FinMap as map;
 ghost use Rattle.tftp_packet.specs.{Get};
 ghost use Rattle.law_model.specs.Model.{Meaning, NothingAgreed, windowsize_of, two_bytes, six_blocks};
-ghost use Rattle.tftp_law.specs.{blocks_of};
+ghost use Rattle.law_end.specs.{blocks_of};
 ghost use Rattle.tftp_normal.specs.Normal.{normal_datagrams, normal_text, normal_count};
 ghost use Rattle.tftp_normal.specs.Worked.{
   two_bytes_datagrams,

@@ -6,7 +6,7 @@ ghost use Rattle.tftp_packet.specs.{Message, canonical, End};
 ghost use Rattle.net_streams.specs.Streams.{Writes};
 ghost use Rattle.law_model.specs.Model.{Meaning, request_of, blksize_of, windowsize_of};
 ghost use Rattle.law_model.specs.Model.Machines.{sender_of};
-ghost use Rattle.tftp_law.specs.{wire_of, blocks_of, CanBeWritten};
+ghost use Rattle.law_end.specs.{wire_of, blocks_of, CanBeWritten};
 ghost use Rattle.tftp_normal.specs.Normal.{opening, blocks_after, windows_after, windows_of, normal_count, normal_text};
 ghost use Rattle.tftp_normal.specs.Normalised.{Normalises};
 ghost use Rattle.tftp_normal.specs.Writing.{asked_by, dir_from, sent_by, datagrams_of, Puts};

@@ -3,9 +3,9 @@ use Rattle.std.proofs.Common.{ℕ, List, sym, subst, ◌↔◌, reverse}
 use Rattle.law_model.specs.Model.{Meaning, IsOneSided}
 use Rattle.law_model.specs.Rules.{transfer_of}
 use Rattle.law_model.proofs.ModelLemmas.OneSided.{view_one_sided}
-use Rattle.tftp_law.specs.{view_in, IsSeen}
-use Rattle.tftp_law.proofs.Division.Routed.{routed}
-use Rattle.tftp_law.proofs.Whole.TwoEnds.{seen}
+use Rattle.law_end.specs.{view_in, IsSeen}
+use Rattle.law_end.proofs.Division.Routed.{routed}
+use Rattle.law_end.proofs.Whole.TwoEnds.{seen}
 use Rattle.tftp_pair.specs.{Capture, AreConsistent, AreMergedBy, AreLawfulAndMerged, passed_in}
 use Rattle.tftp_pair.proofs.Together.{client_seen, server_seen, seen_merged, together, each_lawful}
 use Rattle.tftp_pair.proofs.Spelt.{AreSpelt, spelt, deeds_merged, messages_merged}

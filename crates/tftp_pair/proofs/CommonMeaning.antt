@@ -6,19 +6,19 @@ use Rattle.law_model.specs.Model.{Meaning, request_of, NothingAgreed, blksize_of
 use Rattle.law_model.specs.Model.Machines.{sender_of, receiver_of}
 use Rattle.law_model.specs.Rules.{asks, first_of, transfer_of, Passed, HasPassed}
 use Rattle.law_model.proofs.ModelLemmas.MadeRuns.{one_sided_view}
-use Rattle.tftp_law.specs.{Division, datagrams_of, view_in, dir_of, packet_of, Accords, AreRouted, Answer, Agrees, Begins, IsAnswer, NotAnswered, FirstAnswer, OneEnded}
-use Rattle.tftp_law.proofs.Whole.TwoEnds.{some}
-use Rattle.tftp_law.proofs.Soundness.RulesDivide.{divides}
-use Rattle.tftp_law.proofs.Accord.PassedIsDone.{passed_told, told_passed}
-use Rattle.tftp_law.proofs.Soundness.EarlierList.{requested}
-use Rattle.tftp_law.proofs.FirstBroken.FirstRequests.{none_before}
-use Rattle.tftp_law.proofs.FirstBroken.FirstAnswered.{not_both}
-use Rattle.tftp_law.proofs.Accord.FirstReply.{sent_data, sent_zero, no_oack}
-use Rattle.tftp_law.proofs.Accord.HighestNumbers.{transfer_spelled}
-use Rattle.tftp_law.proofs.Soundness.MadeMeaning.{answer_cases}
-use Rattle.tftp_law.proofs.Accord.Moments.{sent_moment}
-use Rattle.tftp_law.proofs.Spelled.{spelled_once}
-use Rattle.tftp_law.proofs.Soundness.Searches.{oack_from, zero_from}
+use Rattle.law_end.specs.{Division, datagrams_of, view_in, dir_of, packet_of, Accords, AreRouted, Answer, Agrees, Begins, IsAnswer, NotAnswered, FirstAnswer, OneEnded}
+use Rattle.law_end.proofs.Whole.TwoEnds.{some}
+use Rattle.law_end.proofs.Soundness.RulesDivide.{divides}
+use Rattle.law_end.proofs.Accord.PassedIsDone.{passed_told, told_passed}
+use Rattle.law_end.proofs.Soundness.EarlierList.{requested}
+use Rattle.law_end.proofs.FirstBroken.FirstRequests.{none_before}
+use Rattle.law_end.proofs.FirstBroken.FirstAnswered.{not_both}
+use Rattle.law_end.proofs.Accord.FirstReply.{sent_data, sent_zero, no_oack}
+use Rattle.law_end.proofs.Accord.HighestNumbers.{transfer_spelled}
+use Rattle.law_end.proofs.Soundness.MadeMeaning.{answer_cases}
+use Rattle.law_end.proofs.Accord.Moments.{sent_moment}
+use Rattle.law_end.proofs.Spelled.{spelled_once}
+use Rattle.law_end.proofs.Soundness.Searches.{oack_from, zero_from}
 use Rattle.tftp_pair.specs.{AreMerged, MaySendEach, IsBrought, AreMergedBy}
 use Rattle.tftp_pair.proofs.Merged.{turned, to_client_went}
 use Rattle.tftp_pair.proofs.TwoViews.{view_each}

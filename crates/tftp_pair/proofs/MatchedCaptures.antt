@@ -6,8 +6,8 @@ use Rattle.std.proofs.lemmas.List.{reverse-append}
 use Rattle.tftp_packet.specs.{Client, Server}
 use Rattle.tftp_packet.specs.Hosts.{Out, Datagram}
 use Rattle.law_model.specs.Rules.{route_of, is_of_transfer, transfer_of}
-use Rattle.tftp_law.specs.{OneEnded}
-use Rattle.tftp_law.proofs.FirstBroken.FirstAnswered.{main_none, main_some}
+use Rattle.law_end.specs.{OneEnded}
+use Rattle.law_end.proofs.FirstBroken.FirstAnswered.{main_none, main_some}
 use Rattle.tftp_pair.specs.{Capture, AreConsistent, IsBrought, AreMergedBy, passed_in, begun, IsNextIn, IsOpenIn, AreMatchedTo, IsShut}
 use Rattle.tftp_pair.proofs.Merged.{at_client, turned, IsEarlier, earlier_all, earlier_length, earlier_one, IsShutAt, no_longer}
 use Rattle.tftp_pair.proofs.ByMessages.{by_messages}

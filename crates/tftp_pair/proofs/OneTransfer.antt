@@ -2,11 +2,11 @@
 use Rattle.std.proofs.Common.{◌≡◌, ℕ, List, sym, subst, ◌∙◌, reverse}
 use Rattle.law_model.specs.Model.{Meaning, IsOneSided, IsComplete}
 use Rattle.law_model.proofs.ModelLemmas.OneSided.{view_one_sided}
-use Rattle.tftp_law.specs.{IsSeen, Accords, IsEnded, Meant}
-use Rattle.tftp_law.proofs.Division.Routed.{routed}
-use Rattle.tftp_law.proofs.Whole.TwoEnds.{rules, meant_by}
-use Rattle.tftp_law.proofs.Whole.EndedIsComplete.{completed}
-use Rattle.tftp_law.proofs.Whole.OneMeaning.{one_meaning}
+use Rattle.law_end.specs.{IsSeen, Accords, IsEnded, Meant}
+use Rattle.law_end.proofs.Division.Routed.{routed}
+use Rattle.law_end.proofs.Whole.TwoEnds.{rules, meant_by}
+use Rattle.law_end.proofs.Whole.EndedIsComplete.{completed}
+use Rattle.law_end.proofs.Whole.OneMeaning.{one_meaning}
 use Rattle.tftp_pair.specs.{Capture, AreConsistent}
 use Rattle.tftp_pair.proofs.Together.{client_seen, server_seen}
 use Rattle.tftp_packet.specs.Hosts.{Datagram, Header}

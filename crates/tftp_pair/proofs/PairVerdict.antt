@@ -4,7 +4,7 @@ use Rattle.std.proofs.lemmas.Bool.{cases_lt}
 use Rattle.std.proofs.Math.Seq.{take-suc, take-length}
 use Rattle.std.proofs.lemmas.List.{reverse-append}
 use Rattle.tftp_packet.specs.{Client, Server}
-use Rattle.tftp_law.specs.{OneEnded}
+use Rattle.law_end.specs.{OneEnded}
 use Rattle.tftp_pair.specs.{Capture, AreConsistent, begun, AreMatchedTo, Keeps, IsLawfulTo, IsPairVerdict, IsWholePair}
 use Rattle.tftp_pair.proofs.ByMessages.{by_messages}
 use Rattle.tftp_pair.proofs.MatchedCaptures.{matched_to_one, decides_to, any_datagram}

@@ -5,14 +5,14 @@ use Rattle.tftp_packet.specs.Hosts.{In, Out, Datagram, Header}
 use Rattle.law_model.specs.Model.{Meaning, SomethingAgreed, Req, Oack, Sent, MaySend, IsOneSided, MayCome}
 use Rattle.tftp_ends.specs.{NamedEnd, Sends, Receives, HoldsBlock, IsEndAfter}
 use Rattle.law_model.specs.Rules.{transfer_of, Passed}
-use Rattle.tftp_law.specs.{Division, datagrams_of, view_in, Accords, AreRouted, FirstAsked, FirstAnswer, Agrees, Begins}
-use Rattle.tftp_law.proofs.Soundness.EarlierList.{requested}
-use Rattle.tftp_law.proofs.Accord.FirstReply.{no_oack}
-use Rattle.tftp_law.proofs.Accord.Moments.{sent_moment, took_moment}
-use Rattle.tftp_law.proofs.Accord.PassedIsDone.{told_passed}
-use Rattle.tftp_law.proofs.Soundness.RulesDivide.{divides}
-use Rattle.tftp_law.proofs.Whole.TwoEnds.{some}
-use Rattle.tftp_law.proofs.Soundness.Searches.{oack_from}
+use Rattle.law_end.specs.{Division, datagrams_of, view_in, Accords, AreRouted, FirstAsked, FirstAnswer, Agrees, Begins}
+use Rattle.law_end.proofs.Soundness.EarlierList.{requested}
+use Rattle.law_end.proofs.Accord.FirstReply.{no_oack}
+use Rattle.law_end.proofs.Accord.Moments.{sent_moment, took_moment}
+use Rattle.law_end.proofs.Accord.PassedIsDone.{told_passed}
+use Rattle.law_end.proofs.Soundness.RulesDivide.{divides}
+use Rattle.law_end.proofs.Whole.TwoEnds.{some}
+use Rattle.law_end.proofs.Soundness.Searches.{oack_from}
 use Rattle.tftp_judge.specs.Kept.{Exchange}
 use Rattle.tftp_judge.specs.{Unanswered, Begun, Agreed, Transfer, ErrorText, IsErrorOf, IsExchange, IsTransferAfter, IsTransferOf, HasBlock, HasAgreed, AreFlags, HasSentBy}
 use Rattle.tftp_pair.proofs.Spelt.{packet_is}

@@ -7,7 +7,7 @@ ghost use Rattle.law_model.specs.Rules.{transfer_of, Passed};
 ghost use Rattle.tftp_judge.specs.{Transfer, IsTransferOf, AreFlags, HasSentBy};
 ghost use Rattle.tftp_pair.specs.PairVerdict.{IsPairVerdict, IsWholePair};
 ghost use Rattle.law_model.specs.Model.{Meaning, Deed, Sent, Took, MachinePacket, Data, Ack, History};
-ghost use Rattle.tftp_law.specs.{Divides, IsSeen, OneEnded, Meant};
+ghost use Rattle.law_end.specs.{Divides, IsSeen, OneEnded, Meant};
 ghost use Rattle.tftp_pair.specs.Captures.{Capture, AreSeenTogether, AreConsistent, AreConsistentByRules};
 ghost use Rattle.tftp_pair.specs.Merged.{AreAllOpen};
 ghost use Rattle.tftp_pair.specs.Pair.{ArePair, IsOpen, AreMerged, MaySendEach};

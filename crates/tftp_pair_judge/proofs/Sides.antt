@@ -2,9 +2,9 @@
 use Rattle.std.proofs.Common.{◌≡◌, ◌≤◌, ◌<◌, ◌+◌, ◌↔◌, if◌then◌else◌, ℕ, suc, Bool, true, false, IsTrue, List, [], ◌∷◌, length, Option, Some, None, IfNone, IfSome, Result, Ok, Err, inl, inr, refl, sym, subst, ap, ◌∙◌, arith, IfErr, OnOk}
 use Rattle.tftp_packet.specs.{Message, Spells}
 use Rattle.tftp_packet.specs.Hosts.{In, Out, Datagram, Header}
-use Rattle.tftp_law.proofs.Spelled.{spelled_once}
+use Rattle.law_end.proofs.Spelled.{spelled_once}
 use Rattle.law_model.specs.Rules.{route_of, is_of_transfer, transfer_of, Passed}
-use Rattle.tftp_law.proofs.FirstBroken.FirstAnswered.{main_none, main_some}
+use Rattle.law_end.proofs.FirstBroken.FirstAnswered.{main_none, main_some}
 use Rattle.tftp_judge.specs.{IsJudgeAfter, IsKept, Judge, Transfer, AreFlags, HasSentIn, flags_of, Refusal}
 use Rattle.tftp_pair.proofs.SentByKept.{sent_by_kept}
 use Rattle.tftp_counts.specs.{AreCounted, AreTooMany, Counted}

@@ -5,7 +5,7 @@ use Rattle.std.proofs.lemmas.List.{length-append, reverse-append}
 use Rattle.std.proofs.Math.Seq.{take-suc}
 use Rattle.tftp_packet.specs.Hosts.{In, Datagram, Header}
 use Rattle.law_model.specs.Rules.{route_of, is_of_transfer, transfer_of}
-use Rattle.tftp_law.specs.{OneEnded}
+use Rattle.law_end.specs.{OneEnded}
 use Rattle.tftp_pair.specs.{Capture, AreMergedBy, passed_in, begun, IsNextIn, IsShut, IsLawfulTo, IsPairVerdict, IsSentAmong, IsSentLater, IsUnsent}
 use Rattle.tftp_pair.proofs.MatchedCaptures.{stuck_to}
 use Rattle.tftp_pair.proofs.PairVerdict.{kept_before}

@@ -3,7 +3,7 @@ use Rattle.std.specs.Prelude.{◌≡◌, ◌≤◌, ◌^◌, ℕ, List, All, len
 use Rattle.tftp_packet.specs.{End, Client, Server}
 use Rattle.tftp_packet.specs.Hosts.{Datagram, Header}
 use Rattle.law_model.specs.Rules.{transfer_of}
-use Rattle.tftp_law.specs.{OneEnded}
+use Rattle.law_end.specs.{OneEnded}
 use Rattle.tftp_judge.specs.{IsJudgeAfter, IsKept, Judge, AreFlags, flags_of}
 use Rattle.tftp_counts.specs.{AreCounted, Counted, TakesRoom, counts_of, packet_of}
 use Rattle.tftp_pair_judge.specs.Merging.{AreMergedBut}

@@ -3,7 +3,7 @@ ghost use Rattle.tftp_capture.specs.{datagram_of, header_of};
 ghost use Rattle.tftp_packet.specs.{Client, Server};
 ghost use Rattle.tftp_packet.specs.Hosts.{Datagram as DatagramParts, Header as HeaderParts};
 ghost use Rattle.law_model.specs.Model.Roles.{other_end};
-ghost use Rattle.tftp_law.specs.{Passes};
+ghost use Rattle.law_end.specs.{Passes};
 ghost use Rattle.tftp_judge.specs.{Refuses, Refusal as RefusalKind};
 ghost use Rattle.tftp_pair_judge.specs.Kept.{CountsOn, HasSame, IsPairAfter, side_at};
 ghost use Rattle.tftp_pair_judge.specs.Rest.{IsRestAfter};

@@ -2,7 +2,7 @@ ghost use Rattle.std.specs.Prelude.{◌≡◌, ◌↔◌, ◌+◌, ◌^◌, ◌<
 ghost use Rattle.tftp_capture.specs.{datagram_of, header_of};
 ghost use Rattle.tftp_packet.specs.Hosts.{Out, Datagram as DatagramParts, Header as HeaderParts};
 ghost use Rattle.law_model.specs.Rules.{is_of_transfer, route_of, transfer_of};
-ghost use Rattle.tftp_law.specs.{Passes};
+ghost use Rattle.law_end.specs.{Passes};
 ghost use Rattle.tftp_judge.specs.{Refuses, AreFlags, flags_of, Refusal as RefusalKind};
 ghost use Rattle.tftp_counts.specs.{AreCounted, AreLostBetween, AreRepeatedBetween};
 ghost use Rattle.tftp_pair_judge.specs.Merging.{AreMergedBut, IsAskedAgain, IsWaitFor, WasSent, with_held};

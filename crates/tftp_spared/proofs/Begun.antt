@@ -12,13 +12,13 @@ use Rattle.law_model.proofs.ModelLemmas.Stops.{heard_done}
 use Rattle.law_model.proofs.ModelLemmas.Defaults.{default_windowsize}
 use Rattle.law_model.proofs.ModelLemmas.OneSided.{view_one_sided}
 use Rattle.law_model.specs.Rules.{begins_error, begins_request, comes_in, goes_out}
-use Rattle.tftp_law.specs.{Label, Main, Stray, Labelled, Division, datagrams_of, view_in, TransferIds, HasLabel, HaveLabels, OneEnded}
-use Rattle.tftp_law.specs.Dress.{StrayAnswer}
-use Rattle.tftp_law.proofs.Division.Divided.{divided_more, any_none, any_cases}
-use Rattle.tftp_law.proofs.Division.Placing.{one}
-use Rattle.tftp_law.proofs.Division.RouteTests.{in_false, in_true, out_false, request_begins, other_begins, error_begins}
-use Rattle.tftp_law.proofs.Accord.Moments.{sent_moment, who_sent_oack}
-use Rattle.tftp_law.proofs.Whole.TwoEnds.{lawful}
+use Rattle.law_end.specs.{Label, Main, Stray, Labelled, Division, datagrams_of, view_in, TransferIds, HasLabel, HaveLabels, OneEnded}
+use Rattle.law_end.specs.Dress.{StrayAnswer}
+use Rattle.law_end.proofs.Division.Divided.{divided_more, any_none, any_cases}
+use Rattle.law_end.proofs.Division.Placing.{one}
+use Rattle.law_end.proofs.Division.RouteTests.{in_false, in_true, out_false, request_begins, other_begins, error_begins}
+use Rattle.law_end.proofs.Accord.Moments.{sent_moment, who_sent_oack}
+use Rattle.law_end.proofs.Whole.TwoEnds.{lawful}
 use Rattle.tftp_lines.specs.{asked_part}
 use Rattle.tftp_lines.specs.Recording.{is_answer}
 use Rattle.tftp_spared.proofs.Alike.{asked_alike}

@@ -3,9 +3,9 @@ use Rattle.std.proofs.Common.{◌≡◌, ℕ, true, List, [], ◌∷◌, ◌++�
 use Rattle.std.specs.List.{AllByRecursion, flat_map}
 use Rattle.std.proofs.lemmas.Bool.{eq-eqb}
 use Rattle.std.proofs.lemmas.List.{reverse-reverse}
-use Rattle.tftp_law.specs.{OneEnded, IsLawful, IsRefused, Rule}
-use Rattle.tftp_law.proofs.FirstBroken.FirstBroken.{refused_does_not_pass}
-use Rattle.tftp_law.proofs.Whole.TwoEnds.{lawful}
+use Rattle.law_end.specs.{OneEnded, IsLawful, IsRefused, Rule}
+use Rattle.law_end.proofs.FirstBroken.FirstBroken.{refused_does_not_pass}
+use Rattle.law_end.proofs.Whole.TwoEnds.{lawful}
 use Rattle.tftp_lines.specs.{Address, Endpoint, Transfer, Recorded, Placed, is_of, transfer_of}
 use Rattle.tftp_transfers.specs.{client_view, placed}
 use Rattle.tftp_spared.specs.Seen.{HasNoSilence, as_seen_by, at_client_of, is_with}

@@ -5,8 +5,8 @@ use Rattle.std.proofs.lemmas.Bool.{false≢true, or_cases, or_left, or_right, an
 use Rattle.std.proofs.lemmas.Slice.Eq.{bytes_eq-Decides}
 use Rattle.tftp_packet.specs.Hosts.{Datagram, PeerId, peer_of, same_peer}
 use Rattle.law_model.specs.Rules.{begins_request as says_request, begins_error as says_error, comes_in, goes_out, has_come_from, asks, first_of}
-use Rattle.tftp_law.proofs.FirstBroken.FirstRequests.{or_some}
-use Rattle.tftp_law.proofs.Division.RouteTests.{is_same as same_peers}
+use Rattle.law_end.proofs.FirstBroken.FirstRequests.{or_some}
+use Rattle.law_end.proofs.Division.RouteTests.{is_same as same_peers}
 use Rattle.tftp_lines.specs.{Address, Endpoint, Recorded, asked_part, asks_alike, same_endpoint, other_of, begins_request, begins_error, goes}
 use Rattle.tftp_lines.specs.Recording.{is_answer}
 use Rattle.tftp_lines.proofs.Endpoints.{is_same, same_itself}

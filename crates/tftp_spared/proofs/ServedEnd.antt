@@ -5,9 +5,9 @@ use Rattle.std.proofs.lemmas.Bool.{false≢true, or_cases, or_left, or_right, an
 use Rattle.std.proofs.lemmas.List.{reverse-reverse}
 use Rattle.tftp_packet.specs.Hosts.{Datagram, PeerId, peer_of}
 use Rattle.law_model.specs.Rules.{asks, first_of, or_this}
-use Rattle.tftp_law.specs.{OneEnded, IsLawful, IsRefused, Passes, Rule}
-use Rattle.tftp_law.proofs.Division.RouteTests.{same_is as peers_same, is_same as same_peers}
-use Rattle.tftp_law.proofs.Whole.TwoEnds.{lawful}
+use Rattle.law_end.specs.{OneEnded, IsLawful, IsRefused, Passes, Rule}
+use Rattle.law_end.proofs.Division.RouteTests.{same_is as peers_same, is_same as same_peers}
+use Rattle.law_end.proofs.Whole.TwoEnds.{lawful}
 use Rattle.tftp_lines.specs.{Address, Endpoint, Place, Opens, Repeats, Talks, Apart, Beside, Nowhere, Transfer, Recorded, Placed, same_address, same_endpoint, other_of, is_of, is_request, transfer_of, begins_error, begins_request, is_late, is_sent_by_client, speaks_first}
 use Rattle.tftp_lines.proofs.Endpoints.{is_same, same_itself}
 use Rattle.tftp_lines.proofs.Lines.{by_test}

@@ -7,7 +7,7 @@ use Rattle.tftp_packet.specs.{Spells}
 use Rattle.tftp_packet.specs.Hosts.{Datagram, PeerId, peer_of}
 use Rattle.law_model.specs.Model.{Meaning, Req, message_of, request_of}
 use Rattle.law_model.specs.Rules.{begins_request as says_request, comes_in, goes_out}
-use Rattle.tftp_law.specs.{OneEnded, TransferIds}
+use Rattle.law_end.specs.{OneEnded, TransferIds}
 use Rattle.tftp_lines.specs.{Address, Endpoint, Recorded, asked_part, asks_alike, same_endpoint, other_of, begins_request, goes}
 use Rattle.tftp_lines.specs.Recording.{is_answer}
 use Rattle.tftp_lines.proofs.Endpoints.{is_same, same_itself}

@@ -10,13 +10,13 @@ use Rattle.law_model.proofs.ModelLemmas.Members.{contains_cases, contains_none}
 use Rattle.law_model.proofs.ModelLemmas.OneSided.{view_one_sided}
 use Rattle.law_model.proofs.ModelLemmas.MadeRuns.{one_sided_view}
 use Rattle.law_model.specs.Rules.{begins_request, comes_in, goes_out}
-use Rattle.tftp_law.specs.{Label, Main, Stray, Division, datagrams_of, view_in, TransferIds, HasLabel, HaveLabels, IsMain, Starts, Fits, OneEnded}
-use Rattle.tftp_law.specs.Dress.{StrayAnswer}
-use Rattle.tftp_law.proofs.Division.Divided.{divided_more, any_none, any_cases}
-use Rattle.tftp_law.proofs.Division.Placing.{one, starts_before, MainOut, StrayFrom}
-use Rattle.tftp_law.proofs.Division.Routed.{starts_of}
-use Rattle.tftp_law.proofs.Division.RouteTests.{in_false, in_true, out_false, out_true, request_begins, other_begins}
-use Rattle.tftp_law.proofs.Whole.TwoEnds.{lawful}
+use Rattle.law_end.specs.{Label, Main, Stray, Division, datagrams_of, view_in, TransferIds, HasLabel, HaveLabels, IsMain, Starts, Fits, OneEnded}
+use Rattle.law_end.specs.Dress.{StrayAnswer}
+use Rattle.law_end.proofs.Division.Divided.{divided_more, any_none, any_cases}
+use Rattle.law_end.proofs.Division.Placing.{one, starts_before, MainOut, StrayFrom}
+use Rattle.law_end.proofs.Division.Routed.{starts_of}
+use Rattle.law_end.proofs.Division.RouteTests.{in_false, in_true, out_false, out_true, request_begins, other_begins}
+use Rattle.law_end.proofs.Whole.TwoEnds.{lawful}
 use Rattle.tftp_lines.specs.Recording.{is_answer}
 use Rattle.tftp_spared.proofs.Begun.{ack_0, data_1, says_ack_0, says_data_1}
 

@@ -4,7 +4,7 @@ use Rattle.std.specs.List.{list_any, AllByRecursion, filter}
 use Rattle.std.proofs.lemmas.Bool.{false≢true, or_cases, and_parts}
 use Rattle.tftp_packet.specs.Hosts.{Datagram}
 use Rattle.tftp_packet.specs.{Server}
-use Rattle.tftp_law.specs.{OneEnded}
+use Rattle.law_end.specs.{OneEnded}
 use Rattle.tftp_lines.specs.{Address, Endpoint, Recorded, Placed, Transfer, same_endpoint, other_of, is_between, is_of, is_request}
 use Rattle.tftp_lines.proofs.Lines.{by_test}
 use Rattle.tftp_transfers.specs.{client_view}

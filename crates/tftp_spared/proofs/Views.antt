@@ -7,8 +7,8 @@ use Rattle.std.proofs.lemmas.List.{reverse-reverse}
 use Rattle.tftp_packet.specs.{Client}
 use Rattle.tftp_packet.specs.Hosts.{In, Out, Datagram, PeerId, peer_of, same_peer}
 use Rattle.law_model.specs.Rules.{comes_in, goes_out, first_of, or_this}
-use Rattle.tftp_law.specs.{OneEnded}
-use Rattle.tftp_law.proofs.Division.RouteTests.{is_same as same_peers, same_is as peers_same}
+use Rattle.law_end.specs.{OneEnded}
+use Rattle.law_end.proofs.Division.RouteTests.{is_same as same_peers, same_is as peers_same}
 use Rattle.tftp_lines.specs.{Address, Endpoint, Recorded, Placed, Transfer, same_endpoint, other_of, is_of, is_request, begins_request}
 use Rattle.tftp_lines.proofs.Lines.{by_test, map_or}
 use Rattle.tftp_transfers.specs.{client_view}

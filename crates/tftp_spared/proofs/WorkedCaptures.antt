@@ -5,9 +5,9 @@ use Rattle.tftp_packet.specs.{Client, Server}
 use Rattle.tftp_packet.specs.Hosts.{Datagram, PeerId, peer_of}
 use Rattle.law_model.specs.Model.{Req, Data, Ack, Error, Sent, Took, Step}
 use Rattle.law_model.specs.Model.Worked.{client as client_does, server as server_does}
-use Rattle.tftp_law.specs.{IsLawful, Label, Main, Stray, Labelled, Division, TransferIds}
-use Rattle.tftp_law.specs.Dress.{StrayAnswer}
-use Rattle.tftp_law.proofs.Division.Divided.{any_first, any_later}
+use Rattle.law_end.specs.{IsLawful, Label, Main, Stray, Labelled, Division, TransferIds}
+use Rattle.law_end.specs.Dress.{StrayAnswer}
+use Rattle.law_end.proofs.Division.Divided.{any_first, any_later}
 use Rattle.tftp_transfers.specs.{ack_of, client, data_of, service}
 use Rattle.tftp_transfers.specs.Worked.{at, error_of, next_server, other_client, passes, requests, server, stranger}
 use Rattle.tftp_spared.specs.{as_seen_by, as_served, at_client_of, at_server_of}

@@ -5,9 +5,9 @@ use Rattle.tftp_packet.specs.Spelling.{octet_read}
 use Rattle.tftp_packet.proofs.NoFault.{no_fault}
 use Rattle.tftp_packet.specs.Hosts.{In, Datagram, Header}
 use Rattle.law_model.specs.Rules.{Terms, NoReply, EndRule, IsTop, PortRule, Route, transfer_of, author_of, EndBroken}
-use Rattle.tftp_law.specs.{Agrees, Answer, IsAnswer, Begins, Broken, FirstAsked, IsRefused, MessageBreaks, MessageBroken, NotAnswered, Rule, IsWrongKind, number_of, plain_terms}
-use Rattle.tftp_law.proofs.Spelled.{spelled_once}
-use Rattle.tftp_law.proofs.FirstBroken.FirstRequests.{request_same, some_same}
+use Rattle.law_end.specs.{Agrees, Answer, IsAnswer, Begins, Broken, FirstAsked, IsRefused, MessageBreaks, MessageBroken, NotAnswered, Rule, IsWrongKind, number_of, plain_terms}
+use Rattle.law_end.proofs.Spelled.{spelled_once}
+use Rattle.law_end.proofs.FirstBroken.FirstRequests.{request_same, some_same}
 use Rattle.tftp_transfers.specs.{ack_of, client, service}
 use Rattle.tftp_transfers.specs.Worked.{error_of, passes, read_of, requests, server}
 use Rattle.tftp_spared.specs.{as_served, at_server_of}

@@ -6,9 +6,9 @@ use Rattle.tftp_packet.proofs.NoFault.{no_fault}
 use Rattle.tftp_packet.specs.Hosts.{In, Datagram, Header}
 use Rattle.law_model.specs.Rules.{PortRule, Route, transfer_of, author_of}
 use Rattle.law_model.proofs.RulesLemmas.EndRules.{from_18}
-use Rattle.tftp_law.specs.{Broken, IsRefused, MessageBreaks, MessageBroken, Rule, IsWrongKind, number_of}
-use Rattle.tftp_law.proofs.Spelled.{spelled_once}
-use Rattle.tftp_law.proofs.FirstBroken.OneMessage.{agreement_from}
+use Rattle.law_end.specs.{Broken, IsRefused, MessageBreaks, MessageBroken, Rule, IsWrongKind, number_of}
+use Rattle.law_end.proofs.Spelled.{spelled_once}
+use Rattle.law_end.proofs.FirstBroken.OneMessage.{agreement_from}
 use Rattle.tftp_transfers.specs.{client, data_of, service}
 use Rattle.tftp_transfers.specs.Worked.{error_of, passes, requests, server}
 use Rattle.tftp_spared.specs.{as_served, at_server_of}

@@ -8,8 +8,8 @@ use Rattle.tftp_packet.specs.Hosts.{In, Out, Datagram, Header, peer_of}
 use Rattle.law_model.specs.Model.{Meaning, request_of, block, block_count, blksize_of, Req, Data, Ack, Error, Sent, Took, message_of, Step, view_of}
 use Rattle.law_model.proofs.ModelLemmas.Computed.{Plan, IsPlan, is_run, run_is}
 use Rattle.law_model.proofs.ModelLemmas.Defaults.{default_blksize, default_windowsize}
-use Rattle.tftp_law.specs.{Fits, IsLawful, Main, Division, datagrams_of, view_in, TransferIds, HasLabel, HaveLabels}
-use Rattle.tftp_law.proofs.Whole.NothingAgreed.{none_there, nothing_may_be_agreed_by}
+use Rattle.law_end.specs.{Fits, IsLawful, Main, Division, datagrams_of, view_in, TransferIds, HasLabel, HaveLabels}
+use Rattle.law_end.proofs.Whole.NothingAgreed.{none_there, nothing_may_be_agreed_by}
 use Rattle.tftp_transfers.specs.{ack_of, data_of}
 use Rattle.tftp_transfers.specs.Worked.{error_of, read_of}
 

@@ -1,7 +1,7 @@
 -- What a client's capture is like, as far as the division of a recording looks at it. Lists have the newest first.
 use Rattle.std.specs.Prelude.{◌≡◌, ◌≤◌, ◌+◌, ℕ, ◌&&◌, not, Bool, true, false, List, [], ◌∷◌, map, if◌then◌else◌}
 use Rattle.std.specs.List.{list_any, AllByRecursion}
-use Rattle.tftp_law.specs.{OneEnded}
+use Rattle.law_end.specs.{OneEnded}
 use Rattle.tftp_lines.specs.{Address, Endpoint, Recorded, same_endpoint, begins_request, begins_error, asks_alike, goes, is_between, other_of, silence}
 use Rattle.tftp_spared.specs.Seen.{as_seen_by, at_client_of}
 use Rattle.tftp_lines.specs.Recording.{is_answer}

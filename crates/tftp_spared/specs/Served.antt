@@ -4,7 +4,7 @@ use Rattle.std.specs.Prelude.{◌≡◌, ℕ, ◌&&◌, ◌||◌, not, Bool, tru
 use Rattle.std.specs.List.{list_any}
 use Rattle.tftp_packet.specs.{Server}
 use Rattle.tftp_packet.specs.Hosts.{In, Out, Datagram, Header}
-use Rattle.tftp_law.specs.{IsLawful, IsRefused, Rule}
+use Rattle.law_end.specs.{IsLawful, IsRefused, Rule}
 use Rattle.tftp_lines.specs.{Address, Endpoint, Place, Opens, Repeats, Talks, Beside, Transfer, Recorded, Placed, same_endpoint, is_between, is_of, is_request, other_of}
 use Rattle.tftp_lines.specs.Doubting.{line_before}
 use Rattle.tftp_transfers.specs.Places.{placed}

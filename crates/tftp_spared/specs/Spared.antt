@@ -1,7 +1,7 @@
 -- What holds of every recording in which captures of lawful transfers are interleaved. Lists have the newest first.
 use Rattle.std.specs.Prelude.{◌≡◌, ◌⊎◌, ℕ, ◌||◌, Bool, true, false, List, [], ◌∷◌, ◌++◌, map, reverse, filter, All, Contains, Some}
 use Rattle.std.specs.List.{flat_map}
-use Rattle.tftp_law.specs.{IsLawful, IsRefused, Rule}
+use Rattle.law_end.specs.{IsLawful, IsRefused, Rule}
 use Rattle.tftp_lines.specs.{Address, Endpoint, Transfer, Recorded, Placed, transfer_of, begins_request, is_asked_again, is_late}
 use Rattle.tftp_transfers.specs.Places.{placed}
 use Rattle.tftp_transfers.specs.Views.{client_view}

@@ -1,7 +1,7 @@
 -- Recordings that meet the premises; and for each premise one that meets the others, in which a lawful end is accused. Times are
 -- in seconds, the newest datagram is first.
 use Rattle.std.specs.Prelude.{◌≡◌, ℕ, ◌||◌, Bool, false, List, [], ◌∷◌, ◌++◌, codes, map, max, Some}
-use Rattle.tftp_law.specs.{IsRefused, Rule}
+use Rattle.law_end.specs.{IsRefused, Rule}
 use Rattle.tftp_lines.specs.{Address, Endpoint, Transfer, Recorded, Placed, clock, transfer_of, bytes_of, version_of}
 use Rattle.tftp_transfers.specs.{ack_of, client, data_of, service, client_view, is_beside, place_of, placed}
 use Rattle.tftp_transfers.specs.Worked.{at, error_of, next_server, oack, other_client, passes, requests, server, stranger}

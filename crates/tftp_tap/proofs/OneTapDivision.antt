@@ -2,9 +2,9 @@
 use Rattle.std.proofs.Common.{◌≡◌, ℕ, List, [], ◌∷◌, Any, Some, inl, inr, refl, sym, subst, ap, ◌∙◌}
 use Rattle.tftp_packet.specs.{Message, End, Client, Server}
 use Rattle.law_model.specs.Model.{Meaning, MachinePacket, Req, Oack, Data, Ack, Error, message_of}
-use Rattle.tftp_law.specs.{says_of, packet_in, says_some}
-use Rattle.tftp_law.proofs.Spelled.{spelled_once}
-use Rattle.tftp_law.proofs.Division.Divided.{any_none, any_cases}
+use Rattle.law_end.specs.{says_of, packet_in, says_some}
+use Rattle.law_end.proofs.Spelled.{spelled_once}
+use Rattle.law_end.proofs.Division.Divided.{any_none, any_cases}
 use Rattle.tftp_tap.specs.{Pass, PeerId, TapDatagram, TapSides, side_of, AreApart, TapLabel, Main, TapLabelled, TapDivision, tapped_of, GoesThere, CarriesPass, AnswersTapStray, HasTapLabel, HaveTapLabels}
 use Rattle.tftp_tap.specs.TapDress.{Stray, StrayAnswer}
 

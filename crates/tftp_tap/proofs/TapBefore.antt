@@ -6,10 +6,10 @@ use Rattle.tftp_packet.specs.{Message, RequestParts, Spells, End}
 use Rattle.law_model.specs.Model.{Meaning, request_of, MachinePacket, Req, Oack, Data, Ack, Error, message_of}
 use Rattle.law_model.specs.Rules.{first_of, or_this}
 use Rattle.law_model.proofs.ModelLemmas.Members.{contains_first, contains_later, contains_cases, contains_none}
-use Rattle.tftp_law.specs.{says_of, says_some}
-use Rattle.tftp_law.proofs.Spelled.{spelled_once}
-use Rattle.tftp_law.proofs.FirstBroken.FirstRequests.{request_same}
-use Rattle.tftp_law.proofs.Division.Divided.{any_first, any_later}
+use Rattle.law_end.specs.{says_of, says_some}
+use Rattle.law_end.proofs.Spelled.{spelled_once}
+use Rattle.law_end.proofs.FirstBroken.FirstRequests.{request_same}
+use Rattle.law_end.proofs.Division.Divided.{any_first, any_later}
 use Rattle.tftp_tap.specs.{Pass, TapDatagram, TapSides, Tests, before_error, tap_tests, FirstTapAsked, Says, HasKind}
 use Rattle.tftp_tap.proofs.OneTap.{Has}
 use Rattle.tftp_tap.proofs.OneTapDivision.{some_of}

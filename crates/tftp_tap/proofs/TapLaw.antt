@@ -5,9 +5,9 @@ use Rattle.std.proofs.lemmas.Bool.{cases_Bool, and_parts}
 use Rattle.tftp_packet.specs.{Message, RequestParts, Spells, Get}
 use Rattle.law_model.specs.Model.{Meaning}
 use Rattle.law_model.specs.Rules.{first_of}
-use Rattle.tftp_law.specs.{says_of, says_some}
-use Rattle.tftp_law.proofs.Soundness.MadeMeaning.{some_accord}
-use Rattle.tftp_law.proofs.FirstBroken.FirstRequests.{begins_asked}
+use Rattle.law_end.specs.{says_of, says_some}
+use Rattle.law_end.proofs.Soundness.MadeMeaning.{some_accord}
+use Rattle.law_end.proofs.FirstBroken.FirstRequests.{begins_asked}
 use Rattle.tftp_tap.specs.{MayPassEach, TapDatagram, TapSides, AreApart, TapLabel, Main, TapDivision, tapped_of, passed_of, HasTapLabel, HaveTapLabels, IsLawfulBetween, asks_in, tap_tests, header_at, FirstTapAsked, BreaksNoTapRule}
 use Rattle.tftp_tap.specs.TapDress.{Stray, StrayAnswer}
 use Rattle.tftp_tap.proofs.Replays.{tap_view_is}

@@ -6,11 +6,11 @@ use Rattle.tftp_packet.specs.{Message, RequestParts, Spells, Side, Get, Put, End
 use Rattle.law_model.specs.Model.Machines.{sender_of, receiver_of}
 use Rattle.law_model.specs.Model.{MachinePacket, Req, Oack, Data, Ack, Error}
 use Rattle.law_model.specs.Rules.{first_of, or_this}
-use Rattle.tftp_law.specs.{packet_in, says_some, IsWrongKind, Rule}
-use Rattle.tftp_law.specs.declared.rule.Rule.TheVariants as rule
-use Rattle.tftp_law.proofs.FirstBroken.FirstRequests.{some_same, or_none, first_stays}
-use Rattle.tftp_law.proofs.Soundness.SameOrNot.{same_request}
-use Rattle.tftp_law.proofs.Division.Divided.{any_none, any_cases}
+use Rattle.law_end.specs.{packet_in, says_some, IsWrongKind, Rule}
+use Rattle.law_end.specs.declared.rule.Rule.TheVariants as rule
+use Rattle.law_end.proofs.FirstBroken.FirstRequests.{some_same, or_none, first_stays}
+use Rattle.law_end.proofs.Soundness.SameOrNot.{same_request}
+use Rattle.law_end.proofs.Division.Divided.{any_none, any_cases}
 use Rattle.tftp_tap.specs.{Pass, TapDatagram, TapSides, side_of, AreApart, same_end, TapLabel, Main, TapLabelled, TapDivision, tapped_of, IsMainFrom, CarriesPass, HasTapLabel, HaveTapLabels, tap_tests, tap_route, is_passing, transfer_between, FirstTapAsked, PassingBreaks, LateBroken, KeptBreaks, TapPasses, BreaksNoTapRule}
 use Rattle.tftp_tap.specs.TapDress.{Stray, StrayAnswer}
 use Rattle.tftp_tap.proofs.KeptOf.{any_here, any_skip, any_more}

@@ -8,13 +8,13 @@ use Rattle.law_model.specs.Model.Machines.{receiver_of}
 use Rattle.law_model.specs.Model.{MachinePacket, Req, Oack, Data, Ack, Error, is_error}
 use Rattle.law_model.specs.Rules.{Route, route_of, is_of_transfer, asks, EndRule}
 use Rattle.law_model.proofs.ModelLemmas.Members.{contains_first, contains_later}
-use Rattle.tftp_law.specs.{packet_of, packet_route, packet_in, says_some, OneEnded, Passes, IsRead, Broken, Rule}
-use Rattle.tftp_law.specs.declared.rule.Rule.TheVariants as rule
-use Rattle.tftp_law.proofs.Division.RouteTests.{IsTold}
-use Rattle.tftp_law.proofs.Spelled.{spelled_once}
-use Rattle.tftp_law.proofs.FirstBroken.FirstRequests.{some_same}
-use Rattle.tftp_law.proofs.FirstBroken.OneMessage.{only_messages, port_off}
-use Rattle.tftp_law.proofs.Division.Divided.{any_none, any_cases, any_first, any_later}
+use Rattle.law_end.specs.{packet_of, packet_route, packet_in, says_some, OneEnded, Passes, IsRead, Broken, Rule}
+use Rattle.law_end.specs.declared.rule.Rule.TheVariants as rule
+use Rattle.law_end.proofs.Division.RouteTests.{IsTold}
+use Rattle.law_end.proofs.Spelled.{spelled_once}
+use Rattle.law_end.proofs.FirstBroken.FirstRequests.{some_same}
+use Rattle.law_end.proofs.FirstBroken.OneMessage.{only_messages, port_off}
+use Rattle.law_end.proofs.Division.Divided.{any_none, any_cases, any_first, any_later}
 use Rattle.tftp_tap.specs.{deed_at, TapDatagram, TapSides, side_of, AreApart, is_left_out, kept_of, before_error, same_end, is_request, tap_tests, recorded_at, header_at, FirstTapAsked, Says, HasKind, IsReply, IsLateBlock, is_of_ports}
 use Rattle.tftp_tap.proofs.KeptOf.{any_here, any_skip, any_of, some_of, before_there, kept_out, kept_in, kept_more, kept_plain, kept_asks}
 use Rattle.tftp_tap.proofs.TapTests.{asks_some}

@@ -8,11 +8,11 @@ use Rattle.law_model.specs.Model.Machines.{sender_of, receiver_of}
 use Rattle.law_model.specs.Model.{MachinePacket, Req, Oack, Data, Ack, Error, is_error}
 use Rattle.law_model.specs.Rules.{asks, transfer_of, IsSender, EndBroken, EndRule, NoReply, Terms}
 use Rattle.law_model.proofs.ModelLemmas.Members.{contains_first, contains_later, contains_cases, contains_none}
-use Rattle.tftp_law.specs.{packet_in, says_some, number_of, FirstAsked, Answer, Agrees, Begins, AreTerms, plain_terms, terms_after, IsWrongKind, KindBreaks, MessageBreaks, MessageBroken, Broken, Rule}
-use Rattle.tftp_law.specs.declared.rule.Rule.TheVariants as rule
-use Rattle.tftp_law.proofs.Spelled.{spelled_once}
-use Rattle.tftp_law.proofs.FirstBroken.FirstRequests.{request_same, some_same}
-use Rattle.tftp_law.proofs.Division.RouteTests.{is_same, same_is}
+use Rattle.law_end.specs.{packet_in, says_some, number_of, FirstAsked, Answer, Agrees, Begins, AreTerms, plain_terms, terms_after, IsWrongKind, KindBreaks, MessageBreaks, MessageBroken, Broken, Rule}
+use Rattle.law_end.specs.declared.rule.Rule.TheVariants as rule
+use Rattle.law_end.proofs.Spelled.{spelled_once}
+use Rattle.law_end.proofs.FirstBroken.FirstRequests.{request_same, some_same}
+use Rattle.law_end.proofs.Division.RouteTests.{is_same, same_is}
 use Rattle.tftp_tap.specs.{TapDatagram, TapSides, side_of, AreApart, is_left_out, kept_of, same_end, is_request, asks_in, tap_tests, tap_route, is_passing, transfer_between, recorded_at, header_at, FirstTapAsked, LateBroken, LateBreaks, SidesBreak, PassingBreaks, KeptBreaks, FirstTapBroken, BreaksNoTapRule, IsOfSending, TapRoute}
 use Rattle.tftp_tap.proofs.KeptOf.{any_of, kept_there, kept_asks}
 use Rattle.tftp_tap.proofs.TapTests.{asks_says}

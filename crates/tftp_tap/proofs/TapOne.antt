@@ -6,8 +6,8 @@ use Rattle.tftp_packet.specs.Hosts.{same_peer}
 use Rattle.law_model.specs.Model.{Meaning, MachinePacket, Req, Error, is_error}
 use Rattle.law_model.specs.Rules.{first_of}
 use Rattle.law_model.proofs.ModelLemmas.Members.{contains_cases, contains_none}
-use Rattle.tftp_law.specs.{says_of, says_some, number_of, Rule}
-use Rattle.tftp_law.proofs.Division.RouteTests.{is_same}
+use Rattle.law_end.specs.{says_of, says_some, number_of, Rule}
+use Rattle.law_end.proofs.Division.RouteTests.{is_same}
 use Rattle.tftp_tap.specs.{Tapped, AreCarried, IsSeenAtTap, ShowsAtTap, TapDatagram, TapSides, side_of, AreApart, TapLabel, Main, TapDivision, tapped_of, passed_of, GoesThere, HasTapLabel, HaveTapLabels, IsSeenBetween, ShowsBetween, IsLawfulBetween, is_request, asks_in, ends_in, FirstTapBroken, BreaksNoTapRule, IsTapRefused, goes_on_to, told_server}
 use Rattle.tftp_tap.specs.TapDress.{Stray, StrayAnswer}
 use Rattle.tftp_tap.proofs.OneTap.{shown_one}

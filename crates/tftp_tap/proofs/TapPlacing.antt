@@ -5,11 +5,11 @@ use Rattle.tftp_packet.specs.{Message, Spells, End, Client, Server}
 use Rattle.tftp_packet.specs.Hosts.{same_peer}
 use Rattle.law_model.specs.Model.{MachinePacket, Req, Oack, Data, Ack, Error}
 use Rattle.law_model.specs.Rules.{PortRule}
-use Rattle.tftp_law.specs.{BeginsAsRequest, says_some}
-use Rattle.tftp_law.specs.declared.rule.Rule.TheVariants as rule
-use Rattle.tftp_law.proofs.Division.RouteTests.{same_is, is_same, apart_is}
-use Rattle.tftp_law.proofs.FirstBroken.FirstRequests.{begins_asked}
-use Rattle.tftp_law.proofs.Division.Divided.{any_first, any_later}
+use Rattle.law_end.specs.{BeginsAsRequest, says_some}
+use Rattle.law_end.specs.declared.rule.Rule.TheVariants as rule
+use Rattle.law_end.proofs.Division.RouteTests.{same_is, is_same, apart_is}
+use Rattle.law_end.proofs.FirstBroken.FirstRequests.{begins_asked}
+use Rattle.law_end.proofs.Division.Divided.{any_first, any_later}
 use Rattle.tftp_tap.specs.{Pass, PeerId, TapDatagram, TapSides, side_of, AreApart, TapLabel, Main, TapLabelled, TapDivision, tapped_of, IsMainFrom, GoesThere, HasTapLabel, HaveTapLabels, asks_in, ends_in, has_gone, route_astray, tap_route, IsTapRead, TapPasses, TapRoute}
 use Rattle.tftp_tap.specs.TapDress.{Stray, StrayAnswer}
 use Rattle.tftp_tap.proofs.OneTapDivision.{no_stray_side}

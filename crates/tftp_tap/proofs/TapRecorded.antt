@@ -6,10 +6,10 @@ use Rattle.tftp_packet.specs.{End, Client, Server}
 use Rattle.tftp_packet.specs.Hosts.{In, Out, Datagram, Header, peer_of, same_peer}
 use Rattle.law_model.specs.Model.Machines.{other_end}
 use Rattle.law_model.specs.Model.{MachinePacket, Req, Oack, Data, Ack, Error}
-use Rattle.tftp_law.specs.{from_server, Main, Labelled, Division, datagrams_of, view_in, TransferIds, Saying, GoesToServer, Carries, HaveLabelsBy, AreRoutedBy, Stands, Starts, request_at, request_back, says_some}
-use Rattle.tftp_law.proofs.Division.RouteTests.{same_is, IsTold}
-use Rattle.tftp_law.proofs.Division.Routed.{routed_by}
-use Rattle.tftp_law.proofs.Division.Divided.{any_first, any_later}
+use Rattle.law_end.specs.{from_server, Main, Labelled, Division, datagrams_of, view_in, TransferIds, Saying, GoesToServer, Carries, HaveLabelsBy, AreRoutedBy, Stands, Starts, request_at, request_back, says_some}
+use Rattle.law_end.proofs.Division.RouteTests.{same_is, IsTold}
+use Rattle.law_end.proofs.Division.Routed.{routed_by}
+use Rattle.law_end.proofs.Division.Divided.{any_first, any_later}
 use Rattle.tftp_tap.specs.{Pass, deed_at, as_at, TapDatagram, TapSides, side_of, AreApart, Tests, is_left_out, kept_of, same_end, pass_tests, TapLabel, TapDivision, passed_of, GoesThere, CarriesPass, HasTapLabel, HaveTapLabels, tap_tests, recorded_at}
 use Rattle.tftp_tap.specs.TapDress as tap
 use Rattle.tftp_tap.proofs.KeptOf.{kept_out, kept_in, any_skip}

@@ -4,10 +4,10 @@ use Rattle.std.proofs.lemmas.Bool.{eqb-true, cases_Bool, and_parts}
 use Rattle.tftp_packet.specs.{Message, End, Client, Server}
 use Rattle.tftp_packet.specs.Hosts.{same_peer}
 use Rattle.law_model.specs.Model.{MachinePacket, Req, Oack, Data, Ack, Error}
-use Rattle.tftp_law.specs.{says_some}
-use Rattle.tftp_law.proofs.Division.RouteTests.{same_is, other_peer}
-use Rattle.tftp_law.proofs.Division.ServerRoutes.{byte_begins}
-use Rattle.tftp_law.proofs.Division.Divided.{any_none, any_cases}
+use Rattle.law_end.specs.{says_some}
+use Rattle.law_end.proofs.Division.RouteTests.{same_is, other_peer}
+use Rattle.law_end.proofs.Division.ServerRoutes.{byte_begins}
+use Rattle.law_end.proofs.Division.Divided.{any_none, any_cases}
 use Rattle.tftp_tap.specs.{Pass, is_request, PeerId, TapDatagram, TapSides, side_of, AreApart, TapLabel, Main, TapLabelled, TapDivision, tapped_of, IsMainFrom, GoesThere, CarriesPass, PassesAstray, AnswersTapStray, HasTapLabel, HaveTapLabels, asks_in, has_gone, tap_route, is_passing, transfer_between, TapRoute}
 use Rattle.tftp_tap.specs.TapDress.{Stray, StrayAnswer}
 use Rattle.tftp_tap.proofs.OneTapDivision.{no_stray_side}

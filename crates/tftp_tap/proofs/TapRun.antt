@@ -8,17 +8,17 @@ use Rattle.law_model.specs.Model.Machines.{other_end, sender_of, receiver_of}
 use Rattle.law_model.proofs.ModelLemmas.Members.{contains_first, contains_later, contains_cases, contains_none}
 use Rattle.law_model.proofs.ModelLemmas.Stops.{lawful_tail}
 use Rattle.law_model.specs.Rules.{EndRule}
-use Rattle.tftp_law.specs.{view_in, says_of, Fits, AreRouted, packet_in, says_some}
-use Rattle.tftp_law.specs.declared.rule.Rule.TheVariants as rule
-use Rattle.tftp_law.proofs.Soundness.MadeMeaning.{some_accord}
-use Rattle.tftp_law.proofs.Soundness.RulesDivide.{divides}
-use Rattle.tftp_law.proofs.Division.Parted.{parts_of}
-use Rattle.tftp_law.proofs.Division.OneDivision.{run_divides, division_one}
-use Rattle.tftp_law.proofs.Division.Routed.{routed_by}
-use Rattle.tftp_law.proofs.Soundness.SameOrNot.{same_options, same_text}
-use Rattle.tftp_law.proofs.Spelled.{spelled_once}
-use Rattle.tftp_law.proofs.FirstBroken.FirstRequests.{some_same, request_same}
-use Rattle.tftp_law.proofs.Division.Divided.{any_first, any_later}
+use Rattle.law_end.specs.{view_in, says_of, Fits, AreRouted, packet_in, says_some}
+use Rattle.law_end.specs.declared.rule.Rule.TheVariants as rule
+use Rattle.law_end.proofs.Soundness.MadeMeaning.{some_accord}
+use Rattle.law_end.proofs.Soundness.RulesDivide.{divides}
+use Rattle.law_end.proofs.Division.Parted.{parts_of}
+use Rattle.law_end.proofs.Division.OneDivision.{run_divides, division_one}
+use Rattle.law_end.proofs.Division.Routed.{routed_by}
+use Rattle.law_end.proofs.Soundness.SameOrNot.{same_options, same_text}
+use Rattle.law_end.proofs.Spelled.{spelled_once}
+use Rattle.law_end.proofs.FirstBroken.FirstRequests.{some_same, request_same}
+use Rattle.law_end.proofs.Division.Divided.{any_first, any_later}
 use Rattle.tftp_tap.specs.{Pass, deed_at, as_at, MayPassEach, TapDatagram, TapSides, side_of, AreApart, is_left_out, kept_of, before_error, same_end, is_request, pass_tests, IsAnsweredInTime, IsInTime, AreInTime, recorded_at, header_at, FirstTapAsked, Says, HasKind, IsBlock, IsSomeBlock, IsOack, IsLateZero}
 use Rattle.tftp_tap.proofs.Passed.{sent_at, at_sent, took_passed}
 use Rattle.tftp_tap.proofs.AtReceiver.{receiver_is}

@@ -8,12 +8,12 @@ use Rattle.law_model.specs.Model.{Meaning, request_of, MachinePacket, Req, Oack,
 use Rattle.law_model.specs.Model.Machines.{other_end, sender_of, receiver_of}
 use Rattle.law_model.proofs.ModelLemmas.Members.{contains_first, contains_later}
 use Rattle.law_model.specs.Rules.{EndRule, PortRule}
-use Rattle.tftp_law.specs.{Fits, says_of, view_in, says_some, OneEnded, IsWrongKind, Broken, Rule}
-use Rattle.tftp_law.specs.declared.rule.Rule.TheVariants as rule
-use Rattle.tftp_law.proofs.Spelled.{spelled_once}
-use Rattle.tftp_law.proofs.Division.Divided.{any_none, any_cases}
-use Rattle.tftp_law.proofs.Division.Routed.{told_of}
-use Rattle.tftp_law.proofs.Completeness.RunsPass.{ruled}
+use Rattle.law_end.specs.{Fits, says_of, view_in, says_some, OneEnded, IsWrongKind, Broken, Rule}
+use Rattle.law_end.specs.declared.rule.Rule.TheVariants as rule
+use Rattle.law_end.proofs.Spelled.{spelled_once}
+use Rattle.law_end.proofs.Division.Divided.{any_none, any_cases}
+use Rattle.law_end.proofs.Division.Routed.{told_of}
+use Rattle.law_end.proofs.Completeness.RunsPass.{ruled}
 use Rattle.tftp_tap.specs.{Pass, as_at, MayPass, MayPassEach, TapDatagram, TapSides, side_of, AreApart, is_left_out, kept_of, before_error, pass_tests, kept_at, IsAnsweredInTime, IsInTime, TapLabel, Main, TapLabelled, TapDivision, tapped_of, passed_of, IsSeenBetween, HasTapLabel, HaveTapLabels, tap_tests, tap_route, is_passing, transfer_between, recorded_at, header_at, kept_between, FirstTapAsked, Says, HasKind, IsBlock, IsSomeBlock, IsOack, IsReply, SidesBreak, OtherError, IsLateAck, IsLateZero, IsLateBlock, LateBreaks, LateBroken, PassingBreaks, KeptBreaks, IsTapRead, TapPasses, BreaksNoTapRule, TapRoute}
 use Rattle.tftp_tap.specs.TapDress.{Stray, StrayAnswer}
 use Rattle.tftp_tap.proofs.Replays.{tap_view_is}

@@ -3,8 +3,8 @@ use Rattle.std.proofs.Common.{◌≡◌, ℕ, Bool, true, false, List, ◌∷◌
 use Rattle.tftp_packet.specs.{Message, RequestParts, Spells, side_opcode, Side, Get, Put, End, Client, Server}
 use Rattle.tftp_packet.specs.Hosts.{same_peer}
 use Rattle.law_model.specs.Model.{MachinePacket, Req, Oack, Data, Ack, Error, is_error}
-use Rattle.tftp_law.specs.{packet_in, says_some}
-use Rattle.tftp_law.proofs.Division.RouteTests.{request_begins, same_is, other_peer}
+use Rattle.law_end.specs.{packet_in, says_some}
+use Rattle.law_end.proofs.Division.RouteTests.{request_begins, same_is, other_peer}
 use Rattle.tftp_tap.specs.{TapDatagram, TapSides, side_of, AreApart, same_end, is_request, asks_in, ends_in}
 
 abbrev pub asks_message : Message → Bool

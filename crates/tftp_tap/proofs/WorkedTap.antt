@@ -8,9 +8,9 @@ use Rattle.law_model.proofs.ModelLemmas.Members.{contains_first, contains_cases,
 use Rattle.law_model.proofs.ModelLemmas.OneSided.{view_one_sided}
 use Rattle.law_model.proofs.ModelLemmas.Worked.{two_bytes_is_view, ten_bytes_is_view, eight_of_both, four_of_both, has_some, one_block, one_at_a_time}
 use Rattle.law_model.proofs.ModelLemmas.Computed.{IsPlan, run_is}
-use Rattle.tftp_law.specs.{says_of, BeginsAsRequest}
-use Rattle.tftp_law.proofs.Whole.NothingAgreed.{two_bytes_fit}
-use Rattle.tftp_law.proofs.Division.Divided.{any_first, any_later}
+use Rattle.law_end.specs.{says_of, BeginsAsRequest}
+use Rattle.law_end.proofs.Whole.NothingAgreed.{two_bytes_fit}
+use Rattle.law_end.proofs.Division.Divided.{any_first, any_later}
 use Rattle.tftp_tap.specs.{as_at, tapped_at, IsTapView, PeerId, side_of, AreApart, Main, TapLabelled, TapDivision, IsMainFrom, HaveTapLabels, IsSeenBetween, ShowsBetween, client_side, other_side, worked_sides, hi_passes, stray_passes, answer_passes, ack_passes, read_between, block_passes_late, both_pass_late, block_passes_early, ack_of_nothing, BreaksNoTapRule}
 use Rattle.tftp_tap.specs.TapDress.{Stray, StrayAnswer}
 use Rattle.tftp_tap.specs.WorkedTap.{request_passes}

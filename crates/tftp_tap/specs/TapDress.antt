@@ -3,7 +3,7 @@
 use Rattle.std.specs.Prelude.{◌≡◌, ℕ, List, [], ◌∷◌, map, filter_map, Any, Option, Some, None}
 use Rattle.tftp_packet.specs.{Message, Spells, End, Client, Server}
 use Rattle.law_model.specs.Model.{Meaning, MachinePacket, Req}
-use Rattle.tftp_law.specs.{BeginsAsRequest, Fits, Saying, says_of}
+use Rattle.law_end.specs.{BeginsAsRequest, Fits, Saying, says_of}
 use Rattle.tftp_tap.specs.Tap.{Pass, IsTapView, IsWholeAtTap}
 use Rattle.tftp_tap.specs.TapCapture.{TapDatagram, TapSides, side_of}
 

@@ -6,8 +6,8 @@ use Rattle.tftp_packet.specs.{Message, RequestParts, Spells, FirstFault, Side, G
 use Rattle.tftp_packet.specs.Hosts.{In, Out, Datagram, Header, same_peer}
 use Rattle.law_model.specs.Model.Roles.{receiver_of}
 use Rattle.law_model.specs.Rules.{first_of, EndRule, PortRule}
-use Rattle.tftp_law.specs.{Broken, IsWrongKind, number_of, Rule}
-use Rattle.tftp_law.specs.declared.rule.Rule.TheVariants as rule
+use Rattle.law_end.specs.{Broken, IsWrongKind, number_of, Rule}
+use Rattle.law_end.specs.declared.rule.Rule.TheVariants as rule
 use Rattle.tftp_tap.specs.TapCapture.{PeerId, TapDatagram, TapSides, side_of}
 use Rattle.tftp_tap.specs.TapOrder.{is_left_out, kept_of, before_error}
 use Rattle.tftp_tap.specs.TapRoutes.{asks_in, ends_in, tap_tests, tap_route, is_passing, transfer_between}

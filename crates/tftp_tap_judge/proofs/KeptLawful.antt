@@ -2,7 +2,7 @@
 use Rattle.std.proofs.Common.{◌≡◌, List, inr, sym, subst, ap, ◌∙◌, map}
 use Rattle.tftp_packet.specs.{RequestParts}
 use Rattle.law_model.specs.Model.Roles.{receiver_of}
-use Rattle.tftp_law.specs.{says_some, OneEnded}
+use Rattle.law_end.specs.{says_some, OneEnded}
 use Rattle.tftp_tap.specs.{TapDatagram, TapSides, AreApart, kept_of, tap_tests, transfer_between, BreaksNoTapRule, FirstTapAsked, header_at, kept_between, recorded_at}
 use Rattle.tftp_tap.proofs.TapRouted.{Carried, mains, transfer_is}
 use Rattle.tftp_tap.proofs.TapRecorded.{datagram_in, datagrams_each, kept_map, mains_carried, pair_tests}

@@ -1,8 +1,8 @@
 -- Which kinds of message have passed, after one more.
 use Rattle.std.proofs.Common.{◌⊎◌, List, ◌∷◌, inl, inr, subst}
 use Rattle.tftp_packet.specs.{Message, Spells}
-use Rattle.tftp_law.proofs.Spelled.{spelled_once}
-use Rattle.tftp_law.proofs.Division.Divided.{any_cases, any_first, any_later}
+use Rattle.law_end.proofs.Spelled.{spelled_once}
+use Rattle.law_end.proofs.Division.Divided.{any_cases, any_first, any_later}
 use Rattle.tftp_tap.specs.{TapDatagram, HasKind, Says}
 
 module _ (Kind : Message → Type 0) (passed : List TapDatagram) (d : TapDatagram) (m : Message) (says : Spells d.payload m) where

@@ -3,8 +3,8 @@ use Rattle.std.proofs.Common.{◌≡◌, ◌⊎◌, ℕ, ◌+◌, ◌<◌, ◌�
 use Rattle.tftp_packet.specs.{Message, RequestParts, Side, End, Client, Server}
 use Rattle.law_model.specs.Model.Roles.{receiver_of}
 use Rattle.law_model.specs.Rules.{EndRule}
-use Rattle.tftp_law.specs.{IsWrongKind, number_of, Rule}
-use Rattle.tftp_law.specs.declared.rule.Rule.TheVariants as rule
+use Rattle.law_end.specs.{IsWrongKind, number_of, Rule}
+use Rattle.law_end.specs.declared.rule.Rule.TheVariants as rule
 use Rattle.tftp_tap.specs.{TapDatagram, TapSides, before_error, tap_tests, LateBreaks, IsLateAck, IsLateZero, IsLateBlock}
 use Rattle.tftp_tap_judge.specs.{Marks, AreMarks, FindsRule, IsOtherError, IsOtherRequest, MessageBreaks}
 

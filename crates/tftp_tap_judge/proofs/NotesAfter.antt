@@ -3,10 +3,10 @@ use Rattle.std.proofs.Common.{◌≡◌, ◌⊎◌, ℕ, Bool, true, false, List
 use Rattle.std.proofs.lemmas.Bool.{true≢false, cases_eq}
 use Rattle.tftp_packet.specs.{Message, Spells, meaning, Packet, End, Client, Server}
 use Rattle.tftp_packet.specs.declared.packet.Packet.TheVariants as packet
-use Rattle.tftp_law.proofs.Division.Divided.{any_cases, any_first, any_later}
-use Rattle.tftp_law.proofs.Division.RouteTests.{same_is}
-use Rattle.tftp_law.proofs.Soundness.SameOrNot.{same_text}
-use Rattle.tftp_law.proofs.Spelled.{spelled_once}
+use Rattle.law_end.proofs.Division.Divided.{any_cases, any_first, any_later}
+use Rattle.law_end.proofs.Division.RouteTests.{same_is}
+use Rattle.law_end.proofs.Soundness.SameOrNot.{same_text}
+use Rattle.law_end.proofs.Spelled.{spelled_once}
 use Rattle.tftp_tap.specs.{TapDatagram, TapSides, side_of, AreApart, same_end, ends_in, tap_tests}
 use Rattle.tftp_tap.proofs.KeptOf.{any_here, any_skip, any_more, before_all, before_less}
 use Rattle.tftp_tap.proofs.TapTests.{ends_message, ends_says, source_is}

@@ -4,10 +4,10 @@ use Rattle.std.specs.List.{list_any}
 use Rattle.std.proofs.lemmas.Bool.{true≢false}
 use Rattle.tftp_packet.specs.{Message, RequestParts, Spells, End, Client, Server, FirstFault, PacketFault}
 use Rattle.tftp_packet.proofs.NoFault.{no_fault}
-use Rattle.tftp_law.specs.{IsWrongKind, number_of, Rule}
-use Rattle.tftp_law.specs.declared.rule.Rule.TheVariants as rule
-use Rattle.tftp_law.proofs.Spelled.{spelled_once}
-use Rattle.tftp_law.proofs.FirstBroken.FirstRequests.{request_same, some_same}
+use Rattle.law_end.specs.{IsWrongKind, number_of, Rule}
+use Rattle.law_end.specs.declared.rule.Rule.TheVariants as rule
+use Rattle.law_end.proofs.Spelled.{spelled_once}
+use Rattle.law_end.proofs.FirstBroken.FirstRequests.{request_same, some_same}
 use Rattle.tftp_tap.specs.{TapDatagram, TapSides, side_of, AreApart, tap_tests, FirstTapAsked, LateBreaks, OtherError, PassingBreaks, TapRoute}
 use Rattle.tftp_tap.proofs.KeptOf.{any_of}
 use Rattle.tftp_tap.proofs.TapBefore.{first_holds}

@@ -11,7 +11,7 @@ use Rattle.tftp_tap.specs.{TapDatagram, TapSides, side_of, AreApart, is_left_out
 use Rattle.tftp_tap.proofs.KeptOf.{any_here, any_more, kept_in}
 use Rattle.tftp_tap.proofs.TapTests.{source_is}
 use Rattle.tftp_tap.proofs.TapMade.{recorded_payload}
-use Rattle.tftp_law.proofs.Division.RouteTests.{same_is}
+use Rattle.law_end.proofs.Division.RouteTests.{same_is}
 use Rattle.tftp_tap_judge.specs.{IsReceiving, Receiving, kept_there, ReceiverBreaks, error_by_refusal}
 use Rattle.tftp_judge.specs.declared.pass_error.PassError.TheVariants as stop
 

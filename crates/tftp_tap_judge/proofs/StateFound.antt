@@ -7,10 +7,10 @@ use Rattle.tftp_packet.proofs.NoFault.{no_fault}
 use Rattle.tftp_packet.specs.Hosts.{same_peer}
 use Rattle.law_model.specs.Rules.{first_of, PortRule}
 use Rattle.tftp_judge.specs.{NoneBreaks, Finds, PassError}
-use Rattle.tftp_law.specs.{OneEnded, Passes, number_of, Rule}
-use Rattle.tftp_law.specs.declared.rule.Rule.TheVariants as rule
-use Rattle.tftp_law.proofs.Division.RouteTests.{is_same, same_is}
-use Rattle.tftp_law.proofs.Division.Divided.{any_none}
+use Rattle.law_end.specs.{OneEnded, Passes, number_of, Rule}
+use Rattle.law_end.specs.declared.rule.Rule.TheVariants as rule
+use Rattle.law_end.proofs.Division.RouteTests.{is_same, same_is}
+use Rattle.law_end.proofs.Division.Divided.{any_none}
 use Rattle.law_model.specs.Model.Roles.{receiver_of}
 use Rattle.tftp_tap.specs.{TapDatagram, TapSides, AreApart, kept_of, asks_in, ends_in, has_gone, is_passing, tap_route, tap_tests, transfer_between, BreaksNoTapRule, FirstTapAsked, FirstTapBroken, IsTapRead, KeptBreaks, LateBroken, PassingBreaks, SidesBreak, TapBroken, TapPasses, header_at, kept_between, recorded_at, TapRoute}
 use Rattle.tftp_tap.specs.declared.route.TapRoute.TheVariants as route

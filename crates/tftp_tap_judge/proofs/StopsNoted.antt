@@ -3,8 +3,8 @@ use Rattle.std.proofs.Common.{◌≡◌, ◌↔◌, ℕ, Bool, true, false, List
 use Rattle.std.specs.List.{list_any}
 use Rattle.std.proofs.lemmas.Bool.{true≢false}
 use Rattle.tftp_packet.specs.{Message, Spells, Side, Get, Put, End, Client, Server}
-use Rattle.tftp_law.proofs.Division.Divided.{any_none, any_cases}
-use Rattle.tftp_law.proofs.Division.RouteTests.{same_is}
+use Rattle.law_end.proofs.Division.Divided.{any_none, any_cases}
+use Rattle.law_end.proofs.Division.RouteTests.{same_is}
 use Rattle.tftp_tap.specs.{TapDatagram, TapSides, side_of, before_error, tap_tests, IsLateBlock, IsLateZero}
 use Rattle.tftp_tap.proofs.KeptOf.{any_here, any_more, before_all}
 use Rattle.tftp_tap.proofs.TapTests.{ends_says}

@@ -9,10 +9,10 @@ use Rattle.law_model.specs.Model.Machines.{receiver_of, sender_of}
 use Rattle.law_model.proofs.ModelLemmas.Members.{contains_none}
 use Rattle.law_model.proofs.ModelLemmas.OneSided.{view_one_sided}
 use Rattle.law_model.proofs.ModelLemmas.MadeRuns.{one_sided_view}
-use Rattle.tftp_law.specs.{ShowsBy, datagrams_of, view_in, says_of, AreRouted, says_some}
-use Rattle.tftp_law.proofs.Division.Parted.{parts_of}
-use Rattle.tftp_law.proofs.Division.OneDivision.{run_divides, division_one}
-use Rattle.tftp_law.proofs.Division.Routed.{routed_by, told_of}
+use Rattle.law_end.specs.{ShowsBy, datagrams_of, view_in, says_of, AreRouted, says_some}
+use Rattle.law_end.proofs.Division.Parted.{parts_of}
+use Rattle.law_end.proofs.Division.OneDivision.{run_divides, division_one}
+use Rattle.law_end.proofs.Division.Routed.{routed_by, told_of}
 use Rattle.tftp_tap.specs.{Pass, as_at, MayPassEach, IsWholeAtTap, TapDatagram, TapSides, AreApart, ShowsBetween, passed_of, kept_of, pass_tests, kept_at, tap_tests, transfer_between, BreaksNoTapRule, FirstTapAsked, header_at, kept_between, recorded_at}
 use Rattle.tftp_tap.proofs.Replays.{tap_view_is}
 use Rattle.tftp_tap.proofs.Passed.{sent_passed, at_sent, at_took}

@@ -6,9 +6,9 @@ use Rattle.tftp_packet.specs.Hosts.{Datagram, Header}
 use Rattle.law_model.specs.Model.{Meaning}
 use Rattle.tftp_judge.specs.{IsUnlawfulAt, IsVerdict, Refusal}
 use Rattle.tftp_judge.specs.declared.refusal.Refusal.TheVariants as of_end
-use Rattle.tftp_law.specs.{IsLawful, IsEnded, IsFirstError, OneEnded, Rule}
-use Rattle.tftp_law.proofs.Whole.Beginnings.{beginning_is_lawful}
-use Rattle.tftp_law.proofs.Whole.TwoEnds.{lawful}
+use Rattle.law_end.specs.{IsLawful, IsEnded, IsFirstError, OneEnded, Rule}
+use Rattle.law_end.proofs.Whole.Beginnings.{beginning_is_lawful}
+use Rattle.law_end.proofs.Whole.TwoEnds.{lawful}
 use Rattle.tftp_tap.specs.{TapDatagram, TapSides, AreApart, IsLawfulBetween, transfer_between, BreaksNoTapRule, FirstTapAsked, header_at, kept_between}
 use Rattle.tftp_tap.proofs.TapLaw.{rules_run}
 use Rattle.tftp_tap_judge.specs.{IsErrorAtTap, IsTapVerdict, NoneShown, said_at_tap, unfinished_by}

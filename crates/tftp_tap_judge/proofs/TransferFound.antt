@@ -6,10 +6,10 @@ use Rattle.tftp_judge.specs.{NoneBreaks, Finds, PassError}
 use Rattle.tftp_packet.specs.Hosts.{Datagram, Header}
 use Rattle.law_model.specs.Rules.{is_of_transfer, or_this, route_of, PortRule}
 use Rattle.law_model.specs.Model.Roles.{receiver_of}
-use Rattle.tftp_law.specs.{Broken, NoErrorBy, number_of, Rule}
-use Rattle.tftp_law.specs.declared.rule.Rule.TheVariants as rule
-use Rattle.tftp_law.proofs.Division.RouteTests.{same_is}
-use Rattle.tftp_law.proofs.Spelled.{spelled_once}
+use Rattle.law_end.specs.{Broken, NoErrorBy, number_of, Rule}
+use Rattle.law_end.specs.declared.rule.Rule.TheVariants as rule
+use Rattle.law_end.proofs.Division.RouteTests.{same_is}
+use Rattle.law_end.proofs.Spelled.{spelled_once}
 use Rattle.tftp_tap.specs.{TapDatagram, TapSides, side_of, AreApart, tap_tests, FirstTapAsked, header_at, is_of_ports, kept_between, recorded_at, TapRoute}
 use Rattle.tftp_tap.proofs.TapMade.{ports_off}
 use Rattle.tftp_tap.proofs.TapTests.{asks_says}

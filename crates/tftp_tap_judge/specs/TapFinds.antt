@@ -2,8 +2,8 @@
 -- The list `passed` has the datagrams of the transfer that have passed, the newest first.
 use Rattle.std.specs.Prelude.{◌≡◌, ◌⊎◌, ℕ, List, Option, Some, None, Result, Ok, Err}
 use Rattle.tftp_packet.specs.{IsFirst, Message, RequestParts, meaning, Spells, FirstFault, Packet, PacketFault, End, Client}
-use Rattle.tftp_law.specs.{IsWrongKind, number_of, Rule}
-use Rattle.tftp_law.specs.declared.rule.Rule.TheVariants as rule
+use Rattle.law_end.specs.{IsWrongKind, number_of, Rule}
+use Rattle.law_end.specs.declared.rule.Rule.TheVariants as rule
 use Rattle.tftp_tap.specs.{TapDatagram, TapSides, PassingBreaks, LateBreaks, LateBroken, TapRoute}
 use Rattle.tftp_tap_judge.specs.TapSeen.{ErrorPassed}
 

@@ -16,7 +16,7 @@ use tftp_capture::Datagram;
 use tftp_ends::says_unknown_id;
 use tftp_packet::hosts::{Dir, Peer};
 use tftp_judge::PassError;
-use tftp_law::Rule;
+use law_end::Rule;
 use tftp_packet::{End, Packet, Request, opcode, own_request, read_packet};
 use law_model::rules::PortRule;
 use tftp_tap::{Sides, TapPorts, TapRoute};

@@ -12,7 +12,7 @@ use crate::transfer::receiver_of_file;
 use std::alloc::{AllocError, Global};
 use std::marker::Model;
 use tftp_judge::is_wrong_kind;
-use tftp_law::Rule;
+use law_end::Rule;
 use tftp_packet::{End, Packet, PacketFault, Request, Side, same_request};
 use law_model::rules::EndRule;
 

@@ -3,7 +3,7 @@ ghost use Rattle.tftp_tap.specs.{is_of_ports};
 ghost use Rattle.tftp_tap_judge.specs.TapStops.{smaller_of, error_by_refusal};
 
 use tftp_judge::{PassError, Refusal};
-use tftp_law::Rule;
+use law_end::Rule;
 
 /// Why the judge at an end does not go on.
 pub fn error_of(refusal: Refusal) -> PassError

@@ -1,4 +1,4 @@
-use tftp_law::Rule;
+use law_end::Rule;
 use tftp_packet::End;
 
 /// Why the datagrams that passed between the ends are not accepted.

@@ -2,7 +2,7 @@ ghost use Rattle.std.specs.Prelude.{◌≡◌, ◌+◌, ◌^◌, ◌<◌, ◌≤
 ghost use Rattle.tftp_packet.specs.{Message, meaning, Spells};
 ghost use Rattle.law_model.specs.Model.Roles.{receiver_of};
 ghost use Rattle.tftp_judge.specs.{Finds};
-ghost use Rattle.tftp_law.specs.{Passes, IsFirstError};
+ghost use Rattle.law_end.specs.{Passes, IsFirstError};
 ghost use Rattle.tftp_tap.specs.{TapDatagram, TapSides, side_of, AreApart, is_passing, tap_route, transfer_between, BreaksNoTapRule, header_at, recorded_at};
 ghost use Rattle.tftp_tap_judge.specs.TapKept.{IsErrorAtTap, IsTapTransfer};
 ghost use Rattle.tftp_tap_judge.specs.TapSeen.{AreNotes};
@@ -19,7 +19,7 @@ use std::marker::Model;
 use tftp_blocks::Delivered;
 use tftp_capture::Datagram;
 use tftp_judge::{Meaning, PassError, Refusal};
-use tftp_law::Rule;
+use law_end::Rule;
 use tftp_packet::{End, Packet, Request, Side, read_packet};
 
 /// A transfer between its ends from its first request on: what was asked for, what the end that gets the file would make of it,

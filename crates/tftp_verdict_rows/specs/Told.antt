@@ -2,7 +2,7 @@
 use Rattle.std.specs.Prelude.{◌≡◌, ◌≢◌, ◌⊎◌, ◌&&◌, ◌||◌, ◌==◌, not, ℕ, Bool, true, false, List, [], ◌∷◌, ◌++◌, Option, Some, None, IsSome, is_some, option_to_list, Result, Ok, Err, if◌then◌else◌}
 use Rattle.law_model.specs.Model.{Meaning}
 use Rattle.law_model.specs.Rules.{BadAnswer}
-use Rattle.tftp_law.specs.{Port}
+use Rattle.law_end.specs.{Port}
 use Rattle.tftp_judge.specs.{Refusal}
 use Rattle.tftp_judge.specs.declared.refusal.Refusal.TheVariants as refusal
 use Rattle.tftp_tap_judge.specs.{TapRefusal}

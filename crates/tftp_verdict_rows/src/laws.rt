@@ -4,7 +4,7 @@ ghost use Rattle.std.specs.Prelude.{◌≡◌, ◌≢◌, ◌∷◌, ◌||◌, [
 ghost use Rattle.tftp_lines.specs.{Place, Placed, Transfer, same_endpoint};
 ghost use Rattle.tftp_packet.specs.{Client as ClientEnd, Server as ServerEnd};
 ghost use Rattle.law_model.specs.Rules.{BadAnswer, EndRule};
-ghost use Rattle.tftp_law.specs.{Block, Port};
+ghost use Rattle.law_end.specs.{Block, Port};
 ghost use Rattle.tftp_transfers.specs.{asked_twice, client, service};
 ghost use Rattle.tftp_transfers.specs.Worked.{at, passes};
 ghost use Rattle.tftp_verdict_rows.specs.Accusing.{accused_in, accused_in_row, accused_of, is_servers};

@@ -6,7 +6,7 @@ use Rattle.tftp_capture.proofs.Beginnings.{capture_begins}
 use Rattle.tftp_capture.proofs.Canonical.{hosts_are_read}
 use Rattle.tftp_packet.specs.Hosts.{Datagram, Header}
 use Rattle.law_model.specs.Model.{Meaning}
-use Rattle.tftp_law.specs.{OneEnded, Passes, FirstBroken, Rule}
+use Rattle.law_end.specs.{OneEnded, Passes, FirstBroken, Rule}
 use Rattle.tftp_judge.specs.{Refuses, IsJudgeAfter, Judge, IsTextVerdict, unnumbered, IsSaid, IsVerdict, IsVerdictByRules, Refusal, Unlawful, Aborted, Incomplete, NormalTooLong}
 use Rattle.tftp_judge.specs.declared.refusal.Refusal.TheVariants.{Memory}
 use Rattle.tftp_judge.proofs.ByRuns.{verdict}

@@ -3,7 +3,7 @@ use Rattle.std.specs.Prelude.{◌≡◌, ◌^◌, ◌≤◌, List, ◌∷◌, �
 use Rattle.tftp_capture.specs.{IsLawful, IsPort, text_with_hosts}
 use Rattle.tftp_packet.specs.Hosts.{Datagram, Header}
 use Rattle.law_model.specs.Model.{Meaning}
-use Rattle.tftp_law.specs.{OneEnded}
+use Rattle.law_end.specs.{OneEnded}
 use Rattle.tftp_judge.specs.{Refuses, IsJudgeAfter, Judge, IsTextVerdict, IsSaid, IsVerdict, Refusal, Verdict, Refused}
 
 -- Those before this one break no rule, and this one was refused.

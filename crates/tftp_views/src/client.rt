@@ -3,7 +3,7 @@
 ghost use Rattle.std.specs.Prelude.{◌≡◌, ◌+◌, ◌^◌, ◌<◌, ◌≤◌, ◌∷◌, ℕ, List, [], length, OnOk, OnErr, Ok, Err, None, Some, true, false};
 ghost use Rattle.law_model.specs.Rules.{transfer_of};
 ghost use Rattle.tftp_judge.specs.{TakesForJoin, Refusal as RefusalKind};
-ghost use Rattle.tftp_law.specs.{IsEnded};
+ghost use Rattle.law_end.specs.{IsEnded};
 ghost use Rattle.tftp_lines.specs.{Placed, is_of};
 ghost use Rattle.tftp_views.specs.Captured.{Naming, client_capture, client_header};
 ghost use Rattle.tftp_views.specs.Judged.{IsJudgedWith};

@@ -5,7 +5,7 @@ ghost use Rattle.tftp_capture.specs.{datagram_of, header_of};
 ghost use Rattle.tftp_packet.specs.Hosts.{Datagram as DatagramParts, Header as HeaderParts};
 ghost use Rattle.law_model.specs.Rules.{transfer_of};
 ghost use Rattle.tftp_judge.specs.{TakesForJoin, Refusal as RefusalKind};
-ghost use Rattle.tftp_law.specs.{IsEnded};
+ghost use Rattle.law_end.specs.{IsEnded};
 ghost use Rattle.tftp_views.specs.Captured.{captured_as};
 ghost use Rattle.tftp_views.specs.Judged.{HasJudged, IsJudgedWith};
 

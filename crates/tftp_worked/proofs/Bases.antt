@@ -7,7 +7,7 @@ use Rattle.tftp_packet.specs.Hosts.{Datagram, Header}
 use Rattle.law_model.specs.Model.{number_or, eight_a_block, eight_by_four, request_of, two_bytes}
 use Rattle.law_model.proofs.ModelLemmas.Worked.{eight_for_blksize}
 use Rattle.tftp_nego.specs.{MayAnswer}
-use Rattle.tftp_law.specs.{Agrees}
+use Rattle.law_end.specs.{Agrees}
 use Rattle.tftp_worked.specs.{at_client, asks_for_a, brings_hi, request, oack, by_eight, by_four, by_two, asks, comes, answers, is_asked, at_service, by_most, sized}
 use Rattle.tftp_worked.proofs.Spelled.{request_spelled}
 use Rattle.tftp_worked.proofs.Payloads.{Spelled, request_spells, oack_spells, eight_is, four_is, two_is, eight_by_two}

@@ -1,8 +1,8 @@
 -- What breaks a rule is in no run, by the law that the rules are the runs.
 use Rattle.std.proofs.Common.{◌≡◌, ℕ, ◌+◌, List, [], ◌∷◌, ◌++◌, length, reverse, Err, refl, subst}
 use Rattle.tftp_packet.specs.Hosts.{Datagram, Header}
-use Rattle.tftp_law.specs.{OneEnded, IsRefused, Rule}
-use Rattle.tftp_law.proofs.FirstBroken.FirstBroken.{refused_does_not_pass}
+use Rattle.law_end.specs.{OneEnded, IsRefused, Rule}
+use Rattle.law_end.proofs.FirstBroken.FirstBroken.{refused_does_not_pass}
 use Rattle.tftp_judge.specs.{IsVerdict, IsVerdictByRules, Unlawful}
 use Rattle.tftp_judge.proofs.ByRuns.{verdict}
 

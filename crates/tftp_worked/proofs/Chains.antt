@@ -5,10 +5,10 @@ use Rattle.tftp_packet.specs.{OptionMap, Message, RequestParts, Spells, Side}
 use Rattle.tftp_packet.specs.Hosts.{Header}
 use Rattle.law_model.specs.Rules.{or_this, asks, route_of, is_of_transfer, transfer_of, EndBroken, Terms, EndRule}
 use Rattle.tftp_nego.specs.{AgreementBroken, AgreementRule, Holds, NegoFault, agreement_number, number}
-use Rattle.tftp_law.specs.{number_of, Answer, Agrees, terms_after, AreTerms, MessageBreaks, Broken, Rule, OneEnded, IsRefused}
+use Rattle.law_end.specs.{number_of, Answer, Agrees, terms_after, AreTerms, MessageBreaks, Broken, Rule, OneEnded, IsRefused}
 use Rattle.tftp_worked.proofs.Payloads.{Spelled, datagrams, AllSpelled, spells_it, spelled_it}
-use Rattle.tftp_law.proofs.FirstBroken.Answering.{answer_of}
-use Rattle.tftp_law.proofs.FirstBroken.OneMessage.{end_breaks, back}
+use Rattle.law_end.proofs.FirstBroken.Answering.{answer_of}
+use Rattle.law_end.proofs.FirstBroken.OneMessage.{end_breaks, back}
 use Rattle.tftp_worked.proofs.Passing.{kept_if, main_of, first_asked, asked_by, asked_is, asked_back, first_answer, or_now, unanswered_is, answered_is, terms_of, terms_from, terms_by, terms_are, terms_back}
 use Rattle.tftp_worked.proofs.RuleTests.{not_oack, past_all, keeps_below}
 use Rattle.tftp_worked.proofs.Kept.{passes_by, passes_is, none_below, no_oack, FirstOack, OtherOack, OackKeeps, not_answered}

@@ -9,10 +9,10 @@ use Rattle.tftp_packet.specs.Hosts.{Dir, In, Out, Datagram, Header, PeerId, peer
 use Rattle.law_model.specs.Model.{Meaning, blksize_of, request_of, block, MachinePacket, Req, Oack, Data, Ack, Error, Deed, message_of, History}
 use Rattle.law_model.specs.Rules.{SaysUnknownId}
 use Rattle.law_model.proofs.ModelLemmas.HistoryTests.{same_end}
-use Rattle.tftp_law.specs.{server_port, from_server, BeginsAsRequest, Label, Main, Stray, Labelled, Division, datagrams_of, view_in, TransferIds, HasClientId, HasServerId, GoesToServer, dir_of, packet_of, IsMain, HasLabel, HaveLabels, IsDressed}
-use Rattle.tftp_law.specs.Dress.{StrayAnswer}
-use Rattle.tftp_law.proofs.Division.Divided.{any_first, any_later}
-use Rattle.tftp_law.proofs.Division.RouteTests.{apart_is, is_same}
+use Rattle.law_end.specs.{server_port, from_server, BeginsAsRequest, Label, Main, Stray, Labelled, Division, datagrams_of, view_in, TransferIds, HasClientId, HasServerId, GoesToServer, dir_of, packet_of, IsMain, HasLabel, HaveLabels, IsDressed}
+use Rattle.law_end.specs.Dress.{StrayAnswer}
+use Rattle.law_end.proofs.Division.Divided.{any_first, any_later}
+use Rattle.law_end.proofs.Division.RouteTests.{apart_is, is_same}
 use Rattle.tftp_worked.proofs.Payloads.{Spelled, spells_it, spelled_it}
 use Rattle.tftp_worked.proofs.Passing.{same_dir, dir_is}
 use Rattle.tftp_worked.proofs.Meant.{deed_for}

@@ -4,8 +4,8 @@ use Rattle.tftp_packet.specs.{Num, Get}
 use Rattle.tftp_packet.specs.Hosts.{Datagram, Header}
 use Rattle.law_model.specs.Model.{Meaning, two_bytes, eight_a_block}
 use Rattle.law_model.specs.Rules.{NoReply, Plain, EndRule}
-use Rattle.tftp_law.specs.{IsAborted, AbortedBy, Local, Peer, IsLawful, Meant, plain_terms, Rule}
-use Rattle.tftp_law.proofs.Whole.TwoEnds.{whole}
+use Rattle.law_end.specs.{IsAborted, AbortedBy, Local, Peer, IsLawful, Meant, plain_terms, Rule}
+use Rattle.law_end.proofs.Whole.TwoEnds.{whole}
 use Rattle.tftp_judge.specs.{IsVerdict, Unlawful, Aborted}
 use Rattle.tftp_worked.specs.{at_client, acknowledges_hi, says_forbidden, read_refused, read_refused_twice, read_given_up, read_given_up_twice, stopped_at_the_end, stopped_after_the_end, block_after_error, before_late_answer, late_answer}
 use Rattle.tftp_worked.proofs.Exchanges.{acks, eight_news}

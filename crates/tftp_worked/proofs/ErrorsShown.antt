@@ -9,11 +9,11 @@ use Rattle.law_model.proofs.ModelLemmas.Worked.{one_block_plan, two_is_plan, eig
 use Rattle.law_model.proofs.ModelLemmas.WorkedErrors.{read_refused_is_view, read_given_up_is_view, stopped_at_the_end_is_view, stopped_at_the_end_complete, block_after_error_is_view}
 use Rattle.law_model.proofs.ModelLemmas.Computed.{run_is, complete_is, all_is}
 use Rattle.law_model.proofs.ModelLemmas.OneSided.{view_one_sided}
-use Rattle.tftp_law.specs.Dress.{StrayAnswer}
-use Rattle.tftp_law.specs.{Label, Main, Stray, Labelled, IsMain, TransferIds, HasLabel, HaveLabels, IsDressed, IsLawful, Shows}
-use Rattle.tftp_law.proofs.Division.Divided.{divided_more, divided_none, any_none, any_cases}
-use Rattle.tftp_law.proofs.Spelled.{spelled_once}
-use Rattle.tftp_law.proofs.Whole.NothingAgreed.{two_bytes_fit}
+use Rattle.law_end.specs.Dress.{StrayAnswer}
+use Rattle.law_end.specs.{Label, Main, Stray, Labelled, IsMain, TransferIds, HasLabel, HaveLabels, IsDressed, IsLawful, Shows}
+use Rattle.law_end.proofs.Division.Divided.{divided_more, divided_none, any_none, any_cases}
+use Rattle.law_end.proofs.Spelled.{spelled_once}
+use Rattle.law_end.proofs.Whole.NothingAgreed.{two_bytes_fit}
 use Rattle.tftp_worked.specs.{at_client, acknowledges_hi, request, oack, by_eight, asks, comes, is_asked, at_service, says_forbidden, read_refused, read_refused_twice, read_given_up, read_given_up_twice, stopped_at_the_end, stopped_after_the_end, block_after_error, before_late_answer, late_answer, only_offered, stops_unanswered}
 use Rattle.tftp_worked.proofs.Spelled.{request_spelled}
 use Rattle.tftp_worked.proofs.Payloads.{Spelled}

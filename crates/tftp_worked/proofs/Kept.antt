@@ -11,8 +11,8 @@ use Rattle.law_model.specs.Model.Roles.{sender_of}
 use Rattle.law_model.specs.Rules.{author_of, Route, asks, first_of, route_of, is_of_transfer, transfer_of, SaysUnknownId, Passed, HasPassed, BlockPassed, IsTop, IsHigh, IsLast, LastIsUnknown, IsNotLengthOf, HasWrongLength, BlocksWait, AckZeroWaits, IsSender, IsAckedAt, IsReachedAt, BlockBreaks, AckBreaks, EndBroken, usable, Terms, end_rules, rule_count, EndRule, PortRule}
 use Rattle.law_model.proofs.RulesLemmas.EndRules.{each_end}
 use Rattle.tftp_nego.specs.{Holds, NegoFault, AgreementRule, agreement_number, number}
-use Rattle.tftp_law.specs.{number_of, FirstAsked, Agrees, Begins, NotAnswered, FirstAnswer, AreTerms, IsError, IsWrongKind, GoesOn, BlockSent, ClientWentOn, TermsBreak, KindBreaks, MessageBreaks, MessageBroken, Broken, Rule, IsRead, Passes}
-use Rattle.tftp_law.proofs.Spelled.{spelled_once}
+use Rattle.law_end.specs.{number_of, FirstAsked, Agrees, Begins, NotAnswered, FirstAnswer, AreTerms, IsError, IsWrongKind, GoesOn, BlockSent, ClientWentOn, TermsBreak, KindBreaks, MessageBreaks, MessageBroken, Broken, Rule, IsRead, Passes}
+use Rattle.law_end.proofs.Spelled.{spelled_once}
 use Rattle.tftp_worked.proofs.Payloads.{Spelled, datagrams, AllSpelled, all_from}
 use Rattle.tftp_worked.proofs.Passing.{same_dir, as_block, holds, block_is, passed_as, main_of, main_is, main_spelled, used_of, all_used, used_is, every, some, every_is, some_is, first_asked, first_is, asked_by, asked_is, first_answer, answered_is}
 use Rattle.tftp_worked.proofs.KeptUsable.{unless, is_end, started, within, not_ahead, zero_may}

@@ -5,8 +5,8 @@ use Rattle.hex.specs.Hex.{encode_with}
 use Rattle.tftp_capture.specs.{text_of, line}
 use Rattle.law_model.specs.Model.{block_count}
 use Rattle.law_model.proofs.ModelLemmas.Worked.{blocks_of_eight}
-use Rattle.tftp_law.specs.{CanBeWritten, blocks_of}
-use Rattle.tftp_law.proofs.Written.Written.{can_be_written}
+use Rattle.law_end.specs.{CanBeWritten, blocks_of}
+use Rattle.law_end.proofs.Written.Written.{can_be_written}
 use Rattle.tftp_judge.specs.{IsTextVerdict}
 use Rattle.tftp_normal.specs.{normal_header, normal_text, line_end_cut, line_end_cut_datagrams}
 use Rattle.tftp_normal.proofs.Computed.{line_end_row}

@@ -9,7 +9,7 @@ use Rattle.tftp_netascii.proofs.RunReads.{run_to_end}
 use Rattle.law_model.specs.Model.{block_count, request_of, IsView, IsComplete, eight_a_block, ten_bytes_view, ten_bytes_steps}
 use Rattle.law_model.proofs.ModelLemmas.Computed.{Plan, IsPlan, run_is, complete_is}
 use Rattle.law_model.proofs.ModelLemmas.Worked.{blocks_of_eight, one_at_a_time, something_agreed}
-use Rattle.tftp_law.specs.{IsDressed, Fits, IsWritable, Shows}
+use Rattle.law_end.specs.{IsDressed, Fits, IsWritable, Shows}
 use Rattle.tftp_worked.specs.{at_client, oack, by_eight, comes, asks_for_lines, read_of_lines, read_of_bare_lines}
 use Rattle.tftp_normal.specs.{line_end_cut}
 use Rattle.tftp_worked.proofs.Payloads.{Spelled, request_for_spells, oack_spells, eight_is, all_from}

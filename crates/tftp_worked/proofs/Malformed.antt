@@ -5,8 +5,8 @@ use Rattle.tftp_packet.specs.{FirstFault, Holds, number, PacketFault, Short, Opc
 use Rattle.tftp_packet.proofs.RequestCases.{mode_fault}
 use Rattle.tftp_packet.specs.Hosts.{Datagram, Header}
 use Rattle.law_model.specs.Rules.{route_of, is_of_transfer}
-use Rattle.tftp_law.specs.{number_of, Broken, IsRefused, Rule}
-use Rattle.tftp_law.proofs.FirstBroken.OneMessage.{agreement_from, port_off}
+use Rattle.law_end.specs.{number_of, Broken, IsRefused, Rule}
+use Rattle.law_end.proofs.FirstBroken.OneMessage.{agreement_from, port_off}
 use Rattle.tftp_worked.specs.{at_client, read_without_its_ack, acknowledges_too_long, asks_for_mail}
 use Rattle.law_model.proofs.RulesLemmas.EndRules.{from_18}
 use Rattle.tftp_worked.proofs.Bases.{plain_begun}

@@ -6,15 +6,15 @@ use Rattle.std.proofs.lemmas.Bool.{and_parts, or_cases, false≢true}
 use Rattle.std.specs.List.{list_all}
 use Rattle.tftp_packet.specs.Hosts.{Dir, In, Out, Datagram, Header, PeerId, peer_of, same_peer}
 use Rattle.law_model.specs.Model.{Meaning, request_of, MachinePacket, Req, Oack, Data, Ack, Error, Deed, Sent, Took, message_of, History}
-use Rattle.tftp_law.specs.Dress.{StrayAnswer}
-use Rattle.tftp_law.specs.{Label, Main, Stray, Labelled, Division, IsMain, datagrams_of, view_in, TransferIds, dir_of, packet_of, CarriesDeed, HasLabel, HaveLabels}
+use Rattle.law_end.specs.Dress.{StrayAnswer}
+use Rattle.law_end.specs.{Label, Main, Stray, Labelled, Division, IsMain, datagrams_of, view_in, TransferIds, dir_of, packet_of, CarriesDeed, HasLabel, HaveLabels}
 use Rattle.tftp_worked.specs.{at_client}
-use Rattle.tftp_law.proofs.Spelled.{spelled_once}
-use Rattle.tftp_law.proofs.Division.RouteTests.{is_same}
+use Rattle.law_end.proofs.Spelled.{spelled_once}
+use Rattle.law_end.proofs.Division.RouteTests.{is_same}
 use Rattle.tftp_worked.proofs.Payloads.{Spelled, datagrams, AllSpelled, all_spell, spelled_all}
 use Rattle.tftp_worked.proofs.Passing.{same_dir, dir_is}
 use Rattle.tftp_worked.proofs.RuleTests.{is_unknown_id, not_request}
-use Rattle.tftp_law.proofs.Division.Divided.{divided_more, divided_none, view_main, any_none, any_cases}
+use Rattle.law_end.proofs.Division.Divided.{divided_more, divided_none, view_main, any_none, any_cases}
 
 -- the machine packet that a message is
 abbrev pub packet_for : Message → MachinePacket

@@ -5,10 +5,10 @@ use Rattle.law_model.specs.Model.{request_of, Sent, Took, Req, Data, Ack, Histor
 use Rattle.law_model.proofs.ModelLemmas.Defaults.{default_blksize}
 use Rattle.law_model.proofs.ModelLemmas.Computed.{run_is, complete_is}
 use Rattle.law_model.proofs.ModelLemmas.Worked.{blocks_of_eight, two_blocks, written_one_block, written_is_view, written_complete, ten_bytes_is_view, ten_bytes_complete, one_block_plan, written_is_plan}
-use Rattle.tftp_law.specs.{Fits, Shows}
+use Rattle.law_end.specs.{Fits, Shows}
 use Rattle.tftp_worked.specs.{at_client, at_server, offers_a, is_accepted, gives_hi, hi_is_acknowledged, one_block_write, is_offered_a, accepts_it, gets_hi, has_hi, write_at_server, asks_for_eights, agrees_to_eights, takes_offer, brings_eight, acknowledges_eight, brings_two, acknowledges_two, read_in_eights}
 use Rattle.tftp_worked.proofs.Spelled.{write_spelled, eights_spelled, agreed_spelled}
-use Rattle.tftp_law.proofs.Whole.NothingAgreed.{nothing_may_be_agreed_by, none_there}
+use Rattle.law_end.proofs.Whole.NothingAgreed.{nothing_may_be_agreed_by, none_there}
 use Rattle.tftp_worked.proofs.Payloads.{Spelled}
 use Rattle.tftp_worked.proofs.Dressed.{dressed_by}
 use Rattle.tftp_worked.proofs.ReadShown.{ids}

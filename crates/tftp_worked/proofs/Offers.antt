@@ -9,8 +9,8 @@ use Rattle.tftp_packet.specs.Hosts.{Datagram}
 use Rattle.law_model.specs.Rules.{route_of, is_of_transfer, transfer_of, Terms, NoReply}
 use Rattle.law_model.specs.Model.{eight_a_block}
 use Rattle.law_model.proofs.ModelLemmas.Worked.{eight_for_blksize}
-use Rattle.tftp_law.specs.{number_of, plain_terms, NotAnswered, OackBreaks, MessageBreaks, Broken, OneEnded, IsRefused, Rule}
-use Rattle.tftp_law.proofs.FirstBroken.OneMessage.{agreement_from, port_to, breaks_by, back}
+use Rattle.law_end.specs.{number_of, plain_terms, NotAnswered, OackBreaks, MessageBreaks, Broken, OneEnded, IsRefused, Rule}
+use Rattle.law_end.proofs.FirstBroken.OneMessage.{agreement_from, port_to, breaks_by, back}
 use Rattle.tftp_worked.specs.{at_client, asks_for_a, one_block_read, request, oack, by_eight, only_asked, asks_for_b, agrees_to_none, agrees_unasked, by_multicast, only_multicast_asked, agrees_to_multicast, by_foo, only_foo_asked, agrees_to_foo, only_512_asked, agrees_to_1024}
 use Rattle.law_model.proofs.RulesLemmas.EndRules.{from_18}
 use Rattle.tftp_worked.proofs.Spelled.{request_spelled, ack_spelled}

@@ -9,7 +9,7 @@ use Rattle.law_model.specs.Model.{number_or, option_or, eight_a_block, eight_by_
 use Rattle.law_model.proofs.ModelLemmas.Worked.{eight_for_blksize}
 use Rattle.law_model.specs.Rules.{Oacked, Terms}
 use Rattle.tftp_nego.specs.{MayAnswer, MayAgree, Holds, NegoFault}
-use Rattle.tftp_law.specs.{Agrees, size_from, terms_after}
+use Rattle.law_end.specs.{Agrees, size_from, terms_after}
 use Rattle.tftp_nego.proofs.Tested.{AllAsked, agreement_kept}
 use Rattle.tftp_worked.proofs.Chains.{OackFine}
 use Rattle.tftp_worked.proofs.OneOption.{has_some, name_is, found_single, only_single}

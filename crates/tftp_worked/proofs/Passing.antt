@@ -5,9 +5,9 @@ use Rattle.std.proofs.lemmas.Bool.{and_parts, or_cases, false≢true}
 use Rattle.tftp_packet.specs.{Message, RequestParts, Spells, Side}
 use Rattle.tftp_packet.specs.Hosts.{Dir, In, Out, Datagram, Header}
 use Rattle.law_model.specs.Rules.{goes_out, or_this, first_of, asks, route_of, is_of_transfer, transfer_of, Passed, brings_error, usable, Terms, NoReply}
-use Rattle.tftp_law.specs.{FirstAsked, Answer, Answers, NotAnswered, FirstAnswer, plain_terms, terms_after, AreTerms}
-use Rattle.tftp_law.proofs.FirstBroken.Answering.{answer_of, answer_is, answer_there}
-use Rattle.tftp_law.proofs.Spelled.{spelled_once}
+use Rattle.law_end.specs.{FirstAsked, Answer, Answers, NotAnswered, FirstAnswer, plain_terms, terms_after, AreTerms}
+use Rattle.law_end.proofs.FirstBroken.Answering.{answer_of, answer_is, answer_there}
+use Rattle.law_end.proofs.Spelled.{spelled_once}
 use Rattle.tftp_worked.proofs.Payloads.{Spelled, datagrams, AllSpelled}
 use Rattle.tftp_ends.proofs.KeptIds.{two_ways}
 

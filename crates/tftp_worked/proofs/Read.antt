@@ -3,8 +3,8 @@ use Rattle.std.proofs.Common.{◌≡◌, ◌&&◌, ℕ, true, List, [], ◌∷�
 use Rattle.tftp_packet.specs.{Message}
 use Rattle.tftp_packet.specs.Hosts.{In, Out, peer_of}
 use Rattle.law_model.specs.Model.{Meaning, request_of, blksize_of, block, Sent, Took, Req, Data, History, two_bytes}
-use Rattle.tftp_law.specs.{Division, datagrams_of, view_in, TransferIds, HaveLabels}
-use Rattle.tftp_law.proofs.FirstBroken.FirstRequests.{request_same}
+use Rattle.law_end.specs.{Division, datagrams_of, view_in, TransferIds, HaveLabels}
+use Rattle.law_end.proofs.FirstBroken.FirstRequests.{request_same}
 use Rattle.tftp_worked.specs.{at_client, brings_hi, asks_for_a}
 use Rattle.tftp_worked.proofs.Spelled.{request_spelled, hi_spelled}
 use Rattle.tftp_worked.proofs.Payloads.{Spelled, all_spell}

@@ -6,7 +6,7 @@ use Rattle.law_model.proofs.ModelLemmas.Members.{contains_first, contains_later,
 use Rattle.law_model.proofs.ModelLemmas.Moments.{moment, taken_was_sent}
 use Rattle.law_model.proofs.ModelLemmas.Blocks.{block_of_sender}
 use Rattle.law_model.proofs.ModelLemmas.Defaults.{default_blksize}
-use Rattle.tftp_law.specs.{Fits, ReadsAs}
+use Rattle.law_end.specs.{Fits, ReadsAs}
 
 -- a read whose client took a block and sent no ACK 0 has agreed to nothing
 nothing_agreed_in : (m : Meaning) (wire : List ℕ) (steps : List Step) (k : ℕ) → IsRun m wire steps → m.side ≡ Get → HasTaken (view_of Client steps) (Data k) → (HasSent (view_of Client steps) (Ack 0) → ⊥) → NothingAgreed m

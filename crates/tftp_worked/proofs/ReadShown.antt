@@ -7,9 +7,9 @@ use Rattle.law_model.specs.Model.Machines.{receiver_of}
 use Rattle.law_model.proofs.ModelLemmas.Members.{contains_first, contains_cases, contains_none}
 use Rattle.law_model.proofs.ModelLemmas.Defaults.{default_blksize}
 use Rattle.law_model.proofs.ModelLemmas.Worked.{one_block, two_bytes_run, two_bytes_is_view, two_bytes_complete}
-use Rattle.tftp_law.specs.{TransferIds, datagrams_of, view_in, IsDressed, IsSeen, IsLawful, ShowsBy, Shows}
+use Rattle.law_end.specs.{TransferIds, datagrams_of, view_in, IsDressed, IsSeen, IsLawful, ShowsBy, Shows}
 use Rattle.tftp_worked.specs.{at_client, server_host, acknowledges_hi, brings_more, one_block_read, read_without_its_ack, read_past_its_end}
-use Rattle.tftp_law.proofs.Whole.NothingAgreed.{two_bytes_fit}
+use Rattle.law_end.proofs.Whole.NothingAgreed.{two_bytes_fit}
 use Rattle.tftp_worked.proofs.Spelled.{request_spelled}
 use Rattle.tftp_worked.proofs.Payloads.{Spelled}
 use Rattle.tftp_worked.proofs.Dressed.{are_labels, all_say, as_main, dressed_by}

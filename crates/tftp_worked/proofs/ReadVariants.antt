@@ -4,7 +4,7 @@ use Rattle.tftp_packet.specs.{Message}
 use Rattle.law_model.specs.Model.{request_of, Sent, Took, Req, Data, Ack, two_bytes, two_bytes_view, two_bytes_server_view}
 use Rattle.law_model.proofs.ModelLemmas.Defaults.{default_blksize}
 use Rattle.law_model.proofs.ModelLemmas.Worked.{two_bytes_is_view, two_bytes_complete, two_bytes_is_server_view, two_bytes_complete_at_server}
-use Rattle.tftp_law.specs.{TransferIds, Shows}
+use Rattle.law_end.specs.{TransferIds, Shows}
 use Rattle.tftp_worked.specs.{at_client, at_server, client_host, asks_for_a, brings_hi, acknowledges_hi, comes_astray, answers_stray, read_with_a_stray, is_asked_for_a, sends_hi, is_told, read_at_server}
 use Rattle.tftp_worked.proofs.Dressed.{main, strays, answers_stray as answers, dressed_as, dressed_by}
 use Rattle.tftp_worked.proofs.ReadShown.{ids, two_shown}

@@ -6,9 +6,9 @@ use Rattle.law_model.specs.Model.{Sent, Took, Req, Data, Ack, two_bytes, two_byt
 use Rattle.law_model.proofs.ModelLemmas.Defaults.{default_blksize}
 use Rattle.law_model.proofs.ModelLemmas.Worked.{two_bytes_is_view, two_bytes_complete, two_bytes_is_server_view, two_bytes_complete_at_server}
 use Rattle.law_model.specs.Rules.{PortRule}
-use Rattle.tftp_law.specs.{TransferIds, Shows, number_of, Broken, IsRefused, Rule}
-use Rattle.tftp_law.proofs.Spelled.{spelled_once}
-use Rattle.tftp_law.proofs.FirstBroken.OneMessage.{agreement_from}
+use Rattle.law_end.specs.{TransferIds, Shows, number_of, Broken, IsRefused, Rule}
+use Rattle.law_end.proofs.Spelled.{spelled_once}
+use Rattle.law_end.proofs.FirstBroken.OneMessage.{agreement_from}
 use Rattle.tftp_worked.specs.{at_client, at_server, server_host, asks_for_a, brings_hi, comes_astray, is_asked_for_a, sends_hi, is_told, error, only_is_asked, only_asked, before_answering, comes_from_elsewhere, acknowledges_stray, strays_to_server, server_answers_stray, read_with_a_stray_at_server, answers_by_error_4, after_a_stray_at_server, server_answers_by_error_4, read_from_first_port, comes_to_service}
 use Rattle.law_model.proofs.RulesLemmas.EndRules.{from_18}
 use Rattle.tftp_worked.proofs.Spelled.{request_spelled, hi_spelled, ack_spelled, unknown_id_spelled}

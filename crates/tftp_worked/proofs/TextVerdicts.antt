@@ -10,8 +10,8 @@ use Rattle.law_model.specs.Model.{two_bytes, two_bytes_view}
 use Rattle.law_model.specs.Rules.{transfer_of, IsAcked, EndRule}
 use Rattle.law_model.proofs.ModelLemmas.Defaults.{default_blksize}
 use Rattle.law_model.proofs.ModelLemmas.Worked.{two_bytes_is_view, two_bytes_complete}
-use Rattle.tftp_law.specs.{TransferIds, IsDressed, IsLawful, IsRefused, Rule}
-use Rattle.tftp_law.proofs.Whole.Beginnings.{empty_is_lawful}
+use Rattle.law_end.specs.{TransferIds, IsDressed, IsLawful, IsRefused, Rule}
+use Rattle.law_end.proofs.Whole.Beginnings.{empty_is_lawful}
 use Rattle.tftp_judge.specs.{IsTextVerdict, unnumbered, IsVerdictByRules, Unlawful, Capture, Refused}
 use Rattle.tftp_judge.proofs.ByRuns.{verdict}
 use Rattle.tftp_worked.specs.{overrun_text, unversioned_text}

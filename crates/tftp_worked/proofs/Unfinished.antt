@@ -5,8 +5,8 @@ use Rattle.tftp_packet.specs.{Message, Spells}
 use Rattle.tftp_packet.specs.Hosts.{Dir, In, Out, Datagram, Header}
 use Rattle.law_model.specs.Model.{Meaning}
 use Rattle.law_model.specs.Rules.{transfer_of, Passed, IsReceiver, Terms}
-use Rattle.tftp_law.specs.{IsErrorBy, NoErrorPassed, AbortedBy, IsWhole, Meant}
-use Rattle.tftp_law.proofs.Spelled.{spelled_once}
+use Rattle.law_end.specs.{IsErrorBy, NoErrorPassed, AbortedBy, IsWhole, Meant}
+use Rattle.law_end.proofs.Spelled.{spelled_once}
 use Rattle.tftp_worked.proofs.Payloads.{Spelled, datagrams, AllSpelled}
 use Rattle.tftp_worked.proofs.Passing.{main_of, every, every_is, terms_are}
 use Rattle.tftp_worked.proofs.Chains.{Start}

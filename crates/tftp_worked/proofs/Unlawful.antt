@@ -8,8 +8,8 @@ use Rattle.law_model.proofs.ModelLemmas.Moments.{taken_was_sent}
 use Rattle.law_model.proofs.ModelLemmas.Blocks.{blocks_sent, block_in_given_window}
 use Rattle.law_model.proofs.ModelLemmas.Computed.{same_packet, taken_is, sent_is, all_is}
 use Rattle.law_model.proofs.ModelLemmas.Worked.{four_of_both}
-use Rattle.tftp_law.specs.{IsLawful, IsLawfulUpTo}
-use Rattle.tftp_law.proofs.Whole.Beginnings.{beginning_is_lawful, shown_is_lawful}
+use Rattle.law_end.specs.{IsLawful, IsLawfulUpTo}
+use Rattle.law_end.proofs.Whole.Beginnings.{beginning_is_lawful, shown_is_lawful}
 use Rattle.tftp_worked.specs.{at_client, request, oack, block, ack, by_four, by_two, asks, goes, comes, before_overrun, block_seven, before_skip, block_two, window_out_of_order}
 use Rattle.tftp_worked.proofs.Payloads.{eight_by_two, Spelled}
 use Rattle.tftp_worked.proofs.Exchanges.{went, came, twos, four_news}

@@ -3,12 +3,12 @@ use Rattle.std.proofs.Common.{List, [], ◌∷◌, ◌++◌, reverse, Ok, Err, r
 use Rattle.tftp_packet.specs.Hosts.{Datagram, Header}
 use Rattle.law_model.specs.Model.{Meaning, two_bytes, six_blocks}
 use Rattle.law_model.specs.Rules.{EndRule}
-use Rattle.tftp_law.specs.{Rule, Shows, IsNotAborted}
+use Rattle.law_end.specs.{Rule, Shows, IsNotAborted}
 use Rattle.tftp_judge.specs.{IsVerdict, IsVerdictByRules, Unlawful, Incomplete}
 use Rattle.tftp_worked.specs.{at_client, one_block_read, read_without_its_ack, window_out_of_order, before_overrun, block_seven}
 use Rattle.tftp_worked.proofs.Bases.{plain_begun}
 use Rattle.tftp_worked.proofs.Unfinished.{no_errors}
-use Rattle.tftp_law.proofs.Whole.Beginnings.{shown_is_lawful}
+use Rattle.law_end.proofs.Whole.Beginnings.{shown_is_lawful}
 use Rattle.tftp_worked.proofs.ReadShown.{read_is_shown, begin_is_lawful, begin_shows_nothing}
 use Rattle.tftp_worked.proofs.WindowsShown.{six_shown}
 use Rattle.tftp_worked.proofs.Refused.{overrun_refused}

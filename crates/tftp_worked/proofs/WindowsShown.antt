@@ -2,7 +2,7 @@
 use Rattle.std.proofs.Common.{[], refl, arith}
 use Rattle.law_model.specs.Model.{request_of, six_blocks, six_blocks_view, six_blocks_server_view, block_repeated, block_repeated_view, window_repeated, window_repeated_view}
 use Rattle.law_model.proofs.ModelLemmas.Worked.{six_size, six_count, six_view, six_complete, six_server_view, six_server_complete, repeated_size, repeated_count, repeated_view, repeated_complete, window_size, window_count, window_view, window_complete}
-use Rattle.tftp_law.specs.{Fits, TransferIds, IsDressed, Shows}
+use Rattle.law_end.specs.{Fits, TransferIds, IsDressed, Shows}
 use Rattle.tftp_worked.specs.{at_client, client_host, at_service, window_out_of_order, window_at_server, block_sent_again, window_sent_again}
 use Rattle.tftp_worked.proofs.Dressed.{dressed_by}
 use Rattle.tftp_worked.proofs.Options.{both_may_be_agreed, eight_may_be_agreed, no_size_of_both, no_size_of_one}

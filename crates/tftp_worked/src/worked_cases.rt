@@ -3,7 +3,7 @@
 ghost use Rattle.std.specs.Prelude.{◌≡◌, ℕ, List, [], ◌∷◌, ◌++◌};
 ghost use Rattle.law_model.specs.Model.{Meaning, two_bytes, two_bytes_written, ten_bytes, six_blocks, six_blocks_steps, block_repeated, window_repeated, IsRun, view_of};
 ghost use Rattle.tftp_packet.specs.{Client, Server};
-ghost use Rattle.tftp_law.specs.{IsDressed, Shows, ShowsBy, IsSeen, IsLawful, IsLawfulUpTo};
+ghost use Rattle.law_end.specs.{IsDressed, Shows, ShowsBy, IsSeen, IsLawful, IsLawfulUpTo};
 ghost use Rattle.tftp_worked.specs.WorkedWindows.{at_service};
 ghost use Rattle.tftp_worked.specs.WorkedWindows as windows;
 ghost use Rattle.tftp_worked.specs.Worked.{at_client, at_server};

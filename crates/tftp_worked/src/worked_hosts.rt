@@ -4,7 +4,7 @@
 ghost use Rattle.std.specs.Prelude.{◌≡◌, reverse};
 ghost use Rattle.law_model.specs.Rules.{Route, route_of, PortRule};
 ghost use Rattle.law_model.specs.Model.{two_bytes};
-ghost use Rattle.tftp_law.specs.{Shows, IsRefused, Rule};
+ghost use Rattle.law_end.specs.{Shows, IsRefused, Rule};
 ghost use Rattle.tftp_worked.specs.Worked.{at_client, at_server, acknowledges_hi, read_without_its_ack};
 ghost use Rattle.tftp_worked.specs.WorkedHosts as hosts;
 ghost use Rattle.tftp_worked.specs.WorkedRules.{only_asked};

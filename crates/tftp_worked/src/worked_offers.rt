@@ -4,7 +4,7 @@
 ghost use Rattle.std.specs.Prelude.{[], ◌∷◌, ◌++◌, reverse, Err};
 ghost use Rattle.tftp_packet.specs.{AckLength, MailMode};
 ghost use Rattle.tftp_nego.specs.{AgreementRule};
-ghost use Rattle.tftp_law.specs.{IsRefused, Rule};
+ghost use Rattle.law_end.specs.{IsRefused, Rule};
 ghost use Rattle.tftp_judge.specs.{IsVerdict, Unlawful};
 ghost use Rattle.tftp_worked.specs.Worked.{at_client, asks_for_a, one_block_read, read_without_its_ack};
 ghost use Rattle.tftp_worked.specs.WorkedRules.{only_asked};

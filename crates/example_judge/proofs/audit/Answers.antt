@@ -4,7 +4,7 @@ use Rattle.std.proofs.lemmas.List.{map-append, reverse-append, reverse-reverse, 
 use Rattle.tftp_capture.specs.{datagram_of, header_of}
 use Rattle.tftp_packet.specs.Hosts.{Datagram, Header}
 use Rattle.law_model.specs.Model.{Meaning}
-use Rattle.tftp_law.specs.{Shows}
+use Rattle.law_end.specs.{Shows}
 use Rattle.tftp_judge.specs.{IsJudgeAfter, IsVerdict, Refusal}
 use Rattle.example_judge.proofs.audit.Goals as goal
 

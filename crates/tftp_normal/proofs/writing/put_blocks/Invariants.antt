@@ -1,6 +1,6 @@
 use Rattle.std.proofs.Common.{◌≡◌, ◌-◌, ◌*◌, ◌≤◌, drop, false}
 use Rattle.law_model.specs.Model.{blksize_of}
-use Rattle.tftp_law.specs.{wire_of}
+use Rattle.law_end.specs.{wire_of}
 use Rattle.tftp_normal.specs.{blocks_after, datagrams_of}
 use Rattle.tftp_normal.proofs.Putting.{Putting}
 use Rattle.tftp_normal.proofs.writing.put_blocks.Given as goal

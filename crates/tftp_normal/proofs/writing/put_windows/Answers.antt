@@ -2,7 +2,7 @@ use Rattle.std.proofs.Common.{rules, ◌≡◌, ◌+◌, ◌-◌, ◌^◌, ◌<�
 use Rattle.tftp_packet.specs.{Message, canonical}
 use Rattle.law_model.specs.Model.Machines.{receiver_of}
 use Rattle.law_model.specs.Model.{Ack}
-use Rattle.tftp_law.specs.{blocks_of}
+use Rattle.law_end.specs.{blocks_of}
 use Rattle.tftp_normal.specs.{normal_datagram, sent_by}
 use Rattle.tftp_normal.proofs.Putting.{puts_err}
 use Rattle.tftp_normal.proofs.BlocksPut.{ack_datagram, left_at_start, blocks_counted}

@@ -1,6 +1,6 @@
 use Rattle.std.proofs.Common.{◌≡◌, ◌-◌, ◌*◌, ◌≤◌, drop, false}
 use Rattle.law_model.specs.Model.{blksize_of}
-use Rattle.tftp_law.specs.{wire_of, blocks_of}
+use Rattle.law_end.specs.{wire_of, blocks_of}
 use Rattle.tftp_normal.proofs.WindowsPut.{WindowsLeft}
 use Rattle.tftp_normal.proofs.writing.put_windows.Given as goal
 

@@ -1,7 +1,7 @@
 use Rattle.std.proofs.Common.{◌≡◌, ◌⊎◌, ◌||◌, ℕ, [], ◌∷◌, ◌++◌, List, inl, inr, map, subst, sym}
 use Rattle.std.specs.List.{AllByRecursion}
 use Rattle.std.proofs.lemmas.Bool.{or_left, or_right}
-use Rattle.tftp_law.specs.{IsRefused, OneEnded, Rule}
+use Rattle.law_end.specs.{IsRefused, OneEnded, Rule}
 use Rattle.tftp_lines.specs.{Address, Endpoint, Placed, Recorded, Transfer}
 use Rattle.tftp_transfers.specs.{is_beside}
 use Rattle.tftp_transfers.specs.Places.{placed}

@@ -1,5 +1,5 @@
 use Rattle.std.proofs.Common.{false, [], ◌∷◌, codes, filter, map, refl}
-use Rattle.tftp_law.specs.{Rule}
+use Rattle.law_end.specs.{Rule}
 use Rattle.law_model.specs.Rules.{PortRule}
 use Rattle.tftp_transfers.specs.{ack_of, client, data_of, service}
 use Rattle.tftp_transfers.specs.Worked.{passes, requests, server}

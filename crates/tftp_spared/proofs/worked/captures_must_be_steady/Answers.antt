@@ -1,5 +1,5 @@
 use Rattle.std.proofs.Common.{false, List, [], ◌∷◌, codes, filter, map, refl, reverse}
-use Rattle.tftp_law.specs.{IsLawful, Rule}
+use Rattle.law_end.specs.{IsLawful, Rule}
 use Rattle.law_model.specs.Rules.{PortRule}
 use Rattle.tftp_lines.specs.{Recorded}
 use Rattle.tftp_transfers.specs.{client, service}

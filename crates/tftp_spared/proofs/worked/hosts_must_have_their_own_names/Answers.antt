@@ -1,6 +1,6 @@
 use Rattle.tftp_spared.proofs.WorkedNames.{other_error_refused}
 use Rattle.std.proofs.Common.{false, [], ◌∷◌, codes, filter, refl}
-use Rattle.tftp_law.specs.{Rule}
+use Rattle.law_end.specs.{Rule}
 use Rattle.law_model.specs.Rules.{PortRule}
 use Rattle.tftp_transfers.specs.{client, service}
 use Rattle.tftp_transfers.specs.Worked.{at, requests}

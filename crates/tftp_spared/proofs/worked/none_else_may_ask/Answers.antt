@@ -1,5 +1,5 @@
 use Rattle.std.proofs.Common.{false, [], ◌∷◌, codes, filter, refl}
-use Rattle.tftp_law.specs.{Rule}
+use Rattle.law_end.specs.{Rule}
 use Rattle.law_model.specs.Rules.{PortRule}
 use Rattle.tftp_transfers.specs.{client, service}
 use Rattle.tftp_transfers.specs.Worked.{requests}

@@ -1,5 +1,5 @@
 use Rattle.std.proofs.Common.{false, ◌∷◌, filter, refl}
-use Rattle.tftp_law.specs.{Rule}
+use Rattle.law_end.specs.{Rule}
 use Rattle.tftp_transfers.specs.{client, service}
 use Rattle.tftp_spared.specs.Seen.{is_with}
 use Rattle.tftp_spared.specs.{IsServedCapture, FollowOneAnother}

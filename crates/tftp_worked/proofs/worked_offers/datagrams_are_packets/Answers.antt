@@ -1,6 +1,6 @@
 use Rattle.std.proofs.Common.{[], refl}
 use Rattle.tftp_packet.specs.{AckLength, MailMode}
-use Rattle.tftp_law.specs.{Rule}
+use Rattle.law_end.specs.{Rule}
 use Rattle.tftp_worked.specs.{at_client, read_without_its_ack, acknowledges_too_long, asks_for_mail}
 use Rattle.tftp_worked.proofs.ByRules.{refused_verdict}
 use Rattle.tftp_worked.proofs.Malformed.{ack_length_refused, mail_refused}

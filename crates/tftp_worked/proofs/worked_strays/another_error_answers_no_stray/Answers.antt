@@ -1,6 +1,6 @@
 use Rattle.std.proofs.Common.{refl}
 use Rattle.law_model.specs.Rules.{PortRule}
-use Rattle.tftp_law.specs.{Rule}
+use Rattle.law_end.specs.{Rule}
 use Rattle.tftp_worked.specs.{at_client, at_server, before_answering, answers_by_error_4, after_a_stray_at_server, server_answers_by_error_4}
 use Rattle.tftp_worked.proofs.ByRules.{refused_verdict}
 use Rattle.tftp_worked.proofs.Strays.{error_4_refused, server_error_4_refused}

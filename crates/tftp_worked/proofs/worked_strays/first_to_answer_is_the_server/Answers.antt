@@ -1,7 +1,7 @@
 use Rattle.std.proofs.Common.{refl}
 use Rattle.tftp_packet.specs.{Short}
 use Rattle.law_model.specs.Model.{two_bytes}
-use Rattle.tftp_law.specs.{Rule}
+use Rattle.law_end.specs.{Rule}
 use Rattle.tftp_worked.specs.{at_client, comes_astray, only_asked, read_from_first_port}
 use Rattle.tftp_worked.proofs.ByRules.{refused_verdict}
 use Rattle.tftp_worked.proofs.Strays.{first_is_read, first_port_is_shown}

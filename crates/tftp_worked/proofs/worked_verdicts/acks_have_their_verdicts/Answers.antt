@@ -1,6 +1,6 @@
 use Rattle.std.proofs.Common.{refl}
 use Rattle.law_model.specs.Rules.{EndRule}
-use Rattle.tftp_law.specs.{Rule}
+use Rattle.law_end.specs.{Rule}
 use Rattle.tftp_worked.specs.{acknowledges_two, at_client, read_without_its_ack, ack_zero, before_ack_zero}
 use Rattle.tftp_worked.proofs.ByRules.{refused_verdict}
 use Rattle.tftp_worked.proofs.Refused.{zero_refused}

@@ -1,6 +1,6 @@
 use Rattle.std.proofs.Common.{refl}
 use Rattle.law_model.specs.Rules.{EndRule}
-use Rattle.tftp_law.specs.{Rule}
+use Rattle.law_end.specs.{Rule}
 use Rattle.tftp_worked.specs.{at_client, before_changed_block, before_going_back, before_last_number, before_short_block, before_taking_offer, block_too_early, block_zero, changed_block, goes_back, last_number, only_asked, short_block, before_skip, block_two}
 use Rattle.tftp_worked.proofs.ByRules.{refused_verdict}
 use Rattle.tftp_worked.proofs.Refused.{early_refused, last_refused, short_refused, skip_refused, back_refused, changed_refused}

@@ -1,6 +1,6 @@
 use Rattle.std.proofs.Common.{refl}
 use Rattle.law_model.specs.Rules.{PortRule}
-use Rattle.tftp_law.specs.{Rule}
+use Rattle.law_end.specs.{Rule}
 use Rattle.tftp_worked.specs.{at_client, acknowledges_nobody, acknowledges_stray, before_answering, comes_to_another_port}
 use Rattle.tftp_worked.proofs.ByRules.{refused_verdict}
 use Rattle.tftp_worked.proofs.RefusedMore.{foreign_refused, nobody_refused, stray_refused}

@@ -1,4 +1,4 @@
-use Rattle.tftp_law.specs.{AbortedBy, by_of as by_way, GoesOn}
+use Rattle.law_end.specs.{AbortedBy, by_of as by_way, GoesOn}
 use Rattle.std.proofs.Common.{◌≡◌, ℕ, true, false, true≢false, Option, None, Some, sym, subst, ap, ◌∙◌, is_some}
 use Rattle.tftp_packet.specs.{Message}
 use Rattle.tftp_judge.specs.{Errors}

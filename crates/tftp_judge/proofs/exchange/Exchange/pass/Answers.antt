@@ -1,6 +1,6 @@
 use Rattle.std.proofs.lemmas.Result.{err_from_is_err_and}
 use Rattle.tftp_packet.specs.{meaning}
-use Rattle.tftp_law.specs.{Agrees, Begins}
+use Rattle.law_end.specs.{Agrees, Begins}
 use Rattle.tftp_judge.proofs.MessageFound.{finds_rejected}
 use Rattle.tftp_judge.proofs.Replied.{begun_lawful, begun_refused}
 use Rattle.tftp_judge.proofs.exchange.Exchange.pass.Goals as goal

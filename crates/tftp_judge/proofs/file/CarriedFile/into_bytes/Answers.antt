@@ -1,6 +1,6 @@
 use Rattle.std.proofs.Common.{ap, sym, subst, ◌∙◌}
-use Rattle.tftp_law.specs.{ReadsAs}
-use Rattle.tftp_law.proofs.Whole.CarriedFile.{carried_file-is}
+use Rattle.law_end.specs.{ReadsAs}
+use Rattle.law_end.proofs.Whole.CarriedFile.{carried_file-is}
 use Rattle.tftp_judge.proofs.file.CarriedFile.into_bytes.Goals as goal
 
 pub returns-in-Netascii : goal.returns-in-Netascii

@@ -1,5 +1,5 @@
 use Rattle.std.proofs.Common.{◌≡◌, length, ap, subst, arith}
-use Rattle.tftp_law.specs.{carried_file, written_wire}
+use Rattle.law_end.specs.{carried_file, written_wire}
 use Rattle.tftp_judge.proofs.CameCanonical.{came_canonical}
 use Rattle.tftp_judge.proofs.file.CarriedFile.into_file_bytes.Goals as goal
 

@@ -1,4 +1,4 @@
-use Rattle.tftp_law.proofs.Whole.CarriedFile.{carried_file-reads}
+use Rattle.law_end.proofs.Whole.CarriedFile.{carried_file-reads}
 use Rattle.tftp_judge.proofs.file.CarriedFile.of.Goals as goal
 
 pub returns-clause-file : goal.returns-clause-file

@@ -1,5 +1,5 @@
 use Rattle.std.proofs.Common.{sym, ap, ◌∙◌}
-use Rattle.tftp_law.specs.{IsEnded}
+use Rattle.law_end.specs.{IsEnded}
 use Rattle.law_model.specs.Rules.{transfer_of}
 use Rattle.tftp_judge.specs.{Judge, TakesForJoin}
 use Rattle.tftp_judge.proofs.EndedJudge.{of_transfer, said_of_transfer, said_of_nothing}

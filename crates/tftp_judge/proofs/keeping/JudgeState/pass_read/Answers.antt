@@ -4,7 +4,7 @@ use Rattle.tftp_packet.specs.{End, Message, RequestParts, meaning, Spells, parts
 use Rattle.tftp_packet.specs.Hosts.{Datagram, Header}
 use Rattle.law_model.specs.Rules.{Route, route_of, is_of_transfer, transfer_of}
 use Rattle.tftp_ends.specs.declared.route.Route.TheVariants as may
-use Rattle.tftp_law.specs.{OneEnded, Passes}
+use Rattle.law_end.specs.{OneEnded, Passes}
 use Rattle.tftp_judge.specs.{FindsOf, JudgeState, Transfer, IsKept, IsTransferAfter, IsNew}
 use Rattle.tftp_judge.specs.declared.pass_error.PassError.{PassError}
 use Rattle.tftp_judge.proofs.Accepting.{first_passes, message_found, peer_is, request_found}

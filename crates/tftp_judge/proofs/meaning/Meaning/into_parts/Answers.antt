@@ -1,6 +1,6 @@
 use Rattle.std.proofs.Common.{ℕ, List, ap, sym, subst, ◌∙◌}
 use Rattle.tftp_packet.specs.{Mode}
-use Rattle.tftp_law.specs.{meaning_from}
+use Rattle.law_end.specs.{meaning_from}
 use Rattle.tftp_judge.specs.{file_in, IsCanonical}
 use Rattle.tftp_judge.proofs.meaning.Meaning.into_parts.Goals as goal
 

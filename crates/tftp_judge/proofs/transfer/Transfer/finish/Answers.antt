@@ -4,7 +4,7 @@ use Rattle.tftp_packet.specs.Hosts.{Datagram, Header}
 use Rattle.law_model.specs.Model.{Meaning}
 use Rattle.tftp_ends.specs.{held_of}
 use Rattle.law_model.specs.Rules.{transfer_of}
-use Rattle.tftp_law.specs.{CanBeWritten, IsWritable, written_wire, OneEnded, Meant, meaning_from, FirstAsked}
+use Rattle.law_end.specs.{CanBeWritten, IsWritable, written_wire, OneEnded, Meant, meaning_from, FirstAsked}
 use Rattle.tftp_judge.specs.{Agreed, Transfer, AreErrors, IsTransferAfter, IsVerdictByRules, exchange_of}
 use Rattle.tftp_judge.proofs.EndedTransfer.{BeganBy, begun_by, agreed_to, unanswered_by, held_file, fits_by, unanswered_not_meant, undone_not_meant, ended_by, meant_by, can_be_written, meant_verdict, long_verdict, memory_verdict, unfinished_verdict}
 use Rattle.tftp_judge.proofs.NewMessages.{blocks_of}

@@ -1,7 +1,7 @@
 use Rattle.std.proofs.Common.{◌∷◌, Err, refl, sym, subst, ap, ◌∙◌}
 use Rattle.tftp_packet.specs.{RequestParts, OptionMap, map_of}
 use Rattle.tftp_nego.specs.{MayAgree, FirstFault}
-use Rattle.tftp_law.specs.{FirstOackBreaks, Agrees, terms_after}
+use Rattle.law_end.specs.{FirstOackBreaks, Agrees, terms_after}
 use Rattle.tftp_judge.specs.{Finds, Transfer, IsTransferAfter, PassError}
 use Rattle.tftp_judge.proofs.MessageFound.{fault_found, none_of_agreed}
 use Rattle.tftp_judge.proofs.StaysAfter.{transfer_agreed}

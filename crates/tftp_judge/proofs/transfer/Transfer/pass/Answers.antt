@@ -3,7 +3,7 @@ use Rattle.std.proofs.lemmas.Bool.{false≢true}
 use Rattle.tftp_packet.specs.{Message, meaning, Spells, End, Packet}
 use Rattle.tftp_ends.specs.{IsBlockOrAck}
 use Rattle.law_model.specs.Rules.{author_of}
-use Rattle.tftp_law.specs.{KindBreaks, GoesOn}
+use Rattle.law_end.specs.{KindBreaks, GoesOn}
 use Rattle.tftp_judge.specs.{Finds, Transfer, Errors, AreErrors, IsTransferAfter, IsNew}
 use Rattle.tftp_judge.proofs.MessageFound.{kind_finds, right_kind, error_finds, block_finds}
 use Rattle.tftp_judge.proofs.transfer.Transfer.pass.Goals as goal

@@ -1,6 +1,6 @@
 use Rattle.std.proofs.Common.{◌≡◌, ◌∷◌, Err, ◌∙◌, subst, rules}
 use Rattle.tftp_packet.specs.{meaning}
-use Rattle.tftp_law.specs.{TermsBreak}
+use Rattle.law_end.specs.{TermsBreak}
 use Rattle.tftp_judge.specs.{Finds, IsExchange, IsTransferAfter}
 use Rattle.tftp_judge.proofs.MessageFound.{finds_stop}
 use Rattle.tftp_judge.proofs.StaysAfter.{transfer_kept}

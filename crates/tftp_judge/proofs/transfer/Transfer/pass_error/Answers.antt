@@ -1,7 +1,7 @@
 use Rattle.std.proofs.Common.{inr, sym, subst}
 use Rattle.tftp_packet.specs.{Message, Spells}
 use Rattle.law_model.specs.Rules.{author_of}
-use Rattle.tftp_law.specs.{IsWrongKind}
+use Rattle.law_end.specs.{IsWrongKind}
 use Rattle.tftp_judge.specs.{Transfer, IsTransferAfter, exchange_of}
 use Rattle.tftp_judge.proofs.StaysAfter.{error_is_right, transfer_with_error}
 use Rattle.tftp_judge.proofs.transfer.Transfer.pass_error.Goals as goal

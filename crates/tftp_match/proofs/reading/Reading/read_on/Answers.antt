@@ -1,7 +1,7 @@
 use Rattle.std.proofs.Common.{arith, refl, sym, ◌∙◌}
 use Rattle.tftp_capture.specs.{datagram_of}
 use Rattle.tftp_judge.specs.{Refuses}
-use Rattle.tftp_law.specs.{Passes}
+use Rattle.law_end.specs.{Passes}
 use Rattle.tftp_pair_judge.specs.{side_at}
 use Rattle.law_model.specs.Model.Roles.{other_end}
 use Rattle.tftp_match.specs.{IsPairAt, judge_at}

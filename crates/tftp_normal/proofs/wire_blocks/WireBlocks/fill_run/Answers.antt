@@ -1,6 +1,6 @@
 use Rattle.std.proofs.Common.{rules, ◌≡◌, None, ◌++◌, take, drop, length-take-le, sym, ap, ◌∙◌}
 use Rattle.std.proofs.Math.Seq.{take-append_seam}
-use Rattle.tftp_law.specs.{written_wire}
+use Rattle.law_end.specs.{written_wire}
 use Rattle.tftp_normal.specs.{bytes_of}
 use Rattle.tftp_normal.proofs.Runs.{run_first, run_rest}
 use Rattle.tftp_normal.proofs.wire_blocks.WireBlocks.fill_run.Goals as goal

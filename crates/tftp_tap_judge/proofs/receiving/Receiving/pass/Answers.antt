@@ -3,7 +3,7 @@ use Rattle.tftp_packet.specs.{opcode_of, Server}
 use Rattle.tftp_packet.specs.Hosts.{Datagram}
 use Rattle.law_model.specs.Model.Roles.{receiver_of}
 use Rattle.tftp_judge.specs.{Refuses, IsJudgeAfter, Finds, PassError}
-use Rattle.tftp_law.specs.{Passes}
+use Rattle.law_end.specs.{Passes}
 use Rattle.tftp_tap.specs.{same_end, header_at, kept_between}
 use Rattle.tftp_tap_judge.specs.{IsReceiving, Receiving, ReceiverBreaks}
 use Rattle.tftp_judge.specs.declared.pass_error.PassError.TheVariants as stop

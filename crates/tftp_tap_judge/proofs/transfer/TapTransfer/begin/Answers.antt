@@ -1,7 +1,7 @@
 use Rattle.std.proofs.Common.{◌≡◌, [], sym, subst, ap, ◌∙◌}
 use Rattle.tftp_packet.specs.{Message, End}
 use Rattle.law_model.specs.Model.Roles.{receiver_of}
-use Rattle.tftp_law.specs.{Passes}
+use Rattle.law_end.specs.{Passes}
 use Rattle.tftp_tap.specs.{header_at, recorded_at}
 use Rattle.tftp_tap.proofs.TapTests.{asks_says}
 use Rattle.tftp_tap_judge.specs.{IsRecorded}

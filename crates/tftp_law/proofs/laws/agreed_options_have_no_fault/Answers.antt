@@ -1,5 +1,0 @@
-use Rattle.tftp_nego.proofs.Tested.{no_fault}
-use Rattle.tftp_law.proofs.laws.agreed_options_have_no_fault.Goals as goal
-
-pub returns : goal.returns
-returns c = λ request oack may some. no_fault request oack some may

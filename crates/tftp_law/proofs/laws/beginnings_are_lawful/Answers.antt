@@ -1,8 +1,0 @@
-use Rattle.tftp_law.proofs.Whole.Beginnings.{empty_is_lawful, beginning_is_lawful}
-use Rattle.tftp_law.proofs.laws.beginnings_are_lawful.Goals as goal
-
-pub returns-clause-empty : goal.returns-clause-empty
-returns-clause-empty c = empty_is_lawful
-
-pub returns-clause-beginning : goal.returns-clause-beginning
-returns-clause-beginning c = beginning_is_lawful

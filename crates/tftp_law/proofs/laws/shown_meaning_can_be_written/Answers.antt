@@ -1,5 +1,0 @@
-use Rattle.tftp_law.proofs.Written.Written.{shown_can_be_written}
-use Rattle.tftp_law.proofs.laws.shown_meaning_can_be_written.Goals as goal
-
-pub returns : goal.returns
-returns c = shown_can_be_written

@@ -1,5 +1,0 @@
-use Rattle.tftp_law.proofs.Whole.TwoEnds.{lawful, divides_by_rules}
-use Rattle.tftp_law.proofs.two_ends.lawful_captures_break_no_rule.Goals as goal
-
-pub returns : goal.returns
-returns c = record { lawful = lawful; divides = divides_by_rules }

@@ -1,5 +1,0 @@
-use Rattle.tftp_law.proofs.Whole.TwoEnds.{seen, some}
-use Rattle.tftp_law.proofs.two_ends.what_breaks_no_rule_is_seen.Goals as goal
-
-pub returns : goal.returns
-returns c = record { seen = seen; some = some }
