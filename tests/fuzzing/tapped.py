@@ -1,5 +1,5 @@
 """What may pass a point between two ends, by what has passed it before, packet by packet: a packet may pass if it might
-come to the other end, had that one sent just what passed from it (`MayPass` of crates/tftp_tap/specs). It knows what
+come to the other end, had that one sent just what passed from it (`MayPass` of crates/law_tap/specs). It knows what
 the transfer means; the rules do not, and refuse a list exactly if no meaning has it."""
 from __future__ import annotations
 

@@ -5,7 +5,7 @@ use Rattle.tftp_packet.specs.Hosts.{same_peer}
 use Rattle.tftp_ends.proofs.NotedPeers.{is_same}
 use Rattle.tftp_parties.specs.{IsAddress}
 use Rattle.tftp_parties.proofs.Addresses.{called_one}
-use Rattle.tftp_tap.specs.{AreApart, PeerId, TapSides}
+use Rattle.law_tap.specs.{AreApart, PeerId, TapSides}
 use Rattle.tftp_lines.specs.{Endpoint, Transfer, same_address, same_endpoint, Placed}
 use Rattle.tftp_transfers.specs.{server_of}
 use Rattle.tftp_lines.proofs.Endpoints.{is_same as is_same_endpoint}

@@ -1,7 +1,7 @@
 -- What a tap's judge stands for after one datagram more, and the verdict on what it was given.
 use Rattle.std.proofs.Common.{◌≡◌, List, [], ◌∷◌, Option, Some, None, Result, Ok, Err, refl, sym, ap, ◌∙◌, subst, inl, inr, OnOk, IfErr}
 use Rattle.law_model.specs.Model.{Meaning}
-use Rattle.tftp_tap.specs.{TapDatagram, TapSides, BreaksNoTapRule, TapPasses}
+use Rattle.law_tap.specs.{TapDatagram, TapSides, BreaksNoTapRule, TapPasses}
 use Rattle.tftp_tap_judge.specs.{IsTapJudge, TapJudge, RefusesAtTap, IsTapVerdict, TapRefusal, Unlawful}
 use Rattle.tftp_tap_judge.specs.declared.refusal.TapRefusal.TheVariants.{Memory}
 use Rattle.tftp_between.specs.{HasTapped, IsBetweenVerdict, IsTapRefusedIn, TappedBy}

@@ -3,7 +3,7 @@
 use Rattle.std.specs.Prelude.{◌||◌, not, Bool, List, map, Option, Some, None}
 use Rattle.tftp_packet.specs.Hosts.{same_peer}
 use Rattle.tftp_parties.specs.{host_name}
-use Rattle.tftp_tap.specs.{PeerId, TapDatagram, TapSides}
+use Rattle.law_tap.specs.{PeerId, TapDatagram, TapSides}
 use Rattle.tftp_lines.specs.{Endpoint, Transfer, Recorded, same_endpoint, Placed}
 use Rattle.tftp_transfers.specs.{client_view, server_of}
 

@@ -2,7 +2,7 @@
 -- first.
 use Rattle.std.specs.Prelude.{◌≡◌, ◌⊎◌, List, ◌∷◌, ◌++◌, Option, Some, None, Result, Err}
 use Rattle.law_model.specs.Model.{Meaning}
-use Rattle.tftp_tap.specs.{TapDatagram, TapSides, BreaksNoTapRule}
+use Rattle.law_tap.specs.{TapDatagram, TapSides, BreaksNoTapRule}
 use Rattle.tftp_tap_judge.specs.{IsTapJudge, TapJudge, RefusesAtTap, IsTapVerdict, TapRefusal, Unlawful}
 use Rattle.tftp_tap_judge.specs.declared.refusal.TapRefusal.TheVariants.{Memory}
 

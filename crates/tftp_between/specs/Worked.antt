@@ -1,6 +1,6 @@
 -- What passes between the ends of the worked recordings.
 use Rattle.std.specs.Prelude.{List, [], ◌∷◌, codes, false}
-use Rattle.tftp_tap.specs.{PeerId, TapDatagram, TapSides}
+use Rattle.law_tap.specs.{PeerId, TapDatagram, TapSides}
 use Rattle.tftp_lines.specs.{Transfer}
 use Rattle.tftp_transfers.specs.{client, service, ack_of, data_of, read_of}
 

@@ -6,7 +6,7 @@ ghost use Rattle.tftp_between.specs.Captured.{between_capture, is_to_itself, sid
 ghost use Rattle.tftp_between.specs.Judged.{IsBetweenVerdict};
 ghost use Rattle.tftp_between.specs.Kept.{AreHeld, HasPassed, IsBetweenAfter, counted_by, given_to, has_refused};
 ghost use Rattle.tftp_parties.specs.{host_name};
-ghost use Rattle.tftp_tap.specs.{AreApart, TapDatagram as Passing};
+ghost use Rattle.law_tap.specs.{AreApart, TapDatagram as Passing};
 ghost use Rattle.tftp_tap_judge.specs.{TapDatagram as Owned, TapRefusal as RefusalKind};
 ghost use Rattle.tftp_lines.specs.{Placed, is_of};
 ghost use Rattle.tftp_transfers.specs.{is_settled, client_view};
@@ -21,7 +21,7 @@ use std::mem;
 use tftp_blocks::Delivered;
 use tftp_judge::Meaning;
 use tftp_lines::Transfer;
-use tftp_tap::Sides;
+use law_tap::Sides;
 use tftp_tap_judge::{TapDatagram, TapRefusal};
 use tftp_transfers::TransferEnds;
 use tftp_views::Fed;

@@ -5,7 +5,7 @@ ghost use Rattle.tftp_between.specs.Captured.{between_capture, is_to_itself, ser
 ghost use Rattle.tftp_between.specs.Kept.{IsBetweenAfter, View};
 ghost use Rattle.tftp_between.specs.Worked.{asked_twice_between, asked_twice_sides, first_transfer};
 ghost use Rattle.tftp_parties.specs.{IsAddress};
-ghost use Rattle.tftp_tap.specs.{AreApart};
+ghost use Rattle.law_tap.specs.{AreApart};
 ghost use Rattle.tftp_lines.specs.{Placed, is_of, Transfer};
 ghost use Rattle.tftp_transfers.specs.{placed, is_settled, server_of, asked_twice};
 

@@ -13,7 +13,7 @@ use tftp_packet::hosts::Peer;
 use tftp_lines::{Endpoint, Transfer};
 use tftp_packet::Bytes;
 use tftp_parties::host_of;
-use tftp_tap::Sides;
+use law_tap::Sides;
 use tftp_tap_judge::TapDatagram;
 use tftp_transfers::TransferEnds;
 use tftp_views::{Fed, Party};

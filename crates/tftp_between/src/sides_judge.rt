@@ -4,7 +4,7 @@ ghost use Rattle.std.specs.Prelude.{◌≡◌, ◌+◌, ◌^◌, ◌<◌, ◌≤
 ghost use Rattle.tftp_between.specs.Captured.{are_apart};
 ghost use Rattle.tftp_between.specs.Judged.{HasTapped, IsBetweenVerdict};
 ghost use Rattle.tftp_between.specs.Kept.{HasPassed, counted_by, passed_as, refused_by};
-ghost use Rattle.tftp_tap.specs.{AreApart, TapDatagram as Passing, TapSides};
+ghost use Rattle.law_tap.specs.{AreApart, TapDatagram as Passing, TapSides};
 ghost use Rattle.tftp_tap_judge.specs.{passing_of, TapRefusal as RefusalKind};
 ghost use Rattle.tftp_views.specs.{held_of};
 
@@ -13,7 +13,7 @@ use std::alloc::{AllocError, Global};
 use std::marker::Model;
 use tftp_blocks::Delivered;
 use tftp_judge::Meaning;
-use tftp_tap::Sides;
+use law_tap::Sides;
 use tftp_tap_judge::{TapDatagram, TapJudge, TapRefusal};
 use tftp_views::Fed;
 

@@ -13,10 +13,10 @@ use Rattle.law_end.proofs.Division.Routed.{starts_of}
 use Rattle.law_end.proofs.Whole.TwoEnds.{lawful, whole}
 use Rattle.tftp_lines.specs.{Transfer, Placed}
 use Rattle.tftp_transfers.specs.{server_of}
-use Rattle.tftp_tap.specs.{pass_of, tapped_at, TapDatagram, TapSides, AreApart, IsLawfulBetween, ShowsBetween, BreaksNoTapRule}
-use Rattle.tftp_tap.specs.TapDress.{IsTapDressed}
-use Rattle.tftp_tap.proofs.Beside.{view_is_tapped, sent_passed}
-use Rattle.tftp_tap.proofs.TapLaw.{rules_are_runs}
+use Rattle.law_tap.specs.{pass_of, tapped_at, TapDatagram, TapSides, AreApart, IsLawfulBetween, ShowsBetween, BreaksNoTapRule}
+use Rattle.law_tap.specs.TapDress.{IsTapDressed}
+use Rattle.law_tap.proofs.Beside.{view_is_tapped, sent_passed}
+use Rattle.law_tap.proofs.TapLaw.{rules_are_runs}
 use Rattle.tftp_cleared.specs.{IsOpenedIn}
 use Rattle.tftp_views.specs.{captured_at_client, client_header}
 use Rattle.tftp_parties.specs.{host_name}

@@ -11,7 +11,7 @@ use Rattle.tftp_lines.specs.{Endpoint, Opens, Talks, Transfer, Recorded, same_ad
 use Rattle.tftp_lines.proofs.Lines.{by_test}
 use Rattle.tftp_transfers.specs.{client_view, placed, server_of}
 use Rattle.tftp_transfers.proofs.OwnDatagrams.{server_kept}
-use Rattle.tftp_tap.specs.{ShowsBetween, BreaksNoTapRule}
+use Rattle.law_tap.specs.{ShowsBetween, BreaksNoTapRule}
 use Rattle.tftp_parties.proofs.Addresses.{called_one}
 use Rattle.tftp_cleared.specs.{IsOpenedIn, IsTransferIn, HasAddresses}
 use Rattle.tftp_views.specs.{client_capture, client_header}

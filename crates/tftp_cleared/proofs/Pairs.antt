@@ -11,8 +11,8 @@ use Rattle.tftp_lines.specs.{Transfer, same_endpoint, Placed}
 use Rattle.tftp_lines.proofs.Endpoints.{is_same, same_itself}
 use Rattle.tftp_lines.proofs.Lines.{by_test}
 use Rattle.law_model.proofs.ModelLemmas.Members.{contains_cases, contains_none}
-use Rattle.tftp_tap.specs.{pass_of, tapped_at, TapLabel, TapLabelled, TapDivision, tapped_of}
-use Rattle.tftp_tap.specs.TapDress as tap
+use Rattle.law_tap.specs.{pass_of, tapped_at, TapLabel, TapLabelled, TapDivision, tapped_of}
+use Rattle.law_tap.specs.TapDress as tap
 use Rattle.tftp_views.specs.{captured, captured_at_client}
 use Rattle.tftp_parties.specs.{host_name}
 use Rattle.tftp_between.specs.{passed_of}

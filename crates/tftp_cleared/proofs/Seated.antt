@@ -10,8 +10,8 @@ use Rattle.tftp_lines.specs.{Endpoint, Place, Opens, Repeats, Talks, Beside, Tra
 use Rattle.tftp_lines.proofs.Endpoints.{is_same, address_itself}
 use Rattle.tftp_lines.proofs.Lines.{by_test}
 use Rattle.tftp_transfers.specs.{answered_by, asked_of, client_view, comes, goes_on, goes_to_asked, has_host, has_port, is_at_server, is_end, is_server, place_of, placed, server_of, went_on_with}
-use Rattle.tftp_tap.specs.{BreaksNoTapRule, IsTapRefused}
-use Rattle.tftp_tap.proofs.TapBefore.{first_holds}
+use Rattle.law_tap.specs.{BreaksNoTapRule, IsTapRefused}
+use Rattle.law_tap.proofs.TapBefore.{first_holds}
 use Rattle.tftp_cleared.specs.{BothSaw, HasAddresses, IsSentThere, IsServedIn, IsWith}
 use Rattle.tftp_views.specs.{captured, captured_at_server, server_capture, server_header}
 use Rattle.tftp_parties.specs.{IsAddress, host_name}

@@ -15,11 +15,11 @@ use Rattle.law_end.proofs.Division.ServerRoutes.{byte_begins}
 use Rattle.law_end.proofs.Whole.TwoEnds.{lawful}
 use Rattle.tftp_lines.specs.{Endpoint, Opens, Transfer, begins_request, Placed, is_of}
 use Rattle.tftp_lines.proofs.Lines.{by_test}
-use Rattle.tftp_tap.specs.{tapped_at, TapDatagram, TapSides, AreApart, TapLabel, TapLabelled, TapDivision, tapped_of, CarriesPass, HasTapLabel, HaveTapLabels, IsLawfulBetween, BreaksNoTapRule, IsTapRefused}
-use Rattle.tftp_tap.specs.TapDress as tap
-use Rattle.tftp_tap.proofs.Beside.{view_is_tapped}
-use Rattle.tftp_tap.proofs.TapLaw.{rules_are_runs}
-use Rattle.tftp_tap.proofs.TapLawful.{parted}
+use Rattle.law_tap.specs.{tapped_at, TapDatagram, TapSides, AreApart, TapLabel, TapLabelled, TapDivision, tapped_of, CarriesPass, HasTapLabel, HaveTapLabels, IsLawfulBetween, BreaksNoTapRule, IsTapRefused}
+use Rattle.law_tap.specs.TapDress as tap
+use Rattle.law_tap.proofs.Beside.{view_is_tapped}
+use Rattle.law_tap.proofs.TapLaw.{rules_are_runs}
+use Rattle.law_tap.proofs.TapLawful.{parted}
 use Rattle.tftp_cleared.specs.{IsOpenedIn}
 use Rattle.tftp_views.specs.{captured, server_header}
 use Rattle.tftp_parties.specs.{host_name}

@@ -7,8 +7,8 @@ use Rattle.law_end.specs.{TransferIds, says_of}
 use Rattle.law_end.specs.Dress.{Main, Stray, StrayAnswer}
 use Rattle.law_end.proofs.Division.Divided.{any_none, any_cases, any_first, any_later}
 use Rattle.tftp_lines.specs.{Endpoint, Transfer}
-use Rattle.tftp_tap.specs.{PeerId, TapDatagram, TapSides, side_of, TapLabelled, TapDivision, IsMainFrom, GoesThere, HasTapLabel, HaveTapLabels}
-use Rattle.tftp_tap.specs.TapDress as tap
+use Rattle.law_tap.specs.{PeerId, TapDatagram, TapSides, side_of, TapLabelled, TapDivision, IsMainFrom, GoesThere, HasTapLabel, HaveTapLabels}
+use Rattle.law_tap.specs.TapDress as tap
 use Rattle.tftp_parties.specs.{host_name}
 use Rattle.tftp_between.specs.{passed_of, peer_of as side}
 use Rattle.tftp_cleared.proofs.Pairs.{Pair, placed_in, label_there, labelled_there, division_there}

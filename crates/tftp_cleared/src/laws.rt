@@ -7,7 +7,7 @@ ghost use Rattle.tftp_parties.specs.{host_name};
 ghost use Rattle.tftp_lines.specs.{Endpoint, Transfer, Recorded};
 ghost use Rattle.tftp_transfers.specs.{placed};
 ghost use Rattle.tftp_views.specs.{client_capture, client_header, server_capture, server_header};
-ghost use Rattle.tftp_tap.specs.{BreaksNoTapRule, IsTapRefused, ShowsBetween};
+ghost use Rattle.law_tap.specs.{BreaksNoTapRule, IsTapRefused, ShowsBetween};
 ghost use Rattle.tftp_between.specs.{between_capture, passed_of, sides_of};
 ghost use Rattle.tftp_cleared.specs.Cleared.{BothSaw, IsSentThere, IsServedIn, IsTransferIn};
 

@@ -9,7 +9,7 @@ ghost use Rattle.tftp_parties.specs.{host_name};
 ghost use Rattle.tftp_transfers.specs.{asked_twice, client, is_service, placed, server_view};
 ghost use Rattle.tftp_transfers.specs.Worked.{server};
 ghost use Rattle.tftp_views.specs.{captured, client_capture, client_header, server_capture, server_header};
-ghost use Rattle.tftp_tap.specs.{BreaksNoTapRule, TapRoute, tap_route};
+ghost use Rattle.law_tap.specs.{BreaksNoTapRule, TapRoute, tap_route};
 ghost use Rattle.tftp_between.specs.{between_capture, passed_of, sides_of};
 ghost use Rattle.tftp_between.specs.Worked.{first_transfer};
 ghost use Rattle.tftp_cleared.specs.Cleared.{HasAddresses, IsOpenedIn, IsSentThere, IsServedIn, IsTransferIn};

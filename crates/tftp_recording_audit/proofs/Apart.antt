@@ -4,7 +4,7 @@ use Rattle.std.specs.List.{AllByRecursion}
 use Rattle.law_model.specs.Rules.{first_of, or_this}
 use Rattle.tftp_between.specs.{is_to_itself, server_or_asked, sides_of}
 use Rattle.tftp_between.proofs.Sides.{apart_from_both}
-use Rattle.tftp_tap.specs.{AreApart}
+use Rattle.law_tap.specs.{AreApart}
 use Rattle.tftp_recording_audit.specs.{IsSoundDatagram, IsSoundEnd}
 use Rattle.tftp_recording_audit.proofs.Writing.{opened_ends, placed_sound}
 use Rattle.tftp_recording_judge.specs.{opened}

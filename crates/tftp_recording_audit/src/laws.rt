@@ -7,7 +7,7 @@ ghost use Rattle.tftp_capture.specs.{text_with_hosts};
 ghost use Rattle.tftp_parties.specs.{host_name};
 ghost use Rattle.tftp_recording_audit.specs.Sound.{IsSoundDatagram};
 ghost use Rattle.tftp_recording_judge.specs.{opened};
-ghost use Rattle.tftp_tap.specs.{AreApart};
+ghost use Rattle.law_tap.specs.{AreApart};
 ghost use Rattle.tftp_transfers.specs.{placed};
 ghost use Rattle.tftp_lines.specs.{Recorded, Transfer};
 ghost use Rattle.tftp_views.specs.{client_capture, client_header, server_capture, server_header, AreWritten};

@@ -4,7 +4,7 @@ ghost use Rattle.std.specs.Prelude.{◌≡◌, ◌≤◌, ◌∷◌, ℕ, List, 
 ghost use Rattle.tftp_between.specs.{between_capture, is_to_itself, sides_of, IsBetweenVerdict};
 ghost use Rattle.tftp_parties.specs.{host_name};
 ghost use Rattle.tftp_recording_judge.specs.Kept.{AreAt, AreFew, AreJudgesAfter, AreOf, AreTold, AreWants, IsCrowded};
-ghost use Rattle.tftp_tap.specs.{AreApart};
+ghost use Rattle.law_tap.specs.{AreApart};
 ghost use Rattle.tftp_tap_judge.specs.{TapRefusal as RefusalKind};
 ghost use Rattle.tftp_lines.specs.{Placed, Transfer};
 ghost use Rattle.tftp_transfers.specs.{is_about};

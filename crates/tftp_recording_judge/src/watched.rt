@@ -6,7 +6,7 @@ ghost use Rattle.tftp_parties.specs.{host_name};
 ghost use Rattle.tftp_recording_judge.specs.Kept.{AreTold, AreWants, IsCrowded, IsWatching};
 ghost use Rattle.tftp_recording_judge.specs.Points.{points_of};
 ghost use Rattle.tftp_recording_judge.specs.declared.judging.Judging.{Judging as JudgingKind};
-ghost use Rattle.tftp_tap.specs.{AreApart};
+ghost use Rattle.law_tap.specs.{AreApart};
 ghost use Rattle.tftp_tap_judge.specs.{TapRefusal};
 ghost use Rattle.tftp_lines.specs.{doubts_of, Placed, Transfer};
 ghost use Rattle.tftp_transfers.specs.{is_about, AttributionFault};

@@ -3,11 +3,11 @@ use Rattle.std.proofs.Common.{◌≡◌, List, inr, sym, subst, ap, ◌∙◌, m
 use Rattle.tftp_packet.specs.{RequestParts}
 use Rattle.law_model.specs.Model.Roles.{receiver_of}
 use Rattle.law_end.specs.{says_some, OneEnded}
-use Rattle.tftp_tap.specs.{TapDatagram, TapSides, AreApart, kept_of, tap_tests, transfer_between, BreaksNoTapRule, FirstTapAsked, header_at, kept_between, recorded_at}
-use Rattle.tftp_tap.proofs.TapRouted.{Carried, mains, transfer_is}
-use Rattle.tftp_tap.proofs.TapRecorded.{datagram_in, datagrams_each, kept_map, mains_carried, pair_tests}
-use Rattle.tftp_tap.proofs.TapLawful.{mains_lawful, parted, rights}
-use Rattle.tftp_tap.proofs.TapMade.{ended_kept}
+use Rattle.law_tap.specs.{TapDatagram, TapSides, AreApart, kept_of, tap_tests, transfer_between, BreaksNoTapRule, FirstTapAsked, header_at, kept_between, recorded_at}
+use Rattle.law_tap.proofs.TapRouted.{Carried, mains, transfer_is}
+use Rattle.law_tap.proofs.TapRecorded.{datagram_in, datagrams_each, kept_map, mains_carried, pair_tests}
+use Rattle.law_tap.proofs.TapLawful.{mains_lawful, parted, rights}
+use Rattle.law_tap.proofs.TapMade.{ended_kept}
 
 pub kept_lawful : (s : TapSides) → AreApart s → (tapped : List TapDatagram) → BreaksNoTapRule s tapped → (asked : RequestParts) → FirstTapAsked s (transfer_between s tapped) asked
     → OneEnded (header_at s asked.side) (kept_between s asked.side (transfer_between s tapped))

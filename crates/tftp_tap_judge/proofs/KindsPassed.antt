@@ -3,7 +3,7 @@ use Rattle.std.proofs.Common.{◌⊎◌, List, ◌∷◌, inl, inr, subst}
 use Rattle.tftp_packet.specs.{Message, Spells}
 use Rattle.law_end.proofs.Spelled.{spelled_once}
 use Rattle.law_end.proofs.Division.Divided.{any_cases, any_first, any_later}
-use Rattle.tftp_tap.specs.{TapDatagram, HasKind, Says}
+use Rattle.law_tap.specs.{TapDatagram, HasKind, Says}
 
 module _ (Kind : Message → Type 0) (passed : List TapDatagram) (d : TapDatagram) (m : Message) (says : Spells d.payload m) where
   pub kind_now : Kind m → HasKind Kind (d ∷ passed)

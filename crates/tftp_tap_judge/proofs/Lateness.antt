@@ -5,7 +5,7 @@ use Rattle.law_model.specs.Model.Roles.{receiver_of}
 use Rattle.law_model.specs.Rules.{EndRule}
 use Rattle.law_end.specs.{IsWrongKind, number_of, Rule}
 use Rattle.law_end.specs.declared.rule.Rule.TheVariants as rule
-use Rattle.tftp_tap.specs.{TapDatagram, TapSides, before_error, tap_tests, LateBreaks, IsLateAck, IsLateZero, IsLateBlock}
+use Rattle.law_tap.specs.{TapDatagram, TapSides, before_error, tap_tests, LateBreaks, IsLateAck, IsLateZero, IsLateBlock}
 use Rattle.tftp_tap_judge.specs.{Marks, AreMarks, FindsRule, IsOtherError, IsOtherRequest, MessageBreaks}
 
 module _ (s : TapSides) (side : Side) (passed : List TapDatagram) where

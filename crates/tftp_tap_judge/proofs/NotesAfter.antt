@@ -7,9 +7,9 @@ use Rattle.law_end.proofs.Division.Divided.{any_cases, any_first, any_later}
 use Rattle.law_end.proofs.Division.RouteTests.{same_is}
 use Rattle.law_end.proofs.Soundness.SameOrNot.{same_text}
 use Rattle.law_end.proofs.Spelled.{spelled_once}
-use Rattle.tftp_tap.specs.{TapDatagram, TapSides, side_of, AreApart, same_end, ends_in, tap_tests}
-use Rattle.tftp_tap.proofs.KeptOf.{any_here, any_skip, any_more, before_all, before_less}
-use Rattle.tftp_tap.proofs.TapTests.{ends_message, ends_says, source_is}
+use Rattle.law_tap.specs.{TapDatagram, TapSides, side_of, AreApart, same_end, ends_in, tap_tests}
+use Rattle.law_tap.proofs.KeptOf.{any_here, any_skip, any_more, before_all, before_less}
+use Rattle.law_tap.proofs.TapTests.{ends_message, ends_says, source_is}
 use Rattle.tftp_tap_judge.specs.{Marks, AreMarks, AreNotes, AreSeen, ErrorPassed, IsStop, IsStoppedBy, IsNew, IsNewBlock, Notes, Seen, Stopped, first_stop, stop_of, IsOtherError}
 use Rattle.tftp_tap_judge.proofs.StopsNoted.{IsErrorFrom, error_ends}
 

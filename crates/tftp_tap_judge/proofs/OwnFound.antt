@@ -8,9 +8,9 @@ use Rattle.law_end.specs.{IsWrongKind, number_of, Rule}
 use Rattle.law_end.specs.declared.rule.Rule.TheVariants as rule
 use Rattle.law_end.proofs.Spelled.{spelled_once}
 use Rattle.law_end.proofs.FirstBroken.FirstRequests.{request_same, some_same}
-use Rattle.tftp_tap.specs.{TapDatagram, TapSides, side_of, AreApart, tap_tests, FirstTapAsked, LateBreaks, OtherError, PassingBreaks, TapRoute}
-use Rattle.tftp_tap.proofs.KeptOf.{any_of}
-use Rattle.tftp_tap.proofs.TapBefore.{first_holds}
+use Rattle.law_tap.specs.{TapDatagram, TapSides, side_of, AreApart, tap_tests, FirstTapAsked, LateBreaks, OtherError, PassingBreaks, TapRoute}
+use Rattle.law_tap.proofs.KeptOf.{any_of}
+use Rattle.law_tap.proofs.TapBefore.{first_holds}
 use Rattle.tftp_tap_judge.specs.{FindsRule, IsOtherError, IsOtherRequest, MessageBreaks, OwnBreaks}
 
 pub asked_same : (s : TapSides) (passed : List TapDatagram) (one other : RequestParts) → FirstTapAsked s passed one → FirstTapAsked s passed other → one ≡ other

@@ -7,10 +7,10 @@ use Rattle.tftp_packet.specs.Hosts.{Datagram}
 use Rattle.law_model.specs.Model.Roles.{receiver_of}
 use Rattle.tftp_judge.specs.{NoneBreaks, Refuses, IsJudgeAfter, Judge, TakesMemory, Refusal, Finds}
 use Rattle.tftp_judge.specs.declared.refusal.Refusal.TheVariants as of_end
-use Rattle.tftp_tap.specs.{TapDatagram, TapSides, side_of, AreApart, is_left_out, same_end, asks_in, ends_in, tap_tests, header_at, kept_between, recorded_at}
-use Rattle.tftp_tap.proofs.KeptOf.{any_here, any_more, kept_in}
-use Rattle.tftp_tap.proofs.TapTests.{source_is}
-use Rattle.tftp_tap.proofs.TapMade.{recorded_payload}
+use Rattle.law_tap.specs.{TapDatagram, TapSides, side_of, AreApart, is_left_out, same_end, asks_in, ends_in, tap_tests, header_at, kept_between, recorded_at}
+use Rattle.law_tap.proofs.KeptOf.{any_here, any_more, kept_in}
+use Rattle.law_tap.proofs.TapTests.{source_is}
+use Rattle.law_tap.proofs.TapMade.{recorded_payload}
 use Rattle.law_end.proofs.Division.RouteTests.{same_is}
 use Rattle.tftp_tap_judge.specs.{IsReceiving, Receiving, kept_there, ReceiverBreaks, error_by_refusal}
 use Rattle.tftp_judge.specs.declared.pass_error.PassError.TheVariants as stop

@@ -5,7 +5,7 @@ use Rattle.std.specs.Cmp.{nat_cmp_is}
 use Rattle.std.specs.declared.cmp.Ordering.TheVariants.{Less, Equal, Greater}
 use Rattle.std.proofs.lemmas.Bool.{true≢false, cases_lt}
 use Rattle.tftp_packet.specs.{Message, Spells}
-use Rattle.tftp_tap.specs.{TapDatagram, HasKind, IsBlock, IsSomeBlock, IsOack, IsReply}
+use Rattle.law_tap.specs.{TapDatagram, HasKind, IsBlock, IsSomeBlock, IsOack, IsReply}
 use Rattle.tftp_tap_judge.specs.{Marks, has_number, Seen, AreMarks, AreSeen}
 use Rattle.tftp_tap_judge.proofs.KindsPassed.{kind_now, kind_before, kind_cases}
 

@@ -12,10 +12,10 @@ use Rattle.law_end.specs.declared.rule.Rule.TheVariants as rule
 use Rattle.law_end.proofs.Division.RouteTests.{is_same, same_is}
 use Rattle.law_end.proofs.Division.Divided.{any_none}
 use Rattle.law_model.specs.Model.Roles.{receiver_of}
-use Rattle.tftp_tap.specs.{TapDatagram, TapSides, AreApart, kept_of, asks_in, ends_in, has_gone, is_passing, tap_route, tap_tests, transfer_between, BreaksNoTapRule, FirstTapAsked, FirstTapBroken, IsTapRead, KeptBreaks, LateBroken, PassingBreaks, SidesBreak, TapBroken, TapPasses, header_at, kept_between, recorded_at, TapRoute}
-use Rattle.tftp_tap.specs.declared.route.TapRoute.TheVariants as route
-use Rattle.tftp_tap.proofs.KeptOf.{any_skip, kept_in}
-use Rattle.tftp_tap.proofs.TapTests.{source_is}
+use Rattle.law_tap.specs.{TapDatagram, TapSides, AreApart, kept_of, asks_in, ends_in, has_gone, is_passing, tap_route, tap_tests, transfer_between, BreaksNoTapRule, FirstTapAsked, FirstTapBroken, IsTapRead, KeptBreaks, LateBroken, PassingBreaks, SidesBreak, TapBroken, TapPasses, header_at, kept_between, recorded_at, TapRoute}
+use Rattle.law_tap.specs.declared.route.TapRoute.TheVariants as route
+use Rattle.law_tap.proofs.KeptOf.{any_skip, kept_in}
+use Rattle.law_tap.proofs.TapTests.{source_is}
 use Rattle.tftp_tap_judge.specs.{IsKeptAtTap, IsTapTransfer, TapTransfer, BeginsAtTap, FindsAtTap, IsNoRequest, IsReadUnless, ReceiverBreaks, TransferBreaks}
 use Rattle.tftp_judge.specs.declared.pass_error.PassError.TheVariants.{Broken as Breaks, Memory}
 use Rattle.tftp_tap_judge.proofs.KeptLawful.{kept_lawful}

@@ -5,9 +5,9 @@ use Rattle.std.proofs.lemmas.Bool.{true≢false}
 use Rattle.tftp_packet.specs.{Message, Spells, Side, Get, Put, End, Client, Server}
 use Rattle.law_end.proofs.Division.Divided.{any_none, any_cases}
 use Rattle.law_end.proofs.Division.RouteTests.{same_is}
-use Rattle.tftp_tap.specs.{TapDatagram, TapSides, side_of, before_error, tap_tests, IsLateBlock, IsLateZero}
-use Rattle.tftp_tap.proofs.KeptOf.{any_here, any_more, before_all}
-use Rattle.tftp_tap.proofs.TapTests.{ends_says}
+use Rattle.law_tap.specs.{TapDatagram, TapSides, side_of, before_error, tap_tests, IsLateBlock, IsLateZero}
+use Rattle.law_tap.proofs.KeptOf.{any_here, any_more, before_all}
+use Rattle.law_tap.proofs.TapTests.{ends_says}
 use Rattle.tftp_tap_judge.specs.{Marks, AreMarks, AreNotes, ErrorPassed, IsStop, IsStoppedBy, Notes, Stopped, stop_of, IsOtherError}
 
 abbrev pub IsErrorFrom : TapSides → End → ℕ → List ℕ → TapDatagram → Type 0

@@ -13,24 +13,24 @@ use Rattle.law_end.specs.{ShowsBy, datagrams_of, view_in, says_of, AreRouted, sa
 use Rattle.law_end.proofs.Division.Parted.{parts_of}
 use Rattle.law_end.proofs.Division.OneDivision.{run_divides, division_one}
 use Rattle.law_end.proofs.Division.Routed.{routed_by, told_of}
-use Rattle.tftp_tap.specs.{Pass, as_at, MayPassEach, IsWholeAtTap, TapDatagram, TapSides, AreApart, ShowsBetween, passed_of, kept_of, pass_tests, kept_at, tap_tests, transfer_between, BreaksNoTapRule, FirstTapAsked, header_at, kept_between, recorded_at}
-use Rattle.tftp_tap.proofs.Replays.{tap_view_is}
-use Rattle.tftp_tap.proofs.Passed.{sent_passed, at_sent, at_took}
-use Rattle.tftp_tap.proofs.OneTapDivision.{labels_some}
-use Rattle.tftp_tap.proofs.KeptOf.{kept_there}
-use Rattle.tftp_tap.proofs.TapKept.{has_kept, kept_one_sided}
-use Rattle.tftp_tap.proofs.TapBack.{kept_tells}
-use Rattle.tftp_tap.proofs.TapBefore.{first_asked_is}
-use Rattle.tftp_tap.proofs.TapLaw.{said_labels}
-use Rattle.tftp_tap.proofs.TapLawful.{asks_is, mains_lawful, parted, rights}
-use Rattle.tftp_tap.proofs.TapMade.{known_kept, told_some}
-use Rattle.tftp_tap.proofs.TapRecorded.{Each, IsCarried, datagram_in, datagrams_each, kept_each, kept_map, mains_carried, pair_tests, pass_in, passed_is, passes_each, placed, placed_datagrams, placed_routes, placed_starts, placed_view}
-use Rattle.tftp_tap.proofs.TapRouted.{Carried, mains, transfer_is}
-use Rattle.tftp_tap.proofs.TapRun.{in_times, request_one, says_all, says_each}
-use Rattle.tftp_tap.proofs.TapRunsBreak.{kept_known}
-use Rattle.tftp_tap.proofs.Wholes.{blocks_passed}
-use Rattle.tftp_tap.proofs.AtReceiver.{not_sender}
-use Rattle.tftp_tap.proofs.InOrder.{other_of}
+use Rattle.law_tap.specs.{Pass, as_at, MayPassEach, IsWholeAtTap, TapDatagram, TapSides, AreApart, ShowsBetween, passed_of, kept_of, pass_tests, kept_at, tap_tests, transfer_between, BreaksNoTapRule, FirstTapAsked, header_at, kept_between, recorded_at}
+use Rattle.law_tap.proofs.Replays.{tap_view_is}
+use Rattle.law_tap.proofs.Passed.{sent_passed, at_sent, at_took}
+use Rattle.law_tap.proofs.OneTapDivision.{labels_some}
+use Rattle.law_tap.proofs.KeptOf.{kept_there}
+use Rattle.law_tap.proofs.TapKept.{has_kept, kept_one_sided}
+use Rattle.law_tap.proofs.TapBack.{kept_tells}
+use Rattle.law_tap.proofs.TapBefore.{first_asked_is}
+use Rattle.law_tap.proofs.TapLaw.{said_labels}
+use Rattle.law_tap.proofs.TapLawful.{asks_is, mains_lawful, parted, rights}
+use Rattle.law_tap.proofs.TapMade.{known_kept, told_some}
+use Rattle.law_tap.proofs.TapRecorded.{Each, IsCarried, datagram_in, datagrams_each, kept_each, kept_map, mains_carried, pair_tests, pass_in, passed_is, passes_each, placed, placed_datagrams, placed_routes, placed_starts, placed_view}
+use Rattle.law_tap.proofs.TapRouted.{Carried, mains, transfer_is}
+use Rattle.law_tap.proofs.TapRun.{in_times, request_one, says_all, says_each}
+use Rattle.law_tap.proofs.TapRunsBreak.{kept_known}
+use Rattle.law_tap.proofs.Wholes.{blocks_passed}
+use Rattle.law_tap.proofs.AtReceiver.{not_sender}
+use Rattle.law_tap.proofs.InOrder.{other_of}
 use Rattle.tftp_tap_judge.proofs.OwnFound.{asked_there}
 
 module _ (s : TapSides) (apart : AreApart s) (tapped : List TapDatagram) (asked : RequestParts) (first : FirstTapAsked s (transfer_between s tapped) asked) where

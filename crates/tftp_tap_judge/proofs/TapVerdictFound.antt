@@ -9,8 +9,8 @@ use Rattle.tftp_judge.specs.declared.refusal.Refusal.TheVariants as of_end
 use Rattle.law_end.specs.{IsLawful, IsEnded, IsFirstError, OneEnded, Rule}
 use Rattle.law_end.proofs.Whole.Beginnings.{beginning_is_lawful}
 use Rattle.law_end.proofs.Whole.TwoEnds.{lawful}
-use Rattle.tftp_tap.specs.{TapDatagram, TapSides, AreApart, IsLawfulBetween, transfer_between, BreaksNoTapRule, FirstTapAsked, header_at, kept_between}
-use Rattle.tftp_tap.proofs.TapLaw.{rules_run}
+use Rattle.law_tap.specs.{TapDatagram, TapSides, AreApart, IsLawfulBetween, transfer_between, BreaksNoTapRule, FirstTapAsked, header_at, kept_between}
+use Rattle.law_tap.proofs.TapLaw.{rules_run}
 use Rattle.tftp_tap_judge.specs.{IsErrorAtTap, IsTapVerdict, NoneShown, said_at_tap, unfinished_by}
 use Rattle.tftp_tap_judge.proofs.KeptLawful.{kept_lawful}
 use Rattle.tftp_tap_judge.proofs.TapShown.{never_shown, shown_at_end, shown_between}

@@ -10,9 +10,9 @@ use Rattle.law_end.specs.{Broken, NoErrorBy, number_of, Rule}
 use Rattle.law_end.specs.declared.rule.Rule.TheVariants as rule
 use Rattle.law_end.proofs.Division.RouteTests.{same_is}
 use Rattle.law_end.proofs.Spelled.{spelled_once}
-use Rattle.tftp_tap.specs.{TapDatagram, TapSides, side_of, AreApart, tap_tests, FirstTapAsked, header_at, is_of_ports, kept_between, recorded_at, TapRoute}
-use Rattle.tftp_tap.proofs.TapMade.{ports_off}
-use Rattle.tftp_tap.proofs.TapTests.{asks_says}
+use Rattle.law_tap.specs.{TapDatagram, TapSides, side_of, AreApart, tap_tests, FirstTapAsked, header_at, is_of_ports, kept_between, recorded_at, TapRoute}
+use Rattle.law_tap.proofs.TapMade.{ports_off}
+use Rattle.law_tap.proofs.TapTests.{asks_says}
 use Rattle.tftp_tap_judge.specs.{FindsRule, IsOtherError, IsReadOf, OwnBreaks, IsErrorAtTap, IsReadUnless, ReceiverBreaks, TransferBreaks, smaller_of}
 use Rattle.tftp_judge.specs.declared.pass_error.PassError.TheVariants.{Broken as Breaks, Memory}
 use Rattle.tftp_tap_judge.proofs.OwnFound.{asked_same, other_error}

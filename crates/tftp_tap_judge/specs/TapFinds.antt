@@ -4,7 +4,7 @@ use Rattle.std.specs.Prelude.{◌≡◌, ◌⊎◌, ℕ, List, Option, Some, Non
 use Rattle.tftp_packet.specs.{IsFirst, Message, RequestParts, meaning, Spells, FirstFault, Packet, PacketFault, End, Client}
 use Rattle.law_end.specs.{IsWrongKind, number_of, Rule}
 use Rattle.law_end.specs.declared.rule.Rule.TheVariants as rule
-use Rattle.tftp_tap.specs.{TapDatagram, TapSides, PassingBreaks, LateBreaks, LateBroken, TapRoute}
+use Rattle.law_tap.specs.{TapDatagram, TapSides, PassingBreaks, LateBreaks, LateBroken, TapRoute}
 use Rattle.tftp_tap_judge.specs.TapSeen.{ErrorPassed}
 
 -- none is broken, or this is the first that is

@@ -6,7 +6,7 @@ use Rattle.tftp_packet.specs.{Message, RequestParts, Spells, Side, End}
 use Rattle.law_model.specs.Model.Roles.{receiver_of}
 use Rattle.law_end.specs.{IsFirstError}
 use Rattle.tftp_judge.specs.{IsJudgeAfter, Judge}
-use Rattle.tftp_tap.specs.{TapDatagram, TapSides, side_of, AreApart, kept_of, KnownWays, StandsForTap, tap_tests, transfer_between, BreaksNoTapRule, FirstTapAsked, header_at, kept_between}
+use Rattle.law_tap.specs.{TapDatagram, TapSides, side_of, AreApart, kept_of, KnownWays, StandsForTap, tap_tests, transfer_between, BreaksNoTapRule, FirstTapAsked, header_at, kept_between}
 use Rattle.tftp_tap_judge.specs.TapSeen.{AreNotes, Notes}
 use Rattle.tftp_tap_judge.specs.declared.refusal.TapRefusal.{TapRefusal}
 

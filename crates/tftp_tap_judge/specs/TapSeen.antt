@@ -4,7 +4,7 @@ use Rattle.std.specs.Prelude.{◌≡◌, ◌⊎◌, ◌↔◌, ℕ, ◌+◌, ◌
 use Rattle.std.specs.List.{list_any}
 use Rattle.std.specs.Ordering.{nat_cmp, is_eq}
 use Rattle.tftp_packet.specs.{Message, Spells, End, Client, Server}
-use Rattle.tftp_tap.specs.{TapDatagram, TapSides, side_of, before_error, tap_tests, HasKind, IsBlock, IsSomeBlock, IsOack, IsReply}
+use Rattle.law_tap.specs.{TapDatagram, TapSides, side_of, before_error, tap_tests, HasKind, IsBlock, IsSomeBlock, IsOack, IsReply}
 use Rattle.tftp_tap_judge.specs.declared.seen.Marks.{Marks}
 
 -- ---- what has passed

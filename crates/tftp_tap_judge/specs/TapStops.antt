@@ -9,7 +9,7 @@ use Rattle.tftp_judge.specs.{TakesMemory, Refusal}
 use Rattle.tftp_judge.specs.declared.refusal.Refusal.TheVariants as of_end
 use Rattle.law_end.specs.{Broken, number_of, Rule}
 use Rattle.law_end.specs.declared.rule.Rule.TheVariants as rule
-use Rattle.tftp_tap.specs.{TapDatagram, TapSides, side_of, is_left_out, asks_in, has_gone, tap_tests, transfer_between, FirstTapAsked, FirstTapBroken, KeptBreaks, TapPasses, header_at, is_of_ports, kept_between, recorded_at, TapRoute}
+use Rattle.law_tap.specs.{TapDatagram, TapSides, side_of, is_left_out, asks_in, has_gone, tap_tests, transfer_between, FirstTapAsked, FirstTapBroken, KeptBreaks, TapPasses, header_at, is_of_ports, kept_between, recorded_at, TapRoute}
 use Rattle.tftp_tap_judge.specs.TapFinds.{OwnBreaks}
 use Rattle.tftp_tap_judge.specs.TapKept.{IsTapTransfer, TapTransfer, kept_there}
 use Rattle.tftp_tap_judge.specs.TapSeen.{IsNew}

@@ -6,7 +6,7 @@ use Rattle.law_model.specs.Model.{Meaning}
 use Rattle.tftp_judge.specs.{Refusal}
 use Rattle.tftp_judge.specs.declared.refusal.Refusal.TheVariants as of_end
 use Rattle.law_end.specs.{FirstErrorBy, IsWritable, IsEnded, NoErrorBy}
-use Rattle.tftp_tap.specs.{TapDatagram, TapSides, IsLawfulBetween, ShowsBetween, transfer_between, FirstTapAsked, header_at, kept_between}
+use Rattle.law_tap.specs.{TapDatagram, TapSides, IsLawfulBetween, ShowsBetween, transfer_between, FirstTapAsked, header_at, kept_between}
 use Rattle.tftp_tap_judge.specs.TapKept.{IsErrorAtTap}
 use Rattle.tftp_tap_judge.specs.declared.refusal.TapRefusal.{TapRefusal}
 use Rattle.tftp_tap_judge.specs.declared.refusal.TapRefusal.TheVariants.{Unlawful, Aborted, Incomplete, NormalTooLong, Memory}

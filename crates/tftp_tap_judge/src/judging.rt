@@ -1,5 +1,5 @@
 ghost use Rattle.std.specs.Prelude.{◌≡◌, ◌+◌, ◌^◌, ◌<◌, ◌≤◌, List, [], ◌∷◌, length, None, Some, OnOk, IfErr, Err};
-ghost use Rattle.tftp_tap.specs.{TapDatagram as Passing, TapSides, AreApart, TapPasses};
+ghost use Rattle.law_tap.specs.{TapDatagram as Passing, TapSides, AreApart, TapPasses};
 ghost use Rattle.tftp_tap_judge.specs.TapKept.{IsTapJudge};
 ghost use Rattle.tftp_tap_judge.specs.TapStops.{RefusesAtTap, passing_of};
 ghost use Rattle.tftp_tap_judge.specs.TapVerdict.{IsTapVerdict};
@@ -12,7 +12,7 @@ use std::alloc::Global;
 use std::marker::Model;
 use tftp_blocks::Delivered;
 use tftp_judge::{Meaning, PassError};
-use tftp_tap::Sides;
+use law_tap::Sides;
 
 /// The judge of a capture that was taken at a point between the ends, datagram by datagram (RFC 1350; RFC 2347; RFC 7440). It is
 /// told who the client is, where it asks and who the server is. It keeps no list of datagrams: what it keeps are the ways that

@@ -1,6 +1,6 @@
 ghost use Rattle.std.specs.Prelude.{◌≡◌, ◌↔◌, ◌+◌, ◌≤◌, ℕ, List, [], ◌∷◌, length, true, IsTrue, IfOk, IfErr, OnOk, Err};
 ghost use Rattle.tftp_packet.specs.{Message, Spells};
-ghost use Rattle.tftp_tap.specs.{TapDatagram as Passing, TapSides, side_of, AreApart, StandsForTap, is_passing, tap_route, transfer_between, BreaksNoTapRule};
+ghost use Rattle.law_tap.specs.{TapDatagram as Passing, TapSides, side_of, AreApart, StandsForTap, is_passing, tap_route, transfer_between, BreaksNoTapRule};
 ghost use Rattle.tftp_tap_judge.specs.TapKept.{FedWithin, HasKeptAtTap, IsFewFed, IsKeptAtTap};
 ghost use Rattle.tftp_tap_judge.specs.TapSeen.{AreNotes};
 ghost use Rattle.tftp_tap_judge.specs.TapStops.{BeginsAtTap, FindsAtTap, IsNoRequest, IsRecorded, TakesMemoryAtTap, passing_of};
@@ -19,7 +19,7 @@ use tftp_judge::PassError;
 use law_end::Rule;
 use tftp_packet::{End, Packet, Request, opcode, own_request, read_packet};
 use law_model::rules::PortRule;
-use tftp_tap::{Sides, TapPorts, TapRoute};
+use law_tap::{Sides, TapPorts, TapRoute};
 
 /// What is kept of the datagrams that have passed between the ends: the ways that they went, and the transfer from its first
 /// request on.

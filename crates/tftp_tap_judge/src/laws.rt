@@ -4,7 +4,7 @@ ghost use Rattle.std.specs.Prelude.{◌↔◌, ℕ, List, reverse};
 ghost use Rattle.tftp_packet.specs.{RequestParts};
 ghost use Rattle.law_model.specs.Model.{Meaning};
 ghost use Rattle.law_end.specs.{ShowsBy, OneEnded};
-ghost use Rattle.tftp_tap.specs.{TapDatagram, TapSides, AreApart, ShowsBetween, transfer_between, BreaksNoTapRule, FirstTapAsked, header_at, kept_between};
+ghost use Rattle.law_tap.specs.{TapDatagram, TapSides, AreApart, ShowsBetween, transfer_between, BreaksNoTapRule, FirstTapAsked, header_at, kept_between};
 
 /// What the end that gets the file would keep of a lawful capture between the ends breaks no rule there. So what it would keep
 /// and does refuse, no point between the ends could have seen.

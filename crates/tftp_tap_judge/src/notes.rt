@@ -2,7 +2,7 @@
 
 ghost use Rattle.std.specs.Prelude.{◌≡◌, ◌↔◌, List, [], ◌∷◌, IsTrue, None, option_map, OnOk, OnErr};
 ghost use Rattle.tftp_packet.specs.{Message, meaning, Spells, End as Who};
-ghost use Rattle.tftp_tap.specs.{TapDatagram, TapSides, side_of, AreApart, before_error, tap_tests, FirstTapAsked, IsLateBlock, IsLateZero, LateBreaks, TapRoute};
+ghost use Rattle.law_tap.specs.{TapDatagram, TapSides, side_of, AreApart, before_error, tap_tests, FirstTapAsked, IsLateBlock, IsLateZero, LateBreaks, TapRoute};
 ghost use Rattle.tftp_tap_judge.specs.TapSeen.{AreMarks, AreNotes, IsNew, first_stop, stop_of};
 ghost use Rattle.tftp_tap_judge.specs.TapFinds.{FindsRule, IsOtherError, IsReadOf, MessageBreaks, OwnBreaks};
 

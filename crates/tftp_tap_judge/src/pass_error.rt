@@ -1,5 +1,5 @@
 ghost use Rattle.std.specs.Prelude.{◌≡◌};
-ghost use Rattle.tftp_tap.specs.{is_of_ports};
+ghost use Rattle.law_tap.specs.{is_of_ports};
 ghost use Rattle.tftp_tap_judge.specs.TapStops.{smaller_of, error_by_refusal};
 
 use tftp_judge::{PassError, Refusal};

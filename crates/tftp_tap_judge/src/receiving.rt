@@ -3,7 +3,7 @@ ghost use Rattle.tftp_packet.specs.{opcode_of, Server, Side as Way};
 ghost use Rattle.law_model.specs.Model.Roles.{receiver_of};
 ghost use Rattle.tftp_judge.specs.{Finds, TakesMemory, IsVerdict};
 ghost use Rattle.law_end.specs.{Passes};
-ghost use Rattle.tftp_tap.specs.{TapDatagram, TapSides, side_of, AreApart, is_left_out, same_end, asks_in, tap_tests, header_at, kept_between, recorded_at};
+ghost use Rattle.law_tap.specs.{TapDatagram, TapSides, side_of, AreApart, is_left_out, same_end, asks_in, tap_tests, header_at, kept_between, recorded_at};
 ghost use Rattle.tftp_tap_judge.specs.TapKept.{IsReceiving, kept_there};
 ghost use Rattle.tftp_tap_judge.specs.TapStops.{IsRecorded, ReceiverBreaks};
 ghost use Rattle.tftp_judge.specs.declared.pass_error.PassError.{PassError as PassErrorKind};

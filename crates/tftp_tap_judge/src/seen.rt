@@ -2,7 +2,7 @@
 
 ghost use Rattle.std.specs.Prelude.{◌≡◌, ℕ, ◌+◌, ◌<◌, ◌≤◌, List, [], ◌∷◌, true, false, OnOk, OnErr};
 ghost use Rattle.tftp_packet.specs.{Message, meaning, Spells};
-ghost use Rattle.tftp_tap.specs.{TapDatagram as Parts, HasKind, IsBlock};
+ghost use Rattle.law_tap.specs.{TapDatagram as Parts, HasKind, IsBlock};
 ghost use Rattle.tftp_tap_judge.specs.TapSeen.{AreSeen, IsNewBlock, has_number};
 
 use std::alloc::{AllocError, Global};

@@ -3,7 +3,7 @@ ghost use Rattle.tftp_packet.specs.{Message, meaning, Spells};
 ghost use Rattle.law_model.specs.Model.Roles.{receiver_of};
 ghost use Rattle.tftp_judge.specs.{Finds};
 ghost use Rattle.law_end.specs.{Passes, IsFirstError};
-ghost use Rattle.tftp_tap.specs.{TapDatagram, TapSides, side_of, AreApart, is_passing, tap_route, transfer_between, BreaksNoTapRule, header_at, recorded_at};
+ghost use Rattle.law_tap.specs.{TapDatagram, TapSides, side_of, AreApart, is_passing, tap_route, transfer_between, BreaksNoTapRule, header_at, recorded_at};
 ghost use Rattle.tftp_tap_judge.specs.TapKept.{IsErrorAtTap, IsTapTransfer};
 ghost use Rattle.tftp_tap_judge.specs.TapSeen.{AreNotes};
 ghost use Rattle.tftp_tap_judge.specs.TapStops.{IsReadUnless, IsRecorded, TakesInTransfer, TransferBreaks};

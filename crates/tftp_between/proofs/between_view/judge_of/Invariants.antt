@@ -1,6 +1,6 @@
 use Rattle.std.proofs.Common.{◌≡◌, ◌+◌, ◌≤◌, List, All, length}
 use Rattle.std.specs.VecDeque.{deque_len}
-use Rattle.tftp_tap.specs.{TapDatagram}
+use Rattle.law_tap.specs.{TapDatagram}
 use Rattle.tftp_tap_judge.specs.{TapDatagram as Owned}
 use Rattle.tftp_between.specs.{AreHeld, counted_by}
 use Rattle.tftp_between.proofs.Holding.{IsGivenSoFar}

@@ -1,7 +1,7 @@
 use Rattle.std.proofs.Common.{◌≡◌, List, Err, rules, sym, subst, ap, ◌∙◌}
 use Rattle.tftp_packet.specs.{Message, Spells, End, Client, Server}
 use Rattle.law_model.specs.Model.Roles.{receiver_of}
-use Rattle.tftp_tap.specs.{PeerId, side_of}
+use Rattle.law_tap.specs.{PeerId, side_of}
 use Rattle.tftp_tap_judge.specs.{BeginsAtTap, IsNoRequest, IsRecorded, passing_of}
 use Rattle.tftp_tap_judge.proofs.StateFound.{begun_found, begun_with, client_passes, client_to, first_passes, server_found}
 use Rattle.tftp_tap_judge.proofs.keeping.begun.Goals as goal

@@ -1,5 +1,5 @@
 use Rattle.std.proofs.Common.{◌≡◌, ◌∷◌, Some, false, true, refl, sym, ap, ◌∙◌, subst}
-use Rattle.tftp_tap.specs.{TapDatagram}
+use Rattle.law_tap.specs.{TapDatagram}
 use Rattle.tftp_lines.specs.{is_of}
 use Rattle.tftp_between.specs.{between_capture, HasPassed, IsBetweenAfter, IsGoingOn, View}
 use Rattle.tftp_between.proofs.Feeding.{passed_fed}

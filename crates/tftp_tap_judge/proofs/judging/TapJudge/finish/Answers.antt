@@ -1,5 +1,5 @@
 use Rattle.std.proofs.Common.{sym, subst, ap, ◌∙◌}
-use Rattle.tftp_tap.specs.{transfer_between}
+use Rattle.law_tap.specs.{transfer_between}
 use Rattle.tftp_tap_judge.specs.{IsKeptAtTap, TapJudge}
 use Rattle.tftp_tap_judge.proofs.TapVerdictFound.{nothing_said}
 use Rattle.tftp_tap_judge.proofs.judging.TapJudge.finish.Goals as goal

@@ -1,6 +1,6 @@
 use Rattle.std.proofs.Common.{◌∷◌, inl, sym, subst, ap, ◌∙◌}
 use Rattle.tftp_packet.specs.{opcode_of}
-use Rattle.tftp_tap.specs.{KnownWays, StandsForTap, transfer_between}
+use Rattle.law_tap.specs.{KnownWays, StandsForTap, transfer_between}
 use Rattle.tftp_tap_judge.specs.{IsKeptAtTap, TapState, passing_of}
 use Rattle.tftp_tap_judge.proofs.keeping.TapState.pass.Goals as goal
 

@@ -1,6 +1,6 @@
 use Rattle.std.proofs.Common.{◌≡◌, List, true, inl, inr, sym, subst, ap, ◌∙◌}
 use Rattle.tftp_packet.specs.{Message, Spells}
-use Rattle.tftp_tap.specs.{is_passing, tap_route}
+use Rattle.law_tap.specs.{is_passing, tap_route}
 use Rattle.tftp_tap_judge.specs.{passing_of}
 use Rattle.tftp_tap_judge.proofs.StateFound.{answer_found, is_from_client, is_from_server, main_found, source_client, source_server}
 use Rattle.tftp_tap_judge.proofs.keeping.TapState.pass_by.Goals as goal

@@ -1,6 +1,6 @@
 use Rattle.std.proofs.Common.{◌≡◌, ◌∷◌, Some, inr, sym, subst, ap, ◌∙◌}
 use Rattle.tftp_packet.specs.{End}
-use Rattle.tftp_tap.specs.{transfer_between}
+use Rattle.law_tap.specs.{transfer_between}
 use Rattle.tftp_tap_judge.specs.{IsKeptAtTap, IsTapTransfer, TapState, IsRecorded, passing_of}
 use Rattle.tftp_tap_judge.proofs.StateFound.{message_found}
 use Rattle.tftp_tap_judge.proofs.keeping.TapState.pass_message.Goals as goal

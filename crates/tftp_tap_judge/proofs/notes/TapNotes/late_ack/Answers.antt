@@ -1,7 +1,7 @@
 use Rattle.std.proofs.Common.{subst, rules, sym, ◌∙◌}
 use Rattle.std.proofs.lemmas.Bool.{true≢false}
 use Rattle.tftp_packet.specs.{End}
-use Rattle.tftp_tap.specs.{before_error, tap_tests}
+use Rattle.law_tap.specs.{before_error, tap_tests}
 use Rattle.tftp_tap_judge.specs.{AreMarks}
 use Rattle.tftp_tap_judge.proofs.Lateness.{ahead_found, none_found}
 use Rattle.tftp_tap_judge.proofs.notes.TapNotes.late_ack.Goals as goal

@@ -2,7 +2,7 @@ use Rattle.std.proofs.Common.{None, sym, subst, ◌∙◌}
 use Rattle.std.proofs.lemmas.Bool.{true≢false}
 use Rattle.tftp_packet.specs.{Message, meaning, Side, Packet}
 use Rattle.law_end.specs.{IsWrongKind}
-use Rattle.tftp_tap.specs.{LateBreaks}
+use Rattle.law_tap.specs.{LateBreaks}
 use Rattle.tftp_tap_judge.specs.{FindsRule, IsOtherError, IsOtherRequest}
 use Rattle.tftp_tap_judge.proofs.Lateness.{late_found, error_found, no_late_error, no_other_request_error, no_other_error_ack, no_other_request_ack}
 use Rattle.tftp_tap_judge.proofs.notes.TapNotes.message_breaks.Goals as goal

@@ -1,5 +1,5 @@
 use Rattle.std.proofs.Common.{◌≡◌, sym, subst, ap, ◌∙◌}
-use Rattle.tftp_tap.specs.{before_error, tap_tests}
+use Rattle.law_tap.specs.{before_error, tap_tests}
 use Rattle.tftp_tap_judge.specs.{Marks, AreMarks, Notes}
 use Rattle.tftp_tap_judge.proofs.StopsNoted.{none_usable}
 use Rattle.tftp_tap_judge.proofs.notes.TapNotes.usable.Goals as goal

@@ -2,7 +2,7 @@ use Rattle.std.proofs.Common.{[], ◌∷◌, false, sym, subst}
 use Rattle.tftp_packet.specs.{End}
 use Rattle.tftp_packet.specs.Hosts.{Datagram, Header}
 use Rattle.tftp_judge.specs.{IsJudgeAfter}
-use Rattle.tftp_tap.specs.{header_at}
+use Rattle.law_tap.specs.{header_at}
 use Rattle.tftp_tap_judge.specs.{IsReceiving, IsRecorded}
 use Rattle.tftp_tap_judge.proofs.Receivings.{header_is, kept_first}
 use Rattle.tftp_tap_judge.proofs.receiving.Receiving.begin.Goals as goal

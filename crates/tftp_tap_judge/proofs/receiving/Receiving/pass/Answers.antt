@@ -4,7 +4,7 @@ use Rattle.tftp_packet.specs.Hosts.{Datagram}
 use Rattle.law_model.specs.Model.Roles.{receiver_of}
 use Rattle.tftp_judge.specs.{Refuses, IsJudgeAfter, Finds, PassError}
 use Rattle.law_end.specs.{Passes}
-use Rattle.tftp_tap.specs.{same_end, header_at, kept_between}
+use Rattle.law_tap.specs.{same_end, header_at, kept_between}
 use Rattle.tftp_tap_judge.specs.{IsReceiving, Receiving, ReceiverBreaks}
 use Rattle.tftp_judge.specs.declared.pass_error.PassError.TheVariants as stop
 use Rattle.tftp_tap_judge.proofs.Receivings.{kept_more, left_out, refused_found, refused_takes, recorded_same, said_client, said_server}

@@ -2,8 +2,8 @@ use Rattle.std.proofs.Common.{◌≡◌, [], sym, subst, ap, ◌∙◌}
 use Rattle.tftp_packet.specs.{Message, End}
 use Rattle.law_model.specs.Model.Roles.{receiver_of}
 use Rattle.law_end.specs.{Passes}
-use Rattle.tftp_tap.specs.{header_at, recorded_at}
-use Rattle.tftp_tap.proofs.TapTests.{asks_says}
+use Rattle.law_tap.specs.{header_at, recorded_at}
+use Rattle.law_tap.proofs.TapTests.{asks_says}
 use Rattle.tftp_tap_judge.specs.{IsRecorded}
 use Rattle.tftp_tap_judge.proofs.TransferFound.{asked_first, request_no_error}
 use Rattle.tftp_tap_judge.proofs.transfer.TapTransfer.begin.Goals as goal

@@ -1,6 +1,6 @@
 use Rattle.std.proofs.Common.{sym, subst}
 use Rattle.tftp_tap_judge.specs.{IsTapTransfer, TapTransfer, IsTapVerdict}
-use Rattle.tftp_tap.specs.{transfer_between}
+use Rattle.law_tap.specs.{transfer_between}
 use Rattle.tftp_tap_judge.proofs.TapVerdictFound.{said_found}
 use Rattle.tftp_tap_judge.proofs.transfer.TapTransfer.finish.Goals as goal
 

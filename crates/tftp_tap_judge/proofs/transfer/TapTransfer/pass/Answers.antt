@@ -2,7 +2,7 @@ use Rattle.std.proofs.Common.{◌≡◌, ◌∷◌, List, Result, Ok, Err, true,
 use Rattle.std.proofs.lemmas.Result.{err_from_is_err_and}
 use Rattle.tftp_packet.specs.{RequestParts, meaning}
 use Rattle.law_model.specs.Model.Roles.{receiver_of}
-use Rattle.tftp_tap.specs.{TapDatagram, TapSides, AreApart, side_of, is_passing, tap_route, transfer_between, BreaksNoTapRule, Request}
+use Rattle.law_tap.specs.{TapDatagram, TapSides, AreApart, side_of, is_passing, tap_route, transfer_between, BreaksNoTapRule, Request}
 use Rattle.tftp_judge.specs.{Finds, PassError}
 use Rattle.tftp_tap_judge.specs.{IsReadOf, IsReceiving, IsTapTransfer, TapTransfer, IsReadUnless, IsRecorded, TransferBreaks}
 use Rattle.tftp_judge.specs.declared.pass_error.PassError.TheVariants.{Memory}

@@ -1,0 +1,143 @@
+ghost use Rattle.std.specs.Prelude.{◌≡◌, ℕ, List};
+ghost use Rattle.tftp_packet.specs.{opcode_of};
+ghost use Rattle.law_tap.specs.TapCapture.{TapDatagram};
+ghost use Rattle.law_tap.specs.TapRoutes.{asks_in, ends_in, has_gone, route_astray, route_from_client, route_from_server, route_from_elsewhere, tap_route};
+
+use crate::route::TapRoute;
+use std::marker::Model;
+use tftp_packet::hosts::Peer;
+
+/// The sides of one transfer, as a tap is told them: who asks, where, and who goes on with it (RFC 1350, section 4).
+#[derive(Clone, Copy)]
+pub struct Sides {
+    /// The client's side.
+    pub client: Peer,
+    /// Where the client sends its requests.
+    pub asked: Peer,
+    /// Where the server goes on.
+    pub server: Peer,
+}
+
+impl Model for Sides {
+    ghost use Rattle.law_tap.specs.TapCapture.{TapSides};
+
+    ghost Value = { TapSides };
+
+    ghost view = { λ s. record { client = s.client; asked = s.asked; server = s.server } };
+
+    ghost inverse = { λ v. record { client = v.client; asked = v.asked; server = v.server } };
+}
+
+/// A datagram that passes, as far as its route goes: its two sides, the opcode of its payload, and whether anything has gone
+/// the other way between its sides.
+#[derive(Clone, Copy)]
+pub struct Passing {
+    /// Where it comes from.
+    pub source: Peer,
+    /// Where it goes.
+    pub destination: Peer,
+    /// Its first two bytes, as a number, and 0 where it has none (RFC 1350, section 5).
+    pub opcode: u16,
+    /// Whether something has gone from its destination to its source.
+    pub answers: bool,
+}
+
+impl Passing {
+    fn asks(&self) -> bool
+        ensures { (payload : List ℕ) → opcode_of payload ≡ self.now.opcode → result ≡ asks_in payload }
+    {
+        matches!(self.opcode, 1 | 2)
+    }
+
+    fn ends(&self) -> bool
+        ensures { (payload : List ℕ) → opcode_of payload ≡ self.now.opcode → result ≡ ends_in payload }
+    {
+        self.opcode == 5
+    }
+
+    /// What an end sends to neither the other end nor where it asks.
+    fn astray(&self) -> TapRoute
+        ensures { (earlier : List TapDatagram) (payload : List ℕ) → opcode_of payload ≡ self.now.opcode
+            → has_gone self.now.destination self.now.source earlier ≡ self.now.answers
+            → result ≡ route_astray earlier (record { source = self.now.source; destination = self.now.destination; payload = payload }) }
+    {
+        if !self.answers {
+            TapRoute::WrongPort
+        } else if self.ends() {
+            TapRoute::StrayAnswer
+        } else {
+            TapRoute::NoStrayAnswer
+        }
+    }
+}
+
+impl Sides {
+    /// Where a datagram belongs that passes between the ends (RFC 1350, section 4), where it is known whether something has gone
+    /// from the server to the client.
+    pub fn route(&self, passing: &Passing, answered: bool) -> TapRoute
+        ensures { (earlier : List TapDatagram) (payload : List ℕ) → opcode_of payload ≡ passing.now.opcode
+            → has_gone passing.now.destination passing.now.source earlier ≡ passing.now.answers
+            → has_gone self.now.server self.now.client earlier ≡ answered
+            → result ≡ tap_route self.now earlier (record { source = passing.now.source; destination = passing.now.destination; payload = payload }) }
+    {
+        if passing.source == self.client {
+            self.from_client(passing, answered)
+        } else if passing.source == self.server {
+            self.from_server(passing)
+        } else {
+            self.from_elsewhere(passing)
+        }
+    }
+
+    fn from_client(&self, passing: &Passing, answered: bool) -> TapRoute
+        ensures { (earlier : List TapDatagram) (payload : List ℕ) → opcode_of payload ≡ passing.now.opcode
+            → has_gone passing.now.destination passing.now.source earlier ≡ passing.now.answers
+            → has_gone self.now.server self.now.client earlier ≡ answered
+            → result ≡ route_from_client self.now earlier (record { source = passing.now.source; destination = passing.now.destination; payload = payload }) }
+    {
+        if passing.asks() {
+            if passing.destination == self.asked {
+                TapRoute::Request
+            } else {
+                TapRoute::WrongPort
+            }
+        } else if passing.destination == self.server {
+            if answered {
+                TapRoute::FromClient
+            } else {
+                TapRoute::WrongPort
+            }
+        } else {
+            passing.astray()
+        }
+    }
+
+    fn from_server(&self, passing: &Passing) -> TapRoute
+        ensures { (earlier : List TapDatagram) (payload : List ℕ) → opcode_of payload ≡ passing.now.opcode
+            → has_gone passing.now.destination passing.now.source earlier ≡ passing.now.answers
+            → result ≡ route_from_server self.now earlier (record { source = passing.now.source; destination = passing.now.destination; payload = payload }) }
+    {
+        if passing.destination == self.client {
+            TapRoute::FromServer
+        } else {
+            passing.astray()
+        }
+    }
+
+    fn from_elsewhere(&self, passing: &Passing) -> TapRoute
+        ensures { (payload : List ℕ) → opcode_of payload ≡ passing.now.opcode
+            → result ≡ route_from_elsewhere self.now (record { source = passing.now.source; destination = passing.now.destination; payload = payload }) }
+    {
+        if passing.destination == self.client {
+            TapRoute::Stray
+        } else if passing.destination == self.server {
+            if self.server.port == self.asked.port && passing.asks() {
+                TapRoute::ForeignPort
+            } else {
+                TapRoute::Stray
+            }
+        } else {
+            TapRoute::ForeignPort
+        }
+    }
+}

@@ -1,5 +1,0 @@
-use Rattle.tftp_tap.proofs.TapOne.{shows_one}
-use Rattle.tftp_tap.proofs.laws.a_tap_capture_shows_one_transfer.Goals as goal
-
-pub returns : goal.returns
-returns c = shows_one
