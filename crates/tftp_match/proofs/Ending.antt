@@ -6,7 +6,7 @@ use Rattle.tftp_packet.specs.Hosts.{Datagram, Header}
 use Rattle.law_model.specs.Model.{Meaning}
 use Rattle.tftp_judge.specs.{IsVerdict, Refusal}
 use Rattle.tftp_judge.specs.declared.refusal.Refusal.TheVariants.{Memory}
-use Rattle.tftp_pair.specs.{Capture, IsLawfulTo, IsPairVerdict}
+use Rattle.law_pair.specs.{Capture, IsLawfulTo, IsPairVerdict}
 use Rattle.tftp_pair_judge.specs.Rest.{Rest}
 use Rattle.tftp_pair_judge.specs.{IsRestAfter, IsReadOf}
 use Rattle.tftp_match.specs.{capture_of, HasBegun, IsFinished, IsHalted, said_by, AreCopies, AreNumbersOf, AreTogether, AreWhys, IsApart, IsPairSaid, IsWhy, Halt, Apart, WrongEnd, Stopped, Matched}

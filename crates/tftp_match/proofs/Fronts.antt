@@ -8,7 +8,7 @@ use Rattle.tftp_capture.proofs.Beginnings.{agree, capture_begins, capture_has, f
 use Rattle.tftp_packet.specs.Hosts.{Datagram, Header}
 use Rattle.law_end.specs.{OneEnded}
 use Rattle.tftp_judge.specs.{unnumbered}
-use Rattle.tftp_pair.specs.{IsLawfulTo}
+use Rattle.law_pair.specs.{IsLawfulTo}
 use Rattle.tftp_pair_judge.specs.{IsReadOf}
 use Rattle.tftp_match.specs.{HasDatagrams, capture_of}
 

@@ -18,7 +18,7 @@ use Rattle.tftp_judge.proofs.FirstFaults.{begins_longer, fault_kinds}
 use Rattle.tftp_judge.proofs.Follows.{Follows, found_fault, found_refused, clean_says}
 use Rattle.tftp_judge.proofs.TextFound.{Closed, Found, closed, found_ended, found_exact, found_judged, found_tally, found_whole, rest_of}
 use Rattle.tftp_capture.specs.CaptureText.Due.{Body}
-use Rattle.tftp_pair.specs.{IsLawfulTo}
+use Rattle.law_pair.specs.{IsLawfulTo}
 use Rattle.tftp_pair_judge.specs.{IsReadOf}
 use Rattle.tftp_match.specs.{HasDatagrams, capture_of, IsJudged, HasRead, IsFinished, IsGiven, IsHalted, said_by, Ended, Refused, Fault}
 use Rattle.tftp_match.proofs.Fronts.{all_of, front_in, has_before_fault, has_captured, lawful_front, lawful_whole}

@@ -15,8 +15,8 @@ use Rattle.tftp_judge.specs.declared.refusal.Refusal.TheVariants.{Memory}
 use Rattle.tftp_judge.proofs.OneTextVerdict.{captured_or_faulty, longer_unlawful}
 use Rattle.tftp_judge.proofs.OneVerdict.{not_lawful}
 use Rattle.tftp_judge.proofs.TextFound.{answers}
-use Rattle.tftp_pair.specs.{AreConsistent}
-use Rattle.tftp_pair.proofs.PairVerdict.{kept_all, lawful_whole, pair_decides}
+use Rattle.law_pair.specs.{AreConsistent}
+use Rattle.law_pair.proofs.PairVerdict.{kept_all, lawful_whole, pair_decides}
 use Rattle.tftp_match.specs.{capture_of, IsJudged, IsAllLawful, IsPairSaid, IsTextFault, SaysMatched, Apart, WrongEnd, Stopped, Matched}
 use Rattle.tftp_match.proofs.Fronts.{has_all}
 

@@ -3,7 +3,7 @@ use Rattle.std.specs.Prelude.{ℕ, List}
 use Rattle.tftp_capture.specs.{Begins, BeginsWith, Numbered}
 use Rattle.tftp_packet.specs.Hosts.{Header}
 use Rattle.tftp_judge.specs.{unnumbered}
-use Rattle.tftp_pair.specs.{Capture}
+use Rattle.law_pair.specs.{Capture}
 
 -- The text begins with a header and these datagrams, and with no others but the first of these: they are all of a capture,
 -- or all before the text's first fault.

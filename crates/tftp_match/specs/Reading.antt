@@ -7,7 +7,7 @@ use Rattle.tftp_packet.specs.Hosts.{Datagram, Header}
 use Rattle.law_model.specs.Model.{Meaning}
 use Rattle.tftp_judge.specs.{Refuses, IsOfText, unnumbered, IsVerdict, Refusal, Verdict, Capture, Refused as RefusedFor}
 use Rattle.tftp_judge.specs.declared.refusal.Refusal.TheVariants.{Memory}
-use Rattle.tftp_pair.specs.{IsLawfulTo}
+use Rattle.law_pair.specs.{IsLawfulTo}
 use Rattle.tftp_pair_judge.specs.{IsReadOf}
 use Rattle.tftp_match.specs.Judged.{IsJudged}
 use Rattle.tftp_match.specs.Datagrams.{HasDatagrams, capture_of}

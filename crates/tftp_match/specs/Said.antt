@@ -7,7 +7,7 @@ use Rattle.tftp_packet.specs.Hosts.{Header}
 use Rattle.law_model.specs.Model.{Meaning}
 use Rattle.tftp_judge.specs.{IsOfText, Verdict, Capture, Refused}
 use Rattle.tftp_judge.specs.declared.refusal.Refusal.TheVariants as refusal
-use Rattle.tftp_pair.specs.{Capture as Captured, IsPairVerdict}
+use Rattle.law_pair.specs.{Capture as Captured, IsPairVerdict}
 use Rattle.tftp_pair_judge.specs.{AreCarried, AreCountsOf, IsWhyWaiting, Matched}
 use Rattle.tftp_match.specs.Judged.{IsJudged}
 use Rattle.tftp_match.specs.Datagrams.{HasDatagrams, capture_of}

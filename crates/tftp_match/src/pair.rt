@@ -5,7 +5,7 @@ ghost use Rattle.net_streams.specs.Streams.{Standing};
 ghost use Rattle.tftp_packet.specs.Hosts.{Header as HeaderParts};
 ghost use Rattle.law_model.specs.Model.{Meaning as MeaningParts};
 ghost use Rattle.tftp_judge.specs.{EndsText, IsOfText, IsReadVerdict, IsTextVerdict, SaysReadFailed, WantsMemory, Verdict as VerdictKind};
-ghost use Rattle.tftp_pair.specs.{AreConsistent};
+ghost use Rattle.law_pair.specs.{AreConsistent};
 ghost use Rattle.tftp_match.specs.Datagrams.{capture_of};
 ghost use Rattle.tftp_match.specs.Judged.{IsJudged};
 ghost use Rattle.tftp_match.specs.Merging.{HasBegun};

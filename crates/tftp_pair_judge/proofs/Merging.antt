@@ -2,8 +2,8 @@
 use Rattle.std.proofs.Common.{◌≡◌, true, false, List, ◌∷◌, Option, Some, None, inl, inr, sym, subst, ap, ◌∙◌}
 use Rattle.tftp_packet.specs.Hosts.{In, Out, Datagram, Header}
 use Rattle.law_model.specs.Rules.{route_of, is_of_transfer, transfer_of}
-use Rattle.tftp_pair.specs.{IsBrought, AreMergedBy}
-use Rattle.tftp_pair.proofs.Merged.{at_client, at_server, turned}
+use Rattle.law_pair.specs.{IsBrought, AreMergedBy}
+use Rattle.law_pair.proofs.Merged.{at_client, at_server, turned}
 use Rattle.tftp_pair_judge.specs.{WasSent, with_held, Waits, AreMergedBut, IsAskedAgain}
 use Rattle.tftp_judge.proofs.Accepting.{transfer_kept, transfer_same}
 

@@ -6,9 +6,9 @@ use Rattle.std.proofs.Math.Seq.{take-suc}
 use Rattle.tftp_packet.specs.Hosts.{In, Datagram, Header}
 use Rattle.law_model.specs.Rules.{route_of, is_of_transfer, transfer_of}
 use Rattle.law_end.specs.{OneEnded}
-use Rattle.tftp_pair.specs.{Capture, AreMergedBy, passed_in, begun, IsNextIn, IsShut, IsLawfulTo, IsPairVerdict, IsSentAmong, IsSentLater, IsUnsent}
-use Rattle.tftp_pair.proofs.MatchedCaptures.{stuck_to}
-use Rattle.tftp_pair.proofs.PairVerdict.{kept_before}
+use Rattle.law_pair.specs.{Capture, AreMergedBy, passed_in, begun, IsNextIn, IsShut, IsLawfulTo, IsPairVerdict, IsSentAmong, IsSentLater, IsUnsent}
+use Rattle.law_pair.proofs.MatchedCaptures.{stuck_to}
+use Rattle.law_pair.proofs.PairVerdict.{kept_before}
 use Rattle.tftp_pair_judge.specs.{WasSent, with_held, Waits, AreMergedBut, IsWaitFor, IsSideAfter, Side, IsLeftAfter, IsRestAfter, Left, AreCarried, AreCountsOf, IsReadOf, GoesNoFurther, IsWhyWaiting, Wait, Unsent, SentLater}
 use Rattle.tftp_pair_judge.specs.Rest.{Rest}
 use Rattle.tftp_counts.specs.{AreCounted, AreLostBetween, AreRepeatedBetween, Counted, Carried}

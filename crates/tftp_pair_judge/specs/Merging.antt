@@ -3,7 +3,7 @@ use Rattle.std.specs.Prelude.{◌≡◌, ℕ, true, List, ◌∷◌, Option, Som
 use Rattle.tftp_packet.specs.{Message, Spells}
 use Rattle.tftp_packet.specs.Hosts.{In, Out, Datagram, Header}
 use Rattle.law_model.specs.Rules.{route_of, is_of_transfer, transfer_of, Passed}
-use Rattle.tftp_pair.specs.{AreMergedBy}
+use Rattle.law_pair.specs.{AreMergedBy}
 use Rattle.tftp_pair_judge.specs.declared.waiting.Wait.{Wait}
 use Rattle.tftp_pair_judge.specs.declared.waiting.Wait.TheVariants.{Unsent, SentLater}
 

@@ -1,7 +1,7 @@
 -- What was read of a capture, and when no more of it is to come.
 use Rattle.std.specs.Prelude.{◌≡◌, ◌≤◌, ◌⊎◌, ℕ, List, length, take, reverse, Option, Some, None}
 use Rattle.tftp_packet.specs.Hosts.{Datagram}
-use Rattle.tftp_pair.specs.{Capture, IsSentLater, IsUnsent, begun, passed_in}
+use Rattle.law_pair.specs.{Capture, IsSentLater, IsUnsent, begun, passed_in}
 use Rattle.tftp_counts.specs.{AreCounted, AreLostBetween, AreRepeatedBetween, Counted, Carried}
 use Rattle.tftp_pair_judge.specs.declared.waiting.Wait.{Wait}
 use Rattle.tftp_pair_judge.specs.declared.waiting.Wait.TheVariants.{Unsent, SentLater}

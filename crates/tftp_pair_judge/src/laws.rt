@@ -3,7 +3,7 @@
 ghost use Rattle.std.specs.Prelude.{◌≡◌, ℕ, List, Option, length};
 ghost use Rattle.tftp_packet.specs.Hosts.{Datagram};
 ghost use Rattle.law_end.specs.{OneEnded};
-ghost use Rattle.tftp_pair.specs.{Capture, IsLawfulTo, IsPairVerdict};
+ghost use Rattle.law_pair.specs.{Capture, IsLawfulTo, IsPairVerdict};
 ghost use Rattle.tftp_pair_judge.specs.Merging.{AreMergedBut};
 ghost use Rattle.tftp_pair_judge.specs.Verdicts.{GoesNoFurther, IsReadOf, IsWhyWaiting};
 ghost use Rattle.tftp_pair_judge.specs.declared.waiting.Wait.{Wait};

@@ -5,7 +5,7 @@ ghost use Rattle.tftp_packet.specs.Hosts.{Datagram as DatagramParts, Header as H
 ghost use Rattle.law_model.specs.Rules.{transfer_of};
 ghost use Rattle.law_model.specs.Model.Roles.{other_end};
 ghost use Rattle.tftp_judge.specs.{Refuses, TakesForJoin, IsVerdict, Refusal as RefusalKind};
-ghost use Rattle.tftp_pair.specs.{Capture, IsLawfulTo, IsPairVerdict};
+ghost use Rattle.law_pair.specs.{Capture, IsLawfulTo, IsPairVerdict};
 ghost use Rattle.tftp_pair_judge.specs.Merging.{IsWaitFor, with_held};
 ghost use Rattle.tftp_pair_judge.specs.Kept.{CountsOn, IsSideAfter};
 ghost use Rattle.tftp_pair_judge.specs.Rest.{IsLeftAfter, IsRestAfter, left_at};
