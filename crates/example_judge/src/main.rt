@@ -8,7 +8,7 @@ ghost use Rattle.law_end.specs.{Shows};
 use std::alloc::{AllocError, Global};
 use std::io;
 use std::process::ExitCode;
-use tftp_blocks::RingDelivered;
+use tftp_ends::blocks::RingDelivered;
 use tftp_capture::{Datagram, Header};
 use tftp_packet::hosts::{Dir, Host};
 use tftp_judge::{Judge, Meaning, Refusal};

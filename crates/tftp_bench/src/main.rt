@@ -10,7 +10,7 @@ use memchr::{memchr, memrchr};
 use std::alloc::Global;
 use std::io::{ErrorKind, Read, Write};
 use std::{env, io};
-use tftp_blocks::{MapDelivered, RingDelivered};
+use tftp_ends::blocks::{MapDelivered, RingDelivered};
 use tftp_capture::{CaptureReader, CaptureWriter, Datagram, Header};
 use tftp_packet::hosts::Dir;
 use tftp_netascii::{Decoder, encode};

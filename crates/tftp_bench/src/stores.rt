@@ -5,7 +5,7 @@ ghost use Rattle.std.specs.Prelude.{◌≤◌, length, IfOk};
 use std::alloc::Global;
 use std::io;
 use std::io::Read;
-use tftp_blocks::Delivered;
+use tftp_ends::blocks::Delivered;
 
 /// The most blocks that a store can hold, and the window of each.
 const MOST: u16 = 65_535;

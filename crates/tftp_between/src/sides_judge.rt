@@ -11,7 +11,7 @@ ghost use Rattle.tftp_views.specs.{held_of};
 use crate::passing::passed;
 use std::alloc::{AllocError, Global};
 use std::marker::Model;
-use tftp_blocks::Delivered;
+use tftp_ends::blocks::Delivered;
 use tftp_judge::Meaning;
 use law_tap::Sides;
 use tftp_tap_judge::{TapDatagram, TapJudge, TapRefusal};

@@ -7,7 +7,7 @@ use crate::passing::Passing;
 use crate::spoilt::{Spoilt, first_spoilt};
 use crate::twice::Twice;
 use std::alloc::{AllocError, Global};
-use tftp_blocks::RingDelivered;
+use tftp_ends::blocks::RingDelivered;
 use tftp_judge::{Meaning, Refusal};
 use tftp_lines::{Doubts, Endpoint, Place, Transfer};
 use tftp_recording_judge::Watched;

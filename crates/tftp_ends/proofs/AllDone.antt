@@ -4,10 +4,10 @@ use Rattle.std.proofs.lemmas.Bool.{eqb-true}
 use Rattle.tftp_packet.specs.{Ack}
 use Rattle.tftp_packet.specs.Hosts.{In, Out, Datagram}
 use Rattle.law_model.specs.Rules.{Passed, IsLast, Terms, IsJoined}
-use Rattle.tftp_blocks.specs.{Held, IsHeldFront, IsJoin}
+use Rattle.tftp_ends.specs.Blocks.{Held, IsHeldFront, IsJoin}
 use Rattle.tftp_ends.specs.{AreBlocks, IsHeld, Sender, Receiver, IsSenderAfter, IsReceiverAfter, IsAllAnswered, IsAllTaken, IsSound, IsSoundSender, IsSoundReceiver, IsEnd, Sends, Receives, HoldsWire}
 use Rattle.tftp_ends.proofs.HeldWire.{joined_held, last_is_front}
-use Rattle.tftp_blocks.proofs.Orderly.{front_unique}
+use Rattle.tftp_ends.proofs.BlocksLemmas.Orderly.{front_unique}
 use Rattle.tftp_ends.proofs.SoundStates.{held_from_one, front_reaches}
 use Rattle.tftp_ends.proofs.ReceiverRules.{front_is, front_one}
 

@@ -5,7 +5,7 @@ use Rattle.std.proofs.lemmas.Nat.{mod_below}
 use Rattle.std.specs.FinMap as map
 use Rattle.tftp_packet.specs.Hosts.{Datagram}
 use Rattle.law_model.specs.Rules.{IsLast, IsNotLengthOf, HasWrongLength, Terms}
-use Rattle.tftp_blocks.specs.{Held, IsHeldLast, IsHighest, IsOrderly}
+use Rattle.tftp_ends.specs.Blocks.{Held, IsHeldLast, IsHighest, IsOrderly}
 use Rattle.tftp_ends.specs.{AreBlocks, AreWhole, IsHeld, HasLengthBySize, IsShortTop, IsEnd, EndsThere, HasRightLength, IsSound}
 
 less_than_size : (size b : ℕ) → 8 ≤ b → size % b < b

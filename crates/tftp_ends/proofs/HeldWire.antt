@@ -8,7 +8,7 @@ use Rattle.std.specs.FinMap as map
 use Rattle.tftp_packet.specs.Hosts.{Datagram}
 use Rattle.law_model.specs.Model.{block, block_count}
 use Rattle.law_model.specs.Rules.{IsJoined, Terms}
-use Rattle.tftp_blocks.specs.{Held, IsHeldFront, IsJoin}
+use Rattle.tftp_ends.specs.Blocks.{Held, IsHeldFront, IsJoin}
 use Rattle.tftp_ends.specs.{AreBlocks, IsHeld, IsEnd, AreWholeBelow}
 use Rattle.law_model.proofs.RulesLemmas.Joined.{block_added, block_kept}
 

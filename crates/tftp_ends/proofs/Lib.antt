@@ -1,3 +1,4 @@
+pub mod BlocksLemmas
 pub mod Passing
 pub mod AfterSender
 pub mod SoundStates

@@ -6,9 +6,9 @@ use Rattle.tftp_packet.specs.{Message, Request, Data, Ack, Error, Oack, Spells, 
 use Rattle.tftp_packet.proofs.Unique.{message_opcode, layout_opcode, one_message}
 use Rattle.tftp_packet.specs.Hosts.{Dir, In, Out, Datagram}
 use Rattle.law_model.specs.Rules.{goes_out, begins_error, Passed, HasPassed, BlockPassed, IsGreatest, brings_error, usable}
-use Rattle.tftp_blocks.specs.{Held, Placing, Differs, Places}
+use Rattle.tftp_ends.specs.Blocks.{Held, Placing, Differs, Places}
 use Rattle.tftp_ends.specs.{has_stopped, AreBlocks, Says, IsAside}
-use Rattle.tftp_blocks.proofs.Stores.{placed_is_held, others_are_kept}
+use Rattle.tftp_ends.proofs.BlocksLemmas.Stores.{placed_is_held, others_are_kept}
 
 -- ---- one datagram
 

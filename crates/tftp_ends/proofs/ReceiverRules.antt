@@ -5,7 +5,7 @@ use Rattle.std.specs.FinMap as map
 use Rattle.tftp_packet.specs.{NoneBelow, Data, Ack}
 use Rattle.tftp_packet.specs.Hosts.{In, Out, Datagram}
 use Rattle.law_model.specs.Rules.{Passed, HasPassed, IsFront, IsAckedAt, IsReachedAt, IsSender, end_number, EndBroken, FirstEndBroken, AckZeroWaits, usable, EndRule, BlockChanged, AckAhead, AckZero}
-use Rattle.tftp_blocks.specs.{IsHighest, IsHeldFront}
+use Rattle.tftp_ends.specs.Blocks.{IsHighest, IsHeldFront}
 use Rattle.tftp_ends.specs.{Receiver, IsReceiverAfter, IsHeld, IsSoundReceiver, IsKnown, CannotHold, IsFound, NoneBroken, Rejection}
 use Rattle.law_model.proofs.RulesLemmas.EndRules.{none_more}
 use Rattle.tftp_ends.proofs.FirstRules.{before_26, no_block_rule, no_ack_rule}

@@ -6,7 +6,7 @@ use Rattle.tftp_packet.specs.{NoneBelow, Data, Ack, Side, Get, Put, End, Client,
 use Rattle.tftp_packet.specs.Hosts.{Dir, In, Out, Datagram}
 use Rattle.law_model.specs.Model.Roles.{sender_of, receiver_of}
 use Rattle.law_model.specs.Rules.{author_of, Passed, HasPassed, BlockPassed, IsTop, IsAckedAt, IsReachedAt, end_number, EndBroken, FirstEndBroken, AckZeroWaits, usable, EndRule, BlockSkipped, GoneBack, BlockChanged, AckAhead, AckZero}
-use Rattle.tftp_blocks.specs.{IsHighest}
+use Rattle.tftp_ends.specs.Blocks.{IsHighest}
 use Rattle.tftp_ends.specs.{Sender, IsSenderAfter, IsHeld, IsSoundSender, IsKnown, CannotHold, IsFound, NoneBroken, Rejection}
 use Rattle.law_model.proofs.RulesLemmas.EndRules.{none_more}
 use Rattle.tftp_ends.proofs.FirstRules.{before_26, no_block_rule, no_ack_rule}

@@ -1,3 +1,4 @@
+pub mod Blocks
 pub mod Rows
 pub mod Known
 pub mod States

@@ -4,7 +4,7 @@ use Rattle.std.specs.Prelude.{◌≡◌, ℕ, List, Some}
 use Rattle.std.specs.FinMap as map
 use Rattle.tftp_packet.specs.Hosts.{Datagram}
 use Rattle.law_model.specs.Rules.{IsJoined, IsLast, Terms}
-use Rattle.tftp_blocks.specs.{Held, IsHeldFront, IsJoin}
+use Rattle.tftp_ends.specs.Blocks.{Held, IsHeldFront, IsJoin}
 use Rattle.tftp_ends.specs.States.{Sender, Receiver, IsSenderAfter, IsReceiverAfter, IsAllAnswered, IsAllTaken}
 
 -- the state of the sender or of the receiver

@@ -4,7 +4,7 @@ use Rattle.std.specs.FinMap as map
 use Rattle.tftp_packet.specs.{Message}
 use Rattle.tftp_packet.specs.Hosts.{Datagram}
 use Rattle.law_model.specs.Rules.{EndBroken, FirstEndBroken, EndRule, BlockChanged, Terms}
-use Rattle.tftp_blocks.specs.{Held}
+use Rattle.tftp_ends.specs.Blocks.{Held}
 use Rattle.tftp_ends.specs.declared.rejection.Rejection.{Rejection}
 use Rattle.tftp_ends.specs.declared.rejection.Rejection.TheVariants.{Broken, Memory}
 

@@ -7,7 +7,7 @@ use Rattle.tftp_packet.specs.{Message, Request, Data, Ack, Error, Oack, Spells}
 use Rattle.tftp_packet.specs.Hosts.{Dir, In, Out, Datagram}
 use Rattle.law_model.specs.Model.Roles.{sender_of, receiver_of}
 use Rattle.law_model.specs.Rules.{author_of, Passed, HasPassed, brings_error, usable, IsTop, IsAnswered, IsAcked, IsFront, IsLast, Reply, Terms}
-use Rattle.tftp_blocks.specs.{Held}
+use Rattle.tftp_ends.specs.Blocks.{Held}
 
 -- an ERROR of the other end has come in
 abbrev pub has_stopped : List Datagram → Bool

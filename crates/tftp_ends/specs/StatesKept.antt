@@ -5,7 +5,7 @@ use Rattle.std.specs.FinMap as map
 use Rattle.tftp_packet.specs.{Ack, side_code, Side, End, Client, Server}
 use Rattle.tftp_packet.specs.Hosts.{Datagram}
 use Rattle.law_model.specs.Rules.{HasPassed, IsSender, IsReceiver, IsAckedAt, usable, Reply, NoReply, Plain, Oacked, Terms}
-use Rattle.tftp_blocks.specs.{Held, IsHighest, IsHeldLast}
+use Rattle.tftp_ends.specs.Blocks.{Held, IsHighest, IsHeldLast}
 use Rattle.tftp_ends.specs.States.{Sender, Receiver, AreBlocks, IsHeld, HasLengthBySize}
 
 -- each block that is held has the length that an agreed size leaves it

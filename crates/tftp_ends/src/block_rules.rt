@@ -4,7 +4,7 @@ ghost use Rattle.std.specs.Prelude.{◌≡◌, ◌↔◌, ℕ, ◌≤◌, List, 
 ghost use Rattle.std.specs.FinMap as map;
 ghost use Rattle.tftp_packet.specs.{Data, Ack, NoneBelow};
 ghost use Rattle.tftp_packet.specs.Hosts.{Datagram};
-ghost use Rattle.tftp_blocks.specs.{IsHighest, IsOrderly, Takes, Placing, Places};
+ghost use Rattle.tftp_ends.specs.Blocks.{IsHighest, IsOrderly, Takes, Placing, Places};
 ghost use Rattle.law_model.specs.Rules.{HasPassed, HasWrongLength, BlocksWait, AckZeroWaits, EndBroken, FirstEndBroken, end_number};
 ghost use Rattle.tftp_ends.specs.Rejections.{CannotHold};
 ghost use Rattle.tftp_ends.specs.States.{AreBlocks, HasLengthBySize, IsHeld};
@@ -12,7 +12,7 @@ ghost use Rattle.tftp_ends.specs.StatesKept.{IsSound, IsShortTop, AreWhole, IsEn
 
 use crate::rejection::Rejection;
 use std::alloc::Global;
-use tftp_blocks::{Delivered, PutOutcome};
+use crate::blocks::{Delivered, PutOutcome};
 use tftp_packet::Side;
 use law_model::rules::{EndRule, Reply, Terms};
 

@@ -2,6 +2,7 @@
 #![tactic(auto)]
 
 mod block_rules;
+pub mod blocks;
 mod linked;
 mod named_end;
 mod ports;

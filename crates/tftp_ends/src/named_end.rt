@@ -2,7 +2,7 @@ ghost use Rattle.std.specs.Prelude.{◌≡◌, ◌↔◌, ◌≤◌, List, ◌�
 ghost use Rattle.tftp_packet.specs.{meaning};
 ghost use Rattle.tftp_packet.specs.Hosts.{Datagram};
 ghost use Rattle.law_model.specs.Model.Roles.{sender_of as sends};
-ghost use Rattle.tftp_blocks.specs.{nothing_held};
+ghost use Rattle.tftp_ends.specs.Blocks.{nothing_held};
 ghost use Rattle.tftp_ends.specs.Rejections.{IsFound};
 ghost use Rattle.tftp_ends.specs.States.{has_stopped, IsBeforeBlocks, IsBlockOrAck, IsNewBlock, IsOfItsAuthor, Says};
 ghost use Rattle.tftp_ends.specs.NamedEnds.{terms_of, held_of, IsEndAfter, IsEndDone, HoldsBlock, HoldsWire};
@@ -13,7 +13,7 @@ use crate::rejection::Rejection;
 use crate::sender_state::SenderState;
 use std::alloc::Global;
 use std::marker::Model;
-use tftp_blocks::Delivered;
+use crate::blocks::Delivered;
 use tftp_packet::hosts::Dir;
 use tftp_packet::{End, Packet, Side};
 use law_model::rules::Terms;

@@ -2,7 +2,7 @@ ghost use Rattle.std.specs.Prelude.{◌≡◌, ◌↔◌, ℕ, ◌≤◌, List, 
 ghost use Rattle.std.specs.FinMap as map;
 ghost use Rattle.tftp_packet.specs.{Data, Ack, Error, meaning};
 ghost use Rattle.tftp_packet.specs.Hosts.{In, Out, Datagram};
-ghost use Rattle.tftp_blocks.specs.{nothing_held};
+ghost use Rattle.tftp_ends.specs.Blocks.{nothing_held};
 ghost use Rattle.law_model.specs.Rules.{IsReceiver, FirstEndBroken};
 ghost use Rattle.tftp_ends.specs.NamedEnds.{Receives, HoldsWire};
 ghost use Rattle.tftp_ends.specs.Rejections.{IsFound, NoneBroken};
@@ -23,7 +23,7 @@ use crate::block_rules::{ack_zero_waits, hold_block, last_block, may_open};
 use crate::rejection::Rejection;
 use std::alloc::Global;
 use std::marker::Model;
-use tftp_blocks::Delivered;
+use crate::blocks::Delivered;
 use tftp_packet::hosts::Dir;
 use tftp_packet::Packet;
 use law_model::rules::{EndRule, Terms};

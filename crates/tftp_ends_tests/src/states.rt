@@ -5,7 +5,7 @@ ghost use Rattle.law_model.specs.Model.Roles.{sender_of as sends_for, receiver_o
 
 use std::alloc::{AllocError, Global};
 use std::test::Fail;
-use tftp_blocks::{Delivered, MapDelivered, RingDelivered};
+use tftp_ends::blocks::{Delivered, MapDelivered, RingDelivered};
 use tftp_ends::{ReceiverState, Rejection, SenderState};
 use tftp_packet::hosts::Dir;
 use tftp_packet::{End, Packet, Side};

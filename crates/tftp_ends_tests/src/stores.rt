@@ -2,7 +2,7 @@
 
 use std::alloc::AllocError;
 use std::test::Fail;
-use tftp_blocks::{Delivered, MapDelivered, PutOutcome, RingDelivered};
+use tftp_ends::blocks::{Delivered, MapDelivered, PutOutcome, RingDelivered};
 
 /// A call of a store, and what it answers.
 enum Step {

@@ -10,7 +10,7 @@ use Rattle.law_model.specs.Model.{Meaning, option_or}
 use Rattle.tftp_ends.specs.{NamedEnd, Sends, Receives, terms_of, held_of, IsEndAfter, IsEndDone, HoldsWire, AreBlocks, IsHeld, IsBeforeBlocks}
 use Rattle.law_model.specs.Rules.{transfer_of, Passed, Terms, NoReply}
 use Rattle.law_model.specs.Model.Roles.{sender_of, receiver_of}
-use Rattle.tftp_blocks.specs.{Held, IsHeldFront, IsJoin}
+use Rattle.tftp_ends.specs.Blocks.{Held, IsHeldFront, IsJoin}
 use Rattle.law_end.specs.{CanBeWritten, ReadsAs, written_wire, IsWritable, OneEnded, IsAgreed, IsEnded, IsWhole, Meant, meaning_from, Answer, AreTerms, FirstAnswer, FirstAsked, NotAnswered, plain_terms, terms_after}
 use Rattle.law_end.proofs.Written.EachOf.{all_reverse}
 use Rattle.law_end.proofs.FirstBroken.FirstAnswered.{known_by, terms_one, first_one}

@@ -5,7 +5,7 @@ use Rattle.tftp_packet.specs.{OptionMap, Message}
 use Rattle.tftp_packet.specs.Hosts.{Dir, Datagram, Header}
 use Rattle.tftp_ends.specs.{IsNewStray, AreBlocks}
 use Rattle.law_model.specs.Rules.{transfer_of, HasPassed, Passed}
-use Rattle.tftp_blocks.specs.{Held}
+use Rattle.tftp_ends.specs.Blocks.{Held}
 use Rattle.law_end.specs.{Says}
 
 -- the first request, the first OACK, a block of which none with its number has passed, or the first ERROR that goes this way

@@ -1,12 +1,12 @@
 //! The file of a whole transfer.
 
 ghost use Rattle.std.specs.Prelude.{◌≡◌, ◌/◌, ◌+◌, ◌≤◌, ℕ, List, length, MatchOption, IfOk, OnErr};
-ghost use Rattle.tftp_blocks.specs.{IsHeldFront, IsJoin};
+ghost use Rattle.tftp_ends.specs.Blocks.{IsHeldFront, IsJoin};
 ghost use Rattle.law_end.specs.{ReadsAs, written_wire};
 
 use std::alloc::{AllocError, Global};
 use std::marker::Model;
-use tftp_blocks::Delivered;
+use tftp_ends::blocks::Delivered;
 use tftp_netascii::{Lengths, decode_in_place, file_lengths};
 use tftp_packet::Mode;
 

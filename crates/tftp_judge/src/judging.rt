@@ -18,7 +18,7 @@ use crate::refusal::Refusal;
 use crate::sent_acks::SentAcks;
 use std::alloc::Global;
 use std::marker::Model;
-use tftp_blocks::Delivered;
+use tftp_ends::blocks::Delivered;
 use tftp_capture::{Datagram, Header};
 use tftp_packet::Packet;
 

@@ -16,7 +16,7 @@ use crate::sent_acks::SentAcks;
 use crate::transfer::Transfer;
 use std::alloc::Global;
 use std::marker::Model;
-use tftp_blocks::Delivered;
+use tftp_ends::blocks::Delivered;
 use tftp_capture::{Datagram, Header};
 use tftp_ends::{PortFault, Ports, Route, says_unknown_id};
 use tftp_packet::hosts::Dir;

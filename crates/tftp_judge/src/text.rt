@@ -9,7 +9,7 @@ use crate::meaning::Meaning;
 use crate::verdict::Verdict;
 use std::alloc::Global;
 use std::io::Read;
-use tftp_blocks::RingDelivered;
+use tftp_ends::blocks::RingDelivered;
 use tftp_capture::{CaptureReader, Datagram};
 use net_streams::streams::Latched;
 

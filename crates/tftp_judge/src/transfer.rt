@@ -24,7 +24,7 @@ use crate::refusal::Refusal;
 use crate::sent_acks::SentAcks;
 use std::alloc::Global;
 use std::marker::Model;
-use tftp_blocks::Delivered;
+use tftp_ends::blocks::Delivered;
 use tftp_ends::NamedEnd;
 use tftp_packet::hosts::Dir;
 use law_end::Rule;

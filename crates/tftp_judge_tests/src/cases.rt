@@ -3,7 +3,7 @@
 
 use crate::verdicts::{is_judged, is_verdict};
 use std::test::Fail;
-use tftp_blocks::{MapDelivered, RingDelivered};
+use tftp_ends::blocks::{MapDelivered, RingDelivered};
 use tftp_trials::normals;
 use tftp_trials::scripts::Script;
 

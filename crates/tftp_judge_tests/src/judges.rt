@@ -4,7 +4,7 @@ use crate::verdicts::{accepted_line, refused_line};
 use std::alloc::{AllocError, Global};
 use std::marker::Model;
 use std::test::Fail;
-use tftp_blocks::{Delivered, MapDelivered, RingDelivered};
+use tftp_ends::blocks::{Delivered, MapDelivered, RingDelivered};
 use tftp_capture::{Datagram, Header};
 use tftp_packet::hosts::{Dir, Host};
 use tftp_judge::{FileBytes, Judge, Meaning, Refusal, Rule};

@@ -3,7 +3,7 @@
 use crate::judges::{End, Judging};
 use std::alloc::{AllocError, Global};
 use std::test::Fail;
-use tftp_blocks::Delivered;
+use tftp_ends::blocks::Delivered;
 use tftp_capture::CaptureFault;
 use tftp_capture_tests::reading::Reading;
 use tftp_judge::{AbortedBy, Meaning, Refusal, Rule, Verdict, judge_text};

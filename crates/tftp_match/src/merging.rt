@@ -8,7 +8,7 @@ ghost use Rattle.tftp_match.specs.Reading.{seen};
 use crate::reading::{Halt, Reading};
 use std::alloc::Global;
 use std::io::Read;
-use tftp_blocks::RingDelivered;
+use tftp_ends::blocks::RingDelivered;
 use tftp_capture::Datagram;
 use tftp_packet::End;
 use tftp_pair_judge::PairJudge;

@@ -16,7 +16,7 @@ use crate::reading::{Reading, said_of};
 use crate::said::{Apart, PairSaid, together_of};
 use std::alloc::Global;
 use std::io::Read;
-use tftp_blocks::RingDelivered;
+use tftp_ends::blocks::RingDelivered;
 use tftp_capture::{CaptureReader, Datagram};
 use tftp_judge::{Judge, Meaning, Verdict, judge_text};
 use tftp_packet::End;

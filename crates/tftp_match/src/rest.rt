@@ -9,7 +9,7 @@ ghost use Rattle.tftp_match.specs.declared.reading.Halt.{Halt as HaltKind};
 use crate::reading::{Halt, Reading};
 use std::alloc::Global;
 use std::io::Read;
-use tftp_blocks::RingDelivered;
+use tftp_ends::blocks::RingDelivered;
 use tftp_capture::Datagram;
 use tftp_judge::Judge;
 use tftp_packet::End;

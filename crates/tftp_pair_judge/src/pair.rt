@@ -12,7 +12,7 @@ use crate::rest::{Left, PairRest};
 use crate::side::Side;
 use std::alloc::Global;
 use std::marker::Model;
-use tftp_blocks::Delivered;
+use tftp_ends::blocks::Delivered;
 use tftp_capture::{Datagram, Header};
 use tftp_judge::Refusal;
 use tftp_packet::End;

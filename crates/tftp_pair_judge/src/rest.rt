@@ -16,7 +16,7 @@ use crate::side::Side;
 use crate::waiting::Wait;
 use std::alloc::Global;
 use std::marker::Model;
-use tftp_blocks::Delivered;
+use tftp_ends::blocks::Delivered;
 use tftp_capture::Datagram;
 use tftp_counts::{Carried, Counts};
 use tftp_judge::{Meaning, Refusal};

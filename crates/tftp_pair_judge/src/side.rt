@@ -12,7 +12,7 @@ use crate::waiting::Wait;
 use std::alloc::Global;
 use std::marker::Model;
 use std::mem;
-use tftp_blocks::Delivered;
+use tftp_ends::blocks::Delivered;
 use tftp_capture::{Datagram, Header};
 use tftp_counts::{Carried, Counts};
 use tftp_packet::hosts::Dir;

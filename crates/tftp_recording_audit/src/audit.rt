@@ -20,7 +20,7 @@ ghost use Rattle.tftp_lines.specs.{clock, line, live, Recorded};
 use crate::next::{AuditFault, NextFrame};
 use std::alloc::{AllocError, Global};
 use std::io::Read;
-use tftp_blocks::Delivered;
+use tftp_ends::blocks::Delivered;
 use tftp_lines::{Endpoint, spells_request};
 use tftp_parties::party_of;
 use net_udp::recording::{Datagram, Event, Fate, RecordingReader};

@@ -11,7 +11,7 @@ use crate::judging::Judging;
 use crate::watched::Watched;
 use std::alloc::{AllocError, Global};
 use std::collections::BTreeMap;
-use tftp_blocks::Delivered;
+use tftp_ends::blocks::Delivered;
 use tftp_lines::{Place, Transfer};
 use tftp_transfers::{Attributed, AttributionFault};
 use tftp_views::Fed;

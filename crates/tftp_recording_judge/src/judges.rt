@@ -16,7 +16,7 @@ use crate::verdicts::Verdicts;
 use std::alloc::{AllocError, Global};
 use std::marker::Model;
 use tftp_between::BetweenView;
-use tftp_blocks::Delivered;
+use tftp_ends::blocks::Delivered;
 use tftp_judge::Refusal;
 use tftp_lines::Transfer;
 use tftp_tap_judge::TapRefusal;

@@ -10,7 +10,7 @@ ghost use Rattle.tftp_views.specs.{IsClientAfter, IsFed, IsViewAfter, Naming, fe
 
 use std::alloc::{AllocError, Global};
 use tftp_between::BetweenView;
-use tftp_blocks::Delivered;
+use tftp_ends::blocks::Delivered;
 use tftp_views::{ClientJudge, Fed, ServerView};
 
 /// A judge of a transfer at one point.

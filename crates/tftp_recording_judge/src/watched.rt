@@ -18,7 +18,7 @@ use crate::verdicts::Verdicts;
 use std::alloc::Global;
 use std::marker::Model;
 use tftp_between::BetweenView;
-use tftp_blocks::Delivered;
+use tftp_ends::blocks::Delivered;
 use tftp_lines::Transfer;
 use tftp_transfers::{Attributed, AttributionFault, TransferDoubts};
 use tftp_views::{ClientJudge, Fed, ServerView};

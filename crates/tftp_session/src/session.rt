@@ -11,7 +11,7 @@ use std::alloc::{AllocError, Global};
 use std::collections::BTreeMap;
 use std::io::Read;
 use tftp_blame::{Missing, Passing, Spoilt, Trail, about};
-use tftp_blocks::RingDelivered;
+use tftp_ends::blocks::RingDelivered;
 use tftp_lines::{Endpoint, Place, Transfer};
 use tftp_parties::party_of;
 use net_pcap::{FaultKind, PcapFault};

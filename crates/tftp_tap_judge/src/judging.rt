@@ -10,7 +10,7 @@ use crate::keeping::TapState;
 use crate::refusal::TapRefusal;
 use std::alloc::Global;
 use std::marker::Model;
-use tftp_blocks::Delivered;
+use tftp_ends::blocks::Delivered;
 use tftp_judge::{Meaning, PassError};
 use law_tap::Sides;
 

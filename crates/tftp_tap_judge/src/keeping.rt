@@ -11,7 +11,7 @@ use crate::notes::TapNotes;
 use crate::transfer::{TapTransfer, receiver_of_file};
 use std::alloc::Global;
 use std::marker::Model;
-use tftp_blocks::Delivered;
+use tftp_ends::blocks::Delivered;
 use tftp_capture::Datagram;
 use tftp_ends::says_unknown_id;
 use tftp_packet::hosts::{Dir, Peer};

@@ -16,7 +16,7 @@ use crate::receiving::Receiving;
 use crate::refusal::TapRefusal;
 use std::alloc::Global;
 use std::marker::Model;
-use tftp_blocks::Delivered;
+use tftp_ends::blocks::Delivered;
 use tftp_capture::Datagram;
 use tftp_judge::{Meaning, PassError, Refusal};
 use law_end::Rule;

@@ -14,7 +14,7 @@ use crate::fed::Fed;
 use crate::ways::way_at_client;
 use std::alloc::{AllocError, Global};
 use std::marker::Model;
-use tftp_blocks::Delivered;
+use tftp_ends::blocks::Delivered;
 use tftp_capture::Header;
 use tftp_judge::{Meaning, Refusal};
 use tftp_lines::{Place, Transfer};

@@ -13,7 +13,7 @@ use crate::fed::Fed;
 use crate::ways::captured;
 use std::alloc::{AllocError, Global};
 use std::marker::Model;
-use tftp_blocks::Delivered;
+use tftp_ends::blocks::Delivered;
 use tftp_capture::{Datagram, Header};
 use tftp_packet::hosts::Dir;
 use tftp_judge::{Judge, Meaning, Refusal};

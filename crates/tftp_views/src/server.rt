@@ -16,7 +16,7 @@ use crate::held::Held;
 use crate::ways::{captured, way_at_server};
 use std::alloc::{AllocError, Global};
 use std::marker::Model;
-use tftp_blocks::Delivered;
+use tftp_ends::blocks::Delivered;
 use tftp_capture::Header;
 use tftp_judge::{Meaning, Refusal};
 use tftp_lines::Transfer;

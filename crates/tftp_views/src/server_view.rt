@@ -16,7 +16,7 @@ use std::alloc::{AllocError, Global};
 use std::collections::VecDeque;
 use std::marker::Model;
 use std::mem;
-use tftp_blocks::Delivered;
+use tftp_ends::blocks::Delivered;
 use tftp_judge::{Meaning, Refusal};
 use tftp_lines::Transfer;
 use tftp_transfers::TransferEnds;

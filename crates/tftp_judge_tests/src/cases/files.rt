@@ -1,6 +1,6 @@
 use crate::verdicts::is_file;
 use std::test::Fail;
-use tftp_blocks::{MapDelivered, RingDelivered};
+use tftp_ends::blocks::{MapDelivered, RingDelivered};
 use tftp_trials::scripts::Script;
 
 /// Captures of whole transfers, and their files, in hex digits; `-` where the file is empty.

@@ -1,7 +1,7 @@
 use Rattle.std.proofs.Common.{◌≡◌, ℕ, sym, subst, rules}
 use Rattle.tftp_packet.specs.{Message, meaning, Spells, Packet}
 use Rattle.law_tap.specs.{IsOack}
-use Rattle.tftp_blocks.proofs.Kept.{where_err}
+use Rattle.tftp_ends.proofs.BlocksLemmas.Kept.{where_err}
 use Rattle.tftp_tap_judge.specs.{IsNewBlock, Seen, AreSeen}
 use Rattle.tftp_tap_judge.proofs.SeenNoted.{IsQuiet, oack_seen, zero_seen, quiet_seen}
 use Rattle.tftp_tap_judge.proofs.seen.Seen.note.Goals as goal

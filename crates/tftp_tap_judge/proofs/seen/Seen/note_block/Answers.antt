@@ -1,5 +1,5 @@
 use Rattle.std.proofs.Common.{refl, sym, subst, rules}
-use Rattle.tftp_blocks.proofs.Kept.{where_err}
+use Rattle.tftp_ends.proofs.BlocksLemmas.Kept.{where_err}
 use Rattle.tftp_tap_judge.specs.{Seen, AreSeen}
 use Rattle.tftp_tap_judge.proofs.SeenNoted.{block_again, block_next, block_above, block_absent}
 use Rattle.tftp_tap_judge.proofs.seen.Seen.note_block.Goals as goal
