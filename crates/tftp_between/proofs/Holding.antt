@@ -2,7 +2,7 @@
 use Rattle.std.proofs.Common.{◌≡◌, true, false, List, [], ◌∷◌, ◌++◌, length, Some, None, refl, sym, ap, ◌∙◌, subst, append_assoc, append-nil, map, reverse, Option}
 use Rattle.std.proofs.lemmas.List.{length-map, length-reverse, map-append, reverse-append, reverse-reverse}
 use Rattle.law_tap.specs.{TapDatagram}
-use Rattle.tftp_tap_judge.specs.{passing_of, TapDatagram as Owned}
+use Rattle.judge_tap.specs.{passing_of, TapDatagram as Owned}
 use Rattle.tftp_parties.specs.{host_name}
 use Rattle.tftp_lines.specs.{Transfer, Placed, is_of}
 use Rattle.tftp_transfers.specs.{is_settled}

@@ -2,8 +2,8 @@
 use Rattle.std.proofs.Common.{◌≡◌, List, [], ◌∷◌, Option, Some, None, Result, Ok, Err, refl, sym, ap, ◌∙◌, subst, inl, inr, OnOk, IfErr}
 use Rattle.law_model.specs.Model.{Meaning}
 use Rattle.law_tap.specs.{TapDatagram, TapSides, BreaksNoTapRule, TapPasses}
-use Rattle.tftp_tap_judge.specs.{IsTapJudge, TapJudge, RefusesAtTap, IsTapVerdict, TapRefusal, Unlawful}
-use Rattle.tftp_tap_judge.specs.declared.refusal.TapRefusal.TheVariants.{Memory}
+use Rattle.judge_tap.specs.{IsTapJudge, TapJudge, RefusesAtTap, IsTapVerdict, TapRefusal, Unlawful}
+use Rattle.judge_tap.specs.declared.refusal.TapRefusal.TheVariants.{Memory}
 use Rattle.tftp_between.specs.{HasTapped, IsBetweenVerdict, IsTapRefusedIn, TappedBy}
 
 -- ---- one datagram more

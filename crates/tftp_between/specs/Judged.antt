@@ -3,8 +3,8 @@
 use Rattle.std.specs.Prelude.{◌≡◌, ◌⊎◌, List, ◌∷◌, ◌++◌, Option, Some, None, Result, Err}
 use Rattle.law_model.specs.Model.{Meaning}
 use Rattle.law_tap.specs.{TapDatagram, TapSides, BreaksNoTapRule}
-use Rattle.tftp_tap_judge.specs.{IsTapJudge, TapJudge, RefusesAtTap, IsTapVerdict, TapRefusal, Unlawful}
-use Rattle.tftp_tap_judge.specs.declared.refusal.TapRefusal.TheVariants.{Memory}
+use Rattle.judge_tap.specs.{IsTapJudge, TapJudge, RefusesAtTap, IsTapVerdict, TapRefusal, Unlawful}
+use Rattle.judge_tap.specs.declared.refusal.TapRefusal.TheVariants.{Memory}
 
 -- Those before this one break no rule, and this one was refused.
 pub record IsTapRefusedIn (s : TapSides) (given : List TapDatagram) (refusal : TapRefusal) : Type 0 where

@@ -1,7 +1,7 @@
 -- What the judge between the ends keeps, and for which datagrams of a recording it stands.
 use Rattle.std.specs.Prelude.{◌≡◌, ℕ, true, false, List, [], length, map, reverse, Option, Some, None}
 use Rattle.law_tap.specs.{PeerId, TapDatagram, TapSides}
-use Rattle.tftp_tap_judge.specs.{TapJudge, passing_of, TapDatagram as Owned, TapRefusal}
+use Rattle.judge_tap.specs.{TapJudge, passing_of, TapDatagram as Owned, TapRefusal}
 use Rattle.tftp_lines.specs.{Transfer, Placed}
 use Rattle.tftp_transfers.specs.{TransferEnds, AreEndsAfter, is_settled}
 use Rattle.tftp_views.specs.{Held, Party}

@@ -7,7 +7,7 @@ ghost use Rattle.tftp_between.specs.Judged.{IsBetweenVerdict};
 ghost use Rattle.tftp_between.specs.Kept.{AreHeld, HasPassed, IsBetweenAfter, counted_by, given_to, has_refused};
 ghost use Rattle.tftp_parties.specs.{host_name};
 ghost use Rattle.law_tap.specs.{AreApart, TapDatagram as Passing};
-ghost use Rattle.tftp_tap_judge.specs.{TapDatagram as Owned, TapRefusal as RefusalKind};
+ghost use Rattle.judge_tap.specs.{TapDatagram as Owned, TapRefusal as RefusalKind};
 ghost use Rattle.tftp_lines.specs.{Placed, is_of};
 ghost use Rattle.tftp_transfers.specs.{is_settled, client_view};
 ghost use Rattle.tftp_views.specs.{IsFed, held_of};
@@ -22,7 +22,7 @@ use tftp_ends::blocks::Delivered;
 use tftp_judge::Meaning;
 use tftp_lines::Transfer;
 use law_tap::Sides;
-use tftp_tap_judge::{TapDatagram, TapRefusal};
+use judge_tap::{TapDatagram, TapRefusal};
 use tftp_transfers::TransferEnds;
 use tftp_views::Fed;
 
@@ -44,7 +44,7 @@ impl<D: Delivered + Drop> Model for BetweenView<D> {
     ghost use Rattle.tftp_between.specs.Kept.{View};
     ghost use Rattle.tftp_ends.specs.StatesKept.{sender_code, receiver_code};
     ghost use Rattle.tftp_packet.specs.Owned.{options_code, parts_code};
-    ghost use Rattle.tftp_tap_judge.specs.declared.datagram.TapDatagram.{TapDatagram as Owned};
+    ghost use Rattle.judge_tap.specs.declared.datagram.TapDatagram.{TapDatagram as Owned};
 
     ghost Value = { View };
 

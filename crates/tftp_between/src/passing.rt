@@ -3,7 +3,7 @@
 ghost use Rattle.std.specs.Prelude.{◌≡◌, ℕ, List, length, IfOk};
 ghost use Rattle.tftp_between.specs.Captured.{peer_of, sides_of};
 ghost use Rattle.tftp_between.specs.Kept.{passed_as, side_of};
-ghost use Rattle.tftp_tap_judge.specs.{passing_of};
+ghost use Rattle.judge_tap.specs.{passing_of};
 ghost use Rattle.tftp_transfers.specs.{AreEndsAfter};
 ghost use Rattle.tftp_lines.specs.{Placed};
 ghost use Rattle.tftp_views.specs.{held_of};
@@ -14,7 +14,7 @@ use tftp_lines::{Endpoint, Transfer};
 use tftp_packet::Bytes;
 use tftp_parties::host_of;
 use law_tap::Sides;
-use tftp_tap_judge::TapDatagram;
+use judge_tap::TapDatagram;
 use tftp_transfers::TransferEnds;
 use tftp_views::{Fed, Party};
 

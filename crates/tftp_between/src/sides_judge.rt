@@ -5,7 +5,7 @@ ghost use Rattle.tftp_between.specs.Captured.{are_apart};
 ghost use Rattle.tftp_between.specs.Judged.{HasTapped, IsBetweenVerdict};
 ghost use Rattle.tftp_between.specs.Kept.{HasPassed, counted_by, passed_as, refused_by};
 ghost use Rattle.law_tap.specs.{AreApart, TapDatagram as Passing, TapSides};
-ghost use Rattle.tftp_tap_judge.specs.{passing_of, TapRefusal as RefusalKind};
+ghost use Rattle.judge_tap.specs.{passing_of, TapRefusal as RefusalKind};
 ghost use Rattle.tftp_views.specs.{held_of};
 
 use crate::passing::passed;
@@ -14,7 +14,7 @@ use std::marker::Model;
 use tftp_ends::blocks::Delivered;
 use tftp_judge::Meaning;
 use law_tap::Sides;
-use tftp_tap_judge::{TapDatagram, TapJudge, TapRefusal};
+use judge_tap::{TapDatagram, TapJudge, TapRefusal};
 use tftp_views::Fed;
 
 /// The judge of what passes between two sides. Where the client is the server too, or where it asks, there is none: then it

@@ -4,7 +4,7 @@ use crate::passing::Passing;
 use std::alloc::{AllocError, Global};
 use tftp_judge::{Meaning, Refusal};
 use tftp_lines::{Endpoint, Place};
-use tftp_tap_judge::TapRefusal;
+use judge_tap::TapRefusal;
 use tftp_transfers::TransferEnds;
 
 /// Where a transfer was refused.

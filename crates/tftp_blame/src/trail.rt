@@ -11,7 +11,7 @@ use tftp_ends::blocks::RingDelivered;
 use tftp_judge::{Meaning, Refusal};
 use tftp_lines::{Doubts, Endpoint, Place, Transfer};
 use tftp_recording_judge::Watched;
-use tftp_tap_judge::TapRefusal;
+use judge_tap::TapRefusal;
 use tftp_transfers::{Attributed, TransferDoubts, TransferEnds};
 
 /// A transfer, as far as it was read.

@@ -9,7 +9,7 @@ use Rattle.tftp_views.specs.{Party, Naming, Client, IsClientAfter, IsViewAfter, 
 use Rattle.tftp_parties.specs.{host_name}
 use Rattle.tftp_between.specs.{IsBetweenAfter, View as Between, given_to}
 use Rattle.tftp_judge.specs.declared.refusal.Refusal.TheVariants.{Memory}
-use Rattle.tftp_tap_judge.specs.declared.refusal.TapRefusal.TheVariants.{Memory as TapMemory}
+use Rattle.judge_tap.specs.declared.refusal.TapRefusal.TheVariants.{Memory as TapMemory}
 use Rattle.tftp_recording_judge.specs.declared.judging.Judging.{Judging}
 use Rattle.tftp_recording_judge.specs.declared.judging.Points.{Points}
 use Rattle.tftp_recording_judge.specs.declared.verdicts.Verdicts.{Verdicts}

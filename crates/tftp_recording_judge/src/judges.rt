@@ -5,7 +5,7 @@ ghost use Rattle.tftp_between.specs.{between_capture, is_to_itself, sides_of, Is
 ghost use Rattle.tftp_parties.specs.{host_name};
 ghost use Rattle.tftp_recording_judge.specs.Kept.{AreAt, AreFew, AreJudgesAfter, AreOf, AreTold, AreWants, IsCrowded};
 ghost use Rattle.law_tap.specs.{AreApart};
-ghost use Rattle.tftp_tap_judge.specs.{TapRefusal as RefusalKind};
+ghost use Rattle.judge_tap.specs.{TapRefusal as RefusalKind};
 ghost use Rattle.tftp_lines.specs.{Placed, Transfer};
 ghost use Rattle.tftp_transfers.specs.{is_about};
 ghost use Rattle.tftp_views.specs.{Naming, client_capture, client_header, server_capture, server_header, IsJudgedWith, IsFed, held_of};
@@ -19,7 +19,7 @@ use tftp_between::BetweenView;
 use tftp_ends::blocks::Delivered;
 use tftp_judge::Refusal;
 use tftp_lines::Transfer;
-use tftp_tap_judge::TapRefusal;
+use judge_tap::TapRefusal;
 use tftp_views::{ClientJudge, Fed, ServerView};
 
 /// How many datagrams a judge can count.

@@ -1,5 +1,5 @@
 use tftp_judge::{Meaning, Refusal};
-use tftp_tap_judge::TapRefusal;
+use judge_tap::TapRefusal;
 
 /// What there is to say of a transfer at each point where it was judged.
 #[derive(Drop)]

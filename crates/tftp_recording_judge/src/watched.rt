@@ -7,7 +7,7 @@ ghost use Rattle.tftp_recording_judge.specs.Kept.{AreTold, AreWants, IsCrowded, 
 ghost use Rattle.tftp_recording_judge.specs.Points.{points_of};
 ghost use Rattle.tftp_recording_judge.specs.declared.judging.Judging.{Judging as JudgingKind};
 ghost use Rattle.law_tap.specs.{AreApart};
-ghost use Rattle.tftp_tap_judge.specs.{TapRefusal};
+ghost use Rattle.judge_tap.specs.{TapRefusal};
 ghost use Rattle.tftp_lines.specs.{doubts_of, Placed, Transfer};
 ghost use Rattle.tftp_transfers.specs.{is_about, AttributionFault};
 ghost use Rattle.tftp_views.specs.{Naming, client_capture, client_header, server_capture, server_header, IsJudgedWith, IsFed, held_of};

@@ -9,7 +9,7 @@ use tftp_packet::End;
 use tftp_recording_judge::Verdicts;
 use tftp_session::Ended;
 use net_streams::streams::LineWriter;
-use tftp_tap_judge::TapRefusal;
+use judge_tap::TapRefusal;
 use tftp_transfers::TransferEnds;
 use tftp_verdict_rows::{
     Accused, Place, Point, Row, Rows, Said, Telling, accused_in_row, role_at, rows_told,

@@ -5,8 +5,8 @@ use Rattle.law_model.specs.Rules.{BadAnswer}
 use Rattle.law_end.specs.{Port}
 use Rattle.tftp_judge.specs.{Refusal}
 use Rattle.tftp_judge.specs.declared.refusal.Refusal.TheVariants as refusal
-use Rattle.tftp_tap_judge.specs.{TapRefusal}
-use Rattle.tftp_tap_judge.specs.declared.refusal.TapRefusal.TheVariants as tap
+use Rattle.judge_tap.specs.{TapRefusal}
+use Rattle.judge_tap.specs.declared.refusal.TapRefusal.TheVariants as tap
 use Rattle.tftp_verdict_rows.specs.declared.said.Said.{Said}
 use Rattle.tftp_verdict_rows.specs.declared.said.Said.TheVariants.{Accepted, Refused, NotWhole, Memory}
 use Rattle.tftp_verdict_rows.specs.declared.row.Row.{Row}

@@ -3,7 +3,7 @@ ghost use Rattle.tftp_verdict_rows.specs.Told.{is_refused, may_be_asked, refused
 
 use tftp_judge::{Meaning, Refusal, Rule};
 use law_model::rules::PortRule;
-use tftp_tap_judge::TapRefusal;
+use judge_tap::TapRefusal;
 
 /// What is said of a transfer at one of the points where it was judged.
 #[derive(Clone, Copy, Debug)]

@@ -1,7 +1,7 @@
 use Rattle.std.proofs.Common.{◌≤◌, All, List, length, sym, subst, ◌∙◌, arith}
 use Rattle.std.proofs.lemmas.List.Elements.{All-drop}
 use Rattle.std.proofs.lemmas.List.{nil_from_length}
-use Rattle.tftp_tap_judge.specs.{TapDatagram as Owned}
+use Rattle.judge_tap.specs.{TapDatagram as Owned}
 use Rattle.tftp_between.proofs.Holding.{IsGivenSoFar, given_all, given_none, given_one}
 use Rattle.tftp_between.proofs.between_view.judge_of.Goals as goal
 

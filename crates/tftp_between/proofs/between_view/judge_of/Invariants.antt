@@ -1,7 +1,7 @@
 use Rattle.std.proofs.Common.{◌≡◌, ◌+◌, ◌≤◌, List, All, length}
 use Rattle.std.specs.VecDeque.{deque_len}
 use Rattle.law_tap.specs.{TapDatagram}
-use Rattle.tftp_tap_judge.specs.{TapDatagram as Owned}
+use Rattle.judge_tap.specs.{TapDatagram as Owned}
 use Rattle.tftp_between.specs.{AreHeld, counted_by}
 use Rattle.tftp_between.proofs.Holding.{IsGivenSoFar}
 use Rattle.tftp_between.proofs.between_view.judge_of.Given as goal

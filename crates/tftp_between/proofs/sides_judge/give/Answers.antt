@@ -1,4 +1,4 @@
-use Rattle.tftp_tap_judge.specs.{passing_of}
+use Rattle.judge_tap.specs.{passing_of}
 use Rattle.tftp_between.proofs.Tapping.{given_more}
 use Rattle.tftp_between.proofs.sides_judge.give.Goals as goal
 

@@ -1,5 +1,5 @@
 use Rattle.std.proofs.Common.{◌≡◌, true, false, length, sym, ap, ◌∙◌, subst, Err}
-use Rattle.tftp_tap_judge.specs.{Incomplete}
+use Rattle.judge_tap.specs.{Incomplete}
 use Rattle.tftp_between.specs.{are_apart, between_capture, is_to_itself, IsBetweenAfter, IsGoingOn, IsWaiting, View, given_to}
 use Rattle.tftp_between.proofs.Holding.{as_many, given_by, given_held, is_going_on, is_waiting, one_side}
 use Rattle.tftp_between.proofs.between_view.BetweenView.finish.Goals as goal

@@ -1,6 +1,6 @@
 use Rattle.std.proofs.Common.{◌≡◌, ◌≤◌, ◌∷◌, List, length, None, Some, true, sym, ap, ◌∙◌, subst, arith, Option}
 use Rattle.std.specs.List.{All}
-use Rattle.tftp_tap_judge.specs.{TapDatagram as Owned}
+use Rattle.judge_tap.specs.{TapDatagram as Owned}
 use Rattle.tftp_transfers.specs.{AreEndsAfter, is_settled}
 use Rattle.tftp_lines.specs.{is_of}
 use Rattle.tftp_views.specs.{held_of}

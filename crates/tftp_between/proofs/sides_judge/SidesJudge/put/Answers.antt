@@ -1,5 +1,5 @@
 use Rattle.std.proofs.Common.{sym, ◌∙◌, subst, Option}
-use Rattle.tftp_tap_judge.specs.{TapJudge}
+use Rattle.judge_tap.specs.{TapJudge}
 use Rattle.tftp_between.specs.{HasTapped, Between, HasPassed, PassedBy, passed_as}
 use Rattle.tftp_views.specs.{held_of}
 use Rattle.tftp_between.proofs.Tapping.{rests_more}

@@ -1,5 +1,0 @@
-use Rattle.tftp_tap_judge.proofs.KeptLawful.{kept_lawful}
-use Rattle.tftp_tap_judge.proofs.laws.what_would_be_kept_is_lawful_there.Goals as goal
-
-pub returns : goal.returns
-returns c = λ s tapped asked apart passes first. kept_lawful s apart tapped passes asked first

@@ -1,5 +1,0 @@
-use Rattle.tftp_tap_judge.proofs.StopsNoted.{late_block_is}
-use Rattle.tftp_tap_judge.proofs.notes.TapNotes.is_late_block.Goals as goal
-
-pub returns-in-Put : goal.returns-in-Put
-returns-in-Put c = λ s passed are. late_block_is s passed c.usable.result c.args.side c.in-Put.is (c.usable.ensures s passed are)
