@@ -2,8 +2,8 @@
 
 use anyhow::{Result, bail};
 use std::alloc::{AllocError, Global};
-use tftp_counts::{CountedPacket, Counts};
-use tftp_match::Matched;
+use judge_pair::counts::{CountedPacket, Counts};
+use judge_pair::match_texts::Matched;
 use tftp_packet::End;
 
 /// Copies of a packet: those that one end sent, and those that the other took.

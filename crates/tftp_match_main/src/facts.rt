@@ -4,9 +4,9 @@ use crate::copies::{Copies, copies_in};
 use anyhow::{Result, bail};
 use std::alloc::Global;
 use tftp_commands::{Status, say_accepted, say_verdict};
-use tftp_counts::Carried;
+use judge_pair::counts::Carried;
 use tftp_judge::{Meaning, Refusal, Verdict};
-use tftp_match::{Apart, Matched, PairSaid, Wait};
+use judge_pair::match_texts::{Apart, Matched, PairSaid, Wait};
 use net_streams::streams::LineWriter;
 
 /// The first datagram of a capture that is not matched.

@@ -3,7 +3,7 @@
 use crate::source::Whole;
 use std::alloc::Global;
 use std::io::Read;
-use tftp_match::{PairSaid, judge_pair};
+use judge_pair::match_texts::{PairSaid, judge_pair};
 use net_streams::streams::Latched;
 
 /// A capture text: one that is read while it is judged, or one in memory.

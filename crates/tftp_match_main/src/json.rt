@@ -6,7 +6,7 @@ use crate::words::Request;
 use anyhow::Result;
 use serde::Serialize;
 use std::alloc::{AllocError, Global};
-use tftp_match::Apart;
+use judge_pair::match_texts::Apart;
 use tftp_packet::End;
 
 /// What there is to say of both.

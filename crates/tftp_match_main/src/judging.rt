@@ -9,7 +9,7 @@ use crate::words::Request;
 use anyhow::{Result, bail};
 use std::fs::{self, File};
 use std::io::Read;
-use tftp_match::PairSaid;
+use judge_pair::match_texts::PairSaid;
 use tftp_packet::End;
 use tftp_session::{Session, told};
 

@@ -3,8 +3,8 @@
 use crate::copies::Copies;
 use crate::facts::{Facts, First};
 use anyhow::Result;
-use tftp_counts::Carried;
-use tftp_match::Apart;
+use judge_pair::counts::Carried;
+use judge_pair::match_texts::Apart;
 use tftp_packet::End;
 
 /// Says what there is to say in three lines, or in two where it is not told how far the captures go together; then how often

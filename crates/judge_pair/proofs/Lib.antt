@@ -1,0 +1,3 @@
+pub mod CountsLemmas
+pub mod JudgeLemmas
+pub mod MatchTextsLemmas

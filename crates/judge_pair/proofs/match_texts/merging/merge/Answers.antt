@@ -1,0 +1,28 @@
+use Rattle.std.proofs.Common.{◌<◌, sym, subst}
+use Rattle.tftp_judge.specs.{Judge}
+use Rattle.judge_pair.proofs.MatchTextsLemmas.Both.{client_goes, server_goes}
+use Rattle.judge_pair.proofs.match_texts.merging.merge.Goals as goal
+
+pub loop-client-preserved-then-goes_on : goal.loop-client-preserved-then-goes_on
+loop-client-preserved-then-goes_on g c =
+    let i = c.loop-client.invariant in
+    let e = c.read_on.ensures in
+    record {
+      client_ready = e.open;
+      server_ready = i.server_ready;
+      client_lines = e.lines;
+      server_lines = λ none. subst (λ (j : Judge). j.fed < c.loop-client.server.capture.handed) (sym e.other.0) (i.server_lines none);
+      runs = client_goes _ _ _ _ _ c.loop-client.pair c.read_on.new.pair i.runs _ e.runs e.other;
+    }
+
+pub loop-client-preserved : goal.loop-client-preserved
+loop-client-preserved g c =
+    let i = c.loop-client.invariant in
+    let e = c.read_on-then-goes_on-2.ensures in
+    record {
+      client_ready = i.client_ready;
+      server_ready = e.open;
+      client_lines = λ none. subst (λ (j : Judge). j.fed < c.loop-client.client.capture.handed) (sym e.other.0) (i.client_lines none);
+      server_lines = e.lines;
+      runs = server_goes _ _ _ _ _ c.loop-client.pair c.read_on-then-goes_on-2.new.pair i.runs _ e.runs e.other;
+    }

@@ -1,0 +1,14 @@
+//! The judge of two captures of one transfer, one of each end, read side by side: how far each is lawful at its end, and how
+//! far the two go together.
+
+pub mod laws;
+mod matched;
+mod pair;
+mod rest;
+mod side;
+mod waiting;
+
+pub use matched::Matched;
+pub use pair::PairJudge;
+pub use rest::{PairRest, PairVerdict};
+pub use waiting::Wait;

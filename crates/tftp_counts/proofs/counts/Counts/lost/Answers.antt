@@ -1,9 +1,0 @@
-use Rattle.std.proofs.Common.{ap, subst, slice_index_or}
-use Rattle.tftp_counts.specs.{Answers, Counted, IsSurplus, sent}
-use Rattle.tftp_counts.proofs.counts.Counts.lost.Goals as goal
-
-pub returns : goal.returns
-returns c sender receiver from to =
-    let counted = rw (ap (λ (x : Counted). x.1) c.to.view_is) at (rw (ap (λ (x : Counted). x.0) c.self.view_is) at c.surplus.ensures) in
-    subst (λ less. Answers (IsSurplus (λ packet. sent packet sender) less) c.surplus.result) (λ i packet. (to packet).1 i)
-    (subst (λ more. Answers (IsSurplus more (λ packet. slice_index_or c.args.to.now.1 packet 0)) c.surplus.result) (λ i packet. (from packet).0 i) counted)

@@ -1,6 +1,0 @@
-use Rattle.tftp_match.proofs.Headline.{says_consistent}
-use Rattle.tftp_match.proofs.pair.judge_pair.Goals as goal
-
-pub returns-clause-consistent : goal.returns-clause-consistent
-returns-clause-consistent g c = λ text other is other_is clean other_clean h k ds es capture other_capture.
-    says_consistent _ _ _ _ _ _ _ _ text other is other_is clean other_clean h k ds es capture other_capture c.judge_both.result.together c.judge_both.ensures
