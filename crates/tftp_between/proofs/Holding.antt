@@ -4,8 +4,8 @@ use Rattle.std.proofs.lemmas.List.{length-map, length-reverse, map-append, rever
 use Rattle.law_tap.specs.{TapDatagram}
 use Rattle.judge_tap.specs.{passing_of, TapDatagram as Owned}
 use Rattle.tftp_parties.specs.{host_name}
-use Rattle.tftp_lines.specs.{Transfer, Placed, is_of}
-use Rattle.tftp_transfers.specs.{is_settled}
+use Rattle.audit_flows.specs.Lines.{Transfer, Placed, is_of}
+use Rattle.audit_flows.specs.Transfers.{is_settled}
 use Rattle.tftp_views.specs.{Held, IsFed}
 use Rattle.tftp_between.specs.{are_apart, between_capture, is_to_itself, passed_of, sides_of, sides_with, AreHeld, Between, BetweenBy, HasPassed, IsBetweenAfter, IsGoingOn, IsWaiting, View, counted_by, given_to, passed_as}
 use Rattle.tftp_between.proofs.Feeding.{captured_too, passed_fed}

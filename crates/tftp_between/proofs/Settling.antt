@@ -1,7 +1,7 @@
 -- Who the ends are stays, once it is known; and what is not of the transfer at its client tells nothing of them.
 use Rattle.std.proofs.Common.{◌≡◌, ℕ, true, false, List, ◌++◌, ap}
-use Rattle.tftp_lines.specs.{Transfer, Placed, is_of}
-use Rattle.tftp_transfers.specs.{is_settled}
+use Rattle.audit_flows.specs.Lines.{Transfer, Placed, is_of}
+use Rattle.audit_flows.specs.Transfers.{is_settled}
 use Rattle.tftp_views.proofs.Settling.{server_stays}
 use Rattle.tftp_between.specs.{sides_of, sides_with}
 

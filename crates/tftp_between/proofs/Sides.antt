@@ -6,9 +6,9 @@ use Rattle.tftp_ends.proofs.NotedPeers.{is_same}
 use Rattle.tftp_parties.specs.{IsAddress}
 use Rattle.tftp_parties.proofs.Addresses.{called_one}
 use Rattle.law_tap.specs.{AreApart, PeerId, TapSides}
-use Rattle.tftp_lines.specs.{Endpoint, Transfer, same_address, same_endpoint, Placed}
-use Rattle.tftp_transfers.specs.{server_of}
-use Rattle.tftp_lines.proofs.Endpoints.{is_same as is_same_endpoint}
+use Rattle.audit_flows.specs.Lines.{Endpoint, Transfer, same_address, same_endpoint, Placed}
+use Rattle.audit_flows.specs.Transfers.{server_of}
+use Rattle.audit_flows.proofs.LinesLemmas.Endpoints.{is_same as is_same_endpoint}
 use Rattle.tftp_between.specs.{are_apart, is_to_itself, peer_of, server_or_asked, sides_of}
 use Rattle.law_end.proofs.Division.RouteTests.{same_is}
 

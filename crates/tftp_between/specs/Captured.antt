@@ -4,8 +4,8 @@ use Rattle.std.specs.Prelude.{◌||◌, not, Bool, List, map, Option, Some, None
 use Rattle.tftp_packet.specs.Hosts.{same_peer}
 use Rattle.tftp_parties.specs.{host_name}
 use Rattle.law_tap.specs.{PeerId, TapDatagram, TapSides}
-use Rattle.tftp_lines.specs.{Endpoint, Transfer, Recorded, same_endpoint, Placed}
-use Rattle.tftp_transfers.specs.{client_view, server_of}
+use Rattle.audit_flows.specs.Lines.{Endpoint, Transfer, Recorded, same_endpoint, Placed}
+use Rattle.audit_flows.specs.Transfers.{client_view, server_of}
 
 -- a host by its name, and a port there
 abbrev pub peer_of : Endpoint → PeerId

@@ -2,8 +2,8 @@
 use Rattle.std.specs.Prelude.{◌≡◌, ℕ, true, false, List, [], length, map, reverse, Option, Some, None}
 use Rattle.law_tap.specs.{PeerId, TapDatagram, TapSides}
 use Rattle.judge_tap.specs.{TapJudge, passing_of, TapDatagram as Owned, TapRefusal}
-use Rattle.tftp_lines.specs.{Transfer, Placed}
-use Rattle.tftp_transfers.specs.{TransferEnds, AreEndsAfter, is_settled}
+use Rattle.audit_flows.specs.Lines.{Transfer, Placed}
+use Rattle.audit_flows.specs.Transfers.{TransferEnds, AreEndsAfter, is_settled}
 use Rattle.tftp_views.specs.{Held, Party}
 use Rattle.tftp_between.specs.Captured.{between_capture, sides_of}
 use Rattle.tftp_between.specs.Judged.{HasTapped}

@@ -1,8 +1,8 @@
 -- What passes between the ends of the worked recordings.
 use Rattle.std.specs.Prelude.{List, [], ◌∷◌, codes, false}
 use Rattle.law_tap.specs.{PeerId, TapDatagram, TapSides}
-use Rattle.tftp_lines.specs.{Transfer}
-use Rattle.tftp_transfers.specs.{client, service, ack_of, data_of, read_of}
+use Rattle.audit_flows.specs.Lines.{Transfer}
+use Rattle.audit_flows.specs.Transfers.{client, service, ack_of, data_of, read_of}
 
 -- the transfer that datagram 0 opened
 abbrev pub first_transfer : Transfer

@@ -8,8 +8,8 @@ ghost use Rattle.tftp_between.specs.Kept.{AreHeld, HasPassed, IsBetweenAfter, co
 ghost use Rattle.tftp_parties.specs.{host_name};
 ghost use Rattle.law_tap.specs.{AreApart, TapDatagram as Passing};
 ghost use Rattle.judge_tap.specs.{TapDatagram as Owned, TapRefusal as RefusalKind};
-ghost use Rattle.tftp_lines.specs.{Placed, is_of};
-ghost use Rattle.tftp_transfers.specs.{is_settled, client_view};
+ghost use Rattle.audit_flows.specs.Lines.{Placed, is_of};
+ghost use Rattle.audit_flows.specs.Transfers.{is_settled, client_view};
 ghost use Rattle.tftp_views.specs.{IsFed, held_of};
 
 use crate::passing::{passed, sides_of};
@@ -20,10 +20,10 @@ use std::marker::Model;
 use std::mem;
 use tftp_ends::blocks::Delivered;
 use tftp_judge::Meaning;
-use tftp_lines::Transfer;
+use audit_flows::lines::Transfer;
 use law_tap::Sides;
 use judge_tap::{TapDatagram, TapRefusal};
-use tftp_transfers::TransferEnds;
+use audit_flows::transfers::TransferEnds;
 use tftp_views::Fed;
 
 /// The judge of a transfer between its two ends (RFC 1350, section 4), fed with a recording from its first datagram to its

@@ -6,8 +6,8 @@ ghost use Rattle.tftp_between.specs.Kept.{IsBetweenAfter, View};
 ghost use Rattle.tftp_between.specs.Worked.{asked_twice_between, asked_twice_sides, first_transfer};
 ghost use Rattle.tftp_parties.specs.{IsAddress};
 ghost use Rattle.law_tap.specs.{AreApart};
-ghost use Rattle.tftp_lines.specs.{Placed, is_of, Transfer};
-ghost use Rattle.tftp_transfers.specs.{placed, is_settled, server_of, asked_twice};
+ghost use Rattle.audit_flows.specs.Lines.{Placed, is_of, Transfer};
+ghost use Rattle.audit_flows.specs.Transfers.{placed, is_settled, server_of, asked_twice};
 
 /// The stray passes with its own source, and the sides are the client's, the service port's and the server's.
 pub fn worked_between()

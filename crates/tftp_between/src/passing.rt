@@ -4,18 +4,18 @@ ghost use Rattle.std.specs.Prelude.{◌≡◌, ℕ, List, length, IfOk};
 ghost use Rattle.tftp_between.specs.Captured.{peer_of, sides_of};
 ghost use Rattle.tftp_between.specs.Kept.{passed_as, side_of};
 ghost use Rattle.judge_tap.specs.{passing_of};
-ghost use Rattle.tftp_transfers.specs.{AreEndsAfter};
-ghost use Rattle.tftp_lines.specs.{Placed};
+ghost use Rattle.audit_flows.specs.Transfers.{AreEndsAfter};
+ghost use Rattle.audit_flows.specs.Lines.{Placed};
 ghost use Rattle.tftp_views.specs.{held_of};
 
 use std::alloc::{AllocError, Global};
 use tftp_packet::hosts::Peer;
-use tftp_lines::{Endpoint, Transfer};
+use audit_flows::lines::{Endpoint, Transfer};
 use tftp_packet::Bytes;
 use tftp_parties::host_of;
 use law_tap::Sides;
 use judge_tap::TapDatagram;
-use tftp_transfers::TransferEnds;
+use audit_flows::transfers::TransferEnds;
 use tftp_views::{Fed, Party};
 
 /// The sides of a transfer whose ends are known: where no server is, it is whom the client asked.

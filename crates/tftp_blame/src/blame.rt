@@ -3,9 +3,9 @@
 use crate::passing::Passing;
 use std::alloc::{AllocError, Global};
 use tftp_judge::{Meaning, Refusal};
-use tftp_lines::{Endpoint, Place};
+use audit_flows::lines::{Endpoint, Place};
 use judge_tap::TapRefusal;
-use tftp_transfers::TransferEnds;
+use audit_flows::transfers::TransferEnds;
 
 /// Where a transfer was refused.
 #[derive(Clone, Copy)]

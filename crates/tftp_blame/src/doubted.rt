@@ -4,7 +4,7 @@ use crate::blame::Blamed;
 use crate::missing::Missing;
 use crate::reason::Reason;
 use std::alloc::AllocError;
-use tftp_transfers::TransferDoubts;
+use audit_flows::transfers::TransferDoubts;
 
 /// What makes a transfer's refusals doubtful.
 #[derive(Clone, Copy)]

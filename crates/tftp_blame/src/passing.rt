@@ -1,6 +1,6 @@
 //! A datagram of a recording.
 
-use tftp_lines::{Endpoint, Place};
+use audit_flows::lines::{Endpoint, Place};
 
 /// A datagram as it passed in a recording.
 #[derive(Clone, Copy)]

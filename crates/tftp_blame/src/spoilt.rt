@@ -1,7 +1,7 @@
 //! Which datagrams did not come as they were sent.
 
 use crate::passing::Passing;
-use tftp_lines::Address;
+use audit_flows::lines::Address;
 
 /// A datagram with a wrong checksum: its receiver discards it, unless the recording was made before its sender's hardware made
 /// the checksum.

@@ -9,10 +9,10 @@ use crate::twice::Twice;
 use std::alloc::{AllocError, Global};
 use tftp_ends::blocks::RingDelivered;
 use tftp_judge::{Meaning, Refusal};
-use tftp_lines::{Doubts, Endpoint, Place, Transfer};
+use audit_flows::lines::{Doubts, Endpoint, Place, Transfer};
 use tftp_recording_judge::Watched;
 use judge_tap::TapRefusal;
-use tftp_transfers::{Attributed, TransferDoubts, TransferEnds};
+use audit_flows::transfers::{Attributed, TransferDoubts, TransferEnds};
 
 /// A transfer, as far as it was read.
 #[derive(Drop)]

@@ -2,7 +2,7 @@
 
 use crate::passing::Passing;
 use std::alloc::{AllocError, Global};
-use tftp_lines::Endpoint;
+use audit_flows::lines::Endpoint;
 
 #[derive(Drop)]
 pub struct Twice {

@@ -10,7 +10,7 @@ use Rattle.law_end.specs.Dress.{Main, Stray, StrayAnswer}
 use Rattle.law_end.proofs.Division.Divided.{any_none, any_cases, any_first, any_later, divided_more, divided_none, view_main}
 use Rattle.law_end.proofs.Division.Placing.{WentOut, MainOut, StrayFrom, any_main_out}
 use Rattle.law_end.proofs.Division.Routed.{told_of}
-use Rattle.tftp_lines.specs.{Endpoint, Transfer, Recorded, begins_request, Placed, is_of}
+use Rattle.audit_flows.specs.Lines.{Endpoint, Transfer, Recorded, begins_request, Placed, is_of}
 use Rattle.law_tap.specs.{pass_of, tapped_at, PeerId, TapDatagram, TapSides, side_of, TapLabel, TapLabelled, TapDivision, tapped_of, IsMainFrom, GoesThere, HasTapLabel, HaveTapLabels}
 use Rattle.law_tap.specs.TapDress as tap
 use Rattle.tftp_views.specs.{captured, server_header}

@@ -7,10 +7,10 @@ use Rattle.tftp_packet.specs.Hosts.{PeerId}
 use Rattle.law_model.specs.Model.{Meaning}
 use Rattle.law_end.specs.{OneEnded, Meant}
 use Rattle.law_end.proofs.Division.Divided.{any_none, any_cases}
-use Rattle.tftp_lines.specs.{Endpoint, Opens, Talks, Transfer, Recorded, same_address, same_endpoint, Placed, is_of}
-use Rattle.tftp_lines.proofs.Lines.{by_test}
-use Rattle.tftp_transfers.specs.{client_view, placed, server_of}
-use Rattle.tftp_transfers.proofs.OwnDatagrams.{server_kept}
+use Rattle.audit_flows.specs.Lines.{Endpoint, Opens, Talks, Transfer, Recorded, same_address, same_endpoint, Placed, is_of}
+use Rattle.audit_flows.proofs.LinesLemmas.Lines.{by_test}
+use Rattle.audit_flows.specs.Transfers.{client_view, placed, server_of}
+use Rattle.audit_flows.proofs.TransfersLemmas.OwnDatagrams.{server_kept}
 use Rattle.law_tap.specs.{ShowsBetween, BreaksNoTapRule}
 use Rattle.tftp_parties.proofs.Addresses.{called_one}
 use Rattle.tftp_cleared.specs.{IsOpenedIn, IsTransferIn, HasAddresses}

@@ -5,13 +5,13 @@ use Rattle.std.specs.List.{AllByRecursion}
 use Rattle.std.proofs.lemmas.Bool.{false≢true, eqb-true, eq-eqb, and_from, and_parts, or_left}
 use Rattle.std.proofs.lemmas.List.Elements.{recursion_from_All}
 use Rattle.law_end.proofs.Division.Divided.{any_none, any_cases, any_first, any_later}
-use Rattle.tftp_lines.specs.{Endpoint, Place, Opens, Repeats, Talks, Transfer, Recorded, begins_request, is_again, goes, same_endpoint, silence, Placed, clock, is_apart, is_at, is_of, is_request, line, live, newest_of, asked_after, opened_by, talk_in}
-use Rattle.tftp_transfers.specs.{asks, at_client, beside, client_view, is_about, is_client, is_nowhere, is_service, place_of, placed, served_at}
-use Rattle.tftp_lines.proofs.Endpoints.{is_same}
-use Rattle.tftp_lines.proofs.Lines.{by_test}
-use Rattle.tftp_transfers.proofs.AllLines.{line_here, line_elsewhere}
-use Rattle.tftp_transfers.proofs.Ends.{asked_place, asked_as, opened, again, placed_where, IsEndAt, beside_end, client_end}
-use Rattle.tftp_transfers.proofs.Numbers.{length_placed, none_before, opening_number}
+use Rattle.audit_flows.specs.Lines.{Endpoint, Place, Opens, Repeats, Talks, Transfer, Recorded, begins_request, is_again, goes, same_endpoint, silence, Placed, clock, is_apart, is_at, is_of, is_request, line, live, newest_of, asked_after, opened_by, talk_in}
+use Rattle.audit_flows.specs.Transfers.{asks, at_client, beside, client_view, is_about, is_client, is_nowhere, is_service, place_of, placed, served_at}
+use Rattle.audit_flows.proofs.LinesLemmas.Endpoints.{is_same}
+use Rattle.audit_flows.proofs.LinesLemmas.Lines.{by_test}
+use Rattle.audit_flows.proofs.TransfersLemmas.AllLines.{line_here, line_elsewhere}
+use Rattle.audit_flows.proofs.TransfersLemmas.Ends.{asked_place, asked_as, opened, again, placed_where, IsEndAt, beside_end, client_end}
+use Rattle.audit_flows.proofs.TransfersLemmas.Numbers.{length_placed, none_before, opening_number}
 use Rattle.tftp_cleared.specs.{IsOpenedIn}
 use Rattle.tftp_cleared.proofs.Opened.{IsHeld, all_opened, opened_one}
 

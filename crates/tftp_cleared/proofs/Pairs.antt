@@ -7,9 +7,9 @@ use Rattle.tftp_packet.specs.Hosts.{In, Out, Datagram}
 use Rattle.law_end.specs.{Label, Labelled, Division, datagrams_of, view_in}
 use Rattle.law_end.specs.Dress.{Main, Stray, StrayAnswer}
 use Rattle.law_end.proofs.Division.Divided.{divided_more, divided_none}
-use Rattle.tftp_lines.specs.{Transfer, same_endpoint, Placed}
-use Rattle.tftp_lines.proofs.Endpoints.{is_same, same_itself}
-use Rattle.tftp_lines.proofs.Lines.{by_test}
+use Rattle.audit_flows.specs.Lines.{Transfer, same_endpoint, Placed}
+use Rattle.audit_flows.proofs.LinesLemmas.Endpoints.{is_same, same_itself}
+use Rattle.audit_flows.proofs.LinesLemmas.Lines.{by_test}
 use Rattle.law_model.proofs.ModelLemmas.Members.{contains_cases, contains_none}
 use Rattle.law_tap.specs.{pass_of, tapped_at, TapLabel, TapLabelled, TapDivision, tapped_of}
 use Rattle.law_tap.specs.TapDress as tap

@@ -6,10 +6,10 @@ use Rattle.std.proofs.lemmas.List.Elements.{recursion_from_All}
 use Rattle.tftp_packet.specs.Hosts.{In, Out, Datagram}
 use Rattle.law_end.specs.{OneEnded, Rule}
 use Rattle.law_model.specs.Rules.{first_of}
-use Rattle.tftp_lines.specs.{Endpoint, Place, Opens, Repeats, Talks, Beside, Transfer, Recorded, begins_request, other_of, same_address, same_endpoint, Placed, clock, is_of, is_request}
-use Rattle.tftp_lines.proofs.Endpoints.{is_same, address_itself}
-use Rattle.tftp_lines.proofs.Lines.{by_test}
-use Rattle.tftp_transfers.specs.{answered_by, asked_of, client_view, comes, goes_on, goes_to_asked, has_host, has_port, is_at_server, is_end, is_server, place_of, placed, server_of, went_on_with}
+use Rattle.audit_flows.specs.Lines.{Endpoint, Place, Opens, Repeats, Talks, Beside, Transfer, Recorded, begins_request, other_of, same_address, same_endpoint, Placed, clock, is_of, is_request}
+use Rattle.audit_flows.proofs.LinesLemmas.Endpoints.{is_same, address_itself}
+use Rattle.audit_flows.proofs.LinesLemmas.Lines.{by_test}
+use Rattle.audit_flows.specs.Transfers.{answered_by, asked_of, client_view, comes, goes_on, goes_to_asked, has_host, has_port, is_at_server, is_end, is_server, place_of, placed, server_of, went_on_with}
 use Rattle.law_tap.specs.{BreaksNoTapRule, IsTapRefused}
 use Rattle.law_tap.proofs.TapBefore.{first_holds}
 use Rattle.tftp_cleared.specs.{BothSaw, HasAddresses, IsSentThere, IsServedIn, IsWith}

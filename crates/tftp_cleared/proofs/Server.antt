@@ -9,10 +9,10 @@ use Rattle.law_end.specs.{TransferIds}
 use Rattle.law_end.proofs.Division.Divided.{any_none, any_cases, any_later}
 use Rattle.law_end.proofs.Division.RouteTests.{error_begins}
 use Rattle.law_end.proofs.Division.Routed.{told_of}
-use Rattle.tftp_lines.specs.{Endpoint, Place, Opens, Repeats, Talks, Transfer, begins_error, same_endpoint, Placed, is_request}
-use Rattle.tftp_lines.proofs.Endpoints.{same_itself}
-use Rattle.tftp_lines.proofs.Lines.{by_test}
-use Rattle.tftp_transfers.specs.{comes, goes_on, server_of}
+use Rattle.audit_flows.specs.Lines.{Endpoint, Place, Opens, Repeats, Talks, Transfer, begins_error, same_endpoint, Placed, is_request}
+use Rattle.audit_flows.proofs.LinesLemmas.Endpoints.{same_itself}
+use Rattle.audit_flows.proofs.LinesLemmas.Lines.{by_test}
+use Rattle.audit_flows.specs.Transfers.{comes, goes_on, server_of}
 use Rattle.tftp_cleared.specs.{IsOpenedIn}
 use Rattle.tftp_views.specs.{captured}
 use Rattle.tftp_parties.specs.{host_name}

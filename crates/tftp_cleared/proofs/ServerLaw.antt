@@ -13,8 +13,8 @@ use Rattle.law_end.proofs.Division.Divided.{any_none, any_cases, any_first, any_
 use Rattle.law_end.proofs.Division.RouteTests.{request_begins}
 use Rattle.law_end.proofs.Division.ServerRoutes.{byte_begins}
 use Rattle.law_end.proofs.Whole.TwoEnds.{lawful}
-use Rattle.tftp_lines.specs.{Endpoint, Opens, Transfer, begins_request, Placed, is_of}
-use Rattle.tftp_lines.proofs.Lines.{by_test}
+use Rattle.audit_flows.specs.Lines.{Endpoint, Opens, Transfer, begins_request, Placed, is_of}
+use Rattle.audit_flows.proofs.LinesLemmas.Lines.{by_test}
 use Rattle.law_tap.specs.{tapped_at, TapDatagram, TapSides, AreApart, TapLabel, TapLabelled, TapDivision, tapped_of, CarriesPass, HasTapLabel, HaveTapLabels, IsLawfulBetween, BreaksNoTapRule, IsTapRefused}
 use Rattle.law_tap.specs.TapDress as tap
 use Rattle.law_tap.proofs.Beside.{view_is_tapped}

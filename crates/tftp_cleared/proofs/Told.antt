@@ -9,8 +9,8 @@ use Rattle.law_end.specs.{Label, Labelled, view_in, TransferIds, IsMain, Carries
 use Rattle.law_end.specs.Dress.{Main, Stray, StrayAnswer}
 use Rattle.law_end.proofs.Division.Divided.{any_none, any_cases, any_first, any_later}
 use Rattle.law_end.proofs.Division.Placing.{CameIn, one, starts_before}
-use Rattle.tftp_lines.specs.{Transfer, Recorded, same_endpoint}
-use Rattle.tftp_lines.proofs.Endpoints.{same_itself}
+use Rattle.audit_flows.specs.Lines.{Transfer, Recorded, same_endpoint}
+use Rattle.audit_flows.proofs.LinesLemmas.Endpoints.{same_itself}
 use Rattle.tftp_views.specs.{captured, captured_at_client, client_header}
 use Rattle.tftp_parties.specs.{host_name}
 use Rattle.tftp_between.specs.{peer_of as side}

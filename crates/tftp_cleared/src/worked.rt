@@ -2,12 +2,12 @@
 
 ghost use Rattle.std.specs.Prelude.{◌≡◌, [], ◌∷◌, All, false};
 ghost use Rattle.tftp_packet.specs.Hosts.{In, Out};
-ghost use Rattle.tftp_lines.specs.{same_endpoint};
+ghost use Rattle.audit_flows.specs.Lines.{same_endpoint};
 ghost use Rattle.law_model.specs.Rules.{Route, route_of};
 ghost use Rattle.law_end.specs.{OneEnded};
 ghost use Rattle.tftp_parties.specs.{host_name};
-ghost use Rattle.tftp_transfers.specs.{asked_twice, client, is_service, placed, server_view};
-ghost use Rattle.tftp_transfers.specs.Worked.{server};
+ghost use Rattle.audit_flows.specs.Transfers.{asked_twice, client, is_service, placed, server_view};
+ghost use Rattle.audit_flows.specs.Transfers.Worked.{server};
 ghost use Rattle.tftp_views.specs.{captured, client_capture, client_header, server_capture, server_header};
 ghost use Rattle.law_tap.specs.{BreaksNoTapRule, TapRoute, tap_route};
 ghost use Rattle.tftp_between.specs.{between_capture, passed_of, sides_of};

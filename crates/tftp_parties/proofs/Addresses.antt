@@ -9,8 +9,8 @@ use Rattle.std.specs.Net.Addr.{octets_of, segments_of}
 use Rattle.std.specs.Net.Grammar.{IsIpText}
 use Rattle.std.specs.Net.Text.{ip_text, ipv4_text, ipv6_text}
 use Rattle.tftp_packet.specs.Hosts.{IsHost, IsSign}
-use Rattle.tftp_lines.specs.{same_address, Address, V4, V6}
-use Rattle.tftp_lines.proofs.Endpoints.{is_same_address, address_itself}
+use Rattle.audit_flows.specs.Lines.{same_address, Address, V4, V6}
+use Rattle.audit_flows.proofs.LinesLemmas.Endpoints.{is_same_address, address_itself}
 use Rattle.tftp_parties.specs.{AreBytes, IsAddress, address_of, host_name}
 use Rattle.tftp_parties.proofs.Names.{ipv4_few, ipv4_signs, ipv4_some, ipv6_few, ipv6_signs, ipv6_some, same_segments, segments_fit, some_segments}
 

@@ -8,7 +8,7 @@ ghost use Rattle.tftp_parties.specs.Naming.{IsAddress, address_of, host_name};
 use std::net::IpAddr;
 use net_udp::frames::write_address;
 use tftp_packet::hosts::Host;
-use tftp_lines::{Address, Endpoint};
+use audit_flows::lines::{Address, Endpoint};
 use tftp_views::Party;
 
 /// The address of a host, of the same version and with the same bytes.

@@ -2,8 +2,8 @@ use anyhow::{Result, bail};
 use hex::FromHex;
 use std::alloc::Global;
 use std::io::{BufRead, BufReader};
-use tftp_lines::{Address, Endpoint, Place, spells_request};
-use tftp_transfers::{Attributed, Attribution, TransferDoubts, TransferEnds};
+use audit_flows::lines::{Address, Endpoint, Place, spells_request};
+use audit_flows::transfers::{Attributed, Attribution, TransferDoubts, TransferEnds};
 
 /// Lists the recordings on standard input.
 pub fn list(rt: HostRuntime) -> Result<()> {

@@ -8,8 +8,8 @@ use Rattle.law_tap.specs.{AreApart}
 use Rattle.tftp_recording_audit.specs.{IsSoundDatagram, IsSoundEnd}
 use Rattle.tftp_recording_audit.proofs.Writing.{opened_ends, placed_sound}
 use Rattle.tftp_recording_judge.specs.{opened}
-use Rattle.tftp_lines.specs.{Placed, Recorded, Endpoint, Transfer}
-use Rattle.tftp_transfers.specs.{placed, answered_by, comes, goes_on, server_of, went_on_with}
+use Rattle.audit_flows.specs.Lines.{Placed, Recorded, Endpoint, Transfer}
+use Rattle.audit_flows.specs.Transfers.{placed, answered_by, comes, goes_on, server_of, went_on_with}
 
 -- ---- what was found among sound datagrams
 

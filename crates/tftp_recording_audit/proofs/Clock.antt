@@ -1,8 +1,8 @@
 -- The clock of what has passed.
 use Rattle.std.proofs.Common.{◌≡◌, ℕ, max, List, [], ◌∷◌, refl, arith}
 use Rattle.tftp_recording_audit.specs.{last_time}
-use Rattle.tftp_lines.specs.{clock, Recorded}
-use Rattle.tftp_transfers.specs.{placed}
+use Rattle.audit_flows.specs.Lines.{clock, Recorded}
+use Rattle.audit_flows.specs.Transfers.{placed}
 
 later_of : (a b : ℕ) → max a (max a b) ≡ max a b
 later_of a b = omega arith

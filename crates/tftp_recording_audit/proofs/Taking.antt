@@ -5,7 +5,7 @@ use Rattle.net_udp.specs.Fragments.{Outcome}
 use Rattle.net_pcap.specs.{FrameParts, PcapFault}
 use Rattle.net_udp.specs.Recording.{IsFateOf, EventState, Step, Fate, Likeness}
 use Rattle.tftp_recording_audit.specs.{GoesOn, IsNoted, IsOf, AuditFault, Recording, Judges, NextFrame, End, Nothing, Datagram, last_time, time_by}
-use Rattle.tftp_lines.specs.{Recorded}
+use Rattle.audit_flows.specs.Lines.{Recorded}
 
 -- the time of a frame, or else that of the datagram before
 pub unwrapped : (time : Option ℕ) (older : List Recorded) → unwrap_or time (last_time older) ≡ time_by time older

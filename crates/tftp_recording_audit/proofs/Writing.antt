@@ -9,9 +9,9 @@ use Rattle.tftp_parties.specs.{host_name}
 use Rattle.tftp_parties.proofs.Addresses.{is_host}
 use Rattle.tftp_recording_audit.specs.{IsSoundDatagram, IsSoundEnd}
 use Rattle.tftp_recording_judge.specs.{opened}
-use Rattle.tftp_transfers.proofs.Ends.{placed_where}
-use Rattle.tftp_lines.specs.{Placed, clock, transfer_of, Recorded, Place, Opens, Transfer}
-use Rattle.tftp_transfers.specs.{place_of, placed, opened_it}
+use Rattle.audit_flows.proofs.TransfersLemmas.Ends.{placed_where}
+use Rattle.audit_flows.specs.Lines.{Placed, clock, transfer_of, Recorded, Place, Opens, Transfer}
+use Rattle.audit_flows.specs.Transfers.{place_of, placed, opened_it}
 use Rattle.tftp_views.specs.{captured}
 
 -- ---- all of a list

@@ -11,8 +11,8 @@ use Rattle.tftp_recording_audit.specs.declared.next.AuditFault.{AuditFault}
 use Rattle.tftp_recording_audit.specs.declared.next.AuditFault.TheVariants.{Recording, Judges}
 use Rattle.tftp_recording_audit.specs.declared.next.NextFrame.{NextFrame}
 use Rattle.tftp_recording_audit.specs.declared.next.NextFrame.TheVariants.{End, Nothing, Datagram}
-use Rattle.tftp_transfers.specs.{Attributed, Attribution, place_of, placed}
-use Rattle.tftp_lines.specs.{doubts_of, Placed, clock, Recorded}
+use Rattle.audit_flows.specs.Transfers.{Attributed, Attribution, place_of, placed}
+use Rattle.audit_flows.specs.Lines.{doubts_of, Placed, clock, Recorded}
 
 -- The judges, where transfers are to be judged, were given what these frames of a recording have given, and nothing else; each
 -- host is named by its address.

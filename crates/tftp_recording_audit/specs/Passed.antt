@@ -6,7 +6,7 @@ use Rattle.tftp_parties.specs.{address_of}
 use Rattle.net_udp.specs.Recording.{IsFateOf, Step, Fate, Discarded, Left, Waits}
 use Rattle.net_udp.specs.declared.recording.fate.Datagram.{Datagram as Given}
 use Rattle.net_udp.specs.declared.recording.fate.Fate.TheVariants.{Datagram}
-use Rattle.tftp_lines.specs.{Recorded, Endpoint}
+use Rattle.audit_flows.specs.Lines.{Recorded, Endpoint}
 
 abbrev pub end_of : IpAddr → ℕ → Endpoint
 end_of host port = record { address = address_of host; port = port }

@@ -14,19 +14,19 @@ ghost use Rattle.net_udp.specs.Frames.{IsSound};
 ghost use Rattle.tftp_recording_audit.specs.Passed.{IsTaken, last_time, time_by};
 ghost use Rattle.tftp_recording_judge.specs.{AreCrowded, IsWatching, StandsAfter, is_among, opened};
 ghost use Rattle.tftp_parties.specs.{host_name};
-ghost use Rattle.tftp_transfers.specs.{AttributionFault, placed};
-ghost use Rattle.tftp_lines.specs.{clock, line, live, Recorded};
+ghost use Rattle.audit_flows.specs.Transfers.{AttributionFault, placed};
+ghost use Rattle.audit_flows.specs.Lines.{clock, line, live, Recorded};
 
 use crate::next::{AuditFault, NextFrame};
 use std::alloc::{AllocError, Global};
 use std::io::Read;
 use tftp_ends::blocks::Delivered;
-use tftp_lines::{Endpoint, spells_request};
+use audit_flows::lines::{Endpoint, spells_request};
 use tftp_parties::party_of;
 use net_udp::recording::{Datagram, Event, Fate, RecordingReader};
 use tftp_recording_judge::{Judging, RecordingJudge, Watched};
 use net_streams::streams::Latched;
-use tftp_transfers::{Attributed, AttributionFault};
+use audit_flows::transfers::{Attributed, AttributionFault};
 
 /// The judges of a recording's transfers, to be given what became of each of its frames, from the first to the last.
 #[derive(Drop)]

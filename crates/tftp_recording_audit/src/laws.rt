@@ -8,8 +8,8 @@ ghost use Rattle.tftp_parties.specs.{host_name};
 ghost use Rattle.tftp_recording_audit.specs.Sound.{IsSoundDatagram};
 ghost use Rattle.tftp_recording_judge.specs.{opened};
 ghost use Rattle.law_tap.specs.{AreApart};
-ghost use Rattle.tftp_transfers.specs.{placed};
-ghost use Rattle.tftp_lines.specs.{Recorded, Transfer};
+ghost use Rattle.audit_flows.specs.Transfers.{placed};
+ghost use Rattle.audit_flows.specs.Lines.{Recorded, Transfer};
 ghost use Rattle.tftp_views.specs.{client_capture, client_header, server_capture, server_header, AreWritten};
 
 /// What each end of a transfer saw of a recording can be written as a capture text, unless that were longer than a capture

@@ -1,7 +1,7 @@
 //! What comes next in a recording.
 
 use net_pcap::PcapFault;
-use tftp_transfers::{Attributed, AttributionFault};
+use audit_flows::transfers::{Attributed, AttributionFault};
 
 /// What was read of a recording.
 #[derive(Clone, Copy, Debug, PartialEq, Eq)]

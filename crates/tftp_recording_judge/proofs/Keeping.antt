@@ -4,10 +4,10 @@ use Rattle.std.specs.BTreeMap.{get, is_at, BTreeMap, IsLowerBound, IsUnchanged}
 use Rattle.std.specs.Map.{lookup}
 use Rattle.std.specs.Ordering.{is_eq, is_gt, nat_cmp}
 use Rattle.std.proofs.lemmas.Bool.{eqb-true, or_parts, or_right}
-use Rattle.tftp_lines.specs.{Place, Opens, Transfer, Recorded, Placed, newest_of, transfer_of, may_be_answer_of}
-use Rattle.tftp_transfers.specs.{place_of, placed, is_about, opened_it, is_it}
-use Rattle.tftp_lines.proofs.Lines.{by_test}
-use Rattle.tftp_transfers.proofs.Numbers.{none_answers_before, none_before, opening_number, length_placed}
+use Rattle.audit_flows.specs.Lines.{Place, Opens, Transfer, Recorded, Placed, newest_of, transfer_of, may_be_answer_of}
+use Rattle.audit_flows.specs.Transfers.{place_of, placed, is_about, opened_it, is_it}
+use Rattle.audit_flows.proofs.LinesLemmas.Lines.{by_test}
+use Rattle.audit_flows.proofs.TransfersLemmas.Numbers.{none_answers_before, none_before, opening_number, length_placed}
 use Rattle.tftp_views.specs.{Naming}
 use Rattle.tftp_recording_judge.specs.{Judging, AreCrowded, AreHanded, AreKept, IsCrowded, IsKept, IsUnheard, IsWatching, Watched, is_among, opened}
 use Rattle.tftp_recording_judge.proofs.Watching.{watching_on, watching_unheard}

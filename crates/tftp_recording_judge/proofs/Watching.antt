@@ -3,12 +3,12 @@ use Rattle.std.proofs.Common.{◌≡◌, Bool, true, false, List, [], ◌∷◌,
 use Rattle.std.proofs.lemmas.Bool.{or_parts}
 use Rattle.std.specs.Bool.{then_some}
 use Rattle.std.proofs.lemmas.List.Elements.{All-head, All-tail}
-use Rattle.tftp_lines.specs.{Transfer, Placed, may_be_answer_of}
-use Rattle.tftp_transfers.specs.{is_about, is_answered_apart, is_it}
+use Rattle.audit_flows.specs.Lines.{Transfer, Placed, may_be_answer_of}
+use Rattle.audit_flows.specs.Transfers.{is_about, is_answered_apart, is_it}
 use Rattle.tftp_views.specs.{Naming, Client, View}
 use Rattle.tftp_between.specs.{View as Between}
 use Rattle.tftp_between.proofs.Holding.{passes_by as between_passes_by}
-use Rattle.tftp_transfers.proofs.OwnDatagrams.{about_none}
+use Rattle.audit_flows.proofs.TransfersLemmas.OwnDatagrams.{about_none}
 use Rattle.tftp_views.proofs.Holding.{passes_by}
 use Rattle.tftp_views.proofs.Passing.{client_passes_by, doubts_pass_by}
 use Rattle.tftp_recording_judge.specs.{Judging, AreJudgesAfter, BetweenStands, ClientStands, IsUnheard, IsWatching, Judges, ServerStands, Watched}

@@ -5,7 +5,7 @@ use Rattle.std.specs.Str.{bytes_eq}
 use Rattle.tftp_recording_judge.specs.declared.judging.Judging.{Judging}
 use Rattle.tftp_recording_judge.specs.declared.judging.Judging.TheVariants.{Nowhere, Client, Server, Between, WhereRecorded}
 use Rattle.tftp_recording_judge.specs.declared.judging.Points.{Points}
-use Rattle.tftp_lines.specs.{Address, Transfer, V4, V6, same_address}
+use Rattle.audit_flows.specs.Lines.{Address, Transfer, V4, V6, same_address}
 
 -- the client asks at its own address: what passes at a host with that address passes at both ends
 abbrev pub is_at_own_host : Transfer → Bool

@@ -3,8 +3,8 @@
 ghost use Rattle.std.specs.Prelude.{◌≡◌, ◌≢◌, ◌≤◌, ◌∷◌, ◌&&◌, ◌||◌, not, ℕ, Bool, List, length, IsOk, OnOk, Err, None, true, false};
 ghost use Rattle.tftp_recording_judge.specs.Kept.{AreCrowded, AreHanded, AreKept, IsUnheard};
 ghost use Rattle.tftp_recording_judge.specs.declared.judging.Judging.{Judging as JudgingKind};
-ghost use Rattle.tftp_lines.specs.{doubts_of, Placed, Place, Transfer};
-ghost use Rattle.tftp_transfers.specs.{is_it, is_about, AttributionFault};
+ghost use Rattle.audit_flows.specs.Lines.{doubts_of, Placed, Place, Transfer};
+ghost use Rattle.audit_flows.specs.Transfers.{is_it, is_about, AttributionFault};
 ghost use Rattle.tftp_views.specs.{Naming, IsFed, held_of};
 
 use crate::judging::Judging;
@@ -12,8 +12,8 @@ use crate::watched::Watched;
 use std::alloc::{AllocError, Global};
 use std::collections::BTreeMap;
 use tftp_ends::blocks::Delivered;
-use tftp_lines::{Place, Transfer};
-use tftp_transfers::{Attributed, AttributionFault};
+use audit_flows::lines::{Place, Transfer};
+use audit_flows::transfers::{Attributed, AttributionFault};
 use tftp_views::Fed;
 
 /// A transfer that a request opens is kept, before any datagram.

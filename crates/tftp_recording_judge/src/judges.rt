@@ -6,8 +6,8 @@ ghost use Rattle.tftp_parties.specs.{host_name};
 ghost use Rattle.tftp_recording_judge.specs.Kept.{AreAt, AreFew, AreJudgesAfter, AreOf, AreTold, AreWants, IsCrowded};
 ghost use Rattle.law_tap.specs.{AreApart};
 ghost use Rattle.judge_tap.specs.{TapRefusal as RefusalKind};
-ghost use Rattle.tftp_lines.specs.{Placed, Transfer};
-ghost use Rattle.tftp_transfers.specs.{is_about};
+ghost use Rattle.audit_flows.specs.Lines.{Placed, Transfer};
+ghost use Rattle.audit_flows.specs.Transfers.{is_about};
 ghost use Rattle.tftp_views.specs.{Naming, client_capture, client_header, server_capture, server_header, IsJudgedWith, IsFed, held_of};
 
 use crate::judging::Points;
@@ -18,7 +18,7 @@ use std::marker::Model;
 use tftp_between::BetweenView;
 use tftp_ends::blocks::Delivered;
 use tftp_judge::Refusal;
-use tftp_lines::Transfer;
+use audit_flows::lines::Transfer;
 use judge_tap::TapRefusal;
 use tftp_views::{ClientJudge, Fed, ServerView};
 

@@ -4,7 +4,7 @@ ghost use Rattle.std.specs.Prelude.{◌≡◌};
 ghost use Rattle.tftp_recording_judge.specs.Points.{points_of};
 
 use crate::loopback::is_loopback;
-use tftp_lines::Transfer;
+use audit_flows::lines::Transfer;
 
 /// Where the transfers of a recording are judged.
 #[derive(Clone, Copy, Debug, PartialEq, Eq)]

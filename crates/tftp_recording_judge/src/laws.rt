@@ -5,8 +5,8 @@ ghost use Rattle.tftp_recording_judge.specs.Kept.{opened};
 ghost use Rattle.tftp_recording_judge.specs.Points.{is_loopback, points_of};
 ghost use Rattle.tftp_recording_judge.specs.declared.judging.Judging.{Judging};
 ghost use Rattle.tftp_recording_judge.specs.declared.judging.Points.{Points};
-ghost use Rattle.tftp_transfers.specs.{placed, asked_twice};
-ghost use Rattle.tftp_lines.specs.{same_address, Transfer, V4, V6};
+ghost use Rattle.audit_flows.specs.Transfers.{placed, asked_twice};
+ghost use Rattle.audit_flows.specs.Lines.{same_address, Transfer, V4, V6};
 ghost use Rattle.tftp_views.specs.{first_transfer};
 
 /// Of a request that is sent twice the first one opens a transfer, and no other datagram does.

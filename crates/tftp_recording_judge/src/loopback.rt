@@ -3,7 +3,7 @@
 ghost use Rattle.std.specs.Prelude.{◌≡◌};
 ghost use Rattle.tftp_recording_judge.specs.Points.{is_loopback};
 
-use tftp_lines::Address;
+use audit_flows::lines::Address;
 
 /// ::1, the loopback address of IP version 6 (RFC 4291, section 2.5.3).
 const LOOPBACK: [u8; 16] = [0, 0, 0, 0, 0, 0, 0, 0, 0, 0, 0, 0, 0, 0, 0, 1];

@@ -2,10 +2,10 @@
 
 ghost use Rattle.std.specs.Prelude.{◌≡◌, ◌^◌, ◌<◌, ◌≤◌, ◌∷◌, ℕ, List, length, is_some, IfSome, OnOk, Ok, false};
 ghost use Rattle.tftp_between.specs.{IsBetweenAfter, given_to};
-ghost use Rattle.tftp_lines.specs.{Placed, Transfer};
+ghost use Rattle.audit_flows.specs.Lines.{Placed, Transfer};
 ghost use Rattle.tftp_parties.specs.{host_name};
 ghost use Rattle.tftp_recording_judge.specs.Kept.{StandsAs, fed_by};
-ghost use Rattle.tftp_transfers.specs.{is_about};
+ghost use Rattle.audit_flows.specs.Transfers.{is_about};
 ghost use Rattle.tftp_views.specs.{IsClientAfter, IsFed, IsViewAfter, Naming, fed_to, held_of};
 
 use std::alloc::{AllocError, Global};

@@ -2,8 +2,8 @@
 
 ghost use Rattle.std.specs.Prelude.{◌≡◌, ◌≢◌, ◌≤◌, ◌+◌, ◌^◌, ◌<◌, ◌∷◌, ◌⊎◌, ℕ, List, [], length, max, IfOk, IfSome, IsErr, IsSome, MatchBool, MatchOption, OnErr, OnOk, Err, None, Some, true, false};
 ghost use Rattle.tftp_recording_judge.specs.Kept.{AreCrowded, IsCalled, IsWatching, StandsAfter, is_among, opened};
-ghost use Rattle.tftp_lines.specs.{doubts_of, clock, line, live, may_be_tftp, Recorded, Nowhere};
-ghost use Rattle.tftp_transfers.specs.{IsRecorded, place_of, placed, AttributionFault};
+ghost use Rattle.audit_flows.specs.Lines.{doubts_of, clock, line, live, may_be_tftp, Recorded, Nowhere};
+ghost use Rattle.audit_flows.specs.Transfers.{IsRecorded, place_of, placed, AttributionFault};
 ghost use Rattle.tftp_views.specs.{Naming};
 
 use crate::hands::{hand_on, open};
@@ -12,8 +12,8 @@ use crate::watched::Watched;
 use std::alloc::{AllocError, Global};
 use std::collections::BTreeMap;
 use tftp_ends::blocks::Delivered;
-use tftp_lines::Endpoint;
-use tftp_transfers::{Attributed, Attribution, AttributionFault};
+use audit_flows::lines::Endpoint;
+use audit_flows::transfers::{Attributed, Attribution, AttributionFault};
 use tftp_views::{Fed, Party};
 
 /// The judge of a whole recording, fed from its first datagram to its last: it divides what passed into transfers, and

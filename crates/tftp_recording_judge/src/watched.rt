@@ -8,8 +8,8 @@ ghost use Rattle.tftp_recording_judge.specs.Points.{points_of};
 ghost use Rattle.tftp_recording_judge.specs.declared.judging.Judging.{Judging as JudgingKind};
 ghost use Rattle.law_tap.specs.{AreApart};
 ghost use Rattle.judge_tap.specs.{TapRefusal};
-ghost use Rattle.tftp_lines.specs.{doubts_of, Placed, Transfer};
-ghost use Rattle.tftp_transfers.specs.{is_about, AttributionFault};
+ghost use Rattle.audit_flows.specs.Lines.{doubts_of, Placed, Transfer};
+ghost use Rattle.audit_flows.specs.Transfers.{is_about, AttributionFault};
 ghost use Rattle.tftp_views.specs.{Naming, client_capture, client_header, server_capture, server_header, IsJudgedWith, IsFed, held_of};
 
 use crate::judges::Judges;
@@ -19,8 +19,8 @@ use std::alloc::Global;
 use std::marker::Model;
 use tftp_between::BetweenView;
 use tftp_ends::blocks::Delivered;
-use tftp_lines::Transfer;
-use tftp_transfers::{Attributed, AttributionFault, TransferDoubts};
+use audit_flows::lines::Transfer;
+use audit_flows::transfers::{Attributed, AttributionFault, TransferDoubts};
 use tftp_views::{ClientJudge, Fed, ServerView};
 
 /// A transfer of a recording: its judges, each at a point where it is judged, and what makes a refusal of it no accusation.

@@ -4,7 +4,7 @@ use crate::losses::SILENCE;
 use std::alloc::{AllocError, Global};
 use std::collections::{BTreeMap, BTreeSet};
 use tftp_blame::{Spoilt, Trail};
-use tftp_lines::{Address, Endpoint};
+use audit_flows::lines::{Address, Endpoint};
 
 /// The hosts of which a datagram came with right checksums: what comes from them with a wrong one is discarded. A host of which
 /// all are wrong was recorded before its hardware made them.

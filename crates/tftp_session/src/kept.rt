@@ -7,7 +7,7 @@ use crate::plain::put_number;
 use std::alloc::{AllocError, Global};
 use std::collections::BTreeMap;
 use tftp_blame::{Passing, about};
-use tftp_lines::{Place, Transfer};
+use audit_flows::lines::{Place, Transfer};
 use tftp_texts::{Comment, TransferText};
 use tftp_views::Fed;
 

@@ -4,7 +4,7 @@ use std::alloc::{AllocError, Global};
 use std::collections::BTreeMap;
 use std::net::IpAddr;
 use tftp_blame::{Missing, Trail};
-use tftp_lines::{Address, Endpoint};
+use audit_flows::lines::{Address, Endpoint};
 use tftp_parties::address_of;
 
 /// The hosts of a frame, where its IP header is there.

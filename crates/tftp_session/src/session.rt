@@ -12,14 +12,14 @@ use std::collections::BTreeMap;
 use std::io::Read;
 use tftp_blame::{Missing, Passing, Spoilt, Trail, about};
 use tftp_ends::blocks::RingDelivered;
-use tftp_lines::{Endpoint, Place, Transfer};
+use audit_flows::lines::{Endpoint, Place, Transfer};
 use tftp_parties::party_of;
 use net_pcap::{FaultKind, PcapFault};
 use net_udp::recording::{Checksum, Datagram, Event, Fate, RecordingReader};
 use tftp_recording_audit::{AuditFault, NextFrame, RecordingAudit};
 use tftp_recording_judge::{Judging, Watched};
 use net_streams::streams::Latched;
-use tftp_transfers::{Attributed, AttributionFault};
+use audit_flows::transfers::{Attributed, AttributionFault};
 use tftp_views::Fed;
 
 /// What a recording has: its transfers by how many datagrams came before each, and what is to be told of it.

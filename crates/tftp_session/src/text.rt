@@ -6,7 +6,7 @@ use crate::plain::{put_number, put_plain};
 use crate::session::Session;
 use std::alloc::{AllocError, Global};
 use tftp_blame::Trail;
-use tftp_lines::Endpoint;
+use audit_flows::lines::Endpoint;
 use tftp_packet::End;
 use tftp_texts::{Comment, TransferText};
 

@@ -3,7 +3,7 @@
 use std::alloc::{AllocError, Global};
 use std::collections::BTreeMap;
 use tftp_blame::Passing;
-use tftp_lines::Endpoint;
+use audit_flows::lines::Endpoint;
 
 /// Where and when datagrams of no transfer passed.
 #[derive(Drop)]

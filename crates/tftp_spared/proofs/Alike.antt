@@ -5,7 +5,7 @@ use Rattle.std.proofs.Math.Seq.{take-append_seam}
 use Rattle.tftp_packet.specs.{Message, RequestParts, Spells}
 use Rattle.tftp_packet.specs.Written.{IsString, strings, pair_strings}
 use Rattle.tftp_packet.specs.Spelling.{side_opcode}
-use Rattle.tftp_lines.specs.{asked_part}
+use Rattle.audit_flows.specs.Lines.{asked_part}
 
 -- the first zero stands behind the name
 zero_behind : (name rest : List ℕ) → IsString name → position_or_len (λ b. b == 0) (name ++ 0 ∷ rest) ≡ length name

@@ -2,10 +2,10 @@
 use Rattle.std.proofs.Common.{◌≡◌, ℕ, Bool, true, false, List, [], ◌∷◌, ◌++◌, Some, None, refl, sym, ap, subst, ◌∙◌, ◌&&◌, ◌||◌, if◌then◌else◌}
 use Rattle.std.specs.List.{list_any, AllByRecursion}
 use Rattle.std.proofs.lemmas.Bool.{false≢true, or_left, or_right, and_from}
-use Rattle.tftp_lines.specs.{Placed, is_of, newest_of, follows_strays, follows_unanswered, is_disordered, is_asked_again, is_late, may_be_answer_of}
-use Rattle.tftp_transfers.specs.{is_beside, is_doubted, is_doubtful, is_it, is_led_astray, some_of, is_answered_apart, tells_strays}
+use Rattle.audit_flows.specs.Lines.{Placed, is_of, newest_of, follows_strays, follows_unanswered, is_disordered, is_asked_again, is_late, may_be_answer_of}
+use Rattle.audit_flows.specs.Transfers.{is_beside, is_doubted, is_doubtful, is_it, is_led_astray, some_of, is_answered_apart, tells_strays}
 use Rattle.tftp_spared.specs.{is_doubted_there, needs_doubt}
-use Rattle.tftp_lines.proofs.Lines.{by_test}
+use Rattle.audit_flows.proofs.LinesLemmas.Lines.{by_test}
 
 -- ---- doubts stay
 

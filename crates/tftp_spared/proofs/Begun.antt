@@ -19,11 +19,11 @@ use Rattle.law_end.proofs.Division.Placing.{one}
 use Rattle.law_end.proofs.Division.RouteTests.{in_false, in_true, out_false, request_begins, other_begins, error_begins}
 use Rattle.law_end.proofs.Accord.Moments.{sent_moment, who_sent_oack}
 use Rattle.law_end.proofs.Whole.TwoEnds.{lawful}
-use Rattle.tftp_lines.specs.{asked_part}
-use Rattle.tftp_lines.specs.Recording.{is_answer}
+use Rattle.audit_flows.specs.Lines.{asked_part}
+use Rattle.audit_flows.specs.Lines.Recording.{is_answer}
 use Rattle.tftp_spared.proofs.Alike.{asked_alike}
 use Rattle.tftp_spared.proofs.Basics.{all_map}
-use Rattle.tftp_lines.proofs.Lines.{by_test}
+use Rattle.audit_flows.proofs.LinesLemmas.Lines.{by_test}
 
 module _ (service : ℕ) where
   abbrev at : Header

@@ -3,8 +3,8 @@ use Rattle.std.proofs.Common.{◌≡◌, ℕ, true, List, [], ◌∷◌, ◌++�
 use Rattle.std.specs.List.{AllByRecursion, filter}
 use Rattle.tftp_packet.specs.Hosts.{Datagram, Header}
 use Rattle.law_end.specs.{OneEnded}
-use Rattle.tftp_lines.specs.{Recorded, Placed, is_of, is_request}
-use Rattle.tftp_transfers.specs.{client_view}
+use Rattle.audit_flows.specs.Lines.{Recorded, Placed, is_of, is_request}
+use Rattle.audit_flows.specs.Transfers.{client_view}
 use Rattle.tftp_fair.proofs.Thinned.{filter_kept, filter_dropped, kept_or_not}
 use Rattle.tftp_spared.proofs.Stands.{Same, Bottom, AskedBefore}
 

@@ -2,9 +2,9 @@
 use Rattle.std.proofs.Common.{◌≡◌, true, List, [], ◌∷◌, ◌++◌, inl, inr, refl, sym, ap, subst, ◌∙◌, filter, if◌then◌else◌}
 use Rattle.std.specs.List.{AllByRecursion, flat_map}
 use Rattle.std.proofs.lemmas.Bool.{false≢true, or_cases, or_left, or_right, and_from}
-use Rattle.tftp_lines.specs.{Endpoint, Recorded, same_endpoint, is_between, other_of, goes}
-use Rattle.tftp_lines.proofs.Endpoints.{same_itself}
-use Rattle.tftp_lines.proofs.Lines.{by_test}
+use Rattle.audit_flows.specs.Lines.{Endpoint, Recorded, same_endpoint, is_between, other_of, goes}
+use Rattle.audit_flows.proofs.LinesLemmas.Endpoints.{same_itself}
+use Rattle.audit_flows.proofs.LinesLemmas.Lines.{by_test}
 use Rattle.tftp_spared.specs.Seen.{HasNoSilence, is_with}
 use Rattle.tftp_spared.specs.{AreCaptures, Follows, begins, goes_on}
 use Rattle.tftp_spared.proofs.Basics.{all_first, all_last}

@@ -6,8 +6,8 @@ use Rattle.std.proofs.lemmas.List.{reverse-reverse}
 use Rattle.law_end.specs.{OneEnded, IsLawful, IsRefused, Rule}
 use Rattle.law_end.proofs.FirstBroken.FirstBroken.{refused_does_not_pass}
 use Rattle.law_end.proofs.Whole.TwoEnds.{lawful}
-use Rattle.tftp_lines.specs.{Address, Endpoint, Transfer, Recorded, Placed, is_of, transfer_of}
-use Rattle.tftp_transfers.specs.{client_view, placed}
+use Rattle.audit_flows.specs.Lines.{Address, Endpoint, Transfer, Recorded, Placed, is_of, transfer_of}
+use Rattle.audit_flows.specs.Transfers.{client_view, placed}
 use Rattle.tftp_spared.specs.Seen.{HasNoSilence, as_seen_by, at_client_of, is_with}
 use Rattle.tftp_fair.proofs.Thinned.{filter_kept}
 use Rattle.tftp_spared.specs.{needs_doubt, AreCaptures, IsLawfulAt}

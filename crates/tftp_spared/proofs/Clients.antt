@@ -2,14 +2,14 @@
 use Rattle.std.proofs.Common.{◌≡◌, ◌≢◌, ◌⊎◌, ℕ, ◌+◌, true, false, List, [], ◌∷◌, ◌++◌, Option, Some, None, inl, inr, refl, sym, ap, subst, ◌∙◌, ◌==◌, length, max, ne_eqb, arith, length-append, append_assoc, if◌then◌else◌}
 use Rattle.std.specs.List.{AllByRecursion, list_any}
 use Rattle.std.proofs.lemmas.Bool.{false≢true, or_left, or_right, eq-eqb, eqb-true}
-use Rattle.tftp_lines.specs.{opening, Endpoint, Place, Opens, Repeats, Talks, Apart, Beside, Nowhere, Transfer, Recorded, Placed, same_endpoint, is_of, is_at, live, line, clock}
-use Rattle.tftp_transfers.specs.{comes, asks, at_client, beside, is_nowhere, place_of, placed, served_at}
+use Rattle.audit_flows.specs.Lines.{opening, Endpoint, Place, Opens, Repeats, Talks, Apart, Beside, Nowhere, Transfer, Recorded, Placed, same_endpoint, is_of, is_at, live, line, clock}
+use Rattle.audit_flows.specs.Transfers.{comes, asks, at_client, beside, is_nowhere, place_of, placed, served_at}
 use Rattle.tftp_spared.specs.Seen.{is_with}
-use Rattle.tftp_lines.proofs.Endpoints.{is_same, same_itself}
-use Rattle.tftp_lines.proofs.Lines.{by_test}
-use Rattle.tftp_transfers.proofs.AllLines.{line_elsewhere}
-use Rattle.tftp_transfers.proofs.Ends.{IsEnd, asked_place, beside_end, client_end, placed_where}
-use Rattle.tftp_transfers.proofs.Numbers.{length_placed}
+use Rattle.audit_flows.proofs.LinesLemmas.Endpoints.{is_same, same_itself}
+use Rattle.audit_flows.proofs.LinesLemmas.Lines.{by_test}
+use Rattle.audit_flows.proofs.TransfersLemmas.AllLines.{line_elsewhere}
+use Rattle.audit_flows.proofs.TransfersLemmas.Ends.{IsEnd, asked_place, beside_end, client_end, placed_where}
+use Rattle.audit_flows.proofs.TransfersLemmas.Numbers.{length_placed}
 use Rattle.tftp_fair.proofs.Thinned.{filter_dropped}
 use Rattle.tftp_spared.proofs.Basics.{doubted_more}
 use Rattle.tftp_spared.proofs.Stands.{new, AskedBefore, State, doubted, asking, answered, reopened, taken, mixed, Has}

@@ -2,10 +2,10 @@
 use Rattle.std.proofs.Common.{◌≡◌, ◌≤◌, ℕ, ◌+◌, true, false, List, [], ◌∷◌, ◌++◌, refl, sym, ap, subst, ◌∙◌, max, filter, append_assoc, if◌then◌else◌}
 use Rattle.std.specs.List.{AllByRecursion}
 use Rattle.std.proofs.lemmas.Bool.{false≢true}
-use Rattle.tftp_lines.specs.{Endpoint, Place, Transfer, Recorded, Placed, is_of, is_at, live, line, clock, silence}
-use Rattle.tftp_transfers.specs.{placed, place_of}
+use Rattle.audit_flows.specs.Lines.{Endpoint, Place, Transfer, Recorded, Placed, is_of, is_at, live, line, clock, silence}
+use Rattle.audit_flows.specs.Transfers.{placed, place_of}
 use Rattle.tftp_spared.specs.Seen.{is_with}
-use Rattle.tftp_lines.proofs.Lines.{by_test}
+use Rattle.audit_flows.proofs.LinesLemmas.Lines.{by_test}
 use Rattle.tftp_fair.proofs.Thinned.{filter_kept, filter_dropped}
 use Rattle.tftp_spared.specs.{AreCaptures, AreInOrder, IsNext, begins, goes_on, goes_from}
 use Rattle.tftp_spared.proofs.Stands.{new, Has}

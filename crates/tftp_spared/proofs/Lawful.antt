@@ -7,10 +7,10 @@ use Rattle.tftp_packet.specs.Hosts.{Datagram, PeerId, peer_of, same_peer}
 use Rattle.law_model.specs.Rules.{begins_request as says_request, begins_error as says_error, comes_in, goes_out, has_come_from, asks, first_of}
 use Rattle.law_end.proofs.FirstBroken.FirstRequests.{or_some}
 use Rattle.law_end.proofs.Division.RouteTests.{is_same as same_peers}
-use Rattle.tftp_lines.specs.{Address, Endpoint, Recorded, asked_part, asks_alike, same_endpoint, other_of, begins_request, begins_error, goes}
-use Rattle.tftp_lines.specs.Recording.{is_answer}
-use Rattle.tftp_lines.proofs.Endpoints.{is_same, same_itself}
-use Rattle.tftp_lines.proofs.Lines.{by_test}
+use Rattle.audit_flows.specs.Lines.{Address, Endpoint, Recorded, asked_part, asks_alike, same_endpoint, other_of, begins_request, begins_error, goes}
+use Rattle.audit_flows.specs.Lines.Recording.{is_answer}
+use Rattle.audit_flows.proofs.LinesLemmas.Endpoints.{is_same, same_itself}
+use Rattle.audit_flows.proofs.LinesLemmas.Lines.{by_test}
 use Rattle.tftp_spared.specs.Seen.{as_seen_by, at_client_of}
 use Rattle.tftp_spared.specs.{AsksInTime, Follows, IsLawfulAt, asks_from, comes_at, goes_from, goes_on_from}
 use Rattle.tftp_spared.proofs.Captured.{AreHere}

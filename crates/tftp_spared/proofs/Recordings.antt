@@ -2,13 +2,13 @@
 use Rattle.std.proofs.Common.{◌≡◌, ◌⊎◌, inl, inr, ◌≤◌, ℕ, ◌+◌, Bool, true, false, List, [], ◌∷◌, ◌++◌, refl, sym, ap, subst, ◌∙◌, ◌==◌, ◌&&◌, ◌||◌, not, map, length, nat_le, max, is_some, ne_eqb, arith, if◌then◌else◌}
 use Rattle.std.specs.List.{list_any, AllByRecursion}
 use Rattle.std.proofs.lemmas.Bool.{or_left, and_parts, eq-eqb, le-leb}
-use Rattle.tftp_lines.specs.{Endpoint, Place, Opens, Repeats, Talks, Transfer, Recorded, Placed, same_endpoint, other_of, is_of, is_request, is_at, live, line, latest_in, clock, silence, begins_request, place_asked, place_at, talk_in, goes}
-use Rattle.tftp_transfers.specs.{asks, at_client, beside, either, is_client, is_nowhere, is_service, place_of, placed}
-use Rattle.tftp_lines.proofs.Endpoints.{is_same}
-use Rattle.tftp_lines.proofs.Lines.{by_test}
-use Rattle.tftp_lines.proofs.Silences.{live_is, live_not}
-use Rattle.tftp_transfers.proofs.AllLines.{line_here, line_elsewhere}
-use Rattle.tftp_transfers.proofs.Numbers.{AreBelow, IsBelow, placed_below, length_placed}
+use Rattle.audit_flows.specs.Lines.{Endpoint, Place, Opens, Repeats, Talks, Transfer, Recorded, Placed, same_endpoint, other_of, is_of, is_request, is_at, live, line, latest_in, clock, silence, begins_request, place_asked, place_at, talk_in, goes}
+use Rattle.audit_flows.specs.Transfers.{asks, at_client, beside, either, is_client, is_nowhere, is_service, place_of, placed}
+use Rattle.audit_flows.proofs.LinesLemmas.Endpoints.{is_same}
+use Rattle.audit_flows.proofs.LinesLemmas.Lines.{by_test}
+use Rattle.audit_flows.proofs.LinesLemmas.Silences.{live_is, live_not}
+use Rattle.audit_flows.proofs.TransfersLemmas.AllLines.{line_here, line_elsewhere}
+use Rattle.audit_flows.proofs.TransfersLemmas.Numbers.{AreBelow, IsBelow, placed_below, length_placed}
 use Rattle.tftp_spared.specs.{AreInOrder, Follows, asks_from, goes_from}
 use Rattle.tftp_spared.proofs.Places.{comes_to_it}
 use Rattle.tftp_spared.proofs.Stands.{new, Has}

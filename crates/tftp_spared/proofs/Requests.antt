@@ -3,10 +3,10 @@ use Rattle.std.proofs.Common.{◌≡◌, ℕ, Bool, true, false, List, [], ◌�
 use Rattle.std.specs.List.{list_any, AllByRecursion, filter}
 use Rattle.std.proofs.lemmas.Bool.{false≢true, or_right, and_from, and_parts, eq-eqb}
 use Rattle.std.proofs.lemmas.Slice.Eq.{bytes_eq-Decides}
-use Rattle.tftp_lines.specs.{opening, Endpoint, Place, Opens, Repeats, Apart, Transfer, Recorded, Placed, same_endpoint, is_between, is_again, other_of, is_of, is_request, is_apart, newest_of, reach, live, line, says_more, is_alike_in, begins_request, goes, transfer_of, opened_by, asked_after, place_asked, is_asked_again}
-use Rattle.tftp_lines.proofs.Endpoints.{is_same, same_itself}
-use Rattle.tftp_lines.proofs.Lines.{by_test}
-use Rattle.tftp_transfers.proofs.AllLines.{line_here}
+use Rattle.audit_flows.specs.Lines.{opening, Endpoint, Place, Opens, Repeats, Apart, Transfer, Recorded, Placed, same_endpoint, is_between, is_again, other_of, is_of, is_request, is_apart, newest_of, reach, live, line, says_more, is_alike_in, begins_request, goes, transfer_of, opened_by, asked_after, place_asked, is_asked_again}
+use Rattle.audit_flows.proofs.LinesLemmas.Endpoints.{is_same, same_itself}
+use Rattle.audit_flows.proofs.LinesLemmas.Lines.{by_test}
+use Rattle.audit_flows.proofs.TransfersLemmas.AllLines.{line_here}
 use Rattle.tftp_fair.proofs.Thinned.{filter_kept, filter_dropped, kept_or_not}
 use Rattle.tftp_spared.specs.{Follows, asks_from, comes_at, goes_from, goes_on_from}
 use Rattle.tftp_spared.proofs.Basics.{doubted_more, doubted_again, all_and, all_first}

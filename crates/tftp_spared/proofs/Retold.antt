@@ -2,8 +2,8 @@
 use Rattle.std.proofs.Common.{◌≡◌, ℕ, Bool, true, false, List, [], ◌∷◌, ◌++◌, refl, sym, ap, subst, ◌∙◌, map, reverse, filter, not, if◌then◌else◌}
 use Rattle.std.specs.List.{AllByRecursion, flat_map}
 use Rattle.tftp_packet.specs.Hosts.{In, Out, Datagram}
-use Rattle.tftp_lines.specs.{Address, Endpoint, Recorded, Placed, Transfer, is_of, same_endpoint}
-use Rattle.tftp_transfers.specs.{client_view, is_at_server, placed}
+use Rattle.audit_flows.specs.Lines.{Address, Endpoint, Recorded, Placed, Transfer, is_of, same_endpoint}
+use Rattle.audit_flows.specs.Transfers.{client_view, is_at_server, placed}
 use Rattle.tftp_spared.specs.{as_served, captured_there, seen_at_server, server_saw, went_out}
 use Rattle.tftp_spared.specs.Seen.{as_seen_by, is_with}
 use Rattle.tftp_spared.proofs.Basics.{all_last, all_map}

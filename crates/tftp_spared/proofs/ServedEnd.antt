@@ -8,10 +8,10 @@ use Rattle.law_model.specs.Rules.{asks, first_of, or_this}
 use Rattle.law_end.specs.{OneEnded, IsLawful, IsRefused, Passes, Rule}
 use Rattle.law_end.proofs.Division.RouteTests.{same_is as peers_same, is_same as same_peers}
 use Rattle.law_end.proofs.Whole.TwoEnds.{lawful}
-use Rattle.tftp_lines.specs.{Address, Endpoint, Place, Opens, Repeats, Talks, Apart, Beside, Nowhere, Transfer, Recorded, Placed, same_address, same_endpoint, other_of, is_of, is_request, transfer_of, begins_error, begins_request, is_late, is_sent_by_client, speaks_first}
-use Rattle.tftp_lines.proofs.Endpoints.{is_same, same_itself}
-use Rattle.tftp_lines.proofs.Lines.{by_test}
-use Rattle.tftp_transfers.specs.{asked_of as asked_by, client_view, placed, place_of, comes, goes_on, answered_by, went_on_with, server_of, is_server, is_at_server, has_host, has_port, goes_to_asked, is_beside, is_doubted, is_doubtful, is_doubtful_at_server, is_led_astray, some_of, comes_of_earlier, tells_strays}
+use Rattle.audit_flows.specs.Lines.{Address, Endpoint, Place, Opens, Repeats, Talks, Apart, Beside, Nowhere, Transfer, Recorded, Placed, same_address, same_endpoint, other_of, is_of, is_request, transfer_of, begins_error, begins_request, is_late, is_sent_by_client, speaks_first}
+use Rattle.audit_flows.proofs.LinesLemmas.Endpoints.{is_same, same_itself}
+use Rattle.audit_flows.proofs.LinesLemmas.Lines.{by_test}
+use Rattle.audit_flows.specs.Transfers.{asked_of as asked_by, client_view, placed, place_of, comes, goes_on, answered_by, went_on_with, server_of, is_server, is_at_server, has_host, has_port, goes_to_asked, is_beside, is_doubted, is_doubtful, is_doubtful_at_server, is_led_astray, some_of, comes_of_earlier, tells_strays}
 use Rattle.tftp_fair.proofs.Thinned.{filter_kept, filter_dropped, kept_or_not}
 use Rattle.tftp_spared.specs.Seen.{HasNoSilence, is_with}
 use Rattle.tftp_spared.specs.{AreCaptures, AsksInTime, as_served, at_server_of, captured_there, goes_from, is_doubted_there, is_shared, needs_doubt, seen_at_server, server_saw, transfer_beside, went_out}

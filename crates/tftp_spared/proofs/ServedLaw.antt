@@ -8,10 +8,10 @@ use Rattle.tftp_packet.specs.Hosts.{Datagram, PeerId, peer_of}
 use Rattle.law_model.specs.Model.{Meaning, Req, message_of, request_of}
 use Rattle.law_model.specs.Rules.{begins_request as says_request, comes_in, goes_out}
 use Rattle.law_end.specs.{OneEnded, TransferIds}
-use Rattle.tftp_lines.specs.{Address, Endpoint, Recorded, asked_part, asks_alike, same_endpoint, other_of, begins_request, goes}
-use Rattle.tftp_lines.specs.Recording.{is_answer}
-use Rattle.tftp_lines.proofs.Endpoints.{is_same, same_itself}
-use Rattle.tftp_lines.proofs.Lines.{by_test}
+use Rattle.audit_flows.specs.Lines.{Address, Endpoint, Recorded, asked_part, asks_alike, same_endpoint, other_of, begins_request, goes}
+use Rattle.audit_flows.specs.Lines.Recording.{is_answer}
+use Rattle.audit_flows.proofs.LinesLemmas.Endpoints.{is_same, same_itself}
+use Rattle.audit_flows.proofs.LinesLemmas.Lines.{by_test}
 use Rattle.tftp_spared.specs.Seen.{is_with}
 use Rattle.tftp_spared.specs.{AsksInTime, Follows, as_served, at_server_of, captured_there, asks_from, comes_at, goes_from}
 use Rattle.tftp_spared.proofs.Alike.{asked_alike}

@@ -17,7 +17,7 @@ use Rattle.law_end.proofs.Division.Placing.{one, starts_before, MainOut, StrayFr
 use Rattle.law_end.proofs.Division.Routed.{starts_of}
 use Rattle.law_end.proofs.Division.RouteTests.{in_false, in_true, out_false, out_true, request_begins, other_begins}
 use Rattle.law_end.proofs.Whole.TwoEnds.{lawful}
-use Rattle.tftp_lines.specs.Recording.{is_answer}
+use Rattle.audit_flows.specs.Lines.Recording.{is_answer}
 use Rattle.tftp_spared.proofs.Begun.{ack_0, data_1, says_ack_0, says_data_1}
 
 abbrev pub at : Header

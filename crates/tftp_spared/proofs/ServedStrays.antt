@@ -9,7 +9,7 @@ use Rattle.law_model.specs.Rules.{PortRule}
 use Rattle.law_end.specs.{Broken, IsRead, MessageBreaks, MessageBroken, OneEnded, Passes, Rule}
 use Rattle.law_end.proofs.Division.RouteTests.{is_same}
 use Rattle.law_end.proofs.FirstBroken.FirstRequests.{first_passes, or_some}
-use Rattle.tftp_lines.proofs.Lines.{by_test}
+use Rattle.audit_flows.proofs.LinesLemmas.Lines.{by_test}
 use Rattle.tftp_fair.proofs.Thinned.{filter_kept, filter_dropped, kept_or_not}
 
 -- ---- the first of those that are kept

@@ -5,10 +5,10 @@ use Rattle.std.proofs.lemmas.Bool.{false≢true, or_cases, and_parts}
 use Rattle.tftp_packet.specs.Hosts.{Datagram}
 use Rattle.tftp_packet.specs.{Server}
 use Rattle.law_end.specs.{OneEnded}
-use Rattle.tftp_lines.specs.{Address, Endpoint, Recorded, Placed, Transfer, same_endpoint, other_of, is_between, is_of, is_request}
-use Rattle.tftp_lines.proofs.Lines.{by_test}
-use Rattle.tftp_transfers.specs.{client_view}
-use Rattle.tftp_transfers.proofs.Ends.{spoken}
+use Rattle.audit_flows.specs.Lines.{Address, Endpoint, Recorded, Placed, Transfer, same_endpoint, other_of, is_between, is_of, is_request}
+use Rattle.audit_flows.proofs.LinesLemmas.Lines.{by_test}
+use Rattle.audit_flows.specs.Transfers.{client_view}
+use Rattle.audit_flows.proofs.TransfersLemmas.Ends.{spoken}
 use Rattle.tftp_spared.specs.{as_served, at_server_of, captured_there, asks_from}
 use Rattle.tftp_spared.proofs.Stands.{Same, Asking, Answered, Reopened, AreWith, IsKnown, Has}
 use Rattle.tftp_spared.proofs.Places.{other_is}

@@ -2,12 +2,12 @@
 use Rattle.std.proofs.Common.{◌≡◌, ◌⊎◌, ℕ, true, false, List, [], ◌∷◌, ◌++◌, Contains, Some, inl, inr, refl, sym, ap, subst, ◌∙◌, ◌==◌, ◌&&◌, ◌||◌, not}
 use Rattle.std.specs.List.{AllByRecursion, list_any}
 use Rattle.std.proofs.lemmas.Bool.{false≢true, or_cases, or_left, or_right, and_from, and_parts, eq-eqb, eqb-true}
-use Rattle.tftp_lines.specs.{Endpoint, Place, Opens, Repeats, Talks, Transfer, Recorded, Placed, same_endpoint, is_between, other_of, is_request, is_of, is_late, is_another, live, line, latest_in, transfer_of}
-use Rattle.tftp_transfers.specs.{client_view, place_of, placed, some_of}
+use Rattle.audit_flows.specs.Lines.{Endpoint, Place, Opens, Repeats, Talks, Transfer, Recorded, Placed, same_endpoint, is_between, other_of, is_request, is_of, is_late, is_another, live, line, latest_in, transfer_of}
+use Rattle.audit_flows.specs.Transfers.{client_view, place_of, placed, some_of}
 use Rattle.tftp_spared.specs.Seen.{is_with}
-use Rattle.tftp_lines.proofs.Endpoints.{same_itself}
-use Rattle.tftp_lines.proofs.Lines.{by_test}
-use Rattle.tftp_transfers.proofs.AllLines.{line_here}
+use Rattle.audit_flows.proofs.LinesLemmas.Endpoints.{same_itself}
+use Rattle.audit_flows.proofs.LinesLemmas.Lines.{by_test}
+use Rattle.audit_flows.proofs.TransfersLemmas.AllLines.{line_here}
 use Rattle.tftp_fair.proofs.Thinned.{filter_dropped}
 use Rattle.tftp_spared.specs.{is_doubted_there, is_shared, is_talk_of_another, needs_doubt}
 use Rattle.tftp_spared.proofs.Basics.{any_append, doubted_more}

@@ -3,15 +3,15 @@ use Rattle.std.proofs.Common.{◌≡◌, ◌≢◌, ℕ, Bool, true, false, List
 use Rattle.std.specs.List.{list_any, AllByRecursion}
 use Rattle.std.proofs.lemmas.Bool.{false≢true, or_cases, or_parts, or_left, or_right, and_from, and_parts, eq-eqb, eqb-true}
 use Rattle.law_model.specs.Rules.{first_of, or_this}
-use Rattle.tftp_lines.specs.{Endpoint, Place, Talks, Transfer, Recorded, Placed, same_endpoint, is_between, other_of, is_of, is_request, newest_of, reach, live, line, says_more, begins_request, begins_error, goes, last_was_ack_0, answers, answered_in, latest_in, opens, place_at, is_another, may_be_answer_of, may_answer, talk_in}
-use Rattle.tftp_lines.specs.Recording.{is_answer, is_data_1}
-use Rattle.tftp_lines.specs.Doubting.{acked_0_in, answer_of, is_next_data}
-use Rattle.tftp_transfers.specs.{comes, is_it}
+use Rattle.audit_flows.specs.Lines.{Endpoint, Place, Talks, Transfer, Recorded, Placed, same_endpoint, is_between, other_of, is_of, is_request, newest_of, reach, live, line, says_more, begins_request, begins_error, goes, last_was_ack_0, answers, answered_in, latest_in, opens, place_at, is_another, may_be_answer_of, may_answer, talk_in}
+use Rattle.audit_flows.specs.Lines.Recording.{is_answer, is_data_1}
+use Rattle.audit_flows.specs.Lines.Doubting.{acked_0_in, answer_of, is_next_data}
+use Rattle.audit_flows.specs.Transfers.{comes, is_it}
 use Rattle.law_model.proofs.ModelLemmas.Members.{contains_later}
-use Rattle.tftp_lines.proofs.Endpoints.{is_same, same_itself}
-use Rattle.tftp_lines.proofs.Lines.{by_test, answered_more}
-use Rattle.tftp_transfers.proofs.AllLines.{line_here}
-use Rattle.tftp_transfers.proofs.Ends.{spoken}
+use Rattle.audit_flows.proofs.LinesLemmas.Endpoints.{is_same, same_itself}
+use Rattle.audit_flows.proofs.LinesLemmas.Lines.{by_test, answered_more}
+use Rattle.audit_flows.proofs.TransfersLemmas.AllLines.{line_here}
+use Rattle.audit_flows.proofs.TransfersLemmas.Ends.{spoken}
 use Rattle.tftp_fair.proofs.Thinned.{filter_kept, filter_dropped}
 use Rattle.tftp_spared.specs.{Follows, asks_from, comes_at, goes_from, goes_on_from}
 use Rattle.tftp_spared.proofs.Basics.{some_or, doubted_more, doubted_apart, all_first, all_last, all_map, newest_all, newest_first, newest_some, any_append}

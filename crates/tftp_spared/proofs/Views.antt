@@ -9,9 +9,9 @@ use Rattle.tftp_packet.specs.Hosts.{In, Out, Datagram, PeerId, peer_of, same_pee
 use Rattle.law_model.specs.Rules.{comes_in, goes_out, first_of, or_this}
 use Rattle.law_end.specs.{OneEnded}
 use Rattle.law_end.proofs.Division.RouteTests.{is_same as same_peers, same_is as peers_same}
-use Rattle.tftp_lines.specs.{Address, Endpoint, Recorded, Placed, Transfer, same_endpoint, other_of, is_of, is_request, begins_request}
-use Rattle.tftp_lines.proofs.Lines.{by_test, map_or}
-use Rattle.tftp_transfers.specs.{client_view}
+use Rattle.audit_flows.specs.Lines.{Address, Endpoint, Recorded, Placed, Transfer, same_endpoint, other_of, is_of, is_request, begins_request}
+use Rattle.audit_flows.proofs.LinesLemmas.Lines.{by_test, map_or}
+use Rattle.audit_flows.specs.Transfers.{client_view}
 use Rattle.tftp_spared.specs.Seen.{as_seen_by, at_client_of}
 use Rattle.tftp_fair.specs.{AreApart, is_own_request, stays}
 use Rattle.tftp_fair.proofs.ByRules.{passes_without}

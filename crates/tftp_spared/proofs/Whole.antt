@@ -4,11 +4,11 @@ use Rattle.std.specs.List.{AllByRecursion, list_any}
 use Rattle.std.proofs.lemmas.Bool.{false≢true, and_from, and_parts, or_cases, or_left, or_right}
 use Rattle.std.proofs.lemmas.List.Elements.{Contains-append_right}
 use Rattle.law_model.proofs.ModelLemmas.Members.{contains_first}
-use Rattle.tftp_lines.specs.{Endpoint, Place, Opens, Repeats, Talks, Beside, Transfer, Recorded, Placed, same_endpoint, goes, is_at, is_of, is_request, transfer_of, begins_request, clock, silence, is_again, is_apart, newest_of, live, line, opened_by, asked_after, talk_in}
-use Rattle.tftp_lines.proofs.Endpoints.{is_same, same_itself}
-use Rattle.tftp_lines.proofs.Lines.{by_test}
-use Rattle.tftp_transfers.specs.{asks, at_client, beside, is_beside, is_client, is_nowhere, is_service, place_of, placed}
-use Rattle.tftp_transfers.proofs.Ends.{asked_as, asked_place, opened, again}
+use Rattle.audit_flows.specs.Lines.{Endpoint, Place, Opens, Repeats, Talks, Beside, Transfer, Recorded, Placed, same_endpoint, goes, is_at, is_of, is_request, transfer_of, begins_request, clock, silence, is_again, is_apart, newest_of, live, line, opened_by, asked_after, talk_in}
+use Rattle.audit_flows.proofs.LinesLemmas.Endpoints.{is_same, same_itself}
+use Rattle.audit_flows.proofs.LinesLemmas.Lines.{by_test}
+use Rattle.audit_flows.specs.Transfers.{asks, at_client, beside, is_beside, is_client, is_nowhere, is_service, place_of, placed}
+use Rattle.audit_flows.proofs.TransfersLemmas.Ends.{asked_as, asked_place, opened, again}
 use Rattle.tftp_spared.specs.Seen.{is_with}
 use Rattle.tftp_spared.specs.{AskersAreElsewhere, AreCaptures, Follows, IsNext, AreInOrder, asks_from, begins, comes_at, goes_on, goes_from}
 use Rattle.tftp_spared.proofs.Basics.{all_last}

@@ -8,8 +8,8 @@ use Rattle.law_model.specs.Model.Worked.{client as client_does, server as server
 use Rattle.law_end.specs.{IsLawful, Label, Main, Stray, Labelled, Division, TransferIds}
 use Rattle.law_end.specs.Dress.{StrayAnswer}
 use Rattle.law_end.proofs.Division.Divided.{any_first, any_later}
-use Rattle.tftp_transfers.specs.{ack_of, client, data_of, service}
-use Rattle.tftp_transfers.specs.Worked.{at, error_of, next_server, other_client, passes, requests, server, stranger}
+use Rattle.audit_flows.specs.Transfers.{ack_of, client, data_of, service}
+use Rattle.audit_flows.specs.Transfers.Worked.{at, error_of, next_server, other_client, passes, requests, server, stranger}
 use Rattle.tftp_spared.specs.{as_seen_by, as_served, at_client_of, at_server_of}
 use Rattle.tftp_spared.specs.Worked.{first_capture, first_served, one_name, own_name, second_capture, second_served, service_client}
 use Rattle.tftp_spared.proofs.WorkedReads.{shown, f_spelled, g_spelled, asked, came, acked, was_asked, went, was_acked, told_error, was_told, stop_spelled, full_spelled, error_5}

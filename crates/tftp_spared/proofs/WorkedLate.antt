@@ -8,8 +8,8 @@ use Rattle.law_model.specs.Rules.{Terms, NoReply, EndRule, IsTop, PortRule, Rout
 use Rattle.law_end.specs.{Agrees, Answer, IsAnswer, Begins, Broken, FirstAsked, IsRefused, MessageBreaks, MessageBroken, NotAnswered, Rule, IsWrongKind, number_of, plain_terms}
 use Rattle.law_end.proofs.Spelled.{spelled_once}
 use Rattle.law_end.proofs.FirstBroken.FirstRequests.{request_same, some_same}
-use Rattle.tftp_transfers.specs.{ack_of, client, service}
-use Rattle.tftp_transfers.specs.Worked.{error_of, passes, read_of, requests, server}
+use Rattle.audit_flows.specs.Transfers.{ack_of, client, service}
+use Rattle.audit_flows.specs.Transfers.Worked.{error_of, passes, read_of, requests, server}
 use Rattle.tftp_spared.specs.{as_served, at_server_of}
 use Rattle.tftp_spared.specs.Worked.{own_name}
 use Rattle.tftp_spared.proofs.ServedEnd.{served_lawful}

@@ -9,8 +9,8 @@ use Rattle.law_model.proofs.RulesLemmas.EndRules.{from_18}
 use Rattle.law_end.specs.{Broken, IsRefused, MessageBreaks, MessageBroken, Rule, IsWrongKind, number_of}
 use Rattle.law_end.proofs.Spelled.{spelled_once}
 use Rattle.law_end.proofs.FirstBroken.OneMessage.{agreement_from}
-use Rattle.tftp_transfers.specs.{client, data_of, service}
-use Rattle.tftp_transfers.specs.Worked.{error_of, passes, requests, server}
+use Rattle.audit_flows.specs.Transfers.{client, data_of, service}
+use Rattle.audit_flows.specs.Transfers.Worked.{error_of, passes, requests, server}
 use Rattle.tftp_spared.specs.{as_served, at_server_of}
 use Rattle.tftp_spared.specs.Worked.{one_name}
 use Rattle.tftp_spared.proofs.ServedEnd.{served_lawful}

@@ -8,9 +8,9 @@ use Rattle.law_end.specs.{Broken, IsLawful, IsRefused, OneEnded, Rule, number_of
 use Rattle.law_end.proofs.FirstBroken.OneMessage.{agreement_from}
 use Rattle.law_model.proofs.RulesLemmas.EndRules.{from_18}
 use Rattle.law_model.proofs.ModelLemmas.Members.{contains_cases, contains_first, contains_later, contains_none}
-use Rattle.tftp_lines.specs.{Address, V4, V6, Endpoint, Recorded, begins_request, other_of, same_endpoint, silence}
-use Rattle.tftp_lines.proofs.Endpoints.{is_same}
-use Rattle.tftp_lines.proofs.Lines.{by_test}
+use Rattle.audit_flows.specs.Lines.{Address, V4, V6, Endpoint, Recorded, begins_request, other_of, same_endpoint, silence}
+use Rattle.audit_flows.proofs.LinesLemmas.Endpoints.{is_same}
+use Rattle.audit_flows.proofs.LinesLemmas.Lines.{by_test}
 use Rattle.tftp_spared.specs.Seen.{HasNoSilence, as_seen_by, at_client_of, is_with}
 use Rattle.tftp_spared.specs.{AreAtHost, AreInOrder, AskersAreElsewhere, AsksInTime, FollowOneAnother, HaveNoServicePort, HaveOwnNames, IsServedCapture, IsTimelyCapture, IsWholeCapture, as_served, asks_from, at_server_of, goes_on_from}
 use Rattle.tftp_spared.specs.Worked.{own_name}

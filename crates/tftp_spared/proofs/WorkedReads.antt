@@ -10,8 +10,8 @@ use Rattle.law_model.proofs.ModelLemmas.Computed.{Plan, IsPlan, is_run, run_is}
 use Rattle.law_model.proofs.ModelLemmas.Defaults.{default_blksize, default_windowsize}
 use Rattle.law_end.specs.{Fits, IsLawful, Main, Division, datagrams_of, view_in, TransferIds, HasLabel, HaveLabels}
 use Rattle.law_end.proofs.Whole.NothingAgreed.{none_there, nothing_may_be_agreed_by}
-use Rattle.tftp_transfers.specs.{ack_of, data_of}
-use Rattle.tftp_transfers.specs.Worked.{error_of, read_of}
+use Rattle.audit_flows.specs.Transfers.{ack_of, data_of}
+use Rattle.audit_flows.specs.Transfers.Worked.{error_of, read_of}
 
 -- ---- what the payloads spell
 

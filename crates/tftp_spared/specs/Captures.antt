@@ -2,9 +2,9 @@
 use Rattle.std.specs.Prelude.{◌≡◌, ◌≤◌, ◌+◌, ℕ, ◌&&◌, not, Bool, true, false, List, [], ◌∷◌, map, if◌then◌else◌}
 use Rattle.std.specs.List.{list_any, AllByRecursion}
 use Rattle.law_end.specs.{OneEnded}
-use Rattle.tftp_lines.specs.{Address, Endpoint, Recorded, same_endpoint, begins_request, begins_error, asks_alike, goes, is_between, other_of, silence}
+use Rattle.audit_flows.specs.Lines.{Address, Endpoint, Recorded, same_endpoint, begins_request, begins_error, asks_alike, goes, is_between, other_of, silence}
 use Rattle.tftp_spared.specs.Seen.{as_seen_by, at_client_of}
-use Rattle.tftp_lines.specs.Recording.{is_answer}
+use Rattle.audit_flows.specs.Lines.Recording.{is_answer}
 
 -- the client sent it
 abbrev pub goes_from : Endpoint → Recorded → Bool

@@ -2,7 +2,7 @@
 use Rattle.std.specs.Prelude.{◌≤◌, ℕ, ◌+◌, ◌||◌, Bool, List, [], ◌∷◌, if◌then◌else◌}
 use Rattle.tftp_packet.specs.Hosts.{In, Out, Datagram, Header}
 use Rattle.tftp_packet.specs.{Client}
-use Rattle.tftp_lines.specs.{Address, Endpoint, Recorded, same_endpoint, silence}
+use Rattle.audit_flows.specs.Lines.{Address, Endpoint, Recorded, same_endpoint, silence}
 
 -- the client's endpoint sent or received it
 abbrev pub is_with : Endpoint → Recorded → Bool

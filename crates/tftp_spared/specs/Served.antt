@@ -5,11 +5,11 @@ use Rattle.std.specs.List.{list_any}
 use Rattle.tftp_packet.specs.{Server}
 use Rattle.tftp_packet.specs.Hosts.{In, Out, Datagram, Header}
 use Rattle.law_end.specs.{IsLawful, IsRefused, Rule}
-use Rattle.tftp_lines.specs.{Address, Endpoint, Place, Opens, Repeats, Talks, Beside, Transfer, Recorded, Placed, same_endpoint, is_between, is_of, is_request, other_of}
-use Rattle.tftp_lines.specs.Doubting.{line_before}
-use Rattle.tftp_transfers.specs.Places.{placed}
-use Rattle.tftp_transfers.specs.Views.{is_at_server, is_end, server_of}
-use Rattle.tftp_transfers.specs.Doubts.{is_beside, is_doubtful_at_server}
+use Rattle.audit_flows.specs.Lines.{Address, Endpoint, Place, Opens, Repeats, Talks, Beside, Transfer, Recorded, Placed, same_endpoint, is_between, is_of, is_request, other_of}
+use Rattle.audit_flows.specs.Lines.Doubting.{line_before}
+use Rattle.audit_flows.specs.Transfers.Places.{placed}
+use Rattle.audit_flows.specs.Transfers.Views.{is_at_server, is_end, server_of}
+use Rattle.audit_flows.specs.Transfers.Doubts.{is_beside, is_doubtful_at_server}
 use Rattle.tftp_spared.specs.Seen.{HasNoSilence, is_with}
 use Rattle.tftp_spared.specs.Captures.{AreInOrder, AsksInTime}
 use Rattle.tftp_spared.specs.Spared.{AskersAreElsewhere, FollowOneAnother, HaveOwnNames, needs_doubt}

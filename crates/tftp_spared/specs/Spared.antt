@@ -2,10 +2,10 @@
 use Rattle.std.specs.Prelude.{◌≡◌, ◌⊎◌, ℕ, ◌||◌, Bool, true, false, List, [], ◌∷◌, ◌++◌, map, reverse, filter, All, Contains, Some}
 use Rattle.std.specs.List.{flat_map}
 use Rattle.law_end.specs.{IsLawful, IsRefused, Rule}
-use Rattle.tftp_lines.specs.{Address, Endpoint, Transfer, Recorded, Placed, transfer_of, begins_request, is_asked_again, is_late}
-use Rattle.tftp_transfers.specs.Places.{placed}
-use Rattle.tftp_transfers.specs.Views.{client_view}
-use Rattle.tftp_transfers.specs.Doubts.{is_answered_apart, is_doubtful, some_of}
+use Rattle.audit_flows.specs.Lines.{Address, Endpoint, Transfer, Recorded, Placed, transfer_of, begins_request, is_asked_again, is_late}
+use Rattle.audit_flows.specs.Transfers.Places.{placed}
+use Rattle.audit_flows.specs.Transfers.Views.{client_view}
+use Rattle.audit_flows.specs.Transfers.Doubts.{is_answered_apart, is_doubtful, some_of}
 use Rattle.tftp_spared.specs.Seen.{as_seen_by, at_client_of, is_with, HasNoSilence}
 use Rattle.tftp_spared.specs.Captures.{AreInOrder}
 

@@ -2,9 +2,9 @@
 -- in seconds, the newest datagram is first.
 use Rattle.std.specs.Prelude.{◌≡◌, ℕ, ◌||◌, Bool, false, List, [], ◌∷◌, ◌++◌, codes, map, max, Some}
 use Rattle.law_end.specs.{IsRefused, Rule}
-use Rattle.tftp_lines.specs.{Address, Endpoint, Transfer, Recorded, Placed, clock, transfer_of, bytes_of, version_of}
-use Rattle.tftp_transfers.specs.{ack_of, client, data_of, service, client_view, is_beside, place_of, placed}
-use Rattle.tftp_transfers.specs.Worked.{at, error_of, next_server, oack, other_client, passes, requests, server, stranger}
+use Rattle.audit_flows.specs.Lines.{Address, Endpoint, Transfer, Recorded, Placed, clock, transfer_of, bytes_of, version_of}
+use Rattle.audit_flows.specs.Transfers.{ack_of, client, data_of, service, client_view, is_beside, place_of, placed}
+use Rattle.audit_flows.specs.Transfers.Worked.{at, error_of, next_server, oack, other_client, passes, requests, server, stranger}
 use Rattle.tftp_spared.specs.Seen.{as_seen_by, at_client_of}
 use Rattle.tftp_spared.specs.Spared.{needs_doubt}
 use Rattle.tftp_spared.specs.Served.{at_server_of, seen_at_server, server_saw, transfer_beside}

@@ -1,6 +1,6 @@
 -- The datagrams that are kept, one after another.
 use Rattle.std.proofs.Common.{◌≡◌, ℕ, suc, zero, ◌+◌, ◌<◌, List, [], ◌∷◌, ◌++◌, get_or, length, map, take, refl, ap, ◌∙◌, arith}
-use Rattle.tftp_lines.specs.{Placed}
+use Rattle.audit_flows.specs.Lines.{Placed}
 use Rattle.tftp_views.specs.{Naming, AreHeld, IsFed}
 use Rattle.tftp_texts.specs.{Noted}
 

@@ -8,8 +8,8 @@ use Rattle.net_streams.specs.Streams.{Sink, WriteFault, Writes, Wrote}
 use Rattle.tftp_capture.specs.Commented.Entry.{Comment, Passed}
 use Rattle.tftp_packet.specs.Hosts.{Dir}
 use Rattle.tftp_packet.specs.{End}
-use Rattle.tftp_lines.specs.{Transfer, Placed}
-use Rattle.tftp_transfers.specs.{AreEndsAfter, is_about}
+use Rattle.audit_flows.specs.Lines.{Transfer, Placed}
+use Rattle.audit_flows.specs.Transfers.{AreEndsAfter, is_about}
 use Rattle.tftp_views.specs.{Naming, captured, captured_as, Held, IsFed}
 use Rattle.tftp_views.proofs.Feeding.{fed_as}
 use Rattle.tftp_texts.specs.{AreNotesAfter, Notes, Noted, HasComment, IsComment, capture_at, captured_at, is_seen, way_at}

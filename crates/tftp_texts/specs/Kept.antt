@@ -1,8 +1,8 @@
 -- What is kept of a transfer for its text.
 use Rattle.std.specs.Prelude.{◌≡◌, ◌≤◌, List, filter, length, map, reverse}
 use Rattle.tftp_capture.specs.{IsPort}
-use Rattle.tftp_transfers.specs.{AreEndsAfter, is_about, TransferEnds}
-use Rattle.tftp_lines.specs.{Placed, Transfer}
+use Rattle.audit_flows.specs.Transfers.{AreEndsAfter, is_about, TransferEnds}
+use Rattle.audit_flows.specs.Lines.{Placed, Transfer}
 use Rattle.tftp_views.specs.{Naming, AreHeld}
 use Rattle.tftp_texts.specs.declared.noted.Noted.{Noted}
 

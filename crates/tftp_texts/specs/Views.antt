@@ -5,8 +5,8 @@ use Rattle.tftp_packet.specs.{End, Client, Server}
 use Rattle.tftp_capture.specs.CaptureText.{Datagram, Header}
 use Rattle.tftp_capture.specs.{Entry, commented_text, said_in, HasNoEnd}
 use Rattle.tftp_capture.specs.Commented.Entry.{Comment, Passed}
-use Rattle.tftp_lines.specs.{Transfer, Placed, is_of}
-use Rattle.tftp_transfers.specs.{is_at_server}
+use Rattle.audit_flows.specs.Lines.{Transfer, Placed, is_of}
+use Rattle.audit_flows.specs.Transfers.{is_at_server}
 use Rattle.tftp_views.specs.{Naming, captured, client_header, server_header, way_at_client, way_at_server}
 
 -- of the transfer with this number the datagram is in the end's view

@@ -6,7 +6,7 @@ ghost use Rattle.tftp_packet.specs.Hosts.{Datagram, Header};
 ghost use Rattle.law_model.specs.Model.{Meaning};
 ghost use Rattle.tftp_judge.specs.{IsTextVerdict, unnumbered, IsSaid, IsVerdict, Refusal};
 ghost use Rattle.tftp_packet.specs.{Client, Server};
-ghost use Rattle.tftp_lines.specs.{Placed, Transfer};
+ghost use Rattle.audit_flows.specs.Lines.{Placed, Transfer};
 ghost use Rattle.tftp_views.specs.{Naming, client_capture, server_capture, of_text};
 ghost use Rattle.tftp_texts.specs.Views.{IsTextOf, capture_at};
 

@@ -4,8 +4,8 @@ ghost use Rattle.std.specs.Prelude.{◌≡◌, ◌+◌, ◌^◌, ◌<◌, ◌≤
 ghost use Rattle.tftp_capture.specs.CaptureText.{Header as HeaderParts};
 ghost use Rattle.tftp_capture.specs.{IsPort, Entry, said_in, HasWrittenHosts};
 ghost use Rattle.net_streams.specs.Streams.{Sink, Wrote};
-ghost use Rattle.tftp_transfers.specs.{AreEndsAfter, is_about};
-ghost use Rattle.tftp_lines.specs.{Placed};
+ghost use Rattle.audit_flows.specs.Transfers.{AreEndsAfter, is_about};
+ghost use Rattle.audit_flows.specs.Lines.{Placed};
 ghost use Rattle.tftp_views.specs.{Naming, IsFed, held_of};
 ghost use Rattle.tftp_texts.specs.Kept.{AreNotesAfter, CanBeWritten};
 ghost use Rattle.tftp_texts.specs.Views.{HasComment, IsTextOf, capture_at, header_at, is_seen, way_at};
@@ -17,10 +17,10 @@ use std::io::Write;
 use std::marker::Model;
 use tftp_capture::{Header, HostCaptureWriter};
 use tftp_packet::hosts::Dir;
-use tftp_lines::{Endpoint, Place, Transfer};
+use audit_flows::lines::{Endpoint, Place, Transfer};
 use tftp_packet::End;
 use net_streams::streams::{LineWriter, WriteFault};
-use tftp_transfers::TransferEnds;
+use audit_flows::transfers::TransferEnds;
 use tftp_views::{Fed, sides, way_at_client, way_at_server};
 
 /// The most datagrams that are kept.

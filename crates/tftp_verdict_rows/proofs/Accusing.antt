@@ -2,7 +2,7 @@
 use Rattle.std.proofs.Common.{◌≡◌, Bool, true, false, List, Option, Some, None, ◌||◌, ap, refl, subst, sym, if◌then◌else◌}
 use Rattle.std.specs.Prelude.{option_map}
 use Rattle.tftp_packet.specs.{End, Client, Server}
-use Rattle.tftp_lines.specs.{Endpoint, Placed, Transfer, same_endpoint}
+use Rattle.audit_flows.specs.Lines.{Endpoint, Placed, Transfer, same_endpoint}
 use Rattle.tftp_verdict_rows.specs.Accusing.{accused_of, is_servers, role_at}
 use Rattle.tftp_verdict_rows.specs.declared.accused.Accused.{Accused}
 

@@ -2,7 +2,7 @@
 use Rattle.std.proofs.Common.{◌≡◌, ◌≢◌, ◌&&◌, ◌||◌, not, ℕ, Bool, true, false, List, Option, Some, None, ap, refl, sym, subst, ◌∙◌, if◌then◌else◌}
 use Rattle.std.specs.Prelude.{is_some}
 use Rattle.std.proofs.lemmas.Bool.{and_parts, eqb-true, or_parts, true≢false}
-use Rattle.tftp_lines.specs.{Placed, Transfer}
+use Rattle.audit_flows.specs.Lines.{Placed, Transfer}
 use Rattle.tftp_verdict_rows.specs.{accused_in_row, accused_of, depends_on_place, is_at_end, is_refused, is_refused_too, is_told_at_ends, may_be_asked, refused_frame, said_at, same_frame, telling_depends, Between, Client, Point, Said, Server, Telling}
 use Rattle.tftp_verdict_rows.specs.declared.accused.Accused.{Accused}
 use Rattle.tftp_verdict_rows.specs.declared.said.Said.TheVariants.{Accepted, Refused, NotWhole, Memory}

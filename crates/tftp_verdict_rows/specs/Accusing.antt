@@ -1,8 +1,8 @@
 -- Who is accused where a datagram is refused. Lists have the newest first.
 use Rattle.std.specs.Prelude.{◌&&◌, ◌||◌, Bool, false, List, [], map, Option, Some, None, option_map, if◌then◌else◌}
 use Rattle.tftp_packet.specs.{End, Client, Server}
-use Rattle.tftp_lines.specs.{Endpoint, Placed, Recorded, Transfer, same_address, same_endpoint}
-use Rattle.tftp_transfers.specs.{has_host, has_port, placed, server_of}
+use Rattle.audit_flows.specs.Lines.{Endpoint, Placed, Recorded, Transfer, same_address, same_endpoint}
+use Rattle.audit_flows.specs.Transfers.{has_host, has_port, placed, server_of}
 use Rattle.tftp_verdict_rows.specs.Told.{is_refused, telling_depends}
 use Rattle.tftp_verdict_rows.specs.declared.accused.Accused.{Accused}
 use Rattle.tftp_verdict_rows.specs.declared.telling.Telling.{Telling}

@@ -1,12 +1,12 @@
 ghost use Rattle.std.specs.Prelude.{◌≡◌, List};
-ghost use Rattle.tftp_lines.specs.{Placed};
-ghost use Rattle.tftp_transfers.specs.{AreEndsAfter};
+ghost use Rattle.audit_flows.specs.Lines.{Placed};
+ghost use Rattle.audit_flows.specs.Transfers.{AreEndsAfter};
 ghost use Rattle.tftp_verdict_rows.specs.Accusing.{accused_in_row, accused_of, is_servers, role_at};
 
 use crate::telling::Telling;
-use tftp_lines::{Endpoint, Transfer};
+use audit_flows::lines::{Endpoint, Transfer};
 use tftp_packet::End;
-use tftp_transfers::TransferEnds;
+use audit_flows::transfers::TransferEnds;
 
 /// The end of a transfer that a refusal accuses.
 #[derive(Clone, Copy, Debug, PartialEq, Eq)]

@@ -1,12 +1,12 @@
 //! Laws of the definitions in `specs/`. Each is the contract of a function that does nothing.
 
 ghost use Rattle.std.specs.Prelude.{◌≡◌, ◌≢◌, ◌∷◌, ◌||◌, [], ℕ, List, Any, Bool, IsSome, None, Option, Some, true, false};
-ghost use Rattle.tftp_lines.specs.{Place, Placed, Transfer, same_endpoint};
+ghost use Rattle.audit_flows.specs.Lines.{Place, Placed, Transfer, same_endpoint};
 ghost use Rattle.tftp_packet.specs.{Client as ClientEnd, Server as ServerEnd};
 ghost use Rattle.law_model.specs.Rules.{BadAnswer, EndRule};
 ghost use Rattle.law_end.specs.{Block, Port};
-ghost use Rattle.tftp_transfers.specs.{asked_twice, client, service};
-ghost use Rattle.tftp_transfers.specs.Worked.{at, passes};
+ghost use Rattle.audit_flows.specs.Transfers.{asked_twice, client, service};
+ghost use Rattle.audit_flows.specs.Transfers.Worked.{at, passes};
 ghost use Rattle.tftp_verdict_rows.specs.Accusing.{accused_in, accused_in_row, accused_of, is_servers};
 ghost use Rattle.tftp_verdict_rows.specs.declared.accused.Accused.{Accused};
 ghost use Rattle.tftp_verdict_rows.specs.Told.{Tells, both_row, is_refused, is_told_at_ends, plain_row, refused_frame, rows_told, said_at, telling_depends};

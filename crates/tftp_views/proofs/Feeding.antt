@@ -1,8 +1,8 @@
 -- What is fed is captured as it passed.
 use Rattle.std.proofs.Common.{◌≡◌, true, false, cond, List, ◌∷◌, sym, ap, ◌∙◌, subst, map, filter}
 use Rattle.tftp_packet.specs.Hosts.{Datagram, Dir, In, Out}
-use Rattle.tftp_lines.specs.{Transfer, Placed, is_of}
-use Rattle.tftp_transfers.specs.{is_at_server}
+use Rattle.audit_flows.specs.Lines.{Transfer, Placed, is_of}
+use Rattle.audit_flows.specs.Transfers.{is_at_server}
 use Rattle.tftp_views.specs.{Held, Naming, captured, captured_as, captured_at_client, captured_at_server, client_capture, client_header, server_capture, server_header, way_at_client, way_at_server, HasJudged, Client, IsClientAfter, IsFed, IsServerAfter, OneEnd, Server}
 
 module _ (name : Naming) (x : Transfer) (whole : List Placed) (p : Placed) (part : List Placed) where

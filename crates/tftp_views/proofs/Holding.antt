@@ -4,9 +4,9 @@ use Rattle.std.specs.declared.alloc.AllocError.{AllocError}
 use Rattle.std.specs.List.{All}
 use Rattle.std.proofs.lemmas.List.{length-reverse, reverse-append, reverse-reverse}
 use Rattle.std.proofs.lemmas.List.Elements.{All-append, All-from_recursion}
-use Rattle.tftp_lines.specs.{Transfer, Placed, is_of}
-use Rattle.tftp_transfers.specs.{TransferEnds, AreEndsAfter, is_settled, answered_by, asked_of, is_about, is_at_server, went_on_with, server_of}
-use Rattle.tftp_transfers.proofs.OwnDatagrams.{about_none, answered_kept, asked_kept, filter_kept, seen_none, settled_kept, went_on_kept, server_kept}
+use Rattle.audit_flows.specs.Lines.{Transfer, Placed, is_of}
+use Rattle.audit_flows.specs.Transfers.{TransferEnds, AreEndsAfter, is_settled, answered_by, asked_of, is_about, is_at_server, went_on_with, server_of}
+use Rattle.audit_flows.proofs.TransfersLemmas.OwnDatagrams.{about_none, answered_kept, asked_kept, filter_kept, seen_none, settled_kept, went_on_kept, server_kept}
 use Rattle.tftp_views.specs.{Held, Naming, captured_at_server, server_header, HasJudged, AreHeld, IsFed, IsGoingOn, IsServerAfter, IsViewAfter, Server, View, ViewedBy}
 use Rattle.tftp_views.proofs.Feeding.{server_apart}
 use Rattle.tftp_views.proofs.Settling.{server_goes_on, settled_stays}

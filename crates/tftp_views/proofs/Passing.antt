@@ -1,8 +1,8 @@
 -- What is not about a transfer changes nothing of it.
 use Rattle.std.proofs.Common.{◌≡◌, ℕ, Bool, false, cond, List, ◌∷◌, sym, ap, ◌∙◌, subst, map, ◌&&◌, ◌||◌, filter}
-use Rattle.tftp_transfers.specs.{TransferDoubts, is_answered_apart, is_it, some_of, IsDoubtedAfter, is_about}
-use Rattle.tftp_lines.specs.{comes_in, follows_strays, follows_unanswered, agrees_late, goes_on_with_first, is_asked_again, is_disordered, is_late, may_be_answer_of, says_unknown_id, Placed, is_of}
-use Rattle.tftp_transfers.proofs.OwnDatagrams.{about_none}
+use Rattle.audit_flows.specs.Transfers.{TransferDoubts, is_answered_apart, is_it, some_of, IsDoubtedAfter, is_about}
+use Rattle.audit_flows.specs.Lines.{comes_in, follows_strays, follows_unanswered, agrees_late, goes_on_with_first, is_asked_again, is_disordered, is_late, may_be_answer_of, says_unknown_id, Placed, is_of}
+use Rattle.audit_flows.proofs.TransfersLemmas.OwnDatagrams.{about_none}
 use Rattle.tftp_views.specs.{Naming, captured_at_client, client_header, HasJudged, Client, IsClientAfter}
 
 pub client_passes_by : (c : Client) (name : Naming) (p : Placed) (older : List Placed) → is_about c.transfer.number p ≡ false → IsClientAfter c name older → IsClientAfter c name (p ∷ older)

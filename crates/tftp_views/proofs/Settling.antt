@@ -3,9 +3,9 @@ use Rattle.std.proofs.Common.{◌≡◌, ℕ, ◌&&◌, Bool, true, true≢false
 use Rattle.std.proofs.lemmas.Bool.{and_parts}
 use Rattle.std.proofs.lemmas.List.Elements.{filter-append, filter_agree}
 use Rattle.law_model.specs.Rules.{first_of, or_this}
-use Rattle.tftp_lines.specs.{Endpoint, Place, Beside, Recorded, Placed, Transfer}
-use Rattle.tftp_transfers.specs.{answered_by, asked_of, comes, goes_on, is_at_server, is_end, opened_it, server_of, server_view, went_on_with, is_settled, AreEndsAfter, TransferEnds}
-use Rattle.tftp_transfers.proofs.OwnDatagrams.{at_server_same, server_same, settled_same}
+use Rattle.audit_flows.specs.Lines.{Endpoint, Place, Beside, Recorded, Placed, Transfer}
+use Rattle.audit_flows.specs.Transfers.{answered_by, asked_of, comes, goes_on, is_at_server, is_end, opened_it, server_of, server_view, went_on_with, is_settled, AreEndsAfter, TransferEnds}
+use Rattle.audit_flows.proofs.TransfersLemmas.OwnDatagrams.{at_server_same, server_same, settled_same}
 use Rattle.tftp_packet.specs.Hosts.{In, Out}
 use Rattle.tftp_views.specs.{Naming, captured, captured_at_server, server_capture, server_header, way_at_server, HasJudged, IsServerAfter, Server}
 

@@ -2,8 +2,8 @@
 use Rattle.std.specs.Prelude.{ℕ, List, filter, map, if◌then◌else◌}
 use Rattle.tftp_packet.specs.Hosts.{Dir, In, Out, Datagram, Header}
 use Rattle.tftp_packet.specs.{Client, Server}
-use Rattle.tftp_lines.specs.{Address, Place, Talks, Beside, Transfer, Recorded, same_endpoint, Placed}
-use Rattle.tftp_transfers.specs.{client_view, is_at_server, is_end, server_of}
+use Rattle.audit_flows.specs.Lines.{Address, Place, Talks, Beside, Transfer, Recorded, same_endpoint, Placed}
+use Rattle.audit_flows.specs.Transfers.{client_view, is_at_server, is_end, server_of}
 use Rattle.tftp_views.specs.declared.party.Party.{Party}
 
 abbrev pub Naming : Type 0

@@ -2,8 +2,8 @@
 use Rattle.std.specs.Prelude.{◌≡◌, ℕ, true, false, List, [], filter, length, reverse, Option, Some, None}
 use Rattle.std.specs.List.{AllZip}
 use Rattle.tftp_judge.specs.{Judge, Refusal}
-use Rattle.tftp_lines.specs.{Transfer, Placed}
-use Rattle.tftp_transfers.specs.{is_settled, is_about, TransferEnds, AreEndsAfter}
+use Rattle.audit_flows.specs.Lines.{Transfer, Placed}
+use Rattle.audit_flows.specs.Transfers.{is_settled, is_about, TransferEnds, AreEndsAfter}
 use Rattle.tftp_views.specs.declared.fed.Fed.{Fed}
 use Rattle.tftp_views.specs.declared.held.Held.{Held}
 use Rattle.tftp_views.specs.Captured.{Naming, client_capture, client_header, server_capture, server_header}

@@ -1,8 +1,8 @@
 -- Captures of the worked recordings.
 use Rattle.std.specs.Prelude.{ℕ, List, [], ◌∷◌, codes, false}
 use Rattle.tftp_packet.specs.Hosts.{In, Out, Datagram}
-use Rattle.tftp_lines.specs.{Address, Transfer, bytes_of}
-use Rattle.tftp_transfers.specs.{client, service, ack_of, data_of, read_of}
+use Rattle.audit_flows.specs.Lines.{Address, Transfer, bytes_of}
+use Rattle.audit_flows.specs.Transfers.{client, service, ack_of, data_of, read_of}
 
 -- the transfer that datagram 0 opened
 abbrev pub first_transfer : Transfer

@@ -4,7 +4,7 @@ ghost use Rattle.std.specs.Prelude.{◌≡◌, ◌+◌, ◌^◌, ◌<◌, ◌≤
 ghost use Rattle.law_model.specs.Rules.{transfer_of};
 ghost use Rattle.tftp_judge.specs.{TakesForJoin, Refusal as RefusalKind};
 ghost use Rattle.law_end.specs.{IsEnded};
-ghost use Rattle.tftp_lines.specs.{Placed, is_of};
+ghost use Rattle.audit_flows.specs.Lines.{Placed, is_of};
 ghost use Rattle.tftp_views.specs.Captured.{Naming, client_capture, client_header};
 ghost use Rattle.tftp_views.specs.Judged.{IsJudgedWith};
 ghost use Rattle.tftp_views.specs.Kept.{IsClientAfter, IsFed, held_of};
@@ -17,7 +17,7 @@ use std::marker::Model;
 use tftp_ends::blocks::Delivered;
 use tftp_capture::Header;
 use tftp_judge::{Meaning, Refusal};
-use tftp_lines::{Place, Transfer};
+use audit_flows::lines::{Place, Transfer};
 use tftp_packet::End;
 
 /// The judge of a transfer at its client (RFC 1350, section 2): it picks the client's view out of a recording.

@@ -4,7 +4,7 @@ ghost use Rattle.tftp_views.specs.Kept.{held_of};
 use crate::held::Held;
 use crate::party::Party;
 use std::alloc::{AllocError, Global};
-use tftp_lines::Place;
+use audit_flows::lines::Place;
 use tftp_packet::Bytes;
 
 /// A datagram of a recording, as the judges of its transfers are fed it.

@@ -1,5 +1,5 @@
 use crate::party::Party;
-use tftp_lines::Place;
+use audit_flows::lines::Place;
 use tftp_packet::Bytes;
 
 /// A datagram that is held until it is known who the server is.

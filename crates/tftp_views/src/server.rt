@@ -4,8 +4,8 @@ ghost use Rattle.std.specs.Prelude.{◌≡◌, ◌+◌, ◌^◌, ◌<◌, ◌≤
 ghost use Rattle.law_model.specs.Rules.{transfer_of};
 ghost use Rattle.tftp_judge.specs.{TakesForJoin, Refusal as RefusalKind};
 ghost use Rattle.law_end.specs.{IsEnded};
-ghost use Rattle.tftp_transfers.specs.{AreEndsAfter, is_settled, is_at_server};
-ghost use Rattle.tftp_lines.specs.{Placed};
+ghost use Rattle.audit_flows.specs.Transfers.{AreEndsAfter, is_settled, is_at_server};
+ghost use Rattle.audit_flows.specs.Lines.{Placed};
 ghost use Rattle.tftp_views.specs.Captured.{Naming, server_capture, server_header};
 ghost use Rattle.tftp_views.specs.Judged.{IsJudgedWith};
 ghost use Rattle.tftp_views.specs.Kept.{IsFed, IsServerAfter, held_of};
@@ -19,9 +19,9 @@ use std::marker::Model;
 use tftp_ends::blocks::Delivered;
 use tftp_capture::Header;
 use tftp_judge::{Meaning, Refusal};
-use tftp_lines::Transfer;
+use audit_flows::lines::Transfer;
 use tftp_packet::End;
-use tftp_transfers::TransferEnds;
+use audit_flows::transfers::TransferEnds;
 
 /// The judge of a transfer at its server (RFC 1350, section 2): it picks the server's view out of a recording.
 #[derive(Drop)]

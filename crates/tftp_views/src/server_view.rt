@@ -3,8 +3,8 @@
 ghost use Rattle.std.specs.Prelude.{◌≡◌, ◌+◌, ◌^◌, ◌<◌, ◌≤◌, ◌∷◌, ℕ, List, [], All, filter, length, reverse, OnOk, OnErr, Ok, Err, None, Some, true, false};
 ghost use Rattle.std.specs.VecDeque.{deque_len};
 ghost use Rattle.tftp_judge.specs.{Refusal as RefusalKind};
-ghost use Rattle.tftp_transfers.specs.{AreEndsAfter, is_settled, is_about};
-ghost use Rattle.tftp_lines.specs.{Placed};
+ghost use Rattle.audit_flows.specs.Transfers.{AreEndsAfter, is_settled, is_about};
+ghost use Rattle.audit_flows.specs.Lines.{Placed};
 ghost use Rattle.tftp_views.specs.Captured.{Naming, server_capture, server_header};
 ghost use Rattle.tftp_views.specs.Judged.{IsJudgedWith};
 ghost use Rattle.tftp_views.specs.Kept.{AreHeld, IsFed, IsServerAfter, IsViewAfter, fed_to, has_refused, held_of};
@@ -18,8 +18,8 @@ use std::marker::Model;
 use std::mem;
 use tftp_ends::blocks::Delivered;
 use tftp_judge::{Meaning, Refusal};
-use tftp_lines::Transfer;
-use tftp_transfers::TransferEnds;
+use audit_flows::lines::Transfer;
+use audit_flows::transfers::TransferEnds;
 
 /// The judge of a transfer at its server (RFC 1350, section 2), fed with a recording from its first datagram to its last.
 /// Until it is known who the server is it holds the transfer's datagrams; then it gives them to the judge, and holds none.

@@ -3,16 +3,16 @@
 ghost use Rattle.std.specs.Prelude.{◌≡◌, ℕ, List, if◌then◌else◌};
 ghost use Rattle.tftp_capture.specs.{datagram_of};
 ghost use Rattle.tftp_packet.specs.Hosts.{In, Out};
-ghost use Rattle.tftp_transfers.specs.{AreEndsAfter, is_end, server_of};
-ghost use Rattle.tftp_lines.specs.{Placed};
+ghost use Rattle.audit_flows.specs.Transfers.{AreEndsAfter, is_end, server_of};
+ghost use Rattle.audit_flows.specs.Lines.{Placed};
 ghost use Rattle.tftp_views.specs.Captured.{captured_as, way_at_client, way_at_server};
 
 use crate::party::Party;
 use tftp_capture::Datagram;
 use tftp_packet::hosts::Dir;
-use tftp_lines::{Endpoint, Place, Transfer};
+use audit_flows::lines::{Endpoint, Place, Transfer};
 use tftp_packet::Bytes;
-use tftp_transfers::TransferEnds;
+use audit_flows::transfers::TransferEnds;
 
 /// At the client: what the client sent goes out.
 pub fn way_at_client(transfer: &Transfer, source: Endpoint) -> Dir

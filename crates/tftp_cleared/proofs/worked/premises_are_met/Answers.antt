@@ -4,10 +4,10 @@ use Rattle.std.proofs.lemmas.List.Elements.{All-from_recursion}
 use Rattle.tftp_between.specs.Worked.{first_transfer}
 use Rattle.tftp_cleared.specs.{HasAddresses, IsOpenedIn, IsSentThere, IsWith}
 use Rattle.tftp_cleared.proofs.Hosts.{address_at}
-use Rattle.tftp_lines.specs.{Endpoint, same_endpoint}
+use Rattle.audit_flows.specs.Lines.{Endpoint, same_endpoint}
 use Rattle.tftp_parties.specs.{IsAddress}
-use Rattle.tftp_transfers.specs.{asked_twice, client, placed}
-use Rattle.tftp_transfers.specs.Worked.{server, stranger}
+use Rattle.audit_flows.specs.Transfers.{asked_twice, client, placed}
+use Rattle.audit_flows.specs.Transfers.Worked.{server, stranger}
 use Rattle.tftp_cleared.proofs.worked.premises_are_met.Goals as goal
 
 at_client : IsAddress client.address

@@ -5,8 +5,8 @@ use Rattle.std.specs.Prelude.{◌∷◌}
 use Rattle.tftp_cleared.specs.{HasAddresses}
 use Rattle.tftp_cleared.specs.Worked.{before_going_on, to_who_answered}
 use Rattle.tftp_parties.specs.{IsAddress}
-use Rattle.tftp_transfers.specs.{client}
-use Rattle.tftp_transfers.specs.Worked.{server, stranger}
+use Rattle.audit_flows.specs.Transfers.{client}
+use Rattle.audit_flows.specs.Transfers.Worked.{server, stranger}
 use Rattle.tftp_cleared.proofs.Hosts.{address_at}
 use Rattle.tftp_cleared.proofs.Learned.{breaks_no_rule}
 use Rattle.tftp_cleared.proofs.worked.the_service_is_needed.Goals as goal

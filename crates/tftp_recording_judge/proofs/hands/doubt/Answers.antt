@@ -1,5 +1,5 @@
 use Rattle.std.proofs.Common.{◌≡◌, ℕ, Option, false, sym, ap, subst, ◌∙◌, ◌||◌, is_some}
-use Rattle.tftp_transfers.specs.{is_it, is_about}
+use Rattle.audit_flows.specs.Transfers.{is_it, is_about}
 use Rattle.tftp_recording_judge.specs.{AreHanded}
 use Rattle.tftp_recording_judge.proofs.Keeping.{handed_one, held_one, is_itself}
 use Rattle.tftp_recording_judge.proofs.hands.doubt.Goals as goal

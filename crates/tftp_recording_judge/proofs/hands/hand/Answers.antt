@@ -1,6 +1,6 @@
 use Rattle.std.proofs.Common.{ℕ, Option, false, refl, sym, ap, subst, is_some, OnOk}
-use Rattle.tftp_transfers.specs.{is_it}
-use Rattle.tftp_transfers.proofs.AllLines.{on_ok_map}
+use Rattle.audit_flows.specs.Transfers.{is_it}
+use Rattle.audit_flows.proofs.TransfersLemmas.AllLines.{on_ok_map}
 use Rattle.tftp_recording_judge.specs.{AreHanded}
 use Rattle.tftp_recording_judge.proofs.Keeping.{handed_alone, handed_one, held_one}
 use Rattle.tftp_recording_judge.proofs.hands.hand.Goals as goal

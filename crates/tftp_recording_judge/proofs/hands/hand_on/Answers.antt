@@ -1,6 +1,6 @@
 use Rattle.std.proofs.Common.{◌≡◌, ℕ, false, sym, ap, ◌∙◌, ◌&&◌, not}
-use Rattle.tftp_lines.specs.{may_be_answer_of}
-use Rattle.tftp_transfers.specs.{is_it}
+use Rattle.audit_flows.specs.Lines.{may_be_answer_of}
+use Rattle.audit_flows.specs.Transfers.{is_it}
 use Rattle.tftp_recording_judge.proofs.Keeping.{handed_all, not_own}
 use Rattle.tftp_recording_judge.proofs.hands.hand_on.Goals as goal
 

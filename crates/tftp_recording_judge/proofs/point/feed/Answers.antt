@@ -1,5 +1,5 @@
 use Rattle.std.proofs.Common.{Some, subst, ◌∙◌}
-use Rattle.tftp_transfers.proofs.AllLines.{on_ok_map}
+use Rattle.audit_flows.proofs.TransfersLemmas.AllLines.{on_ok_map}
 use Rattle.tftp_recording_judge.specs.Kept.{StandsAs}
 use Rattle.tftp_recording_judge.proofs.point.feed.Goals as goal
 

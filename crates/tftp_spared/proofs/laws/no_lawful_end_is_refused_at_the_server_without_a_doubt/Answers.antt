@@ -2,9 +2,9 @@ use Rattle.std.proofs.Common.{◌≡◌, ◌⊎◌, ◌||◌, ℕ, [], ◌∷◌
 use Rattle.std.specs.List.{AllByRecursion}
 use Rattle.std.proofs.lemmas.Bool.{or_left, or_right}
 use Rattle.law_end.specs.{IsRefused, OneEnded, Rule}
-use Rattle.tftp_lines.specs.{Address, Endpoint, Placed, Recorded, Transfer}
-use Rattle.tftp_transfers.specs.{is_beside}
-use Rattle.tftp_transfers.specs.Places.{placed}
+use Rattle.audit_flows.specs.Lines.{Address, Endpoint, Placed, Recorded, Transfer}
+use Rattle.audit_flows.specs.Transfers.{is_beside}
+use Rattle.audit_flows.specs.Transfers.Places.{placed}
 use Rattle.tftp_spared.specs.{AreServed, AsksInTime, IsServedCapture, IsTimelyCapture, SparesServersByFour, as_served, at_server_of, is_shared, needs_doubt, seen_at_server, server_saw}
 use Rattle.tftp_spared.specs.Seen.{HasNoSilence}
 use Rattle.tftp_spared.proofs.Lists.{by_recursion}

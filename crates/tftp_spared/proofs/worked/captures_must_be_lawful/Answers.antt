@@ -1,8 +1,8 @@
 use Rattle.std.proofs.Common.{false, [], ◌∷◌, codes, filter, map, refl}
 use Rattle.law_end.specs.{Rule}
 use Rattle.law_model.specs.Rules.{PortRule}
-use Rattle.tftp_transfers.specs.{ack_of, client, data_of, service}
-use Rattle.tftp_transfers.specs.Worked.{passes, requests, server}
+use Rattle.audit_flows.specs.Transfers.{ack_of, client, data_of, service}
+use Rattle.audit_flows.specs.Transfers.Worked.{passes, requests, server}
 use Rattle.tftp_spared.specs.Seen.{HasNoSilence, as_seen_by, at_client_of, is_with}
 use Rattle.tftp_spared.specs.{AsksInTime, FollowOneAnother, as_served, at_server_of}
 use Rattle.tftp_spared.specs.Worked.{asks_elsewhere, block_came, one_client, own_name}

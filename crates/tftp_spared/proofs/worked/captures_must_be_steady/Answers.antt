@@ -1,9 +1,9 @@
 use Rattle.std.proofs.Common.{false, List, [], ◌∷◌, codes, filter, map, refl, reverse}
 use Rattle.law_end.specs.{IsLawful, Rule}
 use Rattle.law_model.specs.Rules.{PortRule}
-use Rattle.tftp_lines.specs.{Recorded}
-use Rattle.tftp_transfers.specs.{client, service}
-use Rattle.tftp_transfers.specs.Worked.{requests}
+use Rattle.audit_flows.specs.Lines.{Recorded}
+use Rattle.audit_flows.specs.Transfers.{client, service}
+use Rattle.audit_flows.specs.Transfers.Worked.{requests}
 use Rattle.tftp_spared.specs.Seen.{as_seen_by, at_client_of, is_with}
 use Rattle.tftp_spared.specs.{AsksInTime, FollowOneAnother, as_served, at_server_of}
 use Rattle.tftp_spared.specs.Worked.{ack_after_silence, one_client, own_name, silent_capture}

@@ -1,8 +1,8 @@
 use Rattle.std.proofs.Common.{false, [], ◌∷◌, codes, filter, refl}
 use Rattle.law_end.specs.{Rule}
 use Rattle.law_model.specs.Rules.{PortRule}
-use Rattle.tftp_transfers.specs.{data_of, service}
-use Rattle.tftp_transfers.specs.Worked.{passes, requests, server}
+use Rattle.audit_flows.specs.Transfers.{data_of, service}
+use Rattle.audit_flows.specs.Transfers.Worked.{passes, requests, server}
 use Rattle.tftp_spared.specs.Seen.{as_seen_by, at_client_of, is_with}
 use Rattle.tftp_spared.specs.{FollowOneAnother, IsWholeCapture}
 use Rattle.tftp_spared.specs.Worked.{asked_by_stray, own_name, service_client, stray_is_told}

@@ -1,8 +1,8 @@
 use Rattle.std.proofs.Common.{false, [], ◌∷◌, codes, filter, refl}
 use Rattle.law_end.specs.{Rule}
 use Rattle.law_model.specs.Rules.{PortRule}
-use Rattle.tftp_transfers.specs.{client}
-use Rattle.tftp_transfers.specs.Worked.{at, requests}
+use Rattle.audit_flows.specs.Transfers.{client}
+use Rattle.audit_flows.specs.Transfers.Worked.{at, requests}
 use Rattle.tftp_spared.specs.Seen.{is_with}
 use Rattle.tftp_spared.specs.{IsTimelyCapture, FollowOneAnother, as_served, at_server_of}
 use Rattle.tftp_spared.specs.Worked.{asks_two_hosts, one_client, own_name, to_second_host}

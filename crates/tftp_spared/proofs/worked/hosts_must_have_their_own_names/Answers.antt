@@ -2,8 +2,8 @@ use Rattle.tftp_spared.proofs.WorkedNames.{other_error_refused}
 use Rattle.std.proofs.Common.{false, [], ◌∷◌, codes, filter, refl}
 use Rattle.law_end.specs.{Rule}
 use Rattle.law_model.specs.Rules.{PortRule}
-use Rattle.tftp_transfers.specs.{client, service}
-use Rattle.tftp_transfers.specs.Worked.{at, requests}
+use Rattle.audit_flows.specs.Transfers.{client, service}
+use Rattle.audit_flows.specs.Transfers.Worked.{at, requests}
 use Rattle.tftp_spared.specs.Seen.{as_seen_by, at_client_of, is_with}
 use Rattle.tftp_spared.specs.{FollowOneAnother, IsWholeCapture, IsTimelyCapture}
 use Rattle.tftp_spared.specs.Worked.{asks_two_hosts, one_client, one_name, to_second_host, other_error, told_by_namesake}

@@ -1,8 +1,8 @@
 use Rattle.std.proofs.Common.{false, [], ◌∷◌, codes, filter, refl}
 use Rattle.law_end.specs.{Rule}
 use Rattle.law_model.specs.Rules.{PortRule}
-use Rattle.tftp_transfers.specs.{client, service}
-use Rattle.tftp_transfers.specs.Worked.{requests}
+use Rattle.audit_flows.specs.Transfers.{client, service}
+use Rattle.audit_flows.specs.Transfers.Worked.{requests}
 use Rattle.tftp_spared.specs.Seen.{as_seen_by, at_client_of, is_with}
 use Rattle.tftp_spared.specs.{IsTimelyCapture, IsWholeCapture, FollowOneAnother, as_served, at_server_of}
 use Rattle.tftp_spared.specs.Worked.{ack_of_block, one_client, own_name, served_by_asker}

@@ -1,6 +1,6 @@
 use Rattle.std.proofs.Common.{false, ◌∷◌, filter, refl}
 use Rattle.law_end.specs.{Rule}
-use Rattle.tftp_transfers.specs.{client, service}
+use Rattle.audit_flows.specs.Transfers.{client, service}
 use Rattle.tftp_spared.specs.Seen.{is_with}
 use Rattle.tftp_spared.specs.{IsServedCapture, FollowOneAnother}
 use Rattle.tftp_spared.specs.Worked.{ack_again, asked_late, one_client, own_name}

@@ -1,5 +1,5 @@
 use Rattle.std.proofs.Common.{filter, refl}
-use Rattle.tftp_transfers.specs.{client, service}
+use Rattle.audit_flows.specs.Transfers.{client, service}
 use Rattle.tftp_spared.specs.Seen.{is_with}
 use Rattle.tftp_spared.specs.{IsTimelyCapture, IsWholeCapture, FollowOneAnother}
 use Rattle.tftp_spared.specs.Worked.{first_capture, first_served, one_client, own_name, second_capture, second_served, two_captures, two_served}

@@ -1,7 +1,7 @@
 use Rattle.std.proofs.Common.{◌≡◌, ◌+◌, ◌≤◌, List, All, length, reverse}
 use Rattle.std.specs.VecDeque.{deque_len}
-use Rattle.tftp_transfers.specs.{AreEndsAfter}
-use Rattle.tftp_lines.specs.{Placed}
+use Rattle.audit_flows.specs.Transfers.{AreEndsAfter}
+use Rattle.audit_flows.specs.Lines.{Placed}
 use Rattle.tftp_views.specs.{Held, Naming, AreHeld}
 use Rattle.tftp_views.proofs.Holding.{IsGivenSoFar}
 use Rattle.tftp_views.proofs.server_view.judge_of.Given as goal

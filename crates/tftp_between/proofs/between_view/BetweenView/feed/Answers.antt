@@ -1,6 +1,6 @@
 use Rattle.std.proofs.Common.{◌≡◌, ◌∷◌, Some, false, true, refl, sym, ap, ◌∙◌, subst}
 use Rattle.law_tap.specs.{TapDatagram}
-use Rattle.tftp_lines.specs.{is_of}
+use Rattle.audit_flows.specs.Lines.{is_of}
 use Rattle.tftp_between.specs.{between_capture, HasPassed, IsBetweenAfter, IsGoingOn, View}
 use Rattle.tftp_between.proofs.Feeding.{passed_fed}
 use Rattle.tftp_between.proofs.Holding.{goes_on_too, is_going_on, passes_by}

@@ -1,8 +1,8 @@
 use Rattle.std.proofs.Common.{◌≡◌, ◌≤◌, ◌∷◌, List, length, None, Some, true, sym, ap, ◌∙◌, subst, arith, Option}
 use Rattle.std.specs.List.{All}
 use Rattle.judge_tap.specs.{TapDatagram as Owned}
-use Rattle.tftp_transfers.specs.{AreEndsAfter, is_settled}
-use Rattle.tftp_lines.specs.{is_of}
+use Rattle.audit_flows.specs.Transfers.{AreEndsAfter, is_settled}
+use Rattle.audit_flows.specs.Lines.{is_of}
 use Rattle.tftp_views.specs.{held_of}
 use Rattle.tftp_between.specs.{between_capture, AreHeld, Between, BetweenBy, IsBetweenAfter, IsGoingOn, IsWaiting, View}
 use Rattle.tftp_between.proofs.Holding.{held_newest, is_waiting}

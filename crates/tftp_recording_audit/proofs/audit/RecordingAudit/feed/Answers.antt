@@ -1,9 +1,9 @@
 use Rattle.std.proofs.Common.{◌≡◌, ℕ, max, refl, sym, subst, ap, ◌∙◌}
 use Rattle.std.specs.Option.{unwrap_or}
 use Rattle.tftp_capture.specs.{IsPort}
-use Rattle.tftp_lines.specs.{Endpoint, doubts_of, clock, Recorded, Place}
+use Rattle.audit_flows.specs.Lines.{Endpoint, doubts_of, clock, Recorded, Place}
 use Rattle.tftp_parties.specs.{host_name}
-use Rattle.tftp_transfers.specs.{IsRecorded, placed}
+use Rattle.audit_flows.specs.Transfers.{IsRecorded, placed}
 use Rattle.tftp_recording_audit.specs.{time_by}
 use Rattle.tftp_recording_audit.proofs.Taking.{unwrapped}
 use Rattle.tftp_recording_audit.proofs.audit.RecordingAudit.feed.Goals as goal

@@ -1,7 +1,7 @@
 use Rattle.std.proofs.Common.{◌≡◌, ◌≢◌, ℕ, max, [], ap, ◌∙◌, subst, MatchBool}
 use Rattle.tftp_parties.specs.{host_name}
-use Rattle.tftp_lines.specs.{clock, line, live}
-use Rattle.tftp_transfers.specs.{placed}
+use Rattle.audit_flows.specs.Lines.{clock, line, live}
+use Rattle.audit_flows.specs.Transfers.{placed}
 use Rattle.tftp_recording_audit.proofs.Clock.{clock_stays}
 use Rattle.tftp_recording_audit.proofs.audit.RecordingAudit.is_over.Goals as goal
 

@@ -1,6 +1,6 @@
 use Rattle.std.proofs.Common.{Option, ◌∷◌, List, subst, MatchOption}
-use Rattle.tftp_lines.specs.{Recorded}
-use Rattle.tftp_transfers.specs.{Attributed}
+use Rattle.audit_flows.specs.Lines.{Recorded}
+use Rattle.audit_flows.specs.Transfers.{Attributed}
 use Rattle.tftp_recording_audit.specs.{AuditsAfter, IsAttributed}
 use Rattle.tftp_recording_audit.proofs.audit.RecordingAudit.note.Goals as goal
 

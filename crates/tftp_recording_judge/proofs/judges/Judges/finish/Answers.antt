@@ -1,5 +1,5 @@
 use Rattle.std.proofs.Common.{rules, sym, subst}
-use Rattle.tftp_lines.specs.{Transfer}
+use Rattle.audit_flows.specs.Lines.{Transfer}
 use Rattle.tftp_views.specs.{client_capture, client_header, server_capture, server_header, IsJudgedWith}
 use Rattle.tftp_parties.specs.{host_name}
 use Rattle.tftp_recording_judge.specs.{BetweenStands, ClientStands, Judges, ServerStands}

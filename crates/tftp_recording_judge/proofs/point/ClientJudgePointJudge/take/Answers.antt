@@ -1,4 +1,4 @@
-use Rattle.tftp_transfers.proofs.OwnDatagrams.{about_none}
+use Rattle.audit_flows.proofs.TransfersLemmas.OwnDatagrams.{about_none}
 use Rattle.tftp_recording_judge.proofs.point.ClientJudgePointJudge.take.Goals as goal
 
 pub returns-clause-others : goal.returns-clause-others

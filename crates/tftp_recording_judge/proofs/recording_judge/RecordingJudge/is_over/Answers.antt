@@ -1,4 +1,4 @@
-use Rattle.tftp_transfers.specs.{placed}
+use Rattle.audit_flows.specs.Transfers.{placed}
 use Rattle.tftp_recording_judge.proofs.recording_judge.RecordingJudge.is_over.Goals as goal
 
 pub returns : goal.returns

@@ -1,5 +1,5 @@
 use Rattle.std.proofs.Common.{◌≡◌, ◌≤◌, false, true, sym, subst}
-use Rattle.tftp_transfers.specs.{placed}
+use Rattle.audit_flows.specs.Transfers.{placed}
 use Rattle.tftp_recording_judge.proofs.Keeping.{kept_here, kept_less, least_kept, none_kept}
 use Rattle.tftp_recording_judge.proofs.recording_judge.RecordingJudge.pop_first.Goals as goal
 

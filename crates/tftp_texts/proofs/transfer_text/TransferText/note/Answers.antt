@@ -2,9 +2,9 @@ use Rattle.std.proofs.Common.{◌≡◌, ◌∷◌, [], List, false, true, map, 
 use Rattle.std.specs.List.{All}
 use Rattle.std.proofs.lemmas.List.Elements.{All-append, All-from_recursion}
 use Rattle.std.proofs.lemmas.List.{map-append}
-use Rattle.tftp_lines.specs.{Placed}
-use Rattle.tftp_transfers.specs.{is_about}
-use Rattle.tftp_transfers.proofs.OwnDatagrams.{about_none}
+use Rattle.audit_flows.specs.Lines.{Placed}
+use Rattle.audit_flows.specs.Transfers.{is_about}
+use Rattle.audit_flows.proofs.TransfersLemmas.OwnDatagrams.{about_none}
 use Rattle.tftp_views.specs.{AreHeld, IsFed, Held}
 use Rattle.tftp_views.proofs.Holding.{ends_too, held_newest, same_own}
 use Rattle.tftp_texts.specs.{AreNotesAfter, Notes, Noted}

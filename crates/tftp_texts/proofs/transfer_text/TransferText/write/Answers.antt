@@ -2,7 +2,7 @@ use Rattle.std.proofs.Common.{◌≡◌, ◌∷◌, ◌++◌, [], List, length, 
 use Rattle.std.proofs.lemmas.List.Elements.{All-append, All-cons}
 use Rattle.tftp_capture.specs.{commented_text, said_in, HasWrittenHosts}
 use Rattle.tftp_capture.specs.Commented.Entry.{Comment}
-use Rattle.tftp_transfers.specs.{is_about}
+use Rattle.audit_flows.specs.Transfers.{is_about}
 use Rattle.tftp_views.specs.{AreHeld}
 use Rattle.tftp_texts.specs.{Notes, HasComment, capture_at, header_at, Noted}
 use Rattle.tftp_texts.proofs.Captures.{capture_more, header_is, own_capture}

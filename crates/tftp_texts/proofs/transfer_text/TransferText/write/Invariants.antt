@@ -2,8 +2,8 @@ use Rattle.std.proofs.Common.{◌≡◌, ◌≤◌, ◌++◌, List, All, take, r
 use Rattle.tftp_capture.specs.CaptureText.{Header}
 use Rattle.tftp_capture.specs.{Entry, said_in, HasWrittenHosts}
 use Rattle.net_streams.specs.Streams.{Sink}
-use Rattle.tftp_lines.specs.{Placed}
-use Rattle.tftp_transfers.specs.{is_about}
+use Rattle.audit_flows.specs.Lines.{Placed}
+use Rattle.audit_flows.specs.Transfers.{is_about}
 use Rattle.tftp_views.specs.{Naming}
 use Rattle.tftp_texts.specs.{AreNotesAfter, HasComment, capture_at}
 use Rattle.tftp_texts.proofs.transfer_text.TransferText.write.Given as goal

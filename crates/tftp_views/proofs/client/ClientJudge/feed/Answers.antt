@@ -1,5 +1,5 @@
 use Rattle.std.proofs.Common.{◌≡◌, true, sym, ap, ◌∙◌, subst}
-use Rattle.tftp_lines.specs.{is_of}
+use Rattle.audit_flows.specs.Lines.{is_of}
 use Rattle.tftp_views.specs.{client_capture, client_header, Client, IsClientAfter, held_of}
 use Rattle.tftp_views.proofs.Feeding.{client_given}
 use Rattle.tftp_views.proofs.Holding.{on_ok}

@@ -1,5 +1,5 @@
 use Rattle.std.proofs.Common.{◌≡◌, ◌∷◌, [], true, false, sym, ap, ◌∙◌, subst}
-use Rattle.tftp_transfers.specs.{is_at_server}
+use Rattle.audit_flows.specs.Transfers.{is_at_server}
 use Rattle.tftp_views.specs.{server_capture, server_header, IsServerAfter, Server, held_of}
 use Rattle.tftp_views.proofs.Feeding.{server_apart, server_given}
 use Rattle.tftp_views.proofs.Holding.{on_ok}

@@ -1,6 +1,6 @@
 use Rattle.std.proofs.Common.{◌≡◌, ◌∷◌, true, sym, ap, ◌∙◌, subst}
 use Rattle.tftp_packet.specs.Hosts.{Datagram}
-use Rattle.tftp_transfers.specs.{is_at_server}
+use Rattle.audit_flows.specs.Transfers.{is_at_server}
 use Rattle.tftp_views.specs.{server_capture, server_header, HasJudged, IsServerAfter, Server}
 use Rattle.tftp_views.proofs.Feeding.{server_given}
 use Rattle.tftp_views.proofs.server.ServerJudge.take.Goals as goal

@@ -1,6 +1,6 @@
 use Rattle.std.proofs.Common.{◌≡◌, ◌∷◌, Some, false, true, refl, sym, ap, ◌∙◌, subst, Option}
-use Rattle.tftp_transfers.specs.{is_about, is_settled}
-use Rattle.tftp_lines.specs.{Transfer}
+use Rattle.audit_flows.specs.Transfers.{is_about, is_settled}
+use Rattle.audit_flows.specs.Lines.{Transfer}
 use Rattle.tftp_views.specs.{IsGoingOn, IsViewAfter, Server, View, ViewedBy}
 use Rattle.tftp_views.proofs.Holding.{goes_on_too, on_ok, passes_by}
 use Rattle.tftp_views.proofs.server_view.ServerView.feed.Goals as goal

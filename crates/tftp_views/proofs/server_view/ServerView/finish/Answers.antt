@@ -1,6 +1,6 @@
 use Rattle.std.proofs.Common.{sym, ap, ◌∙◌, subst, filter, Option}
-use Rattle.tftp_lines.specs.{Transfer}
-use Rattle.tftp_transfers.specs.{is_about}
+use Rattle.audit_flows.specs.Lines.{Transfer}
+use Rattle.audit_flows.specs.Transfers.{is_about}
 use Rattle.tftp_views.specs.{server_capture, server_header, IsJudgedWith, IsServerAfter, IsViewAfter, IsWaiting, Server, View, ViewedBy}
 use Rattle.tftp_views.proofs.Holding.{own_alone}
 use Rattle.tftp_views.proofs.server_view.ServerView.finish.Goals as goal

@@ -1,7 +1,7 @@
 use Rattle.std.proofs.Common.{◌≡◌, ◌≤◌, ◌∷◌, List, length, None, Some, true, reverse, sym, ap, ◌∙◌, subst, arith, filter, Option}
 use Rattle.std.specs.List.{All}
-use Rattle.tftp_transfers.specs.{AreEndsAfter, is_settled, is_about}
-use Rattle.tftp_lines.specs.{Transfer}
+use Rattle.audit_flows.specs.Transfers.{AreEndsAfter, is_settled, is_about}
+use Rattle.audit_flows.specs.Lines.{Transfer}
 use Rattle.tftp_views.specs.{Held, AreHeld, IsFed, IsGoingOn, IsServerAfter, IsViewAfter, IsWaiting, Server, View, ViewedBy}
 use Rattle.tftp_views.proofs.Holding.{held_newest, held_short, own_alone}
 use Rattle.tftp_views.proofs.server_view.ServerView.wait.Goals as goal

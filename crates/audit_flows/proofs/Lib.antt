@@ -1,0 +1,2 @@
+pub mod LinesLemmas
+pub mod TransfersLemmas

@@ -1,0 +1,23 @@
+use Rattle.std.proofs.Common.{rules, refl, subst, ◌∙◌, sym, ap, ◌&&◌, if◌then◌else◌}
+use Rattle.std.specs.BTreeMap.{get}
+use Rattle.std.specs.Str.{bytes_eq}
+use Rattle.audit_flows.specs.Lines.{Opens, Repeats, asked_part, endpoint_cmp, history_of, opened_by, same_endpoint, IsHistoryOf}
+use Rattle.audit_flows.proofs.LinesLemmas.Histories.{history_same}
+use Rattle.audit_flows.proofs.LinesLemmas.Requests.{opened_again, opened_alike}
+use Rattle.audit_flows.proofs.lines.line.Line.open.Goals as goal
+
+pub returns-clause-stands : goal.returns-clause-stands
+returns-clause-stands c line d stands is same = record {
+  latest = search rules;
+  answered = search rules;
+  moment = search rules;
+  asked = λ n e that. ap (λ again. if again then Repeats c.args.transfer else opened_by n e) (opened_again c.args.transfer c.args.payload.now c.args.time d e is that
+      ∙ ap (λ p. bytes_eq p e.payload && same_endpoint c.args.transfer.asked e.target) (sym c.in_ok-request.ensures.items));
+  talks = search rules;
+  histories = λ o. history_same c.args.transfer.client o (record { datagram = d; moment = c.args.now; place = Opens c.args.transfer }) line (history_of (get endpoint_cmp c.args.self.now.talks o)) refl
+      (subst (λ e. IsHistoryOf e o line (history_of (get endpoint_cmp c.args.self.now.talks o))) (sym same) (stands.histories o));
+  again = λ e that. opened_alike c.args.transfer c.args.payload.now c.args.time d e is that
+      ∙ ap (λ p. bytes_eq (asked_part p) (asked_part e.payload) && same_endpoint c.args.transfer.asked e.target) (sym c.in_ok-request.ensures.items);
+  went_on = search rules;
+  newest = search rules;
+}

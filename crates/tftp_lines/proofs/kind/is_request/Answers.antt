@@ -1,6 +1,0 @@
-use Rattle.std.proofs.Common.{ap}
-use Rattle.tftp_packet.specs.{meaning, parts}
-use Rattle.tftp_lines.proofs.kind.is_request.Goals as goal
-
-pub returns-in-Request-clause-yes : goal.returns-in-Request-clause-yes
-returns-in-Request-clause-yes c is = (parts c.in-Request.field-0, ap meaning c.in-Request.is)
