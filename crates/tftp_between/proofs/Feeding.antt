@@ -1,8 +1,8 @@
 -- What is fed has passed as it was recorded.
 use Rattle.std.proofs.Common.{◌≡◌, ℕ, true, cond, List, ◌∷◌, sym, ap, ◌∙◌, map, filter}
-use Rattle.tftp_parties.specs.{host_name}
+use Rattle.audit_views.specs.Parties.{host_name}
 use Rattle.audit_flows.specs.Lines.{Endpoint, Transfer, Placed, is_of}
-use Rattle.tftp_views.specs.{Held, Party, IsFed}
+use Rattle.audit_views.specs.Views.{Held, Party, IsFed}
 use Rattle.tftp_between.specs.{between_capture, passed_of, peer_of, passed_as, side_of}
 
 party_is : (end : Endpoint) (party : Party) → end ≡ party.end → party.host ≡ host_name party.end.address → peer_of end ≡ side_of party

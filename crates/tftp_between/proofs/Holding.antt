@@ -3,14 +3,14 @@ use Rattle.std.proofs.Common.{◌≡◌, true, false, List, [], ◌∷◌, ◌++
 use Rattle.std.proofs.lemmas.List.{length-map, length-reverse, map-append, reverse-append, reverse-reverse}
 use Rattle.law_tap.specs.{TapDatagram}
 use Rattle.judge_tap.specs.{passing_of, TapDatagram as Owned}
-use Rattle.tftp_parties.specs.{host_name}
+use Rattle.audit_views.specs.Parties.{host_name}
 use Rattle.audit_flows.specs.Lines.{Transfer, Placed, is_of}
 use Rattle.audit_flows.specs.Transfers.{is_settled}
-use Rattle.tftp_views.specs.{Held, IsFed}
+use Rattle.audit_views.specs.Views.{Held, IsFed}
 use Rattle.tftp_between.specs.{are_apart, between_capture, is_to_itself, passed_of, sides_of, sides_with, AreHeld, Between, BetweenBy, HasPassed, IsBetweenAfter, IsGoingOn, IsWaiting, View, counted_by, given_to, passed_as}
 use Rattle.tftp_between.proofs.Feeding.{captured_too, passed_fed}
-use Rattle.tftp_views.proofs.Settling.{settled_stays}
-use Rattle.tftp_views.proofs.Holding.{ends_too, same_own, server_too, settled_too}
+use Rattle.audit_views.proofs.ViewsLemmas.Settling.{settled_stays}
+use Rattle.audit_views.proofs.ViewsLemmas.Holding.{ends_too, same_own, server_too, settled_too}
 use Rattle.tftp_between.proofs.Settling.{itself, sides_stay}
 use Rattle.tftp_between.proofs.Sides.{to_itself}
 

@@ -2,7 +2,7 @@
 use Rattle.std.proofs.Common.{◌≡◌, ℕ, true, false, List, ◌++◌, ap}
 use Rattle.audit_flows.specs.Lines.{Transfer, Placed, is_of}
 use Rattle.audit_flows.specs.Transfers.{is_settled}
-use Rattle.tftp_views.proofs.Settling.{server_stays}
+use Rattle.audit_views.proofs.ViewsLemmas.Settling.{server_stays}
 use Rattle.tftp_between.specs.{sides_of, sides_with}
 
 pub sides_stay : (x : Transfer) (more placed : List Placed) → is_settled x.number placed ≡ true → sides_of x (more ++ placed) ≡ sides_of x placed

@@ -3,8 +3,8 @@ use Rattle.std.proofs.Common.{◌≡◌, ◌⊎◌, Bool, true, false, true≢fa
 use Rattle.std.proofs.lemmas.Bool.{and_from, eq-eqb, or_parts, or_cases}
 use Rattle.tftp_packet.specs.Hosts.{same_peer}
 use Rattle.tftp_ends.proofs.NotedPeers.{is_same}
-use Rattle.tftp_parties.specs.{IsAddress}
-use Rattle.tftp_parties.proofs.Addresses.{called_one}
+use Rattle.audit_views.specs.Parties.{IsAddress}
+use Rattle.audit_views.proofs.PartiesLemmas.Addresses.{called_one}
 use Rattle.law_tap.specs.{AreApart, PeerId, TapSides}
 use Rattle.audit_flows.specs.Lines.{Endpoint, Transfer, same_address, same_endpoint, Placed}
 use Rattle.audit_flows.specs.Transfers.{server_of}

@@ -2,7 +2,7 @@
 -- have the newest first.
 use Rattle.std.specs.Prelude.{◌||◌, not, Bool, List, map, Option, Some, None}
 use Rattle.tftp_packet.specs.Hosts.{same_peer}
-use Rattle.tftp_parties.specs.{host_name}
+use Rattle.audit_views.specs.Parties.{host_name}
 use Rattle.law_tap.specs.{PeerId, TapDatagram, TapSides}
 use Rattle.audit_flows.specs.Lines.{Endpoint, Transfer, Recorded, same_endpoint, Placed}
 use Rattle.audit_flows.specs.Transfers.{client_view, server_of}

@@ -4,7 +4,7 @@ use Rattle.law_tap.specs.{PeerId, TapDatagram, TapSides}
 use Rattle.judge_tap.specs.{TapJudge, passing_of, TapDatagram as Owned, TapRefusal}
 use Rattle.audit_flows.specs.Lines.{Transfer, Placed}
 use Rattle.audit_flows.specs.Transfers.{TransferEnds, AreEndsAfter, is_settled}
-use Rattle.tftp_views.specs.{Held, Party}
+use Rattle.audit_views.specs.Views.{Held, Party}
 use Rattle.tftp_between.specs.Captured.{between_capture, sides_of}
 use Rattle.tftp_between.specs.Judged.{HasTapped}
 

@@ -5,12 +5,12 @@ ghost use Rattle.std.specs.VecDeque.{deque_len};
 ghost use Rattle.tftp_between.specs.Captured.{between_capture, is_to_itself, sides_of};
 ghost use Rattle.tftp_between.specs.Judged.{IsBetweenVerdict};
 ghost use Rattle.tftp_between.specs.Kept.{AreHeld, HasPassed, IsBetweenAfter, counted_by, given_to, has_refused};
-ghost use Rattle.tftp_parties.specs.{host_name};
+ghost use Rattle.audit_views.specs.Parties.{host_name};
 ghost use Rattle.law_tap.specs.{AreApart, TapDatagram as Passing};
 ghost use Rattle.judge_tap.specs.{TapDatagram as Owned, TapRefusal as RefusalKind};
 ghost use Rattle.audit_flows.specs.Lines.{Placed, is_of};
 ghost use Rattle.audit_flows.specs.Transfers.{is_settled, client_view};
-ghost use Rattle.tftp_views.specs.{IsFed, held_of};
+ghost use Rattle.audit_views.specs.Views.{IsFed, held_of};
 
 use crate::passing::{passed, sides_of};
 use crate::sides_judge::SidesJudge;
@@ -24,7 +24,7 @@ use audit_flows::lines::Transfer;
 use law_tap::Sides;
 use judge_tap::{TapDatagram, TapRefusal};
 use audit_flows::transfers::TransferEnds;
-use tftp_views::Fed;
+use audit_views::views::Fed;
 
 /// The judge of a transfer between its two ends (RFC 1350, section 4), fed with a recording from its first datagram to its
 /// last. Until it is known who the server is it holds the transfer's datagrams; then it gives them to the judge, and holds

@@ -4,7 +4,7 @@ ghost use Rattle.std.specs.Prelude.{◌≡◌, [], ◌++◌, ◌∷◌, List, fa
 ghost use Rattle.tftp_between.specs.Captured.{between_capture, is_to_itself, server_or_asked, sides_of};
 ghost use Rattle.tftp_between.specs.Kept.{IsBetweenAfter, View};
 ghost use Rattle.tftp_between.specs.Worked.{asked_twice_between, asked_twice_sides, first_transfer};
-ghost use Rattle.tftp_parties.specs.{IsAddress};
+ghost use Rattle.audit_views.specs.Parties.{IsAddress};
 ghost use Rattle.law_tap.specs.{AreApart};
 ghost use Rattle.audit_flows.specs.Lines.{Placed, is_of, Transfer};
 ghost use Rattle.audit_flows.specs.Transfers.{placed, is_settled, server_of, asked_twice};

@@ -6,7 +6,7 @@ ghost use Rattle.tftp_between.specs.Judged.{HasTapped, IsBetweenVerdict};
 ghost use Rattle.tftp_between.specs.Kept.{HasPassed, counted_by, passed_as, refused_by};
 ghost use Rattle.law_tap.specs.{AreApart, TapDatagram as Passing, TapSides};
 ghost use Rattle.judge_tap.specs.{passing_of, TapRefusal as RefusalKind};
-ghost use Rattle.tftp_views.specs.{held_of};
+ghost use Rattle.audit_views.specs.Views.{held_of};
 
 use crate::passing::passed;
 use std::alloc::{AllocError, Global};
@@ -15,7 +15,7 @@ use tftp_ends::blocks::Delivered;
 use tftp_judge::Meaning;
 use law_tap::Sides;
 use judge_tap::{TapDatagram, TapJudge, TapRefusal};
-use tftp_views::Fed;
+use audit_views::views::Fed;
 
 /// The judge of what passes between two sides. Where the client is the server too, or where it asks, there is none: then it
 /// counts what passes, and refuses nothing.

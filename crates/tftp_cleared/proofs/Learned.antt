@@ -12,10 +12,10 @@ use Rattle.law_model.proofs.ModelLemmas.Worked.{one_block_plan}
 use Rattle.law_end.specs.{Division, Fits, IsDressed, Main, OneEnded, TransferIds}
 use Rattle.law_end.proofs.Whole.NothingAgreed.{none_there, nothing_may_be_agreed_by}
 use Rattle.law_end.proofs.Whole.TwoEnds.{lawful}
-use Rattle.tftp_parties.specs.{host_name}
+use Rattle.audit_views.specs.Parties.{host_name}
 use Rattle.audit_flows.specs.Transfers.{ack_of, client, data_of, placed, read_of}
 use Rattle.audit_flows.specs.Transfers.Worked.{passes, requests, server}
-use Rattle.tftp_views.specs.{captured, client_capture, client_header}
+use Rattle.audit_views.specs.Views.{captured, client_capture, client_header}
 use Rattle.tftp_cleared.specs.Worked.{asked_at_learned, before_going_on, learned, to_who_answered}
 
 -- ---- the run

@@ -13,8 +13,8 @@ use Rattle.law_end.proofs.Division.Routed.{told_of}
 use Rattle.audit_flows.specs.Lines.{Endpoint, Transfer, Recorded, begins_request, Placed, is_of}
 use Rattle.law_tap.specs.{pass_of, tapped_at, PeerId, TapDatagram, TapSides, side_of, TapLabel, TapLabelled, TapDivision, tapped_of, IsMainFrom, GoesThere, HasTapLabel, HaveTapLabels}
 use Rattle.law_tap.specs.TapDress as tap
-use Rattle.tftp_views.specs.{captured, server_header}
-use Rattle.tftp_parties.specs.{host_name}
+use Rattle.audit_views.specs.Views.{captured, server_header}
+use Rattle.audit_views.specs.Parties.{host_name}
 use Rattle.tftp_between.specs.{passed_of, peer_of as side}
 
 -- ---- the datagrams that pass a test

@@ -12,10 +12,10 @@ use Rattle.audit_flows.proofs.LinesLemmas.Lines.{by_test}
 use Rattle.audit_flows.specs.Transfers.{client_view, placed, server_of}
 use Rattle.audit_flows.proofs.TransfersLemmas.OwnDatagrams.{server_kept}
 use Rattle.law_tap.specs.{ShowsBetween, BreaksNoTapRule}
-use Rattle.tftp_parties.proofs.Addresses.{called_one}
+use Rattle.audit_views.proofs.PartiesLemmas.Addresses.{called_one}
 use Rattle.tftp_cleared.specs.{IsOpenedIn, IsTransferIn, HasAddresses}
-use Rattle.tftp_views.specs.{client_capture, client_header}
-use Rattle.tftp_parties.specs.{IsAddress, host_name}
+use Rattle.audit_views.specs.Views.{client_capture, client_header}
+use Rattle.audit_views.specs.Parties.{IsAddress, host_name}
 use Rattle.tftp_between.specs.{peer_of as side, sides_of, sides_with, between_capture}
 use Rattle.tftp_cleared.proofs.Own.{IsOwn, as_request, as_talk, own_all, opened_own}
 use Rattle.tftp_cleared.proofs.Server.{IsNamedApart}

@@ -13,8 +13,8 @@ use Rattle.audit_flows.proofs.LinesLemmas.Lines.{by_test}
 use Rattle.law_model.proofs.ModelLemmas.Members.{contains_cases, contains_none}
 use Rattle.law_tap.specs.{pass_of, tapped_at, TapLabel, TapLabelled, TapDivision, tapped_of}
 use Rattle.law_tap.specs.TapDress as tap
-use Rattle.tftp_views.specs.{captured, captured_at_client}
-use Rattle.tftp_parties.specs.{host_name}
+use Rattle.audit_views.specs.Views.{captured, captured_at_client}
+use Rattle.audit_views.specs.Parties.{host_name}
 use Rattle.tftp_between.specs.{passed_of}
 use Rattle.tftp_cleared.proofs.Own.{IsOwn, as_request, as_talk}
 

@@ -14,8 +14,8 @@ use Rattle.audit_flows.proofs.LinesLemmas.Endpoints.{same_itself}
 use Rattle.audit_flows.proofs.LinesLemmas.Lines.{by_test}
 use Rattle.audit_flows.specs.Transfers.{comes, goes_on, server_of}
 use Rattle.tftp_cleared.specs.{IsOpenedIn}
-use Rattle.tftp_views.specs.{captured}
-use Rattle.tftp_parties.specs.{host_name}
+use Rattle.audit_views.specs.Views.{captured}
+use Rattle.audit_views.specs.Parties.{host_name}
 use Rattle.tftp_between.specs.{server_or_asked, peer_of as side}
 use Rattle.tftp_cleared.proofs.Own.{IsOwn, as_request, as_talk}
 use Rattle.tftp_cleared.proofs.Pairs.{Pair, placed_in, came_to, any_weaker}

@@ -21,8 +21,8 @@ use Rattle.law_tap.proofs.Beside.{view_is_tapped}
 use Rattle.law_tap.proofs.TapLaw.{rules_are_runs}
 use Rattle.law_tap.proofs.TapLawful.{parted}
 use Rattle.tftp_cleared.specs.{IsOpenedIn}
-use Rattle.tftp_views.specs.{captured, server_header}
-use Rattle.tftp_parties.specs.{host_name}
+use Rattle.audit_views.specs.Views.{captured, server_header}
+use Rattle.audit_views.specs.Parties.{host_name}
 use Rattle.tftp_between.specs.{passed_of, peer_of as side}
 use Rattle.tftp_cleared.proofs.Merged.{kept_first, left_first, Seat, both, own, aside, neither, sends, gets, IsStrayIn, AnswersOne, Answered, merged}
 

@@ -9,7 +9,7 @@ use Rattle.law_end.proofs.Division.Divided.{any_none, any_cases, any_first, any_
 use Rattle.audit_flows.specs.Lines.{Endpoint, Transfer}
 use Rattle.law_tap.specs.{PeerId, TapDatagram, TapSides, side_of, TapLabelled, TapDivision, IsMainFrom, GoesThere, HasTapLabel, HaveTapLabels}
 use Rattle.law_tap.specs.TapDress as tap
-use Rattle.tftp_parties.specs.{host_name}
+use Rattle.audit_views.specs.Parties.{host_name}
 use Rattle.tftp_between.specs.{passed_of, peer_of as side}
 use Rattle.tftp_cleared.proofs.Pairs.{Pair, placed_in, label_there, labelled_there, division_there}
 use Rattle.tftp_cleared.proofs.Told.{Came, StrayFrom, GoesOut, asking, going_on, answering, ComesIn, from_there, astray, Says, sent, taken, Told}

@@ -3,10 +3,10 @@
 ghost use Rattle.std.specs.Prelude.{◌≡◌, ◌++◌, ℕ, List, ◌∷◌, All};
 ghost use Rattle.law_model.specs.Model.{Meaning};
 ghost use Rattle.law_end.specs.{OneEnded, Meant, Rule};
-ghost use Rattle.tftp_parties.specs.{host_name};
+ghost use Rattle.audit_views.specs.Parties.{host_name};
 ghost use Rattle.audit_flows.specs.Lines.{Endpoint, Transfer, Recorded};
 ghost use Rattle.audit_flows.specs.Transfers.{placed};
-ghost use Rattle.tftp_views.specs.{client_capture, client_header, server_capture, server_header};
+ghost use Rattle.audit_views.specs.Views.{client_capture, client_header, server_capture, server_header};
 ghost use Rattle.law_tap.specs.{BreaksNoTapRule, IsTapRefused, ShowsBetween};
 ghost use Rattle.tftp_between.specs.{between_capture, passed_of, sides_of};
 ghost use Rattle.tftp_cleared.specs.Cleared.{BothSaw, IsSentThere, IsServedIn, IsTransferIn};

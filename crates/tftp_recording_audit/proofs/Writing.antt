@@ -5,14 +5,14 @@ use Rattle.std.proofs.lemmas.List.Elements.{All-from_recursion}
 use Rattle.std.specs.List.{AllByRecursion}
 use Rattle.tftp_capture.specs.{IsLawful, IsPort}
 use Rattle.tftp_packet.specs.Hosts.{Dir, In, Out}
-use Rattle.tftp_parties.specs.{host_name}
-use Rattle.tftp_parties.proofs.Addresses.{is_host}
+use Rattle.audit_views.specs.Parties.{host_name}
+use Rattle.audit_views.proofs.PartiesLemmas.Addresses.{is_host}
 use Rattle.tftp_recording_audit.specs.{IsSoundDatagram, IsSoundEnd}
 use Rattle.tftp_recording_judge.specs.{opened}
 use Rattle.audit_flows.proofs.TransfersLemmas.Ends.{placed_where}
 use Rattle.audit_flows.specs.Lines.{Placed, clock, transfer_of, Recorded, Place, Opens, Transfer}
 use Rattle.audit_flows.specs.Transfers.{place_of, placed, opened_it}
-use Rattle.tftp_views.specs.{captured}
+use Rattle.audit_views.specs.Views.{captured}
 
 -- ---- all of a list
 

@@ -2,7 +2,7 @@
 use Rattle.std.specs.Prelude.{◌≡◌, ◌∷◌, ℕ, Bool, List, max, Result, Ok, Err}
 use Rattle.std.specs.BTreeMap.{BTreeMap}
 use Rattle.std.specs.List.{AllByRecursion}
-use Rattle.tftp_parties.specs.{host_name}
+use Rattle.audit_views.specs.Parties.{host_name}
 use Rattle.net_udp.specs.Recording.{EventState, Step}
 use Rattle.tftp_recording_judge.specs.{StandsAfter, Watched, Judging}
 use Rattle.tftp_recording_audit.specs.Passed.{HasPassed, last_time}

@@ -2,7 +2,7 @@
 use Rattle.std.specs.Prelude.{◌≡◌, ◌↔◌, ℕ, List, [], ◌∷◌, true, Option, Some, None}
 use Rattle.std.specs.declared.net.ip_addr.IpAddr.{IpAddr}
 use Rattle.tftp_packet.specs.{Request, RequestParts, Spells}
-use Rattle.tftp_parties.specs.{address_of}
+use Rattle.audit_views.specs.Parties.{address_of}
 use Rattle.net_udp.specs.Recording.{IsFateOf, Step, Fate, Discarded, Left, Waits}
 use Rattle.net_udp.specs.declared.recording.fate.Datagram.{Datagram as Given}
 use Rattle.net_udp.specs.declared.recording.fate.Fate.TheVariants.{Datagram}

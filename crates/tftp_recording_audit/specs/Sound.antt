@@ -1,7 +1,7 @@
 -- What a capture wants of the datagrams that have passed.
 use Rattle.std.specs.Prelude.{◌<◌, ◌≤◌, ℕ, length, slice_index}
 use Rattle.tftp_capture.specs.{IsPort}
-use Rattle.tftp_parties.specs.{IsAddress}
+use Rattle.audit_views.specs.Parties.{IsAddress}
 use Rattle.audit_flows.specs.Lines.{Recorded, Endpoint}
 
 -- its address is one of IPv4 or IPv6, and its port none of 0

@@ -13,7 +13,7 @@ ghost use Rattle.tftp_recording_audit.specs.Sound.{IsSoundDatagram};
 ghost use Rattle.net_udp.specs.Frames.{IsSound};
 ghost use Rattle.tftp_recording_audit.specs.Passed.{IsTaken, last_time, time_by};
 ghost use Rattle.tftp_recording_judge.specs.{AreCrowded, IsWatching, StandsAfter, is_among, opened};
-ghost use Rattle.tftp_parties.specs.{host_name};
+ghost use Rattle.audit_views.specs.Parties.{host_name};
 ghost use Rattle.audit_flows.specs.Transfers.{AttributionFault, placed};
 ghost use Rattle.audit_flows.specs.Lines.{clock, line, live, Recorded};
 
@@ -22,7 +22,7 @@ use std::alloc::{AllocError, Global};
 use std::io::Read;
 use tftp_ends::blocks::Delivered;
 use audit_flows::lines::{Endpoint, spells_request};
-use tftp_parties::party_of;
+use audit_views::parties::party_of;
 use net_udp::recording::{Datagram, Event, Fate, RecordingReader};
 use tftp_recording_judge::{Judging, RecordingJudge, Watched};
 use net_streams::streams::Latched;

@@ -4,13 +4,13 @@ ghost use Rattle.std.specs.Prelude.{◌≡◌, ◌≤◌, ◌^◌, ℕ, List, So
 ghost use Rattle.std.specs.List.{AllByRecursion};
 ghost use Rattle.tftp_between.specs.{is_to_itself, sides_of};
 ghost use Rattle.tftp_capture.specs.{text_with_hosts};
-ghost use Rattle.tftp_parties.specs.{host_name};
+ghost use Rattle.audit_views.specs.Parties.{host_name};
 ghost use Rattle.tftp_recording_audit.specs.Sound.{IsSoundDatagram};
 ghost use Rattle.tftp_recording_judge.specs.{opened};
 ghost use Rattle.law_tap.specs.{AreApart};
 ghost use Rattle.audit_flows.specs.Transfers.{placed};
 ghost use Rattle.audit_flows.specs.Lines.{Recorded, Transfer};
-ghost use Rattle.tftp_views.specs.{client_capture, client_header, server_capture, server_header, AreWritten};
+ghost use Rattle.audit_views.specs.Views.{client_capture, client_header, server_capture, server_header, AreWritten};
 
 /// What each end of a transfer saw of a recording can be written as a capture text, unless that were longer than a capture
 /// text may be: so the verdict that the judges of a recording give is that of this text.

@@ -8,7 +8,7 @@ use Rattle.audit_flows.specs.Lines.{Place, Opens, Transfer, Recorded, Placed, ne
 use Rattle.audit_flows.specs.Transfers.{place_of, placed, is_about, opened_it, is_it}
 use Rattle.audit_flows.proofs.LinesLemmas.Lines.{by_test}
 use Rattle.audit_flows.proofs.TransfersLemmas.Numbers.{none_answers_before, none_before, opening_number, length_placed}
-use Rattle.tftp_views.specs.{Naming}
+use Rattle.audit_views.specs.Views.{Naming}
 use Rattle.tftp_recording_judge.specs.{Judging, AreCrowded, AreHanded, AreKept, IsCrowded, IsKept, IsUnheard, IsWatching, Watched, is_among, opened}
 use Rattle.tftp_recording_judge.proofs.Watching.{watching_on, watching_unheard}
 

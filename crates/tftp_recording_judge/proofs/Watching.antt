@@ -5,12 +5,12 @@ use Rattle.std.specs.Bool.{then_some}
 use Rattle.std.proofs.lemmas.List.Elements.{All-head, All-tail}
 use Rattle.audit_flows.specs.Lines.{Transfer, Placed, may_be_answer_of}
 use Rattle.audit_flows.specs.Transfers.{is_about, is_answered_apart, is_it}
-use Rattle.tftp_views.specs.{Naming, Client, View}
+use Rattle.audit_views.specs.Views.{Naming, Client, View}
 use Rattle.tftp_between.specs.{View as Between}
 use Rattle.tftp_between.proofs.Holding.{passes_by as between_passes_by}
 use Rattle.audit_flows.proofs.TransfersLemmas.OwnDatagrams.{about_none}
-use Rattle.tftp_views.proofs.Holding.{passes_by}
-use Rattle.tftp_views.proofs.Passing.{client_passes_by, doubts_pass_by}
+use Rattle.audit_views.proofs.ViewsLemmas.Holding.{passes_by}
+use Rattle.audit_views.proofs.ViewsLemmas.Passing.{client_passes_by, doubts_pass_by}
 use Rattle.tftp_recording_judge.specs.{Judging, AreJudgesAfter, BetweenStands, ClientStands, IsUnheard, IsWatching, Judges, ServerStands, Watched}
 
 -- ---- at each point

@@ -5,8 +5,8 @@ use Rattle.std.specs.List.{list_any}
 use Rattle.std.specs.Ordering.{nat_cmp}
 use Rattle.audit_flows.specs.Transfers.{Attribution, TransferDoubts, placed, is_about, opened_it, is_answered_apart, IsAfter, IsDoubtedAfter}
 use Rattle.audit_flows.specs.Lines.{Transfer, Recorded, Placed, newest_of, transfer_of}
-use Rattle.tftp_views.specs.{Party, Naming, Client, IsClientAfter, IsViewAfter, View, fed_to}
-use Rattle.tftp_parties.specs.{host_name}
+use Rattle.audit_views.specs.Views.{Party, Naming, Client, IsClientAfter, IsViewAfter, View, fed_to}
+use Rattle.audit_views.specs.Parties.{host_name}
 use Rattle.tftp_between.specs.{IsBetweenAfter, View as Between, given_to}
 use Rattle.tftp_judge.specs.declared.refusal.Refusal.TheVariants.{Memory}
 use Rattle.judge_tap.specs.declared.refusal.TapRefusal.TheVariants.{Memory as TapMemory}

@@ -5,7 +5,7 @@ ghost use Rattle.tftp_recording_judge.specs.Kept.{AreCrowded, AreHanded, AreKept
 ghost use Rattle.tftp_recording_judge.specs.declared.judging.Judging.{Judging as JudgingKind};
 ghost use Rattle.audit_flows.specs.Lines.{doubts_of, Placed, Place, Transfer};
 ghost use Rattle.audit_flows.specs.Transfers.{is_it, is_about, AttributionFault};
-ghost use Rattle.tftp_views.specs.{Naming, IsFed, held_of};
+ghost use Rattle.audit_views.specs.Views.{Naming, IsFed, held_of};
 
 use crate::judging::Judging;
 use crate::watched::Watched;
@@ -14,7 +14,7 @@ use std::collections::BTreeMap;
 use tftp_ends::blocks::Delivered;
 use audit_flows::lines::{Place, Transfer};
 use audit_flows::transfers::{Attributed, AttributionFault};
-use tftp_views::Fed;
+use audit_views::views::Fed;
 
 /// A transfer that a request opens is kept, before any datagram.
 pub(crate) fn open<D: Delivered + Drop>(

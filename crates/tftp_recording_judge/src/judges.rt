@@ -2,13 +2,13 @@
 
 ghost use Rattle.std.specs.Prelude.{◌≡◌, ◌≤◌, ◌∷◌, ℕ, List, [], length, option_copied, IfSome, IsErr, OnErr, OnOk, Ok, Err, MatchBool, true, false};
 ghost use Rattle.tftp_between.specs.{between_capture, is_to_itself, sides_of, IsBetweenVerdict};
-ghost use Rattle.tftp_parties.specs.{host_name};
+ghost use Rattle.audit_views.specs.Parties.{host_name};
 ghost use Rattle.tftp_recording_judge.specs.Kept.{AreAt, AreFew, AreJudgesAfter, AreOf, AreTold, AreWants, IsCrowded};
 ghost use Rattle.law_tap.specs.{AreApart};
 ghost use Rattle.judge_tap.specs.{TapRefusal as RefusalKind};
 ghost use Rattle.audit_flows.specs.Lines.{Placed, Transfer};
 ghost use Rattle.audit_flows.specs.Transfers.{is_about};
-ghost use Rattle.tftp_views.specs.{Naming, client_capture, client_header, server_capture, server_header, IsJudgedWith, IsFed, held_of};
+ghost use Rattle.audit_views.specs.Views.{Naming, client_capture, client_header, server_capture, server_header, IsJudgedWith, IsFed, held_of};
 
 use crate::judging::Points;
 use crate::point::{counted, feed};
@@ -20,7 +20,7 @@ use tftp_ends::blocks::Delivered;
 use tftp_judge::Refusal;
 use audit_flows::lines::Transfer;
 use judge_tap::TapRefusal;
-use tftp_views::{ClientJudge, Fed, ServerView};
+use audit_views::views::{ClientJudge, Fed, ServerView};
 
 /// How many datagrams a judge can count.
 const MOST: u64 = 1 << 40;

@@ -7,7 +7,7 @@ ghost use Rattle.tftp_recording_judge.specs.declared.judging.Judging.{Judging};
 ghost use Rattle.tftp_recording_judge.specs.declared.judging.Points.{Points};
 ghost use Rattle.audit_flows.specs.Transfers.{placed, asked_twice};
 ghost use Rattle.audit_flows.specs.Lines.{same_address, Transfer, V4, V6};
-ghost use Rattle.tftp_views.specs.{first_transfer};
+ghost use Rattle.audit_views.specs.Views.{first_transfer};
 
 /// Of a request that is sent twice the first one opens a transfer, and no other datagram does.
 pub fn worked_openings()

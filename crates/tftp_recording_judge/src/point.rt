@@ -3,15 +3,15 @@
 ghost use Rattle.std.specs.Prelude.{◌≡◌, ◌^◌, ◌<◌, ◌≤◌, ◌∷◌, ℕ, List, length, is_some, IfSome, OnOk, Ok, false};
 ghost use Rattle.tftp_between.specs.{IsBetweenAfter, given_to};
 ghost use Rattle.audit_flows.specs.Lines.{Placed, Transfer};
-ghost use Rattle.tftp_parties.specs.{host_name};
+ghost use Rattle.audit_views.specs.Parties.{host_name};
 ghost use Rattle.tftp_recording_judge.specs.Kept.{StandsAs, fed_by};
 ghost use Rattle.audit_flows.specs.Transfers.{is_about};
-ghost use Rattle.tftp_views.specs.{IsClientAfter, IsFed, IsViewAfter, Naming, fed_to, held_of};
+ghost use Rattle.audit_views.specs.Views.{IsClientAfter, IsFed, IsViewAfter, Naming, fed_to, held_of};
 
 use std::alloc::{AllocError, Global};
 use tftp_between::BetweenView;
 use tftp_ends::blocks::Delivered;
-use tftp_views::{ClientJudge, Fed, ServerView};
+use audit_views::views::{ClientJudge, Fed, ServerView};
 
 /// A judge of a transfer at one point.
 pub(crate) trait PointJudge {

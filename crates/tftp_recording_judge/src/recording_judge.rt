@@ -4,7 +4,7 @@ ghost use Rattle.std.specs.Prelude.{◌≡◌, ◌≢◌, ◌≤◌, ◌+◌, �
 ghost use Rattle.tftp_recording_judge.specs.Kept.{AreCrowded, IsCalled, IsWatching, StandsAfter, is_among, opened};
 ghost use Rattle.audit_flows.specs.Lines.{doubts_of, clock, line, live, may_be_tftp, Recorded, Nowhere};
 ghost use Rattle.audit_flows.specs.Transfers.{IsRecorded, place_of, placed, AttributionFault};
-ghost use Rattle.tftp_views.specs.{Naming};
+ghost use Rattle.audit_views.specs.Views.{Naming};
 
 use crate::hands::{hand_on, open};
 use crate::judging::Judging;
@@ -14,7 +14,7 @@ use std::collections::BTreeMap;
 use tftp_ends::blocks::Delivered;
 use audit_flows::lines::Endpoint;
 use audit_flows::transfers::{Attributed, Attribution, AttributionFault};
-use tftp_views::{Fed, Party};
+use audit_views::views::{Fed, Party};
 
 /// The judge of a whole recording, fed from its first datagram to its last: it divides what passed into transfers, and
 /// judges each where that is wanted.

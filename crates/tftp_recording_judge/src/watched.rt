@@ -2,7 +2,7 @@
 
 ghost use Rattle.std.specs.Prelude.{◌≡◌, ◌≤◌, ◌∷◌, ℕ, List, [], length, option_copied, IfSome, OnOk, Err, false, true};
 ghost use Rattle.tftp_between.specs.{between_capture, is_to_itself, sides_of, IsBetweenVerdict};
-ghost use Rattle.tftp_parties.specs.{host_name};
+ghost use Rattle.audit_views.specs.Parties.{host_name};
 ghost use Rattle.tftp_recording_judge.specs.Kept.{AreTold, AreWants, IsCrowded, IsWatching};
 ghost use Rattle.tftp_recording_judge.specs.Points.{points_of};
 ghost use Rattle.tftp_recording_judge.specs.declared.judging.Judging.{Judging as JudgingKind};
@@ -10,7 +10,7 @@ ghost use Rattle.law_tap.specs.{AreApart};
 ghost use Rattle.judge_tap.specs.{TapRefusal};
 ghost use Rattle.audit_flows.specs.Lines.{doubts_of, Placed, Transfer};
 ghost use Rattle.audit_flows.specs.Transfers.{is_about, AttributionFault};
-ghost use Rattle.tftp_views.specs.{Naming, client_capture, client_header, server_capture, server_header, IsJudgedWith, IsFed, held_of};
+ghost use Rattle.audit_views.specs.Views.{Naming, client_capture, client_header, server_capture, server_header, IsJudgedWith, IsFed, held_of};
 
 use crate::judges::Judges;
 use crate::judging::Judging;
@@ -21,7 +21,7 @@ use tftp_between::BetweenView;
 use tftp_ends::blocks::Delivered;
 use audit_flows::lines::Transfer;
 use audit_flows::transfers::{Attributed, AttributionFault, TransferDoubts};
-use tftp_views::{ClientJudge, Fed, ServerView};
+use audit_views::views::{ClientJudge, Fed, ServerView};
 
 /// A transfer of a recording: its judges, each at a point where it is judged, and what makes a refusal of it no accusation.
 #[derive(Drop)]

@@ -8,8 +8,8 @@ use std::alloc::{AllocError, Global};
 use std::collections::BTreeMap;
 use tftp_blame::{Passing, about};
 use audit_flows::lines::{Place, Transfer};
-use tftp_texts::{Comment, TransferText};
-use tftp_views::Fed;
+use audit_views::texts::{Comment, TransferText};
+use audit_views::views::Fed;
 
 /// Of which transfers of a recording the texts are wanted.
 #[derive(Clone, Copy, Debug, PartialEq, Eq)]

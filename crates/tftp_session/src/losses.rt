@@ -5,7 +5,7 @@ use std::collections::BTreeMap;
 use std::net::IpAddr;
 use tftp_blame::{Missing, Trail};
 use audit_flows::lines::{Address, Endpoint};
-use tftp_parties::address_of;
+use audit_views::parties::address_of;
 
 /// The hosts of a frame, where its IP header is there.
 type Hosts = Option<(IpAddr, IpAddr)>;

@@ -13,14 +13,14 @@ use std::io::Read;
 use tftp_blame::{Missing, Passing, Spoilt, Trail, about};
 use tftp_ends::blocks::RingDelivered;
 use audit_flows::lines::{Endpoint, Place, Transfer};
-use tftp_parties::party_of;
+use audit_views::parties::party_of;
 use net_pcap::{FaultKind, PcapFault};
 use net_udp::recording::{Checksum, Datagram, Event, Fate, RecordingReader};
 use tftp_recording_audit::{AuditFault, NextFrame, RecordingAudit};
 use tftp_recording_judge::{Judging, Watched};
 use net_streams::streams::Latched;
 use audit_flows::transfers::{Attributed, AttributionFault};
-use tftp_views::Fed;
+use audit_views::views::Fed;
 
 /// What a recording has: its transfers by how many datagrams came before each, and what is to be told of it.
 #[derive(Drop)]

@@ -8,7 +8,7 @@ use std::alloc::{AllocError, Global};
 use tftp_blame::Trail;
 use audit_flows::lines::Endpoint;
 use tftp_packet::End;
-use tftp_texts::{Comment, TransferText};
+use audit_views::texts::{Comment, TransferText};
 
 /// The text of a transfer that is read, and which end it is wanted at: `text.write` writes it, with this heading.
 #[derive(Drop)]

@@ -5,7 +5,7 @@ use Rattle.tftp_between.specs.Worked.{first_transfer}
 use Rattle.tftp_cleared.specs.{HasAddresses, IsOpenedIn, IsSentThere, IsWith}
 use Rattle.tftp_cleared.proofs.Hosts.{address_at}
 use Rattle.audit_flows.specs.Lines.{Endpoint, same_endpoint}
-use Rattle.tftp_parties.specs.{IsAddress}
+use Rattle.audit_views.specs.Parties.{IsAddress}
 use Rattle.audit_flows.specs.Transfers.{asked_twice, client, placed}
 use Rattle.audit_flows.specs.Transfers.Worked.{server, stranger}
 use Rattle.tftp_cleared.proofs.worked.premises_are_met.Goals as goal

@@ -4,7 +4,7 @@ use Rattle.std.specs.Fmt.{digits}
 use Rattle.std.specs.Prelude.{◌∷◌}
 use Rattle.tftp_cleared.specs.{HasAddresses}
 use Rattle.tftp_cleared.specs.Worked.{before_going_on, to_who_answered}
-use Rattle.tftp_parties.specs.{IsAddress}
+use Rattle.audit_views.specs.Parties.{IsAddress}
 use Rattle.audit_flows.specs.Transfers.{client}
 use Rattle.audit_flows.specs.Transfers.Worked.{server, stranger}
 use Rattle.tftp_cleared.proofs.Hosts.{address_at}

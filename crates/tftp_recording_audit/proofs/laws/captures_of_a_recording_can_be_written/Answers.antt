@@ -1,7 +1,7 @@
 use Rattle.tftp_recording_audit.proofs.Writing.{all_lawful, asked_port, placed_sound}
 use Rattle.audit_flows.specs.Transfers.{placed, is_at_server}
 use Rattle.audit_flows.specs.Lines.{is_of}
-use Rattle.tftp_views.specs.{way_at_client, way_at_server}
+use Rattle.audit_views.specs.Views.{way_at_client, way_at_server}
 use Rattle.tftp_recording_audit.proofs.laws.captures_of_a_recording_can_be_written.Goals as goal
 
 pub returns-clause-client : goal.returns-clause-client

@@ -4,8 +4,8 @@ use Rattle.audit_flows.specs.Lines.{is_of}
 use Rattle.tftp_between.specs.{between_capture, HasPassed, IsBetweenAfter, IsGoingOn, View}
 use Rattle.tftp_between.proofs.Feeding.{passed_fed}
 use Rattle.tftp_between.proofs.Holding.{goes_on_too, is_going_on, passes_by}
-use Rattle.tftp_views.specs.{held_of}
-use Rattle.tftp_views.proofs.Holding.{on_ok}
+use Rattle.audit_views.specs.Views.{held_of}
+use Rattle.audit_views.proofs.ViewsLemmas.Holding.{on_ok}
 use Rattle.tftp_between.proofs.between_view.BetweenView.feed.Goals as goal
 
 pub returns-then-not-is_at_client-clause-after : goal.returns-then-not-is_at_client-clause-after

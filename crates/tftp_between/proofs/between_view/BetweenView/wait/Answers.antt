@@ -3,10 +3,10 @@ use Rattle.std.specs.List.{All}
 use Rattle.judge_tap.specs.{TapDatagram as Owned}
 use Rattle.audit_flows.specs.Transfers.{AreEndsAfter, is_settled}
 use Rattle.audit_flows.specs.Lines.{is_of}
-use Rattle.tftp_views.specs.{held_of}
+use Rattle.audit_views.specs.Views.{held_of}
 use Rattle.tftp_between.specs.{between_capture, AreHeld, Between, BetweenBy, IsBetweenAfter, IsGoingOn, IsWaiting, View}
 use Rattle.tftp_between.proofs.Holding.{held_newest, is_waiting}
-use Rattle.tftp_views.proofs.Holding.{held_short}
+use Rattle.audit_views.proofs.ViewsLemmas.Holding.{held_short}
 use Rattle.tftp_between.proofs.between_view.BetweenView.wait.Goals as goal
 use Rattle.tftp_between.proofs.between_view.BetweenView.wait.Goals.{in-Some+in-Some-self-2+in-Some-self-3+in-Some-self-10, in-Some+in-Some-self-2+in-Some-self-3+in-None-1, in-Some+in-Some-self-2+in-None-1, in-Some+in-None-1, in-None-4}
 

@@ -1,7 +1,7 @@
 use Rattle.std.proofs.Common.{sym, ◌∙◌, subst, Option}
 use Rattle.judge_tap.specs.{TapJudge}
 use Rattle.tftp_between.specs.{HasTapped, Between, HasPassed, PassedBy, passed_as}
-use Rattle.tftp_views.specs.{held_of}
+use Rattle.audit_views.specs.Views.{held_of}
 use Rattle.tftp_between.proofs.Tapping.{rests_more}
 use Rattle.tftp_between.proofs.sides_judge.SidesJudge.put.Goals as goal
 

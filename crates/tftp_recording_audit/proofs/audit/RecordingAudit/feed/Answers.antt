@@ -2,7 +2,7 @@ use Rattle.std.proofs.Common.{◌≡◌, ℕ, max, refl, sym, subst, ap, ◌∙�
 use Rattle.std.specs.Option.{unwrap_or}
 use Rattle.tftp_capture.specs.{IsPort}
 use Rattle.audit_flows.specs.Lines.{Endpoint, doubts_of, clock, Recorded, Place}
-use Rattle.tftp_parties.specs.{host_name}
+use Rattle.audit_views.specs.Parties.{host_name}
 use Rattle.audit_flows.specs.Transfers.{IsRecorded, placed}
 use Rattle.tftp_recording_audit.specs.{time_by}
 use Rattle.tftp_recording_audit.proofs.Taking.{unwrapped}

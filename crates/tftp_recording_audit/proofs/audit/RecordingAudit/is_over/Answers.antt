@@ -1,5 +1,5 @@
 use Rattle.std.proofs.Common.{◌≡◌, ◌≢◌, ℕ, max, [], ap, ◌∙◌, subst, MatchBool}
-use Rattle.tftp_parties.specs.{host_name}
+use Rattle.audit_views.specs.Parties.{host_name}
 use Rattle.audit_flows.specs.Lines.{clock, line, live}
 use Rattle.audit_flows.specs.Transfers.{placed}
 use Rattle.tftp_recording_audit.proofs.Clock.{clock_stays}

@@ -1,5 +1,5 @@
 use Rattle.std.proofs.Common.{refl}
-use Rattle.tftp_parties.specs.{host_name}
+use Rattle.audit_views.specs.Parties.{host_name}
 use Rattle.tftp_recording_audit.proofs.audit.RecordingAudit.new.Goals as goal
 
 pub returns-clause-stands : goal.returns-clause-stands

@@ -1,4 +1,4 @@
-use Rattle.tftp_parties.specs.{host_name}
+use Rattle.audit_views.specs.Parties.{host_name}
 use Rattle.tftp_recording_audit.proofs.Taking.{if_some}
 use Rattle.tftp_recording_audit.proofs.audit.RecordingAudit.pop_first.Goals as goal
 

@@ -1,5 +1,5 @@
 use Rattle.std.proofs.Common.{rules, sym, subst}
-use Rattle.tftp_views.specs.{Client, View}
+use Rattle.audit_views.specs.Views.{Client, View}
 use Rattle.tftp_between.specs.{View as Between}
 use Rattle.tftp_recording_judge.specs.{AreOf, Judges}
 use Rattle.tftp_recording_judge.proofs.Watching.{away_of}

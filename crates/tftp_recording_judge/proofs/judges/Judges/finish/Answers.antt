@@ -1,7 +1,7 @@
 use Rattle.std.proofs.Common.{rules, sym, subst}
 use Rattle.audit_flows.specs.Lines.{Transfer}
-use Rattle.tftp_views.specs.{client_capture, client_header, server_capture, server_header, IsJudgedWith}
-use Rattle.tftp_parties.specs.{host_name}
+use Rattle.audit_views.specs.Views.{client_capture, client_header, server_capture, server_header, IsJudgedWith}
+use Rattle.audit_views.specs.Parties.{host_name}
 use Rattle.tftp_recording_judge.specs.{BetweenStands, ClientStands, Judges, ServerStands}
 use Rattle.tftp_recording_judge.proofs.Watching.{on_mapped}
 use Rattle.tftp_recording_judge.proofs.judges.Judges.finish.Goals as goal

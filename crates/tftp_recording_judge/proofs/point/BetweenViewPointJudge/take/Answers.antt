@@ -1,7 +1,7 @@
 use Rattle.std.proofs.Common.{◌∷◌, subst}
 use Rattle.tftp_between.specs.{IsBetweenAfter}
 use Rattle.audit_flows.proofs.TransfersLemmas.OwnDatagrams.{about_none}
-use Rattle.tftp_views.specs.{Naming, IsFed, held_of}
+use Rattle.audit_views.specs.Views.{Naming, IsFed, held_of}
 use Rattle.tftp_recording_judge.proofs.Watching.{on_ok_when}
 use Rattle.tftp_recording_judge.proofs.point.BetweenViewPointJudge.take.Goals as goal
 

@@ -1,7 +1,7 @@
 use Rattle.std.proofs.Common.{◌≡◌, List, refl, sym, ap, ◌∙◌, max}
 use Rattle.audit_flows.specs.Lines.{doubts_of, Placed, clock}
 use Rattle.audit_flows.specs.Transfers.{place_of, placed}
-use Rattle.tftp_views.specs.{IsFed}
+use Rattle.audit_views.specs.Views.{IsFed}
 use Rattle.tftp_recording_judge.proofs.Keeping.{unheard_before}
 use Rattle.tftp_recording_judge.proofs.recording_judge.RecordingJudge.feed.Goals as goal
 

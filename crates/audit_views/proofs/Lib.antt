@@ -1,0 +1,3 @@
+pub mod PartiesLemmas
+pub mod ViewsLemmas
+pub mod TextsLemmas

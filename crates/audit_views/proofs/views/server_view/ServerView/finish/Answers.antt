@@ -1,0 +1,15 @@
+use Rattle.std.proofs.Common.{sym, ap, ◌∙◌, subst, filter, Option}
+use Rattle.audit_flows.specs.Lines.{Transfer}
+use Rattle.audit_flows.specs.Transfers.{is_about}
+use Rattle.audit_views.specs.Views.{server_capture, server_header, IsJudgedWith, IsServerAfter, IsViewAfter, IsWaiting, Server, View, ViewedBy}
+use Rattle.audit_views.proofs.ViewsLemmas.Holding.{own_alone}
+use Rattle.audit_views.proofs.views.server_view.ServerView.finish.Goals as goal
+
+pub returns-in-None-clause-judged : goal.returns-in-None-clause-judged
+returns-in-None-clause-judged g c name whole after =
+    let v : View = record { transfer = c.self.inside.transfer; ends = c.self.inside.ends; held = c.self.inside.held.items; judge = c.self.inside.judge } in
+    let waits : IsWaiting v name whole = subst (λ (o : Option Server). ViewedBy o v name whole) c.in-None.is (subst (λ (v : View). IsViewAfter v name whole) (sym c.self.view_is) after) in
+    let own = c.judge_of.ensures.after name whole (filter (is_about v.transfer.number) whole) waits.ends waits.held in
+    let all = own_alone c.judge_of.result name whole (subst (λ (x : Transfer). IsServerAfter c.judge_of.result name whole (filter (is_about x.number) whole)) (sym c.judge_of.ensures.transfer) own) in
+    subst (λ (x : Transfer). IsJudgedWith (server_header x) (server_capture name x whole whole) c.finish-in-None.result) (c.judge_of.ensures.transfer ∙ ap (λ (v : View). v.transfer) c.self.view_is)
+    (c.finish-in-None.ensures.judged name whole whole all)

@@ -1,0 +1,3 @@
+pub mod Parties
+pub mod Views
+pub mod Texts

@@ -1,0 +1,47 @@
+//! Laws of the definitions in `specs/`. Each is the contract of a function that does nothing.
+
+ghost use Rattle.std.specs.Prelude.{◌≡◌, [], ◌++◌, ◌∷◌, ℕ, List, Result, filter, reverse, false, true};
+ghost use Rattle.tftp_packet.specs.Hosts.{Datagram, Header};
+ghost use Rattle.law_model.specs.Model.{Meaning};
+ghost use Rattle.tftp_judge.specs.{IsVerdict, IsTextVerdict, IsSaid, Refusal};
+ghost use Rattle.tftp_capture.specs.{text_with_hosts};
+ghost use Rattle.audit_flows.specs.Lines.{Placed, may_be_answer_of};
+ghost use Rattle.audit_flows.specs.Transfers.{placed, is_it, IsDoubtedAfter, is_about, is_at_server, server_of, server_view, TransferDoubts, asked_twice, is_settled};
+ghost use Rattle.audit_views.specs.Views.Captured.{Naming, client_capture, server_capture};
+ghost use Rattle.audit_views.specs.Views.Kept.{Client, IsClientAfter, IsViewAfter, View};
+ghost use Rattle.audit_views.specs.Views.Judged.{AreWritten, of_text};
+ghost use Rattle.audit_views.specs.Views.Worked.{asked_twice_at_client, asked_twice_at_server, by_bytes, first_transfer};
+
+/// What there is to say of datagrams is what there is to say of the text that has just them.
+pub fn verdict_is_that_of_the_text()
+    ensures { (h : Header) (given : List Datagram) (said : Result Meaning Refusal) → AreWritten h given → IsSaid said
+        → IsVerdict h (reverse given) said → IsTextVerdict (text_with_hosts h (reverse given)) (of_text said) }
+{}
+
+/// Once it is known whom a client asked, who answered and with whom it went on, what of the recording is the server's
+/// view stays, whatever comes.
+pub fn settled_views_stay()
+    ensures datagrams { (n : ℕ) (more placed : List Placed) → is_settled n placed ≡ true
+        → (p : Placed) → is_at_server n (more ++ placed) p ≡ is_at_server n placed p }
+    ensures view { (n : ℕ) (more placed : List Placed) → is_settled n placed ≡ true
+        → server_view n (more ++ placed) ≡ filter (is_at_server n (more ++ placed)) more ++ server_view n placed }
+    ensures server { (n : ℕ) (more placed : List Placed) → is_settled n placed ≡ true → server_of n (more ++ placed) ≡ server_of n placed }
+{}
+
+/// What an end sent goes out there; the client's stray comes in from its own host, and the server has not seen it.
+pub fn worked_captures()
+    ensures client { client_capture by_bytes first_transfer (placed [] asked_twice) ≡ asked_twice_at_client }
+    ensures server { server_capture by_bytes first_transfer (placed [] asked_twice) (placed [] asked_twice) ≡ asked_twice_at_server }
+    ensures settled { is_settled 0 (placed [] asked_twice) ≡ true }
+{}
+
+/// A datagram that is not about a transfer tells its judges nothing, and makes nothing of it doubtful unless it may be its
+/// first answer: what stands for the datagrams before it stands for it too.
+pub fn what_is_not_about_a_transfer_changes_nothing()
+    ensures client { (c : Client) (name : Naming) (p : Placed) (older : List Placed) → is_about c.transfer.number p ≡ false
+        → IsClientAfter c name older → IsClientAfter c name (p ∷ older) }
+    ensures server { (v : View) (name : Naming) (p : Placed) (older : List Placed) → is_about v.transfer.number p ≡ false
+        → IsViewAfter v name older → IsViewAfter v name (p ∷ older) }
+    ensures doubts { (t : TransferDoubts) (p : Placed) (older : List Placed) → is_about t.number p ≡ false
+        → is_it t.number (may_be_answer_of p older) ≡ false → IsDoubtedAfter t older → IsDoubtedAfter t (p ∷ older) }
+{}

@@ -1,2 +1,0 @@
-pub mod Naming
-pub use Naming.{AreBytes, IsAddress, address_of, host_name}

@@ -1,9 +1,0 @@
-use Rattle.tftp_capture.specs.{numbered_in}
-use Rattle.tftp_texts.proofs.Entries.{has_verdict, is_read, said_so}
-use Rattle.tftp_texts.proofs.laws.a_text_of_datagrams_is_their_capture.Goals as goal
-
-pub returns-clause-read : goal.returns-clause-read
-returns-clause-read c = λ text h given t port lawful short. (numbered_in 4 t.entries, is_read text h given t port lawful short, said_so text h given t port lawful short)
-
-pub returns-clause-verdict : goal.returns-clause-verdict
-returns-clause-verdict c = λ text h given t port lawful short said of is. has_verdict text h given t port lawful short said of is
