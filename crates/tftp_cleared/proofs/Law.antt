@@ -20,7 +20,7 @@ use Rattle.law_tap.proofs.TapLaw.{rules_are_runs}
 use Rattle.tftp_cleared.specs.{IsOpenedIn}
 use Rattle.audit_views.specs.Views.{captured_at_client, client_header}
 use Rattle.audit_views.specs.Parties.{host_name}
-use Rattle.tftp_between.specs.{passed_of, peer_of as side, server_or_asked, sides_with}
+use Rattle.audit_recording.specs.Between.{passed_of, peer_of as side, server_or_asked, sides_with}
 use Rattle.tftp_cleared.proofs.Own.{IsOwn}
 use Rattle.tftp_cleared.proofs.Pairs.{Pair, Paired, paired, placed_in, division_of, division_there, same_there, same_passed}
 use Rattle.tftp_cleared.proofs.Told.{Labels, told_all}

@@ -15,7 +15,7 @@ use Rattle.law_tap.specs.{pass_of, tapped_at, PeerId, TapDatagram, TapSides, sid
 use Rattle.law_tap.specs.TapDress as tap
 use Rattle.audit_views.specs.Views.{captured, server_header}
 use Rattle.audit_views.specs.Parties.{host_name}
-use Rattle.tftp_between.specs.{passed_of, peer_of as side}
+use Rattle.audit_recording.specs.Between.{passed_of, peer_of as side}
 
 -- ---- the datagrams that pass a test
 

@@ -16,7 +16,7 @@ use Rattle.audit_views.proofs.PartiesLemmas.Addresses.{called_one}
 use Rattle.tftp_cleared.specs.{IsOpenedIn, IsTransferIn, HasAddresses}
 use Rattle.audit_views.specs.Views.{client_capture, client_header}
 use Rattle.audit_views.specs.Parties.{IsAddress, host_name}
-use Rattle.tftp_between.specs.{peer_of as side, sides_of, sides_with, between_capture}
+use Rattle.audit_recording.specs.Between.{peer_of as side, sides_of, sides_with, between_capture}
 use Rattle.tftp_cleared.proofs.Own.{IsOwn, as_request, as_talk, own_all, opened_own}
 use Rattle.tftp_cleared.proofs.Server.{IsNamedApart}
 use Rattle.tftp_cleared.proofs.Law.{AreOwn, breaks_none, shows_same}

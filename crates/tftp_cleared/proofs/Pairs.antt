@@ -15,7 +15,7 @@ use Rattle.law_tap.specs.{pass_of, tapped_at, TapLabel, TapLabelled, TapDivision
 use Rattle.law_tap.specs.TapDress as tap
 use Rattle.audit_views.specs.Views.{captured, captured_at_client}
 use Rattle.audit_views.specs.Parties.{host_name}
-use Rattle.tftp_between.specs.{passed_of}
+use Rattle.audit_recording.specs.Between.{passed_of}
 use Rattle.tftp_cleared.proofs.Own.{IsOwn, as_request, as_talk}
 
 pub record Pair : Type 0 where

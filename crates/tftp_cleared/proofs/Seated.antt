@@ -15,7 +15,7 @@ use Rattle.law_tap.proofs.TapBefore.{first_holds}
 use Rattle.tftp_cleared.specs.{BothSaw, HasAddresses, IsSentThere, IsServedIn, IsWith}
 use Rattle.audit_views.specs.Views.{captured, captured_at_server, server_capture, server_header}
 use Rattle.audit_views.specs.Parties.{IsAddress, host_name}
-use Rattle.tftp_between.specs.{passed_of, peer_of as side, sides_of, sides_with, between_capture}
+use Rattle.audit_recording.specs.Between.{passed_of, peer_of as side, sides_of, sides_with, between_capture}
 use Rattle.tftp_cleared.proofs.Own.{IsOwn, as_request, as_talk, own_all, opened_own}
 use Rattle.tftp_cleared.proofs.Besides.{IsAsideOther, besides_all}
 use Rattle.tftp_cleared.proofs.Pairs.{came_to, at_all}

@@ -16,7 +16,7 @@ use Rattle.audit_flows.specs.Transfers.{comes, goes_on, server_of}
 use Rattle.tftp_cleared.specs.{IsOpenedIn}
 use Rattle.audit_views.specs.Views.{captured}
 use Rattle.audit_views.specs.Parties.{host_name}
-use Rattle.tftp_between.specs.{server_or_asked, peer_of as side}
+use Rattle.audit_recording.specs.Between.{server_or_asked, peer_of as side}
 use Rattle.tftp_cleared.proofs.Own.{IsOwn, as_request, as_talk}
 use Rattle.tftp_cleared.proofs.Pairs.{Pair, placed_in, came_to, any_weaker}
 use Rattle.tftp_cleared.proofs.Told.{Came, StrayFrom, GoesOut, asking, going_on, answering, ComesIn, from_there, astray, Says, sent, taken, Told}

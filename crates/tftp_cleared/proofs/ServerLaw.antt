@@ -23,7 +23,7 @@ use Rattle.law_tap.proofs.TapLawful.{parted}
 use Rattle.tftp_cleared.specs.{IsOpenedIn}
 use Rattle.audit_views.specs.Views.{captured, server_header}
 use Rattle.audit_views.specs.Parties.{host_name}
-use Rattle.tftp_between.specs.{passed_of, peer_of as side}
+use Rattle.audit_recording.specs.Between.{passed_of, peer_of as side}
 use Rattle.tftp_cleared.proofs.Merged.{kept_first, left_first, Seat, both, own, aside, neither, sends, gets, IsStrayIn, AnswersOne, Answered, merged}
 
 abbrev pub passed_all : List Placed → List TapDatagram

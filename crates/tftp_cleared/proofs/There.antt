@@ -10,7 +10,7 @@ use Rattle.audit_flows.specs.Lines.{Endpoint, Transfer}
 use Rattle.law_tap.specs.{PeerId, TapDatagram, TapSides, side_of, TapLabelled, TapDivision, IsMainFrom, GoesThere, HasTapLabel, HaveTapLabels}
 use Rattle.law_tap.specs.TapDress as tap
 use Rattle.audit_views.specs.Parties.{host_name}
-use Rattle.tftp_between.specs.{passed_of, peer_of as side}
+use Rattle.audit_recording.specs.Between.{passed_of, peer_of as side}
 use Rattle.tftp_cleared.proofs.Pairs.{Pair, placed_in, label_there, labelled_there, division_there}
 use Rattle.tftp_cleared.proofs.Told.{Came, StrayFrom, GoesOut, asking, going_on, answering, ComesIn, from_there, astray, Says, sent, taken, Told}
 use Rattle.tftp_cleared.proofs.Server.{IsNamedApart, not_from}

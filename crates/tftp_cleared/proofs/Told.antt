@@ -13,7 +13,7 @@ use Rattle.audit_flows.specs.Lines.{Transfer, Recorded, same_endpoint}
 use Rattle.audit_flows.proofs.LinesLemmas.Endpoints.{same_itself}
 use Rattle.audit_views.specs.Views.{captured, captured_at_client, client_header}
 use Rattle.audit_views.specs.Parties.{host_name}
-use Rattle.tftp_between.specs.{peer_of as side}
+use Rattle.audit_recording.specs.Between.{peer_of as side}
 use Rattle.tftp_cleared.proofs.Own.{IsOwn}
 use Rattle.tftp_cleared.proofs.Pairs.{Pair, placed_in, labelled, division_of, Way, went, came, way, came_to, any_weaker}
 

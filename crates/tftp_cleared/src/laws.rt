@@ -8,7 +8,7 @@ ghost use Rattle.audit_flows.specs.Lines.{Endpoint, Transfer, Recorded};
 ghost use Rattle.audit_flows.specs.Transfers.{placed};
 ghost use Rattle.audit_views.specs.Views.{client_capture, client_header, server_capture, server_header};
 ghost use Rattle.law_tap.specs.{BreaksNoTapRule, IsTapRefused, ShowsBetween};
-ghost use Rattle.tftp_between.specs.{between_capture, passed_of, sides_of};
+ghost use Rattle.audit_recording.specs.Between.{between_capture, passed_of, sides_of};
 ghost use Rattle.tftp_cleared.specs.Cleared.{BothSaw, IsSentThere, IsServedIn, IsTransferIn};
 
 /// Where no datagram of a transfer breaks a rule at its client, none breaks a rule between the ends (RFC 1350, section 4); and

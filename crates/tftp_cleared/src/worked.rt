@@ -10,8 +10,8 @@ ghost use Rattle.audit_flows.specs.Transfers.{asked_twice, client, is_service, p
 ghost use Rattle.audit_flows.specs.Transfers.Worked.{server};
 ghost use Rattle.audit_views.specs.Views.{captured, client_capture, client_header, server_capture, server_header};
 ghost use Rattle.law_tap.specs.{BreaksNoTapRule, TapRoute, tap_route};
-ghost use Rattle.tftp_between.specs.{between_capture, passed_of, sides_of};
-ghost use Rattle.tftp_between.specs.Worked.{first_transfer};
+ghost use Rattle.audit_recording.specs.Between.{between_capture, passed_of, sides_of};
+ghost use Rattle.audit_recording.specs.Between.Worked.{first_transfer};
 ghost use Rattle.tftp_cleared.specs.Cleared.{HasAddresses, IsOpenedIn, IsSentThere, IsServedIn, IsTransferIn};
 ghost use Rattle.tftp_cleared.specs.Worked.{asked_at_learned, before_going_on, before_namesake, from_namesake, from_one_address, to_who_answered, learned, not_opened, one_request, to_a_stranger, to_the_other};
 

@@ -2,7 +2,7 @@
 
 use std::alloc::{AllocError, Global};
 use tftp_packet::{Packet, Request, own_request, read_packet, same_request};
-use tftp_session::Asked;
+use audit_recording::session::Asked;
 
 /// The transfers that may be meant, by their numbers.
 #[derive(Drop)]

@@ -11,7 +11,7 @@ use std::fs::{self, File};
 use std::io::Read;
 use judge_pair::match_texts::PairSaid;
 use tftp_packet::End;
-use tftp_session::{Session, told};
+use audit_recording::session::{Session, told};
 
 const TRANSFER: &str = "--transfer";
 

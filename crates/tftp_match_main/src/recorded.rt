@@ -10,7 +10,7 @@ use std::alloc::Global;
 use std::io::Read;
 use tftp_capture::{CaptureReader, Datagram};
 use tftp_packet::End;
-use tftp_session::{Asked, Session, TextAt, TextFault, requests_of, told};
+use audit_recording::session::{Asked, Session, TextAt, TextFault, requests_of, told};
 use net_streams::streams::{Latched, LineWriter};
 
 /// A recording at an end.

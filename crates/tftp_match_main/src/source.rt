@@ -3,8 +3,8 @@
 use anyhow::Result;
 use std::alloc::Global;
 use std::io::{Chain, Cursor, Read};
-use tftp_recording_judge::Judging;
-use tftp_session::{Kept, Session, Wanted, is_recording, read_whole};
+use audit_recording::judges::Judging;
+use audit_recording::session::{Kept, Session, Wanted, is_recording, read_whole};
 
 /// So many bytes tell a recording.
 const HEAD: u64 = 4;

@@ -2,7 +2,7 @@
 
 use crate::PROGRAM;
 use anyhow::Result;
-use tftp_session::{Session, put_number, tell_asked, tell_notes};
+use audit_recording::session::{Session, put_number, tell_asked, tell_notes};
 
 /// A capture as it is named.
 #[derive(Clone, Copy)]

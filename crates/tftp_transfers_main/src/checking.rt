@@ -4,8 +4,8 @@ use crate::PROGRAM;
 use crate::reading::read_file;
 use crate::teller::{Teller, What};
 use anyhow::Result;
-use tftp_recording_judge::Judging;
-use tftp_session::{Kept, Session, Wanted, tell_asked, tell_notes, told};
+use audit_recording::judges::Judging;
+use audit_recording::session::{Kept, Session, Wanted, tell_asked, tell_notes, told};
 use tftp_words::{CheckRequest, Point};
 
 /// Judges the transfers of recordings. A recording that can't be read does not end it.

@@ -6,10 +6,10 @@ use crate::teller::{Teller, What};
 use anyhow::Result;
 use serde::Serialize;
 use std::alloc::{AllocError, Global};
-use tftp_blame::Trail;
+use audit_recording::blame::Trail;
 use tftp_packet::{Mode, OptionsView, Packet, RequestView, Side, read_packet};
-use tftp_recording_judge::Judging;
-use tftp_session::{Kept, Session, Wanted, put_number, put_plain, shown};
+use audit_recording::judges::Judging;
+use audit_recording::session::{Kept, Session, Wanted, put_number, put_plain, shown};
 use tftp_words::ListRequest;
 
 /// A row of the list.

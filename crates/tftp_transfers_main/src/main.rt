@@ -15,7 +15,7 @@ use crate::listing::list;
 use crate::texts::{write_text, write_texts};
 use anyhow::Result;
 use std::process::ExitCode;
-use tftp_session::{ended, told};
+use audit_recording::session::{ended, told};
 use tftp_words::{Request, own_words, request_of, tell_fault};
 
 /// The name with which all begins that is told on standard error.

@@ -4,7 +4,7 @@ use crate::teller::Teller;
 use anyhow::Result;
 use std::fs;
 use std::io::Read;
-use tftp_session::{Opened, Session};
+use audit_recording::session::{Opened, Session};
 
 /// Reads the recording of that name to its end; `-` is standard input. Each transfer is told as soon as no datagram joins it
 /// any more.

@@ -7,10 +7,10 @@ use anyhow::Result;
 use serde::Serialize;
 use std::alloc::{AllocError, Global};
 use std::mem;
-use tftp_blame::{Missing, Reason};
+use audit_recording::blame::{Missing, Reason};
 use tftp_packet::End;
-use tftp_session::{Ended, Session, put_number, put_plain, shown_host};
-use tftp_verdict_rows::{Accused, Row};
+use audit_recording::session::{Ended, Session, put_number, put_plain, shown_host};
+use audit_recording::rows::{Accused, Row};
 
 /// What is told of each transfer.
 #[derive(Clone, Copy)]

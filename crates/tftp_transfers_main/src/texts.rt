@@ -5,8 +5,8 @@ use crate::reasoned::Reasoned;
 use anyhow::Result;
 use std::{fs, io};
 use tftp_packet::End;
-use tftp_recording_judge::Judging;
-use tftp_session::{Kept, Session, TextAt, TextFault, Wanted, read_whole, tell_asked, tell_notes};
+use audit_recording::judges::Judging;
+use audit_recording::session::{Kept, Session, TextAt, TextFault, Wanted, read_whole, tell_asked, tell_notes};
 use net_streams::streams::LineWriter;
 use tftp_words::{TextRequest, TextsRequest};
 

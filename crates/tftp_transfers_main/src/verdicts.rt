@@ -1,17 +1,17 @@
 //! The verdict on a transfer at each point where it was judged.
 
 use std::alloc::{AllocError, Global};
-use tftp_blame::{Blamed, Doubted, Missing, Reason, Trail, put_if};
+use audit_recording::blame::{Blamed, Doubted, Missing, Reason, Trail, put_if};
 use tftp_commands::{say_accepted, say_verdict};
 use tftp_judge::{Meaning, Refusal, Verdict};
 use audit_flows::lines::Transfer;
 use tftp_packet::End;
-use tftp_recording_judge::Verdicts;
-use tftp_session::Ended;
+use audit_recording::judges::Verdicts;
+use audit_recording::session::Ended;
 use net_streams::streams::LineWriter;
 use judge_tap::TapRefusal;
 use audit_flows::transfers::TransferEnds;
-use tftp_verdict_rows::{
+use audit_recording::rows::{
     Accused, Place, Point, Row, Rows, Said, Telling, accused_in_row, role_at, rows_told,
 };
 

@@ -1,7 +1,7 @@
 use Rattle.std.proofs.Common.{[], All, refl, ap, arith}
 use Rattle.std.proofs.lemmas.Bool.{false≢true}
 use Rattle.std.proofs.lemmas.List.Elements.{All-from_recursion}
-use Rattle.tftp_between.specs.Worked.{first_transfer}
+use Rattle.audit_recording.specs.Between.Worked.{first_transfer}
 use Rattle.tftp_cleared.specs.{HasAddresses, IsOpenedIn, IsSentThere, IsWith}
 use Rattle.tftp_cleared.proofs.Hosts.{address_at}
 use Rattle.audit_flows.specs.Lines.{Endpoint, same_endpoint}

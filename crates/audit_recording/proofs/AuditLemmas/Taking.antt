@@ -1,0 +1,37 @@
+-- What a frame adds to what has passed.
+use Rattle.std.proofs.Common.{◌≡◌, ◌≢◌, ℕ, Bool, List, ◌∷◌, Result, Ok, Err, Option, Some, None, refl, sym, subst, IfSome}
+use Rattle.std.specs.Option.{unwrap_or}
+use Rattle.net_udp.specs.Fragments.{Outcome}
+use Rattle.net_pcap.specs.{FrameParts, PcapFault}
+use Rattle.net_udp.specs.Recording.{IsFateOf, EventState, Step, Fate, Likeness}
+use Rattle.audit_recording.specs.Audit.{GoesOn, IsNoted, IsOf, AuditFault, Recording, Judges, NextFrame, End, Nothing, Datagram, last_time, time_by}
+use Rattle.audit_flows.specs.Lines.{Recorded}
+
+-- the time of a frame, or else that of the datagram before
+pub unwrapped : (time : Option ℕ) (older : List Recorded) → unwrap_or time (last_time older) ≡ time_by time older
+unwrapped None older = refl
+unwrapped (Some time) older = refl
+
+-- what became of the event's frame became of the frame that is it
+pub fate_here : (step : Step) (e : EventState) (fate : Fate) → IsOf step e → IsFateOf e.frame.parts e.likeness e.brought.outcome e.is_discarded fate
+    → IsFateOf step.frame step.likeness step.brought.outcome step.is_discarded fate
+fate_here step e fate of is =
+    subst (λ (f : FrameParts). IsFateOf f step.likeness step.brought.outcome step.is_discarded fate) (sym of.frame)
+    (subst (λ (l : Likeness). IsFateOf e.frame.parts l step.brought.outcome step.is_discarded fate) (sym of.likeness)
+    (subst (λ (o : Option Outcome). IsFateOf e.frame.parts e.likeness o step.is_discarded fate) (sym of.outcome)
+    (subst (λ (b : Bool). IsFateOf e.frame.parts e.likeness e.brought.outcome b fate) (sym of.is_discarded) is)))
+
+-- of what was found, more is known
+pub if_some : {X : Type 0} (P Q : X → Type 0) (found : Option X) → ((x : X) → P x → Q x) → IfSome found P → IfSome found Q
+if_some P Q None more known = known
+if_some P Q (Some x) more known = more x known
+
+-- what was noted of a frame that was read goes on what was read
+pub noted_goes_on : (Reads : List Step → Type 0) (Stand : List Step → List Recorded → Type 0) (named : List ℕ) (history : List Step) (passed : List Recorded) (step : Step)
+    (result : Result NextFrame AuditFault) → Reads (step ∷ history) → result ≢ Ok End → ((fault : PcapFault) → result ≢ Err (Recording fault))
+    → IsNoted (Stand (step ∷ history)) named passed result → GoesOn (λ frames datagrams. Reads frames × Stand frames datagrams) named history passed result
+noted_goes_on Reads Stand named history passed step (Ok End) read no_end no_stop noted = absurd (no_end refl)
+noted_goes_on Reads Stand named history passed step (Ok Nothing) read no_end no_stop noted = (step, (read, noted))
+noted_goes_on Reads Stand named history passed step (Ok (Datagram a)) read no_end no_stop noted = (step, noted.0, noted.1, (read, noted.2))
+noted_goes_on Reads Stand named history passed step (Err (Recording fault)) read no_end no_stop noted = absurd (no_stop fault refl)
+noted_goes_on Reads Stand named history passed step (Err (Judges fault)) read no_end no_stop noted = tt

@@ -1,0 +1,4 @@
+pub mod BetweenLemmas
+pub mod JudgesLemmas
+pub mod AuditLemmas
+pub mod RowsLemmas

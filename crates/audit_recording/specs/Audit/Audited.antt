@@ -1,0 +1,57 @@
+-- What the audit of a recording keeps, and for which frames it stands. Lists have the newest first.
+use Rattle.std.specs.Prelude.{◌≡◌, ◌∷◌, ℕ, Bool, List, max, Result, Ok, Err}
+use Rattle.std.specs.BTreeMap.{BTreeMap}
+use Rattle.std.specs.List.{AllByRecursion}
+use Rattle.audit_views.specs.Parties.{host_name}
+use Rattle.net_udp.specs.Recording.{EventState, Step}
+use Rattle.audit_recording.specs.Judges.{StandsAfter, Watched, Judging}
+use Rattle.audit_recording.specs.Audit.Passed.{HasPassed, last_time}
+use Rattle.audit_recording.specs.Audit.Sound.{IsSoundDatagram}
+use Rattle.audit_recording.specs.declared.audit.next.AuditFault.{AuditFault}
+use Rattle.audit_recording.specs.declared.audit.next.AuditFault.TheVariants.{Recording, Judges}
+use Rattle.audit_recording.specs.declared.audit.next.NextFrame.{NextFrame}
+use Rattle.audit_recording.specs.declared.audit.next.NextFrame.TheVariants.{End, Nothing, Datagram}
+use Rattle.audit_flows.specs.Transfers.{Attributed, Attribution, place_of, placed}
+use Rattle.audit_flows.specs.Lines.{doubts_of, Placed, clock, Recorded}
+
+-- The judges, where transfers are to be judged, were given what these frames of a recording have given, and nothing else; each
+-- host is named by its address.
+-- `named` are the service ports that were named, `out` the numbers of the transfers that were handed out.
+pub record AuditsAfter (a : Attribution) (watched : BTreeMap ℕ Watched) (failed : Bool) (judging : Judging) (last : ℕ) (named out : List ℕ) (history : List Step) (passed : List Recorded) : Type 0 where
+  pub frames : HasPassed history passed
+  pub judges : StandsAfter a watched failed judging named host_name out passed
+  pub time : last ≡ last_time passed
+  pub sound : AllByRecursion IsSoundDatagram passed
+
+-- the frame is that of the event
+pub record IsOf (step : Step) (event : EventState) : Type 0 where
+  pub frame : step.frame ≡ event.frame.parts
+  pub likeness : step.likeness ≡ event.likeness
+  pub outcome : step.brought.outcome ≡ event.brought.outcome
+  pub is_discarded : step.is_discarded ≡ event.is_discarded
+
+-- a datagram, after these
+abbrev pub placed_after : List ℕ → List Placed → Recorded → Placed
+placed_after named older d = record { datagram = d; moment = max d.time (clock older); place = place_of named older (max d.time (clock older)) d }
+
+-- where it belongs and what it makes doubtful, by the definition
+abbrev pub IsAttributed : List ℕ → List Recorded → Recorded → Attributed → Type 0
+IsAttributed named older d a =
+    (a.place ≡ (placed_after named (placed named older) d).place) × (a.doubts ≡ doubts_of (placed_after named (placed named older) d) (placed named older))
+
+-- ---- the next frame
+
+-- What stands of what has passed, by what was noted of a frame. A fault of the judges leaves nothing.
+abbrev pub IsNoted : (List Recorded → Type 0) → List ℕ → List Recorded → Result NextFrame AuditFault → Type 0
+IsNoted Stand named passed (Ok End) = Unit {0}
+IsNoted Stand named passed (Ok Nothing) = Stand passed
+IsNoted Stand named passed (Ok (Datagram a)) = (d : Recorded) × IsAttributed named passed d a × Stand (d ∷ passed)
+IsNoted Stand named passed (Err fault) = Unit {0}
+
+-- What stands of the frames that were read and of what has passed, by the answer.
+abbrev pub GoesOn : (List Step → List Recorded → Type 0) → List ℕ → List Step → List Recorded → Result NextFrame AuditFault → Type 0
+GoesOn Stand named history passed (Ok End) = Stand history passed
+GoesOn Stand named history passed (Ok Nothing) = (step : Step) × Stand (step ∷ history) passed
+GoesOn Stand named history passed (Ok (Datagram a)) = (step : Step) × (d : Recorded) × IsAttributed named passed d a × Stand (step ∷ history) (d ∷ passed)
+GoesOn Stand named history passed (Err (Recording fault)) = Stand history passed
+GoesOn Stand named history passed (Err (Judges fault)) = Unit {0}

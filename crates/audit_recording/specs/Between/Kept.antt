@@ -1,0 +1,96 @@
+-- What the judge between the ends keeps, and for which datagrams of a recording it stands.
+use Rattle.std.specs.Prelude.{◌≡◌, ℕ, true, false, List, [], length, map, reverse, Option, Some, None}
+use Rattle.law_tap.specs.{PeerId, TapDatagram, TapSides}
+use Rattle.judge_tap.specs.{TapJudge, passing_of, TapDatagram as Owned, TapRefusal}
+use Rattle.audit_flows.specs.Lines.{Transfer, Placed}
+use Rattle.audit_flows.specs.Transfers.{TransferEnds, AreEndsAfter, is_settled}
+use Rattle.audit_views.specs.Views.{Held, Party}
+use Rattle.audit_recording.specs.Between.Captured.{between_capture, sides_of}
+use Rattle.audit_recording.specs.Between.Judged.{HasTapped}
+
+-- ---- what is fed
+
+-- an end of a datagram as it is fed, with its host's name
+abbrev pub side_of : Party → PeerId
+side_of p = record { host = p.host; port = p.end.port }
+
+abbrev pub passed_as : Held → TapDatagram
+passed_as h = record { source = side_of h.source; destination = side_of h.target; payload = h.payload }
+
+-- ---- two sides
+
+-- The judge of what passes between them; there is none where the client is one of the other two, and it only counts.
+pub record Between : Type 0 where
+  pub sides : TapSides
+  pub judge : Option TapJudge
+  pub counted : ℕ
+
+abbrev pub PassedBy : Option TapJudge → Between → List TapDatagram → Type 0
+PassedBy None b given = b.counted ≡ length given
+PassedBy (Some j) b given = HasTapped j b.sides given
+
+-- It was given these datagrams, and nothing else.
+abbrev pub HasPassed : Between → List TapDatagram → Type 0
+HasPassed b given = PassedBy b.judge b given
+
+-- how many the judge accepted, or were counted
+abbrev pub counted_by : Between → ℕ
+counted_by b = by b.judge where
+  by : Option TapJudge → ℕ
+  by None = b.counted
+  by (Some j) = j.fed
+
+abbrev pub refused_by : Between → Option TapRefusal
+refused_by b = by b.judge where
+  by : Option TapJudge → Option TapRefusal
+  by None = None
+  by (Some j) = j.refused
+
+-- ---- the transfer, in one pass
+
+-- The transfer's datagrams that are held, the oldest first, until it is known who the server is; then the judge of the sides.
+pub record View : Type 0 where
+  pub transfer : Transfer
+  pub ends : TransferEnds
+  pub held : List Owned
+  pub judge : Option Between
+
+-- these datagrams are held, as they passed
+abbrev pub AreHeld : List Owned → List TapDatagram → Type 0
+AreHeld held given = map passing_of held ≡ reverse given
+
+-- It is not known yet who the server is: those of the transfer at its client are held, and no others.
+pub record IsWaiting (v : View) (placed : List Placed) : Type 0 where
+  pub number : v.ends.number ≡ v.transfer.number
+  pub ends : AreEndsAfter v.ends placed
+  pub unsettled : is_settled v.transfer.number placed ≡ false
+  pub held : AreHeld v.held (between_capture v.transfer placed)
+
+-- It is known: none is held, and the judge of just these sides was given all of them.
+pub record IsGoingOn (b : Between) (v : View) (placed : List Placed) : Type 0 where
+  pub settled : is_settled v.transfer.number placed ≡ true
+  pub none : v.held ≡ []
+  pub sides : b.sides ≡ sides_of v.transfer placed
+  pub passed : HasPassed b (between_capture v.transfer placed)
+
+abbrev pub BetweenBy : Option Between → View → List Placed → Type 0
+BetweenBy None v placed = IsWaiting v placed
+BetweenBy (Some b) v placed = IsGoingOn b v placed
+
+-- It was fed these datagrams of a recording, and nothing else.
+abbrev pub IsBetweenAfter : View → List Placed → Type 0
+IsBetweenAfter v placed = BetweenBy v.judge v placed
+
+-- how many are held, or were accepted
+abbrev pub given_to : View → ℕ
+given_to v = by v.judge where
+  by : Option Between → ℕ
+  by None = length v.held
+  by (Some b) = counted_by b
+
+-- what a datagram was refused for, where it is known who the server is
+abbrev pub has_refused : View → Option TapRefusal
+has_refused v = by v.judge where
+  by : Option Between → Option TapRefusal
+  by None = None
+  by (Some b) = refused_by b

@@ -1,0 +1,161 @@
+-- What the judge of a recording keeps, and for which recordings it stands. Lists have the newest first.
+use Rattle.std.specs.Prelude.{◌≡◌, ◌≤◌, ◌<◌, ◌^◌, ◌⊎◌, ◌==◌, ◌∷◌, ℕ, Bool, true, false, List, All, Option, Some, None, Err, is_some, IfSome, if◌then◌else◌}
+use Rattle.std.specs.BTreeMap.{BTreeMap, get}
+use Rattle.std.specs.List.{list_any}
+use Rattle.std.specs.Ordering.{nat_cmp}
+use Rattle.audit_flows.specs.Transfers.{Attribution, TransferDoubts, placed, is_about, opened_it, is_answered_apart, IsAfter, IsDoubtedAfter}
+use Rattle.audit_flows.specs.Lines.{Transfer, Recorded, Placed, newest_of, transfer_of}
+use Rattle.audit_views.specs.Views.{Party, Naming, Client, IsClientAfter, IsViewAfter, View, fed_to}
+use Rattle.audit_views.specs.Parties.{host_name}
+use Rattle.audit_recording.specs.Between.{IsBetweenAfter, View as Between, given_to}
+use Rattle.tftp_judge.specs.declared.refusal.Refusal.TheVariants.{Memory}
+use Rattle.judge_tap.specs.declared.refusal.TapRefusal.TheVariants.{Memory as TapMemory}
+use Rattle.audit_recording.specs.declared.judges.judging.Judging.{Judging}
+use Rattle.audit_recording.specs.declared.judges.judging.Points.{Points}
+use Rattle.audit_recording.specs.declared.judges.verdicts.Verdicts.{Verdicts}
+use Rattle.audit_recording.specs.Judges.Points.{points_of}
+
+-- ---- one transfer
+
+-- The judges of a transfer, each where it is judged; or memory was wanting for a datagram.
+pub record Judges : Type 0 where
+  pub client : Option Client
+  pub server : Option View
+  pub between : Option Between
+  pub failed : Bool
+
+-- The judge at a point, if there is one, is this transfer's and was fed these datagrams of a recording, and nothing else.
+abbrev pub StandsAs : {J : Type 0} → (J → Transfer) → (J → Naming → List Placed → Type 0) → Option J → Transfer → Naming → List Placed → Type 0
+StandsAs judged stands judge x name placed = IfSome judge (λ j. (judged j ≡ x) × stands j name placed)
+
+abbrev pub ClientStands : Option Client → Transfer → Naming → List Placed → Type 0
+ClientStands = StandsAs (λ (c : Client). c.transfer) (λ c name placed. IsClientAfter c name placed)
+
+abbrev pub ServerStands : Option View → Transfer → Naming → List Placed → Type 0
+ServerStands = StandsAs (λ (v : View). v.transfer) (λ v name placed. IsViewAfter v name placed)
+
+-- the judge between the ends wants the hosts called by their addresses
+abbrev pub BetweenStands : Option Between → Transfer → Naming → List Placed → Type 0
+BetweenStands = StandsAs (λ (v : Between). v.transfer) (λ v name placed. name ≡ host_name → IsBetweenAfter v placed)
+
+-- each of them
+pub record AreJudgesAfter (j : Judges) (x : Transfer) (name : Naming) (placed : List Placed) : Type 0 where
+  pub works : j.failed ≡ false
+  pub client : ClientStands j.client x name placed
+  pub server : ServerStands j.server x name placed
+  pub between : BetweenStands j.between x name placed
+
+-- each is this transfer's
+pub record AreOf (j : Judges) (x : Transfer) : Type 0 where
+  pub client : IfSome j.client (λ c. c.transfer ≡ x)
+  pub server : IfSome j.server (λ v. v.transfer ≡ x)
+  pub between : IfSome j.between (λ v. v.transfer ≡ x)
+
+-- they stand at these points, and at no others
+pub record AreAt (j : Judges) (points : Points) : Type 0 where
+  pub client : is_some j.client ≡ points.client
+  pub server : is_some j.server ≡ points.server
+  pub between : is_some j.between ≡ points.between
+
+-- how many datagrams the judge at a point has accepted, or holds
+abbrev pub fed_by : {J : Type 0} → (J → ℕ) → Option J → ℕ
+fed_by counted None = 0
+fed_by counted (Some j) = counted j
+
+abbrev pub fed_at_client : Option Client → ℕ
+fed_at_client = fed_by (λ (c : Client). c.end.judge.fed)
+
+abbrev pub fed_at_server : Option View → ℕ
+fed_at_server = fed_by fed_to
+
+abbrev pub fed_between : Option Between → ℕ
+fed_between = fed_by given_to
+
+-- one of them has as many as can be counted
+abbrev pub IsCrowded : Judges → Type 0
+IsCrowded j = (2 ^ 40 ≤ fed_at_client j.client) ⊎ (2 ^ 40 ≤ fed_at_server j.server) ⊎ (2 ^ 40 ≤ fed_between j.between)
+
+-- none of them has
+pub record AreFew (j : Judges) : Type 0 where
+  pub client : fed_at_client j.client < 2 ^ 40
+  pub server : fed_at_server j.server < 2 ^ 40
+  pub between : fed_between j.between < 2 ^ 40
+
+-- something is said at these points, and at no others
+pub record AreTold (v : Verdicts) (points : Points) : Type 0 where
+  pub client : is_some v.client ≡ points.client
+  pub server : is_some v.server ≡ points.server
+  pub between : is_some v.between ≡ points.between
+
+-- at each point it is that memory was wanting
+pub record AreWants (j : Judges) (v : Verdicts) : Type 0 where
+  pub client : IfSome v.client (λ said. said ≡ Err (Memory (fed_at_client j.client)))
+  pub server : IfSome v.server (λ said. said ≡ Err (Memory (fed_at_server j.server)))
+  pub between : IfSome v.between (λ said. said ≡ Err (TapMemory (fed_between j.between)))
+
+-- A transfer, its judges, and what is doubtful of it.
+pub record Watched : Type 0 where
+  pub transfer : Transfer
+  pub judges : Judges
+  pub doubts : TransferDoubts
+
+-- It is this transfer, judged at the points where it is to be: its judges were fed these datagrams of a recording, and the
+-- doubts are those of all of them.
+pub record IsWatching (w : Watched) (judging : Judging) (x : Transfer) (name : Naming) (placed : List Placed) : Type 0 where
+  pub transfer : w.transfer ≡ x
+  pub points : AreAt w.judges (points_of judging x)
+  pub judges : AreJudgesAfter w.judges x name placed
+  pub number : w.doubts.number ≡ x.number
+  pub doubts : IsDoubtedAfter w.doubts placed
+
+-- ---- all transfers
+
+-- one of them is crowded
+pub record AreCrowded (watched : BTreeMap ℕ Watched) : Type 0 where
+  pub number : ℕ
+  pub one : Watched
+  pub kept : get nat_cmp watched number ≡ Some one
+  pub crowded : IsCrowded one.judges
+
+-- the transfer with this number, if a request opened it
+abbrev pub opened : ℕ → List Placed → Option Transfer
+opened n placed = by (newest_of (opened_it n) placed) where
+  by : Option Placed → Option Transfer
+  by None = None
+  by (Some p) = transfer_of p.place
+
+abbrev pub is_among : ℕ → List ℕ → Bool
+is_among n numbers = list_any (λ k. k == n) numbers
+
+-- What is kept of the transfer with this number: its judges, fed with `fed`; or nothing, where no request opened it or it
+-- was handed out.
+abbrev pub IsKept : Judging → Naming → List ℕ → List Placed → List Placed → ℕ → Option Watched → Type 0
+IsKept judging name out all fed n None = (opened n all ≡ None) ⊎ (is_among n out ≡ true)
+IsKept judging name out all fed n (Some w) = (opened n all ≡ Some w.transfer) × IsWatching w judging w.transfer name fed
+
+-- of each transfer that was opened in `all`
+abbrev pub AreKept : BTreeMap ℕ Watched → Judging → Naming → List ℕ → List Placed → List Placed → Type 0
+AreKept watched judging name out all fed = (n : ℕ) → IsKept judging name out all fed n (get nat_cmp watched n)
+
+-- What places the datagrams and the judges of the transfers were fed this recording, and nothing else: each transfer of it
+-- has its judges where it is to be judged, but for those that were handed out. `named` are the service ports that were named,
+-- `name` names each host.
+pub record StandsAfter (a : Attribution) (watched : BTreeMap ℕ Watched) (failed : Bool) (judging : Judging) (named : List ℕ) (name : Naming) (out : List ℕ) (recorded : List Recorded) : Type 0 where
+  pub works : failed ≡ false
+  pub attribution : IsAfter a named (placed named recorded)
+  pub transfers : AreKept watched judging name out (placed named recorded) (placed named recorded)
+
+-- the host of an end is called by its name
+abbrev pub IsCalled : Naming → Party → Type 0
+IsCalled name p = p.host ≡ name p.end.address
+
+-- ---- one datagram more, handed to the transfers one by one
+
+-- no datagram has told anything of the transfer with this number
+abbrev pub IsUnheard : ℕ → List Placed → Type 0
+IsUnheard n placed = All (λ (p : Placed). is_about n p ≡ false) placed × (is_answered_apart n placed ≡ false)
+
+-- The newest datagram was handed to the transfers with these numbers, and not yet to the others.
+abbrev pub AreHanded : (ℕ → Bool) → BTreeMap ℕ Watched → Judging → Naming → List ℕ → Placed → List Placed → Type 0
+AreHanded got watched judging name out p older =
+    (n : ℕ) → IsKept judging name out (p ∷ older) (if got n then p ∷ older else older) n (get nat_cmp watched n)

@@ -1,0 +1,4 @@
+pub mod Between
+pub mod Judges
+pub mod Audit
+pub mod Rows

@@ -1,0 +1,38 @@
+//! Laws of the definitions in `specs/`. Each is the contract of a function that does nothing.
+
+ghost use Rattle.std.specs.Prelude.{◌≡◌, [], ◌++◌, ◌∷◌, List, false, true};
+ghost use Rattle.audit_recording.specs.Between.Captured.{between_capture, is_to_itself, server_or_asked, sides_of};
+ghost use Rattle.audit_recording.specs.Between.Kept.{IsBetweenAfter, View};
+ghost use Rattle.audit_recording.specs.Between.Worked.{asked_twice_between, asked_twice_sides, first_transfer};
+ghost use Rattle.audit_views.specs.Parties.{IsAddress};
+ghost use Rattle.law_tap.specs.{AreApart};
+ghost use Rattle.audit_flows.specs.Lines.{Placed, is_of, Transfer};
+ghost use Rattle.audit_flows.specs.Transfers.{placed, is_settled, server_of, asked_twice};
+
+/// The stray passes with its own source, and the sides are the client's, the service port's and the server's.
+pub fn worked_between()
+    ensures capture { between_capture first_transfer (placed [] asked_twice) ≡ asked_twice_between }
+    ensures sides { sides_of first_transfer (placed [] asked_twice) ≡ asked_twice_sides }
+    ensures apart { is_to_itself first_transfer (placed [] asked_twice) ≡ false }
+{}
+
+/// Once it is known whom a client asked, who answered and with whom it went on, the sides stay, whatever comes.
+pub fn settled_sides_stay()
+    ensures { (x : Transfer) (more placed : List Placed) → is_settled x.number placed ≡ true
+        → sides_of x (more ++ placed) ≡ sides_of x placed }
+{}
+
+/// A datagram that is not of a transfer at its client tells its judge nothing: what stands for the datagrams before it stands
+/// for it too.
+pub fn what_is_not_of_a_transfer_changes_nothing()
+    ensures { (v : View) (p : Placed) (older : List Placed) → is_of v.transfer.number p ≡ false
+        → IsBetweenAfter v older → IsBetweenAfter v (p ∷ older) }
+{}
+
+/// Endpoints that are not the same have not the same sides, since the names of hosts are those of their addresses: a client that
+/// is not the one it asked, nor the server, is apart from both, and may be judged. And no other client is.
+pub fn sides_are_apart()
+    ensures apart { (x : Transfer) (whole : List Placed) → IsAddress x.client.address → IsAddress x.asked.address
+        → IsAddress (server_or_asked x (server_of x.number whole)).address → is_to_itself x whole ≡ false → AreApart (sides_of x whole) }
+    ensures only { (x : Transfer) (whole : List Placed) → AreApart (sides_of x whole) → is_to_itself x whole ≡ false }
+{}

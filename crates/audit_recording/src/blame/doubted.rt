@@ -1,0 +1,120 @@
+//! What makes the refusals of a transfer doubtful.
+
+use crate::blame::blame::Blamed;
+use crate::blame::missing::Missing;
+use crate::blame::reason::Reason;
+use std::alloc::AllocError;
+use audit_flows::transfers::TransferDoubts;
+
+/// What makes a transfer's refusals doubtful.
+#[derive(Clone, Copy)]
+pub struct Doubted {
+    /// The doubts of its place among the transfers.
+    pub doubts: TransferDoubts,
+    /// Each of its datagrams stands beside its equal.
+    pub is_twice: bool,
+    /// The frame of its request.
+    pub begins: u64,
+    /// Nothing came to its client.
+    pub is_one_way: bool,
+    /// Who was asked in its client's transfer before may still have answered when it was opened.
+    pub follows_unsure: bool,
+    /// The frame of a datagram that may be a copy of the one before.
+    pub copied_from: Option<u64>,
+    /// The frame of a datagram that was received with an error.
+    pub damaged: Option<u64>,
+    /// The frame of a datagram with a wrong checksum, whose sender also sent a right one.
+    pub discarded: Option<u64>,
+    /// The frame of what was left out, and may be of it by its time.
+    pub left_out: Option<u64>,
+    /// Frames that may have been its client's, and are not there whole.
+    pub missing: Missing,
+}
+
+impl Doubted {
+    /// Adds why a refusal there is doubtful: nothing where it is an accusation.
+    pub fn put_reasons(
+        &self,
+        reasons: &mut Vec<Reason>,
+        blamed: &Blamed,
+    ) -> Result<(), AllocError> {
+        self.put_doubts(reasons)?;
+        put_if(reasons, blamed.is_late, Reason::Late)?;
+        put_if(reasons, blamed.is_beside, Reason::Beside)?;
+        put_if(reasons, self.is_led_astray(blamed), Reason::LedAstray)?;
+        put_if(reasons, blamed.tells_strays, Reason::UnknownId)?;
+        put_if(
+            reasons,
+            self.is_one_way && blamed.frame != self.begins,
+            Reason::OneWay,
+        )?;
+        put_if(reasons, self.is_twice, Reason::Twice)?;
+        self.put_frames(reasons, blamed)
+    }
+
+    /// Adds the doubts of the whole transfer.
+    fn put_doubts(&self, reasons: &mut Vec<Reason>) -> Result<(), AllocError> {
+        let doubts = &self.doubts;
+        put_if(reasons, doubts.is_disordered(), Reason::Disordered)?;
+        put_some(reasons, self.left_out.map(|frame| Reason::LeftOut(frame)))?;
+        put_if(reasons, self.follows_unsure, Reason::FollowsUnsure)?;
+        put_if(reasons, doubts.is_asked_again(), Reason::AskedAgain)?;
+        put_if(reasons, doubts.is_answered_apart(), Reason::AnsweredApart)?;
+        put_if(reasons, doubts.follows_strays(), Reason::FollowsStrays)?;
+        put_if(
+            reasons,
+            doubts.follows_unanswered(),
+            Reason::FollowsUnanswered,
+        )
+    }
+
+    /// Whether something had come to its client, which never went on with who sent it something first.
+    fn is_led_astray(&self, blamed: &Blamed) -> bool {
+        blamed.is_answered && !self.doubts.goes_on_with_first()
+    }
+
+    /// Adds the doubts that come with a frame up to the one that is refused.
+    fn put_frames(&self, reasons: &mut Vec<Reason>, blamed: &Blamed) -> Result<(), AllocError> {
+        let lost = up_to(self.missing.first, blamed.frame);
+        put_some(reasons, lost.map(|frame| Reason::Lost(frame)))?;
+        let copied = up_to(self.copied_from, blamed.frame);
+        put_some(reasons, copied.map(|frame| Reason::Copied(frame)))?;
+        let damaged = up_to(self.damaged, blamed.frame);
+        put_some(reasons, damaged.map(|frame| Reason::Damaged(frame)))?;
+        let discarded = up_to(self.discarded, blamed.frame);
+        put_some(reasons, discarded.map(|frame| Reason::Discarded(frame)))
+    }
+
+    /// Adds why a transfer that stops early may have gone on.
+    pub fn put_missing(&self, reasons: &mut Vec<Reason>) -> Result<(), AllocError> {
+        put_some(reasons, self.left_out.map(|frame| Reason::LeftOut(frame)))?;
+        put_some(
+            reasons,
+            self.missing.within.map(|frame| Reason::Lost(frame)),
+        )
+    }
+}
+
+/// Adds a reason, if it holds.
+pub fn put_if(reasons: &mut Vec<Reason>, holds: bool, reason: Reason) -> Result<(), AllocError> {
+    if holds {
+        reasons.push(reason)?;
+    }
+    Ok(())
+}
+
+/// Adds a reason, if there is one.
+fn put_some(reasons: &mut Vec<Reason>, reason: Option<Reason>) -> Result<(), AllocError> {
+    if let Some(reason) = reason {
+        reasons.push(reason)?;
+    }
+    Ok(())
+}
+
+/// A frame, unless it comes after that one.
+fn up_to(frame: Option<u64>, last: u64) -> Option<u64> {
+    match frame {
+        Some(frame) if frame <= last => Some(frame),
+        _ => None,
+    }
+}

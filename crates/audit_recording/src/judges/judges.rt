@@ -1,0 +1,151 @@
+//! The judges of one transfer, beside each other.
+
+ghost use Rattle.std.specs.Prelude.{◌≡◌, ◌≤◌, ◌∷◌, ℕ, List, [], length, option_copied, IfSome, IsErr, OnErr, OnOk, Ok, Err, MatchBool, true, false};
+ghost use Rattle.audit_recording.specs.Between.{between_capture, is_to_itself, sides_of, IsBetweenVerdict};
+ghost use Rattle.audit_views.specs.Parties.{host_name};
+ghost use Rattle.audit_recording.specs.Judges.Kept.{AreAt, AreFew, AreJudgesAfter, AreOf, AreTold, AreWants, IsCrowded};
+ghost use Rattle.law_tap.specs.{AreApart};
+ghost use Rattle.judge_tap.specs.{TapRefusal as RefusalKind};
+ghost use Rattle.audit_flows.specs.Lines.{Placed, Transfer};
+ghost use Rattle.audit_flows.specs.Transfers.{is_about};
+ghost use Rattle.audit_views.specs.Views.{Naming, client_capture, client_header, server_capture, server_header, IsJudgedWith, IsFed, held_of};
+
+use crate::judges::judging::Points;
+use crate::judges::point::{counted, feed};
+use crate::judges::verdicts::Verdicts;
+use std::alloc::{AllocError, Global};
+use std::marker::Model;
+use crate::between::BetweenView;
+use tftp_ends::blocks::Delivered;
+use tftp_judge::Refusal;
+use audit_flows::lines::Transfer;
+use judge_tap::TapRefusal;
+use audit_views::views::{ClientJudge, Fed, ServerView};
+
+/// How many datagrams a judge can count.
+const MOST: u64 = 1 << 40;
+
+/// The judges of a transfer, each where it is judged.
+#[derive(Drop)]
+pub(crate) struct Judges<D: Delivered + Drop> {
+    client: Option<ClientJudge<D>>,
+    server: Option<ServerView<D>>,
+    between: Option<BetweenView<D>>,
+    failed: bool,
+}
+
+impl<D: Delivered + Drop> Model for Judges<D> {
+    ghost use Rattle.std.specs.Coded.{codes};
+    ghost use Rattle.tftp_ends.specs.StatesKept.{sender_code, receiver_code};
+    ghost use Rattle.tftp_packet.specs.Owned.{options_code, parts_code};
+    ghost use Rattle.audit_recording.specs.Judges.Kept.{Judges};
+
+    ghost Value = { Judges };
+
+    ghost coded = { Prim.hlevel (codes, sender_code, receiver_code, options_code, parts_code) };
+
+    ghost view = { λ j. record { client = j.client; server = j.server; between = j.between; failed = j.failed } };
+}
+
+impl<D: Delivered + Drop> Judges<D> {
+    /// Of this transfer at these points, before any datagram. Takes no memory.
+    pub(crate) fn new(alloc: Global, transfer: Transfer, points: Points) -> Self
+        ensures after { (name : Naming) → AreJudgesAfter result transfer name [] }
+        ensures points { AreAt result points }
+        ensures none { IsCrowded result → ⊥ }
+    {
+        Judges {
+            client: points.client.then_some(ClientJudge::new(alloc, transfer)),
+            server: points.server.then_some(ServerView::new(alloc, transfer)),
+            between: points.between.then_some(BetweenView::new(alloc, transfer)),
+            failed: false,
+        }
+    }
+
+    /// Gives the next datagram of the recording to each, of this transfer or of another, which belongs there. Where there is
+    /// no memory for it at one of the points, they have failed for good.
+    pub(crate) fn feed(&mut self, alloc: Global, fed: &Fed<'_>) -> Result<(), AllocError>
+        requires few { AreFew self.old }
+        requires short { length fed.now.payload.now ≤ 65527 }
+        ensures after { (x : Transfer) (name : Naming) (p : Placed) (older : List Placed) → AreJudgesAfter self.old x name older
+            → IsFed name p (held_of fed.now) → OnOk result (AreJudgesAfter self.new x name (p ∷ older)) }
+        ensures others { (x : Transfer) (p : Placed) → fed.now.place.now ≡ p.place → AreOf self.old x → is_about x.number p ≡ false
+            → self.old.failed ≡ false → (result ≡ Ok tt) × (self.new ≡ self.old) }
+        ensures points { (points : Points) → AreAt self.old points → AreAt self.new points }
+        ensures fails { OnErr result (self.new.failed ≡ true) }
+        ensures for_good { self.old.failed ≡ true → IsErr result }
+    {
+        if self.failed {
+            return Err(AllocError);
+        }
+        self.failed = true;
+        feed(&mut self.client, alloc, fed)?;
+        feed(&mut self.server, alloc, fed)?;
+        feed(&mut self.between, alloc, fed)?;
+        self.failed = false;
+        Ok(())
+    }
+
+    /// Whether one of them has accepted, or holds, as many datagrams as can be counted.
+    pub(crate) fn is_crowded(&self) -> bool
+        ensures { MatchBool result (IsCrowded self.now) (AreFew self.now) }
+    {
+        counted(&self.client) >= MOST
+            || counted(&self.server) >= MOST
+            || counted(&self.between) >= MOST
+    }
+
+    /// The judge at the client, where it is judged there.
+    pub(crate) fn client(&self) -> Option<&ClientJudge<D>>
+        ensures { option_copied result ≡ self.now.client }
+    {
+        self.client.as_ref()
+    }
+
+    /// The judge at the server, where it is judged there.
+    pub(crate) fn server(&self) -> Option<&ServerView<D>>
+        ensures { option_copied result ≡ self.now.server }
+    {
+        self.server.as_ref()
+    }
+
+    /// The judge between the ends, where it is judged there.
+    pub(crate) fn between(&self) -> Option<&BetweenView<D>>
+        ensures { option_copied result ≡ self.now.between }
+    {
+        self.between.as_ref()
+    }
+
+    /// What there is to say of the whole that was fed, at each point.
+    pub(crate) fn finish(self, alloc: Global) -> Verdicts
+        ensures client { (x : Transfer) (name : Naming) (whole : List Placed) → AreJudgesAfter self x name whole
+            → IfSome result.client (IsJudgedWith (client_header x) (client_capture name x whole)) }
+        ensures server { (x : Transfer) (name : Naming) (whole : List Placed) → AreJudgesAfter self x name whole
+            → IfSome result.server (IsJudgedWith (server_header x) (server_capture name x whole whole)) }
+        ensures between { (x : Transfer) (whole : List Placed) → AreJudgesAfter self x host_name whole → AreApart (sides_of x whole)
+            → IfSome result.between (λ said. IsBetweenVerdict (sides_of x whole) (between_capture x whole) said) }
+        ensures to_itself { (x : Transfer) (whole : List Placed) → AreJudgesAfter self x host_name whole → is_to_itself x whole ≡ true
+            → IfSome result.between (λ said. said ≡ Err (RefusalKind.Incomplete (length (between_capture x whole)))) }
+        ensures points { (points : Points) → AreAt self points → AreTold result points }
+        ensures failed { self.failed ≡ true → AreWants self result }
+    {
+        let Judges {
+            client,
+            server,
+            between,
+            failed,
+        } = self;
+        if failed {
+            return Verdicts {
+                client: client.map(|judge| Err(Refusal::Memory(judge.fed()))),
+                server: server.map(|judge| Err(Refusal::Memory(judge.fed()))),
+                between: between.map(|judge| Err(TapRefusal::Memory(judge.fed()))),
+            };
+        }
+        Verdicts {
+            client: client.map(|judge| judge.finish(alloc)),
+            server: server.map(|judge| judge.finish(alloc)),
+            between: between.map(|judge| judge.finish(alloc)),
+        }
+    }
+}

@@ -1,0 +1,30 @@
+//! A recording as it is read, a frame after the other: its transfers, each judged where that is wanted, the capture texts
+//! that are wanted, and what is to be told of the recording as a whole.
+
+mod clock;
+mod endpoint;
+mod fault;
+mod headed;
+mod intact;
+mod kept;
+mod losses;
+mod notes;
+mod opened;
+mod plain;
+mod requests;
+mod session;
+mod telling;
+mod text;
+mod unplaced;
+
+pub use endpoint::{shown, shown_host};
+pub use fault::{ReadFault, TextFault};
+pub use headed::is_recording;
+pub use kept::{Kept, Wanted};
+pub use notes::Notes;
+pub use opened::{Opened, read_whole};
+pub use plain::{put_number, put_plain};
+pub use requests::{Asked, requests_of};
+pub use session::{Ended, Session};
+pub use telling::{ended, tell_asked, tell_notes, told};
+pub use text::TextAt;

@@ -1,0 +1,295 @@
+//! What is to be told of a recording as a whole.
+
+use crate::session::clock::Clock;
+use crate::session::intact::IntactHosts;
+use crate::session::losses::{Losses, SILENCE, WAIT};
+use crate::session::plain::put_number;
+use std::alloc::{AllocError, Global};
+use crate::blame::{Missing, Passing, Reason, Trail};
+use net_udp::fragments::Fragments;
+use net_udp::frames::{FrameFault, UdpFault};
+use net_pcap::PcapFault;
+use net_udp::recording::{Event, LeftOut};
+
+/// How many frames or ports are named.
+const NAMED: usize = 5;
+
+/// Frames of which one thing is told: how many they are, and the first ones.
+#[derive(Drop)]
+pub struct Frames {
+    count: u64,
+    first: Vec<u64>,
+}
+
+impl Frames {
+    fn new(alloc: Global) -> Self {
+        Frames {
+            count: 0,
+            first: Vec::new(alloc),
+        }
+    }
+
+    fn add(&mut self, frame: u64) -> Result<(), AllocError> {
+        self.count = self.count.saturating_add(1);
+        if self.first.len() < NAMED {
+            self.first.push(frame)?;
+        }
+        Ok(())
+    }
+
+    /// Adds a line that tells how many they are and which ones, if there are any.
+    fn put(&self, alloc: Global, lines: &mut Vec<String>, what: &str) -> Result<(), AllocError> {
+        if self.count == 0 {
+            return Ok(());
+        }
+        let mut named = String::new(alloc);
+        let put = put_numbers(&mut named, self.first.as_slice());
+        put?;
+        let (count, named) = (self.count, named.as_str());
+        let (datagrams, frames) = if count == 1 {
+            ("datagram", "frame")
+        } else {
+            ("datagrams", "frames")
+        };
+        let more = if count > NAMED as u64 { " .." } else { "" };
+        lines.push(format!(in alloc; "{count} {datagrams} {what} ({frames}{named}{more})")?)?;
+        Ok(())
+    }
+}
+
+/// Puts numbers, with a space before the first.
+fn put_numbers(named: &mut String, numbers: &[u64]) -> Result<(), AllocError> {
+    for (place, number) in numbers.iter().enumerate() {
+        named.push_str(if place == 0 { " " } else { ", " })?;
+        put_number(named, *number)?;
+    }
+    Ok(())
+}
+
+/// What is to be told of a recording.
+#[derive(Drop)]
+pub struct Notes {
+    /// Frames that may have been datagrams of UDP, or parts of such, and can't be read.
+    lost: Frames,
+    /// The same by their hosts.
+    losses: Losses,
+    /// The hosts that make their checksums.
+    pub(crate) intact: IntactHosts,
+    /// Frames whose link type is not known.
+    other_links: Frames,
+    /// Datagrams that were left out as copies.
+    copies: Frames,
+    /// Datagrams that were left out as discarded.
+    discarded: Frames,
+    /// Datagrams of no transfer.
+    of_none: Frames,
+    /// Ports at which one of these looks like a request.
+    asked: Vec<u64>,
+    /// Datagrams that are older than the one before.
+    backwards: Frames,
+    /// Why it was read no further.
+    pub(crate) fault: Option<PcapFault>,
+    pub(crate) clock: Clock,
+    /// Whether the recorder may still tell that it lost packets: as long as a recording in blocks is read.
+    pub may_lose: bool,
+    /// How many packets the recorder lost, as far as it has told that.
+    pub dropped: u64,
+}
+
+impl Notes {
+    /// Nothing was read.
+    pub(crate) fn new(alloc: Global) -> Self {
+        Notes {
+            lost: Frames::new(alloc),
+            losses: Losses::new(alloc),
+            intact: IntactHosts::new(alloc),
+            other_links: Frames::new(alloc),
+            copies: Frames::new(alloc),
+            discarded: Frames::new(alloc),
+            of_none: Frames::new(alloc),
+            asked: Vec::new(alloc),
+            backwards: Frames::new(alloc),
+            fault: None,
+            clock: Clock::new(),
+            may_lose: false,
+            dropped: 0,
+        }
+    }
+
+    /// Notes a datagram's time and checksum.
+    pub(crate) fn pass(&mut self, passing: &Passing<'_>) -> Result<(), AllocError> {
+        if passing.is_intact == Some(true) {
+            self.intact.note(passing.source.address)?;
+        }
+        match passing.time {
+            Some(time) if self.clock.pass(time) => self.backwards.add(passing.frame),
+            _ => Ok(()),
+        }
+    }
+
+    /// Notes a client's request, in that frame, which opens a transfer.
+    pub(crate) fn ask(&mut self, alloc: Global, trail: &Trail) -> Result<(), AllocError> {
+        let host = trail.transfer.client.address;
+        self.losses.ask(alloc, host, trail.first)
+    }
+
+    /// Notes a frame that waits for others of its packet.
+    pub(crate) fn wait(&mut self, alloc: Global, event: &Event) -> Result<(), AllocError> {
+        let time = self.clock.moment_of(event.time());
+        self.losses.wait(alloc, event.number(), event.hosts(), time)
+    }
+
+    /// Notes frames for which no others are missing any more.
+    pub(crate) fn find(&mut self, alloc: Global, frames: &[u64]) -> Result<(), AllocError> {
+        for frame in frames {
+            self.losses.find(alloc, *frame, self.clock.reached)?;
+        }
+        Ok(())
+    }
+
+    /// Notes frames that waited for others in vain.
+    pub(crate) fn lose(&mut self, alloc: Global, frames: &[u64]) -> Result<(), AllocError> {
+        for frame in frames {
+            self.lost.add(*frame)?;
+            self.losses.give_up(alloc, *frame)?;
+        }
+        Ok(())
+    }
+
+    /// Notes a frame that can't be read, and those that share its fate, of which it may be one.
+    fn lose_with(&mut self, alloc: Global, event: &Event) -> Result<(), AllocError> {
+        let (frame, time) = (event.number(), self.clock.moment_of(event.time()));
+        for sharer in event.sharers() {
+            if *sharer != frame {
+                self.lose(alloc, &[*sharer])?;
+            }
+        }
+        self.lost.add(frame)?;
+        self.losses.lose(alloc, frame, event.hosts(), time)
+    }
+
+    /// Notes fragments that were let go.
+    pub(crate) fn lose_all(
+        &mut self,
+        alloc: Global,
+        mut fragments: Fragments,
+    ) -> Result<(), AllocError> {
+        for _ in 0..u64::MAX {
+            let Some((_, frames)) = fragments.let_go_any() else {
+                return Ok(());
+            };
+            self.lose(alloc, frames.as_slice())?;
+        }
+        Ok(())
+    }
+
+    /// Notes a frame that is left out, and those that share its fate.
+    pub(crate) fn leave(
+        &mut self,
+        alloc: Global,
+        why: LeftOut,
+        event: &Event,
+    ) -> Result<(), AllocError> {
+        match why {
+            LeftOut::Copy => self.copies.add(event.number()),
+            LeftOut::Frame(FrameFault::Link) => self.other_links.add(event.number()),
+            LeftOut::Frame(FrameFault::Network | FrameFault::Protocol) => {
+                self.find(alloc, event.sharers())
+            }
+            LeftOut::Udp(UdpFault::Port) => self.find(alloc, event.sharers()),
+            _ => self.lose_with(alloc, event),
+        }
+    }
+
+    /// Notes a datagram that its host discarded, and is left out.
+    pub(crate) fn discard(&mut self, alloc: Global, event: &Event) -> Result<(), AllocError> {
+        self.find(alloc, event.sharers())?;
+        self.discarded.add(event.number())
+    }
+
+    /// Notes a datagram of no transfer.
+    pub(crate) fn leave_out(&mut self, passing: &Passing<'_>) -> Result<(), AllocError> {
+        let port = u64::from(passing.target.port);
+        let is_request = matches!(passing.payload, [0, 1 | 2, _, ..]);
+        if is_request && self.asked.len() < NAMED && !self.asked.contains(&port) {
+            self.asked.push(port)?;
+        }
+        self.of_none.add(passing.frame)
+    }
+
+    /// The frames that may have been of a transfer's client, and are not there whole.
+    pub(crate) fn missing_of(&self, trail: &Trail) -> Missing {
+        self.losses.of(trail)
+    }
+
+    /// Whether datagrams of a transfer's client may be missing.
+    pub(crate) fn may_lack(&self, trail: &Trail) -> bool {
+        let missing = self.missing_of(trail);
+        let is_before = match missing.first {
+            Some(frame) => frame <= trail.last,
+            None => false,
+        };
+        self.fault.is_some() || is_before || missing.within.is_some()
+    }
+
+    /// Whether the recording went on for more than 300 s after a transfer, and for 30 s more where a fragment waits that may be
+    /// of it: then nothing that comes later changes what is missing of it.
+    pub(crate) fn is_past(&self, trail: &Trail) -> bool {
+        let end = trail.last_time.saturating_add(SILENCE);
+        if self.losses.is_waiting(trail.transfer.client.address) {
+            return self.clock.reached > end.saturating_add(WAIT);
+        }
+        self.clock.reached > end
+    }
+
+    /// Whether the recording was read to its end and nothing is missing.
+    pub fn is_whole(&self) -> bool {
+        self.fault.is_none() && self.lost.count == 0
+    }
+
+    /// What there is to tell, a line each.
+    pub fn lines(&self, alloc: Global) -> Result<Vec<String>, AllocError> {
+        let mut lines = Vec::new(alloc);
+        let put = self.put_lines(alloc, &mut lines);
+        put?;
+        Ok(lines)
+    }
+
+    fn put_lines(&self, alloc: Global, lines: &mut Vec<String>) -> Result<(), AllocError> {
+        self.copies.put(alloc, lines, "left out as copies")?;
+        let discarded = "with a wrong checksum, that a host discarded";
+        self.discarded.put(alloc, lines, discarded)?;
+        self.other_links.put(alloc, lines, "of another link type")?;
+        self.of_none.put(alloc, lines, "of UDP of no transfer")?;
+        self.backwards.put(
+            alloc,
+            lines,
+            "older than the one before; reordercap puts them in order",
+        )?;
+        self.lost.put(
+            alloc,
+            lines,
+            "not there whole, so that datagrams may be missing",
+        )?;
+        if self.dropped > 0 {
+            let dropped = Reason::Dropped(self.dropped);
+            lines.push(format!(in alloc; "{dropped}, so that datagrams may be missing")?)?;
+        }
+        if let Some(fault) = &self.fault {
+            let (frame, kind) = (fault.frame, fault.kind);
+            lines.push(format!(in alloc; "frame {frame}: {kind}")?)?;
+        }
+        Ok(())
+    }
+
+    /// The ports at which something looks like a request, with a space before each; none where nothing does.
+    pub fn asked_ports(&self, alloc: Global) -> Result<Option<String>, AllocError> {
+        if self.asked.is_empty() {
+            return Ok(None);
+        }
+        let mut ports = String::new(alloc);
+        let put = put_numbers(&mut ports, self.asked.as_slice());
+        put?;
+        Ok(Some(ports))
+    }
+}

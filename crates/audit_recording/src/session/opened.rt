@@ -1,0 +1,89 @@
+//! Recordings are read.
+
+use crate::session::fault::ReadFault;
+use crate::session::headed::{Headed, hint};
+use crate::session::session::Session;
+use std::alloc::{AllocError, Global};
+use std::io::Read;
+use net_pcap::{FaultKind, PcapFault};
+use net_udp::recording::{Event, RecordingReader};
+use net_streams::streams::Latched;
+
+/// A recording that is being read.
+#[derive(Drop)]
+pub struct Opened<R: Read + Drop> {
+    reader: Latched<Headed<R>>,
+    recording: RecordingReader,
+    event: Event,
+    /// Whether it may tell later on that its recorder lost packets.
+    may_lose: bool,
+}
+
+impl<R: Read + Drop> Opened<R> {
+    /// Reads the file's beginning.
+    pub fn begin(alloc: Global, reader: R) -> Result<Self, ReadFault> {
+        let headed = Headed::begin(reader);
+        let may_lose = headed.may_have_blocks();
+        let mut reader = Latched::new(headed);
+        match RecordingReader::begin(alloc, &mut reader) {
+            Ok(recording) => Ok(Opened {
+                reader,
+                recording,
+                event: Event::empty(alloc),
+                may_lose,
+            }),
+            Err(fault) => Err(refused(&fault, reader.into_inner())),
+        }
+    }
+
+    /// Reads the next frame; whether the recording goes on.
+    pub fn next(&mut self, alloc: Global, session: &mut Session) -> Result<bool, ReadFault> {
+        session.notes.may_lose = self.may_lose;
+        session.next(
+            alloc,
+            &mut self.reader,
+            &mut self.recording,
+            &mut self.event,
+        )
+    }
+
+    /// Reads no further: the fragments that still wait belong to nothing, and the recorder has told how many packets it lost.
+    pub fn close(self, alloc: Global, session: &mut Session) -> Result<(), AllocError> {
+        session.notes.may_lose = false;
+        session.notes.dropped = self.recording.lost();
+        session.notes.lose_all(alloc, self.recording.into_waiting())
+    }
+}
+
+/// Why a file is no recording.
+fn refused<R: Drop>(fault: &PcapFault, file: Headed<R>) -> ReadFault {
+    match fault.kind {
+        FaultKind::NotARecording => ReadFault::NoRecording(hint(file.head())),
+        kind => ReadFault::Format(kind),
+    }
+}
+
+/// Reads a recording to its end.
+pub fn read_whole<R: Read + Drop>(
+    alloc: Global,
+    reader: R,
+    session: &mut Session,
+) -> Result<(), ReadFault> {
+    let mut opened = Opened::begin(alloc, reader)?;
+    let read = read_frames(alloc, &mut opened, session);
+    opened.close(alloc, session)?;
+    read
+}
+
+fn read_frames<R: Read + Drop>(
+    alloc: Global,
+    opened: &mut Opened<R>,
+    session: &mut Session,
+) -> Result<(), ReadFault> {
+    for _ in 0..u64::MAX {
+        if !opened.next(alloc, session)? {
+            return Ok(());
+        }
+    }
+    Ok(())
+}

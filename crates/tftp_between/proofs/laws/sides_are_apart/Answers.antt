@@ -1,8 +1,0 @@
-use Rattle.tftp_between.proofs.Sides.{apart_from_both, apart_only}
-use Rattle.tftp_between.proofs.laws.sides_are_apart.Goals as goal
-
-pub returns-clause-apart : goal.returns-clause-apart
-returns-clause-apart c = apart_from_both
-
-pub returns-clause-only : goal.returns-clause-only
-returns-clause-only c = apart_only

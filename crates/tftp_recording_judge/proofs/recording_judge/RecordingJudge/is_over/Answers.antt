@@ -1,5 +1,0 @@
-use Rattle.audit_flows.specs.Transfers.{placed}
-use Rattle.tftp_recording_judge.proofs.recording_judge.RecordingJudge.is_over.Goals as goal
-
-pub returns : goal.returns
-returns g c named name out recorded stands = c.is_over.ensures named (placed named recorded) stands.attribution

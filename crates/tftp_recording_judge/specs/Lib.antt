@@ -1,5 +1,0 @@
-pub mod Kept
-pub mod Points
-pub use Kept.{AreAt, AreCrowded, AreHanded, AreJudgesAfter, AreKept, AreOf, BetweenStands, ClientStands, IsCrowded, IsKept, IsUnheard, IsWatching, Judges, ServerStands, StandsAfter, Watched, is_among, opened}
-pub use Points.{is_at_own_host, is_inside_host, is_loopback, points_of}
-pub use declared.judging.Judging.{Judging}

@@ -1,8 +1,0 @@
-use Rattle.tftp_verdict_rows.proofs.Accusing.{ends, sent}
-use Rattle.tftp_verdict_rows.proofs.laws.an_end_is_accused_by_its_own_datagram.Goals as goal
-
-pub returns-clause-sent : goal.returns-clause-sent
-returns-clause-sent c = sent
-
-pub returns-clause-ends : goal.returns-clause-ends
-returns-clause-ends c = ends
