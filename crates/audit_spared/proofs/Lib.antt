@@ -1,0 +1,2 @@
+pub mod FairLemmas
+pub mod SparedLemmas

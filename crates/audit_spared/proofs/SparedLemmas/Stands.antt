@@ -1,0 +1,138 @@
+-- What is kept of a client's line while its captures follow one another: the newest transfer is doubtful, or its view is its
+-- part of the newest capture and what was asked before in the same words.
+use Rattle.std.proofs.Common.{◌≡◌, ◌≢◌, ℕ, Bool, true, false, List, [], ◌∷◌, ◌++◌, ◌&&◌, not, Contains, Some, map}
+use Rattle.std.specs.List.{list_any, AllByRecursion, filter}
+use Rattle.law_model.specs.Rules.{first_of}
+use Rattle.audit_flows.specs.Lines.{Endpoint, Place, Talks, Transfer, Recorded, Placed, is_between, other_of, is_of, is_request, newest_of, reach, line, transfer_of, latest_in, answered_in, says_more, asks_alike, is_alike_in}
+use Rattle.audit_flows.specs.Transfers.{client_view, comes}
+use Rattle.audit_flows.proofs.TransfersLemmas.Ends.{spoken}
+use Rattle.audit_spared.specs.Spared.{is_doubted_there, AsksInTime, asks_from, comes_at, goes_on_from}
+
+abbrev pub new : Recorded → ℕ → Place → Placed
+new d now place = record { datagram = d; moment = now; place = place }
+
+-- it is a request, or it is talked of a transfer of the client's
+pub data IsPlain (c : Endpoint) (q : Placed) : Type 0 where
+  asks : (x : Transfer) → is_request q ≡ true → transfer_of q.place ≡ Some x → IsPlain c q
+  talks : (y : Transfer) → q.place ≡ Talks y → y.client ≡ c → IsPlain c q
+
+-- the same from and to the same
+pub record Same (one other : Recorded) : Type 0 where
+  pub payload : one.payload ≡ other.payload
+  pub source : one.source ≡ other.source
+  pub target : one.target ≡ other.target
+
+-- a request on top is the latest transfer's
+abbrev pub TopIs : Transfer → List Placed → Type 0
+TopIs x [] = Unit {0}
+TopIs x (q ∷ ps) = is_request q ≡ true → transfer_of q.place ≡ Some x
+
+abbrev pub ends_in_request : List Placed → Bool
+ends_in_request [] = true
+ends_in_request (q ∷ ps) = is_request q
+
+-- the oldest is a request of the transfer, the same as this
+abbrev pub Bottom : Recorded → ℕ → List Placed → Type 0
+Bottom r n [] = ⊥
+Bottom r n (q ∷ []) = (is_request q ≡ true) × (is_of n q ≡ true) × Same q.datagram r
+Bottom r n (q ∷ s ∷ ps) = Bottom r n (s ∷ ps)
+
+abbrev pub OthersOf : ℕ → Placed → Type 0
+OthersOf n q = is_request q ≡ false → is_of n q ≡ false
+
+-- what was asked before in the same words, of the transfer
+pub record AskedBefore (older kp : List Placed) (n : ℕ) : Type 0 where
+  pub r : Recorded
+  pub before : List Placed
+  pub view : client_view n older ≡ filter (is_of n) kp ++ before
+  pub repeated : AllByRecursion (λ q. (is_request q ≡ true) × Same q.datagram r) before
+
+pub record Asking (c : Endpoint) (k : List Recorded) (older kp rest : List Placed) (x : Transfer) : Type 0 where
+  pub none_came : list_any (comes_at c) k ≡ false
+  pub asked : AskedBefore older kp x.number
+  pub own : AllByRecursion (λ q. (is_request q ≡ true) × (is_of x.number q ≡ true) × Same q.datagram asked.r) kp
+  pub others : AllByRecursion (OthersOf x.number) (kp ++ rest)
+
+pub record Answered (c : Endpoint) (k : List Recorded) (older kp rest : List Placed) (x : Transfer) : Type 0 where
+  pub came : list_any (comes_at c) k ≡ true
+  pub asked : AskedBefore older kp x.number
+  pub bottom : Bottom asked.r x.number kp
+  pub by : Endpoint
+  pub answered : answered_in x (kp ++ rest) ≡ Some by
+  pub ends : ends_in_request kp ≡ false
+  -- with whom the client talks in this transfer
+  pub talked : Endpoint → Bool
+  pub requests : AllByRecursion (λ q. is_request q ≡ true → is_of x.number q ≡ true) kp
+  pub talks : AllByRecursion (λ q. is_request q ≡ false → is_of x.number q ≡ talked (other_of c q.datagram)) kp
+  pub others : AllByRecursion (OthersOf x.number) rest
+  -- the first that came is the server's
+  pub server : Endpoint
+  pub is_talked : talked server ≡ true
+  pub serves : list_any (spoken c server) kp ≡ true
+  pub first : (q : Placed) → first_of (λ p. comes_at c p.datagram) kp ≡ Some q → other_of c q.datagram ≡ server
+
+-- what is no request passed with this endpoint
+abbrev pub AreWith : Endpoint → Endpoint → List Placed → Type 0
+AreWith c o ps = AllByRecursion (λ q. is_request q ≡ false → other_of c q.datagram ≡ o) ps
+
+-- the newest, if it is a request, is the same as this
+abbrev pub TopSame : Recorded → List Placed → Type 0
+TopSame r [] = Unit {0}
+TopSame r (q ∷ ps) = is_request q ≡ true → Same q.datagram r
+
+-- it is talked of another transfer
+abbrev pub talks_apart : ℕ → Placed → Bool
+talks_apart n q = not (is_request q) && not (is_of n q)
+
+-- The client asked once it had gone on, and by that opened a transfer, of which nothing is talked yet.
+pub record Reopened (c : Endpoint) (k : List Recorded) (older kp rest : List Placed) (x : Transfer) : Type 0 where
+  pub untimely : AsksInTime c k → ⊥
+  pub went_on : list_any (goes_on_from c) k ≡ true
+  pub asked : AskedBefore older kp x.number
+  pub there : Contains k asked.r
+  pub asks_it : asks_from c asked.r ≡ true
+  pub same : AllByRecursion (λ q. is_of x.number q ≡ true → (is_request q ≡ true) × Same q.datagram asked.r) kp
+  pub top_same : TopSame asked.r kp
+  pub others : AllByRecursion (OthersOf x.number) (kp ++ rest)
+
+-- What was talked of the transfer before is talked of that one now.
+pub record Taken (c : Endpoint) (k : List Recorded) (older kp rest : List Placed) (x : Transfer) : Type 0 where
+  pub untimely : AsksInTime c k → ⊥
+  pub ends : ends_in_request kp ≡ false
+  pub asked : AskedBefore older kp x.number
+  pub came : list_any (comes x.number) older ≡ true
+  pub apart : list_any (talks_apart x.number) kp ≡ true
+
+-- The client talks with more than one.
+pub record Mixed (c : Endpoint) (k : List Recorded) (kp : List Placed) : Type 0 where
+  pub untimely : AsksInTime c k → ⊥
+  pub ends : ends_in_request kp ≡ false
+  pub mixed : (o : Endpoint) → AreWith c o kp → ⊥
+
+pub data State (c : Endpoint) (k : List Recorded) (older kp rest : List Placed) (x : Transfer) : Type 0 where
+  doubted : is_doubted_there x.number older ≡ true → State c k older kp rest x
+  asking : Asking c k older kp rest x → State c k older kp rest x
+  answered : Answered c k older kp rest x → State c k older kp rest x
+  reopened : Reopened c k older kp rest x → State c k older kp rest x
+  taken : Taken c k older kp rest x → State c k older kp rest x
+  mixed : Mixed c k kp → State c k older kp rest x
+
+-- it is a request exactly if the client asks by it, and it passed at the client
+pub record IsKnown (c : Endpoint) (q : Placed) : Type 0 where
+  pub kind : is_request q ≡ asks_from c q.datagram
+  pub here : is_between c (other_of c q.datagram) q.datagram ≡ true
+
+-- The newest of the line are the capture's, and the latest transfer is such.
+pub record Has (c : Endpoint) (k : List Recorded) (older kp rest : List Placed) (x : Transfer) : Type 0 where
+  pub whole : line c older ≡ kp ++ rest
+  pub some : kp ≢ []
+  pub are : map (λ p. p.datagram) kp ≡ k
+  pub known : AllByRecursion (IsKnown c) kp
+  pub plain : AllByRecursion (IsPlain c) (kp ++ rest)
+  pub latest : latest_in (kp ++ rest) ≡ Some x
+  pub client : x.client ≡ c
+  pub top : TopIs x kp
+  pub more : list_any says_more (reach (kp ++ rest)) ≡ true → list_any (goes_on_from c) k ≡ true
+  pub pure : ends_in_request kp ≡ true → list_any says_more (reach (kp ++ rest)) ≡ false
+  pub alike : (d : Recorded) → AllByRecursion (λ e. asks_from c e ≡ true → asks_alike e d ≡ true) k → is_alike_in d (newest_of is_request (kp ++ rest)) ≡ true
+  pub state : State c k older kp rest x

@@ -1,0 +1,531 @@
+-- A client's line with one datagram more of the same capture, which is no request.
+use Rattle.std.proofs.Common.{◌≡◌, ◌≢◌, ℕ, Bool, true, false, List, [], ◌∷◌, ◌++◌, Option, Some, None, inl, inr, refl, sym, ap, subst, ◌∙◌, ◌==◌, ◌&&◌, ◌||◌, not, map, option_map, if◌then◌else◌}
+use Rattle.std.specs.List.{list_any, AllByRecursion}
+use Rattle.std.proofs.lemmas.Bool.{false≢true, or_cases, or_parts, or_left, or_right, and_from, and_parts, eq-eqb, eqb-true}
+use Rattle.law_model.specs.Rules.{first_of, or_this}
+use Rattle.audit_flows.specs.Lines.{Endpoint, Place, Talks, Transfer, Recorded, Placed, same_endpoint, is_between, other_of, is_of, is_request, newest_of, reach, live, line, says_more, begins_request, begins_error, goes, last_was_ack_0, answers, answered_in, latest_in, opens, place_at, is_another, may_be_answer_of, may_answer, talk_in}
+use Rattle.audit_flows.specs.Lines.Recording.{is_answer, is_data_1}
+use Rattle.audit_flows.specs.Lines.Doubting.{acked_0_in, answer_of, is_next_data}
+use Rattle.audit_flows.specs.Transfers.{comes, is_it}
+use Rattle.law_model.proofs.ModelLemmas.Members.{contains_later}
+use Rattle.audit_flows.proofs.LinesLemmas.Endpoints.{is_same, same_itself}
+use Rattle.audit_flows.proofs.LinesLemmas.Lines.{by_test, answered_more}
+use Rattle.audit_flows.proofs.TransfersLemmas.AllLines.{line_here}
+use Rattle.audit_flows.proofs.TransfersLemmas.Ends.{spoken}
+use Rattle.audit_spared.proofs.FairLemmas.Thinned.{filter_kept, filter_dropped}
+use Rattle.audit_spared.specs.Spared.{Follows, asks_from, comes_at, goes_from, goes_on_from}
+use Rattle.audit_spared.proofs.SparedLemmas.Basics.{some_or, doubted_more, doubted_apart, all_first, all_last, all_map, newest_all, newest_first, newest_some, any_append}
+use Rattle.audit_spared.proofs.SparedLemmas.Places.{of_talk, talk_found, place_new, place_old, place_unanswered, heard_before, spoken_other, other_is, comes_to_it}
+use Rattle.audit_spared.proofs.SparedLemmas.Stands.{new, IsPlain, asks, talks, Same, Bottom, OthersOf, AskedBefore, Asking, Answered, State, doubted, asking, answered, reopened, taken, mixed, Reopened, Taken, AreWith, talks_apart, IsKnown, Has}
+
+-- no request goes from the client
+pub no_begin : (c : Endpoint) (d : Recorded) → asks_from c d ≡ false → goes_from c d ≡ true → begins_request d.payload ≡ false
+no_begin c d off from = by_test (begins_request d.payload)
+    (λ is. absurd (false≢true (sym off ∙ and_from (goes_from c d) (begins_request d.payload) from is)))
+    (λ none. none)
+
+said_more : (c : Endpoint) (y : Transfer) (d : Recorded) (now : ℕ) → y.client ≡ c → asks_from c d ≡ false → says_more (new d now (Talks y)) ≡ true → goes_on_from c d ≡ true
+said_more c y d now client off says =
+    let parts = and_parts (same_endpoint d.source y.client) (not (begins_error d.payload)) says in
+    let from : goes_from c d ≡ true = subst (λ e. same_endpoint d.source e ≡ true) client parts.0 in
+    ap (λ b. if b then false else (goes_from c d && not (begins_error d.payload))) (no_begin c d off from)
+    ∙ and_from (goes_from c d) (not (begins_error d.payload)) from parts.1
+
+-- whatever the state, the rest goes on
+pub talk_has : (c : Endpoint) (k : List Recorded) (older kp rest : List Placed) (x y : Transfer) (d : Recorded) (now : ℕ) → Has c k older kp rest x → y.client ≡ c
+    → asks_from c d ≡ false → is_between c (other_of c d) d ≡ true → live now (line c older) ≡ line c older
+    → State c (d ∷ k) (new d now (Talks y) ∷ older) (new d now (Talks y) ∷ kp) rest x
+    → Has c (d ∷ k) (new d now (Talks y) ∷ older) (new d now (Talks y) ∷ kp) rest x
+talk_has c k older kp rest x y d now has client off here lived state = record {
+  whole = line_here c (new d now (Talks y)) older (ap (λ e. same_endpoint e c) client ∙ same_itself c) ∙ ap (λ l. new d now (Talks y) ∷ l) (lived ∙ has.whole);
+  some = λ none. absurd (cc);
+  are = ap (λ l. d ∷ l) has.are;
+  known = (record { kind = sym off; here = here }, has.known);
+  plain = (talks y refl client, has.plain);
+  latest = has.latest;
+  client = has.client;
+  top = λ is. absurd (false≢true is);
+  pure = λ top. absurd (false≢true top);
+  more = some_or (says_more (new d now (Talks y))) (list_any says_more (reach (kp ++ rest))) (goes_on_from c d) (list_any (goes_on_from c) k) (said_more c y d now client off) has.more;
+  alike = λ e all. has.alike e all.1;
+  state = state;
+}
+
+-- ---- in a transfer that was answered
+
+all_both : {X : Type 0} (P Q : X → Type 0) (xs : List X) → AllByRecursion P xs → AllByRecursion Q xs → AllByRecursion (λ x. P x × Q x) xs
+all_both P Q [] one other = tt
+all_both P Q (x ∷ xs) one other = ((one.0, other.0), all_both P Q xs one.1 other.1)
+
+pub any_first_part : {X : Type 0} (f g : X → Bool) (xs : List X) → list_any (λ x. f x && g x) xs ≡ true → list_any g xs ≡ true
+any_first_part f g [] any = absurd (false≢true any)
+any_first_part f g (x ∷ xs) any = elim (or_cases (f x && g x) (list_any (λ y. f y && g y) xs) any) [
+  | inl is ↦ or_left (g x) (list_any g xs) (and_parts (f x) (g x) is).1
+  | inr later ↦ or_right (g x) (list_any g xs) (any_first_part f g xs later)
+]
+
+pub first_some : (test : Placed → Bool) (ps : List Placed) → list_any test ps ≡ true → (q : Placed) × (first_of test ps ≡ Some q)
+first_some test [] any = absurd (false≢true any)
+first_some test (p ∷ ps) any = by (first_of test ps) refl (λ later. first_some test ps later) where
+  by : (o : Option Placed) → first_of test ps ≡ o → (list_any test ps ≡ true → (q : Placed) × (first_of test ps ≡ Some q)) → (q : Placed) × (first_of test (p ∷ ps) ≡ Some q)
+  by (Some q) is more = (q, ap (λ o. or_this o (test p) p) is)
+  by None is more = elim (or_cases (test p) (list_any test ps) any) [
+    | inl this ↦ (p, ap (λ o. or_this o (test p) p) is ∙ ap (λ b. or_this None b p) this)
+    | inr later ↦ let found = more later in let both : None ≡ Some found.0 = sym is ∙ found.1 in absurd (cc)
+  ]
+
+pub any_map : (c : Endpoint) (ps : List Placed) → list_any (comes_at c) (map (λ p. p.datagram) ps) ≡ true → list_any (λ p. comes_at c p.datagram) ps ≡ true
+any_map c [] any = any
+any_map c (p ∷ ps) any = some_or (comes_at c p.datagram) (list_any (comes_at c) (map (λ q. q.datagram) ps)) (comes_at c p.datagram) (list_any (λ q. comes_at c q.datagram) ps) (λ is. is) (any_map c ps) any
+
+bottom_more : (r : Recorded) (n : ℕ) (p : Placed) (kp : List Placed) → Bottom r n kp → Bottom r n (p ∷ kp)
+bottom_more r n p [] is = absurd is
+bottom_more r n p (q ∷ ps) is = is
+
+abbrev pub asked_more : (older kp : List Placed) (n : ℕ) (p : Placed) → AskedBefore older kp n → AskedBefore (p ∷ older) (p ∷ kp) n
+asked_more older kp n p asked = record {
+  r = asked.r;
+  before = asked.before;
+  view = by_test (is_of n p)
+      (λ is. filter_kept (is_of n) p older is ∙ ap (λ l. p ∷ l) asked.view ∙ sym (ap (λ l. l ++ asked.before) (filter_kept (is_of n) p kp is)))
+      (λ off. filter_dropped (is_of n) p older off ∙ asked.view ∙ sym (ap (λ l. l ++ asked.before) (filter_dropped (is_of n) p kp off)));
+  repeated = asked.repeated;
+}
+
+-- whom it is talked with
+pub record TalksOn (c : Endpoint) (kp : List Placed) (n : ℕ) (server o : Endpoint) (y : Transfer) : Type 0 where
+  pub talked : Endpoint → Bool
+  pub now : (y.number == n) ≡ talked o
+  pub before : AllByRecursion (λ q. is_request q ≡ false → is_of n q ≡ talked (other_of c q.datagram)) kp
+  pub with_server : talked server ≡ true
+
+answered_on : (c : Endpoint) (k : List Recorded) (older kp rest : List Placed) (x y : Transfer) (d : Recorded) (now : ℕ) → Has c k older kp rest x → (a : Answered c k older kp rest x)
+    → TalksOn c kp x.number a.server (other_of c d) y → Answered c (d ∷ k) (new d now (Talks y) ∷ older) (new d now (Talks y) ∷ kp) rest x
+answered_on c k older kp rest x y d now has a on = record {
+  came = or_right (comes_at c d) (list_any (comes_at c) k) a.came;
+  asked = asked_more older kp x.number (new d now (Talks y)) a.asked;
+  bottom = bottom_more a.asked.r x.number (new d now (Talks y)) kp a.bottom;
+  by = a.by;
+  answered = answered_more x (new d now (Talks y)) (kp ++ rest) refl ∙ ap (λ o. or_this o (answers x (new d now (Talks y))) d.source) a.answered;
+  ends = refl;
+  talked = on.talked;
+  requests = (λ is. absurd (false≢true is), a.requests);
+  talks = (λ plain. on.now, on.before);
+  others = a.others;
+  server = a.server;
+  is_talked = on.with_server;
+  serves = or_right (spoken c a.server (new d now (Talks y))) (list_any (spoken c a.server) kp) a.serves;
+  first = λ q found.
+      let (f, is) = first_some (λ p. comes_at c p.datagram) kp (any_map c kp (subst (λ l. list_any (comes_at c) l ≡ true) (sym has.are) a.came)) in
+      let same : Some f ≡ Some q = sym (ap (λ o. or_this o (comes_at c d) (new d now (Talks y))) is) ∙ found in
+      a.first q (is ∙ same);
+}
+
+-- it was talked with it before
+known_on : (c : Endpoint) (k : List Recorded) (older kp rest : List Placed) (x : Transfer) (d : Recorded) → Has c k older kp rest x → (a : Answered c k older kp rest x)
+    → list_any (spoken c (other_of c d)) kp ≡ true
+    → (y : Transfer) × (y.client ≡ c) × (place_at c (other_of c d) (kp ++ rest) d ≡ Talks y) × TalksOn c kp x.number a.server (other_of c d) y
+known_on c k older kp rest x d has a any = by (newest_of (spoken c o) kp) refl where
+  o : Endpoint
+  o = other_of c d
+
+  Known : Placed → Type 0
+  Known q = (IsPlain c q × IsKnown c q) × (is_request q ≡ false → is_of x.number q ≡ a.talked (other_of c q.datagram))
+
+  all : AllByRecursion Known kp
+  all = all_both (λ q. IsPlain c q × IsKnown c q) (λ q. is_request q ≡ false → is_of x.number q ≡ a.talked (other_of c q.datagram)) kp (all_both (IsPlain c) (IsKnown c) kp (all_first (IsPlain c) kp rest has.plain) has.known) a.talks
+
+  Result : Type 0
+  Result = (y : Transfer) × (y.client ≡ c) × (place_at c o (kp ++ rest) d ≡ Talks y) × TalksOn c kp x.number a.server o y
+
+  talk : (q : Placed) → newest_of (spoken c o) kp ≡ Some q → is_request q ≡ false → is_of x.number q ≡ a.talked o → IsPlain c q → Result
+  talk q found plain of (asks z is at) = absurd (false≢true (sym plain ∙ is))
+  talk q found plain of (talks y is client) = (
+    y,
+    client,
+    place_old c o (kp ++ rest) d x y a.by q has.latest (newest_first (spoken c o) kp rest any ∙ found) is a.answered,
+    record { talked = a.talked; now = sym (of_talk x.number q y is) ∙ of; before = a.talks; with_server = a.is_talked },
+  )
+
+  by : (found : Option Placed) → newest_of (spoken c o) kp ≡ found → Result
+  by None none = absurd (false≢true (sym (newest_some (spoken c o) kp none) ∙ any))
+  by (Some q) found =
+      let (is, spoke) = newest_all Known (spoken c o) kp q all found in
+      let parts = and_parts (not (is_request q)) (is_between c o q.datagram) spoke in
+      let plain : is_request q ≡ false = by_test (is_request q) (λ t. absurd (false≢true (sym (ap not t) ∙ parts.0))) (λ f. f) in
+      talk q found plain (is.1 plain ∙ ap a.talked (other_is c o q.datagram parts.1)) is.0.0
+
+-- it was not talked with before in this capture: from there on it is told by this one
+apart_before : (c o : Endpoint) (n : ℕ) (b : Bool) (talked : Endpoint → Bool) (kp : List Placed) → AllByRecursion (IsKnown c) kp → list_any (spoken c o) kp ≡ false
+    → AllByRecursion (λ q. is_request q ≡ false → is_of n q ≡ talked (other_of c q.datagram)) kp
+    → AllByRecursion (λ q. is_request q ≡ false → is_of n q ≡ (if same_endpoint (other_of c q.datagram) o then b else talked (other_of c q.datagram))) kp
+apart_before c o n b talked [] known none all = tt
+apart_before c o n b talked (q ∷ ps) known none all =
+    let parts = or_parts (spoken c o q) (list_any (spoken c o) ps) none in (
+      λ plain.
+          let differs : same_endpoint (other_of c q.datagram) o ≡ false = by_test (same_endpoint (other_of c q.datagram) o)
+          (λ is. absurd (false≢true (sym parts.0 ∙ spoken_other c o q known.0 plain is))) (λ off. off) in
+          all.0 plain ∙ sym (ap (λ t. if t then b else talked (other_of c q.datagram)) differs),
+      apart_before c o n b talked ps known.1 parts.1 all.1,
+    )
+
+server_before : (c o server : Endpoint) (kp : List Placed) → list_any (spoken c o) kp ≡ false → list_any (spoken c server) kp ≡ true → same_endpoint server o ≡ false
+server_before c o server kp none serves = by_test (same_endpoint server o)
+    (λ is. absurd (false≢true (sym none ∙ subst (λ e. list_any (spoken c e) kp ≡ true) (is_same server o is) serves))) (λ off. off)
+
+new_on : (c : Endpoint) (k : List Recorded) (older kp rest : List Placed) (x y : Transfer) (d : Recorded) → Has c k older kp rest x → (a : Answered c k older kp rest x)
+    → list_any (spoken c (other_of c d)) kp ≡ false → TalksOn c kp x.number a.server (other_of c d) y
+new_on c k older kp rest x y d has a none = record {
+  talked = λ e. if same_endpoint e (other_of c d) then (y.number == x.number) else a.talked e;
+  now = sym (ap (λ b. if b then (y.number == x.number) else a.talked (other_of c d)) (same_itself (other_of c d)));
+  before = apart_before c (other_of c d) x.number (y.number == x.number) a.talked kp has.known none a.talks;
+  with_server = ap (λ b. if b then (y.number == x.number) else a.talked a.server) (server_before c (other_of c d) a.server kp none a.serves) ∙ a.is_talked;
+}
+
+apart_on : (c : Endpoint) (k : List Recorded) (older kp rest : List Placed) (x : Transfer) (d : Recorded) → Has c k older kp rest x → (a : Answered c k older kp rest x)
+    → Follows c k d → asks_from c d ≡ false → list_any (spoken c (other_of c d)) kp ≡ false
+    → (y : Transfer) × (y.client ≡ c) × (place_at c (other_of c d) (kp ++ rest) d ≡ Talks y) × TalksOn c kp x.number a.server (other_of c d) y
+apart_on c k older kp rest x d has a follows off none = by (newest_of (spoken c o) (kp ++ rest)) refl where
+  o : Endpoint
+  o = other_of c d
+
+  Result : Type 0
+  Result = (y : Transfer) × (y.client ≡ c) × (place_at c o (kp ++ rest) d ≡ Talks y) × TalksOn c kp x.number a.server o y
+
+  talk : (q : Placed) → newest_of (spoken c o) (kp ++ rest) ≡ Some q → is_request q ≡ false → IsPlain c q → Result
+  talk q found plain (asks z is at) = absurd (false≢true (sym plain ∙ is))
+  talk q found plain (talks y is client) = (y, client, place_old c o (kp ++ rest) d x y a.by q has.latest found is a.answered, new_on c k older kp rest x y d has a none)
+
+  sent : goes_from c d ≡ true → list_any (spoken c o) kp ≡ true
+  sent from = heard_before c o kp has.known (subst (λ e. list_any (λ r. goes e c r && comes_at c r) (map (λ p. p.datagram) kp) ≡ true) (sym (ap (λ b. if b then d.target else d.source) from))
+      (subst (λ l. list_any (λ r. goes d.target c r && comes_at c r) l ≡ true) (sym has.are) (follows.known from (no_begin c d off from))))
+
+  by : (found : Option Placed) → newest_of (spoken c o) (kp ++ rest) ≡ found → Result
+  by None nobody = by_test (goes_from c d)
+      (λ from. absurd (false≢true (sym none ∙ sent from)))
+      (λ came. (x, has.client, place_new c o (kp ++ rest) d x has.latest nobody came, new_on c k older kp rest x x d has a none))
+  by (Some q) found =
+      let (plain, spoke) = newest_all (IsPlain c) (spoken c o) (kp ++ rest) q has.plain found in
+      let parts = and_parts (not (is_request q)) (is_between c o q.datagram) spoke in
+      talk q found (by_test (is_request q) (λ t. absurd (false≢true (sym (ap not t) ∙ parts.0))) (λ f. f)) plain
+
+pub Talked : (c : Endpoint) (k : List Recorded) (older kp rest : List Placed) (x : Transfer) (d : Recorded) (now : ℕ) → Type 0
+Talked c k older kp rest x d now = (y : Transfer) × (y.client ≡ c) × (place_at c (other_of c d) (kp ++ rest) d ≡ Talks y)
+    × State c (d ∷ k) (new d now (Talks y) ∷ older) (new d now (Talks y) ∷ kp) rest x
+
+answered_talk : (c : Endpoint) (k : List Recorded) (older kp rest : List Placed) (x : Transfer) (d : Recorded) (now : ℕ) → Has c k older kp rest x → Answered c k older kp rest x
+    → Follows c k d → asks_from c d ≡ false → Talked c k older kp rest x d now
+unfolding Talked
+answered_talk c k older kp rest x d now has a follows off = by_test (list_any (spoken c (other_of c d)) kp)
+    (λ any. let (y, client, place, on) = known_on c k older kp rest x d has a any in (y, client, place, answered (answered_on c k older kp rest x y d now has a on)))
+    (λ none. let (y, client, place, on) = apart_on c k older kp rest x d has a follows off none in (y, client, place, answered (answered_on c k older kp rest x y d now has a on)))
+
+-- ---- in a transfer of which nothing has come in this capture
+
+no_answer : (x : Transfer) (d : Recorded) (now : ℕ) (place : Place) → OthersOf x.number (new d now place) → answers x (new d now place) ≡ false
+no_answer x d now (Talks y) other = ap (λ b. b && same_endpoint d.target x.client) (other refl)
+no_answer x d now _ other = refl
+
+none_answers : (x : Transfer) (ps : List Placed) → AllByRecursion (OthersOf x.number) ps → first_of (answers x) (reach ps) ≡ None
+none_answers x [] all = refl
+none_answers x (p ∷ ps) all = by_test (opens p)
+    (λ is. ap (λ b. first_of (answers x) (if b then [] else p ∷ reach ps)) is)
+    (λ off. ap (λ b. first_of (answers x) (if b then [] else p ∷ reach ps)) off ∙ ap (λ o. or_this o (answers x p) p) (none_answers x ps all.1)
+    ∙ ap (λ b. or_this None b p) (no_answer x p.datagram p.moment p.place all.0))
+
+unanswered : (x : Transfer) (ps : List Placed) → AllByRecursion (OthersOf x.number) ps → answered_in x ps ≡ None
+unanswered x ps all = ap (option_map (λ p. p.datagram.source)) (none_answers x ps all)
+
+pub bottom_own : (r : Recorded) (n : ℕ) (kp : List Placed) → kp ≢ [] → AllByRecursion (λ q. (is_request q ≡ true) × (is_of n q ≡ true) × Same q.datagram r) kp → Bottom r n kp
+bottom_own r n [] some all = absurd (some refl)
+bottom_own r n (q ∷ []) some all = all.0
+bottom_own r n (q ∷ s ∷ ps) some all = bottom_own r n (s ∷ ps) (λ none. absurd (cc)) all.1
+
+none_first : (test : Placed → Bool) (ps : List Placed) → list_any test ps ≡ false → first_of test ps ≡ None
+none_first test [] none = refl
+none_first test (p ∷ ps) none =
+    let parts = or_parts (test p) (list_any test ps) none in
+    ap (λ o. or_this o (test p) p) (none_first test ps parts.1) ∙ ap (λ b. or_this None b p) parts.0
+
+none_map : (c : Endpoint) (ps : List Placed) → list_any (comes_at c) (map (λ p. p.datagram) ps) ≡ false → list_any (λ p. comes_at c p.datagram) ps ≡ false
+none_map c [] none = refl
+none_map c (p ∷ ps) none =
+    let parts = or_parts (comes_at c p.datagram) (list_any (comes_at c) (map (λ q. q.datagram) ps)) none in
+    ap (λ b. b || list_any (λ q. comes_at c q.datagram) ps) parts.0 ∙ none_map c ps parts.1
+
+-- the first answer
+first_answered : (c : Endpoint) (k : List Recorded) (older kp rest : List Placed) (x : Transfer) (d : Recorded) (now : ℕ) → Has c k older kp rest x → Asking c k older kp rest x
+    → goes_from c d ≡ false → is_between c (other_of c d) d ≡ true → Answered c (d ∷ k) (new d now (Talks x) ∷ older) (new d now (Talks x) ∷ kp) rest x
+first_answered c k older kp rest x d now has a off here =
+    let to = and_parts (same_endpoint d.source (other_of c d)) (same_endpoint d.target c) (comes_to_it c d off here) in
+    let came : comes_at c d ≡ true = ap not off in
+    record {
+      came = or_left (comes_at c d) (list_any (comes_at c) k) came;
+      asked = asked_more older kp x.number (new d now (Talks x)) a.asked;
+      bottom = bottom_more a.asked.r x.number (new d now (Talks x)) kp (bottom_own a.asked.r x.number kp has.some a.own);
+      by = d.source;
+      answered = answered_more x (new d now (Talks x)) (kp ++ rest) refl
+          ∙ ap (λ o. or_this o (answers x (new d now (Talks x))) d.source) (unanswered x (kp ++ rest) a.others)
+          ∙ ap (λ b. or_this None b d.source) (and_from (x.number == x.number) (same_endpoint d.target x.client) (eq-eqb x.number x.number refl) (subst (λ e. same_endpoint d.target e ≡ true) (sym has.client) to.1));
+      ends = refl;
+      talked = λ e. same_endpoint e (other_of c d);
+      requests = (λ is. absurd (false≢true is), all_map (λ q. (is_request q ≡ true) × (is_of x.number q ≡ true) × Same q.datagram a.asked.r) (λ q. is_request q ≡ true → is_of x.number q ≡ true) (λ q own is. own.1) kp a.own);
+      talks = (
+        λ plain. eq-eqb x.number x.number refl ∙ sym (same_itself (other_of c d)),
+        all_map (λ q. (is_request q ≡ true) × (is_of x.number q ≡ true) × Same q.datagram a.asked.r) (λ q. is_request q ≡ false → is_of x.number q ≡ same_endpoint (other_of c q.datagram) (other_of c d))
+            (λ q own plain. absurd (false≢true (sym plain ∙ own.0))) kp a.own,
+      );
+      others = all_last (OthersOf x.number) kp rest a.others;
+      server = other_of c d;
+      is_talked = same_itself (other_of c d);
+      serves = or_left (spoken c (other_of c d) (new d now (Talks x))) (list_any (spoken c (other_of c d)) kp) here;
+      first = λ q found.
+          let none = none_first (λ p. comes_at c p.datagram) kp (none_map c kp (subst (λ l. list_any (comes_at c) l ≡ false) (sym has.are) a.none_came)) in
+          let same : Some (new d now (Talks x)) ≡ Some q = sym (ap (λ o. or_this o (comes_at c d) (new d now (Talks x))) none ∙ ap (λ b. or_this None b (new d now (Talks x))) came) ∙ found in
+          let this : new d now (Talks x) ≡ q = cc in
+          sym (ap (λ p. other_of c p.datagram) this);
+    }
+
+-- DATA 1 may be the first answer, but it was placed in another transfer
+apart_is : (c : Endpoint) (k : List Recorded) (older kp rest : List Placed) (x y : Transfer) (d : Recorded) (now : ℕ) (q : Placed) → Has c k older kp rest x
+    → live now (line c older) ≡ line c older → newest_of (spoken c (other_of c d)) (kp ++ rest) ≡ Some q → q.place ≡ Talks y → y.client ≡ c → (x.number == y.number) ≡ false
+    → answered_in x (kp ++ rest) ≡ None → (goes (other_of c d) c d && is_answer d.payload) ≡ true → (is_data_1 d.payload && last_was_ack_0 c (other_of c d) (kp ++ rest)) ≡ true
+    → is_it x.number (may_be_answer_of (new d now (Talks y)) older) ≡ true
+apart_is c k older kp rest x y d now q has lived found is client other none may next =
+    ap (λ e. is_it x.number (answer_of y (other_of e d) (live now (line e older)) d (latest_in (live now (line e older))))) client
+    ∙ ap (λ l. is_it x.number (answer_of y (other_of c d) l d (latest_in l))) (lived ∙ has.whole)
+    ∙ ap (λ t. is_it x.number (answer_of y (other_of c d) (kp ++ rest) d t)) has.latest
+    ∙ ap (λ b. is_it x.number (if b then Some x.number else None)) (and_from (is_another y (Some x)) (may_answer y.client (other_of c d) (answered_in x (kp ++ rest)) d && is_next_data y (other_of c d) (kp ++ rest) d)
+    (ap not other)
+    (and_from (may_answer y.client (other_of c d) (answered_in x (kp ++ rest)) d) (is_next_data y (other_of c d) (kp ++ rest) d)
+    (ap (λ a. may_answer y.client (other_of c d) a d) none ∙ ap (λ e. goes (other_of c d) e d && is_answer d.payload) client ∙ may)
+    (ap (λ e. is_data_1 d.payload && acked_0_in (talk_in e (other_of c d) (kp ++ rest))) client
+    ∙ ap (λ t. is_data_1 d.payload && acked_0_in t) (talk_found c (other_of c d) (kp ++ rest) q found) ∙ next)))
+    ∙ eq-eqb x.number x.number refl
+
+flip : (a b : ℕ) → (a == b) ≡ false → (b == a) ≡ false
+flip a b off = by_test (b == a) (λ is. absurd (false≢true (sym off ∙ eq-eqb a b (sym (eqb-true b a is))))) (λ none. none)
+
+asking_talk : (c : Endpoint) (k : List Recorded) (older kp rest : List Placed) (x : Transfer) (d : Recorded) (now : ℕ) → Has c k older kp rest x → Asking c k older kp rest x
+    → Follows c k d → asks_from c d ≡ false → live now (line c older) ≡ line c older → Talked c k older kp rest x d now
+unfolding Talked
+asking_talk c k older kp rest x d now has a follows off lived = by_test (goes_from c d)
+    (λ from. absurd (false≢true (sym a.none_came ∙ any_first_part (λ e. goes d.target c e) (comes_at c) k (follows.known from (no_begin c d off from)))))
+    (λ came. by (newest_of (spoken c o) (kp ++ rest)) refl came)
+  where
+    o : Endpoint
+    o = other_of c d
+
+    Result : Type 0
+    Result = (y : Transfer) × (y.client ≡ c) × (place_at c o (kp ++ rest) d ≡ Talks y) × State c (d ∷ k) (new d now (Talks y) ∷ older) (new d now (Talks y) ∷ kp) rest x
+
+    none : answered_in x (kp ++ rest) ≡ None
+    none = unanswered x (kp ++ rest) a.others
+
+    may : goes_from c d ≡ false → (goes o c d && is_answer d.payload) ≡ true
+    may came = and_from (goes o c d) (is_answer d.payload) (comes_to_it c d came follows.here) (follows.answers came a.none_came)
+
+    talk : (q : Placed) → newest_of (spoken c o) (kp ++ rest) ≡ Some q → is_request q ≡ false → is_of x.number q ≡ false → goes_from c d ≡ false → IsPlain c q → Result
+    talk q found plain other came (asks z is at) = absurd (false≢true (sym plain ∙ is))
+    talk q found plain other came (talks y is client) =
+        let differs : (y.number == x.number) ≡ false = sym (of_talk x.number q y is) ∙ other in
+        let place = place_unanswered c o (kp ++ rest) d x y q has.latest found is none in
+        by_test (is_data_1 d.payload && last_was_ack_0 c o (kp ++ rest))
+        (λ next. (
+          y,
+          client,
+          place ∙ ap (λ b. if b && not (is_data_1 d.payload && last_was_ack_0 c o (kp ++ rest)) then Talks x else Talks y) (may came) ∙ ap (λ b. if not b then Talks x else Talks y) next,
+          doubted (doubted_apart x.number (new d now (Talks y)) older (apart_is c k older kp rest x y d now q has lived found is client (flip y.number x.number differs) none (may came) next)),
+        ))
+        (λ not_next. (
+          x,
+          has.client,
+          place ∙ ap (λ b. if b && not (is_data_1 d.payload && last_was_ack_0 c o (kp ++ rest)) then Talks x else Talks y) (may came) ∙ ap (λ b. if not b then Talks x else Talks y) not_next,
+          answered (first_answered c k older kp rest x d now has a came follows.here),
+        ))
+
+    by : (found : Option Placed) → newest_of (spoken c o) (kp ++ rest) ≡ found → goes_from c d ≡ false → Result
+    by None nobody came = (x, has.client, place_new c o (kp ++ rest) d x has.latest nobody came, answered (first_answered c k older kp rest x d now has a came follows.here))
+    by (Some q) found came =
+        let (is, spoke) = newest_all (λ p. IsPlain c p × OthersOf x.number p) (spoken c o) (kp ++ rest) q (all_both (IsPlain c) (OthersOf x.number) (kp ++ rest) has.plain a.others) found in
+        let parts = and_parts (not (is_request q)) (is_between c o q.datagram) spoke in
+        let plain : is_request q ≡ false = by_test (is_request q) (λ t. absurd (false≢true (sym (ap not t) ∙ parts.0))) (λ f. f) in
+        talk q found plain (is.1 plain) came is.0
+
+-- ---- in one that was opened by a late request
+
+-- what the client said as it went on was no request
+went_plain : (c : Endpoint) (q : Placed) → IsKnown c q → goes_on_from c q.datagram ≡ true → is_request q ≡ false
+went_plain c q known on = by_test (begins_request q.datagram.payload)
+    (λ is. absurd (false≢true (sym (ap (λ b. if b then false else (goes_from c q.datagram && not (begins_error q.datagram.payload))) is) ∙ on)))
+    (λ off. known.kind ∙ ap (λ b. goes_from c q.datagram && b) off ∙ and_off (goes_from c q.datagram))
+  where
+    and_off : (b : Bool) → (b && false) ≡ false
+    and_off true = refl
+    and_off false = refl
+
+went_spoken : (c o : Endpoint) (kp : List Placed) → AllByRecursion (IsKnown c) kp → AreWith c o kp → list_any (goes_on_from c) (map (λ p. p.datagram) kp) ≡ true → list_any (spoken c o) kp ≡ true
+went_spoken c o [] known with any = absurd (false≢true any)
+went_spoken c o (q ∷ kp) known with any = elim (or_cases (goes_on_from c q.datagram) (list_any (goes_on_from c) (map (λ p. p.datagram) kp)) any) [
+  | inl this ↦
+      let plain = went_plain c q known.0 this in
+      or_left (spoken c o q) (list_any (spoken c o) kp) (spoken_other c o q known.0 plain (subst (λ e. same_endpoint e o ≡ true) (sym (with.0 plain)) (same_itself o)))
+  | inr later ↦ or_right (spoken c o q) (list_any (spoken c o) kp) (went_spoken c o kp known.1 with.1 later)
+]
+
+went_apart : (c : Endpoint) (n : ℕ) (kp : List Placed) → AllByRecursion (IsKnown c) kp → AllByRecursion (OthersOf n) kp → list_any (goes_on_from c) (map (λ p. p.datagram) kp) ≡ true → list_any (talks_apart n) kp ≡ true
+went_apart c n [] known others any = absurd (false≢true any)
+went_apart c n (q ∷ kp) known others any = elim (or_cases (goes_on_from c q.datagram) (list_any (goes_on_from c) (map (λ p. p.datagram) kp)) any) [
+  | inl this ↦
+      let plain = went_plain c q known.0 this in
+      or_left (talks_apart n q) (list_any (talks_apart n) kp) (and_from (not (is_request q)) (not (is_of n q)) (ap not plain) (ap not (others.0 plain)))
+  | inr later ↦ or_right (talks_apart n q) (list_any (talks_apart n) kp) (went_apart c n kp known.1 others.1 later)
+]
+
+reopened_talk : (c : Endpoint) (k : List Recorded) (older kp rest : List Placed) (x : Transfer) (d : Recorded) (now : ℕ) → Has c k older kp rest x → Reopened c k older kp rest x
+    → Follows c k d → asks_from c d ≡ false → Talked c k older kp rest x d now
+unfolding Talked
+reopened_talk c k older kp rest x d now has a follows off = by (newest_of (spoken c o) (kp ++ rest)) refl where
+  o : Endpoint
+  o = other_of c d
+
+  Result : Type 0
+  Result = (y : Transfer) × (y.client ≡ c) × (place_at c o (kp ++ rest) d ≡ Talks y) × State c (d ∷ k) (new d now (Talks y) ∷ older) (new d now (Talks y) ∷ kp) rest x
+
+  went : list_any (goes_on_from c) (map (λ p. p.datagram) kp) ≡ true
+  went = subst (λ l. list_any (goes_on_from c) l ≡ true) (sym has.are) a.went_on
+
+  none : answered_in x (kp ++ rest) ≡ None
+  none = unanswered x (kp ++ rest) a.others
+
+  sent : goes_from c d ≡ true → list_any (spoken c o) (kp ++ rest) ≡ true
+  sent from = any_append (spoken c o) kp rest (heard_before c o kp has.known
+      (subst (λ e. list_any (λ r. goes e c r && comes_at c r) (map (λ p. p.datagram) kp) ≡ true) (sym (ap (λ b. if b then d.target else d.source) from))
+      (subst (λ l. list_any (λ r. goes d.target c r && comes_at c r) l ≡ true) (sym has.are) (follows.known from (no_begin c d off from)))))
+
+  strange : newest_of (spoken c o) (kp ++ rest) ≡ None → State c (d ∷ k) (new d now (Talks x) ∷ older) (new d now (Talks x) ∷ kp) rest x
+  strange nobody = mixed (record {
+    untimely = λ timely. a.untimely timely.1;
+    ends = refl;
+    mixed = λ e with.
+        let here : AreWith c o kp = subst (λ w. AreWith c w kp) (sym (with.0 refl)) with.1 in
+        false≢true (sym (newest_some (spoken c o) (kp ++ rest) nobody) ∙ any_append (spoken c o) kp rest (went_spoken c o kp has.known here went));
+  })
+
+  goes_over : (goes o c d && is_answer d.payload) ≡ true → State c (d ∷ k) (new d now (Talks x) ∷ older) (new d now (Talks x) ∷ kp) rest x
+  goes_over may =
+      let to = (and_parts (same_endpoint d.source o) (same_endpoint d.target c) (and_parts (goes o c d) (is_answer d.payload) may).0).1 in
+      taken (record {
+        untimely = λ timely. a.untimely timely.1;
+        ends = refl;
+        asked = asked_more older kp x.number (new d now (Talks x)) a.asked;
+        came = or_left (comes x.number (new d now (Talks x))) (list_any (comes x.number) older)
+            (and_from (x.number == x.number) (same_endpoint d.target x.client) (eq-eqb x.number x.number refl) (subst (λ e. same_endpoint d.target e ≡ true) (sym has.client) to));
+        apart = or_right (talks_apart x.number (new d now (Talks x))) (list_any (talks_apart x.number) kp) (went_apart c x.number kp has.known (all_first (OthersOf x.number) kp rest a.others) went);
+      })
+
+  stays : (y : Transfer) → (y.number == x.number) ≡ false → State c (d ∷ k) (new d now (Talks y) ∷ older) (new d now (Talks y) ∷ kp) rest x
+  stays y differs = reopened (record {
+    untimely = λ timely. a.untimely timely.1;
+    went_on = or_right (goes_on_from c d) (list_any (goes_on_from c) k) a.went_on;
+    asked = asked_more older kp x.number (new d now (Talks y)) a.asked;
+    there = contains_later d k a.asked.r a.there;
+    asks_it = a.asks_it;
+    same = ((λ of. absurd (false≢true (sym differs ∙ of))), a.same);
+    top_same = λ top. absurd (false≢true top);
+    others = (λ plain. differs, a.others);
+  })
+
+  talk : (q : Placed) → newest_of (spoken c o) (kp ++ rest) ≡ Some q → is_request q ≡ false → is_of x.number q ≡ false → IsPlain c q → Result
+  talk q found plain other (asks z is at) = absurd (false≢true (sym plain ∙ is))
+  talk q found plain other (talks y is client) =
+      let differs : (y.number == x.number) ≡ false = sym (of_talk x.number q y is) ∙ other in
+      let place = place_unanswered c o (kp ++ rest) d x y q has.latest found is none in
+      by_test ((goes o c d && is_answer d.payload) && not (is_data_1 d.payload && last_was_ack_0 c o (kp ++ rest)))
+      (λ over. (
+        x,
+        has.client,
+        place ∙ ap (λ b. if b then Talks x else Talks y) over,
+        goes_over (and_parts (goes o c d && is_answer d.payload) (not (is_data_1 d.payload && last_was_ack_0 c o (kp ++ rest))) over).0,
+      ))
+      (λ not_over. (y, client, place ∙ ap (λ b. if b then Talks x else Talks y) not_over, stays y differs))
+
+  by : (found : Option Placed) → newest_of (spoken c o) (kp ++ rest) ≡ found → Result
+  by None nobody = by_test (goes_from c d)
+      (λ from. absurd (false≢true (sym (newest_some (spoken c o) (kp ++ rest) nobody) ∙ sent from)))
+      (λ came. (x, has.client, place_new c o (kp ++ rest) d x has.latest nobody came, strange nobody))
+  by (Some q) found =
+      let (is, spoke) = newest_all (λ p. IsPlain c p × OthersOf x.number p) (spoken c o) (kp ++ rest) q (all_both (IsPlain c) (OthersOf x.number) (kp ++ rest) has.plain a.others) found in
+      let parts = and_parts (not (is_request q)) (is_between c o q.datagram) spoke in
+      let plain : is_request q ≡ false = by_test (is_request q) (λ t. absurd (false≢true (sym (ap not t) ∙ parts.0))) (λ f. f) in
+      talk q found plain (is.1 plain) is.0
+
+taken_talk : (c : Endpoint) (k : List Recorded) (older kp rest : List Placed) (x : Transfer) (d : Recorded) (now : ℕ) → Taken c k older kp rest x
+    → (y : Transfer) → State c (d ∷ k) (new d now (Talks y) ∷ older) (new d now (Talks y) ∷ kp) rest x
+taken_talk c k older kp rest x d now a y = taken (record {
+  untimely = λ timely. a.untimely timely.1;
+  ends = refl;
+  asked = asked_more older kp x.number (new d now (Talks y)) a.asked;
+  came = or_right (comes x.number (new d now (Talks y))) (list_any (comes x.number) older) a.came;
+  apart = or_right (talks_apart x.number (new d now (Talks y))) (list_any (talks_apart x.number) kp) a.apart;
+})
+
+-- ---- in a doubted one, and in each
+
+any_talk : (c : Endpoint) (k : List Recorded) (older kp rest : List Placed) (x : Transfer) (d : Recorded) (now : ℕ) → Has c k older kp rest x
+    → ((y : Transfer) → State c (d ∷ k) (new d now (Talks y) ∷ older) (new d now (Talks y) ∷ kp) rest x)
+    → Follows c k d → asks_from c d ≡ false → Talked c k older kp rest x d now
+unfolding Talked
+any_talk c k older kp rest x d now has still follows off = by (newest_of (spoken c o) (kp ++ rest)) refl where
+  o : Endpoint
+  o = other_of c d
+
+  Result : Type 0
+  Result = (y : Transfer) × (y.client ≡ c) × (place_at c o (kp ++ rest) d ≡ Talks y) × State c (d ∷ k) (new d now (Talks y) ∷ older) (new d now (Talks y) ∷ kp) rest x
+
+  sent : goes_from c d ≡ true → list_any (spoken c o) (kp ++ rest) ≡ true
+  sent from = any_append (spoken c o) kp rest (heard_before c o kp has.known
+      (subst (λ e. list_any (λ r. goes e c r && comes_at c r) (map (λ p. p.datagram) kp) ≡ true) (sym (ap (λ b. if b then d.target else d.source) from))
+      (subst (λ l. list_any (λ r. goes d.target c r && comes_at c r) l ≡ true) (sym has.are) (follows.known from (no_begin c d off from)))))
+
+  chosen : (b : Bool) (y : Transfer) → y.client ≡ c → place_at c o (kp ++ rest) d ≡ (if b then Talks x else Talks y) → Result
+  chosen true y client place = (x, has.client, place, still x)
+  chosen false y client place = (y, client, place, still y)
+
+  with_answer : (q : Placed) (y : Transfer) → newest_of (spoken c o) (kp ++ rest) ≡ Some q → q.place ≡ Talks y → y.client ≡ c → (a : Option Endpoint) → answered_in x (kp ++ rest) ≡ a → Result
+  with_answer q y found place client None none = chosen _ y client (place_unanswered c o (kp ++ rest) d x y q has.latest found place none)
+  with_answer q y found place client (Some a) some = (y, client, place_old c o (kp ++ rest) d x y a q has.latest found place some, still y)
+
+  talk : (q : Placed) → newest_of (spoken c o) (kp ++ rest) ≡ Some q → is_request q ≡ false → IsPlain c q → Result
+  talk q found plain (asks z request at) = absurd (false≢true (sym plain ∙ request))
+  talk q found plain (talks y place client) = with_answer q y found place client (answered_in x (kp ++ rest)) refl
+
+  by : (found : Option Placed) → newest_of (spoken c o) (kp ++ rest) ≡ found → Result
+  by None nobody = by_test (goes_from c d)
+      (λ from. absurd (false≢true (sym (newest_some (spoken c o) (kp ++ rest) nobody) ∙ sent from)))
+      (λ came. (x, has.client, place_new c o (kp ++ rest) d x has.latest nobody came, still x))
+  by (Some q) found =
+      let (plain, spoke) = newest_all (IsPlain c) (spoken c o) (kp ++ rest) q has.plain found in
+      let parts = and_parts (not (is_request q)) (is_between c o q.datagram) spoke in
+      talk q found (by_test (is_request q) (λ t. absurd (false≢true (sym (ap not t) ∙ parts.0))) (λ f. f)) plain
+
+-- so what is no request is of a transfer, and the line goes on
+pub talk_step : (c : Endpoint) (k : List Recorded) (older kp rest : List Placed) (x : Transfer) (d : Recorded) (now : ℕ) → Has c k older kp rest x → Follows c k d → asks_from c d ≡ false
+    → live now (line c older) ≡ line c older
+    → (y : Transfer) × (y.client ≡ c) × (place_at c (other_of c d) (line c older) d ≡ Talks y) × Has c (d ∷ k) (new d now (Talks y) ∷ older) (new d now (Talks y) ∷ kp) rest x
+unfolding Talked
+talk_step c k older kp rest x d now has follows off lived = by has.state where
+  Result : Type 0
+  Result = (y : Transfer) × (y.client ≡ c) × (place_at c (other_of c d) (line c older) d ≡ Talks y) × Has c (d ∷ k) (new d now (Talks y) ∷ older) (new d now (Talks y) ∷ kp) rest x
+
+  all : Talked c k older kp rest x d now → Result
+  all (y, client, place, state) = (y, client, ap (λ l. place_at c (other_of c d) l d) has.whole ∙ place, talk_has c k older kp rest x y d now has client off follows.here lived state)
+
+  by : State c k older kp rest x → Result
+  by (doubted is) = all (any_talk c k older kp rest x d now has (λ y. doubted (doubted_more x.number (new d now (Talks y)) older is)) follows off)
+  by (taken a) = all (any_talk c k older kp rest x d now has (taken_talk c k older kp rest x d now a) follows off)
+  by (mixed a) = all (any_talk c k older kp rest x d now has
+      (λ y. mixed (record { untimely = λ timely. a.untimely timely.1; ends = refl; mixed = λ e with. a.mixed e with.1 })) follows off)
+  by (reopened a) = all (reopened_talk c k older kp rest x d now has a follows off)
+  by (asking a) = all (asking_talk c k older kp rest x d now has a follows off lived)
+  by (answered a) = all (answered_talk c k older kp rest x d now has a follows off)

@@ -1,0 +1,3 @@
+//! What may be left out of a capture that is lawful.
+
+pub mod laws;

@@ -1,0 +1,19 @@
+//! Laws of the definitions in `specs/`. Each is the contract of a function that does nothing.
+
+ghost use Rattle.audit_spared.specs.Spared.{SparesClients, SparesClientsByThree, SparesServers, SparesServersByFive, SparesServersByFour};
+
+/// Where captures of lawful transfers follow one another at the endpoints of some clients, whatever others do elsewhere, no view
+/// of theirs is refused without a doubt; and three of the doubts are enough.
+pub fn no_lawful_client_is_refused_without_a_doubt()
+    ensures spared { SparesClients }
+    ensures by_three { SparesClientsByThree }
+{}
+
+/// Where captures of lawful transfers follow one another between some clients and the server's host, whatever strays come to its
+/// ports, and requests come in time, no server's view of these transfers is refused without a doubt; and four of the doubts are
+/// enough. Where requests come late too, a fifth is: that the refused datagram passed where another transfer was talked of.
+pub fn no_lawful_end_is_refused_at_the_server_without_a_doubt()
+    ensures spared { SparesServers }
+    ensures by_four { SparesServersByFour }
+    ensures by_five { SparesServersByFive }
+{}

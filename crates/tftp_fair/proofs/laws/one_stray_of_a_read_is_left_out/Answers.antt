@@ -1,8 +1,0 @@
-use Rattle.std.proofs.Common.{refl, sym}
-use Rattle.std.proofs.lemmas.Bool.{false≢true}
-use Rattle.tftp_fair.specs.{block_1}
-use Rattle.tftp_fair.proofs.laws.one_stray_of_a_read_is_left_out.Goals as goal
-
--- the server's block is the first that came in
-pub returns-clause-server : goal.returns-clause-server
-returns-clause-server c apart = false≢true (sym (apart block_1 refl))

@@ -1,9 +1,0 @@
-pub mod Seen
-pub mod Captures
-pub mod Spared
-pub mod Served
-pub mod Worked
-pub use Seen.{HasNoSilence, as_seen_by, at_client_of, is_with}
-pub use Captures.{AreCaptures, AreInOrder, AsksInTime, Follows, IsLawfulAt, IsNext, asks_from, begins, comes_at, goes_from, goes_on, goes_on_from}
-pub use Spared.{AreInterleaved, AskersAreElsewhere, FollowOneAnother, HaveNoServicePort, HaveOwnNames, IsAddressIn, IsWholeCapture, SparesClients, SparesClientsByThree, is_doubted_there, needs_doubt}
-pub use Served.{AreAtHost, AreServed, IsServedCapture, IsTimelyCapture, SparesServers, SparesServersByFive, SparesServersByFour, as_served, at_server_of, captured_there, is_shared, is_talk_of_another, seen_at_server, server_saw, transfer_beside, went_out}
