@@ -1,6 +1,6 @@
 PREFIX = /usr/local
 PROGRAM = crates/tftp_audit/out/tftp_audit
-TRANSFERS = crates/tftp_transfers_main/out/tftp_transfers_main
+TRANSFERS = crates/tftp_transfers/out/tftp_transfers
 BENCH = crates/tftp_bench/out/tftp_bench
 DATAGRAMS = crates/tftp_datagrams/out/tftp_datagrams
 MATCH = crates/tftp_match_main/out/tftp_match_main

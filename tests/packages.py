@@ -69,7 +69,7 @@ tftp-match:
 
 tftp-transfers:
     logic: libraries=1 sum=5a
-    tftp_transfers_main: logic=proved functions=7 sum=5a
+    tftp_transfers: logic=proved functions=7 sum=5a
 """
 TIME = 1_700_000_000
 GIT = {f"GIT_{who}_{what}": said for who in ("AUTHOR", "COMMITTER") for what, said in (

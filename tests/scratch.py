@@ -41,7 +41,7 @@ END
 }
 echo "rt: $* in ${PWD##*/}" >>"$CALLS"
 if [ "$1" = ci ]; then
-    for crate in tftp_audit tftp_transfers_main tftp_match_main; do
+    for crate in tftp_audit tftp_transfers tftp_match_main; do
         (cd crates/$crate && rm -rf out && build $crate) || exit 1
     done
     echo "3 passed, 0 failed"
@@ -86,7 +86,7 @@ class Launcher:
 
 AUDIT = Launcher("tftp-audit", "tftp_audit", "about a quarter of an hour", ("check",), (("show",), ("extrac",)))
 TRANSFERS = Launcher(
-    "tftp-transfers", "tftp_transfers_main", "half an hour or so", ("check", "-"), (("-",), ("chec", "-"), ("--help",)),
+    "tftp-transfers", "tftp_transfers", "half an hour or so", ("check", "-"), (("-",), ("chec", "-"), ("--help",)),
 )
 MATCH = Launcher(
     "tftp-match", "tftp_match_main", "half an hour or so", ("./client.capture", "-"), (("-",), ("-", "x"), ("--help",)),

@@ -91,7 +91,7 @@ class Program:
 
 
 PROGRAMS = (
-    Program("tftp_audit", "tftp-audit"), Program("tftp_transfers_main", "tftp-transfers"),
+    Program("tftp_audit", "tftp-audit"), Program("tftp_transfers", "tftp-transfers"),
     Program("tftp_match_main", "tftp-match"),
 )
 
