@@ -3,7 +3,7 @@ PROGRAM = crates/tftp_audit/out/tftp_audit
 TRANSFERS = crates/tftp_transfers/out/tftp_transfers
 BENCH = crates/tftp_bench/out/tftp_bench
 DATAGRAMS = crates/tftp_datagrams/out/tftp_datagrams
-MATCH = crates/tftp_match_main/out/tftp_match_main
+MATCH = crates/tftp_match/out/tftp_match
 
 .PHONY: build build-for-any ready test test-here plants tables contracts bench fuzz install uninstall dist deb
 

@@ -65,7 +65,7 @@ tftp-audit:
 
 tftp-match:
     logic: libraries=1 sum=5a
-    tftp_match_main: logic=proved functions=7 sum=5a
+    tftp_match: logic=proved functions=7 sum=5a
 
 tftp-transfers:
     logic: libraries=1 sum=5a

@@ -41,7 +41,7 @@ END
 }
 echo "rt: $* in ${PWD##*/}" >>"$CALLS"
 if [ "$1" = ci ]; then
-    for crate in tftp_audit tftp_transfers tftp_match_main; do
+    for crate in tftp_audit tftp_transfers tftp_match; do
         (cd crates/$crate && rm -rf out && build $crate) || exit 1
     done
     echo "3 passed, 0 failed"
@@ -89,7 +89,7 @@ TRANSFERS = Launcher(
     "tftp-transfers", "tftp_transfers", "half an hour or so", ("check", "-"), (("-",), ("chec", "-"), ("--help",)),
 )
 MATCH = Launcher(
-    "tftp-match", "tftp_match_main", "half an hour or so", ("./client.capture", "-"), (("-",), ("-", "x"), ("--help",)),
+    "tftp-match", "tftp_match", "half an hour or so", ("./client.capture", "-"), (("-",), ("-", "x"), ("--help",)),
 )
 LAUNCHERS = (AUDIT, TRANSFERS, MATCH)
 

@@ -2,7 +2,7 @@
 # `shim`, a folder that is gone at the end, with what refuses a program its memory, reads and writes.
 here=$(dirname "$0")
 transfers=$here/../crates/tftp_transfers/out/tftp_transfers
-match=$here/../crates/tftp_match_main/out/tftp_match_main
+match=$here/../crates/tftp_match/out/tftp_match
 shim=$(mktemp -d)
 trap 'rm -rf "$shim"' EXIT
 export PYTHONDONTWRITEBYTECODE=1

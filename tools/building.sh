@@ -246,7 +246,7 @@ case $#${1-} in
         exit 0
         ;;
     1--gate)
-        build_by any 'tftp_audit tftp_transfers tftp_match_main' gate
+        build_by any 'tftp_audit tftp_transfers tftp_match' gate
         exit
         ;;
 esac

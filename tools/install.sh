@@ -79,7 +79,7 @@ put_all() {
     put_as 755 crates/tftp_audit/out/tftp_audit lib/tftp-audit/tftp-audit
     put 644 lib/tftp-audit tools/commands.sh
     put_as 755 crates/tftp_transfers/out/tftp_transfers bin/tftp-transfers
-    put_as 755 crates/tftp_match_main/out/tftp_match_main bin/tftp-match
+    put_as 755 crates/tftp_match/out/tftp_match bin/tftp-match
     put 644 lib/tftp-audit/tftp_tools tools/tftp_tools/*.py
     link_scripts
     put 644 share/man/man1 docs/man/*.1

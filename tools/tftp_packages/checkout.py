@@ -92,7 +92,7 @@ class Program:
 
 PROGRAMS = (
     Program("tftp_audit", "tftp-audit"), Program("tftp_transfers", "tftp-transfers"),
-    Program("tftp_match_main", "tftp-match"),
+    Program("tftp_match", "tftp-match"),
 )
 
 
