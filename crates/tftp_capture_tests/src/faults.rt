@@ -5,7 +5,7 @@ use crate::texts::{Line, with_line};
 use std::alloc::AllocError;
 use std::test::Fail;
 use tftp_capture::{CaptureFault, TextFault};
-use tftp_trials::texts::{NAMED, READ, long};
+use tests_trials::texts::{NAMED, READ, long};
 
 /// Nothing after the start.
 const NO_MORE: (u8, usize) = (b' ', 0);

@@ -6,9 +6,9 @@ use std::alloc::{AllocError, Global};
 use std::test::Fail;
 use tftp_capture::{CaptureFault, Datagram, TextFault};
 use tftp_packet::hosts::Dir;
-use tftp_trials::comparing::is_so;
-use tftp_trials::drip::DripReader;
-use tftp_trials::texts::{READ, long};
+use tests_trials::comparing::is_so;
+use tests_trials::drip::DripReader;
+use tests_trials::texts::{READ, long};
 
 /// What is read into: the answer, and the line then.
 type Filled = (Result<bool, CaptureFault>, u64);

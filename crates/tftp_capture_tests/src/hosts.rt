@@ -5,8 +5,8 @@ use crate::reading::Reading;
 use crate::texts::changed;
 use std::test::Fail;
 use tftp_capture::{CaptureFault, TextFault};
-use tftp_trials::drip::DripReader;
-use tftp_trials::texts::{COMMENTED, NAMED, READ};
+use tests_trials::drip::DripReader;
+use tests_trials::texts::{COMMENTED, NAMED, READ};
 
 /// The hosts on the lines 4, 5 and 6 of a text.
 pub const HOSTS: &str =

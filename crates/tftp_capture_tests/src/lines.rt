@@ -4,8 +4,8 @@ use crate::reading::Reading;
 use crate::texts::changed;
 use std::test::Fail;
 use tftp_capture::{CaptureFault, TextFault};
-use tftp_trials::drip::DripReader;
-use tftp_trials::texts::READ;
+use tests_trials::drip::DripReader;
+use tests_trials::texts::READ;
 
 /// What a reader answers to a call: the line of a datagram, none at the end, or the fault.
 type Answer = Result<Option<u64>, CaptureFault>;

@@ -4,7 +4,7 @@ use crate::reading::Reading;
 use std::alloc::Global;
 use std::test::Fail;
 use tftp_capture::CaptureFault;
-use tftp_trials::drip::DripReader;
+use tests_trials::drip::DripReader;
 
 /// What a text gives: the number of its datagrams and the sum of their lines, or the fault.
 pub type Outcome = Result<(u64, u64), CaptureFault>;

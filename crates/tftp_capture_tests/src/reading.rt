@@ -7,7 +7,7 @@ use std::alloc::Global;
 use std::marker::Model;
 use tftp_capture::{CaptureFault, CaptureReader, Datagram, Header};
 use net_streams::streams::Latched;
-use tftp_trials::drip::DripReader;
+use tests_trials::drip::DripReader;
 
 /// A text whose header was read. Contracts see nothing of it, so that what the library promises of its readers is read
 /// only here, where it is called.

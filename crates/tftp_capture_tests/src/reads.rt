@@ -7,9 +7,9 @@ use crate::texts::{BLOCKS, Line, with_line};
 use std::test::Fail;
 use tftp_capture::{CaptureFault, Header, TextFault};
 use tftp_packet::End;
-use tftp_trials::comparing::is_so;
-use tftp_trials::drip::DripReader;
-use tftp_trials::texts::{NAMED, READ};
+use tests_trials::comparing::is_so;
+use tests_trials::drip::DripReader;
+use tests_trials::texts::{NAMED, READ};
 
 /// The header of a text, and its last line.
 fn header_of(rt: &HostRuntime, text: &[u8]) -> Option<(Header, u64)> {

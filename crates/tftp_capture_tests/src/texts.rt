@@ -4,7 +4,7 @@ use crate::reads;
 use std::alloc::AllocError;
 use std::test::Fail;
 use tftp_capture::{CaptureFault, TextFault};
-use tftp_trials::texts::{NAMED, READ, long};
+use tests_trials::texts::{NAMED, READ, long};
 
 /// Blocks that go the same way between the same ports, so that the third line may be known by the second.
 pub const BLOCKS: &str =

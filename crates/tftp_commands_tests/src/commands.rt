@@ -3,8 +3,8 @@
 use std::test::Fail;
 use tftp_commands::run;
 use net_streams::streams::{Latched, LineWriter};
-use tftp_trials::drip::{DripReader, DripWriter};
-use tftp_trials::texts::READ;
+use tests_trials::drip::{DripReader, DripWriter};
+use tests_trials::texts::READ;
 
 mod pipes;
 

@@ -5,10 +5,10 @@ use std::test::Fail;
 use tftp_judge::{Meaning, Verdict, judge_text};
 use tftp_normal::{NormalFault, normal_capture, normal_count, normalise};
 use net_streams::streams::{Latched, LineWriter};
-use tftp_trials::drip::{DripReader, DripWriter};
-use tftp_trials::normals::SCRIPT;
-use tftp_trials::scripts::Script;
-use tftp_trials::texts::READ;
+use tests_trials::drip::{DripReader, DripWriter};
+use tests_trials::normals::SCRIPT;
+use tests_trials::scripts::Script;
+use tests_trials::texts::READ;
 
 /// The room of a writer, more than any test writes.
 const ROOM: usize = 65_536;

@@ -4,8 +4,8 @@
 use crate::verdicts::{is_judged, is_verdict};
 use std::test::Fail;
 use tftp_ends::blocks::{MapDelivered, RingDelivered};
-use tftp_trials::normals;
-use tftp_trials::scripts::Script;
+use tests_trials::normals;
+use tests_trials::scripts::Script;
 
 mod errors;
 mod files;

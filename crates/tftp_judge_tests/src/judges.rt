@@ -10,7 +10,7 @@ use tftp_packet::hosts::{Dir, Host};
 use tftp_judge::{FileBytes, Judge, Meaning, Refusal, Rule};
 use tftp_packet::{Bytes, End as Side};
 use law_model::rules::EndRule;
-use tftp_trials::comparing::is_so;
+use tests_trials::comparing::is_so;
 
 /// A judge on this store. Contracts see nothing of it, so that what the library promises of its judges is read only here,
 /// where it is called.

@@ -9,8 +9,8 @@ use tftp_capture_tests::reading::Reading;
 use tftp_judge::{AbortedBy, Meaning, Refusal, Rule, Verdict, judge_text};
 use tftp_packet::{Mode, Side};
 use net_streams::streams::Latched;
-use tftp_trials::comparing::is_so;
-use tftp_trials::drip::DripReader;
+use tests_trials::comparing::is_so;
+use tests_trials::drip::DripReader;
 
 /// Feeds a judge the datagrams that are left of a text, up to the first fault or one that it refuses.
 fn feed_all<D: Delivered + Drop>(

@@ -3,7 +3,7 @@
 use crate::views::{oack_of, owned_request_of};
 use std::test::Fail;
 use tftp_nego::{Agreed, NegoFault, agree, nothing_agreed};
-use tftp_trials::comparing::is_so;
+use tests_trials::comparing::is_so;
 
 mod faults;
 

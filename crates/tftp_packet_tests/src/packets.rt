@@ -11,7 +11,7 @@ use tftp_packet::{
     ack_of, block_of, opcode, own_options, same_options, same_request, write_oack, write_packet,
     write_request,
 };
-use tftp_trials::comparing::{is_same, is_so};
+use tests_trials::comparing::{is_same, is_so};
 
 mod faults;
 mod many;

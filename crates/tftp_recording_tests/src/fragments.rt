@@ -4,7 +4,7 @@ use std::alloc::AllocError;
 use std::net::{IpAddr, Ipv4Addr, Ipv6Addr};
 use std::test::Fail;
 use net_udp::fragments::{Fragments, Key, Outcome, Part};
-use tftp_trials::comparing::is_so;
+use tests_trials::comparing::is_so;
 
 /// A packet's content: 40 bytes, which are cut at 16 and 32.
 const CONTENT: &[u8; 40] = b"0123456789abcdefghijklmnopqrstuvwxyzABCD";

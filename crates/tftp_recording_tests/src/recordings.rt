@@ -5,8 +5,8 @@ use std::test::Fail;
 use net_pcap::{FaultKind, PcapFault};
 use net_udp::recording::{Event, Fate, LeftOut, RecordingReader};
 use net_streams::streams::Latched;
-use tftp_trials::comparing::is_so;
-use tftp_trials::drip::DripReader;
+use tests_trials::comparing::is_so;
+use tests_trials::drip::DripReader;
 
 /// A classic recording (draft-ietf-opsawg-pcap) of raw IP: the last part of a datagram, a whole datagram, a part, the
 /// first part of the datagram, TCP, a part, a part with other bytes than the one before it, and a part 31 s later; and of

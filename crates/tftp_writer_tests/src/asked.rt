@@ -6,7 +6,7 @@ use std::io;
 use std::io::{ErrorKind, Read, Write};
 use std::test::Fail;
 use net_streams::streams::{Latched, LineWriter};
-use tftp_trials::comparing::is_so;
+use tests_trials::comparing::is_so;
 
 /// Counts how often it was asked, and answers one call with an error.
 #[derive(Drop)]

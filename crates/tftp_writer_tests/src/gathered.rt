@@ -5,8 +5,8 @@ use crate::writing::{Written, written};
 use std::alloc::AllocError;
 use std::test::Fail;
 use net_streams::streams::{LineWriter, WriteFault};
-use tftp_trials::drip::DripWriter;
-use tftp_trials::texts::long;
+use tests_trials::drip::DripWriter;
+use tests_trials::texts::long;
 
 /// Adds two bytes as they are, and the others as digits; what waits is written.
 fn take_digits(writer: &mut LineWriter<DripWriter>, bytes: &[u8]) -> Result<(), WriteFault> {

@@ -4,8 +4,8 @@ use crate::writes::{DATAGRAMS, HEADER, has_written};
 use crate::writing::{write_with_comment, write_with_host};
 use std::test::Fail;
 use tftp_packet::hosts::Host;
-use tftp_trials::drip::DripWriter;
-use tftp_trials::texts::{COMMENTED, NAMED};
+use tests_trials::drip::DripWriter;
+use tests_trials::texts::{COMMENTED, NAMED};
 
 /// Fails unless the text of `NAMED`, whose host is this, is written where each write takes so many bytes.
 fn is_written_in(rt: &HostRuntime, piece: usize, host: &Host) -> Result<(), Fail> {

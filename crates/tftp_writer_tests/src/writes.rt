@@ -7,9 +7,9 @@ use tftp_capture_tests::outcomes::gives;
 use tftp_packet::hosts::Dir;
 use tftp_packet::End;
 use net_streams::streams::WriteFault;
-use tftp_trials::comparing::{is_same, is_so};
-use tftp_trials::drip::DripWriter;
-use tftp_trials::texts::{READ, long};
+use tests_trials::comparing::{is_same, is_so};
+use tests_trials::drip::DripWriter;
+use tests_trials::texts::{READ, long};
 
 /// The header of `READ` and `NAMED`.
 pub const HEADER: Header = Header {

@@ -7,7 +7,7 @@ use std::marker::Model;
 use tftp_capture::{CaptureWriter, Header, HostCaptureWriter};
 use tftp_packet::hosts::{Dir, Host};
 use net_streams::streams::{LineWriter, WriteFault};
-use tftp_trials::drip::DripWriter;
+use tests_trials::drip::DripWriter;
 
 /// A datagram by its direction, its port at the named end, the port at the other and its payload.
 pub type Row<'a> = (Dir, u16, u16, &'a [u8]);

@@ -8,7 +8,7 @@ use std::slice::Iter;
 use std::test::Fail;
 use tftp_commands::run;
 use net_streams::streams::{Latched, LineWriter};
-use tftp_trials::drip::DripReader;
+use tests_trials::drip::DripReader;
 
 /// A piece of a text, and how many datagrams have come with it.
 type Piece = (&'static str, usize);

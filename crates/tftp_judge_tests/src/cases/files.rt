@@ -1,7 +1,7 @@
 use crate::verdicts::is_file;
 use std::test::Fail;
 use tftp_ends::blocks::{MapDelivered, RingDelivered};
-use tftp_trials::scripts::Script;
+use tests_trials::scripts::Script;
 
 /// Captures of whole transfers, and their files, in hex digits; `-` where the file is empty.
 pub const SCRIPT: &str = "

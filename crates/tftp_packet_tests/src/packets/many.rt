@@ -4,7 +4,7 @@ use super::{count_of, fault_of, owned_oack_of};
 use crate::views::oack_of;
 use std::test::Fail;
 use tftp_packet::{Options, PacketFault, same_options};
-use tftp_trials::comparing::is_so;
+use tests_trials::comparing::is_so;
 
 /// 70 names of five letters whose hashes begin at one slot, found by a program of its own.
 const ALIKE: &[u8] =
