@@ -18,7 +18,7 @@ TESTS: dict[str, tuple[str, ...]] = {
     "tftp_packet_tests": ("",),
     "tftp_netascii_tests": ("",),
     "tftp_ends_tests": ("",),
-    "tftp_recording_tests": ("copies::", "recordings::"),
+    "tests_net": ("copies::", "recordings::"),
     "tftp_capture_tests": ("texts::texts_", "faults::tr"),
     "tftp_writer_tests": (
         *("writes::a_read_is_written", "gathered::bytes_are_gathered"),
