@@ -5,7 +5,7 @@ use std::alloc::{AllocError, Global};
 use std::test::Fail;
 use tftp_ends::blocks::Delivered;
 use tftp_capture::CaptureFault;
-use tftp_capture_tests::reading::Reading;
+use tests_wire::captures::reading::Reading;
 use tftp_judge::{AbortedBy, Meaning, Refusal, Rule, Verdict, judge_text};
 use tftp_packet::{Mode, Side};
 use net_streams::streams::Latched;

@@ -1,9 +1,9 @@
 //! What whole texts give, and what of them where a read fails or never ends.
 
-use crate::hosts::HOSTS;
-use crate::outcomes::{Outcome, gives, read_out};
-use crate::reading::Reading;
-use crate::texts::{BLOCKS, Line, with_line};
+use crate::captures::hosts::HOSTS;
+use crate::captures::outcomes::{Outcome, gives, read_out};
+use crate::captures::reading::Reading;
+use crate::captures::texts::{BLOCKS, Line, with_line};
 use std::test::Fail;
 use tftp_capture::{CaptureFault, Header, TextFault};
 use tftp_packet::End;

@@ -1,5 +1,4 @@
 //! Tests of the writers of capture texts, of what is gathered before it is written, and of who is asked for a call.
-#![tactic(auto)]
 
 #[cfg(test)]
 mod asked;

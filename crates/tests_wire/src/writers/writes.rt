@@ -1,9 +1,9 @@
 //! What is written of whole texts, and what of it where a write fails.
 
-use crate::writing::{Row, Written, write};
+use crate::writers::writing::{Row, Written, write};
 use std::test::Fail;
 use tftp_capture::Header;
-use tftp_capture_tests::outcomes::gives;
+use crate::captures::outcomes::gives;
 use tftp_packet::hosts::Dir;
 use tftp_packet::End;
 use net_streams::streams::WriteFault;

@@ -1,6 +1,6 @@
 //! Requests, and what an OACK agrees to.
 
-use crate::views::{oack_of, owned_request_of};
+use crate::packets::views::{oack_of, owned_request_of};
 use std::test::Fail;
 use tftp_nego::{Agreed, NegoFault, agree, nothing_agreed};
 use tests_trials::comparing::is_so;

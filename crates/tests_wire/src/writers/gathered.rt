@@ -1,7 +1,7 @@
 //! Pieces and digits that are gathered before they are written.
 
-use crate::writes::has_written;
-use crate::writing::{Written, written};
+use crate::writers::writes::has_written;
+use crate::writers::writing::{Written, written};
 use std::alloc::AllocError;
 use std::test::Fail;
 use net_streams::streams::{LineWriter, WriteFault};

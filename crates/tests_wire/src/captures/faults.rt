@@ -1,7 +1,7 @@
 //! Each fault of a text by its name, with the lines that have it, in both versions.
 
-use crate::outcomes::gives;
-use crate::texts::{Line, with_line};
+use crate::captures::outcomes::gives;
+use crate::captures::texts::{Line, with_line};
 use std::alloc::AllocError;
 use std::test::Fail;
 use tftp_capture::{CaptureFault, TextFault};

@@ -1,7 +1,7 @@
 //! OACKs of many options: names that are found by their hashes, and names that are sorted since their hashes are alike.
 
 use super::{count_of, fault_of, owned_oack_of};
-use crate::views::oack_of;
+use crate::packets::views::oack_of;
 use std::test::Fail;
 use tftp_packet::{Options, PacketFault, same_options};
 use tests_trials::comparing::is_so;

@@ -1,5 +1,4 @@
 //! Tests of the readers of capture texts, and what such a text gives, for the tests of what is written and judged.
-#![tactic(auto)]
 
 #[cfg(test)]
 mod faults;

@@ -1,7 +1,7 @@
 //! Datagrams that are read into one that is held, whose memory is used again.
 
-use crate::reading::Reading;
-use crate::texts::{BLOCKS, changed};
+use crate::captures::reading::Reading;
+use crate::captures::texts::{BLOCKS, changed};
 use std::alloc::{AllocError, Global};
 use std::test::Fail;
 use tftp_capture::{CaptureFault, Datagram, TextFault};

@@ -1,5 +1,4 @@
 //! Tests of packets, options and hosts, and of what OACKs agree to.
-#![tactic(auto)]
 
 #[cfg(test)]
 mod agreements;

@@ -2,7 +2,7 @@
 
 ghost use Rattle.tftp_packet.specs.{HasStringMessage};
 
-use crate::views::{oack_of, owned_request_of, packet_of, request_of};
+use crate::packets::views::{oack_of, owned_request_of, packet_of, request_of};
 use std::alloc::AllocError;
 use std::test::Fail;
 use tftp_packet::hosts::Host;

@@ -1,8 +1,8 @@
 //! The other host of each datagram.
 
-use crate::outcomes::gives;
-use crate::reading::Reading;
-use crate::texts::changed;
+use crate::captures::outcomes::gives;
+use crate::captures::reading::Reading;
+use crate::captures::texts::changed;
 use std::test::Fail;
 use tftp_capture::{CaptureFault, TextFault};
 use tests_trials::drip::DripReader;

@@ -1,6 +1,6 @@
 //! What a text gives that is read to its end.
 
-use crate::reading::Reading;
+use crate::captures::reading::Reading;
 use std::alloc::Global;
 use std::test::Fail;
 use tftp_capture::CaptureFault;

@@ -1,5 +1,4 @@
 //! Tests of netascii.
-#![tactic(auto)]
 
 #[cfg(test)]
 mod netascii;

@@ -1,7 +1,7 @@
 //! Texts whose datagrams name a host, written with a comment and without.
 
-use crate::writes::{DATAGRAMS, HEADER, has_written};
-use crate::writing::{write_with_comment, write_with_host};
+use crate::writers::writes::{DATAGRAMS, HEADER, has_written};
+use crate::writers::writing::{write_with_comment, write_with_host};
 use std::test::Fail;
 use tftp_packet::hosts::Host;
 use tests_trials::drip::DripWriter;

@@ -1,6 +1,6 @@
 //! Texts with a line that is changed, and what they give where a growth is refused.
 
-use crate::reads;
+use crate::captures::reads;
 use std::alloc::AllocError;
 use std::test::Fail;
 use tftp_capture::{CaptureFault, TextFault};

@@ -1,7 +1,7 @@
 //! The line of what a reader handed out, and what it answers for good.
 
-use crate::reading::Reading;
-use crate::texts::changed;
+use crate::captures::reading::Reading;
+use crate::captures::texts::changed;
 use std::test::Fail;
 use tftp_capture::{CaptureFault, TextFault};
 use tests_trials::drip::DripReader;
