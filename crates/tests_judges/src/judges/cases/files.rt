@@ -1,4 +1,4 @@
-use crate::verdicts::is_file;
+use crate::judges::verdicts::is_file;
 use std::test::Fail;
 use tftp_ends::blocks::{MapDelivered, RingDelivered};
 use tests_trials::scripts::Script;

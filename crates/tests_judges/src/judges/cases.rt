@@ -1,7 +1,7 @@
 //! Captures, and what is said of each: by `judge_text`, and by a judge on each store. What the commands print of them is
 //! tried on the built program, from the same scripts.
 
-use crate::verdicts::{is_judged, is_verdict};
+use crate::judges::verdicts::{is_judged, is_verdict};
 use std::test::Fail;
 use tftp_ends::blocks::{MapDelivered, RingDelivered};
 use tests_trials::normals;

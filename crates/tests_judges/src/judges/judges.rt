@@ -1,6 +1,6 @@
 //! The judge itself, datagram by datagram.
 
-use crate::verdicts::{accepted_line, refused_line};
+use crate::judges::verdicts::{accepted_line, refused_line};
 use std::alloc::{AllocError, Global};
 use std::marker::Model;
 use std::test::Fail;

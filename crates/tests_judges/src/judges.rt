@@ -1,5 +1,4 @@
 //! Tests of the judge, and of the verdicts on texts.
-#![tactic(auto)]
 
 #[cfg(test)]
 mod cases;

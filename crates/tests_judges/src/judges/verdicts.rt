@@ -1,6 +1,6 @@
 //! Verdicts on lists of datagrams and on capture texts.
 
-use crate::judges::{End, Judging};
+use crate::judges::judges::{End, Judging};
 use std::alloc::{AllocError, Global};
 use std::test::Fail;
 use tftp_ends::blocks::Delivered;

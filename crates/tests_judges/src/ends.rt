@@ -1,5 +1,4 @@
 //! Tests of the stores of blocks, and of the code at one end: its states and its ports.
-#![tactic(auto)]
 
 #[cfg(test)]
 mod ports;
