@@ -1,8 +1,0 @@
-use Rattle.tftp_worked.proofs.ErrorVerdicts.{stopped_verdict, stopped_after_verdict}
-use Rattle.tftp_worked.proofs.worked_verdicts.whole_transfer_is_accepted_with_an_error.Goals as goal
-
-pub returns-clause-before : goal.returns-clause-before
-returns-clause-before c = stopped_verdict
-
-pub returns-clause-after : goal.returns-clause-after
-returns-clause-after c = stopped_after_verdict
