@@ -1,5 +1,5 @@
 use Rattle.std.proofs.Common.{◌-◌, ◌≤◌, vec_len}
-use Rattle.tftp_bench.proofs.decode_digits.Given as goal
+use Rattle.tests_tools.proofs.works.decode_digits.Given as goal
 
 abbrev pub invariant-loop : goal.invariant-loop
 invariant-loop g l = l.len ≤ vec_len l.held

@@ -1,15 +1,11 @@
-//! Does one work of the libraries alone with what standard input has, so that it can be measured.
-#![tactic(auto)]
-
-mod stores;
-mod strays;
+//! One work of the libraries alone with what standard input has, so that it can be measured.
 
 use crate::stores::{Order, fill_stores};
 use crate::strays::count_strays;
 use memchr::{memchr, memrchr};
 use std::alloc::Global;
+use std::io;
 use std::io::{ErrorKind, Read, Write};
-use std::{env, io};
 use tftp_ends::blocks::{MapDelivered, RingDelivered};
 use tftp_capture::{CaptureReader, CaptureWriter, Datagram, Header};
 use tftp_packet::hosts::Dir;
@@ -41,16 +37,11 @@ enum Way {
     Copy,
 }
 
-/// The first word says which work it is: `netascii-decode`, `netascii-encode`, `copy`, `capture`, `recording`, `write`, `hex`,
+/// Does the work that the word names: `netascii-decode`, `netascii-encode`, `copy`, `capture`, `recording`, `write`, `hex`,
 /// `strays`, or a store and how it is filled, `map-large`, `map-small`, `map-reversed`, `ring-large`, `ring-small` or
 /// `ring-reversed`.
-fn main(rt: HostRuntime) -> io::Result<()> {
+pub fn work(rt: HostRuntime, word: &str) -> io::Result<()> {
     let alloc = rt.alloc();
-    let words = env::args(&rt)?.collect::<Vec<String>>(alloc)?;
-    let word = match words.as_slice() {
-        [_, word] => word.as_str(),
-        _ => "",
-    };
     let mut reader = rt.reader();
     let mut writer = io::writer(&rt);
     match word {

@@ -1,5 +1,5 @@
 use Rattle.std.proofs.Common.{length, ◌-◌, ◌≤◌, ◌≡◌}
-use Rattle.tftp_bench.proofs.stores.fill.Given as goal
+use Rattle.tests_tools.proofs.stores.fill.Given as goal
 
 abbrev pub invariant-loop-len : goal.invariant-loop-len
 invariant-loop-len g l = (l.len ≤ length l.room) × (length l.room ≡ length l.initial.room)

@@ -1,5 +1,5 @@
 use Rattle.std.proofs.Common.{◌≡◌}
-use Rattle.tftp_bench.proofs.write_datagrams.Given as goal
+use Rattle.tests_tools.proofs.works.write_datagrams.Given as goal
 
 -- each datagram is counted
 abbrev pub invariant-loop-count : goal.invariant-loop-count

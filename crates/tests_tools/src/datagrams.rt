@@ -1,3 +1,6 @@
+//! Lists the UDP datagrams of a recording on standard input, and the frames that are none, a line each: what the tests
+//! compare with the fields that other programs read.
+
 use std::alloc::Global;
 use std::io;
 use net_udp::fragments::Fragments;
