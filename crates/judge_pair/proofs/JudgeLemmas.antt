@@ -2,3 +2,4 @@ pub mod Merging
 pub mod Sides
 pub mod Rests
 pub mod Verdicts
+pub mod SentByKept

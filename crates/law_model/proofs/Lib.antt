@@ -1,2 +1,3 @@
 pub mod ModelLemmas
 pub mod RulesLemmas
+pub mod Results

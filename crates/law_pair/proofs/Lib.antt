@@ -8,6 +8,5 @@ pub mod CommonMeaning
 pub mod ByMessages
 pub mod OneTransfer
 pub mod MatchedCaptures
-pub mod SentByKept
 pub mod PairVerdict
 pub mod Worked

@@ -6,7 +6,7 @@ use Rattle.tftp_packet.specs.{Message, IsPair, Spells}
 use Rattle.tftp_packet.proofs.Unique.{one_message}
 use Rattle.tftp_packet.specs.Hosts.{Out}
 use Rattle.law_model.specs.Rules.{Passed}
-use Rattle.tftp_ends.proofs.Passing.{in_not_out}
+use Rattle.tftp_packet.proofs.HostsLemmas.Ways.{in_not_out}
 use Rattle.law_pair.specs.{block_of, acknowledged, at_the_server}
 
 bytes_are : (xs : List ℕ) → list_all (λ b. nat_lt b 256) xs ≡ true → AllByRecursion (λ b. b < 256) xs

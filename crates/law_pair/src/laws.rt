@@ -1,12 +1,11 @@
 //! Laws of the definitions in `specs/`. Each is the contract of a function that does nothing.
 
-ghost use Rattle.std.specs.Prelude.{◌≡◌, ◌+◌, ◌≤◌, ◌↔◌, ℕ, Bool, List, [], ◌∷◌, length, reverse};
-ghost use Rattle.tftp_packet.specs.{Message, End, Client, Server};
-ghost use Rattle.tftp_packet.specs.Hosts.{In, Out, Header, Datagram};
-ghost use Rattle.law_model.specs.Rules.{transfer_of, Passed};
-ghost use Rattle.tftp_judge.specs.{Transfer, IsTransferOf, AreFlags, HasSentBy};
+ghost use Rattle.std.specs.Prelude.{◌≡◌, ◌+◌, ◌≤◌, ◌↔◌, ℕ, List, [], ◌∷◌, length, reverse};
+ghost use Rattle.tftp_packet.specs.{Message, Client, Server};
+ghost use Rattle.tftp_packet.specs.Hosts.{In, Out, Datagram};
+ghost use Rattle.law_model.specs.Rules.{Passed};
 ghost use Rattle.law_pair.specs.PairVerdict.{IsPairVerdict, IsWholePair};
-ghost use Rattle.law_model.specs.Model.{Meaning, Deed, Sent, Took, MachinePacket, Data, Ack, History};
+ghost use Rattle.law_model.specs.Model.{Meaning, Sent, Took, MachinePacket, Data, Ack, History};
 ghost use Rattle.law_end.specs.{Divides, IsSeen, OneEnded, Meant};
 ghost use Rattle.law_pair.specs.Captures.{Capture, AreSeenTogether, AreConsistent, AreConsistentByRules};
 ghost use Rattle.law_pair.specs.Merged.{AreAllOpen};
@@ -102,13 +101,6 @@ pub fn matching_decides()
     ensures { (client server : Capture) (i j : ℕ) → client.header.named ≡ Client → server.header.named ≡ Server
         → OneEnded client.header (reverse client.datagrams) → OneEnded server.header (reverse server.datagrams)
         → AreMatchedTo client server i j → AreConsistent client server ↔ ((i ≡ length client.datagrams) × (j ≡ length server.datagrams)) }
-{}
-
-/// What the judge keeps of an end, and a flag for each of its ACKs, tell exactly what the end has sent.
-#[tactic(auto, using(crate::proofs::SentByKept::sent_by_kept))]
-pub fn what_is_kept_tells_what_was_sent()
-    ensures { (t : Transfer) (h : Header) (earlier : List Datagram) (flags : ℕ → Bool) → IsTransferOf t h earlier
-        → AreFlags flags (transfer_of h earlier) → (x : Message) → Passed Out x (transfer_of h earlier) ↔ HasSentBy t flags x }
 {}
 
 /// How far each of two captures is lawful at its end, and how far those parts go together, are four numbers; and the

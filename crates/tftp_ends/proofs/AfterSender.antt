@@ -7,7 +7,8 @@ use Rattle.tftp_packet.specs.Hosts.{In, Out, Datagram}
 use Rattle.law_model.specs.Rules.{Passed, HasPassed, BlockPassed, IsGreatest, usable}
 use Rattle.tftp_ends.specs.Blocks.{Held, Placing, Places}
 use Rattle.tftp_ends.specs.{has_stopped, Sender, IsSenderAfter, Says, IsAside, IsBeforeBlocks}
-use Rattle.tftp_ends.proofs.Passing.{now_or_before, another, another_way, in_not_out, out_not_in, stopped_out, stopped_with, unusable, usable_out, usable_in, usable_has, usable_passed, greatest_kept, greatest_more, none_greatest, with_block, without_block, aside_ack, aside_zero, aside_block, aside_stopped, aside_no_block, aside_no_ack}
+use Rattle.tftp_ends.proofs.Passing.{now_or_before, another, another_way, stopped_out, stopped_with, unusable, usable_out, usable_in, usable_has, usable_passed, greatest_kept, greatest_more, none_greatest, with_block, without_block, aside_ack, aside_zero, aside_block, aside_stopped, aside_no_block, aside_no_ack}
+use Rattle.tftp_packet.proofs.HostsLemmas.Ways.{in_not_out, out_not_in}
 
 -- ---- a block goes out
 

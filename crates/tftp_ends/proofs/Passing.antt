@@ -26,12 +26,6 @@ another_way d way dir m n passed says other p = elim (now_or_before d way dir m 
 pub another : (d : Datagram) (way dir : Dir) (m n : Message) (passed : List Datagram) → Says d way m → (m ≡ n → ⊥) → Passed dir n (d ∷ passed) → Passed dir n passed
 another d way dir m n passed says other p = elim (now_or_before d way dir m n passed says p) [ inl here ↦ absurd (other here.1) | inr before ↦ before ]
 
-pub in_not_out : In ≡ Out → ⊥
-in_not_out e = absurd (cc)
-
-pub out_not_in : Out ≡ In → ⊥
-out_not_in e = absurd (cc)
-
 -- ---- ERRORs that come in
 
 pub begins_as : (d : Datagram) (m : Message) → Spells d.payload m → begins_error d ≡ (message_opcode m == 5)

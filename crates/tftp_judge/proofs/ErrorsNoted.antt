@@ -5,7 +5,8 @@ use Rattle.tftp_packet.specs.{Message}
 use Rattle.tftp_packet.specs.Hosts.{Dir, In, Out, Datagram}
 use Rattle.law_model.specs.Rules.{Passed}
 use Rattle.tftp_ends.specs.{Says}
-use Rattle.tftp_ends.proofs.Passing.{another_way, in_not_out, out_not_in, stopped_out, stopped_with}
+use Rattle.tftp_ends.proofs.Passing.{another_way, stopped_out, stopped_with}
+use Rattle.tftp_packet.proofs.HostsLemmas.Ways.{in_not_out, out_not_in}
 use Rattle.law_end.specs.{by_of, GoesOn, AbortedBy, Local, Peer, IsErrorBy, IsFirstError}
 use Rattle.law_end.proofs.Soundness.SameOrNot.{same_text}
 use Rattle.law_end.proofs.Spelled.{spelled_once}

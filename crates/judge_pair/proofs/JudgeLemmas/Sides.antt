@@ -6,7 +6,7 @@ use Rattle.law_end.proofs.Spelled.{spelled_once}
 use Rattle.law_model.specs.Rules.{route_of, is_of_transfer, transfer_of, Passed}
 use Rattle.law_end.proofs.FirstBroken.FirstAnswered.{main_none, main_some}
 use Rattle.tftp_judge.specs.{IsJudgeAfter, IsKept, Judge, Transfer, AreFlags, HasSentIn, flags_of, Refusal}
-use Rattle.law_pair.proofs.SentByKept.{sent_by_kept}
+use Rattle.judge_pair.proofs.JudgeLemmas.SentByKept.{sent_by_kept}
 use Rattle.judge_pair.specs.Counts.{AreCounted, AreTooMany, Counted}
 use Rattle.judge_pair.proofs.CountsLemmas.Growing.{many_of_many}
 use Rattle.judge_pair.specs.Judge.{AreMergedBut, IsAskedAgain, WasSent, AreSidesAfter, HasSame, IsSideAfter, Side}

@@ -291,10 +291,6 @@ pub where_ok : {T E : Type 0} (P Q : T → Type 0) (r : Result T E) → ((value 
 where_ok P Q (Ok value) to is = to value is
 where_ok P Q (Err e) to is = tt
 
-pub where_err : {T E P : Type 0} (r : Result T E) → P → OnErr r P
-where_err (Ok value) is = tt
-where_err (Err e) is = is
-
 -- ---- a first block that is alone is the join
 
 pub join_first : (held : Held) (front : ℕ) (bytes : List ℕ) → IsHeldFront held front → front ≤ 1 → finite.get held 1 ≡ Some bytes → (other : ℕ) → IsHeldFront held other → IsJoin held other bytes

@@ -3,7 +3,7 @@ use Rattle.tftp_packet.specs.{Message, Spells, Client, Server}
 use Rattle.tftp_packet.proofs.Unique.{one_message}
 use Rattle.tftp_packet.specs.Hosts.{In, Out, Datagram}
 use Rattle.law_model.specs.Rules.{route_of, is_of_transfer, Passed}
-use Rattle.tftp_ends.proofs.Passing.{in_not_out, out_not_in}
+use Rattle.tftp_packet.proofs.HostsLemmas.Ways.{in_not_out, out_not_in}
 use Rattle.law_pair.specs.{Event, AreAllOpen, IsBrought, AreMergedBy, IsShut, worked_datagram, block_of, acknowledged, at_the_client, at_the_server, captured_at}
 use Rattle.law_pair.proofs.Merged.{nothing, at_server}
 use Rattle.law_pair.proofs.MatchedCaptures.{stuck_to}

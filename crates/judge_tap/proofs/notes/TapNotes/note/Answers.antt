@@ -1,7 +1,7 @@
 use Rattle.std.proofs.Common.{◌≡◌, ◌∷◌, sym, subst, ap, ◌∙◌}
 use Rattle.tftp_packet.specs.{meaning, Spells, End, Packet}
 use Rattle.judge_tap.specs.{IsOtherError, AreNotes, AreSeen, IsNew, IsNewBlock, Notes, Seen, stop_of}
-use Rattle.tftp_ends.proofs.BlocksLemmas.Kept.{where_err}
+use Rattle.law_model.proofs.Results.{where_err}
 use Rattle.judge_tap.proofs.NotesAfter.{error_noted, quiet_noted, on_ok, on_err, not_error, stop_same, block_new, error_new}
 use Rattle.judge_tap.proofs.notes.TapNotes.note.Goals as goal
 use Rattle.judge_tap.proofs.notes.TapNotes.note.Goals.{in-Error+in_ok-note_error, in_default}

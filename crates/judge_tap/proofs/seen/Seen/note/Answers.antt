@@ -1,7 +1,7 @@
 use Rattle.std.proofs.Common.{◌≡◌, ℕ, sym, subst, rules}
 use Rattle.tftp_packet.specs.{Message, meaning, Spells, Packet}
 use Rattle.law_tap.specs.{IsOack}
-use Rattle.tftp_ends.proofs.BlocksLemmas.Kept.{where_err}
+use Rattle.law_model.proofs.Results.{where_err}
 use Rattle.judge_tap.specs.{IsNewBlock, Seen, AreSeen}
 use Rattle.judge_tap.proofs.SeenNoted.{IsQuiet, oack_seen, zero_seen, quiet_seen}
 use Rattle.judge_tap.proofs.seen.Seen.note.Goals as goal

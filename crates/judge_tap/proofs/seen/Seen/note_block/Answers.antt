@@ -1,5 +1,5 @@
 use Rattle.std.proofs.Common.{refl, sym, subst, rules}
-use Rattle.tftp_ends.proofs.BlocksLemmas.Kept.{where_err}
+use Rattle.law_model.proofs.Results.{where_err}
 use Rattle.judge_tap.specs.{Seen, AreSeen}
 use Rattle.judge_tap.proofs.SeenNoted.{block_again, block_next, block_above, block_absent}
 use Rattle.judge_tap.proofs.seen.Seen.note_block.Goals as goal

@@ -1,5 +1,5 @@
 use Rattle.std.proofs.Common.{◌∙◌, sym, ap}
-use Rattle.tftp_ends.proofs.BlocksLemmas.Kept.{where_err}
+use Rattle.law_model.proofs.Results.{where_err}
 use Rattle.law_tap.specs.{KnownWays, is_noted}
 use Rattle.law_tap.proofs.ports.TapPorts.note.Goals as goal
 

@@ -1,6 +1,6 @@
 use Rattle.std.proofs.Common.{◌≡◌, ◌∙◌, ◌||◌, ◌++◌, true, false, ap, sym}
 use Rattle.tftp_packet.specs.Hosts.{same_peer}
-use Rattle.tftp_ends.proofs.BlocksLemmas.Kept.{where_err}
+use Rattle.law_model.proofs.Results.{where_err}
 use Rattle.tftp_ends.specs.{is_noted, peers_of}
 use Rattle.tftp_ends.proofs.NotedPeers.{noted_by_order, noted_more}
 use Rattle.tftp_ends.proofs.RowLemmas.{noted_again, noted_in_two, noted_in_tree, noted_linked}

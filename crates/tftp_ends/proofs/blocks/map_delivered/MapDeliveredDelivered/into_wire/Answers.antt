@@ -1,7 +1,8 @@
 use Rattle.std.proofs.Common.{ap, sym, subst, ◌∙◌, ◌≡◌, [], Some, None, option_map, ℕ, IfOk}
 use Rattle.std.specs.FinMap as map
 use Rattle.tftp_ends.specs.Blocks.{IsHeldFront, IsJoin, JoinsSeveral, held_in}
-use Rattle.tftp_ends.proofs.BlocksLemmas.Kept.{get_in, join_whole, join_first, join_none, joins_several, where_ok, where_err}
+use Rattle.tftp_ends.proofs.BlocksLemmas.Kept.{get_in, join_whole, join_first, join_none, joins_several, where_ok}
+use Rattle.law_model.proofs.Results.{where_err}
 use Rattle.tftp_ends.proofs.blocks.map_delivered.MapDeliveredDelivered.into_wire.Goals as goal
 
 pub returns-then-front-gt1-clause-joined : goal.returns-then-front-gt1-clause-joined

@@ -3,7 +3,8 @@ use Rattle.std.specs.FinMap as map
 use Rattle.std.proofs.lemmas.Slice.Eq.{slice_eq-Decides}
 use Rattle.std.proofs.lemmas.Bool.Decides.{Decides-eqb}
 use Rattle.tftp_ends.specs.Blocks.{Takes, held_in, IsKept}
-use Rattle.tftp_ends.proofs.BlocksLemmas.Kept.{get_in, insert_in, kept_more, where_err}
+use Rattle.tftp_ends.proofs.BlocksLemmas.Kept.{get_in, insert_in, kept_more}
+use Rattle.law_model.proofs.Results.{where_err}
 use Rattle.tftp_ends.proofs.blocks.map_delivered.MapDeliveredDelivered.put.Goals as goal
 
 pub returns-then-eq-clause-ok : goal.returns-then-eq-clause-ok

@@ -1,0 +1,9 @@
+-- Ways differ.
+use Rattle.std.proofs.Common.{◌≡◌, absurd}
+use Rattle.tftp_packet.specs.Hosts.{In, Out}
+
+pub in_not_out : In ≡ Out → ⊥
+in_not_out e = absurd (cc)
+
+pub out_not_in : Out ≡ In → ⊥
+out_not_in e = absurd (cc)
