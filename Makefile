@@ -1,8 +1,7 @@
 PREFIX = /usr/local
 PROGRAM = crates/tftp_audit/out/tftp_audit
 TRANSFERS = crates/tftp_transfers/out/tftp_transfers
-BENCH = crates/tftp_bench/out/tftp_bench
-DATAGRAMS = crates/tftp_datagrams/out/tftp_datagrams
+TOOLS = crates/tests_tools/out/tests_tools
 MATCH = crates/tftp_match/out/tftp_match
 
 .PHONY: build build-for-any ready test test-here plants tables contracts bench fuzz install uninstall dist deb
@@ -51,8 +50,8 @@ contracts:
 
 # How fast the program and its libraries are, beside wc -l, a plain copy and the hex crate alone on the same bytes.
 bench: build
-	@cd crates/tftp_bench && rt run -- copy </dev/null >/dev/null
-	sh bench/run.sh $(PROGRAM) $(BENCH) $(TRANSFERS) $(MATCH)
+	@cd crates/tests_tools && rt run -- copy </dev/null >/dev/null
+	sh bench/run.sh $(PROGRAM) $(TOOLS) $(TRANSFERS) $(MATCH)
 
 # Simulated ends and networks, and changes of what passed, tried on the built program; and recordings of lawful ends, divided
 # into transfers, of which none may be blamed: make fuzz N=1000000 SEED=1, and one recording for each hundred cases. For each
@@ -69,8 +68,8 @@ fuzz: ready
 	python3 tests/worlds.py --recordings $$((2 * $(N))) --files $$(($(N) / 10 + 1)) --sessions $$(($(N) / 50 + 1)) --jobs $(JOBS) $(if $(SEED),--seed $(SEED)) $(TRANSFERS)
 	python3 tests/between.py --cases $$(($(N) / 20 + 1)) $(if $(SEED),--seed $(SEED)) $(TRANSFERS)
 	python3 tests/both.py --cases $$(($(N) / 10 + 1)) $(if $(SEED),--seed $(SEED)) $(MATCH)
-	@cd crates/tftp_datagrams && rt run -- </dev/null >/dev/null || test $$? -eq 2
-	python3 tests/datagrams.py --cases 0 --changes $$(($(N) / 10 + 1)) $(if $(SEED),--seed $(SEED)) $(DATAGRAMS)
+	@cd crates/tests_tools && rt run -- </dev/null >/dev/null || test $$? -eq 2
+	python3 tests/datagrams.py --cases 0 --changes $$(($(N) / 10 + 1)) $(if $(SEED),--seed $(SEED)) $(TOOLS)
 
 # The programs in bin; the scripts beside their modules in lib, with links in bin; the manual pages, the pages for
 # readers, the examples and what shells complete; in share the plugin of Wireshark and the schemas of JSON. The programs

@@ -1,6 +1,6 @@
 #!/bin/sh
 # How fast the program and the libraries are, and the most memory that they take, each beside `wc -l` and `cat` on the
-# same bytes: bench/run.sh PROGRAM BENCH TRANSFERS MATCH, where BENCH is the program of crates/tftp_bench, TRANSFERS the
+# same bytes: bench/run.sh PROGRAM BENCH TRANSFERS MATCH, where BENCH is the program of crates/tests_tools, TRANSFERS the
 # one that reads recordings, and MATCH the one that reads both ends. First a table of the program's commands
 # (commands.sh), then `check` beside the least that any program has to do (least.c), the texts that cost most, and both
 # ends; then a line for each call of the libraries, and for the verdicts on recordings. The texts, of up to 1 GB, stand in a

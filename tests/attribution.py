@@ -5,7 +5,7 @@ ends by the slow reference of that. Nobody may be accused: each refusal must hav
     attribution.py [--cases N] [--seed SEED] [--places PLACES] [--transfers TRANSFERS] PROGRAM
 
 Each case is one recording of reads with dense strays and repeated requests, and one session recorded at each end and
-between. The first has the seed SEED, and each further one the next number. With PLACES, the program tftp_places, what
+between. The first has the seed SEED, and each further one the next number. With PLACES, the program tests_tools, what
 that says of each of these recordings, and of each of them spoiled, is compared with the prototype: the place of every
 datagram, and the doubts of every transfer. With TRANSFERS, the program that reads recordings, each is written as a file
 too, and nobody may be accused by that program. The last line is 'N passed, M failed'; status 1 if any failed.
@@ -120,7 +120,7 @@ def words_of(arguments: list[str]) -> argparse.Namespace:
     parser = argparse.ArgumentParser(prog="attribution.py", description=(__doc__ or "").split("\n\n", maxsplit=1)[0])
     parser.add_argument("--cases", type=int, default=100, help="how many cases are tried")
     parser.add_argument("--seed", type=int, help="the seed of the first case; each further one has the next number")
-    parser.add_argument("--places", metavar="PLACES", help="the program tftp_places, which is compared with it")
+    parser.add_argument("--places", metavar="PLACES", help="the program tests_tools, whose places is compared with it")
     parser.add_argument("--transfers", metavar="TRANSFERS", default="", help="the program that reads recordings")
     parser.add_argument("program")
     words = parser.parse_args(arguments)

@@ -1,4 +1,4 @@
-"""The datagrams that tftp_datagrams lists of recordings: those of examples/ and generated ones, of all link types, both
+"""The datagrams that tests_tools lists of recordings: those of examples/ and generated ones, of all link types, both
 formats, tags, options, and fragments in any order. Each list is compared with what the recording was made of, and where
 tshark is installed with its fields; and generated ones that are changed, compared with what a slow reader finds.
 
@@ -355,7 +355,7 @@ class DatagramTrial(Trial):
 
     def tell(self, file: bytes) -> Told:
         """All that the program says of a recording."""
-        done = subprocess.run([self.program], input=file, capture_output=True, timeout=120)
+        done = subprocess.run([self.program, "datagrams"], input=file, capture_output=True, timeout=120)
         told = Told([], [], done.stderr.decode(), done.returncode, [], 0, [])
         for line in done.stdout.decode().splitlines():
             word, _, rest = line.partition(" ")

@@ -15,16 +15,13 @@ from trial import Trial
 
 # The tests whose calls take memory, by the beginnings of their names: an empty one is that of all.
 TESTS: dict[str, tuple[str, ...]] = {
-    "tftp_packet_tests": ("",),
-    "tftp_netascii_tests": ("",),
-    "tftp_ends_tests": ("",),
     "tests_net": ("copies::", "recordings::"),
-    "tftp_capture_tests": ("texts::texts_", "faults::tr"),
-    "tftp_writer_tests": (
-        *("writes::a_read_is_written", "gathered::bytes_are_gathered"),
-        *("hosts::a_read_with_its_hosts_is_written", "hosts::a_comment_is_written"),
+    "tests_wire": (
+        *("packets::", "netascii::", "captures::texts::texts_", "captures::faults::tr"),
+        *("writers::writes::a_read_is_written", "writers::gathered::bytes_are_gathered"),
+        *("writers::hosts::a_read_with_its_hosts_is_written", "writers::hosts::a_comment_is_written"),
     ),
-    "tftp_judge_tests": ("judges::a_read_is_accepted",),
+    "tests_judges": ("ends::", "judges::judges::a_read_is_accepted"),
 }
 # A test that takes more growths than these is tried with as many, spread over all of them.
 MOST = 200

@@ -199,7 +199,7 @@ class SaidTrial(ShimmedTrial):
 
     def captures_of_scripts(self) -> None:
         for case in CASES:
-            for text, said in captures(constant(f"tftp_judge_tests/src/cases/{case}.rt", "SCRIPT")):
+            for text, said in captures(constant(f"tests_judges/src/judges/cases/{case}.rt", "SCRIPT")):
                 status, line = said.split(" ", 1)
                 self.line("check", text, line, int(status))
         for host in HOSTS:
@@ -241,7 +241,7 @@ class SaidTrial(ShimmedTrial):
             self.line("count", text, count, status)
 
     def files(self) -> None:
-        for text, digits in captures(constant("tftp_judge_tests/src/cases/files.rt", "SCRIPT")):
+        for text, digits in captures(constant("tests_judges/src/judges/cases/files.rt", "SCRIPT")):
             self.says("extract", text, bytes.fromhex(digits.replace("-", "")), 0)
         six, file = capture(CLIENT, OF_SIX_BLOCKS), b"".join(b"%d" % block * 8 for block in range(1, 6)) + b"666"
         self.fail_writes("extract of six blocks", ["extract"], six, (file, 0))

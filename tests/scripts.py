@@ -1,4 +1,4 @@
-"""The scripts of crates/tftp_judge_tests and of crates/tests_trials: captures, and what is said of each. scripts.rt of
+"""The scripts of crates/tests_judges and of crates/tests_trials: captures, and what is said of each. scripts.rt of
 tests_trials says how one is written; here they are read for the built program, so that each stands once.
 """
 from __future__ import annotations

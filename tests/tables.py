@@ -39,12 +39,12 @@ def try_definition(trial: Trial) -> None:
     """The numbers and names of the table are those of the definitions."""
     decimal, quoted = r"(\d+)", r'codes "(\w+)"'
     numbers = defined("law_end/specs/Rules.antt", "number_of", decimal)
-    numbers |= defined("tftp_rules/specs/Rules.antt", "end_number", decimal)
-    numbers |= defined("tftp_rules/specs/PortNames.antt", "port_number", decimal)
+    numbers |= defined("law_model/specs/Rules/Rules.antt", "end_number", decimal)
+    numbers |= defined("law_model/specs/Rules/PortNames.antt", "port_number", decimal)
     numbers |= defined("tftp_nego/specs/AgreementNames.antt", "agreement_number", decimal)
     names = defined("law_end/specs/RuleNames.antt", "rule_name", quoted)
-    names |= defined("tftp_rules/specs/EndNames.antt", "end_name", quoted)
-    names |= defined("tftp_rules/specs/PortNames.antt", "port_name", quoted)
+    names |= defined("law_model/specs/Rules/EndNames.antt", "end_name", quoted)
+    names |= defined("law_model/specs/Rules/PortNames.antt", "port_name", quoted)
     names |= defined("tftp_nego/specs/AgreementNames.antt", "agreement_name", quoted)
     trial.check("27 rules are defined", len(numbers) == 27 and numbers.keys() == names.keys(), (numbers, names))
     of_crates = {int(numbers[rule]): names[rule] for rule in numbers}

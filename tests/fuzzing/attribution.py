@@ -1,4 +1,4 @@
-"""Which datagrams of a recording are one transfer: the definition of tftp_transfers, and of tftp_lines below it, in one
+"""Which datagrams of a recording are one transfer: the definition of audit_flows, in one
 pass, a second, slow reading with which the proved one is compared. A transfer is known by how many datagrams came
 before the request that opened it."""
 from __future__ import annotations

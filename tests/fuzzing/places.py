@@ -1,4 +1,4 @@
-"""Compares the places, doubts and views that tftp_places prints of recordings with those of the definition, as
+"""Compares the places, doubts and views that tests_tools prints of recordings with those of the definition, as
 attribution.py has it."""
 from __future__ import annotations
 
@@ -10,14 +10,14 @@ from ipaddress import ip_address
 from fuzzing.attribution import ERROR_5, Attribution, Datagram, Endpoint, Transfer, attributed, begins
 
 
-# The doubts of a transfer that tftp_places tells by name; of the others it tells `doubted`.
+# The doubts of a transfer that tests_tools tells by name; of the others it tells `doubted`.
 WORDS = ("late", "disordered", "again", "apart")
 # What it tells of a datagram beside its place, and is compared.
 OF_DATAGRAMS = ("earlier", "terms")
 
 
 def row(it: Datagram) -> str:
-    """A datagram as tftp_places reads it."""
+    """A datagram as tests_tools reads it."""
     ends = (word for end in (it.source, it.target) for word in (ip_address(end.host).packed.hex(), str(end.port)))
     return " ".join((str(it.nanoseconds()), *ends, it.payload.hex() or "-"))
 
@@ -57,7 +57,7 @@ def told(found: Attribution) -> list[str]:
 
 
 def said(lines: list[str]) -> list[str]:
-    """What tftp_places says of one, in the same words."""
+    """What tests_tools says of one, in the same words."""
     rows: list[str] = []
     since: dict[str, int] = {}
     for number, line in enumerate(lines):
@@ -98,9 +98,9 @@ def spoiled(seed: int, recording: list[Datagram]) -> list[Datagram]:
 
 
 def differences(program: str, recordings: list[list[Datagram]]) -> list[str]:
-    """Where tftp_places says other than the prototype, a line each."""
+    """Where tests_tools says other than the prototype, a line each."""
     text = "\n\n".join("\n".join(map(row, recording)) for recording in recordings) + "\n"
-    ran = subprocess.run([program], input=text.encode(), capture_output=True, check=False)
+    ran = subprocess.run([program, "places"], input=text.encode(), capture_output=True, check=False)
     if ran.returncode or ran.stderr:
         return [f"{program} ended with status {ran.returncode} and wrote {ran.stderr!r}"]
     answers = ran.stdout.decode().split("end\n")[:-1]
