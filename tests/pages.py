@@ -33,18 +33,15 @@ FENCED = re.compile(r"(?ms)^```(\w*)\n(.*?)^```$")
 # "(`clause`, `other`)"
 IN_BRACKETS = re.compile(r"\((?:`\w+`(?:, )?)+\)")
 # The crates of which docs/PROOF.md names each file.
-MAPPED = (
-    "tftp_hosts", "tftp_model", "tftp_rules", "tftp_blocks", "tftp_ends", "law_end", "tftp_judge", "tftp_normal",
-    "tftp_commands",
-)
+MAPPED = ("law_model", "tftp_ends", "law_end", "tftp_judge", "tftp_normal", "tftp_commands")
 QUOTED = re.compile(r"`([^`]+)`")
 # "`crate` needs `other`, `another` and `third`"
-NEEDS = re.compile(r"`(tftp_\w+)` needs ((?:`tftp_\w+`(?:, | and )?)+)")
+NEEDS = re.compile(r"`(\w+)` needs ((?:`\w+`(?:, | and )?)+)")
 # "law `name`", "laws `one` (`its_clause`), `two` and `three`"
 LAWS = re.compile(r"\blaws? ((?:`\w+`(?: \((?:`\w+`(?:, )?)+\))?(?:, and |, | and )?)+)")
 WITH_CLAUSES = re.compile(r"`(\w+)` \(((?:`\w+`(?:, )?)+)\)")
 # "(`crate`: Module, Module; `crate`: Module)"
-MODULES = re.compile(r"`(tftp_\w+)`: ((?:[A-Z]\w*(?:, )?)+)")
+MODULES = re.compile(r"`([a-z]+_\w+)`: ((?:[A-Z]\w*(?:, )?)+)")
 # one_name, OtherName
 IN_PICTURE = re.compile(r"\b[a-z]+(?:_[a-z]+)+\b|\b[A-Z][a-z]+(?:[A-Z][a-z]+)+\b")
 
@@ -216,7 +213,7 @@ def try_contracts(trial: Trial, sources: Sources) -> None:
     for name, clauses in WITH_CLAUSES.findall(told):
         for clause in QUOTED.findall(clauses):
             trial.check(f"the clause {clause} of {name} in CONTRACTS.md", clause in sources.functions.get(name, set()))
-    for crate in re.findall(r"(?m)^### (tftp_\w+)$", text):
+    for crate in re.findall(r"(?m)^### (\w+)$", text):
         there = (TOP / "docs" / "contracts" / f"{crate}.md").exists()
         trial.check(f"the section on {crate} in CONTRACTS.md", there)
 
