@@ -8,10 +8,10 @@ ghost use Rattle.law_end.specs.{Shows};
 use std::alloc::{AllocError, Global};
 use std::io;
 use std::process::ExitCode;
-use tftp_ends::blocks::RingDelivered;
 use tftp_capture::{Datagram, Header};
-use tftp_packet::hosts::{Dir, Host};
+use tftp_ends::blocks::RingDelivered;
 use tftp_judge::{Judge, Meaning, Refusal};
+use tftp_packet::hosts::{Dir, Host};
 use tftp_packet::{Bytes, End};
 
 /// Ends with status 2 where memory or a write failed.

@@ -1,10 +1,10 @@
 //! Writes the normal text of the capture on standard input, and nothing of one that is not accepted.
 #![tactic(auto)]
 
+use net_streams::streams::{Latched, LineWriter};
 use std::io;
 use std::process::ExitCode;
 use tftp_normal::normalise;
-use net_streams::streams::{Latched, LineWriter};
 
 /// Ends with status 2, and tells why on standard error, where no normal text was written, or only a part of one.
 fn main(rt: HostRuntime) -> ExitCode {

@@ -3,10 +3,10 @@
 #![tactic(auto)]
 
 use anyhow::Result;
+use net_streams::streams::Latched;
+use net_udp::recording::{Event, Fate, RecordingReader};
 use std::io::Read;
 use std::process::ExitCode;
-use net_udp::recording::{Event, Fate, RecordingReader};
-use net_streams::streams::Latched;
 
 /// Ends with status 2, and tells why on standard error, where the recording was not read to its end.
 fn main(rt: HostRuntime) -> ExitCode {

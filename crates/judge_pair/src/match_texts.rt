@@ -8,6 +8,6 @@ mod reading;
 mod rest;
 mod said;
 
+pub use crate::judge::{Matched, Wait};
 pub use pair::judge_pair;
 pub use said::{Apart, PairSaid};
-pub use crate::judge::{Matched, Wait};

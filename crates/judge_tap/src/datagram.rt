@@ -1,5 +1,5 @@
-use tftp_packet::hosts::Peer;
 use tftp_packet::Bytes;
+use tftp_packet::hosts::Peer;
 
 /// A datagram that passed between the ends: where it came from, where it went, and what it carried (RFC 768; RFC 1350, section
 /// 4).

@@ -8,11 +8,11 @@ ghost use Rattle.judge_tap.specs.declared.refusal.TapRefusal.{TapRefusal as Refu
 use crate::datagram::TapDatagram;
 use crate::keeping::TapState;
 use crate::refusal::TapRefusal;
+use law_tap::Sides;
 use std::alloc::Global;
 use std::marker::Model;
 use tftp_ends::blocks::Delivered;
 use tftp_judge::{Meaning, PassError};
-use law_tap::Sides;
 
 /// The judge of a capture that was taken at a point between the ends, datagram by datagram (RFC 1350; RFC 2347; RFC 7440). It is
 /// told who the client is, where it asks and who the server is. It keeps no list of datagrams: what it keeps are the ways that

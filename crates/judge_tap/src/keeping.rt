@@ -9,17 +9,17 @@ ghost use Rattle.tftp_judge.specs.declared.pass_error.PassError.{PassError as Pa
 use crate::datagram::TapDatagram;
 use crate::notes::TapNotes;
 use crate::transfer::{TapTransfer, receiver_of_file};
-use std::alloc::Global;
-use std::marker::Model;
-use tftp_ends::blocks::Delivered;
-use tftp_capture::Datagram;
-use tftp_ends::says_unknown_id;
-use tftp_packet::hosts::{Dir, Peer};
-use tftp_judge::PassError;
 use law_end::Rule;
-use tftp_packet::{End, Packet, Request, opcode, own_request, read_packet};
 use law_model::rules::PortRule;
 use law_tap::{Sides, TapPorts, TapRoute};
+use std::alloc::Global;
+use std::marker::Model;
+use tftp_capture::Datagram;
+use tftp_ends::blocks::Delivered;
+use tftp_ends::says_unknown_id;
+use tftp_judge::PassError;
+use tftp_packet::hosts::{Dir, Peer};
+use tftp_packet::{End, Packet, Request, opcode, own_request, read_packet};
 
 /// What is kept of the datagrams that have passed between the ends: the ways that they went, and the transfer from its first
 /// request on.

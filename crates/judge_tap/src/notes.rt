@@ -9,12 +9,12 @@ ghost use Rattle.judge_tap.specs.TapFinds.{FindsRule, IsOtherError, IsReadOf, Me
 use crate::errors::StoppedEnd;
 use crate::seen::{Marks, Seen};
 use crate::transfer::receiver_of_file;
+use law_end::Rule;
+use law_model::rules::EndRule;
 use std::alloc::{AllocError, Global};
 use std::marker::Model;
 use tftp_judge::is_wrong_kind;
-use law_end::Rule;
 use tftp_packet::{End, Packet, PacketFault, Request, Side, same_request};
-use law_model::rules::EndRule;
 
 /// What has passed of a transfer between its ends, and what had passed before the first ERROR of each (RFC 1350, section 7).
 #[derive(Drop)]

@@ -2,8 +2,8 @@ ghost use Rattle.std.specs.Prelude.{◌≡◌};
 ghost use Rattle.law_tap.specs.{is_of_ports};
 ghost use Rattle.judge_tap.specs.TapStops.{smaller_of, error_by_refusal};
 
-use tftp_judge::{PassError, Refusal};
 use law_end::Rule;
+use tftp_judge::{PassError, Refusal};
 
 /// Why the judge at an end does not go on.
 pub fn error_of(refusal: Refusal) -> PassError

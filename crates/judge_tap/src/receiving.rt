@@ -11,8 +11,8 @@ ghost use Rattle.tftp_judge.specs.declared.pass_error.PassError.{PassError as Pa
 use crate::pass_error::error_of;
 use std::alloc::Global;
 use std::marker::Model;
-use tftp_ends::blocks::Delivered;
 use tftp_capture::{Datagram, Header};
+use tftp_ends::blocks::Delivered;
 use tftp_judge::{Judge, Meaning, PassError, Refusal};
 use tftp_packet::{End, opcode};
 

@@ -14,12 +14,12 @@ use crate::notes::TapNotes;
 use crate::pass_error::first_of;
 use crate::receiving::Receiving;
 use crate::refusal::TapRefusal;
+use law_end::Rule;
 use std::alloc::Global;
 use std::marker::Model;
-use tftp_ends::blocks::Delivered;
 use tftp_capture::Datagram;
+use tftp_ends::blocks::Delivered;
 use tftp_judge::{Meaning, PassError, Refusal};
-use law_end::Rule;
 use tftp_packet::{End, Packet, Request, Side, read_packet};
 
 /// A transfer between its ends from its first request on: what was asked for, what the end that gets the file would make of it,

@@ -2,9 +2,9 @@ ghost use Rattle.std.specs.Prelude.{◌≡◌};
 ghost use Rattle.law_end.specs.RuleNames.{rule_name};
 ghost use Rattle.law_end.specs.Rules.{number_of};
 
+use law_model::rules::{EndRule, PortRule};
 use tftp_nego::AgreementRule;
 use tftp_packet::PacketFault;
-use law_model::rules::{EndRule, PortRule};
 
 /// A rule that a datagram may break, in the order in which the rules are tried.
 #[derive(Clone, Copy, Debug, PartialEq, Eq)]

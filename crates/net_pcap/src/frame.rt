@@ -8,10 +8,10 @@ use crate::fault::FaultKind;
 use crate::next::next_place;
 use crate::place::Place;
 use crate::step::Pieces;
+use net_streams::streams::Latched;
 use std::alloc::Global;
 use std::io::Read;
 use std::marker::Model;
-use net_streams::streams::Latched;
 
 /// Which way a frame went, where the recording says so.
 #[derive(Clone, Copy, Debug, PartialEq, Eq)]

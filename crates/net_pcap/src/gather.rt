@@ -2,8 +2,8 @@ ghost use Rattle.std.specs.Prelude.{◌≡◌, ◌≢◌, ◌<◌, ◌≤◌, �
 ghost use Rattle.std.specs.Io.KnownBytes.{prepend_known, Consumes, IsAtEnd};
 
 use crate::fault::FaultKind;
-use std::io::Read;
 use net_streams::streams::{Latched, ReadBuffer};
+use std::io::Read;
 
 /// Reads on into what was read of a piece until it has so many bytes; false where the recording ends before.
 pub fn gather<R: Read>(

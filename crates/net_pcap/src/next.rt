@@ -9,8 +9,8 @@ use crate::fault::FaultKind;
 use crate::found::Found;
 use crate::place::Place;
 use crate::step::Pieces;
-use std::io::Read;
 use net_streams::streams::Latched;
+use std::io::Read;
 
 /// Where the frame lies that was found, if it is one.
 #[inline]

@@ -10,8 +10,8 @@ use crate::layout::{Layout, NamedInterface};
 use crate::pieces::{said_by, skipped_in};
 use crate::sizes::{begins_as_one, front_of, size_of};
 use crate::skip::skip_rest;
-use std::io::Read;
 use net_streams::streams::{Latched, ReadBuffer};
+use std::io::Read;
 
 /// What the end of the recording is within the first bytes of a piece: the end after the pieces before it, or a fault.
 fn ended(layout: Layout, piece: &[u8]) -> Result<Option<usize>, FaultKind>

@@ -9,10 +9,10 @@ use crate::fault::{FaultKind, PcapFault};
 use crate::frame::Frame;
 use crate::layout::Layout;
 use crate::step::Pieces;
+use net_streams::streams::{Latched, Standing};
 use std::alloc::Global;
 use std::io::Read;
 use std::marker::Model;
-use net_streams::streams::{Latched, Standing};
 
 /// A reader of a recording's frames, classic or of blocks: it holds at most 65,536 bytes read ahead and the interfaces of a
 /// section.

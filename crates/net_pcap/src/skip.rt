@@ -9,8 +9,8 @@ use crate::fault::FaultKind;
 use crate::found::Found;
 use crate::gather::gather;
 use crate::numbers::Order;
-use std::io::Read;
 use net_streams::streams::{Latched, ReadBuffer};
+use std::io::Read;
 
 /// Reads on over so many bytes, of which none is held; false where the recording ends before.
 fn skip<R: Read>(

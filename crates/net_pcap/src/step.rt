@@ -10,10 +10,10 @@ use crate::found::Found;
 use crate::layout::{Layout, NamedInterface};
 use crate::losses::{miss, report};
 use crate::read::{read_front, read_rest};
+use net_streams::streams::{Latched, ReadBuffer};
 use std::alloc::{AllocError, Global};
 use std::io::Read;
 use std::marker::Model;
-use net_streams::streams::{Latched, ReadBuffer};
 
 /// The most records and blocks of a recording.
 const MOST_PIECES: u64 = 1 << 40;

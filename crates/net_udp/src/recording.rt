@@ -10,6 +10,7 @@ mod senders;
 mod sent;
 mod taken;
 
+pub use crate::frames::Checksum;
 pub use event::Event;
 pub use fate::{Datagram, Fate, LeftOut};
 pub use laws::{
@@ -17,4 +18,3 @@ pub use laws::{
     worked_copies, worked_discarded, worked_fragments, worked_protocols,
 };
 pub use reader::RecordingReader;
-pub use crate::frames::Checksum;

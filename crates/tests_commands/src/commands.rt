@@ -1,10 +1,10 @@
 //! The commands, each once: what they say of many texts is tried on the built program.
 
-use std::test::Fail;
-use tftp_commands::run;
 use net_streams::streams::{Latched, LineWriter};
+use std::test::Fail;
 use tests_trials::drip::{DripReader, DripWriter};
 use tests_trials::texts::READ;
+use tftp_commands::run;
 
 mod pipes;
 

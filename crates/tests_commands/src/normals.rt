@@ -1,14 +1,14 @@
 //! Normal texts of accepted captures, by the calls: what is said of them the tests of the judge try.
 
+use net_streams::streams::{Latched, LineWriter};
 use std::alloc::AllocError;
 use std::test::Fail;
-use tftp_judge::{Meaning, Verdict, judge_text};
-use tftp_normal::{NormalFault, normal_capture, normal_count, normalise};
-use net_streams::streams::{Latched, LineWriter};
 use tests_trials::drip::{DripReader, DripWriter};
 use tests_trials::normals::SCRIPT;
 use tests_trials::scripts::Script;
 use tests_trials::texts::READ;
+use tftp_judge::{Meaning, Verdict, judge_text};
+use tftp_normal::{NormalFault, normal_capture, normal_count, normalise};
 
 /// The room of a writer, more than any test writes.
 const ROOM: usize = 65_536;

@@ -1,8 +1,8 @@
 //! Which packets are told to be copies.
 
+use net_udp::copies::{Interface, Recent};
 use std::alloc::AllocError;
 use std::test::Fail;
-use net_udp::copies::{Interface, Recent};
 
 /// A packet that is taken: its interface, its time, its bytes, and whether it is a copy.
 type Taken = (Interface, Option<u64>, &'static [u8], bool);

@@ -1,10 +1,10 @@
 //! A recording of twelve frames of raw IP: what became of each, and what was told with it.
 
 use crate::fragments::let_go_any;
-use std::test::Fail;
 use net_pcap::{FaultKind, PcapFault};
-use net_udp::recording::{Event, Fate, LeftOut, RecordingReader};
 use net_streams::streams::Latched;
+use net_udp::recording::{Event, Fate, LeftOut, RecordingReader};
+use std::test::Fail;
 use tests_trials::comparing::is_so;
 use tests_trials::drip::DripReader;
 

@@ -1,12 +1,12 @@
 //! Lists the UDP datagrams of a recording on standard input, and the frames that are none, a line each: what the tests
 //! compare with the fields that other programs read.
 
+use net_pcap::{Direction, PcapFault};
+use net_streams::streams::Latched;
+use net_udp::fragments::Fragments;
+use net_udp::recording::{Checksum, Datagram, Event, Fate, LeftOut, RecordingReader};
 use std::alloc::Global;
 use std::io;
-use net_udp::fragments::Fragments;
-use net_pcap::{Direction, PcapFault};
-use net_udp::recording::{Checksum, Datagram, Event, Fate, LeftOut, RecordingReader};
-use net_streams::streams::Latched;
 
 /// Lists what a recording has; whether it is one to its end.
 pub fn list(rt: HostRuntime) -> io::Result<bool> {

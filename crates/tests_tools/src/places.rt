@@ -8,11 +8,11 @@
 //! its client saw and one with those that its server saw, and the line `end`.
 
 use anyhow::{Result, bail};
+use audit_flows::lines::{Address, Endpoint, Place, spells_request};
+use audit_flows::transfers::{Attributed, Attribution, TransferDoubts, TransferEnds};
 use hex::FromHex;
 use std::alloc::Global;
 use std::io::{BufRead, BufReader};
-use audit_flows::lines::{Address, Endpoint, Place, spells_request};
-use audit_flows::transfers::{Attributed, Attribution, TransferDoubts, TransferEnds};
 
 /// Lists the recordings on standard input.
 pub fn list(rt: HostRuntime) -> Result<()> {

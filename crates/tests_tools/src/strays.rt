@@ -5,8 +5,8 @@ use std::alloc::Global;
 use std::io;
 use std::io::{ErrorKind, Read};
 use tftp_ends::{PortFault, Ports, Route};
-use tftp_packet::hosts::{Dir, Host};
 use tftp_packet::End;
+use tftp_packet::hosts::{Dir, Host};
 
 /// The most bytes that are read at once, two for each port.
 const PIECE: usize = 65_536;

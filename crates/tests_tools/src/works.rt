@@ -3,16 +3,16 @@
 use crate::stores::{Order, fill_stores};
 use crate::strays::count_strays;
 use memchr::{memchr, memrchr};
+use net_streams::streams::{Latched, LineWriter};
+use net_udp::recording::{Event, Fate, RecordingReader};
 use std::alloc::Global;
 use std::io;
 use std::io::{ErrorKind, Read, Write};
-use tftp_ends::blocks::{MapDelivered, RingDelivered};
 use tftp_capture::{CaptureReader, CaptureWriter, Datagram, Header};
-use tftp_packet::hosts::Dir;
+use tftp_ends::blocks::{MapDelivered, RingDelivered};
 use tftp_netascii::{Decoder, encode};
 use tftp_packet::End;
-use net_udp::recording::{Event, Fate, RecordingReader};
-use net_streams::streams::{Latched, LineWriter};
+use tftp_packet::hosts::Dir;
 
 /// The most bytes that are read at once.
 const PIECE: usize = 65_536;

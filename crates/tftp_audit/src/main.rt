@@ -1,10 +1,10 @@
 //! Audits a text capture of one TFTP transfer.
 #![tactic(auto)]
 
+use net_streams::streams::{Latched, LineWriter};
 use std::process::ExitCode;
 use std::{env, io};
 use tftp_commands::run;
-use net_streams::streams::{Latched, LineWriter};
 
 /// Ends with status 2, and no output, where it can't get its words.
 fn main(rt: HostRuntime) -> ExitCode {

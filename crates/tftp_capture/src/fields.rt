@@ -13,8 +13,8 @@ use crate::version::Version;
 use hex::FromHexError;
 use itoa::Buffer;
 use net_streams::digits::decode;
-use tftp_packet::hosts::{Dir, Host};
 use tftp_packet::End;
+use tftp_packet::hosts::{Dir, Host};
 
 /// The most bytes of a payload: the 65,535 that a UDP length counts, less the header's 8 (RFC 768).
 pub const LONGEST_PAYLOAD: usize = 65_527;

@@ -12,14 +12,14 @@ ghost use Rattle.net_streams.specs.Streams.{most_ahead, most_of_line};
 use crate::datagram::Datagram;
 use crate::fields::{LONGEST_PAYLOAD, fill_payload};
 use crate::version::Version;
+use net_streams::digits::decode_on;
+use net_streams::streams::{Latched, ReadBuffer};
 use std::alloc::Global;
 use std::io::Read;
 use std::marker::Model;
 use std::simd::prelude::*;
 use std::{io, mem};
-use net_streams::digits::decode_on;
 use tftp_packet::hosts::{Dir, Host};
-use net_streams::streams::{Latched, ReadBuffer};
 
 /// The most bytes of a head that is kept: `out`, a port of five digits, a host of 45 bytes, a port and four spaces.
 pub const LONGEST_HEAD: usize = 62;

@@ -11,10 +11,10 @@ use crate::datagram::Header;
 use crate::spelled_head::SpelledHeads;
 use crate::version::Version;
 use crate::writer::{finish, put_datagram, put_header};
+use net_streams::streams::{LineWriter, WriteFault};
 use std::io::Write;
 use std::marker::Model;
 use tftp_packet::hosts::{Dir, Host};
-use net_streams::streams::{LineWriter, WriteFault};
 
 /// A capture text that is being written in its canonical form of version 2, in which each datagram names its host:
 /// contracts see the number of its datagrams. All its calls are to be made with the same writer of lines.

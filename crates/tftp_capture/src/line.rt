@@ -6,8 +6,8 @@ ghost use Rattle.net_streams.specs.Streams.{most_ahead, most_of_line};
 use crate::fault::TextFault;
 use crate::line_error::LineError;
 use memchr::memchr;
-use std::io::Read;
 use net_streams::streams::{Latched, ReadBuffer};
+use std::io::Read;
 
 /// How many bytes stand before the first of that value, or before the end where there is none.
 #[inline]

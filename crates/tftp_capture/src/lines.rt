@@ -11,10 +11,10 @@ use crate::heads::Heads;
 use crate::line::{count_before, read_line};
 use crate::line_error::LineError;
 use crate::version::Version;
+use net_streams::streams::{Latched, ReadBuffer};
 use std::alloc::{AllocError, Global};
 use std::io::Read;
 use std::marker::Model;
-use net_streams::streams::{Latched, ReadBuffer};
 
 /// The most bytes of a text.
 const LONGEST_TEXT: u64 = 1 << 40;

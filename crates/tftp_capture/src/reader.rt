@@ -13,10 +13,10 @@ use crate::heads::Heads;
 use crate::line_error::LineError;
 use crate::lines::Lines;
 use crate::version::Version;
+use net_streams::streams::{Latched, Standing};
 use std::alloc::Global;
 use std::io::Read;
 use std::marker::Model;
-use net_streams::streams::{Latched, Standing};
 
 /// A reader of a capture text: it holds one line of at most 131,070 bytes, in version 2 of 131,116, at most 65,536 bytes
 /// read ahead, and the memory of one payload more than the caller, that of the last one that went the other way.

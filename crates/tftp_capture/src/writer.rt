@@ -10,11 +10,11 @@ use crate::datagram::Header;
 use crate::spelled_head::SpelledHeads;
 use crate::version::Version;
 use itoa::Buffer;
+use net_streams::streams::{LineWriter, WriteFault};
 use std::io::Write;
 use std::marker::Model;
-use tftp_packet::hosts::{Dir, Host};
 use tftp_packet::End;
-use net_streams::streams::{LineWriter, WriteFault};
+use tftp_packet::hosts::{Dir, Host};
 
 /// A capture text that is being written in its canonical form, which names no host: contracts see the number of its
 /// datagrams. All its calls are to be made with the same writer of lines.

@@ -6,9 +6,9 @@ ghost use Rattle.tftp_commands.specs.Outputs.{Prints};
 use crate::output::write_out;
 use crate::status::Status;
 use crate::verdicts::{put_accepted, put_verdict, status_of};
+use net_streams::streams::LineWriter;
 use std::io::Write;
 use tftp_judge::{Meaning, Verdict};
-use net_streams::streams::LineWriter;
 
 /// Says what a text means that is accepted.
 pub fn say_accepted<W: Write>(writer: &mut LineWriter<W>, meaning: &Meaning) -> Status

@@ -9,11 +9,11 @@ use crate::show::show;
 use crate::status::Status;
 use crate::verdicts::status_of;
 use crate::words::Action;
+use net_streams::streams::{Latched, LineWriter};
 use std::alloc::Global;
 use std::io::{Read, Write};
 use tftp_judge::{OutFault, extract, judge_text};
 use tftp_normal::{NormalFault, normalise};
-use net_streams::streams::{Latched, LineWriter};
 
 /// Runs a command. `check` says in one line what a capture text means, and `count` how many datagrams its normal capture has;
 /// both say why a text is not accepted. `extract` writes its file (RFC 1350, section 1), and `normal` its normal text, and

@@ -6,10 +6,10 @@ ghost use Rattle.tftp_commands.specs.Outputs.{Prints};
 use crate::output::write_out;
 use crate::status::Status;
 use itoa::Buffer;
+use net_streams::streams::{LineWriter, WriteFault};
 use std::io::Write;
 use tftp_judge::Meaning;
 use tftp_normal::normal_count;
-use net_streams::streams::{LineWriter, WriteFault};
 
 /// Says how many datagrams the normal capture has.
 pub fn say_counted<W: Write>(writer: &mut LineWriter<W>, meaning: &Meaning) -> Status

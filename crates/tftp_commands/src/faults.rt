@@ -4,9 +4,9 @@ ghost use Rattle.tftp_commands.specs.Outputs.{fault_line};
 
 use crate::names::text_fault_name;
 use itoa::Buffer;
+use net_streams::streams::{LineWriter, WriteFault};
 use std::io::Write;
 use tftp_capture::CaptureFault;
-use net_streams::streams::{LineWriter, WriteFault};
 
 /// Adds the line of a fault.
 pub fn put_fault<W: Write>(

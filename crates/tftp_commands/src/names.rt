@@ -4,8 +4,8 @@ ghost use Rattle.tftp_capture.specs.{dir_word};
 ghost use Rattle.tftp_commands.specs.Names.{by_name as by_word, packet_fault_name as packet_fault_word, request_name as request_word, side_name as side_word, text_fault_name as text_fault_word};
 
 use tftp_capture::TextFault;
-use tftp_packet::hosts::Dir;
 use tftp_judge::AbortedBy;
+use tftp_packet::hosts::Dir;
 use tftp_packet::{Mode, PacketFault, Side};
 
 /// The word that a verdict has for the side.

@@ -3,8 +3,8 @@ ghost use Rattle.net_streams.specs.Streams.{IsFresh};
 ghost use Rattle.tftp_commands.specs.Outputs.{Output, Prints};
 
 use crate::status::Status;
-use std::io::Write;
 use net_streams::streams::LineWriter;
+use std::io::Write;
 
 /// Writes what waits, and answers the status, or that of a fault where a write failed.
 pub fn write_out<W: Write>(writer: &mut LineWriter<W>, status: Status) -> Status

@@ -10,10 +10,10 @@ use crate::command::run_command;
 use crate::output::say;
 use crate::status::Status;
 use crate::words::{UsageFault, action_of};
+use net_streams::streams::{Latched, LineWriter};
 use std::alloc::Global;
 use std::convert::AsStr;
 use std::io::{Read, Write};
-use net_streams::streams::{Latched, LineWriter};
 
 /// Runs the command that the words name, the first of which is the program's name: reads a capture text, and writes
 /// lines, a file or a normal text. After a write that fails nothing more is written.

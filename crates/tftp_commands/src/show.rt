@@ -11,11 +11,11 @@ use crate::names::{dir_name, packet_fault_name, request_name};
 use crate::output::write_out;
 use crate::status::Status;
 use itoa::Buffer;
+use net_streams::streams::{Latched, LineWriter, WriteFault};
 use std::alloc::Global;
 use std::io::{Read, Write};
 use tftp_capture::{CaptureFault, CaptureReader, Datagram};
 use tftp_packet::{Packet, read_packet};
-use net_streams::streams::{Latched, LineWriter, WriteFault};
 
 /// Shows the datagrams of a capture text, up to its end or its first fault, as they come: a line each, numbered from
 /// 1. Nothing is judged; at most one line of the text, 65,536 bytes read ahead and 16,384 bytes to be written are held.

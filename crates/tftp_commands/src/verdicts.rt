@@ -7,9 +7,9 @@ use crate::faults::put_fault;
 use crate::names::{by_name, mode_name, packet_fault_name, side_name};
 use crate::status::Status;
 use itoa::Buffer;
+use net_streams::streams::{LineWriter, WriteFault};
 use std::io::Write;
 use tftp_judge::{AbortedBy, Meaning, Refusal, Rule, Verdict};
-use net_streams::streams::{LineWriter, WriteFault};
 
 /// The status that goes with a text that is not accepted.
 pub fn status_of(verdict: Verdict) -> Status

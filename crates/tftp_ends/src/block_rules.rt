@@ -10,11 +10,11 @@ ghost use Rattle.tftp_ends.specs.Rejections.{CannotHold};
 ghost use Rattle.tftp_ends.specs.States.{AreBlocks, HasLengthBySize, IsHeld};
 ghost use Rattle.tftp_ends.specs.StatesKept.{IsSound, IsShortTop, AreWhole, IsEnd, HasNoEnd, EndsElsewhere, EndsThere, HasRightLength, IsKnown};
 
-use crate::rejection::Rejection;
-use std::alloc::Global;
 use crate::blocks::{Delivered, PutOutcome};
-use tftp_packet::Side;
+use crate::rejection::Rejection;
 use law_model::rules::{EndRule, Reply, Terms};
+use std::alloc::Global;
+use tftp_packet::Side;
 
 /// Whether blocks wait for an ACK 0 (RFC 1350, section 4; RFC 2347). `zero` tells whether one has passed.
 fn blocks_wait(terms: &Terms, zero: bool) -> bool

@@ -8,15 +8,15 @@ ghost use Rattle.tftp_ends.specs.States.{has_stopped, IsBeforeBlocks, IsBlockOrA
 ghost use Rattle.tftp_ends.specs.NamedEnds.{terms_of, held_of, IsEndAfter, IsEndDone, HoldsBlock, HoldsWire};
 ghost use Rattle.tftp_ends.specs.declared.rejection.Rejection.{Rejection as RejectionKind};
 
+use crate::blocks::Delivered;
 use crate::receiver_state::ReceiverState;
 use crate::rejection::Rejection;
 use crate::sender_state::SenderState;
+use law_model::rules::Terms;
 use std::alloc::Global;
 use std::marker::Model;
-use crate::blocks::Delivered;
 use tftp_packet::hosts::Dir;
 use tftp_packet::{End, Packet, Side};
-use law_model::rules::Terms;
 
 /// Which role the named end has.
 #[derive(Drop)]

@@ -17,12 +17,12 @@ ghost use Rattle.tftp_ends.specs.Known.{
 
 use crate::route::Route;
 use crate::strays::Strays;
+use law_model::rules::PortRule;
 use std::alloc::{AllocError, Global};
 use std::convert::From;
 use std::marker::Model;
-use tftp_packet::hosts::{Dir, Host, Peer};
 use tftp_packet::End;
-use law_model::rules::PortRule;
+use tftp_packet::hosts::{Dir, Host, Peer};
 
 /// Why a datagram is none of the transfer, nor a stray.
 #[derive(Clone, Copy, Debug, PartialEq, Eq)]

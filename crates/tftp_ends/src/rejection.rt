@@ -1,6 +1,6 @@
+use law_model::rules::EndRule;
 use std::alloc::AllocError;
 use std::convert::From;
-use law_model::rules::EndRule;
 
 /// Why a packet does not pass at an end.
 #[derive(Clone, Copy, Debug, PartialEq, Eq)]

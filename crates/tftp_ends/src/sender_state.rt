@@ -20,13 +20,13 @@ ghost use Rattle.tftp_ends.specs.States.{
 ghost use Rattle.tftp_ends.specs.declared.rejection.Rejection.{Rejection as RejectionKind};
 
 use crate::block_rules::{ack_zero_waits, hold_block, last_block, may_open};
+use crate::blocks::Delivered;
 use crate::rejection::Rejection;
+use law_model::rules::{EndRule, Terms};
 use std::alloc::Global;
 use std::marker::Model;
-use crate::blocks::Delivered;
-use tftp_packet::hosts::Dir;
 use tftp_packet::Packet;
-use law_model::rules::{EndRule, Terms};
+use tftp_packet::hosts::Dir;
 
 /// The end that sends the file, from when the request is answered. It keeps the blocks and a few numbers, and no list of
 /// what has passed.

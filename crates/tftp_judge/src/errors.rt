@@ -11,10 +11,10 @@ ghost use Rattle.tftp_judge.specs.Kept.{AreErrors, ErrorText as ErrorParts};
 ghost use Rattle.tftp_judge.specs.Memory.{IsNew};
 
 use crate::refusal::Refusal;
+use law_end::AbortedBy;
 use std::alloc::{AllocError, Global};
 use std::marker::Model;
 use tftp_packet::hosts::Dir;
-use law_end::AbortedBy;
 use tftp_packet::{Bytes, Packet};
 
 /// An ERROR that has passed (RFC 1350, section 5).

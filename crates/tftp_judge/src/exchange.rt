@@ -14,8 +14,8 @@ ghost use Rattle.tftp_judge.specs.declared.pass_error.PassError.{PassError as Pa
 use crate::first_oack::FirstOack;
 use crate::pass_error::PassError;
 use std::alloc::Global;
-use tftp_ends::blocks::Delivered;
 use tftp_ends::NamedEnd;
+use tftp_ends::blocks::Delivered;
 use tftp_packet::hosts::Dir;
 use tftp_packet::{OptionsView, Packet, same_options};
 

@@ -7,10 +7,10 @@ ghost use Rattle.tftp_judge.specs.declared.verdict.Verdict.{Verdict as Refused};
 
 use crate::text::judge_text;
 use crate::verdict::Verdict;
+use net_streams::streams::{Latched, LineWriter, WriteFault};
 use std::alloc::Global;
 use std::convert::From;
 use std::io::{Read, Write};
-use net_streams::streams::{Latched, LineWriter, WriteFault};
 
 /// Why a file was not written, or not whole.
 #[derive(Clone, Copy, Debug, PartialEq, Eq)]

@@ -18,8 +18,8 @@ use crate::refusal::Refusal;
 use crate::sent_acks::SentAcks;
 use std::alloc::Global;
 use std::marker::Model;
-use tftp_ends::blocks::Delivered;
 use tftp_capture::{Datagram, Header};
+use tftp_ends::blocks::Delivered;
 use tftp_packet::Packet;
 
 /// The judge of a capture, datagram by datagram (RFC 1350; RFC 2347; RFC 7440). It keeps no list of datagrams: what

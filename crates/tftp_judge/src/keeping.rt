@@ -14,15 +14,15 @@ ghost use Rattle.tftp_judge.specs.declared.pass_error.PassError.{PassError as Pa
 use crate::pass_error::PassError;
 use crate::sent_acks::SentAcks;
 use crate::transfer::Transfer;
+use law_end::Rule;
+use law_model::rules::PortRule;
 use std::alloc::Global;
 use std::marker::Model;
-use tftp_ends::blocks::Delivered;
 use tftp_capture::{Datagram, Header};
+use tftp_ends::blocks::Delivered;
 use tftp_ends::{PortFault, Ports, Route, says_unknown_id};
 use tftp_packet::hosts::Dir;
-use law_end::Rule;
 use tftp_packet::{Bytes, Packet, RequestView, ack_of, block_of, opcode, own_request, read_packet};
-use law_model::rules::PortRule;
 
 /// What is kept of the datagrams that have passed: the transfer ids, and the transfer from its first request on.
 #[derive(Drop)]

@@ -1,7 +1,7 @@
+use law_end::Rule;
 use std::alloc::AllocError;
 use std::convert::From;
 use tftp_ends::Rejection;
-use law_end::Rule;
 
 /// Why a datagram does not pass.
 #[derive(Clone, Copy, Debug, PartialEq, Eq)]

@@ -7,11 +7,11 @@ ghost use Rattle.tftp_judge.specs.declared.verdict.Verdict.{Verdict as VerdictKi
 use crate::judging::Judge;
 use crate::meaning::Meaning;
 use crate::verdict::Verdict;
+use net_streams::streams::Latched;
 use std::alloc::Global;
 use std::io::Read;
-use tftp_ends::blocks::RingDelivered;
 use tftp_capture::{CaptureReader, Datagram};
-use net_streams::streams::Latched;
+use tftp_ends::blocks::RingDelivered;
 
 /// What a capture text means, or why it is not accepted, by the runs of two ends (RFC 1350; RFC 2347; RFC 7440): the first
 /// unlawful datagram on the lines before the text's first fault, else that fault, else what there is to say of its

@@ -22,17 +22,17 @@ use crate::meaning::Meaning;
 use crate::pass_error::PassError;
 use crate::refusal::Refusal;
 use crate::sent_acks::SentAcks;
+use law_end::Rule;
+use law_model::rules::{EndRule, Reply, Terms};
 use std::alloc::Global;
 use std::marker::Model;
-use tftp_ends::blocks::Delivered;
 use tftp_ends::NamedEnd;
-use tftp_packet::hosts::Dir;
-use law_end::Rule;
+use tftp_ends::blocks::Delivered;
 use tftp_nego::{Agreed, NegoFault, agree, nothing_agreed};
+use tftp_packet::hosts::Dir;
 use tftp_packet::{
     End, Mode, OptionsView, Packet, Request, RequestView, Side, same_options, same_request,
 };
-use law_model::rules::{EndRule, Reply, Terms};
 
 /// The transfer from its first request on: what was asked for and answered, the named end, and what it has sent.
 #[derive(Drop)]

@@ -1,8 +1,8 @@
 //! Which transfers may be those of two captures: they have the same request.
 
+use audit_recording::session::Asked;
 use std::alloc::{AllocError, Global};
 use tftp_packet::{Packet, Request, own_request, read_packet, same_request};
-use audit_recording::session::Asked;
 
 /// The transfers that may be meant, by their numbers.
 #[derive(Drop)]

@@ -1,9 +1,9 @@
 //! How often each packet was sent and taken.
 
 use anyhow::{Result, bail};
-use std::alloc::{AllocError, Global};
 use judge_pair::counts::{CountedPacket, Counts};
 use judge_pair::match_texts::Matched;
+use std::alloc::{AllocError, Global};
 use tftp_packet::End;
 
 /// Copies of a packet: those that one end sent, and those that the other took.

@@ -2,12 +2,12 @@
 
 use crate::copies::{Copies, copies_in};
 use anyhow::{Result, bail};
-use std::alloc::Global;
-use tftp_commands::{Status, say_accepted, say_verdict};
 use judge_pair::counts::Carried;
-use tftp_judge::{Meaning, Refusal, Verdict};
 use judge_pair::match_texts::{Apart, Matched, PairSaid, Wait};
 use net_streams::streams::LineWriter;
+use std::alloc::Global;
+use tftp_commands::{Status, say_accepted, say_verdict};
+use tftp_judge::{Meaning, Refusal, Verdict};
 
 /// The first datagram of a capture that is not matched.
 #[derive(Clone, Copy, Debug, PartialEq, Eq)]

@@ -1,10 +1,10 @@
 //! Texts are judged, of files or in memory.
 
 use crate::source::Whole;
-use std::alloc::Global;
-use std::io::Read;
 use judge_pair::match_texts::{PairSaid, judge_pair};
 use net_streams::streams::Latched;
+use std::alloc::Global;
+use std::io::Read;
 
 /// A capture text: one that is read while it is judged, or one in memory.
 #[derive(Drop)]

@@ -4,9 +4,9 @@ use crate::copies::Copies;
 use crate::facts::{Facts, First};
 use crate::words::Request;
 use anyhow::Result;
+use judge_pair::match_texts::Apart;
 use serde::Serialize;
 use std::alloc::{AllocError, Global};
-use judge_pair::match_texts::Apart;
 use tftp_packet::End;
 
 /// What there is to say of both.

@@ -7,11 +7,11 @@ use crate::source::{Source, Whole};
 use crate::told::{Named, tell_session};
 use crate::words::Request;
 use anyhow::{Result, bail};
+use audit_recording::session::{Session, told};
+use judge_pair::match_texts::PairSaid;
 use std::fs::{self, File};
 use std::io::Read;
-use judge_pair::match_texts::PairSaid;
 use tftp_packet::End;
-use audit_recording::session::{Session, told};
 
 const TRANSFER: &str = "--transfer";
 

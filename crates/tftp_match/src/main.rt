@@ -20,8 +20,8 @@ use crate::judging::{Judged, judge_captures};
 use crate::lines::say;
 use crate::words::{Request, request_of};
 use anyhow::Result;
-use std::process::ExitCode;
 use audit_recording::session::ended;
+use std::process::ExitCode;
 use tftp_words::{fault_of, own_words, tell_fault};
 
 /// The name with which all begins that is told on standard error.

@@ -6,12 +6,12 @@ use crate::held::Held;
 use crate::source::Whole;
 use crate::told::{Named, tell_apart, tell_several};
 use anyhow::{Result, bail};
+use audit_recording::session::{Asked, Session, TextAt, TextFault, requests_of, told};
+use net_streams::streams::{Latched, LineWriter};
 use std::alloc::Global;
 use std::io::Read;
 use tftp_capture::{CaptureReader, Datagram};
 use tftp_packet::End;
-use audit_recording::session::{Asked, Session, TextAt, TextFault, requests_of, told};
-use net_streams::streams::{Latched, LineWriter};
 
 /// A recording at an end.
 #[derive(Clone, Copy)]

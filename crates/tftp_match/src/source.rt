@@ -1,10 +1,10 @@
 //! A capture is a text or a recording, which its first bytes tell.
 
 use anyhow::Result;
-use std::alloc::Global;
-use std::io::{Chain, Cursor, Read};
 use audit_recording::judges::Judging;
 use audit_recording::session::{Kept, Session, Wanted, is_recording, read_whole};
+use std::alloc::Global;
+use std::io::{Chain, Cursor, Read};
 
 /// So many bytes tell a recording.
 const HEAD: u64 = 4;

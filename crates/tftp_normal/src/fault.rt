@@ -1,7 +1,7 @@
+use net_streams::streams::WriteFault;
 use std::alloc::AllocError;
 use std::convert::From;
 use tftp_judge::Verdict;
-use net_streams::streams::WriteFault;
 use thiserror::Error;
 
 /// Why a normal text was not written, or not whole.

@@ -12,11 +12,11 @@ ghost use Rattle.tftp_normal.specs.Normalised.{Normalises, WritesNormal};
 use crate::fault::NormalFault;
 use crate::transfer::{Transfer, window_size_of};
 use crate::writing::write_normal;
+use net_streams::streams::{Latched, LineWriter};
 use std::alloc::Global;
 use std::io::{Read, Write};
 use tftp_judge::{Meaning, MeaningParts, judge_text};
 use tftp_packet::Side;
-use net_streams::streams::{Latched, LineWriter};
 
 /// Writes the normal text of a meaning, and nothing else. It takes all memory that it needs before it writes, so with
 /// `Memory` nothing was written; it never answers `Verdict`.

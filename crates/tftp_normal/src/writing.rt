@@ -14,12 +14,12 @@ ghost use Rattle.tftp_normal.specs.Writing.{asked_by, dir_from, sent_by, datagra
 use crate::data_packets::DataPackets;
 use crate::fault::NormalFault;
 use crate::transfer::Transfer;
+use net_streams::streams::{LineWriter, WriteFault};
 use std::alloc::Global;
 use std::io::Write;
 use tftp_capture::{CaptureWriter, Header};
 use tftp_packet::hosts::Dir;
 use tftp_packet::{End, Side};
-use net_streams::streams::{LineWriter, WriteFault};
 
 /// The client's own port.
 const CLIENT_PORT: u16 = 50_000;

@@ -4,12 +4,12 @@ use crate::cells::{put_cell, put_number_cell};
 use crate::checking::tell_session;
 use crate::teller::{Teller, What};
 use anyhow::Result;
-use serde::Serialize;
-use std::alloc::{AllocError, Global};
 use audit_recording::blame::Trail;
-use tftp_packet::{Mode, OptionsView, Packet, RequestView, Side, read_packet};
 use audit_recording::judges::Judging;
 use audit_recording::session::{Kept, Session, Wanted, put_number, put_plain, shown};
+use serde::Serialize;
+use std::alloc::{AllocError, Global};
+use tftp_packet::{Mode, OptionsView, Packet, RequestView, Side, read_packet};
 use tftp_words::ListRequest;
 
 /// A row of the list.

@@ -14,8 +14,8 @@ use crate::checking::check;
 use crate::listing::list;
 use crate::texts::{write_text, write_texts};
 use anyhow::Result;
-use std::process::ExitCode;
 use audit_recording::session::{ended, told};
+use std::process::ExitCode;
 use tftp_words::{Request, own_words, request_of, tell_fault};
 
 /// The name with which all begins that is told on standard error.

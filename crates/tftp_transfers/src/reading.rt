@@ -2,9 +2,9 @@
 
 use crate::teller::Teller;
 use anyhow::Result;
+use audit_recording::session::{Opened, Session};
 use std::fs;
 use std::io::Read;
-use audit_recording::session::{Opened, Session};
 
 /// Reads the recording of that name to its end; `-` is standard input. Each transfer is told as soon as no datagram joins it
 /// any more.

@@ -4,13 +4,13 @@ use crate::cells::{pad, put_cell, put_number_cell};
 use crate::listing::{ListRow, put_list_head, put_list_row};
 use crate::verdicts::{Judged, Told};
 use anyhow::Result;
+use audit_recording::blame::{Missing, Reason};
+use audit_recording::rows::{Accused, Row};
+use audit_recording::session::{Ended, Session, put_number, put_plain, shown_host};
 use serde::Serialize;
 use std::alloc::{AllocError, Global};
 use std::mem;
-use audit_recording::blame::{Missing, Reason};
 use tftp_packet::End;
-use audit_recording::session::{Ended, Session, put_number, put_plain, shown_host};
-use audit_recording::rows::{Accused, Row};
 
 /// What is told of each transfer.
 #[derive(Clone, Copy)]

@@ -3,11 +3,13 @@
 use crate::PROGRAM;
 use crate::reasoned::Reasoned;
 use anyhow::Result;
+use audit_recording::judges::Judging;
+use audit_recording::session::{
+    Kept, Session, TextAt, TextFault, Wanted, read_whole, tell_asked, tell_notes,
+};
+use net_streams::streams::LineWriter;
 use std::{fs, io};
 use tftp_packet::End;
-use audit_recording::judges::Judging;
-use audit_recording::session::{Kept, Session, TextAt, TextFault, Wanted, read_whole, tell_asked, tell_notes};
-use net_streams::streams::LineWriter;
 use tftp_words::{TextRequest, TextsRequest};
 
 /// Writes the capture text of a transfer at an end, unless the recording is not whole.

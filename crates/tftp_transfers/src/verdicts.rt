@@ -1,19 +1,19 @@
 //! The verdict on a transfer at each point where it was judged.
 
-use std::alloc::{AllocError, Global};
-use audit_recording::blame::{Blamed, Doubted, Missing, Reason, Trail, put_if};
-use tftp_commands::{say_accepted, say_verdict};
-use tftp_judge::{Meaning, Refusal, Verdict};
 use audit_flows::lines::Transfer;
-use tftp_packet::End;
-use audit_recording::judges::Verdicts;
-use audit_recording::session::Ended;
-use net_streams::streams::LineWriter;
-use judge_tap::TapRefusal;
 use audit_flows::transfers::TransferEnds;
+use audit_recording::blame::{Blamed, Doubted, Missing, Reason, Trail, put_if};
+use audit_recording::judges::Verdicts;
 use audit_recording::rows::{
     Accused, Place, Point, Row, Rows, Said, Telling, accused_in_row, role_at, rows_told,
 };
+use audit_recording::session::Ended;
+use judge_tap::TapRefusal;
+use net_streams::streams::LineWriter;
+use std::alloc::{AllocError, Global};
+use tftp_commands::{say_accepted, say_verdict};
+use tftp_judge::{Meaning, Refusal, Verdict};
+use tftp_packet::End;
 
 /// The verdict at a point.
 #[derive(Drop)]

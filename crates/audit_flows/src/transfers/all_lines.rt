@@ -4,10 +4,10 @@
 ghost use Rattle.std.specs.Prelude.{◌≡◌, ◌≢◌, ◌≤◌, ◌∷◌, ℕ, List, [], true, Some, OnOk};
 ghost use Rattle.audit_flows.specs.Lines.{Recorded, is_between, Placed, live, line, clock, place_asked, AreLinesOf, IsRequestOf, seen_of, place_of_talk, Place, Transfer};
 
+use crate::lines::{Endpoint, Line, Seen, Transfer, is_recent};
 use crate::transfers::letting_go::Dated;
 use std::alloc::{AllocError, Global};
 use std::collections::BTreeMap;
-use crate::lines::{Endpoint, Line, Seen, Transfer, is_recent};
 
 /// What is kept of each client's line, by the client's endpoint.
 pub(crate) type Lines = BTreeMap<Endpoint, Line>;

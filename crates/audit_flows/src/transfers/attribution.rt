@@ -7,14 +7,14 @@ ghost use Rattle.audit_flows.specs.Transfers.Places.{is_client, is_service, asks
 ghost use Rattle.audit_flows.specs.Transfers.Kept.{IsAfter, AreServed, AreServices, AreStrays, IsRecorded, is_asked, takes_memory};
 ghost use Rattle.audit_flows.specs.declared.transfers.attribution.AttributionFault.{AttributionFault};
 
+use crate::lines::{
+    Address, Doubts, Endpoint, Kind, Line, Place, Seen, Transfer, is_recent, other_end,
+};
 use crate::transfers::all_lines::{note, open, repeat};
 use crate::transfers::letting_go::{Dated, let_some_go};
 use std::alloc::{AllocError, Global};
 use std::collections::{BTreeMap, BTreeSet};
 use std::convert::From;
-use crate::lines::{
-    Address, Doubts, Endpoint, Kind, Line, Place, Seen, Transfer, is_recent, other_end,
-};
 
 /// Why a datagram got no place.
 #[derive(Clone, Copy, Debug, PartialEq, Eq)]

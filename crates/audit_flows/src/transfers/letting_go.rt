@@ -5,9 +5,9 @@ ghost use Rattle.std.specs.BTreeMap.{get};
 ghost use Rattle.audit_flows.specs.Lines.{endpoint_cmp, silence};
 ghost use Rattle.audit_flows.specs.Transfers.Kept.{Forgets};
 
+use crate::lines::{Endpoint, is_recent};
 use std::collections::BTreeMap;
 use std::ops::Bound;
-use crate::lines::{Endpoint, is_recent};
 
 /// What is kept of an endpoint, from its newest datagram on.
 pub(crate) trait Dated {

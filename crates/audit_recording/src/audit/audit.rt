@@ -18,15 +18,15 @@ ghost use Rattle.audit_flows.specs.Transfers.{AttributionFault, placed};
 ghost use Rattle.audit_flows.specs.Lines.{clock, line, live, Recorded};
 
 use crate::audit::next::{AuditFault, NextFrame};
+use crate::judges::{Judging, RecordingJudge, Watched};
+use audit_flows::lines::{Endpoint, spells_request};
+use audit_flows::transfers::{Attributed, AttributionFault};
+use audit_views::parties::party_of;
+use net_streams::streams::Latched;
+use net_udp::recording::{Datagram, Event, Fate, RecordingReader};
 use std::alloc::{AllocError, Global};
 use std::io::Read;
 use tftp_ends::blocks::Delivered;
-use audit_flows::lines::{Endpoint, spells_request};
-use audit_views::parties::party_of;
-use net_udp::recording::{Datagram, Event, Fate, RecordingReader};
-use crate::judges::{Judging, RecordingJudge, Watched};
-use net_streams::streams::Latched;
-use audit_flows::transfers::{Attributed, AttributionFault};
 
 /// The judges of a recording's transfers, to be given what became of each of its frames, from the first to the last.
 #[derive(Drop)]

@@ -1,7 +1,7 @@
 //! What comes next in a recording.
 
-use net_pcap::PcapFault;
 use audit_flows::transfers::{Attributed, AttributionFault};
+use net_pcap::PcapFault;
 
 /// What was read of a recording.
 #[derive(Clone, Copy, Debug, PartialEq, Eq)]

@@ -14,17 +14,17 @@ ghost use Rattle.audit_views.specs.Views.{IsFed, held_of};
 
 use crate::between::passing::{passed, sides_of};
 use crate::between::sides_judge::SidesJudge;
+use audit_flows::lines::Transfer;
+use audit_flows::transfers::TransferEnds;
+use audit_views::views::Fed;
+use judge_tap::{TapDatagram, TapRefusal};
+use law_tap::Sides;
 use std::alloc::{AllocError, Global};
 use std::collections::VecDeque;
 use std::marker::Model;
 use std::mem;
 use tftp_ends::blocks::Delivered;
 use tftp_judge::Meaning;
-use audit_flows::lines::Transfer;
-use law_tap::Sides;
-use judge_tap::{TapDatagram, TapRefusal};
-use audit_flows::transfers::TransferEnds;
-use audit_views::views::Fed;
 
 /// The judge of a transfer between its two ends (RFC 1350, section 4), fed with a recording from its first datagram to its
 /// last. Until it is known who the server is it holds the transfer's datagrams; then it gives them to the judge, and holds

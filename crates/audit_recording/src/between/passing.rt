@@ -8,15 +8,15 @@ ghost use Rattle.audit_flows.specs.Transfers.{AreEndsAfter};
 ghost use Rattle.audit_flows.specs.Lines.{Placed};
 ghost use Rattle.audit_views.specs.Views.{held_of};
 
-use std::alloc::{AllocError, Global};
-use tftp_packet::hosts::Peer;
 use audit_flows::lines::{Endpoint, Transfer};
-use tftp_packet::Bytes;
-use audit_views::parties::host_of;
-use law_tap::Sides;
-use judge_tap::TapDatagram;
 use audit_flows::transfers::TransferEnds;
+use audit_views::parties::host_of;
 use audit_views::views::{Fed, Party};
+use judge_tap::TapDatagram;
+use law_tap::Sides;
+use std::alloc::{AllocError, Global};
+use tftp_packet::Bytes;
+use tftp_packet::hosts::Peer;
 
 /// The sides of a transfer whose ends are known: where no server is, it is whom the client asked.
 pub fn sides_of(transfer: &Transfer, ends: &TransferEnds) -> Sides

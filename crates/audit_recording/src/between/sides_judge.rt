@@ -9,13 +9,13 @@ ghost use Rattle.judge_tap.specs.{passing_of, TapRefusal as RefusalKind};
 ghost use Rattle.audit_views.specs.Views.{held_of};
 
 use crate::between::passing::passed;
+use audit_views::views::Fed;
+use judge_tap::{TapDatagram, TapJudge, TapRefusal};
+use law_tap::Sides;
 use std::alloc::{AllocError, Global};
 use std::marker::Model;
 use tftp_ends::blocks::Delivered;
 use tftp_judge::Meaning;
-use law_tap::Sides;
-use judge_tap::{TapDatagram, TapJudge, TapRefusal};
-use audit_views::views::Fed;
 
 /// The judge of what passes between two sides. Where the client is the server too, or where it asks, there is none: then it
 /// counts what passes, and refuses nothing.

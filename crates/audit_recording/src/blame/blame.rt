@@ -1,11 +1,11 @@
 //! At which frames a transfer was refused, at each point where it is judged.
 
 use crate::blame::passing::Passing;
+use audit_flows::lines::{Endpoint, Place};
+use audit_flows::transfers::TransferEnds;
+use judge_tap::TapRefusal;
 use std::alloc::{AllocError, Global};
 use tftp_judge::{Meaning, Refusal};
-use audit_flows::lines::{Endpoint, Place};
-use judge_tap::TapRefusal;
-use audit_flows::transfers::TransferEnds;
 
 /// Where a transfer was refused.
 #[derive(Clone, Copy)]

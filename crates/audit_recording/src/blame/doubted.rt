@@ -3,8 +3,8 @@
 use crate::blame::blame::Blamed;
 use crate::blame::missing::Missing;
 use crate::blame::reason::Reason;
-use std::alloc::AllocError;
 use audit_flows::transfers::TransferDoubts;
+use std::alloc::AllocError;
 
 /// What makes a transfer's refusals doubtful.
 #[derive(Clone, Copy)]

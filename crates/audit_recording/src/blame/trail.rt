@@ -6,13 +6,13 @@ use crate::blame::missing::Missing;
 use crate::blame::passing::Passing;
 use crate::blame::spoilt::{Spoilt, first_spoilt};
 use crate::blame::twice::Twice;
+use crate::judges::Watched;
+use audit_flows::lines::{Doubts, Endpoint, Place, Transfer};
+use audit_flows::transfers::{Attributed, TransferDoubts, TransferEnds};
+use judge_tap::TapRefusal;
 use std::alloc::{AllocError, Global};
 use tftp_ends::blocks::RingDelivered;
 use tftp_judge::{Meaning, Refusal};
-use audit_flows::lines::{Doubts, Endpoint, Place, Transfer};
-use crate::judges::Watched;
-use judge_tap::TapRefusal;
-use audit_flows::transfers::{Attributed, TransferDoubts, TransferEnds};
 
 /// A transfer, as far as it was read.
 #[derive(Drop)]

@@ -1,8 +1,8 @@
 //! Whether each datagram of a transfer stands beside its equal: then it was recorded twice.
 
 use crate::blame::passing::Passing;
-use std::alloc::{AllocError, Global};
 use audit_flows::lines::Endpoint;
+use std::alloc::{AllocError, Global};
 
 #[derive(Drop)]
 pub struct Twice {

@@ -9,12 +9,12 @@ ghost use Rattle.audit_views.specs.Views.{Naming, IsFed, held_of};
 
 use crate::judges::judging::Judging;
 use crate::judges::watched::Watched;
-use std::alloc::{AllocError, Global};
-use std::collections::BTreeMap;
-use tftp_ends::blocks::Delivered;
 use audit_flows::lines::{Place, Transfer};
 use audit_flows::transfers::{Attributed, AttributionFault};
 use audit_views::views::Fed;
+use std::alloc::{AllocError, Global};
+use std::collections::BTreeMap;
+use tftp_ends::blocks::Delivered;
 
 /// A transfer that a request opens is kept, before any datagram.
 pub(crate) fn open<D: Delivered + Drop>(

@@ -10,17 +10,17 @@ ghost use Rattle.audit_flows.specs.Lines.{Placed, Transfer};
 ghost use Rattle.audit_flows.specs.Transfers.{is_about};
 ghost use Rattle.audit_views.specs.Views.{Naming, client_capture, client_header, server_capture, server_header, IsJudgedWith, IsFed, held_of};
 
+use crate::between::BetweenView;
 use crate::judges::judging::Points;
 use crate::judges::point::{counted, feed};
 use crate::judges::verdicts::Verdicts;
+use audit_flows::lines::Transfer;
+use audit_views::views::{ClientJudge, Fed, ServerView};
+use judge_tap::TapRefusal;
 use std::alloc::{AllocError, Global};
 use std::marker::Model;
-use crate::between::BetweenView;
 use tftp_ends::blocks::Delivered;
 use tftp_judge::Refusal;
-use audit_flows::lines::Transfer;
-use judge_tap::TapRefusal;
-use audit_views::views::{ClientJudge, Fed, ServerView};
 
 /// How many datagrams a judge can count.
 const MOST: u64 = 1 << 40;

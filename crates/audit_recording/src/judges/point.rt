@@ -8,10 +8,10 @@ ghost use Rattle.audit_recording.specs.Judges.Kept.{StandsAs, fed_by};
 ghost use Rattle.audit_flows.specs.Transfers.{is_about};
 ghost use Rattle.audit_views.specs.Views.{IsClientAfter, IsFed, IsViewAfter, Naming, fed_to, held_of};
 
-use std::alloc::{AllocError, Global};
 use crate::between::BetweenView;
-use tftp_ends::blocks::Delivered;
 use audit_views::views::{ClientJudge, Fed, ServerView};
+use std::alloc::{AllocError, Global};
+use tftp_ends::blocks::Delivered;
 
 /// A judge of a transfer at one point.
 pub(crate) trait PointJudge {

@@ -9,12 +9,12 @@ ghost use Rattle.audit_views.specs.Views.{Naming};
 use crate::judges::hands::{hand_on, open};
 use crate::judges::judging::Judging;
 use crate::judges::watched::Watched;
-use std::alloc::{AllocError, Global};
-use std::collections::BTreeMap;
-use tftp_ends::blocks::Delivered;
 use audit_flows::lines::Endpoint;
 use audit_flows::transfers::{Attributed, Attribution, AttributionFault};
 use audit_views::views::{Fed, Party};
+use std::alloc::{AllocError, Global};
+use std::collections::BTreeMap;
+use tftp_ends::blocks::Delivered;
 
 /// The judge of a whole recording, fed from its first datagram to its last: it divides what passed into transfers, and
 /// judges each where that is wanted.

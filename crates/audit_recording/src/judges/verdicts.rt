@@ -1,5 +1,5 @@
-use tftp_judge::{Meaning, Refusal};
 use judge_tap::TapRefusal;
+use tftp_judge::{Meaning, Refusal};
 
 /// What there is to say of a transfer at each point where it was judged.
 #[derive(Drop)]

@@ -12,16 +12,16 @@ ghost use Rattle.audit_flows.specs.Lines.{doubts_of, Placed, Transfer};
 ghost use Rattle.audit_flows.specs.Transfers.{is_about, AttributionFault};
 ghost use Rattle.audit_views.specs.Views.{Naming, client_capture, client_header, server_capture, server_header, IsJudgedWith, IsFed, held_of};
 
+use crate::between::BetweenView;
 use crate::judges::judges::Judges;
 use crate::judges::judging::Judging;
 use crate::judges::verdicts::Verdicts;
-use std::alloc::Global;
-use std::marker::Model;
-use crate::between::BetweenView;
-use tftp_ends::blocks::Delivered;
 use audit_flows::lines::Transfer;
 use audit_flows::transfers::{Attributed, AttributionFault, TransferDoubts};
 use audit_views::views::{ClientJudge, Fed, ServerView};
+use std::alloc::Global;
+use std::marker::Model;
+use tftp_ends::blocks::Delivered;
 
 /// A transfer of a recording: its judges, each at a point where it is judged, and what makes a refusal of it no accusation.
 #[derive(Drop)]

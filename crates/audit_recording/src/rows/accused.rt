@@ -5,8 +5,8 @@ ghost use Rattle.audit_recording.specs.Rows.Accusing.{accused_in_row, accused_of
 
 use crate::rows::telling::Telling;
 use audit_flows::lines::{Endpoint, Transfer};
-use tftp_packet::End;
 use audit_flows::transfers::TransferEnds;
+use tftp_packet::End;
 
 /// The end of a transfer that a refusal accuses.
 #[derive(Clone, Copy, Debug, PartialEq, Eq)]

@@ -1,9 +1,9 @@
 ghost use Rattle.std.specs.Prelude.{◌≡◌, Option, Result};
 ghost use Rattle.audit_recording.specs.Rows.Told.{is_refused, may_be_asked, refused_frame, said_between, said_of, status_of};
 
-use tftp_judge::{Meaning, Refusal, Rule};
-use law_model::rules::PortRule;
 use judge_tap::TapRefusal;
+use law_model::rules::PortRule;
+use tftp_judge::{Meaning, Refusal, Rule};
 
 /// What is said of a transfer at one of the points where it was judged.
 #[derive(Clone, Copy, Debug)]

@@ -1,8 +1,8 @@
 //! Endpoints as they are shown.
 
+use audit_flows::lines::{Address, Endpoint};
 use std::alloc::{AllocError, Global};
 use std::net::{IpAddr, Ipv4Addr, Ipv6Addr};
-use audit_flows::lines::{Address, Endpoint};
 
 /// An endpoint as it is shown: the address and the port, an IPv6 address in brackets (RFC 3986, section 3.2.2).
 pub fn shown(alloc: Global, end: Endpoint) -> Result<String, AllocError> {

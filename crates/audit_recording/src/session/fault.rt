@@ -1,7 +1,7 @@
 //! Why a recording is not read, or a text not written.
 
-use std::alloc::AllocError;
 use net_pcap::FaultKind;
+use std::alloc::AllocError;
 use thiserror::Error;
 
 /// Why a recording is not read.

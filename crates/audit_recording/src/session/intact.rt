@@ -1,10 +1,10 @@
 //! Which hosts send their datagrams with right checksums, and where datagrams were discarded.
 
+use crate::blame::{Spoilt, Trail};
 use crate::session::losses::SILENCE;
+use audit_flows::lines::{Address, Endpoint};
 use std::alloc::{AllocError, Global};
 use std::collections::{BTreeMap, BTreeSet};
-use crate::blame::{Spoilt, Trail};
-use audit_flows::lines::{Address, Endpoint};
 
 /// The hosts of which a datagram came with right checksums: what comes from them with a wrong one is discarded. A host of which
 /// all are wrong was recorded before its hardware made them.

@@ -3,13 +3,13 @@
 ghost use Rattle.std.specs.Prelude.{◌≤◌, length};
 ghost use Rattle.tftp_capture.specs.{IsPort};
 
-use crate::session::plain::put_number;
-use std::alloc::{AllocError, Global};
-use std::collections::BTreeMap;
 use crate::blame::{Passing, about};
+use crate::session::plain::put_number;
 use audit_flows::lines::{Place, Transfer};
 use audit_views::texts::{Comment, TransferText};
 use audit_views::views::Fed;
+use std::alloc::{AllocError, Global};
+use std::collections::BTreeMap;
 
 /// Of which transfers of a recording the texts are wanted.
 #[derive(Clone, Copy, Debug, PartialEq, Eq)]

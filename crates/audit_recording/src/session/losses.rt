@@ -1,11 +1,11 @@
 //! Which frames are not there whole, by the hosts between which they went.
 
-use std::alloc::{AllocError, Global};
-use std::collections::BTreeMap;
-use std::net::IpAddr;
 use crate::blame::{Missing, Trail};
 use audit_flows::lines::{Address, Endpoint};
 use audit_views::parties::address_of;
+use std::alloc::{AllocError, Global};
+use std::collections::BTreeMap;
+use std::net::IpAddr;
 
 /// The hosts of a frame, where its IP header is there.
 type Hosts = Option<(IpAddr, IpAddr)>;

@@ -1,15 +1,15 @@
 //! What is to be told of a recording as a whole.
 
+use crate::blame::{Missing, Passing, Reason, Trail};
 use crate::session::clock::Clock;
 use crate::session::intact::IntactHosts;
 use crate::session::losses::{Losses, SILENCE, WAIT};
 use crate::session::plain::put_number;
-use std::alloc::{AllocError, Global};
-use crate::blame::{Missing, Passing, Reason, Trail};
+use net_pcap::PcapFault;
 use net_udp::fragments::Fragments;
 use net_udp::frames::{FrameFault, UdpFault};
-use net_pcap::PcapFault;
 use net_udp::recording::{Event, LeftOut};
+use std::alloc::{AllocError, Global};
 
 /// How many frames or ports are named.
 const NAMED: usize = 5;

@@ -3,11 +3,11 @@
 use crate::session::fault::ReadFault;
 use crate::session::headed::{Headed, hint};
 use crate::session::session::Session;
+use net_pcap::{FaultKind, PcapFault};
+use net_streams::streams::Latched;
+use net_udp::recording::{Event, RecordingReader};
 use std::alloc::{AllocError, Global};
 use std::io::Read;
-use net_pcap::{FaultKind, PcapFault};
-use net_udp::recording::{Event, RecordingReader};
-use net_streams::streams::Latched;
 
 /// A recording that is being read.
 #[derive(Drop)]

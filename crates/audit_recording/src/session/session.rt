@@ -2,25 +2,25 @@
 
 ghost use Rattle.net_udp.specs.Frames.{IsSound};
 
+use crate::audit::{AuditFault, NextFrame, RecordingAudit};
+use crate::blame::{Missing, Passing, Spoilt, Trail, about};
+use crate::judges::{Judging, Watched};
 use crate::session::fault::{ReadFault, TextFault};
 use crate::session::kept::Kept;
 use crate::session::losses::SILENCE;
 use crate::session::notes::Notes;
 use crate::session::unplaced::Unplaced;
+use audit_flows::lines::{Endpoint, Place, Transfer};
+use audit_flows::transfers::{Attributed, AttributionFault};
+use audit_views::parties::party_of;
+use audit_views::views::Fed;
+use net_pcap::{FaultKind, PcapFault};
+use net_streams::streams::Latched;
+use net_udp::recording::{Checksum, Datagram, Event, Fate, RecordingReader};
 use std::alloc::{AllocError, Global};
 use std::collections::BTreeMap;
 use std::io::Read;
-use crate::blame::{Missing, Passing, Spoilt, Trail, about};
 use tftp_ends::blocks::RingDelivered;
-use audit_flows::lines::{Endpoint, Place, Transfer};
-use audit_views::parties::party_of;
-use net_pcap::{FaultKind, PcapFault};
-use net_udp::recording::{Checksum, Datagram, Event, Fate, RecordingReader};
-use crate::audit::{AuditFault, NextFrame, RecordingAudit};
-use crate::judges::{Judging, Watched};
-use net_streams::streams::Latched;
-use audit_flows::transfers::{Attributed, AttributionFault};
-use audit_views::views::Fed;
 
 /// What a recording has: its transfers by how many datagrams came before each, and what is to be told of it.
 #[derive(Drop)]

@@ -1,14 +1,14 @@
 //! The capture text of a transfer at an end.
 
+use crate::blame::Trail;
 use crate::session::endpoint::shown;
 use crate::session::fault::TextFault;
 use crate::session::plain::{put_number, put_plain};
 use crate::session::session::Session;
-use std::alloc::{AllocError, Global};
-use crate::blame::Trail;
 use audit_flows::lines::Endpoint;
-use tftp_packet::End;
 use audit_views::texts::{Comment, TransferText};
+use std::alloc::{AllocError, Global};
+use tftp_packet::End;
 
 /// The text of a transfer that is read, and which end it is wanted at: `text.write` writes it, with this heading.
 #[derive(Drop)]

@@ -1,9 +1,9 @@
 //! Datagrams of no transfer that may be of one by their times.
 
-use std::alloc::{AllocError, Global};
-use std::collections::BTreeMap;
 use crate::blame::Passing;
 use audit_flows::lines::Endpoint;
+use std::alloc::{AllocError, Global};
+use std::collections::BTreeMap;
 
 /// Where and when datagrams of no transfer passed.
 #[derive(Drop)]

@@ -5,11 +5,11 @@ ghost use Rattle.std.specs.Net.Text.{ip_text, ipv4_text, ipv6_text};
 ghost use Rattle.tftp_packet.specs.Hosts.{IsSign};
 ghost use Rattle.audit_views.specs.Parties.Naming.{IsAddress, address_of, host_name};
 
-use std::net::IpAddr;
-use net_udp::frames::write_address;
-use tftp_packet::hosts::Host;
-use audit_flows::lines::{Address, Endpoint};
 use crate::views::Party;
+use audit_flows::lines::{Address, Endpoint};
+use net_udp::frames::write_address;
+use std::net::IpAddr;
+use tftp_packet::hosts::Host;
 
 /// The address of a host, of the same version and with the same bytes.
 pub fn address_of(address: IpAddr) -> Address

@@ -12,16 +12,16 @@ ghost use Rattle.audit_views.specs.Texts.Views.{HasComment, IsTextOf, capture_at
 
 use crate::texts::comment::Comment;
 use crate::texts::noted::Noted;
+use crate::views::{Fed, sides, way_at_client, way_at_server};
+use audit_flows::lines::{Endpoint, Place, Transfer};
+use audit_flows::transfers::TransferEnds;
+use net_streams::streams::{LineWriter, WriteFault};
 use std::alloc::{AllocError, Global};
 use std::io::Write;
 use std::marker::Model;
 use tftp_capture::{Header, HostCaptureWriter};
-use tftp_packet::hosts::Dir;
-use audit_flows::lines::{Endpoint, Place, Transfer};
 use tftp_packet::End;
-use net_streams::streams::{LineWriter, WriteFault};
-use audit_flows::transfers::TransferEnds;
-use crate::views::{Fed, sides, way_at_client, way_at_server};
+use tftp_packet::hosts::Dir;
 
 /// The most datagrams that are kept.
 const MOST: usize = 1 << 40;

@@ -12,12 +12,12 @@ ghost use Rattle.audit_views.specs.Views.Kept.{IsClientAfter, IsFed, held_of};
 use crate::views::end_judge::EndJudge;
 use crate::views::fed::Fed;
 use crate::views::ways::way_at_client;
+use audit_flows::lines::{Place, Transfer};
 use std::alloc::{AllocError, Global};
 use std::marker::Model;
-use tftp_ends::blocks::Delivered;
 use tftp_capture::Header;
+use tftp_ends::blocks::Delivered;
 use tftp_judge::{Meaning, Refusal};
-use audit_flows::lines::{Place, Transfer};
 use tftp_packet::End;
 
 /// The judge of a transfer at its client (RFC 1350, section 2): it picks the client's view out of a recording.

@@ -13,11 +13,11 @@ use crate::views::fed::Fed;
 use crate::views::ways::captured;
 use std::alloc::{AllocError, Global};
 use std::marker::Model;
-use tftp_ends::blocks::Delivered;
 use tftp_capture::{Datagram, Header};
-use tftp_packet::hosts::Dir;
+use tftp_ends::blocks::Delivered;
 use tftp_judge::{Judge, Meaning, Refusal};
 use tftp_packet::Bytes;
+use tftp_packet::hosts::Dir;
 
 /// A judge, and memory for one datagram, into which each is copied.
 #[derive(Drop)]

@@ -3,8 +3,8 @@ ghost use Rattle.audit_views.specs.Views.Kept.{held_of};
 
 use crate::views::held::Held;
 use crate::views::party::Party;
-use std::alloc::{AllocError, Global};
 use audit_flows::lines::Place;
+use std::alloc::{AllocError, Global};
 use tftp_packet::Bytes;
 
 /// A datagram of a recording, as the judges of its transfers are fed it.

@@ -1,5 +1,5 @@
-use tftp_packet::hosts::Host;
 use audit_flows::lines::Endpoint;
+use tftp_packet::hosts::Host;
 
 /// An end of a datagram, and what its host is called in a capture text.
 #[derive(Clone, Copy, Debug)]

@@ -14,14 +14,14 @@ use crate::views::end_judge::EndJudge;
 use crate::views::fed::Fed;
 use crate::views::held::Held;
 use crate::views::ways::{captured, way_at_server};
+use audit_flows::lines::Transfer;
+use audit_flows::transfers::TransferEnds;
 use std::alloc::{AllocError, Global};
 use std::marker::Model;
-use tftp_ends::blocks::Delivered;
 use tftp_capture::Header;
+use tftp_ends::blocks::Delivered;
 use tftp_judge::{Meaning, Refusal};
-use audit_flows::lines::Transfer;
 use tftp_packet::End;
-use audit_flows::transfers::TransferEnds;
 
 /// The judge of a transfer at its server (RFC 1350, section 2): it picks the server's view out of a recording.
 #[derive(Drop)]

@@ -12,14 +12,14 @@ ghost use Rattle.audit_views.specs.Views.Kept.{AreHeld, IsFed, IsServerAfter, Is
 use crate::views::fed::Fed;
 use crate::views::held::Held;
 use crate::views::server::ServerJudge;
+use audit_flows::lines::Transfer;
+use audit_flows::transfers::TransferEnds;
 use std::alloc::{AllocError, Global};
 use std::collections::VecDeque;
 use std::marker::Model;
 use std::mem;
 use tftp_ends::blocks::Delivered;
 use tftp_judge::{Meaning, Refusal};
-use audit_flows::lines::Transfer;
-use audit_flows::transfers::TransferEnds;
 
 /// The judge of a transfer at its server (RFC 1350, section 2), fed with a recording from its first datagram to its last.
 /// Until it is known who the server is it holds the transfer's datagrams; then it gives them to the judge, and holds none.

@@ -8,11 +8,11 @@ ghost use Rattle.audit_flows.specs.Lines.{Placed};
 ghost use Rattle.audit_views.specs.Views.Captured.{captured_as, way_at_client, way_at_server};
 
 use crate::views::party::Party;
-use tftp_capture::Datagram;
-use tftp_packet::hosts::Dir;
 use audit_flows::lines::{Endpoint, Place, Transfer};
-use tftp_packet::Bytes;
 use audit_flows::transfers::TransferEnds;
+use tftp_capture::Datagram;
+use tftp_packet::Bytes;
+use tftp_packet::hosts::Dir;
 
 /// At the client: what the client sent goes out.
 pub fn way_at_client(transfer: &Transfer, source: Endpoint) -> Dir

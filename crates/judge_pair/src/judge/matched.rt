@@ -1,5 +1,5 @@
-use crate::judge::waiting::Wait;
 use crate::counts::{Carried, Counts};
+use crate::judge::waiting::Wait;
 
 /// How many datagrams of two captures are lawful, and how many of these some run of the two ends has together, each counted
 /// from the first of its capture.

@@ -12,8 +12,8 @@ use crate::judge::rest::{Left, PairRest};
 use crate::judge::side::Side;
 use std::alloc::Global;
 use std::marker::Model;
-use tftp_ends::blocks::Delivered;
 use tftp_capture::{Datagram, Header};
+use tftp_ends::blocks::Delivered;
 use tftp_judge::Refusal;
 use tftp_packet::End;
 

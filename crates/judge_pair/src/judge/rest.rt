@@ -11,14 +11,14 @@ ghost use Rattle.judge_pair.specs.Judge.Kept.{CountsOn, IsSideAfter};
 ghost use Rattle.judge_pair.specs.Judge.Rest.{IsLeftAfter, IsRestAfter, left_at};
 ghost use Rattle.judge_pair.specs.Judge.Verdicts.{AreCarried, AreCountsOf, IsReadOf, IsWhyWaiting};
 
+use crate::counts::{Carried, Counts};
 use crate::judge::matched::Matched;
 use crate::judge::side::Side;
 use crate::judge::waiting::Wait;
 use std::alloc::Global;
 use std::marker::Model;
-use tftp_ends::blocks::Delivered;
 use tftp_capture::Datagram;
-use crate::counts::{Carried, Counts};
+use tftp_ends::blocks::Delivered;
 use tftp_judge::{Meaning, Refusal};
 use tftp_packet::End;
 

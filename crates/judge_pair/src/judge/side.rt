@@ -8,15 +8,15 @@ ghost use Rattle.judge_pair.specs.Counts.{AreCounted, AreLostBetween, AreRepeate
 ghost use Rattle.judge_pair.specs.Judge.Merging.{AreMergedBut, IsAskedAgain, IsWaitFor, WasSent, with_held};
 ghost use Rattle.judge_pair.specs.Judge.Kept.{AreSidesAfter, CountsOn, IsSideAfter, HasSame};
 
+use crate::counts::{Carried, Counts};
 use crate::judge::waiting::Wait;
 use std::alloc::Global;
 use std::marker::Model;
 use std::mem;
-use tftp_ends::blocks::Delivered;
 use tftp_capture::{Datagram, Header};
-use crate::counts::{Carried, Counts};
-use tftp_packet::hosts::Dir;
+use tftp_ends::blocks::Delivered;
 use tftp_judge::{Judge, Refusal, SentAcks};
+use tftp_packet::hosts::Dir;
 use tftp_packet::{Packet, read_packet};
 
 /// One end of a pair: its judge, the ACKs that it has sent, and its last datagram where that came in and waits for what the

@@ -5,14 +5,14 @@ ghost use Rattle.judge_pair.specs.Judge.{HasSame, side_at};
 ghost use Rattle.judge_pair.specs.MatchTexts.Merging.{BothRun, Runs, judge_at};
 ghost use Rattle.judge_pair.specs.MatchTexts.Reading.{seen};
 
+use crate::judge::PairJudge;
 use crate::match_texts::reading::{Halt, Reading};
+use net_streams::streams::Latched;
 use std::alloc::Global;
 use std::io::Read;
-use tftp_ends::blocks::RingDelivered;
 use tftp_capture::Datagram;
+use tftp_ends::blocks::RingDelivered;
 use tftp_packet::End;
-use crate::judge::PairJudge;
-use net_streams::streams::Latched;
 
 impl Reading {
     /// Reads the text of an end till its last datagram waits for the other end, or no more of it is read.

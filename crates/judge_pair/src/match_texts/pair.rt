@@ -11,17 +11,17 @@ ghost use Rattle.judge_pair.specs.MatchTexts.Judged.{IsJudged};
 ghost use Rattle.judge_pair.specs.MatchTexts.Merging.{HasBegun};
 ghost use Rattle.judge_pair.specs.MatchTexts.Said.{AreNumbersOf, IsPairSaid, IsWhy, SaysMatched};
 
+use crate::judge::PairJudge;
 use crate::match_texts::merging::merge;
 use crate::match_texts::reading::{Reading, said_of};
 use crate::match_texts::said::{Apart, PairSaid, together_of};
+use net_streams::streams::Latched;
 use std::alloc::Global;
 use std::io::Read;
-use tftp_ends::blocks::RingDelivered;
 use tftp_capture::{CaptureReader, Datagram};
+use tftp_ends::blocks::RingDelivered;
 use tftp_judge::{Judge, Meaning, Verdict, judge_text};
 use tftp_packet::End;
-use crate::judge::PairJudge;
-use net_streams::streams::Latched;
 
 /// What there is to say of two capture texts, the first of a client and the second of a server, by the runs of two ends (RFC
 /// 1350; RFC 2347; RFC 7440). Of each it says what there is to say of it alone, and of both how far one run has them

@@ -6,10 +6,10 @@ ghost use Rattle.tftp_judge.specs.{IsJudgeAfter, Judge as JudgeParts};
 ghost use Rattle.judge_pair.specs.MatchTexts.Reading.{GoesOnAt, IsGiven, IsHalted, said_by};
 ghost use Rattle.judge_pair.specs.declared.match_texts.reading.Halt.{Halt as HaltKind};
 
+use net_streams::streams::Latched;
 use std::io::Read;
 use tftp_capture::{CaptureFault, CaptureReader, Datagram};
 use tftp_judge::{Meaning, Refusal, Verdict};
-use net_streams::streams::Latched;
 
 /// Why no more of a text is read.
 #[derive(Clone, Copy, Debug, PartialEq, Eq)]

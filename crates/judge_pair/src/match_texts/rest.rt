@@ -6,15 +6,15 @@ ghost use Rattle.judge_pair.specs.MatchTexts.Merging.{AloneRuns, RestRuns, left_
 ghost use Rattle.judge_pair.specs.MatchTexts.Reading.{seen};
 ghost use Rattle.judge_pair.specs.declared.match_texts.reading.Halt.{Halt as HaltKind};
 
+use crate::judge::PairRest;
 use crate::match_texts::reading::{Halt, Reading};
+use net_streams::streams::Latched;
 use std::alloc::Global;
 use std::io::Read;
-use tftp_ends::blocks::RingDelivered;
 use tftp_capture::Datagram;
+use tftp_ends::blocks::RingDelivered;
 use tftp_judge::Judge;
 use tftp_packet::End;
-use crate::judge::PairRest;
-use net_streams::streams::Latched;
 
 impl Reading {
     /// Reads what is left of the text of an end, where its last datagram waited.

@@ -2,10 +2,10 @@ ghost use Rattle.std.specs.Prelude.{◌↔◌, IsTrue, IfOk, IfErr};
 ghost use Rattle.tftp_judge.specs.{IsOfText};
 ghost use Rattle.judge_pair.specs.MatchTexts.Said.{AreTogether, IsAllLawful, IsApart, SaysMatched};
 
+use crate::judge::Matched;
 use tftp_capture::CaptureFault;
 use tftp_judge::{Meaning, Refusal, Verdict};
 use tftp_packet::End;
-use crate::judge::Matched;
 
 /// Why it is not told how far two captures go together.
 #[derive(Clone, Copy, Debug, PartialEq, Eq)]

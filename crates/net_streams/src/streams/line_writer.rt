@@ -2,6 +2,7 @@ ghost use Rattle.std.specs.Prelude.{◌≡◌, ◌+◌, ◌*◌, ◌++◌, ◌�
 ghost use Rattle.hex.specs.Hex.{encode_lower};
 ghost use Rattle.net_streams.specs.Streams.Sinks.{Adds, Ends, Writes};
 
+use crate::digits::encode;
 use crate::streams::fault::WriteFault;
 use crate::streams::latched::Latched;
 use crate::streams::whole::write_whole;
@@ -9,7 +10,6 @@ use std::alloc::Global;
 use std::io::Write;
 use std::marker::Model;
 use std::simd::prelude::*;
-use crate::digits::encode;
 
 /// The most bytes that wait.
 const ROOM: usize = 16384;

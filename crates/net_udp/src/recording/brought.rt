@@ -5,15 +5,15 @@ ghost use Rattle.net_udp.specs.Recording.History.{WantsNext};
 ghost use Rattle.net_udp.specs.Recording.Alike.{Comes, is_copy};
 ghost use Rattle.net_udp.specs.Copies.{Packet as Recorded, StandsFor};
 
+use crate::copies::Recent;
+use crate::fragments::{Fragments, Key, Outcome, Part};
+use crate::frames::read_frame;
 use crate::recording::likeness::{Likeness, likeness_of};
+use net_pcap::Frame;
 use std::alloc::{AllocError, Global};
 use std::marker::Model;
 use std::mem;
 use std::net::IpAddr;
-use crate::copies::Recent;
-use crate::fragments::{Fragments, Key, Outcome, Part};
-use crate::frames::read_frame;
-use net_pcap::Frame;
 
 /// What a frame did among the fragments that wait.
 #[derive(Drop)]

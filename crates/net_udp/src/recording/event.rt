@@ -10,20 +10,20 @@ ghost use Rattle.net_udp.specs.Recording.Alike.{is_doubtful};
 ghost use Rattle.net_udp.specs.Recording.Checked.{checksum_told};
 ghost use Rattle.net_udp.specs.declared.recording.likeness.Likeness.{Likeness};
 
-use crate::recording::brought::Brought;
-use crate::recording::fate::{Datagram, Fate, LeftOut};
-use crate::recording::likeness::Likeness;
-use crate::recording::sent::Sent;
-use std::alloc::Global;
-use std::marker::Model;
-use std::mem;
-use std::net::IpAddr;
 use crate::fragments::{Content, Fragments, Outcome};
 use crate::frames::{
     Checksum, Direction as LinkDirection, FrameFault, IpPacket, UdpFault, read_frame, read_hosts,
     read_udp,
 };
+use crate::recording::brought::Brought;
+use crate::recording::fate::{Datagram, Fate, LeftOut};
+use crate::recording::likeness::Likeness;
+use crate::recording::sent::Sent;
 use net_pcap::{Direction, Frame};
+use std::alloc::Global;
+use std::marker::Model;
+use std::mem;
+use std::net::IpAddr;
 
 /// A frame of a recording, what became of it, and of which frames it decided; to be filled by a reader, in its memory.
 #[derive(Drop)]

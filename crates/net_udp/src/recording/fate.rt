@@ -1,6 +1,6 @@
-use std::net::IpAddr;
 use crate::frames::{FrameFault, UdpFault};
 use net_pcap::Direction;
+use std::net::IpAddr;
 
 /// A UDP datagram of a recording.
 #[derive(Clone, Copy, Debug)]

@@ -3,10 +3,10 @@ ghost use Rattle.net_udp.specs.Copies.{Packet as Recorded, StandsFor};
 ghost use Rattle.net_udp.specs.Frames.{shown};
 ghost use Rattle.net_udp.specs.Recording.Alike.{IsLike, interface_of, is_copy, is_doubtful, likeness_by, recorded};
 
-use std::alloc::{AllocError, Global};
 use crate::copies::{Interface, Recent};
 use crate::frames::{IpPacket, interface_index};
 use net_pcap::Frame;
+use std::alloc::{AllocError, Global};
 
 /// Whether a frame's packet is one with a packet that came before.
 #[derive(Clone, Copy, Debug, PartialEq, Eq)]

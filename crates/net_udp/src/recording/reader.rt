@@ -4,16 +4,16 @@ ghost use Rattle.net_pcap.specs.{FailsToBegin, FaultKind, lost_of};
 ghost use Rattle.net_streams.specs.Streams.{KeepsAnswer, Standing, standing_after};
 ghost use Rattle.net_udp.specs.Recording.History.{Continues, StandsFor, Step, standing_of};
 
+use crate::copies::Recent;
+use crate::fragments::Fragments;
 use crate::recording::event::Event;
 use crate::recording::senders::Senders;
 use crate::recording::taken::take_event;
+use net_pcap::{FaultKind, FrameReader, PcapFault};
+use net_streams::streams::Latched;
 use std::alloc::Global;
 use std::io::Read;
 use std::marker::Model;
-use crate::copies::Recent;
-use crate::fragments::Fragments;
-use net_pcap::{FaultKind, FrameReader, PcapFault};
-use net_streams::streams::Latched;
 
 /// A reader of what became of a recording's frames: it holds what a reader of frames does, the last 16 packets,
 /// the fragments that wait for others of their packets, 64 MB at most, and the hosts that sent datagrams with checksums.

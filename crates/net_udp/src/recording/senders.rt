@@ -3,12 +3,12 @@ ghost use Rattle.net_udp.specs.Recording.Discards.{IsDiscarded};
 ghost use Rattle.net_udp.specs.Recording.Senders.{discarded_by, IsUnknown, Knows, learned, maker_of};
 ghost use Rattle.net_udp.specs.declared.recording.sent.Sent.{Sent};
 
+use crate::frames::Checksum;
 use crate::recording::sent::Sent;
 use std::alloc::{AllocError, Global};
 use std::collections::BTreeMap;
 use std::marker::Model;
 use std::net::IpAddr;
-use crate::frames::Checksum;
 
 /// Who makes the checksums of what a host sends.
 #[derive(Clone, Copy, Debug, PartialEq, Eq)]

@@ -2,12 +2,12 @@ ghost use Rattle.std.specs.Prelude.{◌≡◌, option_map};
 ghost use Rattle.net_udp.specs.Fragments.{content_of as put_together};
 ghost use Rattle.net_udp.specs.Recording.Checked.{IsSent, IsSentBy, IsSentOf};
 
-use crate::recording::event::content_of;
-use crate::recording::likeness::Likeness;
-use std::net::IpAddr;
 use crate::fragments::{Content, Outcome};
 use crate::frames::{Checksum, read_frame, read_udp};
+use crate::recording::event::content_of;
+use crate::recording::likeness::Likeness;
 use net_pcap::Frame;
+use std::net::IpAddr;
 
 /// The host that sent a datagram, and what its checksums say.
 #[derive(Clone, Copy, Debug, PartialEq, Eq)]

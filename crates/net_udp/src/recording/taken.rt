@@ -8,13 +8,13 @@ ghost use Rattle.net_udp.specs.Recording.History.{WantsNext};
 ghost use Rattle.net_udp.specs.Recording.Senders.{Knows, WantsToKnow};
 ghost use Rattle.net_udp.specs.declared.recording.sent.Sent.{Sent};
 
+use crate::copies::Recent;
+use crate::fragments::Fragments;
 use crate::recording::brought::take_frame;
 use crate::recording::event::Event;
 use crate::recording::senders::Senders;
 use crate::recording::sent::sent_of;
 use std::alloc::{AllocError, Global};
-use crate::copies::Recent;
-use crate::fragments::Fragments;
 
 /// Takes the frame that an event has, and fills the event with what became of it.
 pub(crate) fn take_event(

@@ -1,14 +1,14 @@
 //! What is shown of a text that comes piece by piece, as through a slow pipe.
 
+use net_streams::streams::{Latched, LineWriter};
 use std::alloc::{AllocError, Global};
 use std::cell::Cell;
 use std::io;
 use std::io::{Read, Write};
 use std::slice::Iter;
 use std::test::Fail;
-use tftp_commands::run;
-use net_streams::streams::{Latched, LineWriter};
 use tests_trials::drip::DripReader;
+use tftp_commands::run;
 
 /// A piece of a text, and how many datagrams have come with it.
 type Piece = (&'static str, usize);

@@ -1,10 +1,10 @@
 //! Where datagrams belong, by their ports and the other host, at both ends (RFC 1350, section 4).
 
+use law_model::rules::PortRule;
 use std::test::Fail;
 use tftp_ends::{PortFault, Ports, Route, says_unknown_id};
-use tftp_packet::hosts::{Dir, Host};
 use tftp_packet::End;
-use law_model::rules::PortRule;
+use tftp_packet::hosts::{Dir, Host};
 
 /// The faults that a datagram has by the rules of ports.
 const FOREIGN: Result<Route, PortFault> = Err(PortFault::Broken(PortRule::Foreign));

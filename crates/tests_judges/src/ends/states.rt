@@ -3,13 +3,13 @@
 ghost use Rattle.std.specs.Prelude.{◌≡◌, ◌≤◌, IfSome};
 ghost use Rattle.law_model.specs.Model.Roles.{sender_of as sends_for, receiver_of as receives_for};
 
+use law_model::rules::{EndRule, Reply, Terms};
 use std::alloc::{AllocError, Global};
 use std::test::Fail;
 use tftp_ends::blocks::{Delivered, MapDelivered, RingDelivered};
 use tftp_ends::{ReceiverState, Rejection, SenderState};
 use tftp_packet::hosts::Dir;
 use tftp_packet::{End, Packet, Side};
-use law_model::rules::{EndRule, Reply, Terms};
 
 /// A call of a state, and what it answers.
 enum Step {

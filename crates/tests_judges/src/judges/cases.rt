@@ -3,9 +3,9 @@
 
 use crate::judges::verdicts::{is_judged, is_verdict};
 use std::test::Fail;
-use tftp_ends::blocks::{MapDelivered, RingDelivered};
 use tests_trials::normals;
 use tests_trials::scripts::Script;
+use tftp_ends::blocks::{MapDelivered, RingDelivered};
 
 mod errors;
 mod files;

@@ -1,16 +1,16 @@
 //! The judge itself, datagram by datagram.
 
 use crate::judges::verdicts::{accepted_line, refused_line};
+use law_model::rules::EndRule;
 use std::alloc::{AllocError, Global};
 use std::marker::Model;
 use std::test::Fail;
-use tftp_ends::blocks::{Delivered, MapDelivered, RingDelivered};
-use tftp_capture::{Datagram, Header};
-use tftp_packet::hosts::{Dir, Host};
-use tftp_judge::{FileBytes, Judge, Meaning, Refusal, Rule};
-use tftp_packet::{Bytes, End as Side};
-use law_model::rules::EndRule;
 use tests_trials::comparing::is_so;
+use tftp_capture::{Datagram, Header};
+use tftp_ends::blocks::{Delivered, MapDelivered, RingDelivered};
+use tftp_judge::{FileBytes, Judge, Meaning, Refusal, Rule};
+use tftp_packet::hosts::{Dir, Host};
+use tftp_packet::{Bytes, End as Side};
 
 /// A judge on this store. Contracts see nothing of it, so that what the library promises of its judges is read only here,
 /// where it is called.

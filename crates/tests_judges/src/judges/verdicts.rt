@@ -1,16 +1,16 @@
 //! Verdicts on lists of datagrams and on capture texts.
 
 use crate::judges::judges::{End, Judging};
+use net_streams::streams::Latched;
 use std::alloc::{AllocError, Global};
 use std::test::Fail;
-use tftp_ends::blocks::Delivered;
-use tftp_capture::CaptureFault;
-use tests_wire::captures::reading::Reading;
-use tftp_judge::{AbortedBy, Meaning, Refusal, Rule, Verdict, judge_text};
-use tftp_packet::{Mode, Side};
-use net_streams::streams::Latched;
 use tests_trials::comparing::is_so;
 use tests_trials::drip::DripReader;
+use tests_wire::captures::reading::Reading;
+use tftp_capture::CaptureFault;
+use tftp_ends::blocks::Delivered;
+use tftp_judge::{AbortedBy, Meaning, Refusal, Rule, Verdict, judge_text};
+use tftp_packet::{Mode, Side};
 
 /// Feeds a judge the datagrams that are left of a text, up to the first fault or one that it refuses.
 fn feed_all<D: Delivered + Drop>(

@@ -4,8 +4,8 @@ use crate::captures::outcomes::gives;
 use crate::captures::texts::{Line, with_line};
 use std::alloc::AllocError;
 use std::test::Fail;
-use tftp_capture::{CaptureFault, TextFault};
 use tests_trials::texts::{NAMED, READ, long};
+use tftp_capture::{CaptureFault, TextFault};
 
 /// Nothing after the start.
 const NO_MORE: (u8, usize) = (b' ', 0);

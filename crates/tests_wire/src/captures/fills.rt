@@ -4,11 +4,11 @@ use crate::captures::reading::Reading;
 use crate::captures::texts::{BLOCKS, changed};
 use std::alloc::{AllocError, Global};
 use std::test::Fail;
-use tftp_capture::{CaptureFault, Datagram, TextFault};
-use tftp_packet::hosts::Dir;
 use tests_trials::comparing::is_so;
 use tests_trials::drip::DripReader;
 use tests_trials::texts::{READ, long};
+use tftp_capture::{CaptureFault, Datagram, TextFault};
+use tftp_packet::hosts::Dir;
 
 /// What is read into: the answer, and the line then.
 type Filled = (Result<bool, CaptureFault>, u64);

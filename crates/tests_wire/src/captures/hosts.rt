@@ -4,9 +4,9 @@ use crate::captures::outcomes::gives;
 use crate::captures::reading::Reading;
 use crate::captures::texts::changed;
 use std::test::Fail;
-use tftp_capture::{CaptureFault, TextFault};
 use tests_trials::drip::DripReader;
 use tests_trials::texts::{COMMENTED, NAMED, READ};
+use tftp_capture::{CaptureFault, TextFault};
 
 /// The hosts on the lines 4, 5 and 6 of a text.
 pub const HOSTS: &str =

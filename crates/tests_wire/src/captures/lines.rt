@@ -3,9 +3,9 @@
 use crate::captures::reading::Reading;
 use crate::captures::texts::changed;
 use std::test::Fail;
-use tftp_capture::{CaptureFault, TextFault};
 use tests_trials::drip::DripReader;
 use tests_trials::texts::READ;
+use tftp_capture::{CaptureFault, TextFault};
 
 /// What a reader answers to a call: the line of a datagram, none at the end, or the fault.
 type Answer = Result<Option<u64>, CaptureFault>;

@@ -3,8 +3,8 @@
 use crate::captures::reading::Reading;
 use std::alloc::Global;
 use std::test::Fail;
-use tftp_capture::CaptureFault;
 use tests_trials::drip::DripReader;
+use tftp_capture::CaptureFault;
 
 /// What a text gives: the number of its datagrams and the sum of their lines, or the fault.
 pub type Outcome = Result<(u64, u64), CaptureFault>;

@@ -5,11 +5,11 @@ use crate::captures::outcomes::{Outcome, gives, read_out};
 use crate::captures::reading::Reading;
 use crate::captures::texts::{BLOCKS, Line, with_line};
 use std::test::Fail;
-use tftp_capture::{CaptureFault, Header, TextFault};
-use tftp_packet::End;
 use tests_trials::comparing::is_so;
 use tests_trials::drip::DripReader;
 use tests_trials::texts::{NAMED, READ};
+use tftp_capture::{CaptureFault, Header, TextFault};
+use tftp_packet::End;
 
 /// The header of a text, and its last line.
 fn header_of(rt: &HostRuntime, text: &[u8]) -> Option<(Header, u64)> {

@@ -3,8 +3,8 @@
 use crate::captures::reads;
 use std::alloc::AllocError;
 use std::test::Fail;
-use tftp_capture::{CaptureFault, TextFault};
 use tests_trials::texts::{NAMED, READ, long};
+use tftp_capture::{CaptureFault, TextFault};
 
 /// Blocks that go the same way between the same ports, so that the third line may be known by the second.
 pub const BLOCKS: &str =

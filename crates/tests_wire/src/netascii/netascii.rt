@@ -3,8 +3,8 @@
 
 use std::alloc::{AllocError, Global};
 use std::test::Fail;
-use tftp_netascii::{Decoder, decode, decode_pieces, encode, encoded_len, file_lengths};
 use tests_trials::comparing::{is_same, is_so};
+use tftp_netascii::{Decoder, decode, decode_pieces, encode, encoded_len, file_lengths};
 
 /// Texts, the files that they read as, and the lengths of those that are written for these.
 const TEXTS: &[(&[u8], &[u8], usize)] = &[

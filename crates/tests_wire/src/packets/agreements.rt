@@ -2,8 +2,8 @@
 
 use crate::packets::views::{oack_of, owned_request_of};
 use std::test::Fail;
-use tftp_nego::{Agreed, NegoFault, agree, nothing_agreed};
 use tests_trials::comparing::is_so;
+use tftp_nego::{Agreed, NegoFault, agree, nothing_agreed};
 
 mod faults;
 

@@ -5,13 +5,13 @@ ghost use Rattle.tftp_packet.specs.{HasStringMessage};
 use crate::packets::views::{oack_of, owned_request_of, packet_of, request_of};
 use std::alloc::AllocError;
 use std::test::Fail;
+use tests_trials::comparing::{is_same, is_so};
 use tftp_packet::hosts::Host;
 use tftp_packet::{
     Bytes, Mode, Options, OptionsView, Packet, PacketFault, Request, RequestView, Side, Value,
     ack_of, block_of, opcode, own_options, same_options, same_request, write_oack, write_packet,
     write_request,
 };
-use tests_trials::comparing::{is_same, is_so};
 
 mod faults;
 mod many;

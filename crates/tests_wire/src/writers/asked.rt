@@ -2,10 +2,10 @@
 
 ghost use Rattle.std.specs.Prelude.{◌≡◌, IfOk};
 
+use net_streams::streams::{Latched, LineWriter};
 use std::io;
 use std::io::{ErrorKind, Read, Write};
 use std::test::Fail;
-use net_streams::streams::{Latched, LineWriter};
 use tests_trials::comparing::is_so;
 
 /// Counts how often it was asked, and answers one call with an error.

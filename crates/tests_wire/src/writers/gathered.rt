@@ -2,9 +2,9 @@
 
 use crate::writers::writes::has_written;
 use crate::writers::writing::{Written, written};
+use net_streams::streams::{LineWriter, WriteFault};
 use std::alloc::AllocError;
 use std::test::Fail;
-use net_streams::streams::{LineWriter, WriteFault};
 use tests_trials::drip::DripWriter;
 use tests_trials::texts::long;
 

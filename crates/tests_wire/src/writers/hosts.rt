@@ -3,9 +3,9 @@
 use crate::writers::writes::{DATAGRAMS, HEADER, has_written};
 use crate::writers::writing::{write_with_comment, write_with_host};
 use std::test::Fail;
-use tftp_packet::hosts::Host;
 use tests_trials::drip::DripWriter;
 use tests_trials::texts::{COMMENTED, NAMED};
+use tftp_packet::hosts::Host;
 
 /// Fails unless the text of `NAMED`, whose host is this, is written where each write takes so many bytes.
 fn is_written_in(rt: &HostRuntime, piece: usize, host: &Host) -> Result<(), Fail> {

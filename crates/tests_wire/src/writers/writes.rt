@@ -1,15 +1,15 @@
 //! What is written of whole texts, and what of it where a write fails.
 
-use crate::writers::writing::{Row, Written, write};
-use std::test::Fail;
-use tftp_capture::Header;
 use crate::captures::outcomes::gives;
-use tftp_packet::hosts::Dir;
-use tftp_packet::End;
+use crate::writers::writing::{Row, Written, write};
 use net_streams::streams::WriteFault;
+use std::test::Fail;
 use tests_trials::comparing::{is_same, is_so};
 use tests_trials::drip::DripWriter;
 use tests_trials::texts::{READ, long};
+use tftp_capture::Header;
+use tftp_packet::End;
+use tftp_packet::hosts::Dir;
 
 /// The header of `READ` and `NAMED`.
 pub const HEADER: Header = Header {

@@ -2,12 +2,12 @@
 
 ghost use Rattle.std.specs.Prelude.{◌≡◌};
 
+use net_streams::streams::{LineWriter, WriteFault};
 use std::alloc::Global;
 use std::marker::Model;
+use tests_trials::drip::DripWriter;
 use tftp_capture::{CaptureWriter, Header, HostCaptureWriter};
 use tftp_packet::hosts::{Dir, Host};
-use net_streams::streams::{LineWriter, WriteFault};
-use tests_trials::drip::DripWriter;
 
 /// A datagram by its direction, its port at the named end, the port at the other and its payload.
 pub type Row<'a> = (Dir, u16, u16, &'a [u8]);

@@ -1,7 +1,7 @@
 use crate::judges::verdicts::is_file;
 use std::test::Fail;
-use tftp_ends::blocks::{MapDelivered, RingDelivered};
 use tests_trials::scripts::Script;
+use tftp_ends::blocks::{MapDelivered, RingDelivered};
 
 /// Captures of whole transfers, and their files, in hex digits; `-` where the file is empty.
 pub const SCRIPT: &str = "
