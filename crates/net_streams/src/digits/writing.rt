@@ -81,7 +81,7 @@ fn encode_half(bytes: &[u8], digits: &mut [u8], from: usize) -> usize
     from + LANES / 2
 }
 
-#[tactic(auto, using(crate::digits::proofs::Lanes::digits_of_four))]
+#[tactic(auto, using(crate::proofs::DigitsLemmas::Lanes::digits_of_four))]
 /// The two digits of each of four bytes: those of sixteen, of which the others are zero.
 #[inline(always)]
 fn digits_of_4(bytes: u8x4) -> u8x8
