@@ -1,5 +1,5 @@
 -- Ways differ.
-use Rattle.std.proofs.Common.{◌≡◌, absurd}
+use Rattle.std.proofs.Common.{◌≡◌}
 use Rattle.tftp_packet.specs.Hosts.{In, Out}
 
 pub in_not_out : In ≡ Out → ⊥
