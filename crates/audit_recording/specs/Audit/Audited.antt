@@ -1,10 +1,9 @@
 -- What the audit of a recording keeps, and for which frames it stands. Lists have the newest first.
 use Rattle.std.specs.Prelude.{◌≡◌, ◌∷◌, ℕ, Bool, List, max, Result, Ok, Err}
-use Rattle.std.specs.BTreeMap.{BTreeMap}
 use Rattle.std.specs.List.{AllByRecursion}
 use Rattle.audit_views.specs.Parties.{host_name}
 use Rattle.net_udp.specs.Recording.{EventState, Step}
-use Rattle.audit_recording.specs.Judges.{StandsAfter, Watched, Judging}
+use Rattle.audit_recording.specs.Judges.{RecordingJudge, StandsAfter}
 use Rattle.audit_recording.specs.Audit.Passed.{HasPassed, last_time}
 use Rattle.audit_recording.specs.Audit.Sound.{IsSoundDatagram}
 use Rattle.audit_recording.specs.declared.audit.next.AuditFault.{AuditFault}
@@ -14,13 +13,17 @@ use Rattle.audit_recording.specs.declared.audit.next.NextFrame.TheVariants.{End,
 use Rattle.audit_flows.specs.Transfers.{Attributed, Attribution, place_of, placed}
 use Rattle.audit_flows.specs.Lines.{doubts_of, Placed, clock, Recorded}
 
--- The judges, where transfers are to be judged, were given what these frames of a recording have given, and nothing else; each
--- host is named by its address.
+-- What the audit of a recording keeps: its judge, and the time of the last datagram in nanoseconds.
+pub record RecordingAudit : Type 0 where
+  pub judge : RecordingJudge
+  pub last_time : ℕ
+
+-- The judges were given what these frames of a recording have given, and nothing else; each host is named by its address.
 -- `named` are the service ports that were named, `out` the numbers of the transfers that were handed out.
-pub record AuditsAfter (a : Attribution) (watched : BTreeMap ℕ Watched) (failed : Bool) (judging : Judging) (last : ℕ) (named out : List ℕ) (history : List Step) (passed : List Recorded) : Type 0 where
+pub record AuditsAfter (audit : RecordingAudit) (named out : List ℕ) (history : List Step) (passed : List Recorded) : Type 0 where
   pub frames : HasPassed history passed
-  pub judges : StandsAfter a watched failed judging named host_name out passed
-  pub time : last ≡ last_time passed
+  pub judges : StandsAfter audit.judge named host_name out passed
+  pub time : audit.last_time ≡ last_time passed
   pub sound : AllByRecursion IsSoundDatagram passed
 
 -- the frame is that of the event

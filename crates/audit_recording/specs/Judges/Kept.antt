@@ -137,13 +137,21 @@ IsKept judging name out all fed n (Some w) = (opened n all ≡ Some w.transfer) 
 abbrev pub AreKept : BTreeMap ℕ Watched → Judging → Naming → List ℕ → List Placed → List Placed → Type 0
 AreKept watched judging name out all fed = (n : ℕ) → IsKept judging name out all fed n (get nat_cmp watched n)
 
+-- What the judge of a recording keeps: what places the datagrams, the transfers by their numbers, whether memory was wanting
+-- for a datagram, and where transfers are to be judged.
+pub record RecordingJudge : Type 0 where
+  pub attribution : Attribution
+  pub watched : BTreeMap ℕ Watched
+  pub failed : Bool
+  pub judging : Judging
+
 -- What places the datagrams and the judges of the transfers were fed this recording, and nothing else: each transfer of it
 -- has its judges where it is to be judged, but for those that were handed out. `named` are the service ports that were named,
 -- `name` names each host.
-pub record StandsAfter (a : Attribution) (watched : BTreeMap ℕ Watched) (failed : Bool) (judging : Judging) (named : List ℕ) (name : Naming) (out : List ℕ) (recorded : List Recorded) : Type 0 where
-  pub works : failed ≡ false
-  pub attribution : IsAfter a named (placed named recorded)
-  pub transfers : AreKept watched judging name out (placed named recorded) (placed named recorded)
+pub record StandsAfter (judge : RecordingJudge) (named : List ℕ) (name : Naming) (out : List ℕ) (recorded : List Recorded) : Type 0 where
+  pub works : judge.failed ≡ false
+  pub attribution : IsAfter judge.attribution named (placed named recorded)
+  pub transfers : AreKept judge.watched judge.judging name out (placed named recorded) (placed named recorded)
 
 -- the host of an end is called by its name
 abbrev pub IsCalled : Naming → Party → Type 0

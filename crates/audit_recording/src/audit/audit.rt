@@ -36,10 +36,18 @@ pub struct RecordingAudit<D: Delivered + Drop> {
     last_time: u64,
 }
 
+impl<D: Delivered + Drop> Model for RecordingAudit<D> {
+    ghost use Rattle.audit_recording.specs.Audit.Audited.{RecordingAudit};
+
+    ghost Value = { RecordingAudit };
+
+    ghost view = { λ a. record { judge = a.judge; last_time = a.last_time } };
+}
+
 impl<D: Delivered + Drop> RecordingAudit<D> {
     /// No frame was read. Requests go to port 69 (RFC 1350, section 4) and to the ports that are named.
     pub fn new(alloc: Global, named: &[u16], judging: Judging) -> Result<Self, AllocError>
-        ensures stands { IfOk result (λ a. AuditsAfter a.judge.attribution a.judge.watched a.judge.failed a.judge.judging a.last_time named.now [] [] []) }
+        ensures stands { IfOk result (λ a. AuditsAfter a named.now [] [] []) }
         ensures judging { IfOk result (λ a. a.judge.judging ≡ judging) }
     {
         Ok(RecordingAudit {
@@ -57,12 +65,12 @@ impl<D: Delivered + Drop> RecordingAudit<D> {
         event: &Event,
     ) -> Result<Option<Attributed>, AttributionFault>
         ensures stands { (named : List ℕ) (out : List ℕ) (history : List Step) (passed : List Recorded) (step : Step)
-            → AuditsAfter self.old.judge.attribution self.old.judge.watched self.old.judge.failed self.old.judge.judging self.old.last_time named out history passed
+            → AuditsAfter self.old named out history passed
             → IsOf step event.now
             → IfOk result (λ found. MatchOption found
-            (AuditsAfter self.new.judge.attribution self.new.judge.watched self.new.judge.failed self.new.judge.judging self.new.last_time named out (step ∷ history) passed)
+            (AuditsAfter self.new named out (step ∷ history) passed)
             (λ a. (d : Recorded) × IsAttributed named passed d a
-            × AuditsAfter self.new.judge.attribution self.new.judge.watched self.new.judge.failed self.new.judge.judging self.new.last_time named out (step ∷ history) (d ∷ passed))) }
+            × AuditsAfter self.new named out (step ∷ history) (d ∷ passed))) }
         ensures spare { OnErr result ((given : Datagram) × IsFateOf event.now.frame.parts event.now.likeness event.now.brought.outcome event.now.is_discarded (Fate.Datagram given)) }
         ensures full { result ≡ Err AttributionFault.TooMany → (self.old.judge.attribution.count + 1 ≡ 2 ^ 64) ⊎ AreCrowded self.old.judge.watched }
         ensures fails { OnErr result (self.new.judge.failed ≡ true) }
@@ -88,11 +96,11 @@ impl<D: Delivered + Drop> RecordingAudit<D> {
     ) -> Result<NextFrame, AuditFault>
         ensures continues { (named : List ℕ) (out : List ℕ) (bytes : List ℕ) (history : List Step) (passed : List Recorded)
             → StandsFor recording.old bytes history
-            → AuditsAfter self.old.judge.attribution self.old.judge.watched self.old.judge.failed self.old.judge.judging self.old.last_time named out history passed
+            → AuditsAfter self.old named out history passed
             → (taken : List ℕ)
             × Consumes (prepend_known recording.old.frames.pieces.ahead (R.remaining reader.old.0)) (prepend_known recording.new.frames.pieces.ahead (R.remaining reader.new.0)) taken
             × GoesOn (λ frames datagrams. StandsFor recording.new (bytes ++ taken) frames
-            × AuditsAfter self.new.judge.attribution self.new.judge.watched self.new.judge.failed self.new.judge.judging self.new.last_time named out frames datagrams) named history passed result }
+            × AuditsAfter self.new named out frames datagrams) named history passed result }
         ensures ends { result ≡ Ok NextFrame.End → standing_of recording.new ≡ Standing.Over }
         ensures stops { (fault : PcapFault) → result ≡ Err (AuditFault.Recording fault) → standing_of recording.new ≡ Standing.Failed fault }
         ensures fails { (fault : AttributionFault) → result ≡ Err (AuditFault.Judges fault) → self.new.judge.failed ≡ true }
@@ -108,9 +116,9 @@ impl<D: Delivered + Drop> RecordingAudit<D> {
     /// Takes what became of a frame that was read.
     fn note(&mut self, alloc: Global, event: &Event) -> Result<NextFrame, AuditFault>
         ensures stands { (named : List ℕ) (out : List ℕ) (history : List Step) (passed : List Recorded) (step : Step)
-            → AuditsAfter self.old.judge.attribution self.old.judge.watched self.old.judge.failed self.old.judge.judging self.old.last_time named out history passed
+            → AuditsAfter self.old named out history passed
             → IsOf step event.now
-            → IsNoted (λ datagrams. AuditsAfter self.new.judge.attribution self.new.judge.watched self.new.judge.failed self.new.judge.judging self.new.last_time named out (step ∷ history) datagrams) named passed result }
+            → IsNoted (λ datagrams. AuditsAfter self.new named out (step ∷ history) datagrams) named passed result }
         ensures no_end { result ≢ Ok NextFrame.End }
         ensures no_stop { (fault : PcapFault) → result ≢ Err (AuditFault.Recording fault) }
         ensures fails { OnErr result (self.new.judge.failed ≡ true) }
@@ -132,10 +140,10 @@ impl<D: Delivered + Drop> RecordingAudit<D> {
     ) -> Result<Attributed, AttributionFault>
         requires sound { IsSound (record { source_port = datagram.now.source_port; target_port = datagram.now.target_port; payload = datagram.now.payload.now }) }
         ensures stands { (named : List ℕ) (out : List ℕ) (passed : List Recorded)
-            → StandsAfter self.old.judge.attribution self.old.judge.watched self.old.judge.failed self.old.judge.judging named host_name out passed
+            → StandsAfter self.old.judge named host_name out passed
             → self.old.last_time ≡ last_time passed
             → IfOk result (λ a. (d : Recorded) × IsTaken datagram.now (time_by time passed) d × IsAttributed named passed d a
-            × StandsAfter self.new.judge.attribution self.new.judge.watched self.new.judge.failed self.new.judge.judging named host_name out (d ∷ passed)
+            × StandsAfter self.new.judge named host_name out (d ∷ passed)
             × (self.new.last_time ≡ d.time) × IsSoundDatagram d) }
         ensures full { result ≡ Err AttributionFault.TooMany → (self.old.judge.attribution.count + 1 ≡ 2 ^ 64) ⊎ AreCrowded self.old.judge.watched }
         ensures fails { OnErr result (self.new.judge.failed ≡ true) }
@@ -154,7 +162,7 @@ impl<D: Delivered + Drop> RecordingAudit<D> {
     /// The transfer with this number, if it was opened and not handed out.
     pub fn watched(&self, number: u64) -> Option<&Watched<D>>
         ensures { (named : List ℕ) (out : List ℕ) (history : List Step) (passed : List Recorded)
-            → AuditsAfter self.now.judge.attribution self.now.judge.watched self.now.judge.failed self.now.judge.judging self.now.last_time named out history passed
+            → AuditsAfter self.now named out history passed
             → MatchOption result ((opened number (placed named passed) ≡ None) ⊎ (is_among number out ≡ true))
             (λ w. (opened number (placed named passed) ≡ Some w.now.transfer)
             × IsWatching w.now self.now.judge.judging w.now.transfer host_name (placed named passed)) }
@@ -165,17 +173,17 @@ impl<D: Delivered + Drop> RecordingAudit<D> {
     /// Hands out the transfer that was opened first of those that were not handed out.
     pub fn pop_first(&mut self) -> Option<Watched<D>>
         ensures all { (named : List ℕ) (out : List ℕ) (history : List Step) (passed : List Recorded)
-            → AuditsAfter self.old.judge.attribution self.old.judge.watched self.old.judge.failed self.old.judge.judging self.old.last_time named out history passed
+            → AuditsAfter self.old named out history passed
             → result ≡ None → (n : ℕ) → (opened n (placed named passed) ≡ None) ⊎ (is_among n out ≡ true) }
         ensures watched { (named : List ℕ) (out : List ℕ) (history : List Step) (passed : List Recorded)
-            → AuditsAfter self.old.judge.attribution self.old.judge.watched self.old.judge.failed self.old.judge.judging self.old.last_time named out history passed
+            → AuditsAfter self.old named out history passed
             → IfSome result (λ w. (opened w.transfer.number (placed named passed) ≡ Some w.transfer)
             × IsWatching w self.old.judge.judging w.transfer host_name (placed named passed)) }
         ensures stands { (named : List ℕ) (out : List ℕ) (history : List Step) (passed : List Recorded)
-            → AuditsAfter self.old.judge.attribution self.old.judge.watched self.old.judge.failed self.old.judge.judging self.old.last_time named out history passed
-            → IfSome result (λ w. AuditsAfter self.new.judge.attribution self.new.judge.watched self.new.judge.failed self.new.judge.judging self.new.last_time named (w.transfer.number ∷ out) history passed) }
+            → AuditsAfter self.old named out history passed
+            → IfSome result (λ w. AuditsAfter self.new named (w.transfer.number ∷ out) history passed) }
         ensures first { (named : List ℕ) (out : List ℕ) (history : List Step) (passed : List Recorded) (n : ℕ)
-            → AuditsAfter self.old.judge.attribution self.old.judge.watched self.old.judge.failed self.old.judge.judging self.old.last_time named out history passed
+            → AuditsAfter self.old named out history passed
             → IsSome (opened n (placed named passed)) → is_among n out ≡ false
             → IfSome result (λ w. w.transfer.number ≤ n) }
         ensures judging { self.new.judge.judging ≡ self.old.judge.judging }
@@ -187,7 +195,7 @@ impl<D: Delivered + Drop> RecordingAudit<D> {
     /// recording's time, or has not begun.
     pub fn is_over(&self, client: &Endpoint) -> bool
         ensures { (named : List ℕ) (out : List ℕ) (history : List Step) (passed : List Recorded)
-            → AuditsAfter self.now.judge.attribution self.now.judge.watched self.now.judge.failed self.now.judge.judging self.now.last_time named out history passed
+            → AuditsAfter self.now named out history passed
             → MatchBool result
             (live (clock (placed named passed)) (line client.now (placed named passed)) ≡ [])
             (live (clock (placed named passed)) (line client.now (placed named passed)) ≢ []) }

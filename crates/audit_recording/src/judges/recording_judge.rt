@@ -26,10 +26,18 @@ pub struct RecordingJudge<D: Delivered + Drop> {
     judging: Judging,
 }
 
+impl<D: Delivered + Drop> Model for RecordingJudge<D> {
+    ghost use Rattle.audit_recording.specs.Judges.Kept.{RecordingJudge};
+
+    ghost Value = { RecordingJudge };
+
+    ghost view = { λ j. record { attribution = j.attribution; watched = j.watched; failed = j.failed; judging = j.judging } };
+}
+
 impl<D: Delivered + Drop> RecordingJudge<D> {
     /// Nothing has passed. Requests go to port 69 (RFC 1350, section 4) and to the ports that are named.
     pub fn new(alloc: Global, named: &[u16], judging: Judging) -> Result<Self, AllocError>
-        ensures stands { (name : Naming) → IfOk result (λ r. StandsAfter r.attribution r.watched r.failed r.judging named.now name [] []) }
+        ensures stands { (name : Naming) → IfOk result (λ r. StandsAfter r named.now name [] []) }
         ensures judging { IfOk result (λ r. r.judging ≡ judging) }
     {
         Ok(RecordingJudge {
@@ -54,20 +62,20 @@ impl<D: Delivered + Drop> RecordingJudge<D> {
     ) -> Result<Attributed, AttributionFault>
         requires short { length payload.now ≤ 65527 }
         ensures place { (named : List ℕ) (name : Naming) (out : List ℕ) (recorded : List Recorded) (d : Recorded)
-            → StandsAfter self.old.attribution self.old.watched self.old.failed self.old.judging named name out recorded
+            → StandsAfter self.old named name out recorded
             → IsRecorded d time source.now.end target.now.end payload.now is_spelled
             → IfOk result (λ found. found.place ≡ place_of named (placed named recorded) (max time (clock (placed named recorded))) d) }
         ensures doubts { (named : List ℕ) (name : Naming) (out : List ℕ) (recorded : List Recorded) (d : Recorded)
-            → StandsAfter self.old.attribution self.old.watched self.old.failed self.old.judging named name out recorded
+            → StandsAfter self.old named name out recorded
             → IsRecorded d time source.now.end target.now.end payload.now is_spelled
             → IfOk result (λ found. found.doubts ≡ doubts_of (record { datagram = d; moment = max time (clock (placed named recorded)); place = found.place }) (placed named recorded)) }
         ensures stands { (named : List ℕ) (name : Naming) (out : List ℕ) (recorded : List Recorded) (d : Recorded)
-            → StandsAfter self.old.attribution self.old.watched self.old.failed self.old.judging named name out recorded
+            → StandsAfter self.old named name out recorded
             → IsRecorded d time source.now.end target.now.end payload.now is_spelled
             → IsCalled name source.now → IsCalled name target.now
-            → OnOk result (StandsAfter self.new.attribution self.new.watched self.new.failed self.new.judging named name out (d ∷ recorded)) }
+            → OnOk result (StandsAfter self.new named name out (d ∷ recorded)) }
         ensures spare { (named : List ℕ) (name : Naming) (out : List ℕ) (recorded : List Recorded) (d : Recorded)
-            → StandsAfter self.old.attribution self.old.watched self.old.failed self.old.judging named name out recorded
+            → StandsAfter self.old named name out recorded
             → IsRecorded d time source.now.end target.now.end payload.now is_spelled
             → place_of named (placed named recorded) (max time (clock (placed named recorded))) d ≡ Nowhere → may_be_tftp d ≡ false
             → result ≢ Err AttributionFault.Memory }
@@ -98,7 +106,7 @@ impl<D: Delivered + Drop> RecordingJudge<D> {
     /// The transfer with this number, if it was opened and not handed out.
     pub fn watched(&self, number: u64) -> Option<&Watched<D>>
         ensures { (named : List ℕ) (name : Naming) (out : List ℕ) (recorded : List Recorded)
-            → StandsAfter self.now.attribution self.now.watched self.now.failed self.now.judging named name out recorded
+            → StandsAfter self.now named name out recorded
             → MatchOption result ((opened number (placed named recorded) ≡ None) ⊎ (is_among number out ≡ true))
             (λ w. (opened number (placed named recorded) ≡ Some w.now.transfer)
             × IsWatching w.now self.now.judging w.now.transfer name (placed named recorded)) }
@@ -109,17 +117,17 @@ impl<D: Delivered + Drop> RecordingJudge<D> {
     /// Hands out the transfer that was opened first of those that were not handed out.
     pub fn pop_first(&mut self) -> Option<Watched<D>>
         ensures all { (named : List ℕ) (name : Naming) (out : List ℕ) (recorded : List Recorded)
-            → StandsAfter self.old.attribution self.old.watched self.old.failed self.old.judging named name out recorded → result ≡ None
+            → StandsAfter self.old named name out recorded → result ≡ None
             → (n : ℕ) → (opened n (placed named recorded) ≡ None) ⊎ (is_among n out ≡ true) }
         ensures watched { (named : List ℕ) (name : Naming) (out : List ℕ) (recorded : List Recorded)
-            → StandsAfter self.old.attribution self.old.watched self.old.failed self.old.judging named name out recorded
+            → StandsAfter self.old named name out recorded
             → IfSome result (λ w. (opened w.transfer.number (placed named recorded) ≡ Some w.transfer)
             × IsWatching w self.old.judging w.transfer name (placed named recorded)) }
         ensures stands { (named : List ℕ) (name : Naming) (out : List ℕ) (recorded : List Recorded)
-            → StandsAfter self.old.attribution self.old.watched self.old.failed self.old.judging named name out recorded
-            → IfSome result (λ w. StandsAfter self.new.attribution self.new.watched self.new.failed self.new.judging named name (w.transfer.number ∷ out) recorded) }
+            → StandsAfter self.old named name out recorded
+            → IfSome result (λ w. StandsAfter self.new named name (w.transfer.number ∷ out) recorded) }
         ensures first { (named : List ℕ) (name : Naming) (out : List ℕ) (recorded : List Recorded) (n : ℕ)
-            → StandsAfter self.old.attribution self.old.watched self.old.failed self.old.judging named name out recorded → IsSome (opened n (placed named recorded)) → is_among n out ≡ false
+            → StandsAfter self.old named name out recorded → IsSome (opened n (placed named recorded)) → is_among n out ≡ false
             → IfSome result (λ w. w.transfer.number ≤ n) }
         ensures judging { self.new.judging ≡ self.old.judging }
     {
@@ -131,7 +139,7 @@ impl<D: Delivered + Drop> RecordingJudge<D> {
     /// Then no datagram joins its transfers any more.
     pub fn is_over(&self, client: &Endpoint, time: u64) -> bool
         ensures { (named : List ℕ) (name : Naming) (out : List ℕ) (recorded : List Recorded)
-            → StandsAfter self.now.attribution self.now.watched self.now.failed self.now.judging named name out recorded
+            → StandsAfter self.now named name out recorded
             → MatchBool result
             (live (max time (clock (placed named recorded))) (line client.now (placed named recorded)) ≡ [])
             (live (max time (clock (placed named recorded))) (line client.now (placed named recorded)) ≢ []) }

@@ -20,6 +20,6 @@ returns-in-Ok-true-clause-continues g c named out bytes history passed stands af
       read.taken,
       read.consumed,
       noted_goes_on (StandsFor c.next_into.new.self (bytes ++ read.taken))
-          (λ frames datagrams. AuditsAfter c.note.new.self.judge.attribution c.note.new.self.judge.watched c.note.new.self.judge.failed c.note.new.self.judge.judging c.note.new.self.last_time named out frames datagrams)
+          (λ frames datagrams. AuditsAfter c.note.new.self named out frames datagrams)
           named history passed step c.note.result (subst (λ (b : Bool). StandsFor c.next_into.new.self (bytes ++ read.taken) (with_step history (Ok b) c.next_into.new.event c.next_into.new.self.waiting read.came)) c.in-Ok-true.field-0-test read.stands) c.note.ensures.no_end c.note.ensures.no_stop noted,
     )
