@@ -4,10 +4,12 @@ use Rattle.std.proofs.Common.{◌≡◌, ◌≢◌, ◌⊎◌, ◌≤◌, ◌+�
 use Rattle.std.specs.List.{AllByRecursion}
 use Rattle.std.proofs.lemmas.Bool.{false≢true, leb-true, le-leb, eqb-true}
 use Rattle.law_end.proofs.Division.Divided.{any_cases, any_later}
-use Rattle.audit_flows.specs.Lines.{Endpoint, Place, Opens, Repeats, Talks, Apart, Beside, Nowhere, Transfer, Talk, Recorded, same_endpoint, goes, is_again, Placed, opens, is_apart, is_at, newest_of, live, line, silence, latest_in, answered_in, is_known_host, talk_in, place_talked, place_at, opened_by, asked_after, clock}
+use Rattle.audit_flows.specs.Lines.{Recorded, same_endpoint, goes, is_again, Placed, opens, is_apart, is_at, newest_of, live, line, silence, latest_in, answered_in, is_known_host, talk_in, place_talked, place_at, opened_by, asked_after, clock}
+use Rattle.audit_flows.specs.{Endpoint, Place, Opens, Repeats, Talks, Apart, Beside, Nowhere, Transfer, Talk}
 use Rattle.audit_flows.proofs.LinesLemmas.Endpoints.{is_same, same_itself}
 use Rattle.audit_flows.proofs.LinesLemmas.Lines.{by_test}
-use Rattle.audit_flows.specs.Transfers.{Served, at_client, beside, beside_by, either, or_talks, serves, newer, last_served, served_by, served_at, is_about, is_service, is_nowhere, asks, place_of, placed}
+use Rattle.audit_flows.specs.Transfers.{at_client, beside, beside_by, either, or_talks, serves, newer, last_served, served_by, served_at, is_about, is_service, is_nowhere, asks, place_of, placed}
+use Rattle.audit_flows.specs.{Served}
 use Rattle.audit_flows.proofs.TransfersLemmas.AllLines.{line_here, line_elsewhere}
 use Rattle.audit_flows.proofs.TransfersLemmas.Ends.{opened, again, asked_as, asked_place, placed_where}
 use Rattle.audit_cleared.specs.{IsOpenedIn}

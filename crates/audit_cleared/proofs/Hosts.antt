@@ -1,6 +1,6 @@
 -- The hosts of the worked recordings are at addresses.
 use Rattle.std.proofs.Common.{zero, suc, ◌<◌, ◌^◌, ℕ, [], ◌∷◌, slice_index, refl, arith}
-use Rattle.audit_flows.specs.Lines.{V4}
+use Rattle.audit_flows.specs.{V4}
 use Rattle.audit_views.specs.Parties.{IsAddress}
 
 few_bytes : (a b c d : ℕ) → a < 2 ^ 8 → b < 2 ^ 8 → c < 2 ^ 8 → d < 2 ^ 8 → (k : ℕ) → slice_index (a ∷ b ∷ c ∷ d ∷ []) k < 2 ^ 8

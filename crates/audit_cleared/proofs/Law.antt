@@ -11,7 +11,8 @@ use Rattle.law_model.proofs.ModelLemmas.OneSided.{view_one_sided}
 use Rattle.law_end.specs.{IsSeen, IsLawful, ShowsBy, OneEnded, Meant, Division, view_in, HaveLabelsBy, says_of, Starts}
 use Rattle.law_end.proofs.Division.Routed.{starts_of}
 use Rattle.law_end.proofs.Whole.TwoEnds.{lawful, whole}
-use Rattle.audit_flows.specs.Lines.{Transfer, Placed}
+use Rattle.audit_flows.specs.Lines.{Placed}
+use Rattle.audit_flows.specs.{Transfer}
 use Rattle.audit_flows.specs.Transfers.{server_of}
 use Rattle.law_tap.specs.{pass_of, tapped_at, TapDatagram, TapSides, AreApart, IsLawfulBetween, ShowsBetween, BreaksNoTapRule}
 use Rattle.law_tap.specs.TapDress.{IsTapDressed}

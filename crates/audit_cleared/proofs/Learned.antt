@@ -4,7 +4,8 @@ use Rattle.std.proofs.lemmas.Bool.{and_parts, ltb-true, true≢false}
 use Rattle.std.specs.Fmt.{digits}
 use Rattle.std.specs.List.{AllByRecursion, list_all}
 use Rattle.tftp_packet.specs.{Client, Get, IsString, Message, Num, Octet, Server, Spells, no_options}
-use Rattle.tftp_packet.specs.Hosts.{Datagram, In, Out}
+use Rattle.tftp_packet.specs.Hosts.{Datagram}
+use Rattle.tftp_packet.specs.{In, Out}
 use Rattle.law_model.specs.Model.{Ack, Data, History, IsView, Meaning, Req, Sent, Step, Took, blksize_of, block, block_count, request_of}
 use Rattle.law_model.proofs.ModelLemmas.Computed.{IsPlan, run_is}
 use Rattle.law_model.proofs.ModelLemmas.Defaults.{default_blksize, default_windowsize}

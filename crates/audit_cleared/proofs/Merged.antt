@@ -3,14 +3,16 @@ use Rattle.std.proofs.Common.{◌≡◌, ◌⊎◌, ℕ, Bool, true, false, cond
 use Rattle.std.specs.List.{AllByRecursion}
 use Rattle.std.proofs.lemmas.Bool.{false≢true}
 use Rattle.tftp_packet.specs.{Message, Spells, End, Client, Server}
-use Rattle.tftp_packet.specs.Hosts.{In, Out, Datagram, PeerId}
+use Rattle.tftp_packet.specs.Hosts.{Datagram, PeerId}
+use Rattle.tftp_packet.specs.{In, Out}
 use Rattle.law_model.specs.Model.{Meaning, MachinePacket, Deed, Sent, Took, Req, Oack, Data, Ack, Error}
 use Rattle.law_end.specs.{Label, Labelled, Division, datagrams_of, view_in, TransferIds, IsMain, CarriesDeed, HasLabelBy, HaveLabelsBy, says_of}
 use Rattle.law_end.specs.Dress.{Main, Stray, StrayAnswer}
 use Rattle.law_end.proofs.Division.Divided.{any_none, any_cases, any_first, any_later, divided_more, divided_none, view_main}
 use Rattle.law_end.proofs.Division.Placing.{WentOut, MainOut, StrayFrom, any_main_out}
 use Rattle.law_end.proofs.Division.Routed.{told_of}
-use Rattle.audit_flows.specs.Lines.{Endpoint, Transfer, Recorded, begins_request, Placed, is_of}
+use Rattle.audit_flows.specs.Lines.{Recorded, begins_request, Placed, is_of}
+use Rattle.audit_flows.specs.{Endpoint, Transfer}
 use Rattle.law_tap.specs.{pass_of, tapped_at, PeerId, TapDatagram, TapSides, side_of, TapLabel, TapLabelled, TapDivision, tapped_of, IsMainFrom, GoesThere, HasTapLabel, HaveTapLabels}
 use Rattle.law_tap.specs.TapDress as tap
 use Rattle.audit_views.specs.Views.{captured, server_header}

@@ -7,7 +7,8 @@ use Rattle.tftp_packet.specs.Hosts.{PeerId}
 use Rattle.law_model.specs.Model.{Meaning}
 use Rattle.law_end.specs.{OneEnded, Meant}
 use Rattle.law_end.proofs.Division.Divided.{any_none, any_cases}
-use Rattle.audit_flows.specs.Lines.{Endpoint, Opens, Talks, Transfer, Recorded, same_address, same_endpoint, Placed, is_of}
+use Rattle.audit_flows.specs.Lines.{Recorded, same_address, same_endpoint, Placed, is_of}
+use Rattle.audit_flows.specs.{Endpoint, Opens, Talks, Transfer}
 use Rattle.audit_flows.proofs.LinesLemmas.Lines.{by_test}
 use Rattle.audit_flows.specs.Transfers.{client_view, placed, server_of}
 use Rattle.audit_flows.proofs.TransfersLemmas.OwnDatagrams.{server_kept}

@@ -2,7 +2,8 @@
 use Rattle.std.proofs.Common.{◌≡◌, ◌⊎◌, ◌<◌, ℕ, ◌+◌, Bool, true, false, List, [], ◌∷◌, Option, Some, None, inl, inr, arith, refl, sym, ap, subst, ◌∙◌, not, ◌&&◌, nat_le, max, option_map, length, if◌then◌else◌}
 use Rattle.std.specs.List.{AllByRecursion}
 use Rattle.law_end.proofs.Division.Divided.{any_none, any_cases, any_first, any_later}
-use Rattle.audit_flows.specs.Lines.{Endpoint, Place, Opens, Repeats, Talks, Apart, Transfer, Talk, Recorded, same_endpoint, is_again, Placed, opens, is_apart, is_at, newest_of, live, line, silence, transfer_of, latest_in, answered_in, talked_of, talk_in, place_talked, place_at, opened_by, asked_after, is_known_host, last_was_ack_0, clock}
+use Rattle.audit_flows.specs.Lines.{Recorded, same_endpoint, is_again, Placed, opens, is_apart, is_at, newest_of, live, line, silence, transfer_of, latest_in, answered_in, talked_of, talk_in, place_talked, place_at, opened_by, asked_after, is_known_host, last_was_ack_0, clock}
+use Rattle.audit_flows.specs.{Endpoint, Place, Opens, Repeats, Talks, Apart, Transfer, Talk}
 use Rattle.audit_flows.specs.Transfers.{at_client, beside, beside_by, served_at, is_nowhere, asks, place_of, placed}
 use Rattle.audit_flows.proofs.LinesLemmas.Lines.{by_test}
 use Rattle.audit_flows.proofs.TransfersLemmas.AllLines.{line_here, line_elsewhere}

@@ -5,7 +5,8 @@ use Rattle.std.specs.List.{AllByRecursion}
 use Rattle.std.proofs.lemmas.Bool.{false≢true, eqb-true, eq-eqb, and_from, and_parts, or_left}
 use Rattle.std.proofs.lemmas.List.Elements.{recursion_from_All}
 use Rattle.law_end.proofs.Division.Divided.{any_none, any_cases, any_first, any_later}
-use Rattle.audit_flows.specs.Lines.{Endpoint, Place, Opens, Repeats, Talks, Transfer, Recorded, begins_request, is_again, goes, same_endpoint, silence, Placed, clock, is_apart, is_at, is_of, is_request, line, live, newest_of, asked_after, opened_by, talk_in}
+use Rattle.audit_flows.specs.Lines.{Recorded, begins_request, is_again, goes, same_endpoint, silence, Placed, clock, is_apart, is_at, is_of, is_request, line, live, newest_of, asked_after, opened_by, talk_in}
+use Rattle.audit_flows.specs.{Endpoint, Place, Opens, Repeats, Talks, Transfer}
 use Rattle.audit_flows.specs.Transfers.{asks, at_client, beside, client_view, is_about, is_client, is_nowhere, is_service, place_of, placed, served_at}
 use Rattle.audit_flows.proofs.LinesLemmas.Endpoints.{is_same}
 use Rattle.audit_flows.proofs.LinesLemmas.Lines.{by_test}

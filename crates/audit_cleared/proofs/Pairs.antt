@@ -3,11 +3,13 @@ use Rattle.std.proofs.Common.{◌≡◌, true, false, List, [], ◌∷◌, Any, 
 use Rattle.std.specs.List.{AllByRecursion}
 use Rattle.std.proofs.lemmas.Bool.{false≢true}
 use Rattle.tftp_packet.specs.{Client}
-use Rattle.tftp_packet.specs.Hosts.{In, Out, Datagram}
+use Rattle.tftp_packet.specs.Hosts.{Datagram}
+use Rattle.tftp_packet.specs.{In, Out}
 use Rattle.law_end.specs.{Label, Labelled, Division, datagrams_of, view_in}
 use Rattle.law_end.specs.Dress.{Main, Stray, StrayAnswer}
 use Rattle.law_end.proofs.Division.Divided.{divided_more, divided_none}
-use Rattle.audit_flows.specs.Lines.{Transfer, same_endpoint, Placed}
+use Rattle.audit_flows.specs.Lines.{same_endpoint, Placed}
+use Rattle.audit_flows.specs.{Transfer}
 use Rattle.audit_flows.proofs.LinesLemmas.Endpoints.{is_same, same_itself}
 use Rattle.audit_flows.proofs.LinesLemmas.Lines.{by_test}
 use Rattle.law_model.proofs.ModelLemmas.Members.{contains_cases, contains_none}

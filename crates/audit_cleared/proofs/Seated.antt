@@ -3,10 +3,12 @@ use Rattle.std.proofs.Common.{◌≡◌, ◌⊎◌, ◌==◌, ◌&&◌, ◌||◌
 use Rattle.std.specs.List.{AllByRecursion}
 use Rattle.std.proofs.lemmas.Bool.{false≢true, eq-eqb, and_from, and_parts, or_left, or_right}
 use Rattle.std.proofs.lemmas.List.Elements.{recursion_from_All}
-use Rattle.tftp_packet.specs.Hosts.{In, Out, Datagram}
+use Rattle.tftp_packet.specs.Hosts.{Datagram}
+use Rattle.tftp_packet.specs.{In, Out}
 use Rattle.law_end.specs.{OneEnded, Rule}
 use Rattle.law_model.specs.Rules.{first_of}
-use Rattle.audit_flows.specs.Lines.{Endpoint, Place, Opens, Repeats, Talks, Beside, Transfer, Recorded, begins_request, other_of, same_address, same_endpoint, Placed, clock, is_of, is_request}
+use Rattle.audit_flows.specs.Lines.{Recorded, begins_request, other_of, same_address, same_endpoint, Placed, clock, is_of, is_request}
+use Rattle.audit_flows.specs.{Endpoint, Place, Opens, Repeats, Talks, Beside, Transfer}
 use Rattle.audit_flows.proofs.LinesLemmas.Endpoints.{is_same, address_itself}
 use Rattle.audit_flows.proofs.LinesLemmas.Lines.{by_test}
 use Rattle.audit_flows.specs.Transfers.{answered_by, asked_of, client_view, comes, goes_on, goes_to_asked, has_host, has_port, is_at_server, is_end, is_server, place_of, placed, server_of, went_on_with}

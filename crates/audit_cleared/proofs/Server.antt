@@ -2,14 +2,15 @@
 use Rattle.std.proofs.Common.{◌≡◌, ℕ, true, false, List, [], ◌∷◌, Any, Option, Some, None, inl, inr, refl, sym, ap, subst, ◌∙◌, ◌==◌, ◌&&◌, not}
 use Rattle.std.specs.List.{AllByRecursion}
 use Rattle.std.proofs.lemmas.Bool.{false≢true, and_parts, and_from, eq-eqb, not-true}
-use Rattle.tftp_packet.specs.Hosts.{Out}
+use Rattle.tftp_packet.specs.{Out}
 use Rattle.law_model.specs.Model.{Meaning}
 use Rattle.law_model.specs.Rules.{first_of, or_this}
 use Rattle.law_end.specs.{TransferIds}
 use Rattle.law_end.proofs.Division.Divided.{any_none, any_cases, any_later}
 use Rattle.law_end.proofs.Division.RouteTests.{error_begins}
 use Rattle.law_end.proofs.Division.Routed.{told_of}
-use Rattle.audit_flows.specs.Lines.{Endpoint, Place, Opens, Repeats, Talks, Transfer, begins_error, same_endpoint, Placed, is_request}
+use Rattle.audit_flows.specs.Lines.{begins_error, same_endpoint, Placed, is_request}
+use Rattle.audit_flows.specs.{Endpoint, Place, Opens, Repeats, Talks, Transfer}
 use Rattle.audit_flows.proofs.LinesLemmas.Endpoints.{same_itself}
 use Rattle.audit_flows.proofs.LinesLemmas.Lines.{by_test}
 use Rattle.audit_flows.specs.Transfers.{comes, goes_on, server_of}

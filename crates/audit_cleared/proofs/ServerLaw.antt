@@ -5,7 +5,8 @@ use Rattle.std.specs.List.{AllByRecursion}
 use Rattle.std.proofs.lemmas.Bool.{false≢true, true≢false}
 use Rattle.std.proofs.lemmas.List.{reverse-reverse}
 use Rattle.tftp_packet.specs.{Message, End, Client, Server}
-use Rattle.tftp_packet.specs.Hosts.{In, Out, Datagram, PeerId}
+use Rattle.tftp_packet.specs.Hosts.{Datagram, PeerId}
+use Rattle.tftp_packet.specs.{In, Out}
 use Rattle.law_model.specs.Model.{Meaning, MachinePacket, Sent, Took, Req}
 use Rattle.law_end.specs.{Label, Division, datagrams_of, TransferIds, HasLabelBy, HaveLabelsBy, says_of, says_some, IsLawful, OneEnded, Rule}
 use Rattle.law_end.specs.Dress.{Main, Stray, StrayAnswer}
@@ -13,7 +14,8 @@ use Rattle.law_end.proofs.Division.Divided.{any_none, any_cases, any_first, any_
 use Rattle.law_end.proofs.Division.RouteTests.{request_begins}
 use Rattle.law_end.proofs.Division.ServerRoutes.{byte_begins}
 use Rattle.law_end.proofs.Whole.TwoEnds.{lawful}
-use Rattle.audit_flows.specs.Lines.{Endpoint, Opens, Transfer, begins_request, Placed, is_of}
+use Rattle.audit_flows.specs.Lines.{begins_request, Placed, is_of}
+use Rattle.audit_flows.specs.{Endpoint, Opens, Transfer}
 use Rattle.audit_flows.proofs.LinesLemmas.Lines.{by_test}
 use Rattle.law_tap.specs.{tapped_at, TapDatagram, TapSides, AreApart, TapLabel, TapLabelled, TapDivision, tapped_of, CarriesPass, HasTapLabel, HaveTapLabels, IsLawfulBetween, BreaksNoTapRule, IsTapRefused}
 use Rattle.law_tap.specs.TapDress as tap

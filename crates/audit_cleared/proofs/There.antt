@@ -6,7 +6,7 @@ use Rattle.law_model.specs.Model.{Meaning, MachinePacket, Req, Took, Sent}
 use Rattle.law_end.specs.{TransferIds, says_of}
 use Rattle.law_end.specs.Dress.{Main, Stray, StrayAnswer}
 use Rattle.law_end.proofs.Division.Divided.{any_none, any_cases, any_first, any_later}
-use Rattle.audit_flows.specs.Lines.{Endpoint, Transfer}
+use Rattle.audit_flows.specs.{Endpoint, Transfer}
 use Rattle.law_tap.specs.{PeerId, TapDatagram, TapSides, side_of, TapLabelled, TapDivision, IsMainFrom, GoesThere, HasTapLabel, HaveTapLabels}
 use Rattle.law_tap.specs.TapDress as tap
 use Rattle.audit_views.specs.Parties.{host_name}

@@ -3,13 +3,15 @@ use Rattle.std.proofs.Common.{◌≡◌, ◌⊎◌, ℕ, true, false, List, [], 
 use Rattle.std.specs.List.{AllByRecursion}
 use Rattle.std.proofs.lemmas.Bool.{false≢true}
 use Rattle.tftp_packet.specs.{Message, Spells, Client}
-use Rattle.tftp_packet.specs.Hosts.{In, Out, Datagram, PeerId, peer_of}
+use Rattle.tftp_packet.specs.Hosts.{Datagram, PeerId, peer_of}
+use Rattle.tftp_packet.specs.{In, Out}
 use Rattle.law_model.specs.Model.{Meaning, MachinePacket, Sent, Took, Req, Oack, Data, Ack, Error}
 use Rattle.law_end.specs.{Label, Labelled, view_in, TransferIds, IsMain, CarriesDeed, HasLabelBy, HaveLabelsBy, says_of, Starts}
 use Rattle.law_end.specs.Dress.{Main, Stray, StrayAnswer}
 use Rattle.law_end.proofs.Division.Divided.{any_none, any_cases, any_first, any_later}
 use Rattle.law_end.proofs.Division.Placing.{CameIn, one, starts_before}
-use Rattle.audit_flows.specs.Lines.{Transfer, Recorded, same_endpoint}
+use Rattle.audit_flows.specs.Lines.{Recorded, same_endpoint}
+use Rattle.audit_flows.specs.{Transfer}
 use Rattle.audit_flows.proofs.LinesLemmas.Endpoints.{same_itself}
 use Rattle.audit_views.specs.Views.{captured, captured_at_client, client_header}
 use Rattle.audit_views.specs.Parties.{host_name}

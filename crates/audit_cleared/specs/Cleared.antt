@@ -1,7 +1,8 @@
 -- Of which transfers of a recording a verdict at an end holds between the ends. Lists have the newest first.
 use Rattle.std.specs.Prelude.{◌≡◌, ◌++◌, ℕ, true, false, List, [], ◌∷◌, All, Any, Some}
 use Rattle.audit_views.specs.Parties.{IsAddress}
-use Rattle.audit_flows.specs.Lines.{Endpoint, Transfer, Opens, Talks, Recorded, other_of, same_endpoint, Placed, is_of}
+use Rattle.audit_flows.specs.Lines.{Recorded, other_of, same_endpoint, Placed, is_of}
+use Rattle.audit_flows.specs.{Endpoint, Transfer, Opens, Talks}
 use Rattle.audit_flows.specs.Transfers.{is_at_server, is_service, placed, server_of}
 
 -- its hosts are at addresses of IPv4 or of IPv6

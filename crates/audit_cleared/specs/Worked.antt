@@ -1,7 +1,8 @@
 -- A recording in which an address is none, a transfer that no datagram opened, a port that is known by a request alone, a server
 -- with two addresses, and a client that sends elsewhere. Lists have the newest first.
 use Rattle.std.specs.Prelude.{List, [], ◌∷◌, codes, false}
-use Rattle.audit_flows.specs.Lines.{Endpoint, Recorded, Transfer, V4}
+use Rattle.audit_flows.specs.Lines.{Recorded}
+use Rattle.audit_flows.specs.{Endpoint, Transfer, V4}
 use Rattle.audit_flows.specs.Transfers.{ack_of, client, data_of, service}
 use Rattle.audit_flows.specs.Transfers.Worked.{passes, requests, server, stranger}
 

@@ -4,7 +4,8 @@ ghost use Rattle.std.specs.Prelude.{◌≡◌, ◌++◌, ℕ, List, ◌∷◌, A
 ghost use Rattle.law_model.specs.Model.{Meaning};
 ghost use Rattle.law_end.specs.{OneEnded, Meant, Rule};
 ghost use Rattle.audit_views.specs.Parties.{host_name};
-ghost use Rattle.audit_flows.specs.Lines.{Endpoint, Transfer, Recorded};
+ghost use Rattle.audit_flows.specs.Lines.{Recorded};
+ghost use Rattle.audit_flows.specs.{Endpoint, Transfer};
 ghost use Rattle.audit_flows.specs.Transfers.{placed};
 ghost use Rattle.audit_views.specs.Views.{client_capture, client_header, server_capture, server_header};
 ghost use Rattle.law_tap.specs.{BreaksNoTapRule, IsTapRefused, ShowsBetween};

@@ -1,7 +1,7 @@
 //! Worked recordings: one that a law speaks of, and for what the law asks. Each is the contract of a function that does nothing.
 
 ghost use Rattle.std.specs.Prelude.{◌≡◌, [], ◌∷◌, All, false};
-ghost use Rattle.tftp_packet.specs.Hosts.{In, Out};
+ghost use Rattle.tftp_packet.specs.{In, Out};
 ghost use Rattle.audit_flows.specs.Lines.{same_endpoint};
 ghost use Rattle.law_model.specs.Rules.{Route, route_of};
 ghost use Rattle.law_end.specs.{OneEnded};

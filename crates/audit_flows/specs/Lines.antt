@@ -6,15 +6,3 @@ pub use Rattle.audit_flows.specs.Lines.Recording.{Recorded, address_cmp, asked_p
 pub use Rattle.audit_flows.specs.Lines.Places.{Placed, answered_in, answers, asked_after, clock, is_apart, is_at, is_known_host, is_of, is_request, last_was_ack_0, latest_in, line, live, may_answer, newest_of, opened_by, opening, opens, place_asked, place_at, place_talked, reach, silence, talk_in, talked_of, transfer_of}
 pub use Rattle.audit_flows.specs.Lines.Kept.{AreLinesOf, AreTimed, IsHistoryOf, IsLineKept, IsLineOf, IsRequestOf, IsTimed, TellsOf, asked_by, comes_to, ends_after, history_of, is_past, is_reached, is_within, kind_of, other_end, place_of_talk, seen_of, talk_after, went_on_after}
 pub use Rattle.audit_flows.specs.Lines.Doubting.{acked_0_in, agrees_late, answer_of, answered_last, before_talk, comes_in, doubts_of, follows_strays, follows_unanswered, goes_on_with_first, is_alike_in, is_another, is_apart_from_lines, is_asked_again, is_disordered, is_late, is_later, is_near, is_next_data, is_other_talk, is_sent_by_client, is_stray_at, is_talk, is_the_one, may_be_answer_of, may_be_earlier, may_be_tftp, may_follow, rests_on_terms, says_more, says_unknown_id, speaks_first}
-pub use Rattle.audit_flows.specs.declared.lines.doubts.Doubts.{Doubts}
-pub use Rattle.audit_flows.specs.declared.lines.endpoint.Address.{Address}
-pub use Rattle.audit_flows.specs.declared.lines.endpoint.Address.TheVariants.{V4, V6}
-pub use Rattle.audit_flows.specs.declared.lines.endpoint.Endpoint.{Endpoint}
-pub use Rattle.audit_flows.specs.declared.lines.history.History.{History}
-pub use Rattle.audit_flows.specs.declared.lines.history.Progress.{Progress}
-pub use Rattle.audit_flows.specs.declared.lines.line.Line.{Line}
-pub use Rattle.audit_flows.specs.declared.lines.line.Talk.{Talk}
-pub use Rattle.audit_flows.specs.declared.lines.line.Talked.{Talked}
-pub use Rattle.audit_flows.specs.declared.lines.place.Place.{Place}
-pub use Rattle.audit_flows.specs.declared.lines.place.Place.TheVariants.{Apart, Beside, Nowhere, Opens, Repeats, Talks}
-pub use Rattle.audit_flows.specs.declared.lines.place.Transfer.{Transfer}

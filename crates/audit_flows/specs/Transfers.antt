@@ -10,10 +10,3 @@ pub use Rattle.audit_flows.specs.Transfers.Views.{answered_by, asked_of, client_
 pub use Rattle.audit_flows.specs.Transfers.Doubts.{comes_of_earlier, is_answered_apart, is_beside, is_doubted, is_doubtful, is_doubtful_at_client, is_doubtful_at_server, is_doubtful_between, is_it, is_led_astray, some_of, tells_strays}
 pub use Rattle.audit_flows.specs.Transfers.Worked.{ack_of, asked_twice, client, data_of, read_of, service}
 pub use Rattle.audit_flows.specs.Transfers.Settled.{is_settled}
-pub use Rattle.audit_flows.specs.declared.transfers.attribution.Attributed.{Attributed}
-pub use Rattle.audit_flows.specs.declared.transfers.attribution.Attribution.{Attribution}
-pub use Rattle.audit_flows.specs.declared.transfers.attribution.AttributionFault.{AttributionFault}
-pub use Rattle.audit_flows.specs.declared.transfers.attribution.Served.{Served}
-pub use Rattle.audit_flows.specs.declared.transfers.attribution.Strayed.{Strayed}
-pub use Rattle.audit_flows.specs.declared.transfers.doubted.TransferDoubts.{TransferDoubts}
-pub use Rattle.audit_flows.specs.declared.transfers.views.TransferEnds.{TransferEnds}

@@ -6,6 +6,3 @@ pub use Rattle.audit_views.specs.Views.Captured.{Naming, captured, captured_as, 
 pub use Rattle.audit_views.specs.Views.Judged.{AreWritten, HasJudged, IsJudged, IsJudgedWith, IsRefusedIn, JudgedBy, of_text}
 pub use Rattle.audit_views.specs.Views.Kept.{AreHeld, Client, IsClientAfter, IsFed, IsGoingOn, IsServerAfter, IsViewAfter, IsWaiting, OneEnd, Server, View, ViewedBy, fed_to, held_of}
 pub use Rattle.audit_views.specs.Views.Worked.{first_transfer}
-pub use Rattle.audit_views.specs.declared.views.fed.Fed.{Fed}
-pub use Rattle.audit_views.specs.declared.views.held.Held.{Held}
-pub use Rattle.audit_views.specs.declared.views.party.Party.{Party}

@@ -6,6 +6,3 @@ pub use Rattle.judge_pair.specs.Judge.Merging.{AreMergedBut, IsAskedAgain, IsWai
 pub use Rattle.judge_pair.specs.Judge.Kept.{AreSidesAfter, HasSame, IsPairAfter, IsSideAfter, Pair, Side, side_at}
 pub use Rattle.judge_pair.specs.Judge.Rest.{IsLeftAfter, IsRestAfter, Left, left_at}
 pub use Rattle.judge_pair.specs.Judge.Verdicts.{AreCarried, AreCountsOf, GoesNoFurther, IsReadOf, IsWhyWaiting}
-pub use Rattle.judge_pair.specs.declared.judge.matched.Matched.{Matched}
-pub use Rattle.judge_pair.specs.declared.judge.waiting.Wait.{Wait}
-pub use Rattle.judge_pair.specs.declared.judge.waiting.Wait.TheVariants.{SentLater, Unsent}

@@ -2,7 +2,7 @@
 use Rattle.std.proofs.Common.{◌≡◌, ◌⊎◌, ℕ, ◌+◌, ◌<◌, ◌≤◌, List, Option, Some, None, inl, inr, refl, sym, subst, arith}
 use Rattle.tftp_packet.specs.{Message, RequestParts, Side, End, Client, Server}
 use Rattle.law_model.specs.Model.Roles.{receiver_of}
-use Rattle.law_model.specs.Rules.{EndRule}
+use Rattle.law_model.specs.{EndRule}
 use Rattle.law_end.specs.{IsWrongKind, number_of, Rule}
 use Rattle.law_end.specs.declared.rule.Rule.TheVariants as rule
 use Rattle.law_tap.specs.{TapDatagram, TapSides, before_error, tap_tests, LateBreaks, IsLateAck, IsLateZero, IsLateBlock}

@@ -5,7 +5,8 @@ use Rattle.std.proofs.lemmas.Bool.{true≢false, cases_Bool, and_parts}
 use Rattle.tftp_packet.specs.{Message, RequestParts, Spells, FirstFault, PacketFault, Client, Server}
 use Rattle.tftp_packet.proofs.NoFault.{no_fault}
 use Rattle.tftp_packet.specs.Hosts.{same_peer}
-use Rattle.law_model.specs.Rules.{first_of, PortRule}
+use Rattle.law_model.specs.Rules.{first_of}
+use Rattle.law_model.specs.{PortRule}
 use Rattle.tftp_judge.specs.{NoneBreaks, Finds, PassError}
 use Rattle.law_end.specs.{OneEnded, Passes, number_of, Rule}
 use Rattle.law_end.specs.declared.rule.Rule.TheVariants as rule

@@ -1,7 +1,8 @@
 -- Which ERROR ended a transfer (RFC 1350, section 7).
 use Rattle.std.specs.Prelude.{◌≡◌, ◌⊎◌, ℕ, List, [], ◌∷◌, Option, Some, None}
 use Rattle.tftp_packet.specs.{Message, Spells}
-use Rattle.tftp_packet.specs.Hosts.{Dir, In, Out, Datagram, Header}
+use Rattle.tftp_packet.specs.Hosts.{Datagram, Header}
+use Rattle.tftp_packet.specs.{Dir, In, Out}
 use Rattle.law_model.specs.Rules.{transfer_of}
 use Rattle.law_end.specs.declared.aborted_by.AbortedBy.{AbortedBy}
 use Rattle.law_end.specs.declared.aborted_by.AbortedBy.TheVariants.{Local, Peer}

@@ -1,7 +1,8 @@
 -- How the datagrams of a capture carry what an end sent and took (RFC 1350, sections 4 and 5).
 use Rattle.std.specs.Prelude.{◌≡◌, ◌≢◌, ℕ, ◌⊎◌, List, [], ◌∷◌, map, reverse, filter_map, Any, Option, Some, None}
 use Rattle.tftp_packet.specs.{Message, End, Client, Server, Spells}
-use Rattle.tftp_packet.specs.Hosts.{Dir, In, Out, Datagram, Header, PeerId, peer_of}
+use Rattle.tftp_packet.specs.Hosts.{Datagram, Header, PeerId, peer_of}
+use Rattle.tftp_packet.specs.{Dir, In, Out}
 use Rattle.law_model.specs.Model.{Meaning, MachinePacket, Req, Deed, Sent, Took, History, message_of}
 use Rattle.law_end.specs.Sides.{server_port, from_server, BeginsAsRequest}
 

@@ -2,8 +2,10 @@
 -- and those of each kind. The list `passed` has the transfer's datagrams so far, the newest first.
 use Rattle.std.specs.Prelude.{◌≡◌, ◌≢◌, ◌⊎◌, ℕ, List}
 use Rattle.tftp_packet.specs.{OptionMap, Message, RequestParts, Side, Get, Put, End, Client, Server}
-use Rattle.tftp_packet.specs.Hosts.{Dir, Out, Datagram, Header}
-use Rattle.law_model.specs.Rules.{author_of, Passed, EndBroken, Terms, EndRule}
+use Rattle.tftp_packet.specs.Hosts.{Datagram, Header}
+use Rattle.tftp_packet.specs.{Dir, Out}
+use Rattle.law_model.specs.Rules.{author_of, Passed, EndBroken}
+use Rattle.law_model.specs.{Terms, EndRule}
 use Rattle.tftp_nego.specs.{AgreementBroken, Holds, NegoFault}
 use Rattle.law_end.specs.Replies.{Agrees, Begins, NotAnswered, FirstAnswer, AreTermsAfter}
 use Rattle.law_end.specs.declared.rule.Rule.{Rule}

@@ -2,10 +2,12 @@
 -- The list `earlier` has the datagrams that have passed, the newest first.
 use Rattle.std.specs.Prelude.{◌≡◌, ◌⊎◌, ℕ, List, [], ◌∷◌}
 use Rattle.tftp_packet.specs.{OptionMap, no_options, Message, RequestParts, Spells}
-use Rattle.tftp_packet.specs.Hosts.{Datagram, Header, In, Out}
+use Rattle.tftp_packet.specs.Hosts.{Datagram, Header}
+use Rattle.tftp_packet.specs.{In, Out}
 use Rattle.law_model.specs.Model.{Meaning, request_of}
 pub use Rattle.law_model.specs.Rules.Joined.{IsJoined}
-use Rattle.law_model.specs.Rules.{Route, route_of, transfer_of, SaysUnknownId, Passed, IsFront, IsLast, IsSender, IsReceiver, Terms}
+use Rattle.law_model.specs.Rules.{Route, route_of, transfer_of, SaysUnknownId, Passed, IsFront, IsLast, IsSender, IsReceiver}
+use Rattle.law_model.specs.{Terms}
 use Rattle.law_end.specs.Fitting.{ReadsAs}
 use Rattle.law_end.specs.Replies.{FirstAsked, Agrees, FirstAnswer, AreTerms}
 use Rattle.law_end.specs.Rules.{Broken, FirstBroken}

@@ -5,7 +5,8 @@ use Rattle.std.specs.FinMap as map
 use Rattle.tftp_packet.specs.{OptionMap, OptionValue as Value, Num, Message, RequestParts, Spells, Side, Get, Put, Mode, Octet}
 use Rattle.tftp_packet.specs.Hosts.{Datagram, Header}
 use Rattle.law_model.specs.Model.{option_or}
-use Rattle.law_model.specs.Rules.{asks, first_of, transfer_of, Reply, NoReply, Plain, Oacked, Terms}
+use Rattle.law_model.specs.Rules.{asks, first_of, transfer_of}
+use Rattle.law_model.specs.{Reply, NoReply, Plain, Oacked, Terms}
 
 -- the first request spells this
 abbrev pub FirstAsked : Header → List Datagram → RequestParts → Type 0

@@ -1,7 +1,8 @@
 -- A datagram's ports at its two sides, and which way it went between them.
 use Rattle.std.specs.Prelude.{◌≡◌, ℕ, ◌⊎◌, List, ◌∷◌}
 use Rattle.tftp_packet.specs.{End, Client, Server}
-use Rattle.tftp_packet.specs.Hosts.{Dir, In, Out, Datagram}
+use Rattle.tftp_packet.specs.Hosts.{Datagram}
+use Rattle.tftp_packet.specs.{Dir, In, Out}
 
 -- the port at the server's side of a datagram that was recorded at this end
 abbrev pub server_port : End → Datagram → ℕ

@@ -10,10 +10,3 @@ pub use Rattle.law_model.specs.Rules.Authors.{author_of}
 pub use Rattle.law_model.specs.Rules.Rules.{AckBreaks, AckZeroWaits, BlockBreaks, BlockPassed, BlocksWait, EndBroken, FirstEndBroken, HasPassed, HasWrongLength, IsAcked, IsAckedAt, IsAnswered, IsFront, IsGreatest, IsHigh, IsLast, IsNotLengthOf, IsReachedAt, IsReceiver, IsSender, IsTop, LastIsUnknown, Passed, brings_error, end_number, end_rules, rule_count, usable}
 pub use Rattle.law_model.specs.Rules.EndNames.{end_name}
 pub use Rattle.law_model.specs.Rules.Joined.{IsJoined}
-pub use Rattle.law_model.specs.declared.rules.port_rule.PortRule.{PortRule}
-pub use Rattle.law_model.specs.declared.rules.port_rule.PortRule.TheVariants.{BadAnswer, Foreign, Wrong}
-pub use Rattle.law_model.specs.declared.rules.rule.EndRule.{EndRule}
-pub use Rattle.law_model.specs.declared.rules.rule.EndRule.TheVariants.{AckAhead, AckZero, BeyondBlock65535, BlockChanged, BlockLength, BlockSkipped, BlockZero, GoneBack, NotStarted, WindowOverrun}
-pub use Rattle.law_model.specs.declared.rules.terms.Reply.{Reply}
-pub use Rattle.law_model.specs.declared.rules.terms.Reply.TheVariants.{NoReply, Oacked, Plain}
-pub use Rattle.law_model.specs.declared.rules.terms.Terms.{Terms}

@@ -1,7 +1,8 @@
 -- Two lists that break no rule, and are merged by what they say, are in accord with one meaning and one wire.
 use Rattle.std.proofs.Common.{◌≡◌, ◌⊎◌, ℕ, ◌≤◌, List, [], ◌∷◌, Contains, Option, Some, None, inl, inr, refl, sym, subst, ap, ◌∙◌}
 use Rattle.tftp_packet.specs.{OptionMap, no_options, Message, RequestParts, Spells, Side, Get, Put, Client, Server}
-use Rattle.tftp_packet.specs.Hosts.{Dir, In, Out, Datagram, Header}
+use Rattle.tftp_packet.specs.Hosts.{Datagram, Header}
+use Rattle.tftp_packet.specs.{Dir, In, Out}
 use Rattle.law_model.specs.Model.{Meaning, request_of, NothingAgreed, blksize_of, block, block_count, MachinePacket, Req, Oack, Data, Ack, Deed, Sent, Took, HasSent, HasTaken, message_of, IsStartedOn, MayAckZeroOn, MaySend, IsOneSided}
 use Rattle.law_model.specs.Model.Machines.{sender_of, receiver_of}
 use Rattle.law_model.specs.Rules.{asks, first_of, transfer_of, Passed, HasPassed}

@@ -4,7 +4,8 @@ use Rattle.std.proofs.lemmas.Bool.{cases_lt, false≢true}
 use Rattle.std.proofs.Math.Seq.{take-suc, take-length}
 use Rattle.std.proofs.lemmas.List.{reverse-append}
 use Rattle.tftp_packet.specs.{Client, Server}
-use Rattle.tftp_packet.specs.Hosts.{Out, Datagram}
+use Rattle.tftp_packet.specs.Hosts.{Datagram}
+use Rattle.tftp_packet.specs.{Out}
 use Rattle.law_model.specs.Rules.{route_of, is_of_transfer, transfer_of}
 use Rattle.law_end.specs.{OneEnded}
 use Rattle.law_end.proofs.FirstBroken.FirstAnswered.{main_none, main_some}

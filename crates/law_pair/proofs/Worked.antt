@@ -4,7 +4,7 @@ use Rattle.std.proofs.lemmas.Bool.{and_parts, ltb-true, false≢true}
 use Rattle.std.specs.List.{AllByRecursion, list_all}
 use Rattle.tftp_packet.specs.{Message, IsPair, Spells}
 use Rattle.tftp_packet.proofs.Unique.{one_message}
-use Rattle.tftp_packet.specs.Hosts.{Out}
+use Rattle.tftp_packet.specs.{Out}
 use Rattle.law_model.specs.Rules.{Passed}
 use Rattle.tftp_packet.proofs.HostsLemmas.Ways.{in_not_out}
 use Rattle.law_pair.specs.{block_of, acknowledged, at_the_server}

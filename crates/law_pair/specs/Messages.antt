@@ -2,7 +2,8 @@
 -- first.
 use Rattle.std.specs.Prelude.{◌≡◌, List, reverse}
 use Rattle.tftp_packet.specs.{Message, Spells, Client, Server}
-use Rattle.tftp_packet.specs.Hosts.{In, Out, Datagram}
+use Rattle.tftp_packet.specs.Hosts.{Datagram}
+use Rattle.tftp_packet.specs.{In, Out}
 use Rattle.law_model.specs.Rules.{transfer_of, Passed}
 use Rattle.law_end.specs.{OneEnded}
 use Rattle.law_pair.specs.Merged.{HaveOneOrder}

@@ -1,7 +1,8 @@
 -- Why the datagram behind those that are matched waits: of two captures, of which the first n and k datagrams are lawful.
 use Rattle.std.specs.Prelude.{ℕ}
 use Rattle.tftp_packet.specs.{Message, Spells}
-use Rattle.tftp_packet.specs.Hosts.{Out, Datagram}
+use Rattle.tftp_packet.specs.Hosts.{Datagram}
+use Rattle.tftp_packet.specs.{Out}
 use Rattle.law_model.specs.Rules.{Passed}
 use Rattle.law_pair.specs.Captures.{Capture}
 use Rattle.law_pair.specs.Messages.{passed_in}

@@ -1,7 +1,8 @@
 -- A block of two bytes and its ACK, as they passed at the two ends of a read.
 use Rattle.std.specs.Prelude.{ℕ, List, [], ◌∷◌, reverse}
 use Rattle.tftp_packet.specs.{End}
-use Rattle.tftp_packet.specs.Hosts.{Dir, In, Out, Datagram}
+use Rattle.tftp_packet.specs.Hosts.{Datagram}
+use Rattle.tftp_packet.specs.{Dir, In, Out}
 use Rattle.law_model.specs.Model.{Deed}
 use Rattle.law_pair.specs.Merged.{Event}
 use Rattle.law_pair.specs.Captures.{Capture}

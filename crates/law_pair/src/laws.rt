@@ -2,7 +2,8 @@
 
 ghost use Rattle.std.specs.Prelude.{◌≡◌, ◌+◌, ◌≤◌, ◌↔◌, ℕ, List, [], ◌∷◌, length, reverse};
 ghost use Rattle.tftp_packet.specs.{Message, Client, Server};
-ghost use Rattle.tftp_packet.specs.Hosts.{In, Out, Datagram};
+ghost use Rattle.tftp_packet.specs.Hosts.{Datagram};
+ghost use Rattle.tftp_packet.specs.{In, Out};
 ghost use Rattle.law_model.specs.Rules.{Passed};
 ghost use Rattle.law_pair.specs.PairVerdict.{IsPairVerdict, IsWholePair};
 ghost use Rattle.law_model.specs.Model.{Meaning, Sent, Took, MachinePacket, Data, Ack, History};

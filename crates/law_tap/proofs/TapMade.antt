@@ -6,7 +6,8 @@ use Rattle.tftp_packet.specs.{Message, RequestParts, Spells, Side, Get, Put, End
 use Rattle.tftp_packet.specs.Hosts.{Datagram, Header, same_peer}
 use Rattle.law_model.specs.Model.Machines.{receiver_of}
 use Rattle.law_model.specs.Model.{MachinePacket, Req, Oack, Data, Ack, Error, is_error}
-use Rattle.law_model.specs.Rules.{Route, route_of, is_of_transfer, asks, EndRule}
+use Rattle.law_model.specs.Rules.{Route, route_of, is_of_transfer, asks}
+use Rattle.law_model.specs.{EndRule}
 use Rattle.law_model.proofs.ModelLemmas.Members.{contains_first, contains_later}
 use Rattle.law_end.specs.{packet_of, packet_route, packet_in, says_some, OneEnded, Passes, IsRead, Broken, Rule}
 use Rattle.law_end.specs.declared.rule.Rule.TheVariants as rule

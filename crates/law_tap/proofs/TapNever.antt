@@ -3,10 +3,12 @@ use Rattle.std.proofs.Common.{◌≡◌, ◌<◌, Bool, true, false, List, [], �
 use Rattle.std.specs.List.{list_any}
 use Rattle.std.proofs.lemmas.Bool.{true≢false, or_parts, cases_Bool}
 use Rattle.tftp_packet.specs.{Message, RequestParts, Spells, Side, Get, Put, End, Client, Server, OptionMap}
-use Rattle.tftp_packet.specs.Hosts.{In, Out, Datagram, Header, same_peer}
+use Rattle.tftp_packet.specs.Hosts.{Datagram, Header, same_peer}
+use Rattle.tftp_packet.specs.{In, Out}
 use Rattle.law_model.specs.Model.Machines.{sender_of, receiver_of}
 use Rattle.law_model.specs.Model.{MachinePacket, Req, Oack, Data, Ack, Error, is_error}
-use Rattle.law_model.specs.Rules.{asks, transfer_of, IsSender, EndBroken, EndRule, NoReply, Terms}
+use Rattle.law_model.specs.Rules.{asks, transfer_of, IsSender, EndBroken}
+use Rattle.law_model.specs.{EndRule, NoReply, Terms}
 use Rattle.law_model.proofs.ModelLemmas.Members.{contains_first, contains_later, contains_cases, contains_none}
 use Rattle.law_end.specs.{packet_in, says_some, number_of, FirstAsked, Answer, Agrees, Begins, AreTerms, plain_terms, terms_after, IsWrongKind, KindBreaks, MessageBreaks, MessageBroken, Broken, Rule}
 use Rattle.law_end.specs.declared.rule.Rule.TheVariants as rule

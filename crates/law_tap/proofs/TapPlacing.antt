@@ -4,7 +4,7 @@ use Rattle.std.proofs.lemmas.Bool.{true≢false, eq-eqb, cases_Bool, and_parts}
 use Rattle.tftp_packet.specs.{Message, Spells, End, Client, Server}
 use Rattle.tftp_packet.specs.Hosts.{same_peer}
 use Rattle.law_model.specs.Model.{MachinePacket, Req, Oack, Data, Ack, Error}
-use Rattle.law_model.specs.Rules.{PortRule}
+use Rattle.law_model.specs.{PortRule}
 use Rattle.law_end.specs.{BeginsAsRequest, says_some}
 use Rattle.law_end.specs.declared.rule.Rule.TheVariants as rule
 use Rattle.law_end.proofs.Division.RouteTests.{same_is, is_same, apart_is}

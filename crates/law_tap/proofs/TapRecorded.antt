@@ -3,7 +3,8 @@ use Rattle.std.proofs.Common.{◌≡◌, ◌⊎◌, Bool, true, false, List, [],
 use Rattle.std.specs.List.{list_any}
 use Rattle.std.proofs.lemmas.Bool.{true≢false, cases_Bool}
 use Rattle.tftp_packet.specs.{End, Client, Server}
-use Rattle.tftp_packet.specs.Hosts.{In, Out, Datagram, Header, peer_of, same_peer}
+use Rattle.tftp_packet.specs.Hosts.{Datagram, Header, peer_of, same_peer}
+use Rattle.tftp_packet.specs.{In, Out}
 use Rattle.law_model.specs.Model.Machines.{other_end}
 use Rattle.law_model.specs.Model.{MachinePacket, Req, Oack, Data, Ack, Error}
 use Rattle.law_end.specs.{from_server, Main, Labelled, Division, datagrams_of, view_in, TransferIds, Saying, GoesToServer, Carries, HaveLabelsBy, AreRoutedBy, Stands, Starts, request_at, request_back, says_some}

@@ -7,7 +7,7 @@ use Rattle.law_model.specs.Model.{Meaning, request_of, SomethingAgreed, MachineP
 use Rattle.law_model.specs.Model.Machines.{other_end, sender_of, receiver_of}
 use Rattle.law_model.proofs.ModelLemmas.Members.{contains_first, contains_later, contains_cases, contains_none}
 use Rattle.law_model.proofs.ModelLemmas.Stops.{lawful_tail}
-use Rattle.law_model.specs.Rules.{EndRule}
+use Rattle.law_model.specs.{EndRule}
 use Rattle.law_end.specs.{view_in, says_of, Fits, AreRouted, packet_in, says_some}
 use Rattle.law_end.specs.declared.rule.Rule.TheVariants as rule
 use Rattle.law_end.proofs.Soundness.MadeMeaning.{some_accord}

@@ -7,7 +7,7 @@ use Rattle.tftp_packet.proofs.NoFault.{no_fault}
 use Rattle.law_model.specs.Model.{Meaning, request_of, MachinePacket, Req, Oack, Data, Ack, Error, HasSent, message_of, is_error, heard, LetsStartOn, LetsAckZeroOn, IsOneSided}
 use Rattle.law_model.specs.Model.Machines.{other_end, sender_of, receiver_of}
 use Rattle.law_model.proofs.ModelLemmas.Members.{contains_first, contains_later}
-use Rattle.law_model.specs.Rules.{EndRule, PortRule}
+use Rattle.law_model.specs.{EndRule, PortRule}
 use Rattle.law_end.specs.{Fits, says_of, view_in, says_some, OneEnded, IsWrongKind, Broken, Rule}
 use Rattle.law_end.specs.declared.rule.Rule.TheVariants as rule
 use Rattle.law_end.proofs.Spelled.{spelled_once}

@@ -3,9 +3,11 @@
 use Rattle.std.specs.Prelude.{◌≡◌, ◌≢◌, ◌⊎◌, ℕ, ◌<◌, ◌≤◌, ◌&&◌, ◌||◌, not, Bool, true, false, List, [], ◌∷◌, map, Any, Option, Some, None, option_map, if◌then◌else◌}
 use Rattle.std.specs.List.{list_any}
 use Rattle.tftp_packet.specs.{Message, RequestParts, Spells, FirstFault, Side, Get, Put, End, Client, Server}
-use Rattle.tftp_packet.specs.Hosts.{In, Out, Datagram, Header, same_peer}
+use Rattle.tftp_packet.specs.Hosts.{Datagram, Header, same_peer}
+use Rattle.tftp_packet.specs.{In, Out}
 use Rattle.law_model.specs.Model.Roles.{receiver_of}
-use Rattle.law_model.specs.Rules.{first_of, EndRule, PortRule}
+use Rattle.law_model.specs.Rules.{first_of}
+use Rattle.law_model.specs.{EndRule, PortRule}
 use Rattle.law_end.specs.{Broken, IsWrongKind, number_of, Rule}
 use Rattle.law_end.specs.declared.rule.Rule.TheVariants as rule
 use Rattle.law_tap.specs.TapCapture.{PeerId, TapDatagram, TapSides, side_of}

@@ -3,7 +3,7 @@ use Rattle.std.proofs.Common.{◌≡◌, ◌≢◌, ◌<◌, ◌≤◌, ◌⊎�
 use Rattle.std.specs.Io.KnownBytes.{prepend_known, Consumes, IsAtEnd}
 use Rattle.std.proofs.KnownBytes.{Consumes-nil, prepend_known-nil}
 use Rattle.net_pcap.specs.{FrameParts, Announces, Says, Mode, Stands, start, given, said_of, next_mode, PiecesState, StepEnds, FailsToBegin, FillTells, ReaderState, RunsOut, StandsFor, Continues, Found, Unopened, FaultKind, Memory, NotARecording}
-use Rattle.net_streams.specs.Streams.{Failed, Open, Over}
+use Rattle.net_streams.specs.{Failed, Open, Over}
 use Rattle.net_pcap.specs.declared.found.Found.TheVariants as found
 use Rattle.net_pcap.specs.declared.layout.Layout.TheVariants.{Classic, Blocks}
 use Rattle.net_pcap.proofs.Steps.{reach_said}

@@ -8,7 +8,7 @@ use Rattle.net_pcap.specs.declared.place.Place.{Place}
 use Rattle.net_pcap.specs.declared.fault.FaultKind.{FaultKind}
 use Rattle.net_pcap.specs.declared.fault.FaultKind.TheVariants.{NotARecording, Truncated, Bad, TooLong, TooMany, Read, Memory}
 use Rattle.net_pcap.specs.declared.fault.PcapFault.{PcapFault}
-use Rattle.net_streams.specs.Streams.{Standing, Open, Over, Failed}
+use Rattle.net_streams.specs.{Standing, Open, Over, Failed}
 
 -- The bytes are whole pieces, which give these frames, and then some of which this is so, by how it stands after the pieces.
 pub record EndsIn (P : Mode → ℕ → List ℕ → Type 0) (bytes : List ℕ) (frames : List FrameParts) : Type 0 where

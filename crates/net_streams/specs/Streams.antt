@@ -4,6 +4,3 @@ pub mod Standings
 pub use Rattle.net_streams.specs.Streams.Buffers.{BufferState, most_ahead, most_of_line}
 pub use Rattle.net_streams.specs.Streams.Sinks.{Added, Adds, AppendsPrefix, Ends, Gathers, IsFresh, Sink, Stops, Writes, WritesPart, WritesWhole, Wrote, write_failed}
 pub use Rattle.net_streams.specs.Streams.Standings.{KeepsAnswer, standing_after}
-pub use Rattle.net_streams.specs.declared.streams.fault.WriteFault.{WriteFault}
-pub use Rattle.net_streams.specs.declared.streams.standing.Standing.{Standing}
-pub use Rattle.net_streams.specs.declared.streams.standing.Standing.TheVariants.{Open, Over, Failed}

@@ -3,5 +3,3 @@ pub mod Recently
 pub mod Worked
 pub use Rattle.net_udp.specs.Copies.Copies.{AreOne, IsCopy, Packet}
 pub use Rattle.net_udp.specs.Copies.Recently.{RecentState, StandsFor, shown}
-pub use Rattle.net_udp.specs.declared.copies.interface.Interface.{Interface}
-pub use Rattle.net_udp.specs.declared.copies.recent.Held.{Held}

@@ -12,5 +12,3 @@ pub use Rattle.net_udp.specs.Fragments.Set.{AreApart, Arrival, IsSetOf, SetState
 pub use Rattle.net_udp.specs.Fragments.Whole.{Among, AreSame, Covers, EndsRightly, FirstNames, Give, HasPart, InRow, IsCutInto, end_of}
 pub use Rattle.net_udp.specs.Fragments.Store.{Comes, CountsAt, HasRoom, IsCounted, IsFull, IsKeptOf, IsTried, JoinEnds, MayBePut, PutEnds, Sets, WantsMemory, began_of, frames_of, is_long, least_behind, most_room, room_of_all, room_under, set_at}
 pub use Rattle.net_udp.specs.Fragments.Worked.{first_of_udp, last_of_icmp, worked_content}
-pub use Rattle.net_udp.specs.declared.fragments.outcome.Outcome.{Outcome}
-pub use Rattle.net_udp.specs.declared.fragments.outcome.Outcome.TheVariants.{Apart, Empty, Full, TooLong, Waits}

@@ -20,19 +20,3 @@ pub use Rattle.net_udp.specs.Frames.Checksums.{address_bytes, checksum_of, heade
 pub use Rattle.net_udp.specs.Frames.Parts.{linked, reached, shown}
 pub use Rattle.net_udp.specs.Frames.Faults.{FirstFault, FirstIpFault, Holds, HoldsIp, IsNotWhole, Judges, JudgesIp, place}
 pub use Rattle.net_udp.specs.Frames.Worked.{acknowledgement, cooked_head, host, ipv4_bytes, ipv4_fragment, ipv4_packet, ipv4_with_options, ipv6_fragment, ipv6_fragment_of_icmp, ipv6_part, ipv6_with_extensions, two_tags, udp_bytes, udp_bytes_of_ipv6, udp_left, udp_left_of_ipv6, udp_of_three}
-pub use Rattle.net_udp.specs.declared.frames.checksum.Checksum.{Checksum}
-pub use Rattle.net_udp.specs.declared.frames.checksum.Checksum.TheVariants.{Absent, Partial, Right, Wrong}
-pub use Rattle.net_udp.specs.declared.frames.extension.Upper.{Upper}
-pub use Rattle.net_udp.specs.declared.frames.fault.FrameFault.{FrameFault}
-pub use Rattle.net_udp.specs.declared.frames.fault.FrameFault.TheVariants.{Cut}
-pub use Rattle.net_udp.specs.declared.frames.fault.UdpFault.{UdpFault}
-pub use Rattle.net_udp.specs.declared.frames.fault.UdpFault.TheVariants.{Port}
-pub use Rattle.net_udp.specs.declared.frames.link.LinkContent.{LinkContent}
-pub use Rattle.net_udp.specs.declared.frames.link.LinkType.{LinkType}
-pub use Rattle.net_udp.specs.declared.frames.link.LinkType.TheVariants.{Cooked, CookedTwo, Ethernet, Loop, Null, Raw, RawIpv4, RawIpv6}
-pub use Rattle.net_udp.specs.declared.frames.link.Network.TheVariants.{Ipv4, Ipv6}
-pub use Rattle.net_udp.specs.declared.frames.packet.Direction.{Direction}
-pub use Rattle.net_udp.specs.declared.frames.packet.Direction.TheVariants.{In, Out, Unknown}
-pub use Rattle.net_udp.specs.declared.frames.packet.Fragment.{Fragment}
-pub use Rattle.net_udp.specs.declared.frames.packet.IpPacket.{IpPacket}
-pub use Rattle.net_udp.specs.declared.frames.packet.UdpDatagram.{UdpDatagram}

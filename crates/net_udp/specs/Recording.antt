@@ -20,11 +20,3 @@ pub use Rattle.net_udp.specs.Recording.Accounts.{IsIn, IsSettled, IsTold, IsWait
 pub use Rattle.net_udp.specs.Recording.Contents.{IsBrought, IsPutTogether}
 pub use Rattle.net_udp.specs.Recording.OneWay.{AreToldAlike, IsRead, IsReadTo, IsSameDatagram, IsSameFate, frames_at}
 pub use Rattle.net_udp.specs.Recording.Worked.{cooked_sent, cooked_step, ethernet_step, first_bytes, first_of, first_part, first_set, first_step, icmp_content, icmp_frame, last_bytes, left_bytes, left_packet, last_named, last_of_icmp, last_part, last_step, part_of_icmp, raw_frame, raw_step, recorded_at, recorded_first, recorded_raw, sent_with, spoilt_acknowledgement, spoilt_bytes, spoilt_packet, worked_content, worked_key, worked_time}
-pub use Rattle.net_udp.specs.declared.recording.fate.Fate.{Fate}
-pub use Rattle.net_udp.specs.declared.recording.fate.Fate.TheVariants.{Discarded, Left, Waits}
-pub use Rattle.net_udp.specs.declared.recording.fate.LeftOut.{LeftOut}
-pub use Rattle.net_udp.specs.declared.recording.fate.LeftOut.TheVariants.{Apart, Empty, Frame, Full, TooLong, Udp}
-pub use Rattle.net_udp.specs.declared.recording.likeness.Likeness.{Likeness}
-pub use Rattle.net_udp.specs.declared.recording.likeness.Likeness.TheVariants.{New}
-pub use Rattle.net_udp.specs.declared.recording.senders.Maker.{Maker}
-pub use Rattle.net_udp.specs.declared.recording.sent.Sent.{Sent}

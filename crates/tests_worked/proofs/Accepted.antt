@@ -2,9 +2,10 @@
 use Rattle.std.proofs.Common.{◌≡◌, ℕ, ◌==◌, Bool, true, List, [], ◌∷◌, reverse, Some, codes, inl, inr, refl, subst, arith}
 use Rattle.std.proofs.lemmas.Bool.{false≢true}
 use Rattle.tftp_packet.specs.{OptionMap, Message, Get}
-use Rattle.tftp_packet.specs.Hosts.{Dir, In}
+use Rattle.tftp_packet.specs.{Dir, In}
 use Rattle.law_model.specs.Model.{request_of, block as slice, two_bytes}
-use Rattle.law_model.specs.Rules.{transfer_of, Passed, HasPassed, IsFront, Plain}
+use Rattle.law_model.specs.Rules.{transfer_of, Passed, HasPassed, IsFront}
+use Rattle.law_model.specs.{Plain}
 use Rattle.law_end.specs.{Agrees, Begins, plain_terms, OneEnded, IsEnded, Meant}
 use Rattle.tests_worked.specs.{at_client, asks_for_a, acknowledges_hi, one_block_read, at_service, window_out_of_order, window_at_server, block_sent_again, window_sent_again}
 use Rattle.tests_worked.proofs.Spelled.{request_spelled, hi_spelled, ack_spelled}

@@ -3,7 +3,8 @@ use Rattle.std.proofs.Common.{◌≡◌, ℕ, ◌<◌, ◌&&◌, Bool, true, fal
 use Rattle.std.proofs.lemmas.Bool.{and_parts, false≢true}
 use Rattle.tftp_packet.specs.{OptionMap, Message, RequestParts, Spells, Side}
 use Rattle.tftp_packet.specs.Hosts.{Header}
-use Rattle.law_model.specs.Rules.{or_this, asks, route_of, is_of_transfer, transfer_of, EndBroken, Terms, EndRule}
+use Rattle.law_model.specs.Rules.{or_this, asks, route_of, is_of_transfer, transfer_of, EndBroken}
+use Rattle.law_model.specs.{Terms, EndRule}
 use Rattle.tftp_nego.specs.{AgreementBroken, AgreementRule, Holds, NegoFault, agreement_number, number}
 use Rattle.law_end.specs.{number_of, Answer, Agrees, terms_after, AreTerms, MessageBreaks, Broken, Rule, OneEnded, IsRefused}
 use Rattle.tests_worked.proofs.Payloads.{Spelled, datagrams, AllSpelled, spells_it, spelled_it}

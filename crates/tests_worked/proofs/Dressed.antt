@@ -5,7 +5,8 @@ use Rattle.std.proofs.lemmas.Slice.Eq.{bytes_eq-Decides}
 use Rattle.std.specs.Str.{bytes_eq}
 use Rattle.std.specs.List.{list_all}
 use Rattle.tftp_packet.specs.{Spells, Message, End, Client, Server}
-use Rattle.tftp_packet.specs.Hosts.{Dir, In, Out, Datagram, Header, PeerId, peer_of, same_peer}
+use Rattle.tftp_packet.specs.Hosts.{Datagram, Header, PeerId, peer_of, same_peer}
+use Rattle.tftp_packet.specs.{Dir, In, Out}
 use Rattle.law_model.specs.Model.{Meaning, blksize_of, request_of, block, MachinePacket, Req, Oack, Data, Ack, Error, Deed, message_of, History}
 use Rattle.law_model.specs.Rules.{SaysUnknownId}
 use Rattle.law_model.proofs.ModelLemmas.HistoryTests.{same_end}

@@ -3,7 +3,7 @@ use Rattle.std.proofs.Common.{ℕ, List, [], ◌∷◌, ◌++◌, reverse, codes
 use Rattle.tftp_packet.specs.{Num, Get}
 use Rattle.tftp_packet.specs.Hosts.{Datagram, Header}
 use Rattle.law_model.specs.Model.{Meaning, two_bytes, eight_a_block}
-use Rattle.law_model.specs.Rules.{NoReply, Plain, EndRule}
+use Rattle.law_model.specs.{NoReply, Plain, EndRule}
 use Rattle.law_end.specs.{IsAborted, AbortedBy, Local, Peer, IsLawful, Meant, plain_terms, Rule}
 use Rattle.law_end.proofs.Whole.TwoEnds.{whole}
 use Rattle.tftp_judge.specs.{IsVerdict, Unlawful, Aborted}

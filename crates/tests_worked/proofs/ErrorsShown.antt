@@ -2,7 +2,8 @@
 use Rattle.std.proofs.Common.{◌≡◌, ◌⊎◌, ℕ, ◌+◌, ◌≤◌, nat_le, Bool, true, List, [], ◌∷◌, ◌++◌, Any, codes, inl, inr, refl, sym, subst, ap, ◌∙◌, arith}
 use Rattle.std.proofs.lemmas.Bool.{leb-true}
 use Rattle.tftp_packet.specs.{Message, Get, Client}
-use Rattle.tftp_packet.specs.Hosts.{In, Out, Datagram}
+use Rattle.tftp_packet.specs.Hosts.{Datagram}
+use Rattle.tftp_packet.specs.{In, Out}
 use Rattle.law_model.specs.Model.{Meaning, request_of, option_or, windowsize_of, MachinePacket, Sent, Took, Req, Oack, Data, Ack, Error, History, IsOneSided, Step, IsView, client, server, two_bytes, ten_bytes, eight_a_block, read_refused_view, read_given_up_view, given_up_view, stopped_at_the_end_view, one_block_view, block_after_error_view}
 use Rattle.law_model.proofs.ModelLemmas.Members.{contains_first}
 use Rattle.law_model.proofs.ModelLemmas.Worked.{one_block_plan, two_is_plan, eights_plan, ten_is_plan, blocks_of_eight, one_at_a_time}

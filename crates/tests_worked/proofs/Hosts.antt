@@ -4,7 +4,7 @@ use Rattle.tftp_packet.specs.{Message}
 use Rattle.law_model.specs.Model.{request_of, Sent, Took, Req, Data, Ack, two_bytes, two_bytes_view}
 use Rattle.law_model.proofs.ModelLemmas.Defaults.{default_blksize}
 use Rattle.law_model.proofs.ModelLemmas.Worked.{two_bytes_is_view, two_bytes_complete}
-use Rattle.law_model.specs.Rules.{PortRule}
+use Rattle.law_model.specs.{PortRule}
 use Rattle.law_end.specs.{TransferIds, Shows, IsRefused, Rule}
 use Rattle.tests_worked.specs.{at_client, at_server, server_host, asks_for_a, brings_hi, acknowledges_hi, is_asked_for_a, third_host, comes_from_third_host, answers_third_host, read_with_a_third_host, after_third_host, acknowledges_third_host, read_from_third_host, answered_from_third_host, asks_third_host, third_host_asks, only_is_asked, only_asked}
 use Rattle.tests_worked.proofs.Spelled.{request_spelled, hi_spelled, ack_spelled, unknown_id_spelled}

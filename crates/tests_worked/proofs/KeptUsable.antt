@@ -2,9 +2,11 @@
 use Rattle.std.proofs.Common.{◌≡◌, ℕ, ◌+◌, ◌<◌, ◌≤◌, ◌==◌, ◌&&◌, ◌||◌, not, nat_le, zero, suc, Bool, true, false, List, inl, inr, refl, sym, subst, ap, ◌∙◌, arith}
 use Rattle.std.proofs.lemmas.Bool.{and_parts, or_cases, eqb-true, leb-true, cases_lt, false≢true}
 use Rattle.tftp_packet.specs.{Message, Side, Get, Put, End, Client, Server}
-use Rattle.tftp_packet.specs.Hosts.{Dir, In, Out, Datagram}
+use Rattle.tftp_packet.specs.Hosts.{Datagram}
+use Rattle.tftp_packet.specs.{Dir, In, Out}
 use Rattle.law_model.specs.Model.Roles.{sender_of, receiver_of}
-use Rattle.law_model.specs.Rules.{Passed, HasPassed, BlockPassed, BlocksWait, AckZeroWaits, IsAckedAt, IsReachedAt, Reply, NoReply, Plain, Oacked, Terms}
+use Rattle.law_model.specs.Rules.{Passed, HasPassed, BlockPassed, BlocksWait, AckZeroWaits, IsAckedAt, IsReachedAt}
+use Rattle.law_model.specs.{Reply, NoReply, Plain, Oacked, Terms}
 use Rattle.tests_worked.proofs.Payloads.{Spelled, datagrams, AllSpelled}
 use Rattle.tests_worked.proofs.Passing.{same_dir, as_block, as_ack, holds, block_is, ack_is, passed_as, some, some_in}
 use Rattle.tests_worked.proofs.RuleTests.{is_ack_zero, is_block, same_end, is_sender, is_receiver, may_start, may_be_zero, allows, in_window, reaches, is_taken, taken_up_to}

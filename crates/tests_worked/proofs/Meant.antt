@@ -4,7 +4,8 @@ use Rattle.std.proofs.Common.{◌≡◌, ℕ, ◌&&◌, ◌||◌, not, Bool, tru
 use Rattle.tftp_packet.specs.{Message, RequestParts, Spells}
 use Rattle.std.proofs.lemmas.Bool.{and_parts, or_cases, false≢true}
 use Rattle.std.specs.List.{list_all}
-use Rattle.tftp_packet.specs.Hosts.{Dir, In, Out, Datagram, Header, PeerId, peer_of, same_peer}
+use Rattle.tftp_packet.specs.Hosts.{Datagram, Header, PeerId, peer_of, same_peer}
+use Rattle.tftp_packet.specs.{Dir, In, Out}
 use Rattle.law_model.specs.Model.{Meaning, request_of, MachinePacket, Req, Oack, Data, Ack, Error, Deed, Sent, Took, message_of, History}
 use Rattle.law_end.specs.Dress.{StrayAnswer}
 use Rattle.law_end.specs.{Label, Main, Stray, Labelled, Division, IsMain, datagrams_of, view_in, TransferIds, dir_of, packet_of, CarriesDeed, HasLabel, HaveLabels}

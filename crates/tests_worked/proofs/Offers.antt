@@ -6,7 +6,8 @@ use Rattle.std.specs.FinMap as map
 use Rattle.tftp_packet.specs.{OptionMap, OptionValue, Num, Text, no_options, value_of, is_known_number, is_number, range_of, map_of, Message, RequestParts, Spells, Get, Octet}
 use Rattle.tftp_nego.specs.{Holds, NegoFault, AgreementRule, agreement_number, AgreementBroken}
 use Rattle.tftp_packet.specs.Hosts.{Datagram}
-use Rattle.law_model.specs.Rules.{route_of, is_of_transfer, transfer_of, Terms, NoReply}
+use Rattle.law_model.specs.Rules.{route_of, is_of_transfer, transfer_of}
+use Rattle.law_model.specs.{Terms, NoReply}
 use Rattle.law_model.specs.Model.{eight_a_block}
 use Rattle.law_model.proofs.ModelLemmas.Worked.{eight_for_blksize}
 use Rattle.law_end.specs.{number_of, plain_terms, NotAnswered, OackBreaks, MessageBreaks, Broken, OneEnded, IsRefused, Rule}

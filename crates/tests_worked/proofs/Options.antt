@@ -7,7 +7,7 @@ use Rattle.tftp_packet.specs.{OptionMap, OptionValue, Num, no_options, RequestPa
 use Rattle.tftp_packet.specs.Hosts.{Header}
 use Rattle.law_model.specs.Model.{number_or, option_or, eight_a_block, eight_by_four}
 use Rattle.law_model.proofs.ModelLemmas.Worked.{eight_for_blksize}
-use Rattle.law_model.specs.Rules.{Oacked, Terms}
+use Rattle.law_model.specs.{Oacked, Terms}
 use Rattle.tftp_nego.specs.{MayAnswer, MayAgree, Holds, NegoFault}
 use Rattle.law_end.specs.{Agrees, size_from, terms_after}
 use Rattle.tftp_nego.proofs.Tested.{AllAsked, agreement_kept}

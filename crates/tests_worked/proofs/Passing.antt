@@ -3,8 +3,10 @@ use Rattle.std.proofs.Common.{◌≡◌, ℕ, ◌&&◌, ◌||◌, ◌⊎◌, Boo
 use Rattle.std.specs.List.{list_any}
 use Rattle.std.proofs.lemmas.Bool.{and_parts, or_cases, false≢true}
 use Rattle.tftp_packet.specs.{Message, RequestParts, Spells, Side}
-use Rattle.tftp_packet.specs.Hosts.{Dir, In, Out, Datagram, Header}
-use Rattle.law_model.specs.Rules.{goes_out, or_this, first_of, asks, route_of, is_of_transfer, transfer_of, Passed, brings_error, usable, Terms, NoReply}
+use Rattle.tftp_packet.specs.Hosts.{Datagram, Header}
+use Rattle.tftp_packet.specs.{Dir, In, Out}
+use Rattle.law_model.specs.Rules.{goes_out, or_this, first_of, asks, route_of, is_of_transfer, transfer_of, Passed, brings_error, usable}
+use Rattle.law_model.specs.{Terms, NoReply}
 use Rattle.law_end.specs.{FirstAsked, Answer, Answers, NotAnswered, FirstAnswer, plain_terms, terms_after, AreTerms}
 use Rattle.law_end.proofs.FirstBroken.Answering.{answer_of, answer_is, answer_there}
 use Rattle.law_end.proofs.Spelled.{spelled_once}

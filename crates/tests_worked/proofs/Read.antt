@@ -1,7 +1,8 @@
 -- What the worked read says of its meaning, where one more datagram may follow.
 use Rattle.std.proofs.Common.{◌≡◌, ◌&&◌, ℕ, true, List, [], ◌∷◌, ◌++◌, codes, refl, sym, ◌∙◌}
 use Rattle.tftp_packet.specs.{Message}
-use Rattle.tftp_packet.specs.Hosts.{In, Out, peer_of}
+use Rattle.tftp_packet.specs.Hosts.{peer_of}
+use Rattle.tftp_packet.specs.{In, Out}
 use Rattle.law_model.specs.Model.{Meaning, request_of, blksize_of, block, Sent, Took, Req, Data, History, two_bytes}
 use Rattle.law_end.specs.{Division, datagrams_of, view_in, TransferIds, HaveLabels}
 use Rattle.law_end.proofs.FirstBroken.FirstRequests.{request_same}

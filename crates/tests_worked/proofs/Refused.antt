@@ -3,8 +3,10 @@ use Rattle.std.proofs.Common.{◌≡◌, ℕ, ◌≤◌, nat_le, Bool, true, fal
 use Rattle.std.proofs.lemmas.Bool.{leb-true, false≢true}
 use Rattle.std.proofs.lemmas.Slice.Eq.{bytes_eq-Decides}
 use Rattle.tftp_packet.specs.{Message}
-use Rattle.tftp_packet.specs.Hosts.{Dir, In, Out, Header}
-use Rattle.law_model.specs.Rules.{transfer_of, Passed, HasPassed, IsTop, IsAcked, EndRule}
+use Rattle.tftp_packet.specs.Hosts.{Header}
+use Rattle.tftp_packet.specs.{Dir, In, Out}
+use Rattle.law_model.specs.Rules.{transfer_of, Passed, HasPassed, IsTop, IsAcked}
+use Rattle.law_model.specs.{EndRule}
 use Rattle.law_end.specs.{Rule, IsRefused}
 use Rattle.tests_worked.specs.{at_client, before_overrun, block_seven, before_skip, block_two, before_going_back, goes_back, before_ack_zero, ack_zero, before_last_number, last_number, before_changed_block, changed_block, before_short_block, short_block, before_taking_offer, block_too_early}
 use Rattle.tests_worked.proofs.Payloads.{datagrams, data_spells, ack_spells}

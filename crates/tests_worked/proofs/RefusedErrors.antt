@@ -2,9 +2,11 @@
 use Rattle.std.proofs.Common.{◌≡◌, ℕ, ◌≤◌, true, [], ◌∷◌, reverse, codes, inl, inr, refl, sym, subst, ap, ◌∙◌, arith}
 use Rattle.std.proofs.lemmas.Bool.{leb-true}
 use Rattle.tftp_packet.specs.{Message, no_options, Spells, Put}
-use Rattle.tftp_packet.specs.Hosts.{Out, Header}
+use Rattle.tftp_packet.specs.Hosts.{Header}
+use Rattle.tftp_packet.specs.{Out}
 use Rattle.law_model.specs.Model.{request_of, two_bytes}
-use Rattle.law_model.specs.Rules.{transfer_of, Passed, IsAcked, usable, EndRule, PortRule}
+use Rattle.law_model.specs.Rules.{transfer_of, Passed, IsAcked, usable}
+use Rattle.law_model.specs.{EndRule, PortRule}
 use Rattle.law_end.specs.{Rule, OneEnded, IsRefused}
 use Rattle.tests_worked.specs.{at_client, acknowledges_hi, request, at_service, is_asked, says_not_found, says_forbidden, stops, gives_up, read_refused, read_refused_twice, read_given_up, read_given_up_twice, stopped_at_the_end, stopped_after_the_end, block_after_error, before_late_answer, late_answer, only_offered, stops_unanswered}
 use Rattle.tests_worked.proofs.Spelled.{ack_spelled}

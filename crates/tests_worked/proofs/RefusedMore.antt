@@ -4,11 +4,12 @@ use Rattle.std.specs.FinMap as map
 use Rattle.std.specs.Cmp.Lexicographic.{nat_list_cmp_total}
 use Rattle.tftp_packet.specs.{Num, Message, RequestParts, Get}
 use Rattle.law_model.specs.Model.{number_or, request_of, two_bytes, eight_a_block, eight_by_four}
-use Rattle.law_model.specs.Rules.{IsFront, BlockPassed, transfer_of, EndRule, PortRule}
+use Rattle.law_model.specs.Rules.{IsFront, BlockPassed, transfer_of}
+use Rattle.law_model.specs.{EndRule, PortRule}
 use Rattle.law_model.proofs.ModelLemmas.Worked.{four_of_both}
 use Rattle.tftp_nego.specs.{Holds, NegoFault}
 use Rattle.law_end.specs.{Begins, Agrees, Broken, Rule, IsRefused}
-use Rattle.tftp_packet.specs.Hosts.{Dir, In}
+use Rattle.tftp_packet.specs.{Dir, In}
 use Rattle.std.proofs.lemmas.Bool.{false≢true}
 use Rattle.tests_worked.specs.{at_client, brings_hi, acknowledges_two, read_without_its_ack, by_eight, at_service, comes_from_elsewhere, before_answering, acknowledges_stray, acknowledges_nobody, comes_to_another_port, asks_for_size, too_many_blocks, only_asked, ack_zero, block_zero, before_changed_reply, agrees_to_four, before_taking_offer, agrees_to_eight, before_late_oack, late_oack, sized}
 use Rattle.tests_worked.proofs.Spelled.{hi_spelled}

@@ -3,9 +3,11 @@ use Rattle.std.proofs.Common.{ℕ, ◌+◌, ◌/◌, ◌%◌, ◌==◌, ◌&&◌
 use Rattle.std.specs.Str.{bytes_eq}
 use Rattle.std.specs.List.{list_all}
 use Rattle.tftp_packet.specs.{Message, Side, Get, Put, End, Client, Server}
-use Rattle.tftp_packet.specs.Hosts.{Dir, In, Out, Header}
+use Rattle.tftp_packet.specs.Hosts.{Header}
+use Rattle.tftp_packet.specs.{Dir, In, Out}
 use Rattle.law_model.specs.Model.Roles.{sender_of, receiver_of}
-use Rattle.law_model.specs.Rules.{author_of, Route, route_of, is_of_transfer, Reply, NoReply, Plain, Oacked, Terms, end_rules, rule_count, EndRule, PortRule}
+use Rattle.law_model.specs.Rules.{author_of, Route, route_of, is_of_transfer, end_rules, rule_count}
+use Rattle.law_model.specs.{Reply, NoReply, Plain, Oacked, Terms, EndRule, PortRule}
 use Rattle.law_end.specs.{Answer, Begins, number_of, Rule}
 use Rattle.tests_worked.proofs.Payloads.{Spelled, datagrams}
 use Rattle.tests_worked.proofs.Passing.{same_dir, as_block, as_ack, holds, main_of, used_of, every, some, first_asked, asked_by, first_answer}

@@ -5,7 +5,7 @@ use Rattle.tftp_packet.proofs.FaultOrder.{first_fault}
 use Rattle.law_model.specs.Model.{Sent, Took, Req, Data, Ack, two_bytes, two_bytes_view, two_bytes_server_view}
 use Rattle.law_model.proofs.ModelLemmas.Defaults.{default_blksize}
 use Rattle.law_model.proofs.ModelLemmas.Worked.{two_bytes_is_view, two_bytes_complete, two_bytes_is_server_view, two_bytes_complete_at_server}
-use Rattle.law_model.specs.Rules.{PortRule}
+use Rattle.law_model.specs.{PortRule}
 use Rattle.law_end.specs.{TransferIds, Shows, number_of, Broken, IsRefused, Rule}
 use Rattle.law_end.proofs.Spelled.{spelled_once}
 use Rattle.law_end.proofs.FirstBroken.OneMessage.{agreement_from}

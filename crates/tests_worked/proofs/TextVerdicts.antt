@@ -1,13 +1,15 @@
 -- What there is to say of the worked texts.
 use Rattle.std.proofs.Common.{Bool, true, false, List, [], ◌∷◌, Ok, Err, codes, inl, inr, refl, arith}
 use Rattle.std.proofs.lemmas.Bool.{false≢true}
-use Rattle.tftp_packet.specs.Hosts.{no_host, Dir, Out, Header}
+use Rattle.tftp_packet.specs.Hosts.{no_host, Header}
+use Rattle.tftp_packet.specs.{Dir, Out}
 use Rattle.tftp_packet.specs.{Message}
 use Rattle.tftp_capture.specs.{numbered, Numbered, BeginsWith, worked_header, worked_text, BadHeader}
 use Rattle.tftp_capture.specs.declared.fault.CaptureFault.TheVariants.{Text}
 use Rattle.tftp_capture.proofs.Beginnings.{capture_begins, fault_after}
 use Rattle.law_model.specs.Model.{two_bytes, two_bytes_view}
-use Rattle.law_model.specs.Rules.{transfer_of, IsAcked, EndRule}
+use Rattle.law_model.specs.Rules.{transfer_of, IsAcked}
+use Rattle.law_model.specs.{EndRule}
 use Rattle.law_model.proofs.ModelLemmas.Defaults.{default_blksize}
 use Rattle.law_model.proofs.ModelLemmas.Worked.{two_bytes_is_view, two_bytes_complete}
 use Rattle.law_end.specs.{TransferIds, IsDressed, IsLawful, IsRefused, Rule}

@@ -10,7 +10,7 @@ use Rattle.tftp_capture.specs.{numbered, line, worked_header, worked_text, BadHe
 use Rattle.tftp_capture.specs.declared.fault.CaptureFault.TheVariants.{Text}
 use Rattle.law_model.specs.Model.{two_bytes}
 use Rattle.law_model.proofs.ModelLemmas.Worked.{one_block, two_is_plan}
-use Rattle.law_model.specs.Rules.{EndRule}
+use Rattle.law_model.specs.{EndRule}
 use Rattle.law_end.specs.{Rule}
 use Rattle.tftp_judge.specs.{Unlawful, Capture, Refused}
 use Rattle.tftp_normal.specs.{normal_count, opening_count, window_count, two_bytes_text}

@@ -6,7 +6,8 @@ use Rattle.std.proofs.lemmas.List.Elements.{All-cons, All-nil}
 use Rattle.std.specs.List.{AllByRecursion}
 use Rattle.std.specs.Fmt.{digits}
 use Rattle.hex.specs.Hex.{encode_with}
-use Rattle.tftp_packet.specs.Hosts.{no_host, Dir, In, Out, Datagram}
+use Rattle.tftp_packet.specs.Hosts.{no_host, Datagram}
+use Rattle.tftp_packet.specs.{Dir, In, Out}
 use Rattle.tftp_capture.specs.{text_of, head_line, numbered, IsCapture, IsLawful, IsPort, NamesNoHost, HasFault, worked_header, worked_text, BadHeader, Version, One, Two}
 use Rattle.tftp_capture.specs.CaptureText.Due.{Head}
 use Rattle.tftp_capture.proofs.Canonical.{canonical_is_read}

@@ -2,9 +2,11 @@
 use Rattle.std.proofs.Common.{◌≡◌, ℕ, ◌<◌, ◌==◌, ◌||◌, not, nat_le, Bool, true, List, [], ◌∷◌, length, Some, None, inl, inr, refl, sym, subst, ◌∙◌, arith}
 use Rattle.std.proofs.lemmas.Bool.{and_parts, or_cases, leb-true, eq-eqb, false≢true}
 use Rattle.tftp_packet.specs.{Message, Spells}
-use Rattle.tftp_packet.specs.Hosts.{Dir, In, Out, Datagram, Header}
+use Rattle.tftp_packet.specs.Hosts.{Datagram, Header}
+use Rattle.tftp_packet.specs.{Dir, In, Out}
 use Rattle.law_model.specs.Model.{Meaning}
-use Rattle.law_model.specs.Rules.{transfer_of, Passed, IsReceiver, Terms}
+use Rattle.law_model.specs.Rules.{transfer_of, Passed, IsReceiver}
+use Rattle.law_model.specs.{Terms}
 use Rattle.law_end.specs.{IsErrorBy, NoErrorPassed, AbortedBy, IsWhole, Meant}
 use Rattle.law_end.proofs.Spelled.{spelled_once}
 use Rattle.tests_worked.proofs.Payloads.{Spelled, datagrams, AllSpelled}

@@ -1,7 +1,8 @@
 -- Captures of small transfers, recorded at the client and at the server.
 use Rattle.std.specs.Prelude.{ℕ, List, [], ◌∷◌, ◌++◌, codes}
 use Rattle.tftp_packet.specs.{Client, Server}
-use Rattle.tftp_packet.specs.Hosts.{In, Out, Datagram, Header}
+use Rattle.tftp_packet.specs.Hosts.{Datagram, Header}
+use Rattle.tftp_packet.specs.{In, Out}
 
 abbrev pub at_client : Header
 at_client = record { named = Client; service = 69 }

@@ -1,6 +1,7 @@
 -- Captures of the read of two bytes in which several hosts have the same ports.
 use Rattle.std.specs.Prelude.{ℕ, List, [], ◌∷◌, codes}
-use Rattle.tftp_packet.specs.Hosts.{In, Out, Datagram}
+use Rattle.tftp_packet.specs.Hosts.{Datagram}
+use Rattle.tftp_packet.specs.{In, Out}
 use Rattle.tests_worked.specs.Worked.{asks_for_a, brings_hi, acknowledges_hi, answers_stray, is_asked_for_a}
 
 -- a host that is neither of the two

@@ -1,7 +1,8 @@
 -- Captures of the read of two bytes in which something comes astray: at its server, and before the server has answered;
 -- and what does not answer a stray.
 use Rattle.std.specs.Prelude.{List, [], ◌∷◌}
-use Rattle.tftp_packet.specs.Hosts.{In, Out, Datagram}
+use Rattle.tftp_packet.specs.Hosts.{Datagram}
+use Rattle.tftp_packet.specs.{In, Out}
 use Rattle.tests_worked.specs.Worked.{server_host, client_host, asks_for_a, brings_hi, comes_astray, answers_stray, is_asked_for_a, sends_hi, is_told}
 use Rattle.tests_worked.specs.WorkedErrors.{error}
 use Rattle.tests_worked.specs.WorkedRules.{comes_from_elsewhere, acknowledges_stray}

@@ -1,7 +1,8 @@
 -- Captures with agreed options, and captures that break a rule.
 use Rattle.std.specs.Prelude.{ℕ, List, [], ◌∷◌, ◌++◌, codes}
 use Rattle.tftp_packet.specs.{Pair, strings, pair_strings, Server}
-use Rattle.tftp_packet.specs.Hosts.{In, Out, Datagram, Header}
+use Rattle.tftp_packet.specs.Hosts.{Datagram, Header}
+use Rattle.tftp_packet.specs.{In, Out}
 use Rattle.tests_worked.specs.Worked.{server_host, client_host}
 
 -- payloads: a request by its name, mode and options, one for "a" in mode "octet", an OACK, a block and an ACK with a

@@ -2,7 +2,8 @@
 //! of a function that does nothing.
 
 ghost use Rattle.std.specs.Prelude.{◌≡◌, reverse};
-ghost use Rattle.law_model.specs.Rules.{Route, route_of, PortRule};
+ghost use Rattle.law_model.specs.Rules.{Route, route_of};
+ghost use Rattle.law_model.specs.{PortRule};
 ghost use Rattle.law_model.specs.Model.{two_bytes};
 ghost use Rattle.law_end.specs.{Shows, IsRefused, Rule};
 ghost use Rattle.tests_worked.specs.Worked.{at_client, at_server, acknowledges_hi, read_without_its_ack};

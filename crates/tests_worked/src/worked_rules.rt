@@ -3,7 +3,7 @@
 //! nothing.
 
 ghost use Rattle.std.specs.Prelude.{[], ◌∷◌, reverse};
-ghost use Rattle.law_model.specs.Rules.{EndRule, PortRule};
+ghost use Rattle.law_model.specs.{EndRule, PortRule};
 ghost use Rattle.law_end.specs.{Rule, OneEnded, IsRefused, Meant};
 ghost use Rattle.law_model.specs.Model.{two_bytes};
 ghost use Rattle.tests_worked.specs.Worked.{at_client, brings_hi, acknowledges_hi, acknowledges_two, one_block_read, read_without_its_ack};

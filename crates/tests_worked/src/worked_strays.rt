@@ -4,7 +4,7 @@
 ghost use Rattle.std.specs.Prelude.{[], ◌∷◌, ◌++◌, reverse, Ok, Err};
 ghost use Rattle.tftp_packet.specs.{Short};
 ghost use Rattle.law_model.specs.Model.{two_bytes};
-ghost use Rattle.law_model.specs.Rules.{PortRule};
+ghost use Rattle.law_model.specs.{PortRule};
 ghost use Rattle.law_end.specs.{Shows, IsRefused, Rule};
 ghost use Rattle.tftp_judge.specs.{IsVerdict, Unlawful};
 ghost use Rattle.tests_worked.specs.Worked.{at_client, at_server, comes_astray};

@@ -6,7 +6,7 @@ ghost use Rattle.net_streams.specs.Digits.{AreNibbles, IsNibble};
 ghost use Rattle.tftp_capture.specs.{line, worked_text, BadHeader};
 ghost use Rattle.tftp_capture.specs.declared.fault.CaptureFault.TheVariants.{Text};
 ghost use Rattle.law_model.specs.Model.{two_bytes};
-ghost use Rattle.law_model.specs.Rules.{EndRule};
+ghost use Rattle.law_model.specs.{EndRule};
 ghost use Rattle.law_end.specs.{Rule};
 ghost use Rattle.tftp_judge.specs.{IsTextVerdict, Unlawful, Capture, Refused};
 ghost use Rattle.tftp_normal.specs.{line_end_cut, two_bytes_text};

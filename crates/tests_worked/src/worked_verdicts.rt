@@ -3,7 +3,7 @@
 
 ghost use Rattle.std.specs.Prelude.{[], ◌∷◌, ◌++◌, Ok, Err};
 ghost use Rattle.law_model.specs.Model.{two_bytes, six_blocks};
-ghost use Rattle.law_model.specs.Rules.{EndRule, PortRule};
+ghost use Rattle.law_model.specs.{EndRule, PortRule};
 ghost use Rattle.law_end.specs.{Rule, Local, Peer};
 ghost use Rattle.tftp_judge.specs.{IsVerdict, IsVerdictByRules, Unlawful, Aborted, Incomplete};
 ghost use Rattle.tests_worked.specs.Worked.{at_client, brings_hi, acknowledges_hi, acknowledges_two, one_block_read, read_without_its_ack};

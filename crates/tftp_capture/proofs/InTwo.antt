@@ -5,7 +5,8 @@ use Rattle.std.proofs.lemmas.List.Elements.{All-append, All-cons, All-head, All-
 use Rattle.std.proofs.lemmas.Bool.Decides.{Decides-eqb}
 use Rattle.std.proofs.lemmas.List.Splits.{join_with_byte-slice_split, slice_split_at, slice_split_none}
 use Rattle.std.proofs.lemmas.Slice.Eq.{bytes_eq-Decides}
-use Rattle.tftp_packet.specs.Hosts.{no_host, Dir, In, Out}
+use Rattle.tftp_packet.specs.Hosts.{no_host}
+use Rattle.tftp_packet.specs.{Dir, In, Out}
 use Rattle.tftp_capture.specs.{dir_word, pieces, says_nothing, is_way, line_in_two, pieces_in_two}
 
 -- ---- lists that are cut at a byte

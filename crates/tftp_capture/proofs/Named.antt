@@ -7,7 +7,8 @@ use Rattle.std.proofs.lemmas.Bool.Decides.{nat_tests}
 use Rattle.std.proofs.lemmas.List.Elements.{All-cons, All-nil, All-weaker, recursion_from_All}
 use Rattle.std.proofs.lemmas.List.Sums.{AllPass-from_list_all}
 use Rattle.hex.specs.Hex.{decode_pairs}
-use Rattle.tftp_packet.specs.Hosts.{IsHost, IsSign, In, Out}
+use Rattle.tftp_packet.specs.Hosts.{IsHost, IsSign}
+use Rattle.tftp_packet.specs.{In, Out}
 use Rattle.tftp_capture.specs.{Two, IsCapture, SaysDatagram, SaysDatagrams, named_datagrams, named_text, worked_header}
 use Rattle.tftp_capture.specs.CaptureText.{Datagram}
 

@@ -2,7 +2,8 @@
 use Rattle.std.proofs.Common.{◌≡◌, ◌≢◌, ℕ, ◌≤◌, ◌==◌, true, false, List, [], ◌∷◌, length, codes, decimal, Option, None, Some, Err, MatchOption, Result, Ok, is_some, true≢false, refl, sym, ap, ◌∙◌, subst, arith}
 use Rattle.std.specs.List.{join_with_byte}
 use Rattle.std.proofs.lemmas.List.Splits.{length-slice_split, join_with_byte-slice_split}
-use Rattle.tftp_packet.specs.Hosts.{IsHost, Dir, In, Out}
+use Rattle.tftp_packet.specs.Hosts.{IsHost}
+use Rattle.tftp_packet.specs.{Dir, In, Out}
 use Rattle.tftp_capture.specs.{BadHeader, BadEnd, BadService, LineTooLong, BadLine, BadPort, BadHost, BadHex, PayloadTooLong, TotalWrong, Truncated, TrailingText, TextTooLong, LineError, BeginWithFields, BodyEnds, DatagramEnds, PayloadEnds, TotalEnds, filled, dir_word, pieces, total_line, AreFields, BodyFault, HasFields, HasPorts, SpellsPort, Version, One, Two}
 use Rattle.tftp_capture.specs.declared.line_error.LineError.TheVariants.{Text, Read, Memory}
 

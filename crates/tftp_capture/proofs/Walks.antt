@@ -5,7 +5,7 @@ use Rattle.std.proofs.lemmas.Fmt.{decimal_injective}
 use Rattle.hex.specs.Hex.{decode_of}
 use Rattle.hex.specs.declared.error.FromHexError.TheVariants.{OddLength}
 use Rattle.hex.proofs.HexLemmas.{decode_of-odd, decode_of-same}
-use Rattle.tftp_packet.specs.Hosts.{Dir, In, Out}
+use Rattle.tftp_packet.specs.{Dir, In, Out}
 use Rattle.tftp_packet.specs.{End, Client, Server}
 use Rattle.tftp_capture.specs.{Version, One, Two, Due, IsPort, Numbered, SaysDatagram, SaysDatagrams, Says, SpellsPayload, SpellsPort, dir_word, end_line, head_line, longest, pieces, said, says_nothing, service_line, total_line}
 use Rattle.tftp_capture.specs.CaptureText.{Datagram, Header}

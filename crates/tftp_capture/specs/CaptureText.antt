@@ -5,7 +5,8 @@ use Rattle.std.specs.Prelude.{◌≡◌, ◌≢◌, ℕ, ◌+◌, ◌^◌, ◌<�
 use Rattle.std.specs.List.{slice_split, join_with_byte, AllZip}
 use Rattle.hex.specs.Hex.{encode_lower, decode_of, IsBytes}
 pub use Rattle.tftp_packet.specs.Hosts.Capture.{Datagram, Header}
-use Rattle.tftp_packet.specs.Hosts.{IsHost, no_host, Dir, In, Out}
+use Rattle.tftp_packet.specs.Hosts.{IsHost, no_host}
+use Rattle.tftp_packet.specs.{Dir, In, Out}
 use Rattle.tftp_packet.specs.{End, Client, Server}
 use Rattle.tftp_capture.specs.declared.fault.TextFault.{TextFault}
 use Rattle.tftp_capture.specs.declared.fault.TextFault.TheVariants.{BadHeader, BadEnd, BadService, LineTooLong, BadLine, BadPort, BadHost, BadHex, PayloadTooLong, TotalWrong, Truncated, TrailingText, TextTooLong}

@@ -2,7 +2,8 @@
 use Rattle.std.specs.Prelude.{◌≡◌, ℕ, ◌+◌, ◌*◌, ◌≤◌, List, [], ◌∷◌, ◌++◌, length, take, drop, decimal, Ok}
 use Rattle.std.specs.List.{join_with_byte}
 use Rattle.hex.specs.Hex.{decode_of}
-use Rattle.tftp_packet.specs.Hosts.{IsHost, no_host, Dir}
+use Rattle.tftp_packet.specs.Hosts.{IsHost, no_host}
+use Rattle.tftp_packet.specs.{Dir}
 use Rattle.tftp_capture.specs.CaptureText.{Datagram, IsPort, SaysDatagram, dir_word}
 use Rattle.tftp_capture.specs.declared.heads.Head.TheInside.{Inside}
 use Rattle.tftp_capture.specs.declared.version.Version.{Version}

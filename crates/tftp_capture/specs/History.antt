@@ -10,7 +10,8 @@ use Rattle.std.specs.List.{slice_split}
 use Rattle.tftp_capture.specs.CaptureText.{Datagram, Header, Numbered, Due, Stands, Unfinished, IsCapture, HasFault, said, head_line, end_line, service_line}
 use Rattle.tftp_capture.specs.CaptureText.Due.{Body}
 use Rattle.tftp_capture.specs.Lines.{LineState}
-use Rattle.net_streams.specs.Streams.{Standing, Open, Over, Failed, most_ahead}
+use Rattle.net_streams.specs.Streams.{most_ahead}
+use Rattle.net_streams.specs.{Standing, Open, Over, Failed}
 use Rattle.tftp_capture.specs.Fields.{datagram_of}
 
 -- what contracts see of a reader: its header, its lines, how many datagrams it gave, the line of the last of them (or of

@@ -1,6 +1,6 @@
 -- How a written head of a datagram's line is held.
 use Rattle.std.specs.Prelude.{◌≡◌, ℕ, ◌≤◌, List, take, Option}
-use Rattle.tftp_packet.specs.Hosts.{Dir}
+use Rattle.tftp_packet.specs.{Dir}
 use Rattle.tftp_capture.specs.Written.{head_naming}
 use Rattle.tftp_capture.specs.declared.spelled_head.SpelledHead.TheInside.{Inside}
 

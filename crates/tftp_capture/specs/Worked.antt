@@ -1,7 +1,8 @@
 -- A read of the file `a`, which holds `hi`, as it was recorded at the client: in version 1, the same in version 2, and
 -- with the hosts named.
 use Rattle.std.specs.Prelude.{ℕ, List, [], ◌∷◌, ◌++◌, codes}
-use Rattle.tftp_packet.specs.Hosts.{no_host, In, Out}
+use Rattle.tftp_packet.specs.Hosts.{no_host}
+use Rattle.tftp_packet.specs.{In, Out}
 use Rattle.tftp_packet.specs.{Client}
 use Rattle.tftp_capture.specs.CaptureText.{Datagram, Header, Numbered}
 use Rattle.tftp_capture.specs.Heads.{HeadState}

@@ -2,7 +2,7 @@
 use Rattle.std.specs.Prelude.{◌≡◌, ℕ, List, [], ◌∷◌, ◌++◌, length, map, codes, decimal, Option, None, Some}
 use Rattle.tftp_capture.specs.declared.version.Version.{Version}
 use Rattle.tftp_capture.specs.declared.version.Version.TheVariants.{One, Two}
-use Rattle.tftp_packet.specs.Hosts.{Dir}
+use Rattle.tftp_packet.specs.{Dir}
 use Rattle.net_streams.specs.Streams.Sinks.{Gathers, Sink}
 use Rattle.tftp_capture.specs.CaptureText.{Header, Datagram, head_line, end_line, service_line, datagram_line, dir_word, line_with_host, whole_lines}
 use Rattle.tftp_capture.specs.Commented.{Entry, entry_line, said_in}

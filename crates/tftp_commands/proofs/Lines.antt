@@ -1,7 +1,7 @@
 -- The lines of datagrams.
 use Rattle.std.proofs.Common.{◌≡◌, ◌↔◌, inl, inr, ℕ, ◌+◌, List, [], ◌∷◌, ◌++◌, length, codes, decimal, Result, Ok, Err, IfOk, refl, sym, ap, ◌∙◌, subst, append_assoc, append-nil, arith}
 use Rattle.tftp_capture.specs.{Numbered, dir_word}
-use Rattle.tftp_packet.specs.Hosts.{Dir}
+use Rattle.tftp_packet.specs.{Dir}
 use Rattle.tftp_packet.specs.{Spells, FirstFault, meaning, Packet, PacketFault}
 use Rattle.tftp_commands.specs.{packet_fault_name, message_text, AreLines, IsDatagramLine, IsPayloadText}
 

@@ -3,7 +3,8 @@ use Rattle.std.proofs.Common.{◌≡◌, ◌≢◌, ◌⊎◌, inl, inr, ℕ, �
 use Rattle.std.specs.Io.KnownBytes.{prepend_known, Consumes, IsAtEnd}
 use Rattle.std.proofs.KnownBytes.{Consumes-trans}
 use Rattle.tftp_capture.specs.{TextFault, BadHeader, BadEnd, BadService, LineTooLong, BadLine, BadPort, BadHost, BadHex, PayloadTooLong, TotalWrong, Truncated, TrailingText, TextTooLong, CaptureFault, Version, Numbered, Stands, IsCapture, HasFault, datagram_of, Continues, FailsToBegin, FaultTells, GoesOn, IsAtTextEnd, IsReadFault, ReaderState, StandsFor}
-use Rattle.net_streams.specs.Streams.{AppendsPrefix, Failed, Gathers, Open, Over, Sink}
+use Rattle.net_streams.specs.Streams.{AppendsPrefix, Gathers, Sink}
+use Rattle.net_streams.specs.{Failed, Open, Over}
 use Rattle.tftp_capture.specs.declared.fault.CaptureFault.TheVariants.{Text, Read, Memory}
 use Rattle.tftp_capture.specs.declared.datagram.Datagram.{Datagram as Owned}
 use Rattle.tftp_capture.specs.CaptureText.{Header}

@@ -3,7 +3,8 @@ use Rattle.std.proofs.Common.{◌≡◌, ◌≢◌, ◌↔◌, ◌⊎◌, ℕ, m
 use Rattle.std.proofs.lemmas.Bool.{true≢false}
 use Rattle.std.specs.FinMap as map
 use Rattle.tftp_packet.specs.{Message, Data, Ack, Error, Spells}
-use Rattle.tftp_packet.specs.Hosts.{In, Out, Datagram}
+use Rattle.tftp_packet.specs.Hosts.{Datagram}
+use Rattle.tftp_packet.specs.{In, Out}
 use Rattle.law_model.specs.Rules.{Passed, HasPassed, BlockPassed, IsGreatest, usable}
 use Rattle.tftp_ends.specs.Blocks.{Held, Placing, Places}
 use Rattle.tftp_ends.specs.{has_stopped, Sender, IsSenderAfter, Says, IsAside, IsBeforeBlocks}

@@ -2,8 +2,10 @@
 use Rattle.std.proofs.Common.{◌≡◌, ◌↔◌, ℕ, ◌≤◌, IsTrue, nat_eq, eq-eqb, List, inl, inr, sym, subst, ◌∙◌, arith}
 use Rattle.std.proofs.lemmas.Bool.{eqb-true}
 use Rattle.tftp_packet.specs.{Ack}
-use Rattle.tftp_packet.specs.Hosts.{In, Out, Datagram}
-use Rattle.law_model.specs.Rules.{Passed, IsLast, Terms, IsJoined}
+use Rattle.tftp_packet.specs.Hosts.{Datagram}
+use Rattle.tftp_packet.specs.{In, Out}
+use Rattle.law_model.specs.Rules.{Passed, IsLast, IsJoined}
+use Rattle.law_model.specs.{Terms}
 use Rattle.tftp_ends.specs.Blocks.{Held, IsHeldFront, IsJoin}
 use Rattle.tftp_ends.specs.{AreBlocks, IsHeld, Sender, Receiver, IsSenderAfter, IsReceiverAfter, IsAllAnswered, IsAllTaken, IsSound, IsSoundSender, IsSoundReceiver, IsEnd, Sends, Receives, HoldsWire}
 use Rattle.tftp_ends.proofs.HeldWire.{joined_held, last_is_front}

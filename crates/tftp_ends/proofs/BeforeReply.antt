@@ -2,7 +2,8 @@
 use Rattle.std.proofs.Common.{◌≡◌, ◌↔◌, ℕ, List, length, inl, inr}
 use Rattle.tftp_packet.specs.{Message, Request, Data, Ack, Error, Oack, Get, Put}
 use Rattle.tftp_packet.specs.Hosts.{Datagram}
-use Rattle.law_model.specs.Rules.{HasWrongLength, BlockBreaks, AckBreaks, EndBroken, AckZeroWaits, usable, EndRule, NotStarted, BlockLength, AckZero, Reply, NoReply, Plain, Terms}
+use Rattle.law_model.specs.Rules.{HasWrongLength, BlockBreaks, AckBreaks, EndBroken, AckZeroWaits, usable}
+use Rattle.law_model.specs.{EndRule, NotStarted, BlockLength, AckZero, Reply, NoReply, Plain, Terms}
 use Rattle.tftp_ends.specs.{replied}
 
 same : {A : Type 0} → A ↔ A

@@ -4,7 +4,8 @@ use Rattle.std.proofs.lemmas.Bool.{cases_lt, cases_eq}
 use Rattle.std.proofs.lemmas.Nat.{mod_below}
 use Rattle.std.specs.FinMap as map
 use Rattle.tftp_packet.specs.Hosts.{Datagram}
-use Rattle.law_model.specs.Rules.{IsLast, IsNotLengthOf, HasWrongLength, Terms}
+use Rattle.law_model.specs.Rules.{IsLast, IsNotLengthOf, HasWrongLength}
+use Rattle.law_model.specs.{Terms}
 use Rattle.tftp_ends.specs.Blocks.{Held, IsHeldLast, IsHighest, IsOrderly}
 use Rattle.tftp_ends.specs.{AreBlocks, AreWhole, IsHeld, HasLengthBySize, IsShortTop, IsEnd, EndsThere, HasRightLength, IsSound}
 

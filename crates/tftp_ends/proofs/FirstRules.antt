@@ -3,7 +3,8 @@ use Rattle.std.proofs.Common.{◌≡◌, ◌↔◌, ℕ, ◌≤◌, Bool, true, 
 use Rattle.std.proofs.lemmas.Bool.{ltb-true, lt-ltb, false≢true}
 use Rattle.tftp_packet.specs.{Message, Data, Ack, NoneBelow}
 use Rattle.tftp_packet.specs.Hosts.{Datagram}
-use Rattle.law_model.specs.Rules.{end_number, EndBroken, FirstEndBroken, EndRule, BlockChanged, AckAhead, AckZero, Terms}
+use Rattle.law_model.specs.Rules.{end_number, EndBroken, FirstEndBroken}
+use Rattle.law_model.specs.{EndRule, BlockChanged, AckAhead, AckZero, Terms}
 use Rattle.tftp_ends.specs.{IsFound, Rejection}
 
 module _ (t : Terms) (passed : List Datagram) where

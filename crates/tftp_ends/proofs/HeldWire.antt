@@ -7,7 +7,8 @@ use Rattle.std.proofs.lemmas.Bool.{cases_lt}
 use Rattle.std.specs.FinMap as map
 use Rattle.tftp_packet.specs.Hosts.{Datagram}
 use Rattle.law_model.specs.Model.{block, block_count}
-use Rattle.law_model.specs.Rules.{IsJoined, Terms}
+use Rattle.law_model.specs.Rules.{IsJoined}
+use Rattle.law_model.specs.{Terms}
 use Rattle.tftp_ends.specs.Blocks.{Held, IsHeldFront, IsJoin}
 use Rattle.tftp_ends.specs.{AreBlocks, IsHeld, IsEnd, AreWholeBelow}
 use Rattle.law_model.proofs.RulesLemmas.Joined.{block_added, block_kept}

@@ -1,7 +1,8 @@
 -- What is kept tells the route of a datagram, and with it stands for one datagram more.
 use Rattle.std.proofs.Common.{◌≡◌, ◌⊎◌, inl, inr, ℕ, Bool, true, false, List, ◌∷◌, Option, Some, None, refl, sym, ap, subst, ◌∙◌, if◌then◌else◌, ◌==◌, ◌&&◌, ◌||◌, not, is_some, option_map, Ok, Err}
 use Rattle.std.proofs.lemmas.Bool.{false≢true, and_parts}
-use Rattle.tftp_packet.specs.Hosts.{Dir, Datagram, Header, PeerId, peer_of, same_peer}
+use Rattle.tftp_packet.specs.Hosts.{Datagram, Header, PeerId, peer_of, same_peer}
+use Rattle.tftp_packet.specs.{Dir}
 use Rattle.tftp_packet.specs.{End, Client, Server}
 use Rattle.law_model.specs.Rules.{Route, goes_out, comes_in, asks, begins_request, first_of, has_come_from, is_from_client, port_of_server, route_before, route_at_client, route_at_server, route_of}
 use Rattle.tftp_ends.specs.{KnownIds, StandsFor, NotesStrays, HasNumbers, HasNoRequest, among_all, answers, answer_of, is_noted, is_other, other_end, sides_of, Route as MayPass, PortFault, Sides}

@@ -4,7 +4,8 @@ use Rattle.std.proofs.lemmas.Bool.{cases_lt, cases_eq, true≢false}
 use Rattle.std.specs.FinMap as map
 use Rattle.tftp_packet.specs.{Message, Request, Data, Ack, Error, Oack, Spells, Side, Get, Put}
 use Rattle.tftp_packet.proofs.Unique.{message_opcode, layout_opcode, one_message}
-use Rattle.tftp_packet.specs.Hosts.{Dir, In, Out, Datagram}
+use Rattle.tftp_packet.specs.Hosts.{Datagram}
+use Rattle.tftp_packet.specs.{Dir, In, Out}
 use Rattle.law_model.specs.Rules.{goes_out, begins_error, Passed, HasPassed, BlockPassed, IsGreatest, brings_error, usable}
 use Rattle.tftp_ends.specs.Blocks.{Held, Placing, Differs, Places}
 use Rattle.tftp_ends.specs.{has_stopped, AreBlocks, Says, IsAside}

@@ -3,8 +3,10 @@ use Rattle.std.proofs.Common.{◌≡◌, ◌≢◌, ◌↔◌, ℕ, ◌+◌, ◌
 use Rattle.std.proofs.lemmas.Bool.{cases_lt}
 use Rattle.std.specs.FinMap as map
 use Rattle.tftp_packet.specs.{NoneBelow, Data, Ack}
-use Rattle.tftp_packet.specs.Hosts.{In, Out, Datagram}
-use Rattle.law_model.specs.Rules.{Passed, HasPassed, IsFront, IsAckedAt, IsReachedAt, IsSender, end_number, EndBroken, FirstEndBroken, AckZeroWaits, usable, EndRule, BlockChanged, AckAhead, AckZero}
+use Rattle.tftp_packet.specs.Hosts.{Datagram}
+use Rattle.tftp_packet.specs.{In, Out}
+use Rattle.law_model.specs.Rules.{Passed, HasPassed, IsFront, IsAckedAt, IsReachedAt, IsSender, end_number, EndBroken, FirstEndBroken, AckZeroWaits, usable}
+use Rattle.law_model.specs.{EndRule, BlockChanged, AckAhead, AckZero}
 use Rattle.tftp_ends.specs.Blocks.{IsHighest, IsHeldFront}
 use Rattle.tftp_ends.specs.{Receiver, IsReceiverAfter, IsHeld, IsSoundReceiver, IsKnown, CannotHold, IsFound, NoneBroken, Rejection}
 use Rattle.law_model.proofs.RulesLemmas.EndRules.{none_more}

@@ -3,9 +3,11 @@ use Rattle.std.proofs.Common.{◌≡◌, ◌≢◌, ◌↔◌, ◌⊎◌, ℕ, �
 use Rattle.std.proofs.lemmas.Bool.{cases_eq}
 use Rattle.std.specs.FinMap as map
 use Rattle.tftp_packet.specs.{NoneBelow, Data, Ack, Side, Get, Put, End, Client, Server}
-use Rattle.tftp_packet.specs.Hosts.{Dir, In, Out, Datagram}
+use Rattle.tftp_packet.specs.Hosts.{Datagram}
+use Rattle.tftp_packet.specs.{Dir, In, Out}
 use Rattle.law_model.specs.Model.Roles.{sender_of, receiver_of}
-use Rattle.law_model.specs.Rules.{author_of, Passed, HasPassed, BlockPassed, IsTop, IsAckedAt, IsReachedAt, end_number, EndBroken, FirstEndBroken, AckZeroWaits, usable, EndRule, BlockSkipped, GoneBack, BlockChanged, AckAhead, AckZero}
+use Rattle.law_model.specs.Rules.{author_of, Passed, HasPassed, BlockPassed, IsTop, IsAckedAt, IsReachedAt, end_number, EndBroken, FirstEndBroken, AckZeroWaits, usable}
+use Rattle.law_model.specs.{EndRule, BlockSkipped, GoneBack, BlockChanged, AckAhead, AckZero}
 use Rattle.tftp_ends.specs.Blocks.{IsHighest}
 use Rattle.tftp_ends.specs.{Sender, IsSenderAfter, IsHeld, IsSoundSender, IsKnown, CannotHold, IsFound, NoneBroken, Rejection}
 use Rattle.law_model.proofs.RulesLemmas.EndRules.{none_more}

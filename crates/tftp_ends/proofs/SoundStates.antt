@@ -2,7 +2,8 @@
 use Rattle.std.proofs.Common.{◌≡◌, ◌≢◌, ◌⊎◌, ℕ, ◌+◌, ◌<◌, ◌≤◌, max, Bool, List, length, Some, None, Option, zero, suc, inl, inr, refl, sym, subst, ap, ◌∙◌, arith}
 use Rattle.std.proofs.lemmas.Bool.{cases_lt, cases_eq}
 use Rattle.std.specs.FinMap as map
-use Rattle.law_model.specs.Rules.{IsSender, IsReceiver, Terms}
+use Rattle.law_model.specs.Rules.{IsSender, IsReceiver}
+use Rattle.law_model.specs.{Terms}
 use Rattle.tftp_ends.specs.Blocks.{Held, nothing_held, IsHeldFront, Takes, Placing, Differs, Places}
 use Rattle.tftp_ends.specs.{Sender, Receiver, IsHeld, HasLengthBySize, IsSound, IsSoundSender, IsSoundReceiver, HasRightLength}
 use Rattle.tftp_ends.proofs.BlocksLemmas.Stores.{placed_is_held, others_are_kept}

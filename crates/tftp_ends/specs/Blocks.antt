@@ -10,4 +10,3 @@ pub use Rattle.tftp_ends.specs.Blocks.Ring.{IsEven, IsRing, IsRoom, IsRow, IsWho
 pub use Rattle.tftp_ends.specs.Blocks.Spans.{AreWithin, part, shown}
 pub use Rattle.tftp_ends.specs.Blocks.Kept.{IsKept, held_in, map_of}
 pub use Rattle.tftp_ends.specs.Blocks.WorkedStore.{first_and_fourth, first_held}
-pub use Rattle.tftp_ends.specs.declared.blocks.waiting.Span.{Span}

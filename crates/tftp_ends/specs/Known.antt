@@ -3,8 +3,10 @@
 use Rattle.std.specs.Prelude.{◌≡◌, ℕ, ◌&&◌, not, Bool, false, List, [], Option, Some, None, option_map, Result, Ok, Err}
 use Rattle.std.specs.List.{list_any}
 use Rattle.tftp_packet.specs.{opcode_of, End, Client, Server}
-use Rattle.tftp_packet.specs.Hosts.{Dir, Datagram, Header, PeerId, peer_of, same_peer}
-use Rattle.law_model.specs.Rules.{Route, comes_in, goes_out, asks, first_of, has_come_from, route_of, PortRule}
+use Rattle.tftp_packet.specs.Hosts.{Datagram, Header, PeerId, peer_of, same_peer}
+use Rattle.tftp_packet.specs.{Dir}
+use Rattle.law_model.specs.Rules.{Route, comes_in, goes_out, asks, first_of, has_come_from, route_of}
+use Rattle.law_model.specs.{PortRule}
 use Rattle.tftp_ends.specs.declared.route.Route.{Route as MayPass}
 use Rattle.tftp_ends.specs.declared.route.Route.TheVariants as may
 use Rattle.tftp_ends.specs.declared.ports.PortFault.{PortFault}

@@ -18,3 +18,4 @@ pub use declared.ports.PortFault.{PortFault}
 pub use declared.ports.Sides.{Sides}
 pub use declared.rejection.Rejection.{Rejection}
 pub use declared.route.Route.{Route}
+pub use declared.blocks.waiting.Span.{Span}

@@ -3,7 +3,8 @@ use Rattle.std.specs.Prelude.{◌≡◌, ◌≢◌, ℕ, List, Some, None, Resul
 use Rattle.std.specs.FinMap as map
 use Rattle.tftp_packet.specs.{Message}
 use Rattle.tftp_packet.specs.Hosts.{Datagram}
-use Rattle.law_model.specs.Rules.{EndBroken, FirstEndBroken, EndRule, BlockChanged, Terms}
+use Rattle.law_model.specs.Rules.{EndBroken, FirstEndBroken}
+use Rattle.law_model.specs.{EndRule, BlockChanged, Terms}
 use Rattle.tftp_ends.specs.Blocks.{Held}
 use Rattle.tftp_ends.specs.declared.rejection.Rejection.{Rejection}
 use Rattle.tftp_ends.specs.declared.rejection.Rejection.TheVariants.{Broken, Memory}

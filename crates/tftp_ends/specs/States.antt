@@ -4,9 +4,11 @@ use Rattle.std.specs.Prelude.{◌≡◌, ◌↔◌, ◌⊎◌, ℕ, ◌+◌, ◌
 use Rattle.std.specs.List.{list_any}
 use Rattle.std.specs.FinMap as map
 use Rattle.tftp_packet.specs.{Message, Request, Data, Ack, Error, Oack, Spells}
-use Rattle.tftp_packet.specs.Hosts.{Dir, In, Out, Datagram}
+use Rattle.tftp_packet.specs.Hosts.{Datagram}
+use Rattle.tftp_packet.specs.{Dir, In, Out}
 use Rattle.law_model.specs.Model.Roles.{sender_of, receiver_of}
-use Rattle.law_model.specs.Rules.{author_of, Passed, HasPassed, brings_error, usable, IsTop, IsAnswered, IsAcked, IsFront, IsLast, Reply, Terms}
+use Rattle.law_model.specs.Rules.{author_of, Passed, HasPassed, brings_error, usable, IsTop, IsAnswered, IsAcked, IsFront, IsLast}
+use Rattle.law_model.specs.{Reply, Terms}
 use Rattle.tftp_ends.specs.Blocks.{Held}
 
 -- an ERROR of the other end has come in

@@ -4,7 +4,8 @@ use Rattle.std.specs.Coded.{Coded, code_by, coded×, coded_ℕ, coded_bool, code
 use Rattle.std.specs.FinMap as map
 use Rattle.tftp_packet.specs.{Ack, side_code, Side, End, Client, Server}
 use Rattle.tftp_packet.specs.Hosts.{Datagram}
-use Rattle.law_model.specs.Rules.{HasPassed, IsSender, IsReceiver, IsAckedAt, usable, Reply, NoReply, Plain, Oacked, Terms}
+use Rattle.law_model.specs.Rules.{HasPassed, IsSender, IsReceiver, IsAckedAt, usable}
+use Rattle.law_model.specs.{Reply, NoReply, Plain, Oacked, Terms}
 use Rattle.tftp_ends.specs.Blocks.{Held, IsHighest, IsHeldLast}
 use Rattle.tftp_ends.specs.States.{Sender, Receiver, AreBlocks, IsHeld, HasLengthBySize}
 

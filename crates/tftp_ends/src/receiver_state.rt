@@ -1,7 +1,8 @@
 ghost use Rattle.std.specs.Prelude.{◌≡◌, ◌↔◌, ℕ, ◌≤◌, List, ◌∷◌, None, IsTrue, true, Err, OnOk, OnErr, IfErr};
 ghost use Rattle.std.specs.FinMap as map;
 ghost use Rattle.tftp_packet.specs.{Data, Ack, Error, meaning};
-ghost use Rattle.tftp_packet.specs.Hosts.{In, Out, Datagram};
+ghost use Rattle.tftp_packet.specs.Hosts.{Datagram};
+ghost use Rattle.tftp_packet.specs.{In, Out};
 ghost use Rattle.tftp_ends.specs.Blocks.{nothing_held};
 ghost use Rattle.law_model.specs.Rules.{IsReceiver, FirstEndBroken};
 ghost use Rattle.tftp_ends.specs.NamedEnds.{Receives, HoldsWire};

@@ -3,7 +3,8 @@
 ghost use Rattle.std.specs.Prelude.{◌≡◌, ◌↔◌, ℕ, List, ◌∷◌};
 ghost use Rattle.tftp_packet.specs.{Message, Spells, Get, Put};
 ghost use Rattle.tftp_packet.specs.Hosts.{Datagram};
-ghost use Rattle.law_model.specs.Rules.{EndBroken, EndRule, NoReply, Plain, Terms};
+ghost use Rattle.law_model.specs.Rules.{EndBroken};
+ghost use Rattle.law_model.specs.{EndRule, NoReply, Plain, Terms};
 ghost use Rattle.tftp_ends.specs.States.{Sender, Receiver, IsSenderAfter, IsReceiverAfter, IsAside, replied};
 
 /// Requests, OACKs and an ERROR that goes out change nothing at a sender: it stands for what has passed with them.

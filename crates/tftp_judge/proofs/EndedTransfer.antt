@@ -5,10 +5,12 @@ use Rattle.std.proofs.lemmas.List.{reverse-reverse, length-reverse}
 use Rattle.std.proofs.lemmas.List.Elements.{All-from_recursion, recursion_from_All}
 use Rattle.tftp_packet.specs.{OptionMap, no_options, Mode, Message, RequestParts}
 use Rattle.std.proofs.lemmas.Bool.{cases_eq}
-use Rattle.tftp_packet.specs.Hosts.{Dir, In, Out, Datagram, Header}
+use Rattle.tftp_packet.specs.Hosts.{Datagram, Header}
+use Rattle.tftp_packet.specs.{Dir, In, Out}
 use Rattle.law_model.specs.Model.{Meaning, option_or}
 use Rattle.tftp_ends.specs.{NamedEnd, Sends, Receives, terms_of, held_of, IsEndAfter, IsEndDone, HoldsWire, AreBlocks, IsHeld, IsBeforeBlocks}
-use Rattle.law_model.specs.Rules.{transfer_of, Passed, Terms, NoReply}
+use Rattle.law_model.specs.Rules.{transfer_of, Passed}
+use Rattle.law_model.specs.{Terms, NoReply}
 use Rattle.law_model.specs.Model.Roles.{sender_of, receiver_of}
 use Rattle.tftp_ends.specs.Blocks.{Held, IsHeldFront, IsJoin}
 use Rattle.law_end.specs.{CanBeWritten, ReadsAs, written_wire, IsWritable, OneEnded, IsAgreed, IsEnded, IsWhole, Meant, meaning_from, Answer, AreTerms, FirstAnswer, FirstAsked, NotAnswered, plain_terms, terms_after}

@@ -1,7 +1,8 @@
 -- A datagram that is no ERROR leaves what is kept of ERRORs as it is.
 use Rattle.std.proofs.Common.{◌≡◌, ◌==◌, ◌||◌, ℕ, List, ◌∷◌, Option, Some, None, inl, inr, refl, ◌∙◌}
 use Rattle.tftp_packet.specs.{Message, Spells, side_opcode, Side, Get, Put}
-use Rattle.tftp_packet.specs.Hosts.{Dir, In, Out, Datagram}
+use Rattle.tftp_packet.specs.Hosts.{Datagram}
+use Rattle.tftp_packet.specs.{Dir, In, Out}
 use Rattle.law_model.specs.Rules.{Passed}
 use Rattle.tftp_ends.specs.{has_stopped}
 use Rattle.tftp_ends.proofs.Passing.{another, stopped_out, stopped_with}

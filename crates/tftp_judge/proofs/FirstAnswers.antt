@@ -1,8 +1,10 @@
 -- The first answer to a request is one, and so is what is known of the transfer.
 use Rattle.std.proofs.Common.{◌≡◌, ℕ, List, [], ◌∷◌, inl, inr, sym, ap, ◌∙◌}
 use Rattle.tftp_packet.specs.{Message, RequestParts, Get}
-use Rattle.tftp_packet.specs.Hosts.{Dir, Datagram, Header}
-use Rattle.law_model.specs.Rules.{Passed, Terms}
+use Rattle.tftp_packet.specs.Hosts.{Datagram, Header}
+use Rattle.tftp_packet.specs.{Dir}
+use Rattle.law_model.specs.Rules.{Passed}
+use Rattle.law_model.specs.{Terms}
 use Rattle.law_end.specs.{Begins, NotAnswered, terms_after, AreTermsAfter}
 use Rattle.law_end.proofs.FirstBroken.FirstAnswered.{first_one, not_both}
 

@@ -4,7 +4,8 @@ use Rattle.std.specs.Io.KnownBytes.{Consumes, IsAtEnd, prepend_known}
 use Rattle.std.proofs.KnownBytes.{Consumes-trans}
 use Rattle.std.proofs.lemmas.List.{length-map, length-reverse, map-append, reverse-append, reverse-reverse}
 use Rattle.tftp_capture.specs.{Begins, IsCapture, Numbered, Stands, Version, datagram_of, Continues, GoesOn, IsAtTextEnd, IsReadFault, ReaderState, StandingTells, StandsFor, WantTells, gave, with_answer, CaptureFault}
-use Rattle.net_streams.specs.Streams.{Failed, Open, Over, most_ahead, standing_after}
+use Rattle.net_streams.specs.Streams.{most_ahead, standing_after}
+use Rattle.net_streams.specs.{Failed, Open, Over}
 use Rattle.tftp_capture.specs.CaptureText.Due.{Body}
 use Rattle.tftp_capture.specs.declared.datagram.Datagram.{Datagram as Owned}
 use Rattle.tftp_capture.proofs.Beginnings.{begins_more, capture_begins}

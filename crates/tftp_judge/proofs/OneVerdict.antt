@@ -7,7 +7,8 @@ use Rattle.law_end.specs.{number_of, Broken, FirstBroken, AbortedBy, Rule, IsLaw
 use Rattle.law_model.specs.Model.{Meaning}
 use Rattle.tftp_judge.specs.{IsSaid, IsUnlawfulAt, IsVerdict, Refusal, Unlawful, Aborted, Incomplete, NormalTooLong}
 use Rattle.tftp_judge.specs.declared.refusal.Refusal.TheVariants.{Memory}
-use Rattle.law_model.specs.Rules.{end_rules, transfer_of, EndRule, PortRule}
+use Rattle.law_model.specs.Rules.{end_rules, transfer_of}
+use Rattle.law_model.specs.{EndRule, PortRule}
 use Rattle.tftp_nego.specs.{AgreementRule}
 use Rattle.law_end.proofs.FirstBroken.FirstError.{one_first, none_first}
 use Rattle.law_end.proofs.Whole.Beginnings.{beginning_is_lawful}

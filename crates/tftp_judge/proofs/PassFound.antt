@@ -6,7 +6,8 @@ use Rattle.std.proofs.lemmas.Bool.{cases_lt, false≢true}
 use Rattle.std.proofs.lemmas.Slice.Eq.{bytes_eq-Decides}
 use Rattle.tftp_packet.specs.{Message, RequestParts, IsString, terminated, Spells, IsPair}
 use Rattle.tftp_packet.specs.Hosts.{Datagram, Header}
-use Rattle.law_model.specs.Rules.{Route, asks, first_of, route_of, is_of_transfer, SaysUnknownId, PortRule, PortBroken}
+use Rattle.law_model.specs.Rules.{Route, asks, first_of, route_of, is_of_transfer, SaysUnknownId, PortBroken}
+use Rattle.law_model.specs.{PortRule}
 use Rattle.law_end.specs.{FirstAsked, Broken, Rule, IsRead, Passes}
 use Rattle.law_end.proofs.FirstBroken.OneMessage.{only_ports, only_messages}
 

@@ -2,10 +2,12 @@
 use Rattle.std.proofs.Common.{◌≡◌, ◌↔◌, ℕ, List, ◌∷◌, Err, inl, inr, refl, sym, subst, ap, ◌∙◌, arith}
 use Rattle.std.proofs.lemmas.Bool.{cases_lt}
 use Rattle.tftp_packet.specs.{Message, RequestParts, Side, Get, Put, End, Client, Server}
-use Rattle.tftp_packet.specs.Hosts.{Dir, In, Out, Datagram, Header}
+use Rattle.tftp_packet.specs.Hosts.{Datagram, Header}
+use Rattle.tftp_packet.specs.{Dir, In, Out}
 use Rattle.tftp_ends.specs.{NamedEnd, terms_of, IsEndAfter, IsOfItsAuthor, IsBeforeBlocks, IsBlockOrAck, Says, IsFound, NoneBroken, Rejection}
 use Rattle.law_model.specs.Model.Roles.{sender_of, receiver_of}
-use Rattle.law_model.specs.Rules.{author_of, BlocksWait, AckZeroWaits, AckBreaks, BlockPassed, EndBroken, FirstEndBroken, IsFront, IsReachedAt, IsTop, usable, EndRule, NoReply, Plain, Terms}
+use Rattle.law_model.specs.Rules.{author_of, BlocksWait, AckZeroWaits, AckBreaks, BlockPassed, EndBroken, FirstEndBroken, IsFront, IsReachedAt, IsTop, usable}
+use Rattle.law_model.specs.{EndRule, NoReply, Plain, Terms}
 use Rattle.law_model.proofs.RulesLemmas.EndRules.{from_18}
 use Rattle.tftp_ends.proofs.BeforeReply.{read_alike, ack_put_alike}
 use Rattle.tftp_ends.proofs.Passing.{none_greatest, usable_passed}

@@ -1,7 +1,8 @@
 -- What stays as it was when a datagram is added, by what it says.
 use Rattle.std.proofs.Common.{◌≡◌, ◌↔◌, ℕ, Bool, true, List, ◌∷◌, inl, inr, refl, sym, subst, ◌∙◌}
 use Rattle.tftp_packet.specs.{OptionMap, Message, RequestParts, Spells, Side, Get, Put, End, Client, Server}
-use Rattle.tftp_packet.specs.Hosts.{Dir, In, Out, Datagram, Header}
+use Rattle.tftp_packet.specs.Hosts.{Datagram, Header}
+use Rattle.tftp_packet.specs.{Dir, In, Out}
 use Rattle.tftp_ends.specs.{NamedEnd, terms_of, IsEndAfter, IsBeforeBlocks, IsAside, IsBlockOrAck, Says}
 use Rattle.tftp_ends.proofs.EndsAside.{end_aside}
 use Rattle.tftp_ends.proofs.Passing.{another, aside_no_block, aside_no_ack}

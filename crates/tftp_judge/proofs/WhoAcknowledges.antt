@@ -1,7 +1,8 @@
 -- Of lawful datagrams an ACK comes from the receiver.
 use Rattle.std.proofs.Common.{◌≡◌, ℕ, Bool, true, false, List, [], ◌∷◌, Option, Some, None, inl, inr, refl, sym, subst, ap, ◌∙◌}
 use Rattle.tftp_packet.specs.{Message, RequestParts, Spells}
-use Rattle.tftp_packet.specs.Hosts.{Dir, In, Out, Datagram, Header}
+use Rattle.tftp_packet.specs.Hosts.{Datagram, Header}
+use Rattle.tftp_packet.specs.{Dir, In, Out}
 use Rattle.law_model.specs.Rules.{or_this, first_of, asks, route_of, is_of_transfer, transfer_of, author_of, Passed}
 use Rattle.law_model.specs.Model.Roles.{sender_of, receiver_of}
 use Rattle.law_end.specs.{Passes, OneEnded, FirstAsked, IsWrongKind, Rule}

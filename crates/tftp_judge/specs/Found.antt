@@ -3,7 +3,7 @@ use Rattle.std.specs.Prelude.{◌≡◌, ◌+◌, List, length, Result, Ok, Err}
 use Rattle.tftp_packet.specs.{IsFirst}
 use Rattle.tftp_packet.specs.Hosts.{Datagram, Header}
 use Rattle.tftp_ends.specs.{PortFault, Rejection}
-use Rattle.law_model.specs.Rules.{EndRule}
+use Rattle.law_model.specs.{EndRule}
 use Rattle.law_end.specs.{Passes, number_of, FirstBroken, Rule, Port, Agreement, Block}
 use Rattle.tftp_nego.specs.{NegoFault}
 use Rattle.tftp_judge.specs.Memory.{TakesMemory}

@@ -2,7 +2,8 @@
 -- of the transfer, the newest first.
 use Rattle.std.specs.Prelude.{◌≡◌, ◌⊎◌, ℕ, List, []}
 use Rattle.tftp_packet.specs.{OptionMap, Message}
-use Rattle.tftp_packet.specs.Hosts.{Dir, Datagram, Header}
+use Rattle.tftp_packet.specs.Hosts.{Datagram, Header}
+use Rattle.tftp_packet.specs.{Dir}
 use Rattle.tftp_ends.specs.{IsNewStray, AreBlocks}
 use Rattle.law_model.specs.Rules.{transfer_of, HasPassed, Passed}
 use Rattle.tftp_ends.specs.Blocks.{Held}

@@ -2,7 +2,8 @@
 
 ghost use Rattle.std.specs.Prelude.{◌≡◌, ◌↔◌, ℕ, List, [], ◌∷◌, IsTrue, None, Some, OnOk, OnErr};
 ghost use Rattle.tftp_packet.specs.{Message, meaning};
-ghost use Rattle.tftp_packet.specs.Hosts.{Datagram, Out};
+ghost use Rattle.tftp_packet.specs.Hosts.{Datagram};
+ghost use Rattle.tftp_packet.specs.{Out};
 ghost use Rattle.law_model.specs.Rules.{Passed};
 ghost use Rattle.tftp_ends.specs.{has_stopped, Says};
 ghost use Rattle.law_end.specs.{by_of as by_way, GoesOn, IsError};

@@ -1,8 +1,10 @@
 ghost use Rattle.std.specs.Prelude.{◌≡◌, ◌≢◌, ◌≤◌, ◌↔◌, IsTrue, true, ℕ, List, [], ◌∷◌, length, reverse, OnOk, OnErr, IfErr, Err};
 ghost use Rattle.tftp_packet.specs.{OptionMap, Message, Get, Spells, meaning, parts, map_of};
-ghost use Rattle.tftp_packet.specs.Hosts.{Out, Datagram, Header};
+ghost use Rattle.tftp_packet.specs.Hosts.{Datagram, Header};
+ghost use Rattle.tftp_packet.specs.{Out};
 ghost use Rattle.tftp_ends.specs.{terms_of, IsEndAfter, IsBeforeBlocks, IsBlockOrAck, Says};
-ghost use Rattle.law_model.specs.Rules.{transfer_of, author_of as author_by_way, Plain};
+ghost use Rattle.law_model.specs.Rules.{transfer_of, author_of as author_by_way};
+ghost use Rattle.law_model.specs.{Plain};
 ghost use Rattle.law_end.specs.{MessageBreaks, FirstOackBreaks, LaterOackBreaks, OackBreaks, RequestBreaks, TermsBreak, BlockSent, AckSent, OneEnded, IsEnded, Agrees, ClientWentOn, FirstAsked, GoesOn, IsWrongKind, plain_terms as plain_terms_of, terms_after};
 ghost use Rattle.tftp_judge.specs.Found.{Finds, error_of_fault};
 ghost use Rattle.tftp_judge.specs.Exchanges.{WaitsForReply, DiffersByExchange, DiffersBySent};

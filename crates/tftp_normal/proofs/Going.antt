@@ -2,7 +2,8 @@
 use Rattle.std.proofs.Common.{◌≡◌, ℕ, zero, suc, ◌+◌, ◌-◌, ◌*◌, ◌/◌, ◌%◌, ◌<◌, ◌≤◌, ◌⊎◌, true, false, min, List, [], ◌∷◌, ◌++◌, drop, Contains, inl, inr, refl, sym, subst, ap, ◌∙◌, arith, suc-mul, zero-mul, Any}
 use Rattle.std.proofs.lemmas.Bool.{cases_lt}
 use Rattle.tftp_packet.specs.{Spells, canonical, Side, Get, Put, End, Client, Server}
-use Rattle.tftp_packet.specs.Hosts.{no_host, In}
+use Rattle.tftp_packet.specs.Hosts.{no_host}
+use Rattle.tftp_packet.specs.{In}
 use Rattle.law_model.specs.Model.{Meaning, blksize_of, windowsize_of, MachinePacket, Req, Oack, Data, Ack, Deed, Sent, Took, History, HasSent, IsStartedOn, message_of, heard, LetsStartOn, IsOneSided}
 use Rattle.law_model.specs.Model.Roles.{sender_of, receiver_of}
 use Rattle.law_model.proofs.ModelLemmas.HistoryTests.{all_sent, is_no_error, none_sent}

@@ -4,7 +4,7 @@ use Rattle.std.proofs.lemmas.Fmt.{length-decimal-le}
 use Rattle.std.specs.List.{AllByRecursion}
 use Rattle.hex.specs.Hex.{lower_digits}
 use Rattle.hex.proofs.HexLemmas.{length-encode_with}
-use Rattle.tftp_packet.specs.Hosts.{Dir, In, Out}
+use Rattle.tftp_packet.specs.{Dir, In, Out}
 use Rattle.tftp_packet.specs.{End, Client, Server}
 use Rattle.tftp_capture.specs.CaptureText.{Header, Datagram}
 use Rattle.tftp_capture.specs.{IsLawful, IsPort, dir_word, head_line, end_line, service_line, datagram_line, total_line, payload_text, whole_lines, text_of, One}

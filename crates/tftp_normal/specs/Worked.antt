@@ -1,7 +1,8 @@
 -- Four small transfers, and the normal capture of each: a read of two bytes without options, a read of 43 bytes by
 -- windows of four blocks, a write in lock step, and a read of a text in which a block ends between CR and LF.
 use Rattle.std.specs.Prelude.{ℕ, List, [], ◌∷◌, ◌++◌, codes}
-use Rattle.tftp_packet.specs.Hosts.{no_host, In, Out, Datagram}
+use Rattle.tftp_packet.specs.Hosts.{no_host, Datagram}
+use Rattle.tftp_packet.specs.{In, Out}
 use Rattle.tftp_packet.specs.{Get, Put, Octet, Netascii}
 use Rattle.tftp_capture.specs.{line}
 use Rattle.law_model.specs.Model.{Meaning, eight_a_block}

@@ -1,6 +1,7 @@
 -- What is written of a capture: the lines of its datagrams, one after another.
 use Rattle.std.specs.Prelude.{◌≡◌, ℕ, ◌+◌, false, List, length, map as each, Option, Result, Ok, Err}
-use Rattle.tftp_packet.specs.Hosts.{no_host, Dir, In, Out, Datagram}
+use Rattle.tftp_packet.specs.Hosts.{no_host, Datagram}
+use Rattle.tftp_packet.specs.{Dir, In, Out}
 use Rattle.tftp_packet.specs.{End, Client, Server}
 use Rattle.tftp_capture.specs.{datagram_line, whole_lines}
 use Rattle.net_streams.specs.Streams.{Gathers, Sink, Stops}

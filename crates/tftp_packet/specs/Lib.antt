@@ -45,3 +45,5 @@ pub use declared.kinds.Side.{Side}
 pub use declared.kinds.Side.TheVariants.{Get, Put}
 pub use declared.owned_options.Entry.{Entry}
 pub use declared.packet.Packet.{Packet}
+pub use declared.hosts.dir.Dir.{Dir}
+pub use declared.hosts.dir.Dir.TheVariants.{In, Out}

@@ -4,7 +4,10 @@ use Rattle.std.specs.Cmp.Rules.{comparing}
 use Rattle.std.specs.Ordering.{is_eq}
 use Rattle.std.proofs.lemmas.Bool.{false≢true, and_from, and_parts, eqb-true, eq-eqb}
 use Rattle.std.proofs.lemmas.Slice.Eq.{bytes_eq-Decides}
-use Rattle.audit_flows.specs.Lines.{Address, V4, V6, Endpoint, version_of, bytes_of, same_address, same_endpoint, endpoint_cmp}
+use Rattle.audit_flows.specs.Lines.{version_of, bytes_of, same_address, same_endpoint, endpoint_cmp}
+use Rattle.audit_flows.specs.declared.lines.endpoint.Address.{Address}
+use Rattle.audit_flows.specs.declared.lines.endpoint.Address.TheVariants.{V4, V6}
+use Rattle.audit_flows.specs.declared.lines.endpoint.Endpoint.{Endpoint}
 
 pub same_by_order : (one other : Endpoint) → is_eq (endpoint_cmp one other) ≡ same_endpoint one other
 same_by_order one other = sym (search (comparing, rules))

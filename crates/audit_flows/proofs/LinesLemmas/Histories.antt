@@ -2,7 +2,12 @@
 use Rattle.std.proofs.Common.{◌≡◌, ℕ, Bool, true, false, List, [], ◌∷◌, Option, Some, None, refl, sym, ap, ◌∙◌, ◌+◌, ◌==◌, ◌&&◌, ◌||◌, not, nat_le, if◌then◌else◌}
 use Rattle.std.specs.List.{list_any}
 use Rattle.std.proofs.lemmas.Bool.{eq-eqb, eqb-true}
-use Rattle.audit_flows.specs.Lines.{Endpoint, Talks, History, Place, Placed, Recorded, Transfer, before_talk, is_between, is_other_talk, is_talk, is_within, may_follow, number_of, passes_in, IsHistoryOf, TellsOf}
+use Rattle.audit_flows.specs.Lines.{Placed, Recorded, before_talk, is_between, is_other_talk, is_talk, is_within, may_follow, number_of, passes_in, IsHistoryOf, TellsOf}
+use Rattle.audit_flows.specs.declared.lines.endpoint.Endpoint.{Endpoint}
+use Rattle.audit_flows.specs.declared.lines.place.Place.TheVariants.{Talks}
+use Rattle.audit_flows.specs.declared.lines.history.History.{History}
+use Rattle.audit_flows.specs.declared.lines.place.Place.{Place}
+use Rattle.audit_flows.specs.declared.lines.place.Transfer.{Transfer}
 use Rattle.audit_flows.specs.Lines.Kept.{IsNextHistory, all_by, far_by, up_to}
 use Rattle.audit_flows.proofs.LinesLemmas.Lines.{by_test}
 

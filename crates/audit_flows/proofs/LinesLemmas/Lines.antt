@@ -2,7 +2,9 @@
 use Rattle.std.proofs.Common.{◌≡◌, Bool, true, false, List, [], ◌∷◌, Option, Some, None, cond, inl, inr, refl, sym, ap, subst, ◌∙◌, ◌&&◌, ◌||◌, not, option_map, if◌then◌else◌}
 use Rattle.std.proofs.lemmas.Bool.{false≢true, and_parts, or_cases}
 use Rattle.law_model.specs.Rules.{first_of, or_this}
-use Rattle.audit_flows.specs.Lines.{Endpoint, Transfer, Recorded, same_endpoint, is_ack_0, goes, is_between, Placed, opens, is_request, newest_of, reach, answers, answered_in, talked_of, talk_in, last_was_ack_0, seen_of, talk_after, acked_0_in}
+use Rattle.audit_flows.specs.Lines.{Recorded, same_endpoint, is_ack_0, goes, is_between, Placed, opens, is_request, newest_of, reach, answers, answered_in, talked_of, talk_in, last_was_ack_0, seen_of, talk_after, acked_0_in}
+use Rattle.audit_flows.specs.declared.lines.endpoint.Endpoint.{Endpoint}
+use Rattle.audit_flows.specs.declared.lines.place.Transfer.{Transfer}
 use Rattle.audit_flows.proofs.LinesLemmas.Endpoints.{is_same, same_itself}
 
 pub by_test : {P : Type 0} (b : Bool) → (b ≡ true → P) → (b ≡ false → P) → P

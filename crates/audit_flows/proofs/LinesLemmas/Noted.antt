@@ -5,9 +5,15 @@ use Rattle.std.specs.Str.{bytes_eq}
 use Rattle.std.specs.BTreeMap.{get, BTreeMap}
 use Rattle.std.specs.Ordering.{is_eq, nat_cmp}
 use Rattle.law_model.specs.Rules.{or_this}
-use Rattle.audit_flows.specs.Lines.{Endpoint, Repeats, Transfer, Line, Recorded, same_endpoint, endpoint_cmp, is_between, Placed, opens, is_request, newest_of, latest_in, reach, answers, answered_in, talked_of, talk_in, place_asked, IsLineOf, seen_of, asked_by, history_of, opened_by, place_of_talk, comes_to, talk_after, ends_after, went_on_after, AreTimed, is_past, asked_part, says_more, is_alike_in, is_later}
+use Rattle.audit_flows.specs.Lines.{Recorded, same_endpoint, endpoint_cmp, is_between, Placed, opens, is_request, newest_of, latest_in, reach, answers, answered_in, talked_of, talk_in, place_asked, IsLineOf, seen_of, asked_by, history_of, opened_by, place_of_talk, comes_to, talk_after, ends_after, went_on_after, AreTimed, is_past, asked_part, says_more, is_alike_in, is_later}
+use Rattle.audit_flows.specs.declared.lines.endpoint.Endpoint.{Endpoint}
+use Rattle.audit_flows.specs.declared.lines.place.Place.TheVariants.{Repeats}
+use Rattle.audit_flows.specs.declared.lines.place.Transfer.{Transfer}
+use Rattle.audit_flows.specs.declared.lines.line.Line.{Line}
 use Rattle.audit_flows.proofs.LinesLemmas.Endpoints.{same_by_order, is_same}
-use Rattle.audit_flows.specs.Lines.{History, Talked, is_talk, number_of, IsHistoryOf}
+use Rattle.audit_flows.specs.Lines.{is_talk, number_of, IsHistoryOf}
+use Rattle.audit_flows.specs.declared.lines.history.History.{History}
+use Rattle.audit_flows.specs.declared.lines.line.Talked.{Talked}
 use Rattle.audit_flows.specs.Lines.Kept.{IsHistoryAfter}
 use Rattle.audit_flows.proofs.LinesLemmas.Lines.{answered_more, by_test, not_between, talk_more}
 use Rattle.audit_flows.proofs.LinesLemmas.Histories.{history_more, history_same}

@@ -5,7 +5,12 @@ use Rattle.std.specs.BTreeMap.{get, BTreeMap}
 use Rattle.std.proofs.lemmas.Bool.{and_parts}
 use Rattle.std.proofs.lemmas.Slice.Eq.{bytes_eq-Decides}
 use Rattle.law_model.specs.Rules.{or_this}
-use Rattle.audit_flows.specs.Lines.{Endpoint, Place, Opens, Repeats, Transfer, Line, Recorded, asked_part, asks_alike, same_endpoint, is_again, Placed, answered_in, endpoint_cmp, has_window, begins_write, history_of, opened_by, place_asked, IsLineOf, IsRequestOf, IsTimed}
+use Rattle.audit_flows.specs.Lines.{Recorded, asked_part, asks_alike, same_endpoint, is_again, Placed, answered_in, endpoint_cmp, has_window, begins_write, history_of, opened_by, place_asked, IsLineOf, IsRequestOf, IsTimed}
+use Rattle.audit_flows.specs.declared.lines.endpoint.Endpoint.{Endpoint}
+use Rattle.audit_flows.specs.declared.lines.place.Place.{Place}
+use Rattle.audit_flows.specs.declared.lines.place.Place.TheVariants.{Opens, Repeats}
+use Rattle.audit_flows.specs.declared.lines.place.Transfer.{Transfer}
+use Rattle.audit_flows.specs.declared.lines.line.Line.{Line}
 use Rattle.audit_flows.proofs.LinesLemmas.Endpoints.{is_same, same_itself}
 use Rattle.audit_flows.proofs.LinesLemmas.Lines.{answered_more}
 use Rattle.audit_flows.proofs.LinesLemmas.Histories.{history_same}

@@ -1,7 +1,8 @@
 -- When a line is silent.
 use Rattle.std.proofs.Common.{◌≡◌, ◌≤◌, ◌<◌, ℕ, ◌+◌, true, false, List, [], ◌∷◌, arith, refl, sym, ap, ◌∙◌, nat_le, if◌then◌else◌}
 use Rattle.std.proofs.lemmas.Bool.{leb-false, lt-leb}
-use Rattle.audit_flows.specs.Lines.{Line, Placed, live, clock, silence, IsLineOf}
+use Rattle.audit_flows.specs.Lines.{Placed, live, clock, silence, IsLineOf}
+use Rattle.audit_flows.specs.declared.lines.line.Line.{Line}
 use Rattle.audit_flows.proofs.LinesLemmas.Lines.{by_test}
 
 pub live_is : (now : ℕ) (ps : List Placed) → nat_le now (clock ps + silence) ≡ true → live now ps ≡ ps

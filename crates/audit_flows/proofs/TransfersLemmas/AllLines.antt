@@ -2,7 +2,11 @@
 use Rattle.std.proofs.Common.{◌≡◌, ◌≢◌, ◌≤◌, ℕ, ◌+◌, true, false, List, [], ◌∷◌, Option, Some, None, Result, Ok, Err, cond, refl, sym, ap, subst, ◌∙◌, OnOk, nat_le}
 use Rattle.std.specs.BTreeMap.{get, BTreeMap}
 use Rattle.std.specs.Ordering.{is_eq}
-use Rattle.audit_flows.specs.Lines.{Endpoint, Line, Transfer, Repeats, Recorded, same_endpoint, endpoint_cmp, Placed, is_at, live, line, clock, silence, opened_by, place_asked, IsLineOf, IsLineKept, AreLinesOf, place_of_talk}
+use Rattle.audit_flows.specs.Lines.{Recorded, same_endpoint, endpoint_cmp, Placed, is_at, live, line, clock, silence, opened_by, place_asked, IsLineOf, IsLineKept, AreLinesOf, place_of_talk}
+use Rattle.audit_flows.specs.declared.lines.endpoint.Endpoint.{Endpoint}
+use Rattle.audit_flows.specs.declared.lines.line.Line.{Line}
+use Rattle.audit_flows.specs.declared.lines.place.Transfer.{Transfer}
+use Rattle.audit_flows.specs.declared.lines.place.Place.TheVariants.{Repeats}
 use Rattle.audit_flows.proofs.LinesLemmas.Endpoints.{same_by_order, is_same, same_itself}
 use Rattle.audit_flows.proofs.LinesLemmas.Lines.{by_test}
 use Rattle.audit_flows.proofs.LinesLemmas.Silences.{live_is, live_not, live_later}

@@ -1,6 +1,10 @@
 -- What a datagram makes doubtful, where it begins a line.
 use Rattle.std.proofs.Common.{◌≡◌, ℕ, false, List, [], None, refl, nat_lt}
-use Rattle.audit_flows.specs.Lines.{Place, Opens, Repeats, Talks, Apart, Beside, Nowhere, transfer_of, Transfer, Doubts, Recorded, Placed, live, line, doubts_of, follows_strays}
+use Rattle.audit_flows.specs.Lines.{transfer_of, Recorded, Placed, live, line, doubts_of, follows_strays}
+use Rattle.audit_flows.specs.declared.lines.place.Place.{Place}
+use Rattle.audit_flows.specs.declared.lines.place.Place.TheVariants.{Opens, Repeats, Talks, Apart, Beside, Nowhere}
+use Rattle.audit_flows.specs.declared.lines.place.Transfer.{Transfer}
+use Rattle.audit_flows.specs.declared.lines.doubts.Doubts.{Doubts}
 
 abbrev pub first_of_line : Recorded → ℕ → List Placed → Transfer → Doubts
 first_of_line d now older x = record {

@@ -1,7 +1,12 @@
 -- What a place says of the ends of its datagram.
 use Rattle.std.proofs.Common.{◌≡◌, ◌≢◌, ◌⊎◌, ℕ, ◌+◌, Bool, true, false, List, [], ◌∷◌, Option, Some, None, inl, inr, refl, sym, ap, subst, ◌∙◌, ◌&&◌, not, nat_le, option_map, length, if◌then◌else◌}
 use Rattle.std.specs.List.{AllByRecursion}
-use Rattle.audit_flows.specs.Lines.{Endpoint, Place, Opens, Repeats, Talks, Apart, Beside, Nowhere, Transfer, Talk, Recorded, same_endpoint, is_between, is_again, Placed, opens, is_request, is_apart, is_at, newest_of, live, line, silence, transfer_of, latest_in, answered_in, talked_of, talk_in, place_asked, place_talked, place_at, opened_by, opening, asked_after, is_known_host, last_was_ack_0}
+use Rattle.audit_flows.specs.Lines.{Recorded, same_endpoint, is_between, is_again, Placed, opens, is_request, is_apart, is_at, newest_of, live, line, silence, transfer_of, latest_in, answered_in, talked_of, talk_in, place_asked, place_talked, place_at, opened_by, opening, asked_after, is_known_host, last_was_ack_0}
+use Rattle.audit_flows.specs.declared.lines.endpoint.Endpoint.{Endpoint}
+use Rattle.audit_flows.specs.declared.lines.place.Place.{Place}
+use Rattle.audit_flows.specs.declared.lines.place.Place.TheVariants.{Opens, Repeats, Talks, Apart, Beside, Nowhere}
+use Rattle.audit_flows.specs.declared.lines.place.Transfer.{Transfer}
+use Rattle.audit_flows.specs.declared.lines.line.Talk.{Talk}
 use Rattle.audit_flows.specs.Transfers.{either, or_talks, at_client, beside, beside_by, served_at, is_nowhere, asks, place_of}
 use Rattle.audit_flows.proofs.LinesLemmas.Endpoints.{is_same}
 use Rattle.audit_flows.proofs.LinesLemmas.Lines.{by_test}

@@ -2,11 +2,14 @@
 use Rattle.std.proofs.Common.{◌≡◌, ◌+◌, ℕ, false, List, [], Option, Some, None, cond, inl, inr, sym, ap, subst, ◌∙◌, nat_le, IsSomeAnd}
 use Rattle.std.specs.BTreeMap.{get, BTreeMap}
 use Rattle.std.specs.Ordering.{is_eq}
-use Rattle.audit_flows.specs.Lines.{Endpoint, Line, Placed, same_endpoint, endpoint_cmp, live, line, clock, silence, IsLineKept, AreLinesOf}
+use Rattle.audit_flows.specs.Lines.{Placed, same_endpoint, endpoint_cmp, live, line, clock, silence, IsLineKept, AreLinesOf}
+use Rattle.audit_flows.specs.declared.lines.endpoint.Endpoint.{Endpoint}
+use Rattle.audit_flows.specs.declared.lines.line.Line.{Line}
 use Rattle.audit_flows.proofs.LinesLemmas.Endpoints.{same_by_order, is_same}
 use Rattle.audit_flows.proofs.LinesLemmas.Lines.{by_test}
 use Rattle.audit_flows.proofs.LinesLemmas.Silences.{live_lost}
-use Rattle.audit_flows.specs.Transfers.{Served, served_by, IsServedKept, AreServed, Forgets}
+use Rattle.audit_flows.specs.Transfers.{served_by, IsServedKept, AreServed, Forgets}
+use Rattle.audit_flows.specs.declared.transfers.attribution.Served.{Served}
 use Rattle.audit_flows.proofs.TransfersLemmas.Serving.{served_is}
 
 -- what is kept of the endpoint is older than 300 s

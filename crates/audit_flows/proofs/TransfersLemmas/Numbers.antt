@@ -3,8 +3,14 @@ use Rattle.std.proofs.Common.{◌≡◌, ◌≤◌, ◌<◌, ℕ, ◌+◌, suc, 
 use Rattle.std.specs.List.{All, AllByRecursion}
 use Rattle.std.proofs.lemmas.Bool.{ne_eqb}
 use Rattle.std.proofs.lemmas.List.Elements.{All-nil, All-cons}
-use Rattle.audit_flows.specs.Lines.{Endpoint, Place, Opens, Repeats, Talks, Apart, Beside, Nowhere, Transfer, Talk, Recorded, same_endpoint, other_of, goes, is_again, Placed, opens, is_apart, is_at, newest_of, live, line, silence, transfer_of, latest_in, answered_in, may_answer, talked_of, talk_in, place_talked, place_at, opened_by, opening, asked_after, is_known_host, last_was_ack_0, clock, is_another, is_next_data, answer_of, may_be_answer_of}
-use Rattle.audit_flows.specs.Transfers.{Served, at_client, beside, beside_by, serves, newer, last_served, served_within, served_by, served_at, is_service, is_nowhere, asks, place_of, placed, is_about, is_it, is_answered_apart}
+use Rattle.audit_flows.specs.Lines.{Recorded, same_endpoint, other_of, goes, is_again, Placed, opens, is_apart, is_at, newest_of, live, line, silence, transfer_of, latest_in, answered_in, may_answer, talked_of, talk_in, place_talked, place_at, opened_by, opening, asked_after, is_known_host, last_was_ack_0, clock, is_another, is_next_data, answer_of, may_be_answer_of}
+use Rattle.audit_flows.specs.declared.lines.endpoint.Endpoint.{Endpoint}
+use Rattle.audit_flows.specs.declared.lines.place.Place.{Place}
+use Rattle.audit_flows.specs.declared.lines.place.Place.TheVariants.{Opens, Repeats, Talks, Apart, Beside, Nowhere}
+use Rattle.audit_flows.specs.declared.lines.place.Transfer.{Transfer}
+use Rattle.audit_flows.specs.declared.lines.line.Talk.{Talk}
+use Rattle.audit_flows.specs.Transfers.{at_client, beside, beside_by, serves, newer, last_served, served_within, served_by, served_at, is_service, is_nowhere, asks, place_of, placed, is_about, is_it, is_answered_apart}
+use Rattle.audit_flows.specs.declared.transfers.attribution.Served.{Served}
 use Rattle.audit_flows.proofs.LinesLemmas.Lines.{by_test}
 use Rattle.audit_flows.proofs.TransfersLemmas.AllLines.{line_here, line_elsewhere}
 use Rattle.audit_flows.proofs.TransfersLemmas.Ends.{opened, again, asked_as, either_is, spoken, asked_place, beside_end, client_end}

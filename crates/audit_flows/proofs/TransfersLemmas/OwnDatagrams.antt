@@ -2,7 +2,10 @@
 use Rattle.std.proofs.Common.{◌≡◌, ℕ, Bool, false, cond, List, [], ◌∷◌, Option, Some, None, refl, sym, ap, ◌∙◌, ◌==◌, ◌&&◌, ◌||◌, not, filter, is_some, option_map}
 use Rattle.std.proofs.lemmas.List.Elements.{filter_agree}
 use Rattle.law_model.specs.Rules.{first_of, or_this}
-use Rattle.audit_flows.specs.Lines.{Endpoint, Place, Opens, Repeats, Talks, Apart, Beside, Nowhere, Recorded, begins_error, other_of, same_endpoint, Placed, is_of}
+use Rattle.audit_flows.specs.Lines.{Recorded, begins_error, other_of, same_endpoint, Placed, is_of}
+use Rattle.audit_flows.specs.declared.lines.endpoint.Endpoint.{Endpoint}
+use Rattle.audit_flows.specs.declared.lines.place.Place.{Place}
+use Rattle.audit_flows.specs.declared.lines.place.Place.TheVariants.{Opens, Repeats, Talks, Apart, Beside, Nowhere}
 use Rattle.audit_flows.specs.Transfers.{is_settled, answered_by, asked_of, client_view, comes, goes_on, goes_to_asked, has_host, has_port, is_about, is_at_server, is_end, is_server, opened_it, server_of, server_view, went_on_with}
 use Rattle.audit_flows.proofs.LinesLemmas.Lines.{by_test}
 

@@ -1,7 +1,9 @@
 -- Of which transfer a datagram is seen.
 use Rattle.std.proofs.Common.{◌≡◌, ◌⊎◌, ℕ, Bool, true, List, inl, inr, refl, sym, ◌∙◌, ◌==◌, ◌&&◌, ◌||◌}
 use Rattle.std.proofs.lemmas.Bool.{and_parts, eqb-true}
-use Rattle.audit_flows.specs.Lines.{Place, Opens, Repeats, Talks, Apart, Beside, Nowhere, Recorded, other_of, Placed, is_of}
+use Rattle.audit_flows.specs.Lines.{Recorded, other_of, Placed, is_of}
+use Rattle.audit_flows.specs.declared.lines.place.Place.{Place}
+use Rattle.audit_flows.specs.declared.lines.place.Place.TheVariants.{Opens, Repeats, Talks, Apart, Beside, Nowhere}
 use Rattle.audit_flows.specs.Transfers.{goes_to_asked, is_at_server, is_server, is_end, server_of, is_beside}
 
 one_number : (n m k : ℕ) → (k == n) ≡ true → (k == m) ≡ true → n ≡ m

@@ -3,8 +3,13 @@ use Rattle.std.proofs.Common.{◌≡◌, ◌≢◌, ◌≤◌, ◌⊎◌, ℕ, �
 use Rattle.std.specs.BTreeMap.{get, BTreeMap}
 use Rattle.std.specs.Ordering.{is_eq}
 use Rattle.std.proofs.lemmas.Bool.{false≢true, and_from, or_right, or_left}
-use Rattle.audit_flows.specs.Lines.{Endpoint, Talks, Transfer, Line, Recorded, same_endpoint, endpoint_cmp, goes, is_between, Placed, latest_in, clock, silence, IsLineOf, seen_of, other_end}
-use Rattle.audit_flows.specs.Transfers.{Served, newer, serves, last_served, served_within, served_by, IsServedKept, AreServed}
+use Rattle.audit_flows.specs.Lines.{Recorded, same_endpoint, endpoint_cmp, goes, is_between, Placed, latest_in, clock, silence, IsLineOf, seen_of, other_end}
+use Rattle.audit_flows.specs.declared.lines.endpoint.Endpoint.{Endpoint}
+use Rattle.audit_flows.specs.declared.lines.place.Place.TheVariants.{Talks}
+use Rattle.audit_flows.specs.declared.lines.place.Transfer.{Transfer}
+use Rattle.audit_flows.specs.declared.lines.line.Line.{Line}
+use Rattle.audit_flows.specs.Transfers.{newer, serves, last_served, served_within, served_by, IsServedKept, AreServed}
+use Rattle.audit_flows.specs.declared.transfers.attribution.Served.{Served}
 use Rattle.audit_flows.proofs.LinesLemmas.Endpoints.{same_itself, same_by_order}
 use Rattle.audit_flows.proofs.LinesLemmas.Silences.{still_false}
 use Rattle.audit_flows.proofs.LinesLemmas.Lines.{by_test}

@@ -3,11 +3,15 @@ use Rattle.std.proofs.Common.{◌≡◌, ◌≤◌, ℕ, ◌+◌, Bool, true, fa
 use Rattle.std.specs.BTreeMap.{get, BTreeMap}
 use Rattle.std.specs.Ordering.{is_eq}
 use Rattle.std.proofs.lemmas.Bool.{false≢true}
-use Rattle.audit_flows.specs.Lines.{Endpoint, Place, Opens, Repeats, Talks, Apart, Beside, Nowhere, Recorded, Placed, same_endpoint, endpoint_cmp, clock, newest_of, silence, is_apart_from_lines, is_near, is_stray_at, may_be_tftp}
+use Rattle.audit_flows.specs.Lines.{Recorded, Placed, same_endpoint, endpoint_cmp, clock, newest_of, silence, is_apart_from_lines, is_near, is_stray_at, may_be_tftp}
+use Rattle.audit_flows.specs.declared.lines.endpoint.Endpoint.{Endpoint}
+use Rattle.audit_flows.specs.declared.lines.place.Place.{Place}
+use Rattle.audit_flows.specs.declared.lines.place.Place.TheVariants.{Opens, Repeats, Talks, Apart, Beside, Nowhere}
 use Rattle.audit_flows.proofs.LinesLemmas.Endpoints.{same_by_order}
 use Rattle.audit_flows.proofs.LinesLemmas.Lines.{by_test}
 use Rattle.audit_flows.proofs.LinesLemmas.Silences.{still_false}
-use Rattle.audit_flows.specs.Transfers.{Forgets, Strayed, IsStrayKept, AreStrays}
+use Rattle.audit_flows.specs.Transfers.{Forgets, IsStrayKept, AreStrays}
+use Rattle.audit_flows.specs.declared.transfers.attribution.Strayed.{Strayed}
 use Rattle.audit_flows.specs.Transfers.Kept.{takes_memory}
 use Rattle.audit_flows.proofs.TransfersLemmas.Forgetting.{IsOld}
 

@@ -1,6 +1,8 @@
 -- When a refusal of a transfer is no accusation. Lists have the newest first; a transfer is known by its number.
 use Rattle.std.specs.Prelude.{ℕ, ◌==◌, ◌&&◌, ◌||◌, not, Bool, true, false, List, [], ◌∷◌, Option, Some, None}
-use Rattle.audit_flows.specs.Lines.{Place, Beside, Placed, is_of, agrees_late, begins_error, begins_unknown_id, comes_in, follows_strays, follows_unanswered, goes_on_with_first, is_late, is_disordered, is_asked_again, is_sent_by_client, may_be_answer_of, may_be_earlier, rests_on_terms, says_unknown_id, speaks_first}
+use Rattle.audit_flows.specs.Lines.{Placed, is_of, agrees_late, begins_error, begins_unknown_id, comes_in, follows_strays, follows_unanswered, goes_on_with_first, is_late, is_disordered, is_asked_again, is_sent_by_client, may_be_answer_of, may_be_earlier, rests_on_terms, says_unknown_id, speaks_first}
+use Rattle.audit_flows.specs.declared.lines.place.Place.{Place}
+use Rattle.audit_flows.specs.declared.lines.place.Place.TheVariants.{Beside}
 
 -- it passed between a server and another than its client, whose request may not have been recorded
 abbrev pub is_beside : Placed → Bool

@@ -3,7 +3,10 @@ use Rattle.std.specs.Prelude.{◌≡◌, ◌⊎◌, ◌+◌, ℕ, Bool, true, fa
 use Rattle.std.specs.BTreeMap.{get, BTreeMap}
 use Rattle.std.specs.List.{list_any}
 use Rattle.std.specs.Ordering.{nat_cmp, is_eq}
-use Rattle.audit_flows.specs.Lines.{Endpoint, Place, Opens, Repeats, Beside, Nowhere, Recorded, endpoint_cmp, Placed, clock, newest_of, silence, AreLinesOf, comes_in, follows_strays, follows_unanswered, goes_on_with_first, agrees_late, says_unknown_id, is_late, is_disordered, is_asked_again, is_near, is_stray_at, may_be_tftp}
+use Rattle.audit_flows.specs.Lines.{Recorded, endpoint_cmp, Placed, clock, newest_of, silence, AreLinesOf, comes_in, follows_strays, follows_unanswered, goes_on_with_first, agrees_late, says_unknown_id, is_late, is_disordered, is_asked_again, is_near, is_stray_at, may_be_tftp}
+use Rattle.audit_flows.specs.declared.lines.endpoint.Endpoint.{Endpoint}
+use Rattle.audit_flows.specs.declared.lines.place.Place.{Place}
+use Rattle.audit_flows.specs.declared.lines.place.Place.TheVariants.{Opens, Repeats, Beside, Nowhere}
 use Rattle.audit_flows.specs.declared.transfers.attribution.Attribution.{Attribution}
 use Rattle.audit_flows.specs.declared.transfers.attribution.Served.{Served}
 use Rattle.audit_flows.specs.declared.transfers.attribution.Strayed.{Strayed}

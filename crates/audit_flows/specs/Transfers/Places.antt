@@ -2,7 +2,11 @@
 -- before it alone, so the place of each is known when it passes.
 use Rattle.std.specs.Prelude.{ℕ, ◌+◌, ◌==◌, ◌&&◌, ◌||◌, not, nat_le, max, Bool, true, false, List, [], ◌∷◌, length, Option, Some, None, is_some, if◌then◌else◌}
 use Rattle.std.specs.List.{list_any}
-use Rattle.audit_flows.specs.Lines.{Endpoint, Place, Talks, Beside, Nowhere, Transfer, Recorded, begins_request, goes, Placed, is_request, silence, live, line, latest_in, talk_in, place_asked, place_at, clock}
+use Rattle.audit_flows.specs.Lines.{Recorded, begins_request, goes, Placed, is_request, silence, live, line, latest_in, talk_in, place_asked, place_at, clock}
+use Rattle.audit_flows.specs.declared.lines.endpoint.Endpoint.{Endpoint}
+use Rattle.audit_flows.specs.declared.lines.place.Place.{Place}
+use Rattle.audit_flows.specs.declared.lines.place.Place.TheVariants.{Talks, Beside, Nowhere}
+use Rattle.audit_flows.specs.declared.lines.place.Transfer.{Transfer}
 use Rattle.audit_flows.specs.declared.transfers.attribution.Served.{Served}
 
 -- ---- requests

@@ -1,7 +1,11 @@
 -- What each end of a transfer saw of it. Lists have the newest first; a transfer is known by its number.
 use Rattle.std.specs.Prelude.{ℕ, ◌==◌, ◌&&◌, ◌||◌, not, Bool, false, List, filter, Option, Some, None, option_map}
 use Rattle.law_model.specs.Rules.{first_of}
-use Rattle.audit_flows.specs.Lines.{Endpoint, Transfer, Recorded, Place, Opens, Repeats, Talks, Apart, Beside, Nowhere, same_address, same_endpoint, other_of, begins_error, Placed, is_of}
+use Rattle.audit_flows.specs.Lines.{Recorded, same_address, same_endpoint, other_of, begins_error, Placed, is_of}
+use Rattle.audit_flows.specs.declared.lines.endpoint.Endpoint.{Endpoint}
+use Rattle.audit_flows.specs.declared.lines.place.Transfer.{Transfer}
+use Rattle.audit_flows.specs.declared.lines.place.Place.{Place}
+use Rattle.audit_flows.specs.declared.lines.place.Place.TheVariants.{Opens, Repeats, Talks, Apart, Beside, Nowhere}
 
 abbrev pub client_view : ℕ → List Placed → List Placed
 client_view n placed = filter (is_of n) placed

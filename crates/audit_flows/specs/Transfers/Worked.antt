@@ -1,6 +1,9 @@
 -- Recordings, the newest datagram first, with times in seconds.
 use Rattle.std.specs.Prelude.{ℕ, ◌*◌, ◌&&◌, not, Bool, true, false, List, [], ◌∷◌, ◌++◌, map, codes}
-use Rattle.audit_flows.specs.Lines.{V4, Endpoint, Recorded, Place, Placed, comes_in, follows_strays, follows_unanswered, goes_on_with_first, is_late, may_be_earlier, speaks_first}
+use Rattle.audit_flows.specs.Lines.{Recorded, Placed, comes_in, follows_strays, follows_unanswered, goes_on_with_first, is_late, may_be_earlier, speaks_first}
+use Rattle.audit_flows.specs.declared.lines.endpoint.Address.TheVariants.{V4}
+use Rattle.audit_flows.specs.declared.lines.endpoint.Endpoint.{Endpoint}
+use Rattle.audit_flows.specs.declared.lines.place.Place.{Place}
 use Rattle.audit_flows.specs.Transfers.Places.{placed}
 use Rattle.audit_flows.specs.Transfers.Views.{client_view, server_view}
 use Rattle.audit_flows.specs.Transfers.Doubts.{is_doubted, some_of}

@@ -2,7 +2,9 @@
 //! want of memory they may stand for no datagrams any more.
 
 ghost use Rattle.std.specs.Prelude.{◌≡◌, ◌≢◌, ◌≤◌, ◌∷◌, ℕ, List, [], true, Some, OnOk};
-ghost use Rattle.audit_flows.specs.Lines.{Recorded, is_between, Placed, live, line, clock, place_asked, AreLinesOf, IsRequestOf, seen_of, place_of_talk, Place, Transfer};
+ghost use Rattle.audit_flows.specs.Lines.{Recorded, is_between, Placed, live, line, clock, place_asked, AreLinesOf, IsRequestOf, seen_of, place_of_talk};
+ghost use Rattle.audit_flows.specs.declared.lines.place.Place.{Place};
+ghost use Rattle.audit_flows.specs.declared.lines.place.Transfer.{Transfer};
 
 use crate::lines::{Endpoint, Line, Seen, Transfer, is_recent};
 use crate::transfers::letting_go::Dated;

@@ -2,7 +2,9 @@
 
 ghost use Rattle.std.specs.Prelude.{◌≡◌, ◌≢◌, ◌≤◌, ◌+◌, ◌∷◌, ℕ, List, [], MatchBool, OnOk, IfOk, IsOk, Err, ◌^◌, ◌<◌, max, true, false, ◌&&◌, ◌||◌, not, is_some, nat_le, MatchOption, IfSome, Some, None, if◌then◌else◌};
 ghost use Rattle.std.specs.BTreeMap.{get};
-ghost use Rattle.audit_flows.specs.Lines.{Recorded, endpoint_cmp, Placed, live, line, clock, newest_of, silence, talk_in, place_asked, place_at, IsLineOf, AreLinesOf, seen_of, doubts_of, is_apart_from_lines, is_near, is_stray_at, may_be_tftp, Place, Transfer};
+ghost use Rattle.audit_flows.specs.Lines.{Recorded, endpoint_cmp, Placed, live, line, clock, newest_of, silence, talk_in, place_asked, place_at, IsLineOf, AreLinesOf, seen_of, doubts_of, is_apart_from_lines, is_near, is_stray_at, may_be_tftp};
+ghost use Rattle.audit_flows.specs.declared.lines.place.Place.{Place};
+ghost use Rattle.audit_flows.specs.declared.lines.place.Transfer.{Transfer};
 ghost use Rattle.audit_flows.specs.Transfers.Places.{is_client, is_service, asks, either, at_client, served_by, served_at, beside, beside_by, is_nowhere, or_talks, place_of, and_then};
 ghost use Rattle.audit_flows.specs.Transfers.Kept.{IsAfter, AreServed, AreServices, AreStrays, IsRecorded, is_asked, takes_memory};
 ghost use Rattle.audit_flows.specs.declared.transfers.attribution.AttributionFault.{AttributionFault};

@@ -2,7 +2,9 @@
 
 ghost use Rattle.std.specs.Prelude.{◌≡◌, ◌≢◌, ◌⊎◌, ◌≤◌, ℕ, List, true, false, [], ◌∷◌, codes, filter, length};
 ghost use Rattle.std.specs.List.{All};
-ghost use Rattle.audit_flows.specs.Lines.{Recorded, Placed, asked_part, live, line, is_of, Place, Transfer};
+ghost use Rattle.audit_flows.specs.Lines.{Recorded, Placed, asked_part, live, line, is_of};
+ghost use Rattle.audit_flows.specs.declared.lines.place.Place.{Place};
+ghost use Rattle.audit_flows.specs.declared.lines.place.Transfer.{Transfer};
 ghost use Rattle.audit_flows.specs.Transfers.Places.{place_of, placed};
 ghost use Rattle.audit_flows.specs.Transfers.Settled.{is_settled};
 ghost use Rattle.audit_flows.specs.Transfers.Views.{client_view, is_about, is_at_server, server_of, server_view};

@@ -8,7 +8,8 @@ use Rattle.law_tap.specs.{AreApart}
 use Rattle.audit_recording.specs.Audit.{IsSoundDatagram, IsSoundEnd}
 use Rattle.audit_recording.proofs.AuditLemmas.Writing.{opened_ends, placed_sound}
 use Rattle.audit_recording.specs.Judges.{opened}
-use Rattle.audit_flows.specs.Lines.{Placed, Recorded, Endpoint, Transfer}
+use Rattle.audit_flows.specs.Lines.{Placed, Recorded}
+use Rattle.audit_flows.specs.{Endpoint, Transfer}
 use Rattle.audit_flows.specs.Transfers.{placed, answered_by, comes, goes_on, server_of, went_on_with}
 
 -- ---- what was found among sound datagrams

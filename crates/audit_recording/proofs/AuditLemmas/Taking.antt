@@ -1,10 +1,15 @@
 -- What a frame adds to what has passed.
 use Rattle.std.proofs.Common.{◌≡◌, ◌≢◌, ℕ, Bool, List, ◌∷◌, Result, Ok, Err, Option, Some, None, refl, sym, subst, IfSome}
 use Rattle.std.specs.Option.{unwrap_or}
-use Rattle.net_udp.specs.Fragments.{Outcome}
+use Rattle.net_udp.specs.{Outcome}
 use Rattle.net_pcap.specs.{FrameParts, PcapFault}
-use Rattle.net_udp.specs.Recording.{IsFateOf, EventState, Step, Fate, Likeness}
-use Rattle.audit_recording.specs.Audit.{GoesOn, IsNoted, IsOf, AuditFault, Recording, Judges, NextFrame, End, Nothing, Datagram, last_time, time_by}
+use Rattle.net_udp.specs.Recording.{IsFateOf, EventState, Step}
+use Rattle.net_udp.specs.{Fate, Likeness}
+use Rattle.audit_recording.specs.Audit.{GoesOn, IsNoted, IsOf, last_time, time_by}
+use Rattle.audit_recording.specs.declared.audit.next.AuditFault.{AuditFault}
+use Rattle.audit_recording.specs.declared.audit.next.AuditFault.TheVariants.{Recording, Judges}
+use Rattle.audit_recording.specs.declared.audit.next.NextFrame.{NextFrame}
+use Rattle.audit_recording.specs.declared.audit.next.NextFrame.TheVariants.{End, Nothing, Datagram}
 use Rattle.audit_flows.specs.Lines.{Recorded}
 
 -- the time of a frame, or else that of the datagram before

@@ -4,13 +4,14 @@ use mathlib.Core.List.{reverse-cons}
 use Rattle.std.proofs.lemmas.List.Elements.{All-from_recursion}
 use Rattle.std.specs.List.{AllByRecursion}
 use Rattle.tftp_capture.specs.{IsLawful, IsPort}
-use Rattle.tftp_packet.specs.Hosts.{Dir, In, Out}
+use Rattle.tftp_packet.specs.{Dir, In, Out}
 use Rattle.audit_views.specs.Parties.{host_name}
 use Rattle.audit_views.proofs.PartiesLemmas.Addresses.{is_host}
 use Rattle.audit_recording.specs.Audit.{IsSoundDatagram, IsSoundEnd}
 use Rattle.audit_recording.specs.Judges.{opened}
 use Rattle.audit_flows.proofs.TransfersLemmas.Ends.{placed_where}
-use Rattle.audit_flows.specs.Lines.{Placed, clock, transfer_of, Recorded, Place, Opens, Transfer}
+use Rattle.audit_flows.specs.Lines.{Placed, clock, transfer_of, Recorded}
+use Rattle.audit_flows.specs.{Place, Opens, Transfer}
 use Rattle.audit_flows.specs.Transfers.{place_of, placed, opened_it}
 use Rattle.audit_views.specs.Views.{captured}
 

@@ -1,8 +1,10 @@
 -- What is fed has passed as it was recorded.
 use Rattle.std.proofs.Common.{◌≡◌, ℕ, true, cond, List, ◌∷◌, sym, ap, ◌∙◌, map, filter}
 use Rattle.audit_views.specs.Parties.{host_name}
-use Rattle.audit_flows.specs.Lines.{Endpoint, Transfer, Placed, is_of}
-use Rattle.audit_views.specs.Views.{Held, Party, IsFed}
+use Rattle.audit_flows.specs.Lines.{Placed, is_of}
+use Rattle.audit_flows.specs.{Endpoint, Transfer}
+use Rattle.audit_views.specs.Views.{IsFed}
+use Rattle.audit_views.specs.{Held, Party}
 use Rattle.audit_recording.specs.Between.{between_capture, passed_of, peer_of, passed_as, side_of}
 
 party_is : (end : Endpoint) (party : Party) → end ≡ party.end → party.host ≡ host_name party.end.address → peer_of end ≡ side_of party

@@ -4,9 +4,11 @@ use Rattle.std.proofs.lemmas.List.{length-map, length-reverse, map-append, rever
 use Rattle.law_tap.specs.{TapDatagram}
 use Rattle.judge_tap.specs.{passing_of, TapDatagram as Owned}
 use Rattle.audit_views.specs.Parties.{host_name}
-use Rattle.audit_flows.specs.Lines.{Transfer, Placed, is_of}
+use Rattle.audit_flows.specs.Lines.{Placed, is_of}
+use Rattle.audit_flows.specs.{Transfer}
 use Rattle.audit_flows.specs.Transfers.{is_settled}
-use Rattle.audit_views.specs.Views.{Held, IsFed}
+use Rattle.audit_views.specs.Views.{IsFed}
+use Rattle.audit_views.specs.{Held}
 use Rattle.audit_recording.specs.Between.{are_apart, between_capture, is_to_itself, passed_of, sides_of, sides_with, AreHeld, Between, BetweenBy, HasPassed, IsBetweenAfter, IsGoingOn, IsWaiting, View, counted_by, given_to, passed_as}
 use Rattle.audit_recording.proofs.BetweenLemmas.Feeding.{captured_too, passed_fed}
 use Rattle.audit_views.proofs.ViewsLemmas.Settling.{settled_stays}

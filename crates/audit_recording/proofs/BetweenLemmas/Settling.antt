@@ -1,6 +1,7 @@
 -- Who the ends are stays, once it is known; and what is not of the transfer at its client tells nothing of them.
 use Rattle.std.proofs.Common.{◌≡◌, ℕ, true, false, List, ◌++◌, ap}
-use Rattle.audit_flows.specs.Lines.{Transfer, Placed, is_of}
+use Rattle.audit_flows.specs.Lines.{Placed, is_of}
+use Rattle.audit_flows.specs.{Transfer}
 use Rattle.audit_flows.specs.Transfers.{is_settled}
 use Rattle.audit_views.proofs.ViewsLemmas.Settling.{server_stays}
 use Rattle.audit_recording.specs.Between.{sides_of, sides_with}

@@ -6,7 +6,8 @@ use Rattle.tftp_ends.proofs.NotedPeers.{is_same}
 use Rattle.audit_views.specs.Parties.{IsAddress}
 use Rattle.audit_views.proofs.PartiesLemmas.Addresses.{called_one}
 use Rattle.law_tap.specs.{AreApart, PeerId, TapSides}
-use Rattle.audit_flows.specs.Lines.{Endpoint, Transfer, same_address, same_endpoint, Placed}
+use Rattle.audit_flows.specs.Lines.{same_address, same_endpoint, Placed}
+use Rattle.audit_flows.specs.{Endpoint, Transfer}
 use Rattle.audit_flows.specs.Transfers.{server_of}
 use Rattle.audit_flows.proofs.LinesLemmas.Endpoints.{is_same as is_same_endpoint}
 use Rattle.audit_recording.specs.Between.{are_apart, is_to_itself, peer_of, server_or_asked, sides_of}

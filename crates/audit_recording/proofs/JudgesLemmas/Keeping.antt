@@ -4,12 +4,14 @@ use Rattle.std.specs.BTreeMap.{get, is_at, BTreeMap, IsLowerBound, IsUnchanged}
 use Rattle.std.specs.Map.{lookup}
 use Rattle.std.specs.Ordering.{is_eq, is_gt, nat_cmp}
 use Rattle.std.proofs.lemmas.Bool.{eqb-true, or_parts, or_right}
-use Rattle.audit_flows.specs.Lines.{Place, Opens, Transfer, Recorded, Placed, newest_of, transfer_of, may_be_answer_of}
+use Rattle.audit_flows.specs.Lines.{Recorded, Placed, newest_of, transfer_of, may_be_answer_of}
+use Rattle.audit_flows.specs.{Place, Opens, Transfer}
 use Rattle.audit_flows.specs.Transfers.{place_of, placed, is_about, opened_it, is_it}
 use Rattle.audit_flows.proofs.LinesLemmas.Lines.{by_test}
 use Rattle.audit_flows.proofs.TransfersLemmas.Numbers.{none_answers_before, none_before, opening_number, length_placed}
 use Rattle.audit_views.specs.Views.{Naming}
-use Rattle.audit_recording.specs.Judges.{Judging, AreCrowded, AreHanded, AreKept, IsCrowded, IsKept, IsUnheard, IsWatching, Watched, is_among, opened}
+use Rattle.audit_recording.specs.Judges.{AreCrowded, AreHanded, AreKept, IsCrowded, IsKept, IsUnheard, IsWatching, Watched, is_among, opened}
+use Rattle.audit_recording.specs.declared.judges.judging.Judging.{Judging}
 use Rattle.audit_recording.proofs.JudgesLemmas.Watching.{watching_on, watching_unheard}
 
 pub same_number : (m n : ℕ) → is_eq (nat_cmp m n) ≡ (m == n)

@@ -3,7 +3,8 @@ use Rattle.std.proofs.Common.{◌≡◌, Bool, true, false, List, [], ◌∷◌,
 use Rattle.std.proofs.lemmas.Bool.{or_parts}
 use Rattle.std.specs.Bool.{then_some}
 use Rattle.std.proofs.lemmas.List.Elements.{All-head, All-tail}
-use Rattle.audit_flows.specs.Lines.{Transfer, Placed, may_be_answer_of}
+use Rattle.audit_flows.specs.Lines.{Placed, may_be_answer_of}
+use Rattle.audit_flows.specs.{Transfer}
 use Rattle.audit_flows.specs.Transfers.{is_about, is_answered_apart, is_it}
 use Rattle.audit_views.specs.Views.{Naming, Client, View}
 use Rattle.audit_recording.specs.Between.{View as Between}
@@ -11,7 +12,8 @@ use Rattle.audit_recording.proofs.BetweenLemmas.Holding.{passes_by as between_pa
 use Rattle.audit_flows.proofs.TransfersLemmas.OwnDatagrams.{about_none}
 use Rattle.audit_views.proofs.ViewsLemmas.Holding.{passes_by}
 use Rattle.audit_views.proofs.ViewsLemmas.Passing.{client_passes_by, doubts_pass_by}
-use Rattle.audit_recording.specs.Judges.{Judging, AreJudgesAfter, BetweenStands, ClientStands, IsUnheard, IsWatching, Judges, ServerStands, Watched}
+use Rattle.audit_recording.specs.Judges.{AreJudgesAfter, BetweenStands, ClientStands, IsUnheard, IsWatching, Judges, ServerStands, Watched}
+use Rattle.audit_recording.specs.declared.judges.judging.Judging.{Judging}
 
 -- ---- at each point
 

@@ -2,7 +2,8 @@
 use Rattle.std.proofs.Common.{◌≡◌, Bool, true, false, List, Option, Some, None, ◌||◌, ap, refl, subst, sym, if◌then◌else◌}
 use Rattle.std.specs.Prelude.{option_map}
 use Rattle.tftp_packet.specs.{End, Client, Server}
-use Rattle.audit_flows.specs.Lines.{Endpoint, Placed, Transfer, same_endpoint}
+use Rattle.audit_flows.specs.Lines.{Placed, same_endpoint}
+use Rattle.audit_flows.specs.{Endpoint, Transfer}
 use Rattle.audit_recording.specs.Rows.Accusing.{accused_of, is_servers, role_at}
 use Rattle.audit_recording.specs.declared.rows.accused.Accused.{Accused}
 

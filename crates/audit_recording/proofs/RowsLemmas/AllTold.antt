@@ -1,6 +1,9 @@
 -- Nothing that was judged is hidden.
 use Rattle.std.proofs.Common.{rules, Any, Bool, true, false, IsSome, None, Option, Some, inl, inr, refl, sym, subst, ◌≡◌, ◌≢◌, ◌++◌, [], if◌then◌else◌}
-use Rattle.audit_recording.specs.Rows.{Tells, both_row, is_told_at_ends, plain_row, rows_told, said_at, Point, Client, Server, Between, Said}
+use Rattle.audit_recording.specs.Rows.{Tells, both_row, is_told_at_ends, plain_row, rows_told, said_at}
+use Rattle.audit_recording.specs.declared.rows.row.Point.{Point}
+use Rattle.audit_recording.specs.declared.rows.row.Point.TheVariants.{Client, Server, Between}
+use Rattle.audit_recording.specs.declared.rows.said.Said.{Said}
 use Rattle.audit_recording.specs.Rows.Told.{ends_told, row_of}
 
 by_both : (c s : Said) (point : Point) → point ≢ Between → Tells (Some c) (Some s) true point both_row

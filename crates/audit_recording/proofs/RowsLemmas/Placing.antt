@@ -2,8 +2,13 @@
 use Rattle.std.proofs.Common.{◌≡◌, ◌≢◌, ◌&&◌, ◌||◌, not, ℕ, Bool, true, false, List, Option, Some, None, ap, refl, sym, subst, ◌∙◌, if◌then◌else◌}
 use Rattle.std.specs.Prelude.{is_some}
 use Rattle.std.proofs.lemmas.Bool.{and_parts, eqb-true, or_parts, true≢false}
-use Rattle.audit_flows.specs.Lines.{Placed, Transfer}
-use Rattle.audit_recording.specs.Rows.{accused_in_row, accused_of, depends_on_place, is_at_end, is_refused, is_refused_too, is_told_at_ends, may_be_asked, refused_frame, said_at, same_frame, telling_depends, Between, Client, Point, Said, Server, Telling}
+use Rattle.audit_flows.specs.Lines.{Placed}
+use Rattle.audit_flows.specs.{Transfer}
+use Rattle.audit_recording.specs.Rows.{accused_in_row, accused_of, depends_on_place, is_at_end, is_refused, is_refused_too, is_told_at_ends, may_be_asked, refused_frame, said_at, same_frame, telling_depends}
+use Rattle.audit_recording.specs.declared.rows.row.Point.TheVariants.{Between, Client, Server}
+use Rattle.audit_recording.specs.declared.rows.row.Point.{Point}
+use Rattle.audit_recording.specs.declared.rows.said.Said.{Said}
+use Rattle.audit_recording.specs.declared.rows.telling.Telling.{Telling}
 use Rattle.audit_recording.specs.declared.rows.accused.Accused.{Accused}
 use Rattle.audit_recording.specs.declared.rows.said.Said.TheVariants.{Accepted, Refused, NotWhole, Memory}
 

@@ -3,10 +3,13 @@ use Rattle.std.specs.Prelude.{◌≡◌, ◌↔◌, ℕ, List, [], ◌∷◌, tr
 use Rattle.std.specs.declared.net.ip_addr.IpAddr.{IpAddr}
 use Rattle.tftp_packet.specs.{Request, RequestParts, Spells}
 use Rattle.audit_views.specs.Parties.{address_of}
-use Rattle.net_udp.specs.Recording.{IsFateOf, Step, Fate, Discarded, Left, Waits}
+use Rattle.net_udp.specs.Recording.{IsFateOf, Step}
+use Rattle.net_udp.specs.{Fate, Discarded, Left}
+use Rattle.net_udp.specs.declared.recording.fate.Fate.TheVariants.{Waits}
 use Rattle.net_udp.specs.declared.recording.fate.Datagram.{Datagram as Given}
 use Rattle.net_udp.specs.declared.recording.fate.Fate.TheVariants.{Datagram}
-use Rattle.audit_flows.specs.Lines.{Recorded, Endpoint}
+use Rattle.audit_flows.specs.Lines.{Recorded}
+use Rattle.audit_flows.specs.{Endpoint}
 
 abbrev pub end_of : IpAddr → ℕ → Endpoint
 end_of host port = record { address = address_of host; port = port }

@@ -2,7 +2,8 @@
 use Rattle.std.specs.Prelude.{◌<◌, ◌≤◌, ℕ, length, slice_index}
 use Rattle.tftp_capture.specs.{IsPort}
 use Rattle.audit_views.specs.Parties.{IsAddress}
-use Rattle.audit_flows.specs.Lines.{Recorded, Endpoint}
+use Rattle.audit_flows.specs.Lines.{Recorded}
+use Rattle.audit_flows.specs.{Endpoint}
 
 -- its address is one of IPv4 or IPv6, and its port none of 0
 abbrev pub IsSoundEnd : Endpoint → Type 0

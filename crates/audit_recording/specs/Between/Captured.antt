@@ -4,7 +4,8 @@ use Rattle.std.specs.Prelude.{◌||◌, not, Bool, List, map, Option, Some, None
 use Rattle.tftp_packet.specs.Hosts.{same_peer}
 use Rattle.audit_views.specs.Parties.{host_name}
 use Rattle.law_tap.specs.{PeerId, TapDatagram, TapSides}
-use Rattle.audit_flows.specs.Lines.{Endpoint, Transfer, Recorded, same_endpoint, Placed}
+use Rattle.audit_flows.specs.Lines.{Recorded, same_endpoint, Placed}
+use Rattle.audit_flows.specs.{Endpoint, Transfer}
 use Rattle.audit_flows.specs.Transfers.{client_view, server_of}
 
 -- a host by its name, and a port there

@@ -2,9 +2,11 @@
 use Rattle.std.specs.Prelude.{◌≡◌, ℕ, true, false, List, [], length, map, reverse, Option, Some, None}
 use Rattle.law_tap.specs.{PeerId, TapDatagram, TapSides}
 use Rattle.judge_tap.specs.{TapJudge, passing_of, TapDatagram as Owned, TapRefusal}
-use Rattle.audit_flows.specs.Lines.{Transfer, Placed}
-use Rattle.audit_flows.specs.Transfers.{TransferEnds, AreEndsAfter, is_settled}
-use Rattle.audit_views.specs.Views.{Held, Party}
+use Rattle.audit_flows.specs.Lines.{Placed}
+use Rattle.audit_flows.specs.{Transfer}
+use Rattle.audit_flows.specs.Transfers.{AreEndsAfter, is_settled}
+use Rattle.audit_flows.specs.{TransferEnds}
+use Rattle.audit_views.specs.{Held, Party}
 use Rattle.audit_recording.specs.Between.Captured.{between_capture, sides_of}
 use Rattle.audit_recording.specs.Between.Judged.{HasTapped}
 

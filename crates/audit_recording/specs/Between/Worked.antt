@@ -1,7 +1,7 @@
 -- What passes between the ends of the worked recordings.
 use Rattle.std.specs.Prelude.{List, [], ◌∷◌, codes, false}
 use Rattle.law_tap.specs.{PeerId, TapDatagram, TapSides}
-use Rattle.audit_flows.specs.Lines.{Transfer}
+use Rattle.audit_flows.specs.{Transfer}
 use Rattle.audit_flows.specs.Transfers.{client, service, ack_of, data_of, read_of}
 
 -- the transfer that datagram 0 opened

@@ -3,9 +3,12 @@ use Rattle.std.specs.Prelude.{◌≡◌, ◌≤◌, ◌<◌, ◌^◌, ◌⊎◌,
 use Rattle.std.specs.BTreeMap.{BTreeMap, get}
 use Rattle.std.specs.List.{list_any}
 use Rattle.std.specs.Ordering.{nat_cmp}
-use Rattle.audit_flows.specs.Transfers.{Attribution, TransferDoubts, placed, is_about, opened_it, is_answered_apart, IsAfter, IsDoubtedAfter}
-use Rattle.audit_flows.specs.Lines.{Transfer, Recorded, Placed, newest_of, transfer_of}
-use Rattle.audit_views.specs.Views.{Party, Naming, Client, IsClientAfter, IsViewAfter, View, fed_to}
+use Rattle.audit_flows.specs.Transfers.{placed, is_about, opened_it, is_answered_apart, IsAfter, IsDoubtedAfter}
+use Rattle.audit_flows.specs.{Attribution, TransferDoubts}
+use Rattle.audit_flows.specs.Lines.{Recorded, Placed, newest_of, transfer_of}
+use Rattle.audit_flows.specs.{Transfer}
+use Rattle.audit_views.specs.Views.{Naming, Client, IsClientAfter, IsViewAfter, View, fed_to}
+use Rattle.audit_views.specs.{Party}
 use Rattle.audit_views.specs.Parties.{host_name}
 use Rattle.audit_recording.specs.Between.{IsBetweenAfter, View as Between, given_to}
 use Rattle.tftp_judge.specs.declared.refusal.Refusal.TheVariants.{Memory}

@@ -5,7 +5,8 @@ use Rattle.std.specs.Str.{bytes_eq}
 use Rattle.audit_recording.specs.declared.judges.judging.Judging.{Judging}
 use Rattle.audit_recording.specs.declared.judges.judging.Judging.TheVariants.{Nowhere, Client, Server, Between, WhereRecorded}
 use Rattle.audit_recording.specs.declared.judges.judging.Points.{Points}
-use Rattle.audit_flows.specs.Lines.{Address, Transfer, V4, V6, same_address}
+use Rattle.audit_flows.specs.Lines.{same_address}
+use Rattle.audit_flows.specs.{Address, Transfer, V4, V6}
 
 -- the client asks at its own address: what passes at a host with that address passes at both ends
 abbrev pub is_at_own_host : Transfer → Bool

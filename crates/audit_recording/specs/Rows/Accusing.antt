@@ -1,7 +1,8 @@
 -- Who is accused where a datagram is refused. Lists have the newest first.
 use Rattle.std.specs.Prelude.{◌&&◌, ◌||◌, Bool, false, List, [], map, Option, Some, None, option_map, if◌then◌else◌}
 use Rattle.tftp_packet.specs.{End, Client, Server}
-use Rattle.audit_flows.specs.Lines.{Endpoint, Placed, Recorded, Transfer, same_address, same_endpoint}
+use Rattle.audit_flows.specs.Lines.{Placed, Recorded, same_address, same_endpoint}
+use Rattle.audit_flows.specs.{Endpoint, Transfer}
 use Rattle.audit_flows.specs.Transfers.{has_host, has_port, placed, server_of}
 use Rattle.audit_recording.specs.Rows.Told.{is_refused, telling_depends}
 use Rattle.audit_recording.specs.declared.rows.accused.Accused.{Accused}

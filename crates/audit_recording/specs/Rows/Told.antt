@@ -1,7 +1,7 @@
 -- Which verdicts are told of a transfer, by the points at which it was judged.
 use Rattle.std.specs.Prelude.{◌≡◌, ◌≢◌, ◌⊎◌, ◌&&◌, ◌||◌, ◌==◌, not, ℕ, Bool, true, false, List, [], ◌∷◌, ◌++◌, Option, Some, None, IsSome, is_some, option_to_list, Result, Ok, Err, if◌then◌else◌}
 use Rattle.law_model.specs.Model.{Meaning}
-use Rattle.law_model.specs.Rules.{BadAnswer}
+use Rattle.law_model.specs.{BadAnswer}
 use Rattle.law_end.specs.{Port}
 use Rattle.tftp_judge.specs.{Refusal}
 use Rattle.tftp_judge.specs.declared.refusal.Refusal.TheVariants as refusal

@@ -3,8 +3,9 @@
 ghost use Rattle.std.specs.Prelude.{◌≡◌, ◌≤◌, ◌+◌, ◌++◌, ◌^◌, ◌∷◌, ◌⊎◌, ℕ, List, [], length, max, IfOk, IfSome, IsErr, IsSome, MatchBool, MatchOption, OnErr, Ok, Err, None, Some, false, true, ◌≢◌};
 ghost use Rattle.std.specs.Io.KnownBytes.{Consumes, prepend_known};
 ghost use Rattle.net_pcap.specs.{PcapFault};
-ghost use Rattle.net_streams.specs.Streams.{Standing};
-ghost use Rattle.net_udp.specs.Recording.{IsFateOf, StandsFor, Step, standing_of, Fate};
+ghost use Rattle.net_streams.specs.{Standing};
+ghost use Rattle.net_udp.specs.Recording.{IsFateOf, StandsFor, Step, standing_of};
+ghost use Rattle.net_udp.specs.{Fate};
 ghost use Rattle.net_udp.specs.declared.recording.fate.Datagram.{Datagram};
 ghost use Rattle.audit_recording.specs.Audit.Audited.{AuditsAfter, GoesOn, IsAttributed, IsNoted, IsOf};
 ghost use Rattle.audit_recording.specs.declared.audit.next.AuditFault.{AuditFault};
@@ -14,7 +15,8 @@ ghost use Rattle.net_udp.specs.Frames.{IsSound};
 ghost use Rattle.audit_recording.specs.Audit.Passed.{IsTaken, last_time, time_by};
 ghost use Rattle.audit_recording.specs.Judges.{AreCrowded, IsWatching, StandsAfter, is_among, opened};
 ghost use Rattle.audit_views.specs.Parties.{host_name};
-ghost use Rattle.audit_flows.specs.Transfers.{AttributionFault, placed};
+ghost use Rattle.audit_flows.specs.Transfers.{placed};
+ghost use Rattle.audit_flows.specs.{AttributionFault};
 ghost use Rattle.audit_flows.specs.Lines.{clock, line, live, Recorded};
 
 use crate::audit::next::{AuditFault, NextFrame};

@@ -9,7 +9,8 @@ ghost use Rattle.audit_recording.specs.Audit.Sound.{IsSoundDatagram};
 ghost use Rattle.audit_recording.specs.Judges.{opened};
 ghost use Rattle.law_tap.specs.{AreApart};
 ghost use Rattle.audit_flows.specs.Transfers.{placed};
-ghost use Rattle.audit_flows.specs.Lines.{Recorded, Transfer};
+ghost use Rattle.audit_flows.specs.Lines.{Recorded};
+ghost use Rattle.audit_flows.specs.{Transfer};
 ghost use Rattle.audit_views.specs.Views.{client_capture, client_header, server_capture, server_header, AreWritten};
 
 /// What each end of a transfer saw of a recording can be written as a capture text, unless that were longer than a capture

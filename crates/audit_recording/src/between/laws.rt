@@ -6,7 +6,8 @@ ghost use Rattle.audit_recording.specs.Between.Kept.{IsBetweenAfter, View};
 ghost use Rattle.audit_recording.specs.Between.Worked.{asked_twice_between, asked_twice_sides, first_transfer};
 ghost use Rattle.audit_views.specs.Parties.{IsAddress};
 ghost use Rattle.law_tap.specs.{AreApart};
-ghost use Rattle.audit_flows.specs.Lines.{Placed, is_of, Transfer};
+ghost use Rattle.audit_flows.specs.Lines.{Placed, is_of};
+ghost use Rattle.audit_flows.specs.{Transfer};
 ghost use Rattle.audit_flows.specs.Transfers.{placed, is_settled, server_of, asked_twice};
 
 /// The stray passes with its own source, and the sides are the client's, the service port's and the server's.

@@ -3,8 +3,10 @@
 ghost use Rattle.std.specs.Prelude.{◌≡◌, ◌≢◌, ◌≤◌, ◌∷◌, ◌&&◌, ◌||◌, not, ℕ, Bool, List, length, IsOk, OnOk, Err, None, true, false};
 ghost use Rattle.audit_recording.specs.Judges.Kept.{AreCrowded, AreHanded, AreKept, IsUnheard};
 ghost use Rattle.audit_recording.specs.declared.judges.judging.Judging.{Judging as JudgingKind};
-ghost use Rattle.audit_flows.specs.Lines.{doubts_of, Placed, Place, Transfer};
-ghost use Rattle.audit_flows.specs.Transfers.{is_it, is_about, AttributionFault};
+ghost use Rattle.audit_flows.specs.Lines.{doubts_of, Placed};
+ghost use Rattle.audit_flows.specs.{Place, Transfer};
+ghost use Rattle.audit_flows.specs.Transfers.{is_it, is_about};
+ghost use Rattle.audit_flows.specs.{AttributionFault};
 ghost use Rattle.audit_views.specs.Views.{Naming, IsFed, held_of};
 
 use crate::judges::judging::Judging;

@@ -6,7 +6,8 @@ ghost use Rattle.audit_views.specs.Parties.{host_name};
 ghost use Rattle.audit_recording.specs.Judges.Kept.{AreAt, AreFew, AreJudgesAfter, AreOf, AreTold, AreWants, IsCrowded};
 ghost use Rattle.law_tap.specs.{AreApart};
 ghost use Rattle.judge_tap.specs.{TapRefusal as RefusalKind};
-ghost use Rattle.audit_flows.specs.Lines.{Placed, Transfer};
+ghost use Rattle.audit_flows.specs.Lines.{Placed};
+ghost use Rattle.audit_flows.specs.{Transfer};
 ghost use Rattle.audit_flows.specs.Transfers.{is_about};
 ghost use Rattle.audit_views.specs.Views.{Naming, client_capture, client_header, server_capture, server_header, IsJudgedWith, IsFed, held_of};
 

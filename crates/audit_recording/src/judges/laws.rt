@@ -6,7 +6,8 @@ ghost use Rattle.audit_recording.specs.Judges.Points.{is_loopback, points_of};
 ghost use Rattle.audit_recording.specs.declared.judges.judging.Judging.{Judging};
 ghost use Rattle.audit_recording.specs.declared.judges.judging.Points.{Points};
 ghost use Rattle.audit_flows.specs.Transfers.{placed, asked_twice};
-ghost use Rattle.audit_flows.specs.Lines.{same_address, Transfer, V4, V6};
+ghost use Rattle.audit_flows.specs.Lines.{same_address};
+ghost use Rattle.audit_flows.specs.{Transfer, V4, V6};
 ghost use Rattle.audit_views.specs.Views.{first_transfer};
 
 /// Of a request that is sent twice the first one opens a transfer, and no other datagram does.

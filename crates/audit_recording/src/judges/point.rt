@@ -2,7 +2,8 @@
 
 ghost use Rattle.std.specs.Prelude.{◌≡◌, ◌^◌, ◌<◌, ◌≤◌, ◌∷◌, ℕ, List, length, is_some, IfSome, OnOk, Ok, false};
 ghost use Rattle.audit_recording.specs.Between.{IsBetweenAfter, given_to};
-ghost use Rattle.audit_flows.specs.Lines.{Placed, Transfer};
+ghost use Rattle.audit_flows.specs.Lines.{Placed};
+ghost use Rattle.audit_flows.specs.{Transfer};
 ghost use Rattle.audit_views.specs.Parties.{host_name};
 ghost use Rattle.audit_recording.specs.Judges.Kept.{StandsAs, fed_by};
 ghost use Rattle.audit_flows.specs.Transfers.{is_about};

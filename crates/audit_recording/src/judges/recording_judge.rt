@@ -2,8 +2,10 @@
 
 ghost use Rattle.std.specs.Prelude.{◌≡◌, ◌≢◌, ◌≤◌, ◌+◌, ◌^◌, ◌<◌, ◌∷◌, ◌⊎◌, ℕ, List, [], length, max, IfOk, IfSome, IsErr, IsSome, MatchBool, MatchOption, OnErr, OnOk, Err, None, Some, true, false};
 ghost use Rattle.audit_recording.specs.Judges.Kept.{AreCrowded, IsCalled, IsWatching, StandsAfter, is_among, opened};
-ghost use Rattle.audit_flows.specs.Lines.{doubts_of, clock, line, live, may_be_tftp, Recorded, Nowhere};
-ghost use Rattle.audit_flows.specs.Transfers.{IsRecorded, place_of, placed, AttributionFault};
+ghost use Rattle.audit_flows.specs.Lines.{doubts_of, clock, line, live, may_be_tftp, Recorded};
+ghost use Rattle.audit_flows.specs.{Nowhere};
+ghost use Rattle.audit_flows.specs.Transfers.{IsRecorded, place_of, placed};
+ghost use Rattle.audit_flows.specs.{AttributionFault};
 ghost use Rattle.audit_views.specs.Views.{Naming};
 
 use crate::judges::hands::{hand_on, open};

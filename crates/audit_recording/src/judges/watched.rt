@@ -8,8 +8,10 @@ ghost use Rattle.audit_recording.specs.Judges.Points.{points_of};
 ghost use Rattle.audit_recording.specs.declared.judges.judging.Judging.{Judging as JudgingKind};
 ghost use Rattle.law_tap.specs.{AreApart};
 ghost use Rattle.judge_tap.specs.{TapRefusal};
-ghost use Rattle.audit_flows.specs.Lines.{doubts_of, Placed, Transfer};
-ghost use Rattle.audit_flows.specs.Transfers.{is_about, AttributionFault};
+ghost use Rattle.audit_flows.specs.Lines.{doubts_of, Placed};
+ghost use Rattle.audit_flows.specs.{Transfer};
+ghost use Rattle.audit_flows.specs.Transfers.{is_about};
+ghost use Rattle.audit_flows.specs.{AttributionFault};
 ghost use Rattle.audit_views.specs.Views.{Naming, client_capture, client_header, server_capture, server_header, IsJudgedWith, IsFed, held_of};
 
 use crate::between::BetweenView;

@@ -1,9 +1,10 @@
 //! Laws of the definitions in `specs/`. Each is the contract of a function that does nothing.
 
 ghost use Rattle.std.specs.Prelude.{◌≡◌, ◌≢◌, ◌∷◌, ◌||◌, [], ℕ, List, Any, Bool, IsSome, None, Option, Some, true, false};
-ghost use Rattle.audit_flows.specs.Lines.{Place, Placed, Transfer, same_endpoint};
+ghost use Rattle.audit_flows.specs.Lines.{Placed, same_endpoint};
+ghost use Rattle.audit_flows.specs.{Place, Transfer};
 ghost use Rattle.tftp_packet.specs.{Client as ClientEnd, Server as ServerEnd};
-ghost use Rattle.law_model.specs.Rules.{BadAnswer, EndRule};
+ghost use Rattle.law_model.specs.{BadAnswer, EndRule};
 ghost use Rattle.law_end.specs.{Block, Port};
 ghost use Rattle.audit_flows.specs.Transfers.{asked_twice, client, service};
 ghost use Rattle.audit_flows.specs.Transfers.Worked.{at, passes};

@@ -3,7 +3,8 @@ use Rattle.std.proofs.Common.{◌≡◌, ◌⊎◌, ℕ, Bool, true, false, [], 
 use Rattle.std.specs.List.{AllByRecursion}
 use Rattle.std.proofs.lemmas.Bool.{false≢true, and_from, or_right}
 use Rattle.tftp_packet.specs.{End, Client, Server}
-use Rattle.tftp_packet.specs.Hosts.{In, Out, Datagram, Header, PeerId, peer_of}
+use Rattle.tftp_packet.specs.Hosts.{Datagram, Header, PeerId, peer_of}
+use Rattle.tftp_packet.specs.{In, Out}
 use Rattle.law_model.specs.Model.{Req, Oack, Data, Ack, Error, Deed, Sent, Took}
 use Rattle.law_model.specs.Rules.{goes_out, comes_in, begins_request, first_of}
 use Rattle.law_end.specs.Dress.{StrayAnswer}

@@ -4,7 +4,8 @@ use Rattle.std.specs.List.{list_any, AllByRecursion}
 use Rattle.std.proofs.lemmas.Bool.{false≢true, or_left, or_right, and_parts, or_parts}
 use Rattle.std.proofs.lemmas.List.{reverse-reverse}
 use Rattle.tftp_packet.specs.{Message, Side, Get, Put, Client, Server, IsPair, Spells}
-use Rattle.tftp_packet.specs.Hosts.{In, Datagram, Header}
+use Rattle.tftp_packet.specs.Hosts.{Datagram, Header}
+use Rattle.tftp_packet.specs.{In}
 use Rattle.law_model.specs.Model.{Meaning, windowsize_of, MachinePacket, Req, Oack, Data, Ack, Error, Deed, Sent, Took, History, message_of, request_of, HasSent, HasTaken, IsStartedOn, MayAckZeroOn, LetsStartOn, IsOneSided, MayCome, heard}
 use Rattle.law_model.specs.Model.Roles.{receiver_of}
 use Rattle.law_model.proofs.ModelLemmas.Members.{contains_first, contains_later, contains_none}

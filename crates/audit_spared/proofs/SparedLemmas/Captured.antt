@@ -2,7 +2,8 @@
 use Rattle.std.proofs.Common.{◌≡◌, true, List, [], ◌∷◌, ◌++◌, inl, inr, refl, sym, ap, subst, ◌∙◌, filter, if◌then◌else◌}
 use Rattle.std.specs.List.{AllByRecursion, flat_map}
 use Rattle.std.proofs.lemmas.Bool.{false≢true, or_cases, or_left, or_right, and_from}
-use Rattle.audit_flows.specs.Lines.{Endpoint, Recorded, same_endpoint, is_between, other_of, goes}
+use Rattle.audit_flows.specs.Lines.{Recorded, same_endpoint, is_between, other_of, goes}
+use Rattle.audit_flows.specs.{Endpoint}
 use Rattle.audit_flows.proofs.LinesLemmas.Endpoints.{same_itself}
 use Rattle.audit_flows.proofs.LinesLemmas.Lines.{by_test}
 use Rattle.audit_spared.specs.Spared.Seen.{HasNoSilence, is_with}

@@ -6,7 +6,8 @@ use Rattle.std.proofs.lemmas.List.{reverse-reverse}
 use Rattle.law_end.specs.{OneEnded, IsLawful, IsRefused, Rule}
 use Rattle.law_end.proofs.FirstBroken.FirstBroken.{refused_does_not_pass}
 use Rattle.law_end.proofs.Whole.TwoEnds.{lawful}
-use Rattle.audit_flows.specs.Lines.{Address, Endpoint, Transfer, Recorded, Placed, is_of, transfer_of}
+use Rattle.audit_flows.specs.Lines.{Recorded, Placed, is_of, transfer_of}
+use Rattle.audit_flows.specs.{Address, Endpoint, Transfer}
 use Rattle.audit_flows.specs.Transfers.{client_view, placed}
 use Rattle.audit_spared.specs.Spared.Seen.{HasNoSilence, as_seen_by, at_client_of, is_with}
 use Rattle.audit_spared.proofs.FairLemmas.Thinned.{filter_kept}

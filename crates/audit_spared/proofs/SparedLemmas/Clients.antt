@@ -2,7 +2,8 @@
 use Rattle.std.proofs.Common.{◌≡◌, ◌≢◌, ◌⊎◌, ℕ, ◌+◌, true, false, List, [], ◌∷◌, ◌++◌, Option, Some, None, inl, inr, refl, sym, ap, subst, ◌∙◌, ◌==◌, length, max, ne_eqb, arith, length-append, append_assoc, if◌then◌else◌}
 use Rattle.std.specs.List.{AllByRecursion, list_any}
 use Rattle.std.proofs.lemmas.Bool.{false≢true, or_left, or_right, eq-eqb, eqb-true}
-use Rattle.audit_flows.specs.Lines.{opening, Endpoint, Place, Opens, Repeats, Talks, Apart, Beside, Nowhere, Transfer, Recorded, Placed, same_endpoint, is_of, is_at, live, line, clock}
+use Rattle.audit_flows.specs.Lines.{opening, Recorded, Placed, same_endpoint, is_of, is_at, live, line, clock}
+use Rattle.audit_flows.specs.{Endpoint, Place, Opens, Repeats, Talks, Apart, Beside, Nowhere, Transfer}
 use Rattle.audit_flows.specs.Transfers.{comes, asks, at_client, beside, is_nowhere, place_of, placed, served_at}
 use Rattle.audit_spared.specs.Spared.Seen.{is_with}
 use Rattle.audit_flows.proofs.LinesLemmas.Endpoints.{is_same, same_itself}

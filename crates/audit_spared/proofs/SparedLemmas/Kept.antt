@@ -2,7 +2,8 @@
 use Rattle.std.proofs.Common.{◌≡◌, ◌≤◌, ℕ, ◌+◌, true, false, List, [], ◌∷◌, ◌++◌, refl, sym, ap, subst, ◌∙◌, max, filter, append_assoc, if◌then◌else◌}
 use Rattle.std.specs.List.{AllByRecursion}
 use Rattle.std.proofs.lemmas.Bool.{false≢true}
-use Rattle.audit_flows.specs.Lines.{Endpoint, Place, Transfer, Recorded, Placed, is_of, is_at, live, line, clock, silence}
+use Rattle.audit_flows.specs.Lines.{Recorded, Placed, is_of, is_at, live, line, clock, silence}
+use Rattle.audit_flows.specs.{Endpoint, Place, Transfer}
 use Rattle.audit_flows.specs.Transfers.{placed, place_of}
 use Rattle.audit_spared.specs.Spared.Seen.{is_with}
 use Rattle.audit_flows.proofs.LinesLemmas.Lines.{by_test}

@@ -7,7 +7,8 @@ use Rattle.tftp_packet.specs.Hosts.{Datagram, PeerId, peer_of, same_peer}
 use Rattle.law_model.specs.Rules.{begins_request as says_request, begins_error as says_error, comes_in, goes_out, has_come_from, asks, first_of}
 use Rattle.law_end.proofs.FirstBroken.FirstRequests.{or_some}
 use Rattle.law_end.proofs.Division.RouteTests.{is_same as same_peers}
-use Rattle.audit_flows.specs.Lines.{Address, Endpoint, Recorded, asked_part, asks_alike, same_endpoint, other_of, begins_request, begins_error, goes}
+use Rattle.audit_flows.specs.Lines.{Recorded, asked_part, asks_alike, same_endpoint, other_of, begins_request, begins_error, goes}
+use Rattle.audit_flows.specs.{Address, Endpoint}
 use Rattle.audit_flows.specs.Lines.Recording.{is_answer}
 use Rattle.audit_flows.proofs.LinesLemmas.Endpoints.{is_same, same_itself}
 use Rattle.audit_flows.proofs.LinesLemmas.Lines.{by_test}

@@ -2,7 +2,8 @@
 use Rattle.std.proofs.Common.{◌≡◌, ℕ, Bool, true, false, List, [], ◌∷◌, Some, None, inl, inr, refl, sym, ap, subst, ◌∙◌, ◌==◌, ◌&&◌, not, map, option_map, if◌then◌else◌}
 use Rattle.std.specs.List.{list_any, AllByRecursion}
 use Rattle.std.proofs.lemmas.Bool.{false≢true, or_cases, or_left, or_right, and_from, and_parts}
-use Rattle.audit_flows.specs.Lines.{Endpoint, Place, Apart, Talks, Transfer, Recorded, Placed, same_endpoint, goes, is_between, other_of, is_of, is_request, newest_of, talked_of, talk_in, last_was_ack_0, latest_in, answered_in, is_known_host, place_talked, place_at, begins_request}
+use Rattle.audit_flows.specs.Lines.{Recorded, Placed, same_endpoint, goes, is_between, other_of, is_of, is_request, newest_of, talked_of, talk_in, last_was_ack_0, latest_in, answered_in, is_known_host, place_talked, place_at, begins_request}
+use Rattle.audit_flows.specs.{Endpoint, Place, Apart, Talks, Transfer}
 use Rattle.audit_flows.specs.Lines.Recording.{is_answer, is_data_1}
 use Rattle.audit_flows.proofs.LinesLemmas.Endpoints.{is_same}
 use Rattle.audit_flows.proofs.LinesLemmas.Lines.{by_test}

@@ -2,7 +2,8 @@
 use Rattle.std.proofs.Common.{◌≡◌, ◌⊎◌, inl, inr, ◌≤◌, ℕ, ◌+◌, Bool, true, false, List, [], ◌∷◌, ◌++◌, refl, sym, ap, subst, ◌∙◌, ◌==◌, ◌&&◌, ◌||◌, not, map, length, nat_le, max, is_some, ne_eqb, arith, if◌then◌else◌}
 use Rattle.std.specs.List.{list_any, AllByRecursion}
 use Rattle.std.proofs.lemmas.Bool.{or_left, and_parts, eq-eqb, le-leb}
-use Rattle.audit_flows.specs.Lines.{Endpoint, Place, Opens, Repeats, Talks, Transfer, Recorded, Placed, same_endpoint, other_of, is_of, is_request, is_at, live, line, latest_in, clock, silence, begins_request, place_asked, place_at, talk_in, goes}
+use Rattle.audit_flows.specs.Lines.{Recorded, Placed, same_endpoint, other_of, is_of, is_request, is_at, live, line, latest_in, clock, silence, begins_request, place_asked, place_at, talk_in, goes}
+use Rattle.audit_flows.specs.{Endpoint, Place, Opens, Repeats, Talks, Transfer}
 use Rattle.audit_flows.specs.Transfers.{asks, at_client, beside, either, is_client, is_nowhere, is_service, place_of, placed}
 use Rattle.audit_flows.proofs.LinesLemmas.Endpoints.{is_same}
 use Rattle.audit_flows.proofs.LinesLemmas.Lines.{by_test}

@@ -3,7 +3,8 @@ use Rattle.std.proofs.Common.{◌≡◌, ◌≤◌, ℕ, zero, suc, Bool, true, 
 use Rattle.std.specs.List.{AllByRecursion, list_any}
 use Rattle.std.proofs.lemmas.Bool.{false≢true, or_cases, or_left, or_right}
 use Rattle.law_model.proofs.ModelLemmas.Members.{contains_cases, contains_first, contains_later, contains_none}
-use Rattle.audit_flows.specs.Lines.{Address, V4, V6, Endpoint, Recorded, same_address, version_of, bytes_of}
+use Rattle.audit_flows.specs.Lines.{Recorded, same_address, version_of, bytes_of}
+use Rattle.audit_flows.specs.{Address, V4, V6, Endpoint}
 use Rattle.audit_flows.proofs.LinesLemmas.Endpoints.{is_same, same_itself}
 use Rattle.audit_flows.proofs.LinesLemmas.Lines.{by_test}
 use Rattle.audit_spared.specs.Spared.{HaveOwnNames, IsAddressIn}

@@ -3,7 +3,8 @@ use Rattle.std.proofs.Common.{◌≡◌, ℕ, Bool, true, false, List, [], ◌�
 use Rattle.std.specs.List.{list_any, AllByRecursion, filter}
 use Rattle.std.proofs.lemmas.Bool.{false≢true, or_right, and_from, and_parts, eq-eqb}
 use Rattle.std.proofs.lemmas.Slice.Eq.{bytes_eq-Decides}
-use Rattle.audit_flows.specs.Lines.{opening, Endpoint, Place, Opens, Repeats, Apart, Transfer, Recorded, Placed, same_endpoint, is_between, is_again, other_of, is_of, is_request, is_apart, newest_of, reach, live, line, says_more, is_alike_in, begins_request, goes, transfer_of, opened_by, asked_after, place_asked, is_asked_again}
+use Rattle.audit_flows.specs.Lines.{opening, Recorded, Placed, same_endpoint, is_between, is_again, other_of, is_of, is_request, is_apart, newest_of, reach, live, line, says_more, is_alike_in, begins_request, goes, transfer_of, opened_by, asked_after, place_asked, is_asked_again}
+use Rattle.audit_flows.specs.{Endpoint, Place, Opens, Repeats, Apart, Transfer}
 use Rattle.audit_flows.proofs.LinesLemmas.Endpoints.{is_same, same_itself}
 use Rattle.audit_flows.proofs.LinesLemmas.Lines.{by_test}
 use Rattle.audit_flows.proofs.TransfersLemmas.AllLines.{line_here}

@@ -1,8 +1,10 @@
 -- A recording whose hosts are renamed as before looks as it did.
 use Rattle.std.proofs.Common.{◌≡◌, ℕ, Bool, true, false, List, [], ◌∷◌, ◌++◌, refl, sym, ap, subst, ◌∙◌, map, reverse, filter, not, if◌then◌else◌}
 use Rattle.std.specs.List.{AllByRecursion, flat_map}
-use Rattle.tftp_packet.specs.Hosts.{In, Out, Datagram}
-use Rattle.audit_flows.specs.Lines.{Address, Endpoint, Recorded, Placed, Transfer, is_of, same_endpoint}
+use Rattle.tftp_packet.specs.Hosts.{Datagram}
+use Rattle.tftp_packet.specs.{In, Out}
+use Rattle.audit_flows.specs.Lines.{Recorded, Placed, is_of, same_endpoint}
+use Rattle.audit_flows.specs.{Address, Endpoint, Transfer}
 use Rattle.audit_flows.specs.Transfers.{client_view, is_at_server, placed}
 use Rattle.audit_spared.specs.Spared.{as_served, captured_there, seen_at_server, server_saw, went_out}
 use Rattle.audit_spared.specs.Spared.Seen.{as_seen_by, is_with}

@@ -8,7 +8,8 @@ use Rattle.law_model.specs.Rules.{asks, first_of, or_this}
 use Rattle.law_end.specs.{OneEnded, IsLawful, IsRefused, Passes, Rule}
 use Rattle.law_end.proofs.Division.RouteTests.{same_is as peers_same, is_same as same_peers}
 use Rattle.law_end.proofs.Whole.TwoEnds.{lawful}
-use Rattle.audit_flows.specs.Lines.{Address, Endpoint, Place, Opens, Repeats, Talks, Apart, Beside, Nowhere, Transfer, Recorded, Placed, same_address, same_endpoint, other_of, is_of, is_request, transfer_of, begins_error, begins_request, is_late, is_sent_by_client, speaks_first}
+use Rattle.audit_flows.specs.Lines.{Recorded, Placed, same_address, same_endpoint, other_of, is_of, is_request, transfer_of, begins_error, begins_request, is_late, is_sent_by_client, speaks_first}
+use Rattle.audit_flows.specs.{Address, Endpoint, Place, Opens, Repeats, Talks, Apart, Beside, Nowhere, Transfer}
 use Rattle.audit_flows.proofs.LinesLemmas.Endpoints.{is_same, same_itself}
 use Rattle.audit_flows.proofs.LinesLemmas.Lines.{by_test}
 use Rattle.audit_flows.specs.Transfers.{asked_of as asked_by, client_view, placed, place_of, comes, goes_on, answered_by, went_on_with, server_of, is_server, is_at_server, has_host, has_port, goes_to_asked, is_beside, is_doubted, is_doubtful, is_doubtful_at_server, is_led_astray, some_of, comes_of_earlier, tells_strays}

@@ -8,7 +8,8 @@ use Rattle.tftp_packet.specs.Hosts.{Datagram, PeerId, peer_of}
 use Rattle.law_model.specs.Model.{Meaning, Req, message_of, request_of}
 use Rattle.law_model.specs.Rules.{begins_request as says_request, comes_in, goes_out}
 use Rattle.law_end.specs.{OneEnded, TransferIds}
-use Rattle.audit_flows.specs.Lines.{Address, Endpoint, Recorded, asked_part, asks_alike, same_endpoint, other_of, begins_request, goes}
+use Rattle.audit_flows.specs.Lines.{Recorded, asked_part, asks_alike, same_endpoint, other_of, begins_request, goes}
+use Rattle.audit_flows.specs.{Address, Endpoint}
 use Rattle.audit_flows.specs.Lines.Recording.{is_answer}
 use Rattle.audit_flows.proofs.LinesLemmas.Endpoints.{is_same, same_itself}
 use Rattle.audit_flows.proofs.LinesLemmas.Lines.{by_test}

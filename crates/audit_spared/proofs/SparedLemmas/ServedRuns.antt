@@ -4,7 +4,8 @@ use Rattle.std.specs.List.{list_any, AllByRecursion}
 use Rattle.std.proofs.lemmas.Bool.{false≢true, or_left, or_right, and_from, or_parts}
 use Rattle.std.proofs.lemmas.List.{reverse-reverse}
 use Rattle.tftp_packet.specs.{Client, Server, IsPair, Spells}
-use Rattle.tftp_packet.specs.Hosts.{Dir, In, Out, Datagram, Header, PeerId, peer_of}
+use Rattle.tftp_packet.specs.Hosts.{Datagram, Header, PeerId, peer_of}
+use Rattle.tftp_packet.specs.{Dir, In, Out}
 use Rattle.law_model.specs.Model.{Meaning, MachinePacket, Req, Oack, Data, Ack, Error, Deed, Sent, Took, History, message_of, HasSent, HasTaken, IsOneSided}
 use Rattle.law_model.proofs.ModelLemmas.Members.{contains_cases, contains_none}
 use Rattle.law_model.proofs.ModelLemmas.OneSided.{view_one_sided}

@@ -5,7 +5,7 @@ use Rattle.std.proofs.lemmas.Bool.{false≢true}
 use Rattle.tftp_packet.specs.Hosts.{Datagram, Header, PeerId, peer_of, same_peer}
 use Rattle.tftp_packet.specs.{Server}
 use Rattle.law_model.specs.Rules.{Route, asks, begins_error, begins_request, comes_in, first_of, goes_out, has_come_from, is_of_transfer, or_this, route_at_server, route_before, route_of, route_out, route_to_service, transfer_of}
-use Rattle.law_model.specs.Rules.{PortRule}
+use Rattle.law_model.specs.{PortRule}
 use Rattle.law_end.specs.{Broken, IsRead, MessageBreaks, MessageBroken, OneEnded, Passes, Rule}
 use Rattle.law_end.proofs.Division.RouteTests.{is_same}
 use Rattle.law_end.proofs.FirstBroken.FirstRequests.{first_passes, or_some}

@@ -2,7 +2,8 @@
 use Rattle.std.proofs.Common.{◌≡◌, ◌⊎◌, ℕ, Bool, true, false, List, [], ◌∷◌, ◌++◌, Option, Some, None, inl, inr, refl, sym, ap, subst, ◌∙◌, ◌==◌, ◌&&◌, not, filter, length, if◌then◌else◌}
 use Rattle.std.specs.List.{list_any, AllByRecursion}
 use Rattle.std.proofs.lemmas.Bool.{false≢true, or_cases, or_left, or_right, and_from, and_parts, eq-eqb, eqb-true}
-use Rattle.audit_flows.specs.Lines.{Address, Endpoint, Place, Repeats, Talks, Apart, Nowhere, Transfer, Recorded, Placed, same_endpoint, begins_request, is_between, is_again, is_apart, other_of, is_of, is_request, newest_of, live, line, latest_in, answered_in, talked_of, talk_in, last_was_ack_0, place_talked, place_at, opened_by, asked_after}
+use Rattle.audit_flows.specs.Lines.{Recorded, Placed, same_endpoint, begins_request, is_between, is_again, is_apart, other_of, is_of, is_request, newest_of, live, line, latest_in, answered_in, talked_of, talk_in, last_was_ack_0, place_talked, place_at, opened_by, asked_after}
+use Rattle.audit_flows.specs.{Address, Endpoint, Place, Repeats, Talks, Apart, Nowhere, Transfer}
 use Rattle.audit_flows.proofs.LinesLemmas.Endpoints.{is_same, same_itself}
 use Rattle.audit_flows.proofs.LinesLemmas.Lines.{by_test}
 use Rattle.audit_flows.specs.Transfers.{asks, at_client, beside, beside_by, is_nowhere, place_of, served_at, client_view, comes}

@@ -5,7 +5,8 @@ use Rattle.std.proofs.lemmas.Bool.{false≢true, or_cases, and_parts}
 use Rattle.tftp_packet.specs.Hosts.{Datagram}
 use Rattle.tftp_packet.specs.{Server}
 use Rattle.law_end.specs.{OneEnded}
-use Rattle.audit_flows.specs.Lines.{Address, Endpoint, Recorded, Placed, Transfer, same_endpoint, other_of, is_between, is_of, is_request}
+use Rattle.audit_flows.specs.Lines.{Recorded, Placed, same_endpoint, other_of, is_between, is_of, is_request}
+use Rattle.audit_flows.specs.{Address, Endpoint, Transfer}
 use Rattle.audit_flows.proofs.LinesLemmas.Lines.{by_test}
 use Rattle.audit_flows.specs.Transfers.{client_view}
 use Rattle.audit_flows.proofs.TransfersLemmas.Ends.{spoken}

@@ -2,7 +2,8 @@
 use Rattle.std.proofs.Common.{◌≡◌, ◌⊎◌, ℕ, true, false, List, [], ◌∷◌, ◌++◌, Contains, Some, inl, inr, refl, sym, ap, subst, ◌∙◌, ◌==◌, ◌&&◌, ◌||◌, not}
 use Rattle.std.specs.List.{AllByRecursion, list_any}
 use Rattle.std.proofs.lemmas.Bool.{false≢true, or_cases, or_left, or_right, and_from, and_parts, eq-eqb, eqb-true}
-use Rattle.audit_flows.specs.Lines.{Endpoint, Place, Opens, Repeats, Talks, Transfer, Recorded, Placed, same_endpoint, is_between, other_of, is_request, is_of, is_late, is_another, live, line, latest_in, transfer_of}
+use Rattle.audit_flows.specs.Lines.{Recorded, Placed, same_endpoint, is_between, other_of, is_request, is_of, is_late, is_another, live, line, latest_in, transfer_of}
+use Rattle.audit_flows.specs.{Endpoint, Place, Opens, Repeats, Talks, Transfer}
 use Rattle.audit_flows.specs.Transfers.{client_view, place_of, placed, some_of}
 use Rattle.audit_spared.specs.Spared.Seen.{is_with}
 use Rattle.audit_flows.proofs.LinesLemmas.Endpoints.{same_itself}

@@ -3,7 +3,8 @@
 use Rattle.std.proofs.Common.{◌≡◌, ◌≢◌, ℕ, Bool, true, false, List, [], ◌∷◌, ◌++◌, ◌&&◌, not, Contains, Some, map}
 use Rattle.std.specs.List.{list_any, AllByRecursion, filter}
 use Rattle.law_model.specs.Rules.{first_of}
-use Rattle.audit_flows.specs.Lines.{Endpoint, Place, Talks, Transfer, Recorded, Placed, is_between, other_of, is_of, is_request, newest_of, reach, line, transfer_of, latest_in, answered_in, says_more, asks_alike, is_alike_in}
+use Rattle.audit_flows.specs.Lines.{Recorded, Placed, is_between, other_of, is_of, is_request, newest_of, reach, line, transfer_of, latest_in, answered_in, says_more, asks_alike, is_alike_in}
+use Rattle.audit_flows.specs.{Endpoint, Place, Talks, Transfer}
 use Rattle.audit_flows.specs.Transfers.{client_view, comes}
 use Rattle.audit_flows.proofs.TransfersLemmas.Ends.{spoken}
 use Rattle.audit_spared.specs.Spared.{is_doubted_there, AsksInTime, asks_from, comes_at, goes_on_from}

@@ -3,7 +3,8 @@ use Rattle.std.proofs.Common.{◌≡◌, ◌≢◌, ℕ, Bool, true, false, List
 use Rattle.std.specs.List.{list_any, AllByRecursion}
 use Rattle.std.proofs.lemmas.Bool.{false≢true, or_cases, or_parts, or_left, or_right, and_from, and_parts, eq-eqb, eqb-true}
 use Rattle.law_model.specs.Rules.{first_of, or_this}
-use Rattle.audit_flows.specs.Lines.{Endpoint, Place, Talks, Transfer, Recorded, Placed, same_endpoint, is_between, other_of, is_of, is_request, newest_of, reach, live, line, says_more, begins_request, begins_error, goes, last_was_ack_0, answers, answered_in, latest_in, opens, place_at, is_another, may_be_answer_of, may_answer, talk_in}
+use Rattle.audit_flows.specs.Lines.{Recorded, Placed, same_endpoint, is_between, other_of, is_of, is_request, newest_of, reach, live, line, says_more, begins_request, begins_error, goes, last_was_ack_0, answers, answered_in, latest_in, opens, place_at, is_another, may_be_answer_of, may_answer, talk_in}
+use Rattle.audit_flows.specs.{Endpoint, Place, Talks, Transfer}
 use Rattle.audit_flows.specs.Lines.Recording.{is_answer, is_data_1}
 use Rattle.audit_flows.specs.Lines.Doubting.{acked_0_in, answer_of, is_next_data}
 use Rattle.audit_flows.specs.Transfers.{comes, is_it}

@@ -5,11 +5,13 @@ use Rattle.std.specs.List.{list_any, AllByRecursion, filter}
 use Rattle.std.proofs.lemmas.Bool.{false≢true, or_left, or_right, and_from, and_parts}
 use Rattle.std.proofs.lemmas.List.{reverse-reverse}
 use Rattle.tftp_packet.specs.{Client}
-use Rattle.tftp_packet.specs.Hosts.{In, Out, Datagram, PeerId, peer_of, same_peer}
+use Rattle.tftp_packet.specs.Hosts.{Datagram, PeerId, peer_of, same_peer}
+use Rattle.tftp_packet.specs.{In, Out}
 use Rattle.law_model.specs.Rules.{comes_in, goes_out, first_of, or_this}
 use Rattle.law_end.specs.{OneEnded}
 use Rattle.law_end.proofs.Division.RouteTests.{is_same as same_peers, same_is as peers_same}
-use Rattle.audit_flows.specs.Lines.{Address, Endpoint, Recorded, Placed, Transfer, same_endpoint, other_of, is_of, is_request, begins_request}
+use Rattle.audit_flows.specs.Lines.{Recorded, Placed, same_endpoint, other_of, is_of, is_request, begins_request}
+use Rattle.audit_flows.specs.{Address, Endpoint, Transfer}
 use Rattle.audit_flows.proofs.LinesLemmas.Lines.{by_test, map_or}
 use Rattle.audit_flows.specs.Transfers.{client_view}
 use Rattle.audit_spared.specs.Spared.Seen.{as_seen_by, at_client_of}

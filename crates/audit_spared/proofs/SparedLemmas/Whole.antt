@@ -4,7 +4,8 @@ use Rattle.std.specs.List.{AllByRecursion, list_any}
 use Rattle.std.proofs.lemmas.Bool.{false≢true, and_from, and_parts, or_cases, or_left, or_right}
 use Rattle.std.proofs.lemmas.List.Elements.{Contains-append_right}
 use Rattle.law_model.proofs.ModelLemmas.Members.{contains_first}
-use Rattle.audit_flows.specs.Lines.{Endpoint, Place, Opens, Repeats, Talks, Beside, Transfer, Recorded, Placed, same_endpoint, goes, is_at, is_of, is_request, transfer_of, begins_request, clock, silence, is_again, is_apart, newest_of, live, line, opened_by, asked_after, talk_in}
+use Rattle.audit_flows.specs.Lines.{Recorded, Placed, same_endpoint, goes, is_at, is_of, is_request, transfer_of, begins_request, clock, silence, is_again, is_apart, newest_of, live, line, opened_by, asked_after, talk_in}
+use Rattle.audit_flows.specs.{Endpoint, Place, Opens, Repeats, Talks, Beside, Transfer}
 use Rattle.audit_flows.proofs.LinesLemmas.Endpoints.{is_same, same_itself}
 use Rattle.audit_flows.proofs.LinesLemmas.Lines.{by_test}
 use Rattle.audit_flows.specs.Transfers.{asks, at_client, beside, is_beside, is_client, is_nowhere, is_service, place_of, placed}

@@ -3,8 +3,10 @@ use Rattle.std.proofs.Common.{◌≡◌, ◌<◌, ℕ, List, [], ◌∷◌, Some
 use Rattle.tftp_packet.specs.{Message, RequestParts, Side, Get, Put, Spells, Server}
 use Rattle.tftp_packet.specs.Spelling.{octet_read}
 use Rattle.tftp_packet.proofs.NoFault.{no_fault}
-use Rattle.tftp_packet.specs.Hosts.{In, Datagram, Header}
-use Rattle.law_model.specs.Rules.{Terms, NoReply, EndRule, IsTop, PortRule, Route, transfer_of, author_of, EndBroken}
+use Rattle.tftp_packet.specs.Hosts.{Datagram, Header}
+use Rattle.tftp_packet.specs.{In}
+use Rattle.law_model.specs.Rules.{IsTop, Route, transfer_of, author_of, EndBroken}
+use Rattle.law_model.specs.{Terms, NoReply, EndRule, PortRule}
 use Rattle.law_end.specs.{Agrees, Answer, IsAnswer, Begins, Broken, FirstAsked, IsRefused, MessageBreaks, MessageBroken, NotAnswered, Rule, IsWrongKind, number_of, plain_terms}
 use Rattle.law_end.proofs.Spelled.{spelled_once}
 use Rattle.law_end.proofs.FirstBroken.FirstRequests.{request_same, some_same}

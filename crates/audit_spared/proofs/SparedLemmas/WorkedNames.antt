@@ -3,8 +3,10 @@ use Rattle.std.proofs.Common.{◌≡◌, ◌<◌, ℕ, List, [], ◌∷◌, Some
 use Rattle.tftp_packet.specs.{Message, Side, Get, Put, Server}
 use Rattle.tftp_packet.specs.Spelling.{octet_read}
 use Rattle.tftp_packet.proofs.NoFault.{no_fault}
-use Rattle.tftp_packet.specs.Hosts.{In, Datagram, Header}
-use Rattle.law_model.specs.Rules.{PortRule, Route, transfer_of, author_of}
+use Rattle.tftp_packet.specs.Hosts.{Datagram, Header}
+use Rattle.tftp_packet.specs.{In}
+use Rattle.law_model.specs.Rules.{Route, transfer_of, author_of}
+use Rattle.law_model.specs.{PortRule}
 use Rattle.law_model.proofs.RulesLemmas.EndRules.{from_18}
 use Rattle.law_end.specs.{Broken, IsRefused, MessageBreaks, MessageBroken, Rule, IsWrongKind, number_of}
 use Rattle.law_end.proofs.Spelled.{spelled_once}

@@ -3,12 +3,14 @@ use Rattle.std.proofs.Common.{◌≡◌, ◌<◌, ◌+◌, ℕ, zero, suc, Bool,
 use Rattle.std.specs.List.{All, AllByRecursion, list_all, list_any}
 use Rattle.std.proofs.lemmas.Bool.{false≢true, or_left, or_right, and_parts, leb-true, eq-eqb, or_cases}
 use Rattle.tftp_packet.specs.Hosts.{Datagram, Header}
-use Rattle.law_model.specs.Rules.{PortRule, Route, route_of}
+use Rattle.law_model.specs.Rules.{Route, route_of}
+use Rattle.law_model.specs.{PortRule}
 use Rattle.law_end.specs.{Broken, IsLawful, IsRefused, OneEnded, Rule, number_of}
 use Rattle.law_end.proofs.FirstBroken.OneMessage.{agreement_from}
 use Rattle.law_model.proofs.RulesLemmas.EndRules.{from_18}
 use Rattle.law_model.proofs.ModelLemmas.Members.{contains_cases, contains_first, contains_later, contains_none}
-use Rattle.audit_flows.specs.Lines.{Address, V4, V6, Endpoint, Recorded, begins_request, other_of, same_endpoint, silence}
+use Rattle.audit_flows.specs.Lines.{Recorded, begins_request, other_of, same_endpoint, silence}
+use Rattle.audit_flows.specs.{Address, V4, V6, Endpoint}
 use Rattle.audit_flows.proofs.LinesLemmas.Endpoints.{is_same}
 use Rattle.audit_flows.proofs.LinesLemmas.Lines.{by_test}
 use Rattle.audit_spared.specs.Spared.Seen.{HasNoSilence, as_seen_by, at_client_of, is_with}

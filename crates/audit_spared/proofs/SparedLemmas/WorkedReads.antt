@@ -4,7 +4,8 @@ use Rattle.std.proofs.lemmas.Bool.{and_parts, ltb-true, true≢false}
 use Rattle.std.specs.List.{AllByRecursion, list_all}
 use Rattle.tftp_packet.specs.{Message, OptionValue, no_options, Get, Octet, Client, Server, IsString, Spells}
 use Rattle.tftp_packet.specs.Spelling.{octet_read}
-use Rattle.tftp_packet.specs.Hosts.{In, Out, Datagram, Header, peer_of}
+use Rattle.tftp_packet.specs.Hosts.{Datagram, Header, peer_of}
+use Rattle.tftp_packet.specs.{In, Out}
 use Rattle.law_model.specs.Model.{Meaning, request_of, block, block_count, blksize_of, Req, Data, Ack, Error, Sent, Took, message_of, Step, view_of}
 use Rattle.law_model.proofs.ModelLemmas.Computed.{Plan, IsPlan, is_run, run_is}
 use Rattle.law_model.proofs.ModelLemmas.Defaults.{default_blksize, default_windowsize}

@@ -1,6 +1,7 @@
 -- A read of one byte at its client, and a stray that is told so, the oldest first.
 use Rattle.std.specs.Prelude.{ℕ, List, [], ◌∷◌, ◌++◌, codes}
-use Rattle.tftp_packet.specs.Hosts.{Dir, In, Out, Datagram, Header, PeerId}
+use Rattle.tftp_packet.specs.Hosts.{Datagram, Header, PeerId}
+use Rattle.tftp_packet.specs.{Dir, In, Out}
 use Rattle.tftp_packet.specs.{Client}
 
 abbrev pub at_client : Header

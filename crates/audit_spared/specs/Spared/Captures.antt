@@ -2,7 +2,8 @@
 use Rattle.std.specs.Prelude.{◌≡◌, ◌≤◌, ◌+◌, ℕ, ◌&&◌, not, Bool, true, false, List, [], ◌∷◌, map, if◌then◌else◌}
 use Rattle.std.specs.List.{list_any, AllByRecursion}
 use Rattle.law_end.specs.{OneEnded}
-use Rattle.audit_flows.specs.Lines.{Address, Endpoint, Recorded, same_endpoint, begins_request, begins_error, asks_alike, goes, is_between, other_of, silence}
+use Rattle.audit_flows.specs.Lines.{Recorded, same_endpoint, begins_request, begins_error, asks_alike, goes, is_between, other_of, silence}
+use Rattle.audit_flows.specs.{Address, Endpoint}
 use Rattle.audit_spared.specs.Spared.Seen.{as_seen_by, at_client_of}
 use Rattle.audit_flows.specs.Lines.Recording.{is_answer}
 

@@ -1,8 +1,10 @@
 -- Datagrams of a recording as a client's own capture has them. Lists have the newest first.
 use Rattle.std.specs.Prelude.{◌≤◌, ℕ, ◌+◌, ◌||◌, Bool, List, [], ◌∷◌, if◌then◌else◌}
-use Rattle.tftp_packet.specs.Hosts.{In, Out, Datagram, Header}
+use Rattle.tftp_packet.specs.Hosts.{Datagram, Header}
+use Rattle.tftp_packet.specs.{In, Out}
 use Rattle.tftp_packet.specs.{Client}
-use Rattle.audit_flows.specs.Lines.{Address, Endpoint, Recorded, same_endpoint, silence}
+use Rattle.audit_flows.specs.Lines.{Recorded, same_endpoint, silence}
+use Rattle.audit_flows.specs.{Address, Endpoint}
 
 -- the client's endpoint sent or received it
 abbrev pub is_with : Endpoint → Recorded → Bool

@@ -3,9 +3,11 @@
 use Rattle.std.specs.Prelude.{◌≡◌, ℕ, ◌&&◌, ◌||◌, not, Bool, true, false, List, [], ◌∷◌, ◌++◌, map, reverse, filter, Contains, Option, Some, None}
 use Rattle.std.specs.List.{list_any}
 use Rattle.tftp_packet.specs.{Server}
-use Rattle.tftp_packet.specs.Hosts.{In, Out, Datagram, Header}
+use Rattle.tftp_packet.specs.Hosts.{Datagram, Header}
+use Rattle.tftp_packet.specs.{In, Out}
 use Rattle.law_end.specs.{IsLawful, IsRefused, Rule}
-use Rattle.audit_flows.specs.Lines.{Address, Endpoint, Place, Opens, Repeats, Talks, Beside, Transfer, Recorded, Placed, same_endpoint, is_between, is_of, is_request, other_of}
+use Rattle.audit_flows.specs.Lines.{Recorded, Placed, same_endpoint, is_between, is_of, is_request, other_of}
+use Rattle.audit_flows.specs.{Address, Endpoint, Place, Opens, Repeats, Talks, Beside, Transfer}
 use Rattle.audit_flows.specs.Lines.Doubting.{line_before}
 use Rattle.audit_flows.specs.Transfers.Places.{placed}
 use Rattle.audit_flows.specs.Transfers.Views.{is_at_server, is_end, server_of}

@@ -2,7 +2,8 @@
 use Rattle.std.specs.Prelude.{◌≡◌, ◌⊎◌, ℕ, ◌||◌, Bool, true, false, List, [], ◌∷◌, ◌++◌, map, reverse, filter, All, Contains, Some}
 use Rattle.std.specs.List.{flat_map}
 use Rattle.law_end.specs.{IsLawful, IsRefused, Rule}
-use Rattle.audit_flows.specs.Lines.{Address, Endpoint, Transfer, Recorded, Placed, transfer_of, begins_request, is_asked_again, is_late}
+use Rattle.audit_flows.specs.Lines.{Recorded, Placed, transfer_of, begins_request, is_asked_again, is_late}
+use Rattle.audit_flows.specs.{Address, Endpoint, Transfer}
 use Rattle.audit_flows.specs.Transfers.Places.{placed}
 use Rattle.audit_flows.specs.Transfers.Views.{client_view}
 use Rattle.audit_flows.specs.Transfers.Doubts.{is_answered_apart, is_doubtful, some_of}

@@ -2,7 +2,8 @@
 -- in seconds, the newest datagram is first.
 use Rattle.std.specs.Prelude.{◌≡◌, ℕ, ◌||◌, Bool, false, List, [], ◌∷◌, ◌++◌, codes, map, max, Some}
 use Rattle.law_end.specs.{IsRefused, Rule}
-use Rattle.audit_flows.specs.Lines.{Address, Endpoint, Transfer, Recorded, Placed, clock, transfer_of, bytes_of, version_of}
+use Rattle.audit_flows.specs.Lines.{Recorded, Placed, clock, transfer_of, bytes_of, version_of}
+use Rattle.audit_flows.specs.{Address, Endpoint, Transfer}
 use Rattle.audit_flows.specs.Transfers.{ack_of, client, data_of, service, client_view, is_beside, place_of, placed}
 use Rattle.audit_flows.specs.Transfers.Worked.{at, error_of, next_server, oack, other_client, passes, requests, server, stranger}
 use Rattle.audit_spared.specs.Spared.Seen.{as_seen_by, at_client_of}

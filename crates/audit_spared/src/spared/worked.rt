@@ -3,7 +3,8 @@
 
 ghost use Rattle.std.specs.Prelude.{◌≡◌, ◌||◌, true, false, List, [], ◌∷◌, codes, filter, map, reverse, Contains};
 ghost use Rattle.law_end.specs.{IsLawful};
-ghost use Rattle.audit_flows.specs.Lines.{Endpoint, Recorded, is_late};
+ghost use Rattle.audit_flows.specs.Lines.{Recorded, is_late};
+ghost use Rattle.audit_flows.specs.{Endpoint};
 ghost use Rattle.audit_flows.specs.Transfers.{ack_of, client, data_of, read_of, service, is_doubtful, is_doubtful_at_client, is_doubtful_at_server, placed, some_of};
 ghost use Rattle.audit_flows.specs.Transfers.Worked.{doubtful_in, earlier_words, error_of, seen_by_client, seen_by_server};
 ghost use Rattle.audit_spared.specs.Spared.{

@@ -9,7 +9,8 @@ use Rattle.std.specs.Net.Addr.{octets_of, segments_of}
 use Rattle.std.specs.Net.Grammar.{IsIpText}
 use Rattle.std.specs.Net.Text.{ip_text, ipv4_text, ipv6_text}
 use Rattle.tftp_packet.specs.Hosts.{IsHost, IsSign}
-use Rattle.audit_flows.specs.Lines.{same_address, Address, V4, V6}
+use Rattle.audit_flows.specs.Lines.{same_address}
+use Rattle.audit_flows.specs.{Address, V4, V6}
 use Rattle.audit_flows.proofs.LinesLemmas.Endpoints.{is_same_address, address_itself}
 use Rattle.audit_views.specs.Parties.{AreBytes, IsAddress, address_of, host_name}
 use Rattle.audit_views.proofs.PartiesLemmas.Names.{ipv4_few, ipv4_signs, ipv4_some, ipv6_few, ipv6_signs, ipv6_some, same_segments, segments_fit, some_segments}

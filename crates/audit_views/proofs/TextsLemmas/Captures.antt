@@ -3,7 +3,8 @@ use Rattle.std.proofs.Common.{◌≡◌, ℕ, Bool, true, false, cond, List, [],
 use Rattle.std.proofs.lemmas.List.{map-append, reverse-append}
 use Rattle.std.proofs.lemmas.List.Elements.{filter-append}
 use Rattle.tftp_packet.specs.{End, Client, Server}
-use Rattle.audit_flows.specs.Lines.{Transfer, Placed, is_of}
+use Rattle.audit_flows.specs.Lines.{Placed, is_of}
+use Rattle.audit_flows.specs.{Transfer}
 use Rattle.audit_flows.specs.Transfers.{is_about, is_at_server}
 use Rattle.audit_flows.proofs.TransfersLemmas.OwnDatagrams.{about_none, filter_kept, seen_none}
 use Rattle.audit_views.specs.Views.{Naming}

@@ -2,7 +2,7 @@
 use Rattle.std.proofs.Common.{◌≡◌, ℕ, suc, zero, ◌+◌, ◌<◌, List, [], ◌∷◌, ◌++◌, get_or, length, map, take, refl, ap, ◌∙◌, arith}
 use Rattle.audit_flows.specs.Lines.{Placed}
 use Rattle.audit_views.specs.Views.{Naming, AreHeld, IsFed}
-use Rattle.audit_views.specs.Texts.{Noted}
+use Rattle.audit_views.specs.declared.texts.noted.Noted.{Noted}
 
 -- it was fed as this datagram
 abbrev pub IsFedAs : Naming → Noted → Placed → Type 0

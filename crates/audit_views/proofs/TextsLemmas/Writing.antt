@@ -4,15 +4,19 @@ use Rattle.std.specs.Io.KnownBytes.{Appends}
 use Rattle.std.proofs.lemmas.List.Elements.{All-cons, All-nil}
 use Rattle.tftp_capture.specs.CaptureText.{Datagram, Header}
 use Rattle.tftp_capture.specs.{Entry, said_in, HasWrittenHosts}
-use Rattle.net_streams.specs.Streams.{Sink, WriteFault, Writes, Wrote}
+use Rattle.net_streams.specs.Streams.{Sink, Writes, Wrote}
+use Rattle.net_streams.specs.{WriteFault}
 use Rattle.tftp_capture.specs.Commented.Entry.{Comment, Passed}
-use Rattle.tftp_packet.specs.Hosts.{Dir}
+use Rattle.tftp_packet.specs.{Dir}
 use Rattle.tftp_packet.specs.{End}
-use Rattle.audit_flows.specs.Lines.{Transfer, Placed}
+use Rattle.audit_flows.specs.Lines.{Placed}
+use Rattle.audit_flows.specs.{Transfer}
 use Rattle.audit_flows.specs.Transfers.{AreEndsAfter, is_about}
-use Rattle.audit_views.specs.Views.{Naming, captured, captured_as, Held, IsFed}
+use Rattle.audit_views.specs.Views.{Naming, captured, captured_as, IsFed}
+use Rattle.audit_views.specs.declared.views.held.Held.{Held}
 use Rattle.audit_views.proofs.ViewsLemmas.Feeding.{fed_as}
-use Rattle.audit_views.specs.Texts.{AreNotesAfter, Notes, Noted, HasComment, IsComment, capture_at, captured_at, is_seen, way_at}
+use Rattle.audit_views.specs.Texts.{AreNotesAfter, Notes, HasComment, IsComment, capture_at, captured_at, is_seen, way_at}
+use Rattle.audit_views.specs.declared.texts.noted.Noted.{Noted}
 
 pub on_written : {A B : Type 0} (r : Result (Unit {0}) WriteFault) → (A → B) → OnOk r A → OnOk r B
 on_written (Ok u) f a = f a

@@ -1,9 +1,12 @@
 -- What is fed is captured as it passed.
 use Rattle.std.proofs.Common.{◌≡◌, true, false, cond, List, ◌∷◌, sym, ap, ◌∙◌, subst, map, filter}
-use Rattle.tftp_packet.specs.Hosts.{Datagram, Dir, In, Out}
-use Rattle.audit_flows.specs.Lines.{Transfer, Placed, is_of}
+use Rattle.tftp_packet.specs.Hosts.{Datagram}
+use Rattle.tftp_packet.specs.{Dir, In, Out}
+use Rattle.audit_flows.specs.Lines.{Placed, is_of}
+use Rattle.audit_flows.specs.{Transfer}
 use Rattle.audit_flows.specs.Transfers.{is_at_server}
-use Rattle.audit_views.specs.Views.{Held, Naming, captured, captured_as, captured_at_client, captured_at_server, client_capture, client_header, server_capture, server_header, way_at_client, way_at_server, HasJudged, Client, IsClientAfter, IsFed, IsServerAfter, OneEnd, Server}
+use Rattle.audit_views.specs.Views.{Naming, captured, captured_as, captured_at_client, captured_at_server, client_capture, client_header, server_capture, server_header, way_at_client, way_at_server, HasJudged, Client, IsClientAfter, IsFed, IsServerAfter, OneEnd, Server}
+use Rattle.audit_views.specs.declared.views.held.Held.{Held}
 
 module _ (name : Naming) (x : Transfer) (whole : List Placed) (p : Placed) (part : List Placed) where
   seen_too : is_at_server x.number whole p ≡ true → server_capture name x whole (p ∷ part) ≡ captured_at_server name x whole p ∷ server_capture name x whole part

@@ -4,10 +4,13 @@ use Rattle.std.specs.declared.alloc.AllocError.{AllocError}
 use Rattle.std.specs.List.{All}
 use Rattle.std.proofs.lemmas.List.{length-reverse, reverse-append, reverse-reverse}
 use Rattle.std.proofs.lemmas.List.Elements.{All-append, All-from_recursion}
-use Rattle.audit_flows.specs.Lines.{Transfer, Placed, is_of}
-use Rattle.audit_flows.specs.Transfers.{TransferEnds, AreEndsAfter, is_settled, answered_by, asked_of, is_about, is_at_server, went_on_with, server_of}
+use Rattle.audit_flows.specs.Lines.{Placed, is_of}
+use Rattle.audit_flows.specs.{Transfer}
+use Rattle.audit_flows.specs.Transfers.{AreEndsAfter, is_settled, answered_by, asked_of, is_about, is_at_server, went_on_with, server_of}
+use Rattle.audit_flows.specs.{TransferEnds}
 use Rattle.audit_flows.proofs.TransfersLemmas.OwnDatagrams.{about_none, answered_kept, asked_kept, filter_kept, seen_none, settled_kept, went_on_kept, server_kept}
-use Rattle.audit_views.specs.Views.{Held, Naming, captured_at_server, server_header, HasJudged, AreHeld, IsFed, IsGoingOn, IsServerAfter, IsViewAfter, Server, View, ViewedBy}
+use Rattle.audit_views.specs.Views.{Naming, captured_at_server, server_header, HasJudged, AreHeld, IsFed, IsGoingOn, IsServerAfter, IsViewAfter, Server, View, ViewedBy}
+use Rattle.audit_views.specs.declared.views.held.Held.{Held}
 use Rattle.audit_views.proofs.ViewsLemmas.Feeding.{server_apart}
 use Rattle.audit_views.proofs.ViewsLemmas.Settling.{server_goes_on, settled_stays}
 

@@ -1,6 +1,7 @@
 -- What is not about a transfer changes nothing of it.
 use Rattle.std.proofs.Common.{◌≡◌, ℕ, Bool, false, cond, List, ◌∷◌, sym, ap, ◌∙◌, subst, map, ◌&&◌, ◌||◌, filter}
-use Rattle.audit_flows.specs.Transfers.{TransferDoubts, is_answered_apart, is_it, some_of, IsDoubtedAfter, is_about}
+use Rattle.audit_flows.specs.Transfers.{is_answered_apart, is_it, some_of, IsDoubtedAfter, is_about}
+use Rattle.audit_flows.specs.{TransferDoubts}
 use Rattle.audit_flows.specs.Lines.{comes_in, follows_strays, follows_unanswered, agrees_late, goes_on_with_first, is_asked_again, is_disordered, is_late, may_be_answer_of, says_unknown_id, Placed, is_of}
 use Rattle.audit_flows.proofs.TransfersLemmas.OwnDatagrams.{about_none}
 use Rattle.audit_views.specs.Views.{Naming, captured_at_client, client_header, HasJudged, Client, IsClientAfter}

@@ -3,10 +3,12 @@ use Rattle.std.proofs.Common.{◌≡◌, ℕ, ◌&&◌, Bool, true, true≢false
 use Rattle.std.proofs.lemmas.Bool.{and_parts}
 use Rattle.std.proofs.lemmas.List.Elements.{filter-append, filter_agree}
 use Rattle.law_model.specs.Rules.{first_of, or_this}
-use Rattle.audit_flows.specs.Lines.{Endpoint, Place, Beside, Recorded, Placed, Transfer}
-use Rattle.audit_flows.specs.Transfers.{answered_by, asked_of, comes, goes_on, is_at_server, is_end, opened_it, server_of, server_view, went_on_with, is_settled, AreEndsAfter, TransferEnds}
+use Rattle.audit_flows.specs.Lines.{Recorded, Placed}
+use Rattle.audit_flows.specs.{Endpoint, Place, Beside, Transfer}
+use Rattle.audit_flows.specs.Transfers.{answered_by, asked_of, comes, goes_on, is_at_server, is_end, opened_it, server_of, server_view, went_on_with, is_settled, AreEndsAfter}
+use Rattle.audit_flows.specs.{TransferEnds}
 use Rattle.audit_flows.proofs.TransfersLemmas.OwnDatagrams.{at_server_same, server_same, settled_same}
-use Rattle.tftp_packet.specs.Hosts.{In, Out}
+use Rattle.tftp_packet.specs.{In, Out}
 use Rattle.audit_views.specs.Views.{Naming, captured, captured_at_server, server_capture, server_header, way_at_server, HasJudged, IsServerAfter, Server}
 
 first_stays : (test : Placed → Bool) (more placed : List Placed) (e : Placed) → first_of test placed ≡ Some e → first_of test (more ++ placed) ≡ Some e

@@ -5,7 +5,7 @@ use Rattle.std.specs.declared.net.ip_addr.IpAddr.{IpAddr}
 use Rattle.std.specs.declared.net.ip_addr.IpAddr.TheVariants as Ip
 use Rattle.std.specs.Net.Addr.{ipv4_octets, ipv6_octets, segments_of}
 use Rattle.std.specs.Net.Text.{ipv4_text, ipv6_text}
-use Rattle.audit_flows.specs.Lines.{Address, V4, V6}
+use Rattle.audit_flows.specs.{Address, V4, V6}
 
 -- numbers of 8 bits
 abbrev pub AreBytes : List ℕ → Type 0

@@ -1,8 +1,10 @@
 -- What is kept of a transfer for its text.
 use Rattle.std.specs.Prelude.{◌≡◌, ◌≤◌, List, filter, length, map, reverse}
 use Rattle.tftp_capture.specs.{IsPort}
-use Rattle.audit_flows.specs.Transfers.{AreEndsAfter, is_about, TransferEnds}
-use Rattle.audit_flows.specs.Lines.{Placed, Transfer}
+use Rattle.audit_flows.specs.Transfers.{AreEndsAfter, is_about}
+use Rattle.audit_flows.specs.{TransferEnds}
+use Rattle.audit_flows.specs.Lines.{Placed}
+use Rattle.audit_flows.specs.{Transfer}
 use Rattle.audit_views.specs.Views.{Naming, AreHeld}
 use Rattle.audit_views.specs.declared.texts.noted.Noted.{Noted}
 

@@ -1,11 +1,12 @@
 -- The capture text of what an end of a transfer saw. Lists of placed datagrams have the newest first.
 use Rattle.std.specs.Prelude.{◌≡◌, ℕ, ◌≤◌, Bool, List, All, filter, length, map, reverse}
-use Rattle.tftp_packet.specs.Hosts.{Dir}
+use Rattle.tftp_packet.specs.{Dir}
 use Rattle.tftp_packet.specs.{End, Client, Server}
 use Rattle.tftp_capture.specs.CaptureText.{Datagram, Header}
 use Rattle.tftp_capture.specs.{Entry, commented_text, said_in, HasNoEnd}
 use Rattle.tftp_capture.specs.Commented.Entry.{Comment, Passed}
-use Rattle.audit_flows.specs.Lines.{Transfer, Placed, is_of}
+use Rattle.audit_flows.specs.Lines.{Placed, is_of}
+use Rattle.audit_flows.specs.{Transfer}
 use Rattle.audit_flows.specs.Transfers.{is_at_server}
 use Rattle.audit_views.specs.Views.{Naming, captured, client_header, server_header, way_at_client, way_at_server}
 

@@ -1,8 +1,10 @@
 -- What is captured of a transfer at each end, by a recording. Lists have the newest first; `name` names each host.
 use Rattle.std.specs.Prelude.{ℕ, List, filter, map, if◌then◌else◌}
-use Rattle.tftp_packet.specs.Hosts.{Dir, In, Out, Datagram, Header}
+use Rattle.tftp_packet.specs.Hosts.{Datagram, Header}
+use Rattle.tftp_packet.specs.{Dir, In, Out}
 use Rattle.tftp_packet.specs.{Client, Server}
-use Rattle.audit_flows.specs.Lines.{Address, Place, Talks, Beside, Transfer, Recorded, same_endpoint, Placed}
+use Rattle.audit_flows.specs.Lines.{Recorded, same_endpoint, Placed}
+use Rattle.audit_flows.specs.{Address, Place, Talks, Beside, Transfer}
 use Rattle.audit_flows.specs.Transfers.{client_view, is_at_server, is_end, server_of}
 use Rattle.audit_views.specs.declared.views.party.Party.{Party}
 

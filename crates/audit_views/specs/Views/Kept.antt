@@ -2,8 +2,10 @@
 use Rattle.std.specs.Prelude.{◌≡◌, ℕ, true, false, List, [], filter, length, reverse, Option, Some, None}
 use Rattle.std.specs.List.{AllZip}
 use Rattle.tftp_judge.specs.{Judge, Refusal}
-use Rattle.audit_flows.specs.Lines.{Transfer, Placed}
-use Rattle.audit_flows.specs.Transfers.{is_settled, is_about, TransferEnds, AreEndsAfter}
+use Rattle.audit_flows.specs.Lines.{Placed}
+use Rattle.audit_flows.specs.{Transfer}
+use Rattle.audit_flows.specs.Transfers.{is_settled, is_about, AreEndsAfter}
+use Rattle.audit_flows.specs.{TransferEnds}
 use Rattle.audit_views.specs.declared.views.fed.Fed.{Fed}
 use Rattle.audit_views.specs.declared.views.held.Held.{Held}
 use Rattle.audit_views.specs.Views.Captured.{Naming, client_capture, client_header, server_capture, server_header}

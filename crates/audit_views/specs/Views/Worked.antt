@@ -1,7 +1,9 @@
 -- Captures of the worked recordings.
 use Rattle.std.specs.Prelude.{ℕ, List, [], ◌∷◌, codes, false}
-use Rattle.tftp_packet.specs.Hosts.{In, Out, Datagram}
-use Rattle.audit_flows.specs.Lines.{Address, Transfer, bytes_of}
+use Rattle.tftp_packet.specs.Hosts.{Datagram}
+use Rattle.tftp_packet.specs.{In, Out}
+use Rattle.audit_flows.specs.Lines.{bytes_of}
+use Rattle.audit_flows.specs.{Address, Transfer}
 use Rattle.audit_flows.specs.Transfers.{client, service, ack_of, data_of, read_of}
 
 -- the transfer that datagram 0 opened

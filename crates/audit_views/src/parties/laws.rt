@@ -5,7 +5,8 @@ ghost use Rattle.std.specs.Net.Text.{ip_text};
 ghost use Rattle.std.specs.declared.net.ip_addr.IpAddr.{IpAddr};
 ghost use Rattle.tftp_packet.specs.Hosts.{IsHost};
 ghost use Rattle.audit_views.specs.Parties.Naming.{IsAddress, address_of, host_name};
-ghost use Rattle.audit_flows.specs.Lines.{same_address, Address, V4, V6};
+ghost use Rattle.audit_flows.specs.Lines.{same_address};
+ghost use Rattle.audit_flows.specs.{Address, V4, V6};
 
 /// Two addresses are the same exactly if their hosts are called the same; and what a host is called may stand in a capture
 /// text.

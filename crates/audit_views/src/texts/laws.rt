@@ -6,7 +6,8 @@ ghost use Rattle.tftp_packet.specs.Hosts.{Datagram, Header};
 ghost use Rattle.law_model.specs.Model.{Meaning};
 ghost use Rattle.tftp_judge.specs.{IsTextVerdict, unnumbered, IsSaid, IsVerdict, Refusal};
 ghost use Rattle.tftp_packet.specs.{Client, Server};
-ghost use Rattle.audit_flows.specs.Lines.{Placed, Transfer};
+ghost use Rattle.audit_flows.specs.Lines.{Placed};
+ghost use Rattle.audit_flows.specs.{Transfer};
 ghost use Rattle.audit_views.specs.Views.{Naming, client_capture, server_capture, of_text};
 ghost use Rattle.audit_views.specs.Texts.Views.{IsTextOf, capture_at};
 

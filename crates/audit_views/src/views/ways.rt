@@ -2,7 +2,7 @@
 
 ghost use Rattle.std.specs.Prelude.{◌≡◌, ℕ, List, if◌then◌else◌};
 ghost use Rattle.tftp_capture.specs.{datagram_of};
-ghost use Rattle.tftp_packet.specs.Hosts.{In, Out};
+ghost use Rattle.tftp_packet.specs.{In, Out};
 ghost use Rattle.audit_flows.specs.Transfers.{AreEndsAfter, is_end, server_of};
 ghost use Rattle.audit_flows.specs.Lines.{Placed};
 ghost use Rattle.audit_views.specs.Views.Captured.{captured_as, way_at_client, way_at_server};

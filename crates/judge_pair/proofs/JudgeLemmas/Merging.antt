@@ -1,6 +1,7 @@
 -- What is merged while two captures are read.
 use Rattle.std.proofs.Common.{◌≡◌, true, false, List, ◌∷◌, Option, Some, None, inl, inr, sym, subst, ap, ◌∙◌}
-use Rattle.tftp_packet.specs.Hosts.{In, Out, Datagram, Header}
+use Rattle.tftp_packet.specs.Hosts.{Datagram, Header}
+use Rattle.tftp_packet.specs.{In, Out}
 use Rattle.law_model.specs.Rules.{route_of, is_of_transfer, transfer_of}
 use Rattle.law_pair.specs.{IsBrought, AreMergedBy}
 use Rattle.law_pair.proofs.Merged.{at_client, at_server, turned}

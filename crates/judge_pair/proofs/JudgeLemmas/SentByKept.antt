@@ -1,7 +1,8 @@
 -- What a judge keeps tells what its end has sent.
 use Rattle.std.proofs.Common.{◌≡◌, ℕ, Bool, List, Option, Some, None, inl, inr, refl, sym, subst, ap, ◌∙◌, ◌↔◌}
 use Rattle.tftp_packet.specs.{OptionMap, Message, RequestParts, Client, Server}
-use Rattle.tftp_packet.specs.Hosts.{In, Out, Datagram, Header}
+use Rattle.tftp_packet.specs.Hosts.{Datagram, Header}
+use Rattle.tftp_packet.specs.{In, Out}
 use Rattle.law_model.specs.Model.{Meaning, SomethingAgreed, Req, Oack, Sent, MaySend, IsOneSided, MayCome}
 use Rattle.tftp_ends.specs.{NamedEnd, Sends, Receives, HoldsBlock, IsEndAfter}
 use Rattle.law_model.specs.Rules.{transfer_of, Passed}

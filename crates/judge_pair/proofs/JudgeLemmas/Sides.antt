@@ -1,7 +1,8 @@
 -- What is kept of one end stands for its datagrams.
 use Rattle.std.proofs.Common.{◌≡◌, ◌≤◌, ◌<◌, ◌+◌, ◌↔◌, if◌then◌else◌, ℕ, suc, Bool, true, false, IsTrue, List, [], ◌∷◌, length, Option, Some, None, IfNone, IfSome, Result, Ok, Err, inl, inr, refl, sym, subst, ap, ◌∙◌, arith, IfErr, OnOk}
 use Rattle.tftp_packet.specs.{Message, Spells}
-use Rattle.tftp_packet.specs.Hosts.{In, Out, Datagram, Header}
+use Rattle.tftp_packet.specs.Hosts.{Datagram, Header}
+use Rattle.tftp_packet.specs.{In, Out}
 use Rattle.law_end.proofs.Spelled.{spelled_once}
 use Rattle.law_model.specs.Rules.{route_of, is_of_transfer, transfer_of, Passed}
 use Rattle.law_end.proofs.FirstBroken.FirstAnswered.{main_none, main_some}

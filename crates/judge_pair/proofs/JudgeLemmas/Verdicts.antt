@@ -3,15 +3,19 @@ use Rattle.std.proofs.Common.{◌≡◌, ◌⊎◌, IfNone, ℕ, zero, suc, ◌+
 use Rattle.std.proofs.lemmas.Bool.{cases_lt}
 use Rattle.std.proofs.lemmas.List.{length-append, reverse-append}
 use Rattle.std.proofs.Math.Seq.{take-suc}
-use Rattle.tftp_packet.specs.Hosts.{In, Datagram, Header}
+use Rattle.tftp_packet.specs.Hosts.{Datagram, Header}
+use Rattle.tftp_packet.specs.{In}
 use Rattle.law_model.specs.Rules.{route_of, is_of_transfer, transfer_of}
 use Rattle.law_end.specs.{OneEnded}
 use Rattle.law_pair.specs.{Capture, AreMergedBy, passed_in, begun, IsNextIn, IsShut, IsLawfulTo, IsPairVerdict, IsSentAmong, IsSentLater, IsUnsent}
 use Rattle.law_pair.proofs.MatchedCaptures.{stuck_to}
 use Rattle.law_pair.proofs.PairVerdict.{kept_before}
-use Rattle.judge_pair.specs.Judge.{WasSent, with_held, Waits, AreMergedBut, IsWaitFor, IsSideAfter, Side, IsLeftAfter, IsRestAfter, Left, AreCarried, AreCountsOf, IsReadOf, GoesNoFurther, IsWhyWaiting, Wait, Unsent, SentLater}
+use Rattle.judge_pair.specs.Judge.{WasSent, with_held, Waits, AreMergedBut, IsWaitFor, IsSideAfter, Side, IsLeftAfter, IsRestAfter, Left, AreCarried, AreCountsOf, IsReadOf, GoesNoFurther, IsWhyWaiting}
+use Rattle.judge_pair.specs.declared.judge.waiting.Wait.{Wait}
+use Rattle.judge_pair.specs.declared.judge.waiting.Wait.TheVariants.{Unsent, SentLater}
 use Rattle.judge_pair.specs.Judge.Rest.{Rest}
-use Rattle.judge_pair.specs.Counts.{AreCounted, AreLostBetween, AreRepeatedBetween, Counted, Carried}
+use Rattle.judge_pair.specs.Counts.{AreCounted, AreLostBetween, AreRepeatedBetween, Counted}
+use Rattle.judge_pair.specs.declared.counts.carried.Carried.{Carried}
 
 -- ---- lists
 

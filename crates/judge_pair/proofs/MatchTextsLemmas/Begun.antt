@@ -3,7 +3,7 @@ use Rattle.std.proofs.Common.{◌≡◌, inl, inr, ℕ, Bool, false, List, [], �
 use Rattle.std.specs.Io.KnownBytes.{Consumes, IsAtEnd, prepend_known}
 use Rattle.tftp_packet.specs.{End}
 use Rattle.tftp_capture.specs.{Begins, BeginsWith, HasFault, Numbered, FailsToBegin, GoesOn, IsAtTextEnd, ReaderState, CaptureFault}
-use Rattle.net_streams.specs.Streams.{Open}
+use Rattle.net_streams.specs.{Open}
 use Rattle.tftp_capture.specs.declared.fault.CaptureFault.TheVariants.{Text, Read, Memory}
 use Rattle.tftp_capture.proofs.Beginnings.{agree, begins_more, fault_after}
 use Rattle.tftp_capture.proofs.Staying.{stays}

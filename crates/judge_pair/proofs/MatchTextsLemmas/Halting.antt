@@ -4,7 +4,8 @@ use Rattle.std.specs.Io.KnownBytes.{Consumes, IsAtEnd, prepend_known}
 use Rattle.std.proofs.KnownBytes.{Consumes-trans}
 use Rattle.std.proofs.lemmas.List.{map-append, reverse-append, reverse-reverse}
 use Rattle.tftp_capture.specs.{Begins, HasFault, IsCapture, Numbered, datagram_of, Continues, GoesOn, IsAtTextEnd, IsReadFault, ReaderState, StandingTells, StandsFor, gave, with_answer, CaptureFault, TextFault, Stands}
-use Rattle.net_streams.specs.Streams.{Failed, Open, Over, most_ahead, standing_after}
+use Rattle.net_streams.specs.Streams.{most_ahead, standing_after}
+use Rattle.net_streams.specs.{Failed, Open, Over}
 use Rattle.tftp_capture.specs.declared.datagram.Datagram.{Datagram as Owned}
 use Rattle.tftp_capture.specs.declared.fault.CaptureFault.TheVariants.{Text, Read, Memory as NoMemory}
 use Rattle.tftp_capture.proofs.Beginnings.{begins_more, capture_begins}
@@ -20,7 +21,8 @@ use Rattle.tftp_judge.proofs.TextFound.{Closed, Found, closed, found_ended, foun
 use Rattle.tftp_capture.specs.CaptureText.Due.{Body}
 use Rattle.law_pair.specs.{IsLawfulTo}
 use Rattle.judge_pair.specs.Judge.{IsReadOf}
-use Rattle.judge_pair.specs.MatchTexts.{HasDatagrams, capture_of, IsJudged, HasRead, IsFinished, IsGiven, IsHalted, said_by, Ended, Refused, Fault}
+use Rattle.judge_pair.specs.MatchTexts.{HasDatagrams, capture_of, IsJudged, HasRead, IsFinished, IsGiven, IsHalted, said_by}
+use Rattle.judge_pair.specs.declared.match_texts.reading.Halt.TheVariants.{Ended, Refused, Fault}
 use Rattle.judge_pair.proofs.MatchTextsLemmas.Fronts.{all_of, front_in, has_before_fault, has_captured, lawful_front, lawful_whole}
 
 -- ---- what was found is what there is to say

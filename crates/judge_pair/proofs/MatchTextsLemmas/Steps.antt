@@ -3,7 +3,9 @@ use Rattle.std.proofs.Common.{◌≡◌, ℕ, Bool, List, ◌∷◌, Option, Som
 use Rattle.tftp_capture.specs.{ReaderState}
 use Rattle.tftp_packet.specs.Hosts.{Datagram, Header}
 use Rattle.tftp_judge.specs.{Refuses, IsJudgeAfter, Judge, Refusal}
-use Rattle.judge_pair.specs.MatchTexts.{GoesOnAt, IsGiven, IsHalted, IsSeenAt, Seen, seen, RunsBy, Halt, Refused}
+use Rattle.judge_pair.specs.MatchTexts.{GoesOnAt, IsGiven, IsHalted, IsSeenAt, Seen, seen, RunsBy}
+use Rattle.judge_pair.specs.declared.match_texts.reading.Halt.{Halt}
+use Rattle.judge_pair.specs.declared.match_texts.reading.Halt.TheVariants.{Refused}
 
 -- ---- whether more is read
 

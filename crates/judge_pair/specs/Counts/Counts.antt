@@ -1,7 +1,8 @@
 -- How often each packet of a transfer passed at an end, and how many copies the network lost and made between two ends
 -- (RFC 1350, section 2). Lists have the newest datagram first.
 use Rattle.std.specs.Prelude.{◌≡◌, ◌≢◌, ◌⊎◌, ◌≤◌, ◌+◌, ◌*◌, ◌^◌, ◌-◌, ◌==◌, ◌&&◌, ℕ, zero, suc, Bool, List, [], ◌∷◌, if◌then◌else◌, length, slice_index_or, Option, Some, None}
-use Rattle.tftp_packet.specs.Hosts.{Dir, In, Out, Datagram}
+use Rattle.tftp_packet.specs.Hosts.{Datagram}
+use Rattle.tftp_packet.specs.{Dir, In, Out}
 use Rattle.law_model.specs.Rules.{comes_in, goes_out}
 use Rattle.judge_pair.specs.declared.counts.packets.CountedPacket.{CountedPacket}
 use Rattle.judge_pair.specs.declared.counts.packets.CountedPacket.TheVariants.{Opening, Error, Data, Ack}

@@ -1,7 +1,8 @@
 -- DATA 1, of which the server sent two copies and the client took one, and ACK 1, which the client sent once and the server
 -- took twice (RFC 1350, section 2). The newest first.
 use Rattle.std.specs.Prelude.{ℕ, List, [], ◌∷◌}
-use Rattle.tftp_packet.specs.Hosts.{Dir, In, Out, Datagram}
+use Rattle.tftp_packet.specs.Hosts.{Datagram}
+use Rattle.tftp_packet.specs.{Dir, In, Out}
 
 abbrev pub worked_datagram : Dir → List ℕ → Datagram
 worked_datagram dir payload = record { dir = dir; local = 40000; host = 45 ∷ []; remote = 41000; payload = payload }

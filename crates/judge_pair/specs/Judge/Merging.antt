@@ -1,7 +1,8 @@
 -- How far two captures are merged while they are read, and what waits. Lists have the newest datagram first.
 use Rattle.std.specs.Prelude.{◌≡◌, ℕ, true, List, ◌∷◌, Option, Some, None}
 use Rattle.tftp_packet.specs.{Message, Spells}
-use Rattle.tftp_packet.specs.Hosts.{In, Out, Datagram, Header}
+use Rattle.tftp_packet.specs.Hosts.{Datagram, Header}
+use Rattle.tftp_packet.specs.{In, Out}
 use Rattle.law_model.specs.Rules.{route_of, is_of_transfer, transfer_of, Passed}
 use Rattle.law_pair.specs.{AreMergedBy}
 use Rattle.judge_pair.specs.declared.judge.waiting.Wait.{Wait}

@@ -2,7 +2,8 @@
 use Rattle.std.specs.Prelude.{◌≡◌, ◌≤◌, ◌⊎◌, ℕ, List, length, take, reverse, Option, Some, None}
 use Rattle.tftp_packet.specs.Hosts.{Datagram}
 use Rattle.law_pair.specs.{Capture, IsSentLater, IsUnsent, begun, passed_in}
-use Rattle.judge_pair.specs.Counts.{AreCounted, AreLostBetween, AreRepeatedBetween, Counted, Carried}
+use Rattle.judge_pair.specs.Counts.{AreCounted, AreLostBetween, AreRepeatedBetween, Counted}
+use Rattle.judge_pair.specs.declared.counts.carried.Carried.{Carried}
 use Rattle.judge_pair.specs.declared.judge.waiting.Wait.{Wait}
 use Rattle.judge_pair.specs.declared.judge.waiting.Wait.TheVariants.{Unsent, SentLater}
 

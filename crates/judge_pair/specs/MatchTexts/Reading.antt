@@ -2,7 +2,7 @@
 use Rattle.std.specs.Prelude.{◌≡◌, ◌∷◌, ℕ, List, Bool, false, length, reverse, Option, Some, None, Result, Ok, Err}
 use Rattle.std.specs.Io.KnownBytes.{Consumes, prepend_known}
 use Rattle.tftp_capture.specs.{Numbered, GoesOn, ReaderState}
-use Rattle.net_streams.specs.Streams.{Open}
+use Rattle.net_streams.specs.{Open}
 use Rattle.tftp_packet.specs.Hosts.{Datagram, Header}
 use Rattle.law_model.specs.Model.{Meaning}
 use Rattle.tftp_judge.specs.{Refuses, IsOfText, unnumbered, IsVerdict, Refusal, Verdict, Capture, Refused as RefusedFor}

@@ -8,7 +8,8 @@ use Rattle.law_model.specs.Model.{Meaning}
 use Rattle.tftp_judge.specs.{IsOfText, Verdict, Capture, Refused}
 use Rattle.tftp_judge.specs.declared.refusal.Refusal.TheVariants as refusal
 use Rattle.law_pair.specs.{Capture as Captured, IsPairVerdict}
-use Rattle.judge_pair.specs.Judge.{AreCarried, AreCountsOf, IsWhyWaiting, Matched}
+use Rattle.judge_pair.specs.Judge.{AreCarried, AreCountsOf, IsWhyWaiting}
+use Rattle.judge_pair.specs.declared.judge.matched.Matched.{Matched}
 use Rattle.judge_pair.specs.MatchTexts.Judged.{IsJudged}
 use Rattle.judge_pair.specs.MatchTexts.Datagrams.{HasDatagrams, capture_of}
 use Rattle.judge_pair.specs.declared.match_texts.said.Apart.{Apart}

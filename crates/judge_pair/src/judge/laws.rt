@@ -2,7 +2,8 @@
 
 ghost use Rattle.std.specs.Prelude.{◌≡◌, ◌↔◌, ℕ, Bool, List, Option, length};
 ghost use Rattle.tftp_packet.specs.{Message};
-ghost use Rattle.tftp_packet.specs.Hosts.{Out, Header, Datagram};
+ghost use Rattle.tftp_packet.specs.Hosts.{Header, Datagram};
+ghost use Rattle.tftp_packet.specs.{Out};
 ghost use Rattle.law_model.specs.Rules.{transfer_of, Passed};
 ghost use Rattle.law_end.specs.{OneEnded};
 ghost use Rattle.tftp_judge.specs.{Transfer, IsTransferOf, AreFlags, HasSentBy};

@@ -1,6 +1,7 @@
 ghost use Rattle.std.specs.Prelude.{◌≡◌, ◌↔◌, ◌+◌, ◌^◌, ◌<◌, ◌≤◌, List, [], ◌∷◌, length, IsTrue, true, None, Some, is_some, Err, OnOk, IfOk, IfErr, IfNone, IfSome, ◌⊎◌};
 ghost use Rattle.tftp_capture.specs.{datagram_of, header_of};
-ghost use Rattle.tftp_packet.specs.Hosts.{Out, Datagram as DatagramParts, Header as HeaderParts};
+ghost use Rattle.tftp_packet.specs.Hosts.{Datagram as DatagramParts, Header as HeaderParts};
+ghost use Rattle.tftp_packet.specs.{Out};
 ghost use Rattle.law_model.specs.Rules.{is_of_transfer, route_of, transfer_of};
 ghost use Rattle.law_end.specs.{Passes};
 ghost use Rattle.tftp_judge.specs.{Refuses, AreFlags, flags_of, Refusal as RefusalKind};

@@ -1,5 +1,5 @@
 ghost use Rattle.std.specs.Prelude.{◌≡◌, ◌<◌, ◌≤◌, ◌^◌, true, false, None, is_some};
-ghost use Rattle.net_streams.specs.Streams.{Standing};
+ghost use Rattle.net_streams.specs.{Standing};
 ghost use Rattle.law_model.specs.Model.Roles.{other_end};
 ghost use Rattle.judge_pair.specs.Judge.{HasSame, side_at};
 ghost use Rattle.judge_pair.specs.MatchTexts.Merging.{BothRun, Runs, judge_at};

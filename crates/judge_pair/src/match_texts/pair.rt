@@ -1,7 +1,7 @@
 ghost use Rattle.std.specs.Prelude.{◌≡◌, ◌⊎◌, ◌↔◌, ℕ, List, false, true, Option, None, Some, Result, IfOk, IfErr};
 ghost use Rattle.std.specs.Io.KnownBytes.{Consumes, IsAtEnd};
 ghost use Rattle.tftp_capture.specs.{IsCapture, Numbered};
-ghost use Rattle.net_streams.specs.Streams.{Standing};
+ghost use Rattle.net_streams.specs.{Standing};
 ghost use Rattle.tftp_packet.specs.Hosts.{Header as HeaderParts};
 ghost use Rattle.law_model.specs.Model.{Meaning as MeaningParts};
 ghost use Rattle.tftp_judge.specs.{EndsText, IsOfText, IsReadVerdict, IsTextVerdict, SaysReadFailed, WantsMemory, Verdict as VerdictKind};

@@ -1,6 +1,6 @@
 ghost use Rattle.std.specs.Prelude.{◌≡◌, ◌<◌, ◌≤◌, ◌^◌, ℕ, List, length, true, false, Option, None, Some};
 ghost use Rattle.tftp_capture.specs.{datagram_of};
-ghost use Rattle.net_streams.specs.Streams.{Standing};
+ghost use Rattle.net_streams.specs.{Standing};
 ghost use Rattle.tftp_packet.specs.Hosts.{Datagram as DatagramParts, Header as HeaderParts};
 ghost use Rattle.tftp_judge.specs.{IsJudgeAfter, Judge as JudgeParts};
 ghost use Rattle.judge_pair.specs.MatchTexts.Reading.{GoesOnAt, IsGiven, IsHalted, said_by};

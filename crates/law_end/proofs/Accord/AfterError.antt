@@ -2,7 +2,8 @@
 use Rattle.std.proofs.Common.{◌≡◌, ℕ, Bool, true, false, List, ◌∷◌, Contains, inl, inr, refl, sym, subst, ap, ◌∙◌}
 use Rattle.std.proofs.lemmas.Bool.{true≢false}
 use Rattle.tftp_packet.specs.{Message}
-use Rattle.tftp_packet.specs.Hosts.{Dir, In, Out, Header}
+use Rattle.tftp_packet.specs.Hosts.{Header}
+use Rattle.tftp_packet.specs.{Dir, In, Out}
 use Rattle.law_model.specs.Model.{Meaning, MachinePacket, Error, Deed, Sent, Took, HasSent, HasTaken, NoErrorSent, message_of, MaySend, is_error, MayCome, IsOneSided}
 use Rattle.law_model.specs.Rules.{transfer_of, Passed}
 use Rattle.law_model.proofs.ModelLemmas.Cut.{sends_before_error}

@@ -5,7 +5,8 @@ use Rattle.std.proofs.lemmas.Nat.{mod_below, div-add-mod'}
 use Rattle.tftp_packet.specs.{Message}
 use Rattle.tftp_packet.specs.Hosts.{Datagram}
 use Rattle.law_model.specs.Model.{block, block_count}
-use Rattle.law_model.specs.Rules.{HasPassed, IsLast, BlockBreaks, HasWrongLength, IsNotLengthOf, EndRule, Terms}
+use Rattle.law_model.specs.Rules.{HasPassed, IsLast, BlockBreaks, HasWrongLength, IsNotLengthOf}
+use Rattle.law_model.specs.{EndRule, Terms}
 use Rattle.law_model.proofs.RulesLemmas.Joined.{length_block, whole_block, last_block}
 
 module _ (wire : List ℕ) (t : Terms) (some : 0 < t.blksize) (numbered : block_count t.blksize wire ≤ 65535) (size : (size : ℕ) → t.size ≡ Some size → length wire ≡ size)

@@ -1,7 +1,8 @@
 -- The first answer to a request is the one that the meaning tells.
 use Rattle.std.proofs.Common.{◌≡◌, ◌⊎◌, ℕ, zero, suc, List, [], ◌∷◌, inl, inr, refl, sym, subst, arith}
 use Rattle.tftp_packet.specs.{Message, RequestParts, Spells, Side, Get, Put, End, OptionMap}
-use Rattle.tftp_packet.specs.Hosts.{Dir, In, Out, Datagram, Header}
+use Rattle.tftp_packet.specs.Hosts.{Datagram, Header}
+use Rattle.tftp_packet.specs.{Dir, In, Out}
 use Rattle.tftp_packet.proofs.Unique.{one_message}
 use Rattle.law_model.specs.Model.{Meaning, request_of, SomethingAgreed, NothingAgreed, Req, Oack, Data, Ack, Deed, Sent, Took, History, HasSent, HasTaken, message_of, IsStartedOn, MayAckZeroOn, MaySend, Error, LetsStartOn, LetsAckZeroOn, MayCome, IsOneSided, heard}
 use Rattle.law_model.specs.Rules.{Route, route_of, is_of_transfer, transfer_of, Passed}

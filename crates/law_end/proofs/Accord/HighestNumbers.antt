@@ -2,7 +2,8 @@
 use Rattle.std.proofs.Common.{◌≡◌, ◌⊎◌, ℕ, zero, suc, ◌+◌, ◌<◌, ◌≤◌, List, [], ◌∷◌, length, inl, inr, refl, sym, subst, arith, if◌then◌else◌}
 use Rattle.std.proofs.lemmas.Bool.{cases_lt, cases_eq}
 use Rattle.tftp_packet.specs.{Message, Request, Data, Ack, Error, Oack, Spells}
-use Rattle.tftp_packet.specs.Hosts.{Dir, In, Out, Datagram, Header}
+use Rattle.tftp_packet.specs.Hosts.{Datagram, Header}
+use Rattle.tftp_packet.specs.{Dir, In, Out}
 use Rattle.law_model.specs.Rules.{Route, route_of, is_of_transfer, transfer_of, Passed, HasPassed, BlockPassed, IsGreatest, IsTop, IsAnswered, IsAcked, IsHigh, IsFront}
 use Rattle.law_end.specs.{IsRead, OneEnded}
 use Rattle.law_end.proofs.Spelled.{spelled_once}

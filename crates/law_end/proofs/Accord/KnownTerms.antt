@@ -2,11 +2,13 @@
 use Rattle.std.proofs.Common.{◌≡◌, ◌⊎◌, ℕ, ◌<◌, ◌≤◌, List, [], ◌∷◌, Contains, length, Some, None, codes, inl, inr, refl, sym, subst, ap, ◌∙◌, arith}
 use Rattle.std.specs.FinMap as map
 use Rattle.tftp_packet.specs.{Message, Side, Get, Put}
-use Rattle.tftp_packet.specs.Hosts.{Dir, In, Out, Datagram, Header}
+use Rattle.tftp_packet.specs.Hosts.{Datagram, Header}
+use Rattle.tftp_packet.specs.{Dir, In, Out}
 use Rattle.tftp_nego.specs.{AreInRange}
 use Rattle.law_model.specs.Model.{Meaning, request_of, SomethingAgreed, NothingAgreed, blksize_of, windowsize_of, block, block_count, Oack, Ack, Deed, Sent, Took, History, HasSent, HasTaken, message_of, IsStartedOn, LetsStartOn, IsOneSided, heard}
 use Rattle.law_model.specs.Model.Roles.{sender_of, receiver_of}
-use Rattle.law_model.specs.Rules.{transfer_of, Passed, HasPassed, IsSender, IsReceiver, BlocksWait, usable, NoReply, Plain, Oacked, Terms}
+use Rattle.law_model.specs.Rules.{transfer_of, Passed, HasPassed, IsSender, IsReceiver, BlocksWait, usable}
+use Rattle.law_model.specs.{NoReply, Plain, Oacked, Terms}
 use Rattle.law_model.proofs.ModelLemmas.Defaults.{default_blksize, default_windowsize}
 use Rattle.tftp_nego.proofs.Numbers.{map_in_range}
 use Rattle.law_end.specs.{Fits, Division, datagrams_of, view_in, dir_of, packet_of, AreRouted, Agrees, Begins, NotAnswered, FirstAnswer, plain_terms, terms_after, AreTermsAfter}

@@ -2,11 +2,13 @@
 use Rattle.std.proofs.Common.{◌≡◌, ℕ, ◌+◌, ◌≤◌, Bool, true, false, List, [], ◌∷◌, Contains, inl, inr, refl, sym, subst, ap, ◌∙◌, arith, if◌then◌else◌}
 use Rattle.std.proofs.lemmas.Bool.{false≢true, true≢false}
 use Rattle.tftp_packet.specs.{Message, Spells, side_opcode, Side, Get, Put, opcode_of}
-use Rattle.tftp_packet.specs.Hosts.{Dir, In, Out, Datagram, Header}
+use Rattle.tftp_packet.specs.Hosts.{Datagram, Header}
+use Rattle.tftp_packet.specs.{Dir, In, Out}
 use Rattle.tftp_packet.proofs.Unique.{one_message}
 use Rattle.law_model.specs.Model.{Meaning, blksize_of, windowsize_of, block, MachinePacket, Req, Oack, Data, Ack, Deed, Sent, Took, History, HasSent, HasTaken, message_of, MaySendAck, Error, MayComeData, MayComeAck, is_error, takes_error, heard}
 use Rattle.law_model.specs.Model.Machines.{sender_of, receiver_of}
-use Rattle.law_model.specs.Rules.{route_of, is_of_transfer, transfer_of, goes_out, begins_error, Passed, BlockPassed, IsSender, IsReceiver, AckBreaks, BlockBreaks, usable, brings_error, EndRule, Terms}
+use Rattle.law_model.specs.Rules.{route_of, is_of_transfer, transfer_of, goes_out, begins_error, Passed, BlockPassed, IsSender, IsReceiver, AckBreaks, BlockBreaks, usable, brings_error}
+use Rattle.law_model.specs.{EndRule, Terms}
 use Rattle.std.specs.List.{list_any}
 use Rattle.std.proofs.Common.{◌&&◌, ◌||◌, ◌==◌}
 use Rattle.law_model.proofs.ModelLemmas.Stops.{stopped, either, heard_all, heard_stopped, heard_more, heard_sent}

@@ -1,7 +1,7 @@
 -- Which end sends which kind of message.
 use Rattle.std.proofs.Common.{◌≡◌, ℕ, List, refl, sym, ◌∙◌}
 use Rattle.tftp_packet.specs.{OptionMap, Message, RequestParts, Side, Get, Put, End, Client, Server}
-use Rattle.tftp_packet.specs.Hosts.{In, Out}
+use Rattle.tftp_packet.specs.{In, Out}
 use Rattle.law_model.specs.Model.Roles.{sender_of, receiver_of}
 use Rattle.law_model.specs.Rules.{author_of}
 use Rattle.law_end.specs.{IsWrongKind}

@@ -2,11 +2,13 @@
 -- no rule.
 use Rattle.std.proofs.Common.{◌≡◌, ◌⊎◌, ℕ, ◌+◌, ◌-◌, ◌<◌, ◌≤◌, List, ◌∷◌, inl, inr, refl, sym, subst, ◌∙◌, arith}
 use Rattle.tftp_packet.specs.{Message, Side, Get, Put, End, Client, Server}
-use Rattle.tftp_packet.specs.Hosts.{Dir, In, Out, Datagram, Header}
+use Rattle.tftp_packet.specs.Hosts.{Datagram, Header}
+use Rattle.tftp_packet.specs.{Dir, In, Out}
 use Rattle.tftp_nego.specs.{NegoFault}
 use Rattle.law_model.specs.Model.{Meaning, request_of, SomethingAgreed, NothingAgreed, blksize_of, block, block_count, MachinePacket, Req, Oack, Data, Ack, Deed, Sent, Took, History, HasSent, message_of, MayAckZeroOn, MaySend, MaySendReq, MaySendData, MaySendAck, Error, LetsAckZeroOn, MayCome, MayComeData, MayComeAck, IsOneSided, heard}
 use Rattle.law_model.specs.Model.Roles.{sender_of, receiver_of}
-use Rattle.law_model.specs.Rules.{author_of, transfer_of, Passed, HasPassed, AckZeroWaits, BlockBreaks, AckBreaks, EndBroken, usable, EndRule, NoReply, Plain, Oacked, Terms}
+use Rattle.law_model.specs.Rules.{author_of, transfer_of, Passed, HasPassed, AckZeroWaits, BlockBreaks, AckBreaks, EndBroken, usable}
+use Rattle.law_model.specs.{EndRule, NoReply, Plain, Oacked, Terms}
 use Rattle.law_end.specs.{Fits, Division, datagrams_of, view_in, dir_of, packet_of, AreRouted, Answer, Agrees, Begins, NotAnswered, FirstAnswer, IsWrongKind, RequestBreaks, OackBreaks, TermsBreak, MessageBreaks, Rule}
 use Rattle.tftp_nego.proofs.Tested.{agreement_kept, no_fault}
 use Rattle.law_end.proofs.FirstBroken.FirstAnswered.{first_one, not_both as answered_not}

@@ -3,7 +3,8 @@ use Rattle.std.proofs.Common.{◌≡◌, ℕ, true, List, [], ◌∷◌, Option,
 use Rattle.tftp_packet.specs.{Message, RequestParts, Spells, End, Client, Server}
 use Rattle.tftp_packet.specs.Hosts.{Datagram, Header}
 use Rattle.law_model.specs.Model.{Meaning, request_of, MachinePacket, Req, Oack, Data, Ack, Error, Deed, Sent, Took, History, message_of, IsOneSided}
-use Rattle.law_model.specs.Rules.{Route, asks, first_of, route_of, is_of_transfer, transfer_of, SaysUnknownId, PortRule, PortBroken}
+use Rattle.law_model.specs.Rules.{Route, asks, first_of, route_of, is_of_transfer, transfer_of, SaysUnknownId, PortBroken}
+use Rattle.law_model.specs.{PortRule}
 use Rattle.law_end.specs.{Fits, says_of, Label, Main, Stray, Division, datagrams_of, view_in, dir_of, packet_of, request_at, Starts, Accords, packet_route, label_route, SaysAs, AreRouted, Agrees, Begins, Broken, MessageBreaks, Rule, IsRead, Passes, OneEnded}
 use Rattle.law_end.proofs.Division.Unasked.{none_view}
 use Rattle.law_end.specs.Dress.{StrayAnswer}

@@ -2,7 +2,8 @@
 use Rattle.std.proofs.Common.{◌≡◌, ◌⊎◌, ℕ, true, List, [], ◌∷◌, Option, Some, option_map, Any, inl, inr, refl, sym, ap, ◌∙◌, ◌&&◌, ◌==◌}
 use Rattle.std.proofs.lemmas.Bool.{and_parts, eqb-true}
 use Rattle.tftp_packet.specs.{Client}
-use Rattle.tftp_packet.specs.Hosts.{In, Out, Datagram, Header, PeerId, peer_of}
+use Rattle.tftp_packet.specs.Hosts.{Datagram, Header, PeerId, peer_of}
+use Rattle.tftp_packet.specs.{In, Out}
 use Rattle.law_model.specs.Model.{Req, Oack, Data, Ack, Deed, Sent, Took, Error}
 use Rattle.law_model.specs.Rules.{Route, goes_out, comes_in, begins_request, asks, first_of, route_at_client, route_of}
 use Rattle.law_end.specs.Dress.{StrayAnswer}

@@ -1,9 +1,11 @@
 -- A list that finds its places divides, in one way, which is that of its routes.
 use Rattle.std.proofs.Common.{◌≡◌, ℕ, ◌≤◌, Bool, true, false, List, [], ◌∷◌, Some, inl, inr, refl, sym, subst, ap, ◌∙◌, arith, ◌||◌, ◌==◌}
 use Rattle.tftp_packet.specs.{Message, RequestParts, Spells, opcode_of, End, Client, Server}
-use Rattle.tftp_packet.specs.Hosts.{Dir, In, Out, Datagram, Header}
+use Rattle.tftp_packet.specs.Hosts.{Datagram, Header}
+use Rattle.tftp_packet.specs.{Dir, In, Out}
 use Rattle.law_model.specs.Model.{Meaning, MachinePacket, Req, Oack, Data, Ack, Deed, Sent, Took, message_of, Error, IsOneSided}
-use Rattle.law_model.specs.Rules.{Route, asks, first_of, route_of, is_of_transfer, PortRule}
+use Rattle.law_model.specs.Rules.{Route, asks, first_of, route_of, is_of_transfer}
+use Rattle.law_model.specs.{PortRule}
 use Rattle.tftp_packet.proofs.NoFault.{no_fault}
 use Rattle.law_end.specs.Dress.{StrayAnswer}
 use Rattle.law_end.specs.{Label, Main, Stray, Division, datagrams_of, view_in, dir_of, packet_of, TransferIds, says_of, HasLabelBy, HaveLabelsBy, HaveLabels, packet_route, label_route, SaysAsBy, AreRoutedBy, request_at, request_back, Starts, packet_in, says_some, FindsPlace, FindPlaces, Divides, Broken, number_of, IsRead, Rule}

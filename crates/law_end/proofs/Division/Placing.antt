@@ -1,7 +1,8 @@
 -- What stands where in a division.
 use Rattle.std.proofs.Common.{◌≡◌, ℕ, [], ◌∷◌, Any, inl, inr, refl, sym, subst, ◌∙◌, true, Some}
 use Rattle.tftp_packet.specs.{End, Server}
-use Rattle.tftp_packet.specs.Hosts.{In, Out, Datagram, Header, PeerId, peer_of, Dir}
+use Rattle.tftp_packet.specs.Hosts.{Datagram, Header, PeerId, peer_of}
+use Rattle.tftp_packet.specs.{In, Out, Dir}
 use Rattle.law_end.specs.Dress.{StrayAnswer}
 use Rattle.law_end.specs.{Label, Main, Stray, Labelled, Division, view_in, TransferIds, Saying, ComesAstray, HasLabelBy, HaveLabelsBy, IsMain, datagrams_of, Carries, Starts, request_at, from_server}
 use Rattle.law_end.proofs.Division.Divided.{any_none, any_cases, any_first, any_later}

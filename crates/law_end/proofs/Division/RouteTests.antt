@@ -3,7 +3,8 @@ use Rattle.std.proofs.Common.{◌≡◌, ◌⊎◌, ℕ, Bool, true, false, List
 use Rattle.std.proofs.lemmas.Bool.{false≢true, eqb-true, eq-eqb, false_from_ne_true, and_from, and_parts}
 use Rattle.std.proofs.lemmas.Slice.Eq.{bytes_eq-Decides}
 use Rattle.tftp_packet.specs.{Message, RequestParts, Spells, side_opcode, opcode_of, Side, Get, Put}
-use Rattle.tftp_packet.specs.Hosts.{In, Out, Datagram, PeerId, same_peer}
+use Rattle.tftp_packet.specs.Hosts.{Datagram, PeerId, same_peer}
+use Rattle.tftp_packet.specs.{In, Out}
 use Rattle.law_model.specs.Model.{Meaning, MachinePacket, Req, Oack, Data, Ack, message_of, Error}
 use Rattle.law_model.specs.Rules.{goes_out, comes_in, begins_request, begins_error, first_of, or_this}
 use Rattle.law_end.specs.{Saying}

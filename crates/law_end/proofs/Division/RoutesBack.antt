@@ -2,7 +2,8 @@
 use Rattle.std.proofs.Common.{◌≡◌, ◌⊎◌, ℕ, Bool, true, false, List, [], ◌∷◌, Option, Some, None, option_map, Any, inl, inr, refl, sym, subst, ap, ◌∙◌, if◌then◌else◌, not, ◌||◌, ◌&&◌, ◌==◌}
 use Rattle.std.proofs.lemmas.Bool.{false≢true, true≢false, and_parts, eqb-true}
 use Rattle.tftp_packet.specs.{End, Client, Server, opcode_of}
-use Rattle.tftp_packet.specs.Hosts.{Dir, In, Out, Datagram, Header, PeerId, peer_of, same_peer}
+use Rattle.tftp_packet.specs.Hosts.{Datagram, Header, PeerId, peer_of, same_peer}
+use Rattle.tftp_packet.specs.{Dir, In, Out}
 use Rattle.law_model.specs.Rules.{Route, goes_out, comes_in, begins_request, begins_error, is_from_client, port_of_server, asks, first_of, or_this, has_come_from, route_out, route_at_client, route_to_service, route_at_server, route_after, route_of}
 use Rattle.law_end.specs.{Labelled, Division, datagrams_of, dir_of, BeginsAsRequest, request_at}
 use Rattle.law_end.proofs.FirstBroken.FirstRequests.{asks_is, or_some, before_is}

@@ -2,7 +2,8 @@
 use Rattle.std.proofs.Common.{◌≡◌, ◌⊎◌, ℕ, Bool, List, [], ◌∷◌, Option, Some, option_map, Any, inl, inr, refl, sym, ◌∙◌, ◌&&◌, ◌==◌}
 use Rattle.std.proofs.lemmas.Bool.{false≢true, and_from, and_parts, eqb-true, eq-eqb}
 use Rattle.tftp_packet.specs.{Server}
-use Rattle.tftp_packet.specs.Hosts.{In, Out, Datagram, Header, peer_of, same_peer}
+use Rattle.tftp_packet.specs.Hosts.{Datagram, Header, peer_of, same_peer}
+use Rattle.tftp_packet.specs.{In, Out}
 use Rattle.law_model.specs.Model.{Req, Oack, Data, Ack, Deed, Sent, Took, Error}
 use Rattle.law_model.specs.Rules.{Route, goes_out, comes_in, begins_request, asks, first_of, route_at_server, route_of}
 use Rattle.law_end.specs.Dress.{StrayAnswer}

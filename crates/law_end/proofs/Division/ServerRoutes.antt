@@ -2,7 +2,8 @@
 use Rattle.std.proofs.Common.{◌≡◌, ◌⊎◌, ℕ, ◌+◌, ◌*◌, Bool, true, false, List, [], ◌∷◌, Option, Some, None, Any, inl, inr, refl, sym, subst, ◌∙◌, arith, ◌&&◌, ◌||◌, ◌==◌}
 use Rattle.std.proofs.lemmas.Bool.{false≢true, and_from, and_parts, eqb-true, false_from_ne_true, or_cases}
 use Rattle.tftp_packet.specs.{opcode_of, Server}
-use Rattle.tftp_packet.specs.Hosts.{In, Out, Datagram, Header, peer_of, same_peer}
+use Rattle.tftp_packet.specs.Hosts.{Datagram, Header, peer_of, same_peer}
+use Rattle.tftp_packet.specs.{In, Out}
 use Rattle.law_model.specs.Model.{MachinePacket, Req, Oack, Data, Ack, Deed, Sent, Took, History, Error}
 use Rattle.law_model.specs.Rules.{Route, goes_out, comes_in, begins_request, begins_error, asks, first_of, has_come_from, route_of}
 use Rattle.law_end.specs.Dress.{StrayAnswer}

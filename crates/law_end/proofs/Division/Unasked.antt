@@ -2,7 +2,8 @@
 use Rattle.std.proofs.Common.{◌≡◌, true, false, [], ◌∷◌, None, Any, inl, inr, refl, sym, ap, ◌∙◌, ◌&&◌}
 use Rattle.std.proofs.lemmas.Bool.{false≢true, and_parts, or_cases}
 use Rattle.tftp_packet.specs.{End, Client, Server}
-use Rattle.tftp_packet.specs.Hosts.{In, Datagram, Header, PeerId, peer_of, same_peer}
+use Rattle.tftp_packet.specs.Hosts.{Datagram, Header, PeerId, peer_of, same_peer}
+use Rattle.tftp_packet.specs.{In}
 use Rattle.law_model.specs.Rules.{Route, comes_in, asks, first_of, has_come_from, route_of}
 use Rattle.law_end.specs.Dress.{StrayAnswer}
 use Rattle.law_end.specs.{Label, Main, Stray, Division, datagrams_of, view_in, packet_of, TransferIds, Saying, HasLabelBy, HaveLabelsBy, packet_route, label_route, AreRoutedBy, request_at, Starts}

@@ -3,7 +3,8 @@ use Rattle.std.proofs.Common.{◌≡◌, Bool, true, false, List, [], ◌∷◌,
 use Rattle.std.proofs.lemmas.Bool.{false≢true, true≢false}
 use Rattle.tftp_packet.specs.{RequestParts, Side}
 use Rattle.tftp_packet.specs.Hosts.{Datagram, Header}
-use Rattle.law_model.specs.Rules.{or_this, transfer_of, Terms}
+use Rattle.law_model.specs.Rules.{or_this, transfer_of}
+use Rattle.law_model.specs.{Terms}
 use Rattle.law_end.specs.{FirstAsked, Answer, Answers, NotAnswered, FirstAnswer, terms_after, AreTerms, AreTermsAfter}
 use Rattle.law_end.proofs.Spelled.{spelled_once}
 use Rattle.law_end.proofs.FirstBroken.Answering.{answer_of, answer_is}

@@ -3,8 +3,10 @@ use Rattle.std.proofs.Common.{◌≡◌, ◌<◌, ◌≤◌, true, false, List, 
 use Rattle.std.proofs.lemmas.Bool.{false≢true}
 use Rattle.tftp_packet.specs.{OptionMap, Message, RequestParts, Spells}
 use Rattle.tftp_packet.proofs.NoFault.{no_fault}
-use Rattle.tftp_packet.specs.Hosts.{Dir, Datagram, Header}
-use Rattle.law_model.specs.Rules.{Route, asks, first_of, route_of, is_of_transfer, transfer_of, PortRule, PortBroken, EndBroken, Terms, EndRule}
+use Rattle.tftp_packet.specs.Hosts.{Datagram, Header}
+use Rattle.tftp_packet.specs.{Dir}
+use Rattle.law_model.specs.Rules.{Route, asks, first_of, route_of, is_of_transfer, transfer_of, PortBroken, EndBroken}
+use Rattle.law_model.specs.{PortRule, Terms, EndRule}
 use Rattle.law_model.proofs.RulesLemmas.EndRules.{from_18}
 use Rattle.tftp_nego.specs.{AgreementRule}
 use Rattle.law_end.specs.{number_of, FirstBroken, FirstAsked, Broken, MessageBroken, AreTermsAfter, RequestBreaks, OackBreaks, TermsBreak, KindBreaks, MessageBreaks, Rule}

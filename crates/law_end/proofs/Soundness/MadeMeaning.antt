@@ -8,7 +8,8 @@ use Rattle.tftp_packet.specs.{OptionMap, OptionValue, Num, Text, no_options, is_
 use Rattle.tftp_nego.specs.{number_or, option_or, MayAgree, AreInRange, Holds, NegoFault}
 use Rattle.tftp_packet.specs.Hosts.{Datagram, Header}
 use Rattle.law_model.specs.Model.{Meaning, request_of, block, block_count}
-use Rattle.law_model.specs.Rules.{asks, first_of, or_this, route_of, is_of_transfer, transfer_of, HasPassed, NoReply, Plain, Terms, EndRule}
+use Rattle.law_model.specs.Rules.{asks, first_of, or_this, route_of, is_of_transfer, transfer_of, HasPassed}
+use Rattle.law_model.specs.{NoReply, Plain, Terms, EndRule}
 use Rattle.tftp_nego.proofs.Numbers.{map_in_range}
 use Rattle.tftp_netascii.proofs.DecoderLemmas.{Reads-exists}
 use Rattle.law_end.specs.{ReadsAs, FirstAsked, Answer, Agrees, Begins, IsAnswer, Answers, NotAnswered, FirstAnswer, size_from, plain_terms, terms_after, OackBreaks, Rule, Passes, OneEnded, Accords, AreTermsAfter}

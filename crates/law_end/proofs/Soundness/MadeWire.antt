@@ -5,9 +5,11 @@ use Rattle.std.proofs.lemmas.Nat.{div-mul-add, mod_below, div-add-mod'}
 use Rattle.std.proofs.lemmas.List.{length-append, length-replicate}
 use Rattle.std.proofs.lemmas.Bool.{cases_lt, cases_eq}
 use Rattle.tftp_packet.specs.{Message, Side}
-use Rattle.tftp_packet.specs.Hosts.{Dir, Datagram}
+use Rattle.tftp_packet.specs.Hosts.{Datagram}
+use Rattle.tftp_packet.specs.{Dir}
 use Rattle.law_model.specs.Model.{block, block_count}
-use Rattle.law_model.specs.Rules.{Passed, HasPassed, IsLast, LastIsUnknown, Terms}
+use Rattle.law_model.specs.Rules.{Passed, HasPassed, IsLast, LastIsUnknown}
+use Rattle.law_model.specs.{Terms}
 use Rattle.law_model.proofs.RulesLemmas.Joined.{block_added, block_kept, size_more}
 use Rattle.law_end.proofs.Accord.HighestNumbers.{AllSpelled, has_block, high_of}
 use Rattle.law_end.proofs.Soundness.Settled.{Settled, known_last, last_one}

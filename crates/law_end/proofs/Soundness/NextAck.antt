@@ -2,10 +2,12 @@
 use Rattle.std.proofs.Common.{◌≡◌, ℕ, ◌≤◌, List, inl, inr, refl, sym, subst, ap, ◌∙◌, arith}
 use Rattle.std.proofs.lemmas.Bool.{cases_lt}
 use Rattle.tftp_packet.specs.{Message, Spells, Side, Get, Put}
-use Rattle.tftp_packet.specs.Hosts.{In, Out, Datagram, Header}
+use Rattle.tftp_packet.specs.Hosts.{Datagram, Header}
+use Rattle.tftp_packet.specs.{In, Out}
 use Rattle.law_model.specs.Model.{Meaning, request_of, SomethingAgreed, NothingAgreed, Ack, History, MayAckZeroOn, MaySendAck, heard, LetsAckZeroOn, MayComeAck}
 use Rattle.law_model.specs.Model.Roles.{sender_of, receiver_of}
-use Rattle.law_model.specs.Rules.{transfer_of, usable, AckZeroWaits, EndRule, NoReply, Plain, Oacked, Terms}
+use Rattle.law_model.specs.Rules.{transfer_of, usable, AckZeroWaits}
+use Rattle.law_model.specs.{EndRule, NoReply, Plain, Oacked, Terms}
 use Rattle.law_end.specs.{Division, datagrams_of, view_in, Agrees, Begins, IsAnswer, FirstAnswer, plain_terms, terms_after, AreTermsAfter}
 use Rattle.law_end.proofs.Accord.HighestNumbers.{top_of, front_of}
 use Rattle.law_end.proofs.Accord.PassedIsDone.{block_sent, block_came, usable_passed}

@@ -2,10 +2,12 @@
 use Rattle.std.proofs.Common.{◌≡◌, ◌⊎◌, ℕ, ◌+◌, ◌-◌, ◌≤◌, List, ◌∷◌, inl, inr, refl, sym, subst, ap, ◌∙◌, arith}
 use Rattle.std.proofs.lemmas.Bool.{cases_lt, cases_eq}
 use Rattle.tftp_packet.specs.{Message, Spells, Side, Get, Put}
-use Rattle.tftp_packet.specs.Hosts.{Dir, In, Out, Datagram, Header}
+use Rattle.tftp_packet.specs.Hosts.{Datagram, Header}
+use Rattle.tftp_packet.specs.{Dir, In, Out}
 use Rattle.law_model.specs.Model.{Meaning, request_of, SomethingAgreed, NothingAgreed, blksize_of, windowsize_of, block, block_count, Data, Ack, History, HasSent, HasTaken, IsStartedOn, MaySendData, heard, LetsStartOn, MayComeData}
 use Rattle.law_model.specs.Model.Roles.{sender_of, receiver_of}
-use Rattle.law_model.specs.Rules.{transfer_of, Passed, HasPassed, usable, BlocksWait, EndRule, NoReply, Oacked, Terms}
+use Rattle.law_model.specs.Rules.{transfer_of, Passed, HasPassed, usable, BlocksWait}
+use Rattle.law_model.specs.{EndRule, NoReply, Oacked, Terms}
 use Rattle.law_end.specs.{Division, datagrams_of, view_in, Agrees, Begins, IsAnswer, FirstAnswer, plain_terms, terms_after, AreTermsAfter}
 use Rattle.law_end.proofs.Accord.HighestNumbers.{top_of, answered_of, acked_of}
 use Rattle.law_end.proofs.Accord.PassedIsDone.{block_sent, ack_went, ack_came_in, sent_block, usable_passed, used_ack}

@@ -2,9 +2,11 @@
 use Rattle.std.proofs.Common.{◌≡◌, ◌⊎◌, ℕ, true, List, [], ◌∷◌, inl, inr, refl, sym, subst, ◌&&◌, if◌then◌else◌, Bool, false}
 use Rattle.std.specs.List.{list_any}
 use Rattle.tftp_packet.specs.{Message, Spells, Client, Server}
-use Rattle.tftp_packet.specs.Hosts.{Dir, In, Out, Datagram, Header}
+use Rattle.tftp_packet.specs.Hosts.{Datagram, Header}
+use Rattle.tftp_packet.specs.{Dir, In, Out}
 use Rattle.law_model.specs.Model.{Meaning, request_of, SomethingAgreed, NothingAgreed, message_of, MachinePacket, Req, Oack, Data, Ack, Error, Sent, Took, History, HasSent, HasTaken, NoErrorSent, is_error, heard, IsOneSided}
-use Rattle.law_model.specs.Rules.{author_of, goes_out, route_of, is_of_transfer, transfer_of, Passed, HasPassed, usable, EndBroken, brings_error, EndRule, NoReply, Terms}
+use Rattle.law_model.specs.Rules.{author_of, goes_out, route_of, is_of_transfer, transfer_of, Passed, HasPassed, usable, EndBroken, brings_error}
+use Rattle.law_model.specs.{EndRule, NoReply, Terms}
 use Rattle.law_end.specs.{Division, datagrams_of, view_in, Accords, AreRouted, Starts, FirstAsked, Agrees, Begins, IsAnswer, NotAnswered, FirstAnswer, plain_terms, terms_after, IsWrongKind, GoesOn, MessageBreaks, Rule, Passes, OneEnded, AreTermsAfter}
 use Rattle.law_end.proofs.Accord.HighestNumbers.{AllSpelled, transfer_spelled}
 use Rattle.law_end.proofs.FirstBroken.FirstAnswered.{main_some}

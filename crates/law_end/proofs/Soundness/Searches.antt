@@ -2,7 +2,8 @@
 use Rattle.std.proofs.Common.{◌≡◌, ◌⊎◌, ℕ, List, [], ◌∷◌, inl, inr, refl, subst, ap}
 use Rattle.std.proofs.lemmas.Bool.{cases_eq}
 use Rattle.tftp_packet.specs.{OptionMap, Message, Spells, Side, Put}
-use Rattle.tftp_packet.specs.Hosts.{Dir, In, Out, Datagram}
+use Rattle.tftp_packet.specs.Hosts.{Datagram}
+use Rattle.tftp_packet.specs.{Dir, In, Out}
 use Rattle.law_model.specs.Rules.{Passed, HasPassed}
 use Rattle.law_end.specs.{Agrees, Begins, IsAnswer, FirstAnswer}
 use Rattle.law_end.proofs.Accord.HighestNumbers.{AllSpelled, scan}

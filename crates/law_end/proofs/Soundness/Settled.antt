@@ -5,7 +5,8 @@ use Rattle.std.proofs.lemmas.Slice.Eq.{bytes_eq-Decides}
 use Rattle.std.specs.Str.{bytes_eq}
 use Rattle.tftp_packet.specs.{OptionMap, Message, RequestParts, Spells, Side, Get, Put}
 use Rattle.tftp_packet.specs.Hosts.{Datagram, Header}
-use Rattle.law_model.specs.Rules.{or_this, first_of, asks, route_of, is_of_transfer, transfer_of, HasPassed, IsLast, LastIsUnknown, IsNotLengthOf, BlocksWait, EndBroken, usable, NoReply, Terms, EndRule}
+use Rattle.law_model.specs.Rules.{or_this, first_of, asks, route_of, is_of_transfer, transfer_of, HasPassed, IsLast, LastIsUnknown, IsNotLengthOf, BlocksWait, EndBroken, usable}
+use Rattle.law_model.specs.{NoReply, Terms, EndRule}
 use Rattle.law_end.specs.{FirstAsked, Agrees, Begins, IsAnswer, Answers, NotAnswered, plain_terms, AreTerms, Passes, OneEnded, AreTermsAfter}
 use Rattle.law_end.proofs.Spelled.{spelled_once}
 use Rattle.law_end.proofs.Accord.HighestNumbers.{AllSpelled, transfer_spelled, has_short, high_of}

@@ -4,7 +4,8 @@ use Rattle.tftp_packet.specs.{RequestParts}
 use Rattle.tftp_packet.specs.Hosts.{Datagram, Header}
 use Rattle.law_model.specs.Model.{Meaning, request_of, NothingAgreed, blksize_of, block_count, Ack, HasSent, HasTaken, IsOneSided, IsComplete}
 use Rattle.law_model.specs.Model.Roles.{sender_of, receiver_of}
-use Rattle.law_model.specs.Rules.{transfer_of, IsLast, IsSender, IsReceiver, Terms}
+use Rattle.law_model.specs.Rules.{transfer_of, IsLast, IsSender, IsReceiver}
+use Rattle.law_model.specs.{Terms}
 use Rattle.law_end.specs.{Division, datagrams_of, view_in, Accords, AreRouted, NotAnswered, IsEnded, AreTermsAfter}
 use Rattle.law_end.proofs.FirstBroken.FirstAnswered.{not_both}
 use Rattle.law_end.proofs.Soundness.Settled.{settled}

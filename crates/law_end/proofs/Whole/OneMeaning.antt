@@ -10,7 +10,8 @@ use Rattle.tftp_nego.specs.{number_or, AreInRange}
 use Rattle.tftp_nego.proofs.Numbers.{map_in_range, blksize_range}
 use Rattle.tftp_packet.specs.Hosts.{Datagram, Header}
 use Rattle.law_model.specs.Model.{Meaning, request_of, block, block_count}
-use Rattle.law_model.specs.Rules.{transfer_of, IsLast, Terms}
+use Rattle.law_model.specs.Rules.{transfer_of, IsLast}
+use Rattle.law_model.specs.{Terms}
 use Rattle.law_end.proofs.Soundness.Settled.{Settled, settled, last_one}
 use Rattle.law_end.proofs.FirstBroken.FirstAnswered.{first_one, terms_one}
 use Rattle.law_end.proofs.FirstBroken.FirstRequests.{asked_once}

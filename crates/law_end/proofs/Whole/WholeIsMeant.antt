@@ -4,7 +4,8 @@ use Rattle.tftp_packet.specs.{Message, Side, Get, Put, End, Client, Server}
 use Rattle.tftp_packet.specs.Hosts.{Datagram, Header}
 use Rattle.law_model.specs.Model.{Meaning, request_of, NothingAgreed, blksize_of, block, block_count, Req, Oack, Data, Ack, Deed, History, Sent, Took, HasSent, HasTaken, heard, LetsStartOn, MayCome, IsOneSided, IsComplete}
 use Rattle.law_model.specs.Model.Roles.{sender_of, receiver_of}
-use Rattle.law_model.specs.Rules.{asks, first_of, transfer_of, HasPassed, IsSender, IsReceiver, NoReply, Terms}
+use Rattle.law_model.specs.Rules.{asks, first_of, transfer_of, HasPassed, IsSender, IsReceiver}
+use Rattle.law_model.specs.{NoReply, Terms}
 use Rattle.law_model.proofs.ModelLemmas.Members.{contains_cases, contains_none}
 use Rattle.law_model.proofs.ModelLemmas.Stops.{heard_more}
 use Rattle.law_end.specs.{Fits, says_of, Division, datagrams_of, view_in, Starts, AreRouted, FirstAsked, Agrees, Begins, NotAnswered, plain_terms, terms_after, IsAgreed, IsJoined, Meant, AreTermsAfter}

@@ -5,7 +5,10 @@ use Rattle.std.proofs.lemmas.List.Elements.{All-from_recursion, All-contains, Co
 use Rattle.tftp_packet.specs.{Message, NoneBelow}
 use Rattle.tftp_packet.proofs.FirstOf.{Unless, none_more as none_with, none_unless, first_unless}
 use Rattle.tftp_packet.specs.Hosts.{Datagram}
-use Rattle.law_model.specs.Rules.{end_number, end_rules, EndBroken, FirstEndBroken, EndRule, NotStarted, Terms}
+use Rattle.law_model.specs.Rules.{end_number, end_rules, EndBroken, FirstEndBroken}
+use Rattle.law_model.specs.declared.rules.rule.EndRule.{EndRule}
+use Rattle.law_model.specs.declared.rules.rule.EndRule.TheVariants.{NotStarted}
+use Rattle.law_model.specs.declared.rules.terms.Terms.{Terms}
 
 -- the rule with this number
 abbrev pub end_at : ℕ → EndRule

@@ -1,6 +1,6 @@
 -- Which end sent a datagram of a capture.
 use Rattle.tftp_packet.specs.{End}
-use Rattle.tftp_packet.specs.Hosts.{Dir, In, Out}
+use Rattle.tftp_packet.specs.{Dir, In, Out}
 use Rattle.law_model.specs.Model.Roles.{other_end}
 
 -- the end that sent a datagram which went this way at the named end

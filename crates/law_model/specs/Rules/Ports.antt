@@ -3,7 +3,8 @@
 use Rattle.std.specs.Prelude.{◌≡◌, ◌⊎◌, ℕ, ◌==◌, ◌&&◌, ◌||◌, not, Bool, true, false, List, [], ◌∷◌, Option, Some, None, option_map, if◌then◌else◌}
 use Rattle.std.specs.List.{list_any}
 use Rattle.tftp_packet.specs.{Message, Spells, opcode_of, End, Client, Server}
-use Rattle.tftp_packet.specs.Hosts.{Dir, In, Out, Datagram, Header, PeerId, peer_of, same_peer}
+use Rattle.tftp_packet.specs.Hosts.{Datagram, Header, PeerId, peer_of, same_peer}
+use Rattle.tftp_packet.specs.{Dir, In, Out}
 use Rattle.law_model.specs.declared.rules.port_rule.PortRule.{PortRule}
 use Rattle.law_model.specs.declared.rules.port_rule.PortRule.TheVariants.{Foreign, Wrong, BadAnswer}
 

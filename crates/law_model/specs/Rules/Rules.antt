@@ -3,7 +3,8 @@
 use Rattle.std.specs.Prelude.{◌≡◌, ◌≢◌, ◌⊎◌, ℕ, ◌+◌, ◌/◌, ◌%◌, ◌<◌, ◌≤◌, List, [], ◌∷◌, length, Bool, Some, None, ◌&&◌, if◌then◌else◌}
 use Rattle.std.specs.List.{list_any}
 use Rattle.tftp_packet.specs.{IsFirst, Message, Data, Ack, Spells, Side, Get, Put}
-use Rattle.tftp_packet.specs.Hosts.{Dir, In, Out, Datagram}
+use Rattle.tftp_packet.specs.Hosts.{Datagram}
+use Rattle.tftp_packet.specs.{Dir, In, Out}
 use Rattle.law_model.specs.Model.Roles.{sender_of, receiver_of}
 use Rattle.law_model.specs.Rules.Ports.{goes_out, comes_in, begins_error}
 use Rattle.law_model.specs.declared.rules.rule.EndRule.{EndRule}

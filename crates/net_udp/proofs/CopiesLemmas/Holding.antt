@@ -5,7 +5,8 @@ use Rattle.std.specs.Option.{option_map}
 use Rattle.std.proofs.lemmas.Bool.{false≢true}
 use Rattle.std.proofs.lemmas.List.{get_or-map, length-map, take-map, take-take}
 use Rattle.std.proofs.lemmas.Option.{slice_get-map}
-use Rattle.net_udp.specs.Copies.{Packet, StandsFor, shown, Held}
+use Rattle.net_udp.specs.Copies.{Packet, StandsFor, shown}
+use Rattle.net_udp.specs.declared.copies.recent.Held.{Held}
 
 -- a list with an element at a place has some element
 some_held : (hs : List Held) (k : ℕ) → k < length hs → Held

@@ -1,7 +1,9 @@
 -- What becomes of the last fragment of a packet.
 use Rattle.std.proofs.Common.{◌≡◌, ◌≢◌, ℕ, ◌≤◌, List, [], ◌∷◌, Option, Vec, Global, length, refl, arith}
 use Rattle.net_udp.specs.declared.fragments.content.Content.{Content as Given}
-use Rattle.net_udp.specs.Fragments.{Outcome, Waits, Apart, Empty, TooLong, Full, AreSame, IsCutInto, content_of, Arrival, SetState, parts_of, IsKeptOf, PutEnds}
+use Rattle.net_udp.specs.Fragments.{AreSame, IsCutInto, content_of, Arrival, SetState, parts_of, IsKeptOf, PutEnds}
+use Rattle.net_udp.specs.declared.fragments.outcome.Outcome.{Outcome}
+use Rattle.net_udp.specs.declared.fragments.outcome.Outcome.TheVariants.{Waits, Apart, Empty, TooLong, Full}
 use Rattle.net_udp.specs.declared.fragments.outcome.Outcome.TheVariants.{Whole}
 use Rattle.net_udp.specs.Fragments.Whole.{Content, Part}
 use Rattle.net_udp.proofs.FragmentsLemmas.Contents.{in_any_order, one_content}

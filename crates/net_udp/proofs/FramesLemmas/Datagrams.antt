@@ -1,7 +1,11 @@
 -- A content is one datagram or has one fault.
 use Rattle.std.proofs.Common.{Bool, true, false, if◌then◌else◌, ◌≡◌, ◌≢◌, ◌↔◌, ◌⊎◌, inl, inr, ℕ, ◌-◌, ◌<◌, ◌≤◌, List, length, take, drop, refl, sym, ap, subst, ◌∙◌, arith, None, Result, Ok, Err, IsOkAnd}
 use Rattle.std.proofs.lemmas.Bool.{false≢true}
-use Rattle.net_udp.specs.Frames.{Checksum, pair, Reached, ReachesOver, Udp, HasUdp, IsSized, SpellsUdp, HoldsUdp, JudgesUdp, datagram, UdpDatagram, UdpFault, Port}
+use Rattle.net_udp.specs.Frames.{pair, Reached, ReachesOver, Udp, HasUdp, IsSized, SpellsUdp, HoldsUdp, JudgesUdp, datagram}
+use Rattle.net_udp.specs.declared.frames.checksum.Checksum.{Checksum}
+use Rattle.net_udp.specs.declared.frames.packet.UdpDatagram.{UdpDatagram}
+use Rattle.net_udp.specs.declared.frames.fault.UdpFault.{UdpFault}
+use Rattle.net_udp.specs.declared.frames.fault.UdpFault.TheVariants.{Port}
 use Rattle.net_udp.specs.declared.frames.fault.UdpFault.TheVariants.{Protocol, Header, Length}
 use Rattle.net_udp.proofs.FramesLemmas.Extensions.{reaches_one}
 

@@ -1,7 +1,8 @@
 -- The headers of IPv6 that are skipped, one after another.
 use Rattle.std.proofs.Common.{◌≡◌, ◌≢◌, ◌↔◌, inl, inr, ℕ, zero, suc, ◌<◌, ◌≤◌, Bool, true, false, List, length, drop, refl, sym, ap, ◌∙◌, subst, arith, Some}
 use Rattle.std.proofs.lemmas.Bool.{false≢true}
-use Rattle.net_udp.specs.Frames.{at, Fragment, Reached, is_extension, is_atomic, fragment_header, fragment_of, skipped_size, IsSkipped, Stops, StopsAfter, ReachesOver}
+use Rattle.net_udp.specs.Frames.{at, Reached, is_extension, is_atomic, fragment_header, fragment_of, skipped_size, IsSkipped, Stops, StopsAfter, ReachesOver}
+use Rattle.net_udp.specs.declared.frames.packet.Fragment.{Fragment}
 
 -- the number of a fragment header is none of the others
 no_extension : (next : ℕ) → next ≡ fragment_header → is_extension next ≡ true → ⊥

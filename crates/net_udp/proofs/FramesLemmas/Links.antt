@@ -1,6 +1,10 @@
 -- A frame of a link carries one thing.
 use Rattle.std.proofs.Common.{◌≡◌, ℕ, ◌≤◌, List, length, drop, sym, ap, subst, ◌∙◌, Option, Some, None, MatchOption}
-use Rattle.net_udp.specs.Frames.{pair, least, Linked, CarriesTyped, Carries, SpellsLink, direction_said, type_network, linked, IsLinked, LinkType, Ethernet, Cooked, CookedTwo, LinkContent, Direction}
+use Rattle.net_udp.specs.Frames.{pair, least, Linked, CarriesTyped, Carries, SpellsLink, direction_said, type_network, linked, IsLinked}
+use Rattle.net_udp.specs.declared.frames.link.LinkType.{LinkType}
+use Rattle.net_udp.specs.declared.frames.link.LinkType.TheVariants.{Ethernet, Cooked, CookedTwo}
+use Rattle.net_udp.specs.declared.frames.link.LinkContent.{LinkContent}
+use Rattle.net_udp.specs.declared.frames.packet.Direction.{Direction}
 use Rattle.net_udp.proofs.FramesLemmas.Tags.{leads_one}
 
 -- an answer of one function, made that of another

@@ -1,6 +1,9 @@
 -- What a packet carries.
 use Rattle.std.proofs.Common.{◌≡◌, ℕ, List, sym, subst, Option, MatchOption, refl, true}
-use Rattle.net_udp.specs.Frames.{at, Reached, ReachesOver, Reaches, held_of, reached, Upper, Ipv6, HasHeader, SpellsIp, may_be_udp, packet_of, Direction}
+use Rattle.net_udp.specs.Frames.{at, Reached, ReachesOver, Reaches, held_of, reached, HasHeader, SpellsIp, may_be_udp, packet_of}
+use Rattle.net_udp.specs.declared.frames.extension.Upper.{Upper}
+use Rattle.net_udp.specs.declared.frames.link.Network.TheVariants.{Ipv6}
+use Rattle.net_udp.specs.declared.frames.packet.Direction.{Direction}
 use Rattle.net_udp.specs.declared.frames.link.Network.{Network}
 use Rattle.net_udp.specs.Frames.Ip.{IsWhole}
 

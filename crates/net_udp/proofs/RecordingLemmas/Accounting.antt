@@ -1,7 +1,9 @@
 -- Each frame is accounted for once: what a frame does to those that wait, in three stages, and then whole histories.
 use Rattle.std.proofs.Common.{◌≡◌, ◌≢◌, ℕ, ◌+◌, ◌≤◌, Bool, true, ◌⊎◌, inl, inr, List, [], ◌∷◌, ◌++◌, length, Option, Some, None, refl, sym, ap, ◌∙◌, subst, arith}
 use Rattle.std.proofs.lemmas.Bool.{cases_lt, cases_Bool}
-use Rattle.net_udp.specs.Fragments.{same_key, Arrival, SetState, PutEnds, Sets, frames_of, is_long, set_at, Outcome, Waits, Apart}
+use Rattle.net_udp.specs.Fragments.{same_key, Arrival, SetState, PutEnds, Sets, frames_of, is_long, set_at}
+use Rattle.net_udp.specs.declared.fragments.outcome.Outcome.{Outcome}
+use Rattle.net_udp.specs.declared.fragments.outcome.Outcome.TheVariants.{Waits, Apart}
 use Rattle.net_udp.specs.Fragments.Whole.{Part}
 use Rattle.net_udp.specs.declared.fragments.key.Key.{Key}
 use Rattle.net_udp.specs.declared.fragments.outcome.Outcome.TheVariants.{Whole}

@@ -1,8 +1,14 @@
 -- What a frame does among the fragments that wait.
 use Rattle.std.proofs.Common.{◌≡◌, ◌≢◌, ℕ, inr, List, [], Option, None, Result, Ok, Err, sym, ap, ◌∙◌, subst, arith}
 use Rattle.std.specs.Result.{IsOkAnd}
-use Rattle.net_udp.specs.Frames.{SpellsFrame, Packet, shown, HasUdp, HoldsUdp, SpellsUdp, Udp, datagram, FrameFault, UdpDatagram, UdpFault, IpPacket}
-use Rattle.net_udp.specs.Fragments.{Arrival, SetState, IsTried, MayBePut, PutEnds, Sets, room_of_all, Outcome, Full}
+use Rattle.net_udp.specs.Frames.{SpellsFrame, Packet, shown, HasUdp, HoldsUdp, SpellsUdp, Udp, datagram}
+use Rattle.net_udp.specs.declared.frames.fault.FrameFault.{FrameFault}
+use Rattle.net_udp.specs.declared.frames.packet.UdpDatagram.{UdpDatagram}
+use Rattle.net_udp.specs.declared.frames.fault.UdpFault.{UdpFault}
+use Rattle.net_udp.specs.declared.frames.packet.IpPacket.{IpPacket}
+use Rattle.net_udp.specs.Fragments.{Arrival, SetState, IsTried, MayBePut, PutEnds, Sets, room_of_all}
+use Rattle.net_udp.specs.declared.fragments.outcome.Outcome.{Outcome}
+use Rattle.net_udp.specs.declared.fragments.outcome.Outcome.TheVariants.{Full}
 use Rattle.net_udp.specs.Fragments.Whole.{Content, Part}
 use Rattle.net_udp.specs.Recording.{MakesRoom, content_of}
 

@@ -7,9 +7,12 @@ use Rattle.net_udp.specs.Copies.{Packet as Recorded, RecentState}
 use Rattle.net_udp.specs.Copies.Recently as copies
 use Rattle.net_udp.specs.Fragments.{Sets}
 use Rattle.net_pcap.specs.{FrameParts, FrameState, ReaderState, StandingTells, Memory, PcapFault}
-use Rattle.net_streams.specs.Streams.{KeepsAnswer, Open, Standing}
+use Rattle.net_streams.specs.Streams.{KeepsAnswer}
+use Rattle.net_streams.specs.{Open, Standing}
 use Rattle.net_pcap.specs.History as pcap
-use Rattle.net_udp.specs.Recording.{IsDiscarded, IsHistory, IsSentOf, Knows, Makers, Sent, Takes, Continues, EventState, RecordingState, RefusedTells, StandsFor, Step, WantsNext, WantsToKnow, frames_of, packets_of, sent_in, waiting, Comes, is_copy, Likeness}
+use Rattle.net_udp.specs.Recording.{IsDiscarded, IsHistory, IsSentOf, Knows, Makers, Takes, Continues, EventState, RecordingState, RefusedTells, StandsFor, Step, WantsNext, WantsToKnow, frames_of, packets_of, sent_in, waiting, Comes, is_copy}
+use Rattle.net_udp.specs.declared.recording.sent.Sent.{Sent}
+use Rattle.net_udp.specs.declared.recording.likeness.Likeness.{Likeness}
 
 -- the frame comes, and the packets that are held are the last ones with its own
 abbrev pub Coming : RecentState → FrameParts → Likeness → RecentState → Type 0

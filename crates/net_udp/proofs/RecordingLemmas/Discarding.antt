@@ -10,9 +10,11 @@ use Rattle.std.specs.declared.net.ip_addr.IpAddr.{IpAddr}
 use Rattle.std.specs.declared.net.ip_addr.IpAddr.TheVariants.{V4, V6}
 use Rattle.net_udp.specs.Fragments.Key.{address_cmp}
 use Rattle.net_udp.specs.Fragments.KeyOrder.{address_total}
-use Rattle.net_udp.specs.Frames.{Absent, Partial, Right, Wrong}
+use Rattle.net_udp.specs.declared.frames.checksum.Checksum.TheVariants.{Absent, Partial, Right, Wrong}
 use Rattle.net_udp.specs.declared.frames.checksum.Checksum.{Checksum}
-use Rattle.net_udp.specs.Recording.{IsDiscarded, IsKnown, IsUnknown, Knows, Makers, discarded_by, learned, maker_of, same_host, Maker, Sent}
+use Rattle.net_udp.specs.Recording.{IsDiscarded, IsKnown, IsUnknown, Knows, Makers, discarded_by, learned, maker_of, same_host}
+use Rattle.net_udp.specs.declared.recording.senders.Maker.{Maker}
+use Rattle.net_udp.specs.declared.recording.sent.Sent.{Sent}
 use Rattle.net_udp.specs.declared.recording.senders.Maker.TheVariants.{Host, Card}
 
 -- ---- addresses that nothing tells apart are one

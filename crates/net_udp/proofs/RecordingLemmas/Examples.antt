@@ -3,7 +3,9 @@ use Rattle.std.proofs.Common.{◌≡◌, ℕ, zero, suc, ◌+◌, Bool, true, fa
 use Rattle.std.proofs.lemmas.List.{get_or-append-add, get_or-map, get_or_append_left, get_or_past, length-map}
 use Rattle.std.proofs.lemmas.Bool.{cases_Bool}
 use Rattle.net_udp.specs.Copies.{Packet as Recorded, IsCopy}
-use Rattle.net_udp.specs.Fragments.{Agrees, AreLaid, Held, IsHeld, content_of as put_together, nothing_held, same_key, Arrival, IsSetOf, SetState, parts_of, IsKeptOf, PutEnds, Sets, is_long, room_under, set_at, Give, Outcome, Waits}
+use Rattle.net_udp.specs.Fragments.{Agrees, AreLaid, Held, IsHeld, content_of as put_together, nothing_held, same_key, Arrival, IsSetOf, SetState, parts_of, IsKeptOf, PutEnds, Sets, is_long, room_under, set_at, Give}
+use Rattle.net_udp.specs.declared.fragments.outcome.Outcome.{Outcome}
+use Rattle.net_udp.specs.declared.fragments.outcome.Outcome.TheVariants.{Waits}
 use Rattle.net_udp.specs.Fragments.Whole.{Content, Part}
 use Rattle.net_udp.specs.declared.fragments.content.Content.{Content as Made}
 use Rattle.net_udp.specs.declared.fragments.key.Key.{Key}
@@ -12,7 +14,11 @@ use Rattle.net_udp.proofs.FragmentsLemmas.Holding.{Added, stands_more, whole_giv
 use Rattle.net_udp.proofs.FragmentsLemmas.Puts.{empty_set, nothing_agrees}
 use Rattle.net_udp.proofs.FragmentsLemmas.Keeping.{no_byte}
 use Rattle.net_udp.proofs.FragmentsLemmas.Rooms.{same_set, no_set}
-use Rattle.net_udp.specs.Frames.{SpellsFrame, Packet, HasUdp, HoldsUdp, SpellsUdp, Udp, Reached, acknowledgement, checksum_of, cooked_head, ipv4_bytes, ipv4_packet, pair, two_tags, udp_bytes, udp_left, Partial, Right, Wrong, Cooked, Ethernet, RawIpv4, RawIpv6, Ipv4, Ipv6, Out, Unknown}
+use Rattle.net_udp.specs.Frames.{SpellsFrame, Packet, HasUdp, HoldsUdp, SpellsUdp, Udp, Reached, acknowledgement, checksum_of, cooked_head, ipv4_bytes, ipv4_packet, pair, two_tags, udp_bytes, udp_left}
+use Rattle.net_udp.specs.declared.frames.checksum.Checksum.TheVariants.{Partial, Right, Wrong}
+use Rattle.net_udp.specs.declared.frames.link.LinkType.TheVariants.{Cooked, Ethernet, RawIpv4, RawIpv6}
+use Rattle.net_udp.specs.declared.frames.link.Network.TheVariants.{Ipv4, Ipv6}
+use Rattle.net_udp.specs.declared.frames.packet.Direction.TheVariants.{Out, Unknown}
 use Rattle.net_udp.specs.declared.frames.checksum.Checksum.{Checksum}
 use Rattle.net_udp.specs.declared.frames.fault.FrameFault.TheVariants.{Protocol}
 use Rattle.net_udp.specs.declared.frames.fault.UdpFault.TheVariants.{Protocol as NotUdp}
@@ -20,7 +26,11 @@ use Rattle.net_udp.proofs.FramesLemmas.Datagrams.{has_one}
 use Rattle.net_udp.proofs.FramesLemmas.FaultOrder.{packet_one}
 use Rattle.net_pcap.specs.{FrameParts}
 use Rattle.net_udp.proofs.FramesLemmas.Uppers.{spells_ip}
-use Rattle.net_udp.specs.Recording.{LetsGoOld, TakesPart, arrival_of, content_of, IsDatagram, IsDiscarded, IsFateOf, IsHistory, IsSentBy, checksum_told, cooked_step, ethernet_step, first_bytes, first_of, first_part, first_set, first_step, icmp_content, icmp_frame, last_bytes, last_named, last_of_icmp, last_part, last_step, left_bytes, left_packet, part_of_icmp, raw_frame, raw_step, recorded_at, recorded_first, recorded_raw, sent_with, spoilt_acknowledgement, spoilt_bytes, spoilt_packet, worked_content, worked_key, worked_time, Discarded, Left, Frame, New, Sent}
+use Rattle.net_udp.specs.Recording.{LetsGoOld, TakesPart, arrival_of, content_of, IsDatagram, IsDiscarded, IsFateOf, IsHistory, IsSentBy, checksum_told, cooked_step, ethernet_step, first_bytes, first_of, first_part, first_set, first_step, icmp_content, icmp_frame, last_bytes, last_named, last_of_icmp, last_part, last_step, left_bytes, left_packet, part_of_icmp, raw_frame, raw_step, recorded_at, recorded_first, recorded_raw, sent_with, spoilt_acknowledgement, spoilt_bytes, spoilt_packet, worked_content, worked_key, worked_time}
+use Rattle.net_udp.specs.declared.recording.fate.Fate.TheVariants.{Discarded, Left}
+use Rattle.net_udp.specs.declared.recording.fate.LeftOut.TheVariants.{Frame}
+use Rattle.net_udp.specs.declared.recording.likeness.Likeness.TheVariants.{New}
+use Rattle.net_udp.specs.declared.recording.sent.Sent.{Sent}
 use Rattle.net_udp.specs.declared.recording.fate.Datagram.{Datagram as Given}
 use Rattle.net_udp.specs.declared.recording.fate.Fate.TheVariants.{Datagram}
 use Rattle.net_udp.specs.declared.recording.likeness.Likeness.TheVariants.{Copy}

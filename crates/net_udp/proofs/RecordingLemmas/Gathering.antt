@@ -3,8 +3,11 @@ use Rattle.std.proofs.Common.{◌≡◌, ℕ, ◌+◌, inl, inr, List, [], ◌�
 use Rattle.std.specs.List.{AllByRecursion}
 use Rattle.std.proofs.lemmas.List.{reverse-append}
 use Rattle.std.proofs.lemmas.Bool.{cases_Bool}
-use Rattle.net_udp.specs.Frames.{Packet, Fragment}
-use Rattle.net_udp.specs.Fragments.{same_key, Arrival, SetState, parts_of, IsKeptOf, PutEnds, Sets, frames_of, set_at, Give, content_of, Outcome, Waits, Apart}
+use Rattle.net_udp.specs.Frames.{Packet}
+use Rattle.net_udp.specs.declared.frames.packet.Fragment.{Fragment}
+use Rattle.net_udp.specs.Fragments.{same_key, Arrival, SetState, parts_of, IsKeptOf, PutEnds, Sets, frames_of, set_at, Give, content_of}
+use Rattle.net_udp.specs.declared.fragments.outcome.Outcome.{Outcome}
+use Rattle.net_udp.specs.declared.fragments.outcome.Outcome.TheVariants.{Waits, Apart}
 use Rattle.net_udp.specs.Fragments.Whole.{Content, Part}
 use Rattle.net_udp.specs.declared.fragments.content.Content.{Content as Given}
 use Rattle.net_udp.specs.declared.fragments.key.Key.{Key}

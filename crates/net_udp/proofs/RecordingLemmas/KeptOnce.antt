@@ -2,7 +2,9 @@
 use Rattle.std.proofs.Common.{◌≡◌, ◌≢◌, ◌↔◌, ℕ, ◌+◌, ◌<◌, ◌≤◌, Bool, true, false, inl, inr, List, [], ◌∷◌, ◌++◌, length, length-append, map, Option, Some, None, Vec, Global, refl, sym, ap, ◌∙◌, subst, arith}
 use Rattle.std.proofs.lemmas.Bool.{cases_lt, cases_Bool}
 use Rattle.std.proofs.lemmas.List.{get_or-map, get_or_append_left, length-map}
-use Rattle.net_udp.specs.Fragments.{Held, HoldsPart, StandsFor, content_of, same_key, AreApart, Arrival, IsSetOf, SetState, parts_of, CountsAt, IsFull, IsKeptOf, IsTried, MayBePut, PutEnds, Sets, frames_of, is_long, least_behind, room_of_all, room_under, set_at, EndsRightly, HasPart, end_of, Outcome, Waits, Apart, Empty, TooLong, Full}
+use Rattle.net_udp.specs.Fragments.{Held, HoldsPart, StandsFor, content_of, same_key, AreApart, Arrival, IsSetOf, SetState, parts_of, CountsAt, IsFull, IsKeptOf, IsTried, MayBePut, PutEnds, Sets, frames_of, is_long, least_behind, room_of_all, room_under, set_at, EndsRightly, HasPart, end_of}
+use Rattle.net_udp.specs.declared.fragments.outcome.Outcome.{Outcome}
+use Rattle.net_udp.specs.declared.fragments.outcome.Outcome.TheVariants.{Waits, Apart, Empty, TooLong, Full}
 use Rattle.net_udp.specs.Fragments.Whole.{Content, Part}
 use Rattle.net_udp.specs.declared.fragments.content.Content.{Content as Given}
 use Rattle.net_udp.specs.declared.fragments.key.Key.{Key}

@@ -1,11 +1,14 @@
 -- Which packets are copies, by what is told of them.
 use Rattle.std.proofs.Common.{◌≡◌, ◌↔◌, ℕ, Bool, true, false, inr, List, ◌∷◌, Option, Some, IsTrue, refl, sym, subst}
 use Rattle.std.proofs.lemmas.Bool.{false≢true}
-use Rattle.net_udp.specs.Copies.{Interface, Packet as Recorded, IsCopy, RecentState, StandsFor}
-use Rattle.net_udp.specs.Frames.{Packet, is_identified, SpellsFrame, Fragment}
+use Rattle.net_udp.specs.Copies.{Packet as Recorded, IsCopy, RecentState, StandsFor}
+use Rattle.net_udp.specs.declared.copies.interface.Interface.{Interface}
+use Rattle.net_udp.specs.Frames.{Packet, is_identified, SpellsFrame}
+use Rattle.net_udp.specs.declared.frames.packet.Fragment.{Fragment}
 use Rattle.net_udp.specs.Fragments.{Sets}
 use Rattle.net_pcap.specs.{FrameParts}
-use Rattle.net_udp.specs.Recording.{DoesNothing, IsNoPart, Wants, WantsPart, key_of, key_protocol, Comes, IsLike, interface_of, likeness_by, recorded, Likeness}
+use Rattle.net_udp.specs.Recording.{DoesNothing, IsNoPart, Wants, WantsPart, key_of, key_protocol, Comes, IsLike, interface_of, likeness_by, recorded}
+use Rattle.net_udp.specs.declared.recording.likeness.Likeness.{Likeness}
 
 -- a packet that was recorded where and when a frame was
 pub recorded_there : (frame : FrameParts) (p : Packet) (there : Interface) (time : Option ℕ) → there ≡ interface_of frame → time ≡ frame.time → ◌≡◌ {A = Recorded} (record { interface = there; time = time; bytes = p.packet }) (recorded frame p)

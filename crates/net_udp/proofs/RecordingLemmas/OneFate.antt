@@ -2,16 +2,26 @@
 use Rattle.std.proofs.Common.{◌≡◌, Bool, true, false, inl, inr, List, ◌∷◌, Option, Some, None, refl, sym, ap, ◌∙◌, subst}
 use Rattle.std.proofs.lemmas.Bool.{false≢true}
 use Rattle.net_udp.specs.Copies.{Packet as Recorded}
-use Rattle.net_udp.specs.Fragments.{content_of as put_together, Outcome, Waits as Held, Apart as Torn, Empty as Bare, TooLong as Long, Full as Crowded}
+use Rattle.net_udp.specs.Fragments.{content_of as put_together}
+use Rattle.net_udp.specs.declared.fragments.outcome.Outcome.{Outcome}
+use Rattle.net_udp.specs.declared.fragments.outcome.Outcome.TheVariants.{Waits as Held, Apart as Torn, Empty as Bare, TooLong as Long, Full as Crowded}
 use Rattle.net_udp.specs.Fragments.Whole.{Content}
 use Rattle.net_udp.specs.declared.fragments.outcome.Outcome.TheVariants.{Whole}
-use Rattle.net_udp.specs.Frames.{SpellsFrame, Packet, HoldsUdp, SpellsUdp, Udp, FrameFault, UdpFault}
+use Rattle.net_udp.specs.Frames.{SpellsFrame, Packet, HoldsUdp, SpellsUdp, Udp}
+use Rattle.net_udp.specs.declared.frames.fault.FrameFault.{FrameFault}
+use Rattle.net_udp.specs.declared.frames.fault.UdpFault.{UdpFault}
 use Rattle.net_udp.specs.declared.frames.fault.UdpFault.TheVariants.{Protocol as NotUdp}
 use Rattle.net_udp.proofs.FramesLemmas.Datagrams.{fault_one, udp_one}
 use Rattle.net_udp.proofs.FramesLemmas.Datagrams as datagrams
 use Rattle.net_udp.proofs.FramesLemmas.FaultOrder.{first_one, no_fault, packet_one}
 use Rattle.net_pcap.specs.{FrameParts}
-use Rattle.net_udp.specs.Recording.{HasFault, IsDatagram, IsFate, IsFateBy, IsFateOf, IsSent, IsSentBy, IsSentOf, Says, content_of, sharers, Comes, IsLike, recorded, IsSameDatagram, IsSameFate, Fate, Discarded, Left, Waits, LeftOut, Sent, Frame, Udp as NoUdp, Apart, Empty, TooLong, Full, Likeness}
+use Rattle.net_udp.specs.Recording.{HasFault, IsDatagram, IsFate, IsFateBy, IsFateOf, IsSent, IsSentBy, IsSentOf, Says, content_of, sharers, Comes, IsLike, recorded, IsSameDatagram, IsSameFate}
+use Rattle.net_udp.specs.declared.recording.fate.Fate.{Fate}
+use Rattle.net_udp.specs.declared.recording.fate.Fate.TheVariants.{Discarded, Left, Waits}
+use Rattle.net_udp.specs.declared.recording.fate.LeftOut.{LeftOut}
+use Rattle.net_udp.specs.declared.recording.sent.Sent.{Sent}
+use Rattle.net_udp.specs.declared.recording.fate.LeftOut.TheVariants.{Frame, Udp as NoUdp, Apart, Empty, TooLong, Full}
+use Rattle.net_udp.specs.declared.recording.likeness.Likeness.{Likeness}
 use Rattle.net_udp.specs.declared.recording.fate.Datagram.{Datagram as Given}
 use Rattle.net_udp.specs.declared.recording.fate.Fate.TheVariants.{Datagram}
 use Rattle.net_udp.specs.declared.recording.fate.LeftOut.TheVariants.{Copy}

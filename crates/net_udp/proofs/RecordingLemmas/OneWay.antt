@@ -2,14 +2,18 @@
 use Rattle.std.proofs.Common.{◌≡◌, ◌↔◌, ℕ, ◌+◌, Bool, true, false, inl, inr, List, [], ◌∷◌, length, map, reverse, Option, Some, None, refl, sym, ap, ◌∙◌, subst, arith, MatchBool}
 use Rattle.std.proofs.lemmas.List.{reverse-reverse}
 use Rattle.net_udp.specs.Copies.{Packet as Recorded}
-use Rattle.net_udp.specs.Fragments.{Sets, Outcome}
+use Rattle.net_udp.specs.Fragments.{Sets}
+use Rattle.net_udp.specs.declared.fragments.outcome.Outcome.{Outcome}
 use Rattle.net_udp.specs.declared.fragments.key.Key.{Key}
-use Rattle.net_udp.specs.Frames.{Packet, Fragment}
+use Rattle.net_udp.specs.Frames.{Packet}
+use Rattle.net_udp.specs.declared.frames.packet.Fragment.{Fragment}
 use Rattle.net_udp.proofs.FramesLemmas.FaultOrder.{packet_one}
 use Rattle.net_pcap.specs.{FrameParts, IsWrong, FaultKind}
 use Rattle.net_pcap.proofs.OneFault.{fault_one}
 use Rattle.net_pcap.proofs.OneReading.{fault_or_recording, recording_one}
-use Rattle.net_udp.specs.Recording.{BroughtState, DoesNothing, IsPart, Takes, TakesPart, arrival_of, key_of, IsDiscarded, IsFateOf, IsHistory, IsSentOf, Sent, Step, frames_of, packets_of, sent_in, waiting, Comes, is_copy, AreToldAlike, IsRead, IsReadTo, frames_at, Likeness}
+use Rattle.net_udp.specs.Recording.{BroughtState, DoesNothing, IsPart, Takes, TakesPart, arrival_of, key_of, IsDiscarded, IsFateOf, IsHistory, IsSentOf, Step, frames_of, packets_of, sent_in, waiting, Comes, is_copy, AreToldAlike, IsRead, IsReadTo, frames_at}
+use Rattle.net_udp.specs.declared.recording.sent.Sent.{Sent}
+use Rattle.net_udp.specs.declared.recording.likeness.Likeness.{Likeness}
 use Rattle.net_udp.proofs.RecordingLemmas.KeptOnce.{Alike, IsSame, part_alike}
 use Rattle.net_udp.proofs.RecordingLemmas.OneFate.{IsSameIf, comes_one, fate_of_one, sent_one, sharers_one}
 use Rattle.net_udp.proofs.RecordingLemmas.Discarding.{one_of_two}

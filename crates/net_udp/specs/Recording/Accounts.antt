@@ -1,6 +1,7 @@
 -- Each frame of a recording is accounted for once.
 use Rattle.std.specs.Prelude.{◌≡◌, ◌≢◌, ◌⊎◌, ◌+◌, ℕ, List, [], ◌∷◌, length, Some}
-use Rattle.net_udp.specs.Fragments.{Sets, frames_of, set_at, Waits}
+use Rattle.net_udp.specs.Fragments.{Sets, frames_of, set_at}
+use Rattle.net_udp.specs.declared.fragments.outcome.Outcome.TheVariants.{Waits}
 use Rattle.net_udp.specs.declared.fragments.key.Key.{Key}
 use Rattle.net_udp.specs.Recording.Brought.{BroughtState}
 use Rattle.net_udp.specs.Recording.Fates.{sharers}

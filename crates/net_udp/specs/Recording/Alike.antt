@@ -1,7 +1,8 @@
 -- Which frames are copies, and which may be (RFC 791, section 3.2; RFC 8200, section 4.5).
 use Rattle.std.specs.Prelude.{◌≡◌, ◌⊎◌, ◌<◌, Bool, true, false, List, ◌∷◌, length, Some}
 use Rattle.std.specs.List.{slice_get}
-use Rattle.net_udp.specs.Copies.{Interface, Packet as Recorded, IsCopy}
+use Rattle.net_udp.specs.Copies.{Packet as Recorded, IsCopy}
+use Rattle.net_udp.specs.declared.copies.interface.Interface.{Interface}
 use Rattle.net_udp.specs.Frames.{SpellsFrame, Packet, index_of, is_identified}
 use Rattle.net_pcap.specs.{FrameParts}
 use Rattle.net_udp.specs.declared.recording.likeness.Likeness.{Likeness}

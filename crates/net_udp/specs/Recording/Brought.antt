@@ -2,8 +2,11 @@
 use Rattle.std.specs.Prelude.{◌≡◌, ◌≢◌, ◌⊎◌, ℕ, Bool, true, false, List, [], Option, Some, None}
 use Rattle.std.specs.declared.net.ip_addr.IpAddr.{IpAddr}
 use Rattle.std.specs.declared.net.ip_addr.IpAddr.TheVariants.{V4, V6}
-use Rattle.net_udp.specs.Frames.{SpellsFrame, Packet, Fragment}
-use Rattle.net_udp.specs.Fragments.{same_key, Arrival, SetState, Sets, CountsAt, HasRoom, IsFull, IsTried, MayBePut, PutEnds, WantsMemory, is_long, room_of_all, set_at, Outcome, Full}
+use Rattle.net_udp.specs.Frames.{SpellsFrame, Packet}
+use Rattle.net_udp.specs.declared.frames.packet.Fragment.{Fragment}
+use Rattle.net_udp.specs.Fragments.{same_key, Arrival, SetState, Sets, CountsAt, HasRoom, IsFull, IsTried, MayBePut, PutEnds, WantsMemory, is_long, room_of_all, set_at}
+use Rattle.net_udp.specs.declared.fragments.outcome.Outcome.{Outcome}
+use Rattle.net_udp.specs.declared.fragments.outcome.Outcome.TheVariants.{Full}
 use Rattle.net_udp.specs.Fragments.Whole.{Part}
 use Rattle.net_udp.specs.declared.fragments.key.Key.{Key}
 use Rattle.net_pcap.specs.{FrameParts}

@@ -1,9 +1,11 @@
 -- What the checksums say of a frame's datagram, and who sent it.
 use Rattle.std.specs.Prelude.{◌≡◌, ℕ, List, Option, Some, None, take}
-use Rattle.net_udp.specs.Fragments.{content_of as put_together, Outcome}
+use Rattle.net_udp.specs.Fragments.{content_of as put_together}
+use Rattle.net_udp.specs.declared.fragments.outcome.Outcome.{Outcome}
 use Rattle.net_udp.specs.Fragments.Whole.{Content}
 use Rattle.net_udp.specs.declared.fragments.outcome.Outcome.TheVariants as outcome
-use Rattle.net_udp.specs.Frames.{SpellsFrame, Packet, HasUdp, IsSized, SpellsUdp, Udp, pair, checksum_of, Absent}
+use Rattle.net_udp.specs.Frames.{SpellsFrame, Packet, HasUdp, IsSized, SpellsUdp, Udp, pair, checksum_of}
+use Rattle.net_udp.specs.declared.frames.checksum.Checksum.TheVariants.{Absent}
 use Rattle.net_udp.specs.declared.frames.checksum.Checksum.{Checksum}
 use Rattle.net_pcap.specs.{FrameParts}
 use Rattle.net_udp.specs.Recording.Fates.{content_of}

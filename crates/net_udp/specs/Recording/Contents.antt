@@ -1,7 +1,8 @@
 -- Of which frames a content is that was put together.
 use Rattle.std.specs.Prelude.{◌≡◌, ◌⊎◌, ◌+◌, ℕ, true, List, [], ◌∷◌, length, map, reverse}
 use Rattle.std.specs.List.{AllByRecursion}
-use Rattle.net_udp.specs.Frames.{Packet, Fragment}
+use Rattle.net_udp.specs.Frames.{Packet}
+use Rattle.net_udp.specs.declared.frames.packet.Fragment.{Fragment}
 use Rattle.net_udp.specs.Fragments.{same_key, Arrival, parts_of, Give}
 use Rattle.net_udp.specs.Fragments.Whole.{Content}
 use Rattle.net_udp.specs.declared.fragments.key.Key.{Key}

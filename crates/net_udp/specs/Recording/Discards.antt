@@ -1,7 +1,7 @@
 -- Which datagrams their hosts discarded (RFC 1122, sections 3.2.1.2 and 4.1.3.4).
 use Rattle.std.specs.Prelude.{◌≡◌, ◌⊎◌, List, [], ◌∷◌, Option, Some, None}
 use Rattle.std.specs.declared.net.ip_addr.IpAddr.{IpAddr}
-use Rattle.net_udp.specs.Frames.{Partial, Right, Wrong}
+use Rattle.net_udp.specs.declared.frames.checksum.Checksum.TheVariants.{Partial, Right, Wrong}
 use Rattle.net_udp.specs.declared.frames.checksum.Checksum.{Checksum}
 use Rattle.net_udp.specs.declared.recording.sent.Sent.{Sent}
 

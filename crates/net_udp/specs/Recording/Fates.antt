@@ -1,9 +1,12 @@
 -- What became of a frame.
 use Rattle.std.specs.Prelude.{◌≡◌, ◌≢◌, ◌⊎◌, ℕ, Bool, true, false, List, [], Option, Some, None}
-use Rattle.net_udp.specs.Fragments.{content_of as put_together, Outcome}
+use Rattle.net_udp.specs.Fragments.{content_of as put_together}
+use Rattle.net_udp.specs.declared.fragments.outcome.Outcome.{Outcome}
 use Rattle.net_udp.specs.Fragments.Whole.{Content}
 use Rattle.net_udp.specs.declared.fragments.outcome.Outcome.TheVariants as outcome
-use Rattle.net_udp.specs.Frames.{FirstFault, SpellsFrame, Packet, Udp, HoldsUdp, IsSound, SpellsUdp, UdpFault, Direction as LinkDirection}
+use Rattle.net_udp.specs.Frames.{FirstFault, SpellsFrame, Packet, Udp, HoldsUdp, IsSound, SpellsUdp}
+use Rattle.net_udp.specs.declared.frames.fault.UdpFault.{UdpFault}
+use Rattle.net_udp.specs.declared.frames.packet.Direction.{Direction as LinkDirection}
 use Rattle.net_udp.specs.declared.frames.fault.FrameFault.TheVariants.{Protocol}
 use Rattle.net_udp.specs.declared.frames.fault.UdpFault.TheVariants.{Protocol as NotUdp}
 use Rattle.net_udp.specs.declared.frames.packet.Direction.TheVariants as link

@@ -5,7 +5,7 @@ use Rattle.net_udp.specs.Copies.{Packet as Recorded, RecentState}
 use Rattle.net_udp.specs.Copies.Recently as copies
 use Rattle.net_udp.specs.Fragments.{Sets}
 use Rattle.net_pcap.specs.{FrameParts, FrameState, ReaderState, Memory, PcapFault}
-use Rattle.net_streams.specs.Streams.{Failed, Standing}
+use Rattle.net_streams.specs.{Failed, Standing}
 use Rattle.net_pcap.specs.History as pcap
 use Rattle.net_udp.specs.Recording.Brought.{BroughtState, Takes, Wants}
 use Rattle.net_udp.specs.Recording.Alike.{Comes, WantsToHold, is_copy}

@@ -3,9 +3,9 @@ use Rattle.std.specs.Prelude.{◌≡◌, ◌⊎◌, Bool, true, false, List, Opt
 use Rattle.std.specs.Map.{lookup}
 use Rattle.std.specs.Ordering.{is_eq}
 use Rattle.std.specs.declared.net.ip_addr.IpAddr.{IpAddr}
-use Rattle.net_udp.specs.Fragments.{Outcome}
+use Rattle.net_udp.specs.declared.fragments.outcome.Outcome.{Outcome}
 use Rattle.net_udp.specs.Fragments.Key.{address_cmp}
-use Rattle.net_udp.specs.Frames.{Absent, Partial, Right, Wrong}
+use Rattle.net_udp.specs.declared.frames.checksum.Checksum.TheVariants.{Absent, Partial, Right, Wrong}
 use Rattle.net_udp.specs.declared.frames.checksum.Checksum.{Checksum}
 use Rattle.net_pcap.specs.{FrameParts}
 use Rattle.net_udp.specs.Recording.Checked.{IsSentOf}

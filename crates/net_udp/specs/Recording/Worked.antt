@@ -1,13 +1,18 @@
 -- Frames for worked examples: the acknowledgement of the worked frames of tftp_frames, in two fragments, and recorded twice.
 use Rattle.std.specs.Prelude.{ℕ, Bool, List, [], ◌∷◌, ◌++◌, length, map, Option, Some, None, true, false}
 use Rattle.std.specs.Global.{Vec}
-use Rattle.net_udp.specs.Copies.{Interface, Packet as Recorded}
-use Rattle.net_udp.specs.Fragments.{SetState, Waits}
+use Rattle.net_udp.specs.Copies.{Packet as Recorded}
+use Rattle.net_udp.specs.declared.copies.interface.Interface.{Interface}
+use Rattle.net_udp.specs.Fragments.{SetState}
+use Rattle.net_udp.specs.declared.fragments.outcome.Outcome.TheVariants.{Waits}
 use Rattle.net_udp.specs.Fragments.Whole.{Content}
 use Rattle.net_udp.specs.declared.fragments.content.Content.{Content as Given}
 use Rattle.net_udp.specs.declared.fragments.key.Key.{Key}
 use Rattle.net_udp.specs.declared.fragments.outcome.Outcome.TheVariants.{Whole}
-use Rattle.net_udp.specs.Frames.{Packet, Udp, acknowledgement, cooked_head, host, ipv4_bytes, ipv4_packet, ipv6_part, two_tags, udp_bytes, udp_left, Right, Unknown, Fragment}
+use Rattle.net_udp.specs.Frames.{Packet, Udp, acknowledgement, cooked_head, host, ipv4_bytes, ipv4_packet, ipv6_part, two_tags, udp_bytes, udp_left}
+use Rattle.net_udp.specs.declared.frames.checksum.Checksum.TheVariants.{Right}
+use Rattle.net_udp.specs.declared.frames.packet.Direction.TheVariants.{Unknown}
+use Rattle.net_udp.specs.declared.frames.packet.Fragment.{Fragment}
 use Rattle.net_udp.specs.declared.frames.checksum.Checksum.{Checksum}
 use Rattle.net_pcap.specs.{FrameParts}
 use Rattle.net_pcap.specs.declared.frame.Direction.TheVariants as recorded

@@ -2,7 +2,7 @@ ghost use Rattle.std.specs.Prelude.{◌≡◌, [], None, Option, false, option_m
 ghost use Rattle.std.specs.declared.net.ip_addr.IpAddr.{IpAddr as Host};
 ghost use Rattle.net_udp.specs.Fragments.{content_of as put_together};
 ghost use Rattle.net_udp.specs.Frames.{IsBetween, shown};
-ghost use Rattle.net_udp.specs.Fragments.{Outcome as Became};
+ghost use Rattle.net_udp.specs.declared.fragments.outcome.Outcome.{Outcome as Became};
 ghost use Rattle.net_pcap.specs.{FrameParts, no_frame};
 ghost use Rattle.net_udp.specs.Recording.Brought.{nothing_brought};
 ghost use Rattle.net_udp.specs.Recording.Fates.{content_of, direction_of, IsFate, IsFateBy, IsFateOf, IsSoundFate, Says, sharers};

@@ -1,7 +1,8 @@
 ghost use Rattle.std.specs.Prelude.{◌≡◌, ◌≢◌, ◌+◌, ◌++◌, ℕ, List, [], true, false, None, Ok, Err, IfOk, IfErr, OnOk};
 ghost use Rattle.std.specs.Io.KnownBytes.{prepend_known, Consumes, IsAtEnd};
 ghost use Rattle.net_pcap.specs.{FailsToBegin, FaultKind, lost_of};
-ghost use Rattle.net_streams.specs.Streams.{KeepsAnswer, Standing, standing_after};
+ghost use Rattle.net_streams.specs.Streams.{KeepsAnswer, standing_after};
+ghost use Rattle.net_streams.specs.{Standing};
 ghost use Rattle.net_udp.specs.Recording.History.{Continues, StandsFor, Step, standing_of};
 
 use crate::copies::Recent;

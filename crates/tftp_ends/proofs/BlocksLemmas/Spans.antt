@@ -1,7 +1,8 @@
 -- Places whose blocks are parts of the same bytes.
 use Rattle.std.proofs.Common.{◌≡◌, ◌+◌, ◌*◌, ◌<◌, ◌≤◌, ℕ, zero, suc, List, [], ◌∷◌, ◌++◌, length, take, drop, Option, Some, None, option_map, refl, ap, subst, ◌∙◌, arith, slice_index_or}
 use Rattle.std.proofs.lemmas.List.{length-take, length-drop, length-map, get_or-map, take_all, take-append-le, drop-append-le, drop_all, take_more, at_drop_more}
-use Rattle.tftp_ends.specs.Blocks.{Span, Slots, placed, leading, total, filled, IsEven, part, shown, AreWithin}
+use Rattle.tftp_ends.specs.Blocks.{Slots, placed, leading, total, filled, IsEven, part, shown, AreWithin}
+use Rattle.tftp_ends.specs.declared.blocks.waiting.Span.{Span}
 use Rattle.std.proofs.Math.Nat.{suc-mul}
 use Rattle.tftp_ends.proofs.BlocksLemmas.Places.{even_fits}
 

@@ -1,6 +1,6 @@
 -- Ways differ.
 use Rattle.std.proofs.Common.{◌≡◌}
-use Rattle.tftp_packet.specs.Hosts.{In, Out}
+use Rattle.tftp_packet.specs.declared.hosts.dir.Dir.TheVariants.{In, Out}
 
 pub in_not_out : In ≡ Out → ⊥
 in_not_out e = absurd (cc)

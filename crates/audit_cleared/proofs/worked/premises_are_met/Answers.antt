@@ -4,7 +4,8 @@ use Rattle.std.proofs.lemmas.List.Elements.{All-from_recursion}
 use Rattle.audit_recording.specs.Between.Worked.{first_transfer}
 use Rattle.audit_cleared.specs.{HasAddresses, IsOpenedIn, IsSentThere, IsWith}
 use Rattle.audit_cleared.proofs.Hosts.{address_at}
-use Rattle.audit_flows.specs.Lines.{Endpoint, same_endpoint}
+use Rattle.audit_flows.specs.Lines.{same_endpoint}
+use Rattle.audit_flows.specs.{Endpoint}
 use Rattle.audit_views.specs.Parties.{IsAddress}
 use Rattle.audit_flows.specs.Transfers.{asked_twice, client, placed}
 use Rattle.audit_flows.specs.Transfers.Worked.{server, stranger}

@@ -1,7 +1,8 @@
 use Rattle.std.proofs.Common.{◌≡◌, true, List, [], ◌∷◌, inl, inr, refl, sym, subst, ap, arith}
 use Rattle.tftp_packet.specs.{Message, Spells, Client, Server}
 use Rattle.tftp_packet.proofs.Unique.{one_message}
-use Rattle.tftp_packet.specs.Hosts.{In, Out, Datagram}
+use Rattle.tftp_packet.specs.Hosts.{Datagram}
+use Rattle.tftp_packet.specs.{In, Out}
 use Rattle.law_model.specs.Rules.{route_of, is_of_transfer, Passed}
 use Rattle.tftp_packet.proofs.HostsLemmas.Ways.{in_not_out, out_not_in}
 use Rattle.law_pair.specs.{Event, AreAllOpen, IsBrought, AreMergedBy, IsShut, worked_datagram, block_of, acknowledged, at_the_client, at_the_server, captured_at}

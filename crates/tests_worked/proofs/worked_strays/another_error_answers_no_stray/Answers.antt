@@ -1,5 +1,5 @@
 use Rattle.std.proofs.Common.{refl}
-use Rattle.law_model.specs.Rules.{PortRule}
+use Rattle.law_model.specs.{PortRule}
 use Rattle.law_end.specs.{Rule}
 use Rattle.tests_worked.specs.{at_client, at_server, before_answering, answers_by_error_4, after_a_stray_at_server, server_answers_by_error_4}
 use Rattle.tests_worked.proofs.ByRules.{refused_verdict}

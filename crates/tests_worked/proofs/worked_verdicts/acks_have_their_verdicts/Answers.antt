@@ -1,5 +1,5 @@
 use Rattle.std.proofs.Common.{refl}
-use Rattle.law_model.specs.Rules.{EndRule}
+use Rattle.law_model.specs.{EndRule}
 use Rattle.law_end.specs.{Rule}
 use Rattle.tests_worked.specs.{acknowledges_two, at_client, read_without_its_ack, ack_zero, before_ack_zero}
 use Rattle.tests_worked.proofs.ByRules.{refused_verdict}

@@ -1,5 +1,5 @@
 use Rattle.std.proofs.Common.{refl}
-use Rattle.law_model.specs.Rules.{EndRule}
+use Rattle.law_model.specs.{EndRule}
 use Rattle.law_end.specs.{Rule}
 use Rattle.tests_worked.specs.{at_client, before_changed_block, before_going_back, before_last_number, before_short_block, before_taking_offer, block_too_early, block_zero, changed_block, goes_back, last_number, only_asked, short_block, before_skip, block_two}
 use Rattle.tests_worked.proofs.ByRules.{refused_verdict}

@@ -1,5 +1,5 @@
 use Rattle.std.proofs.Common.{refl}
-use Rattle.law_model.specs.Rules.{PortRule}
+use Rattle.law_model.specs.{PortRule}
 use Rattle.law_end.specs.{Rule}
 use Rattle.tests_worked.specs.{at_client, acknowledges_nobody, acknowledges_stray, before_answering, comes_to_another_port}
 use Rattle.tests_worked.proofs.ByRules.{refused_verdict}

@@ -1,5 +1,5 @@
 use Rattle.std.proofs.Common.{[], ◌∷◌, refl}
-use Rattle.law_model.specs.Rules.{EndRule}
+use Rattle.law_model.specs.{EndRule}
 use Rattle.law_end.specs.{Rule}
 use Rattle.tests_worked.specs.{at_client, brings_hi, ack_zero, agrees_to_eight, agrees_to_four, asks_for_size, before_changed_reply, before_late_oack, before_taking_offer, late_oack, only_asked, too_many_blocks, at_service}
 use Rattle.tests_worked.proofs.ByRules.{refused_verdict}

@@ -1,5 +1,5 @@
 use Rattle.std.proofs.Common.{◌≡◌, ◌≤◌, ◌+◌, ◌-◌, ◌^◌, false}
-use Rattle.net_streams.specs.Streams.{Open}
+use Rattle.net_streams.specs.{Open}
 use Rattle.tftp_commands.proofs.Showing.{Showing}
 use Rattle.tftp_commands.proofs.show.show.Given as goal
 

@@ -1,6 +1,7 @@
 use Rattle.std.proofs.Common.{sym, subst, arith}
 use Rattle.tftp_packet.specs.{Data}
-use Rattle.law_model.specs.Rules.{HasWrongLength, usable, BlockLength, WindowOverrun}
+use Rattle.law_model.specs.Rules.{HasWrongLength, usable}
+use Rattle.law_model.specs.{BlockLength, WindowOverrun}
 use Rattle.law_model.proofs.RulesLemmas.EndRules.{none_of, first_end}
 use Rattle.tftp_ends.proofs.FirstRules.{refute}
 use Rattle.tftp_ends.proofs.EndLengths.{right_not_wrong}

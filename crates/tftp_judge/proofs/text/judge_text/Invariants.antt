@@ -1,6 +1,6 @@
 use Rattle.std.proofs.Common.{◌≡◌, ◌<◌, ◌-◌, ◌^◌, false}
 use Rattle.std.specs.Io.KnownBytes.{prepend_known}
-use Rattle.net_streams.specs.Streams.{Standing}
+use Rattle.net_streams.specs.{Standing}
 use Rattle.tftp_judge.proofs.Follows.{Follows}
 use Rattle.tftp_judge.proofs.text.judge_text.Given as goal
 

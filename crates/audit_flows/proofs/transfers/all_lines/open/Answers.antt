@@ -1,5 +1,6 @@
 use Rattle.std.proofs.Common.{rules, ◌≡◌, None, [], ◌∷◌, refl, sym, ap, subst, ◌∙◌, is_some}
-use Rattle.audit_flows.specs.Lines.{Opens, clock, live, line, AreLinesOf, IsLineOf, IsLineKept}
+use Rattle.audit_flows.specs.Lines.{clock, live, line, AreLinesOf, IsLineOf, IsLineKept}
+use Rattle.audit_flows.specs.declared.lines.place.Place.TheVariants.{Opens}
 use Rattle.audit_flows.proofs.LinesLemmas.Silences.{live_kept, live_lost, live_later}
 use Rattle.audit_flows.proofs.TransfersLemmas.AllLines.{on_ok_both, lines_more, lines_back}
 use Rattle.audit_flows.proofs.transfers.all_lines.open.Goals as goal

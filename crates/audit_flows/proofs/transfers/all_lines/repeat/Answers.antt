@@ -1,5 +1,6 @@
 use Rattle.std.proofs.Common.{◌≡◌, ◌∷◌, sym, ap, subst, ◌∙◌, is_some}
-use Rattle.audit_flows.specs.Lines.{Repeats, same_endpoint, clock, live, line, place_asked, IsLineOf, IsLineKept}
+use Rattle.audit_flows.specs.Lines.{same_endpoint, clock, live, line, place_asked, IsLineOf, IsLineKept}
+use Rattle.audit_flows.specs.declared.lines.place.Place.TheVariants.{Repeats}
 use Rattle.audit_flows.proofs.LinesLemmas.Silences.{live_later}
 use Rattle.audit_flows.proofs.TransfersLemmas.AllLines.{on_ok_map, lines_more, live_whole, repeats_live}
 use Rattle.audit_flows.proofs.transfers.all_lines.repeat.Goals as goal

@@ -1,5 +1,6 @@
 use Rattle.std.proofs.Common.{◌≡◌, true, false, ◌∷◌, Some, cond, refl, sym, ap, subst, ◌∙◌}
-use Rattle.audit_flows.specs.Lines.{Opens, Repeats, Talks, Apart, Beside, Nowhere, same_endpoint}
+use Rattle.audit_flows.specs.Lines.{same_endpoint}
+use Rattle.audit_flows.specs.declared.lines.place.Place.TheVariants.{Opens, Repeats, Talks, Apart, Beside, Nowhere}
 use Rattle.audit_flows.specs.Transfers.{last_served, AreServed}
 use Rattle.audit_flows.proofs.TransfersLemmas.Serving.{served_there, served_elsewhere, served_same, served_more}
 use Rattle.audit_flows.proofs.transfers.attribution.keep_served.Goals as goal

@@ -1,7 +1,8 @@
 use Rattle.std.proofs.Common.{ℕ, [], List, inl, map, subst, sym}
 use Rattle.std.specs.List.{AllByRecursion}
 use Rattle.law_end.specs.{IsLawful, IsRefused}
-use Rattle.audit_flows.specs.Lines.{Address, Endpoint, Recorded}
+use Rattle.audit_flows.specs.Lines.{Recorded}
+use Rattle.audit_flows.specs.{Address, Endpoint}
 use Rattle.audit_spared.specs.Spared.{AreInterleaved, IsLawfulAt, IsWholeCapture, SparesClientsByThree}
 use Rattle.audit_spared.specs.Spared.Seen.{HasNoSilence, as_seen_by, at_client_of}
 use Rattle.audit_spared.proofs.SparedLemmas.Basics.{doubtful_is}

@@ -2,7 +2,8 @@ use Rattle.std.proofs.Common.{◌≡◌, ◌⊎◌, ◌||◌, ℕ, [], ◌∷◌
 use Rattle.std.specs.List.{AllByRecursion}
 use Rattle.std.proofs.lemmas.Bool.{or_left, or_right}
 use Rattle.law_end.specs.{IsRefused, OneEnded, Rule}
-use Rattle.audit_flows.specs.Lines.{Address, Endpoint, Placed, Recorded, Transfer}
+use Rattle.audit_flows.specs.Lines.{Placed, Recorded}
+use Rattle.audit_flows.specs.{Address, Endpoint, Transfer}
 use Rattle.audit_flows.specs.Transfers.{is_beside}
 use Rattle.audit_flows.specs.Transfers.Places.{placed}
 use Rattle.audit_spared.specs.Spared.{AreServed, AsksInTime, IsServedCapture, IsTimelyCapture, SparesServersByFour, as_served, at_server_of, is_shared, needs_doubt, seen_at_server, server_saw}

@@ -1,6 +1,6 @@
 use Rattle.std.proofs.Common.{false, [], ◌∷◌, codes, filter, map, refl}
 use Rattle.law_end.specs.{Rule}
-use Rattle.law_model.specs.Rules.{PortRule}
+use Rattle.law_model.specs.{PortRule}
 use Rattle.audit_flows.specs.Transfers.{ack_of, client, data_of, service}
 use Rattle.audit_flows.specs.Transfers.Worked.{passes, requests, server}
 use Rattle.audit_spared.specs.Spared.Seen.{HasNoSilence, as_seen_by, at_client_of, is_with}

@@ -1,6 +1,6 @@
 use Rattle.std.proofs.Common.{false, List, [], ◌∷◌, codes, filter, map, refl, reverse}
 use Rattle.law_end.specs.{IsLawful, Rule}
-use Rattle.law_model.specs.Rules.{PortRule}
+use Rattle.law_model.specs.{PortRule}
 use Rattle.audit_flows.specs.Lines.{Recorded}
 use Rattle.audit_flows.specs.Transfers.{client, service}
 use Rattle.audit_flows.specs.Transfers.Worked.{requests}

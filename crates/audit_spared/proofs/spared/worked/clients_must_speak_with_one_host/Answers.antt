@@ -1,6 +1,6 @@
 use Rattle.std.proofs.Common.{false, [], ◌∷◌, codes, filter, refl}
 use Rattle.law_end.specs.{Rule}
-use Rattle.law_model.specs.Rules.{PortRule}
+use Rattle.law_model.specs.{PortRule}
 use Rattle.audit_flows.specs.Transfers.{client}
 use Rattle.audit_flows.specs.Transfers.Worked.{at, requests}
 use Rattle.audit_spared.specs.Spared.Seen.{is_with}

@@ -5,7 +5,7 @@ use Rattle.audit_spared.specs.Spared.Seen.{is_with}
 use Rattle.audit_spared.specs.Spared.{IsServedCapture, FollowOneAnother}
 use Rattle.audit_spared.specs.Spared.Worked.{ack_again, asked_late, one_client, own_name}
 use Rattle.audit_spared.proofs.SparedLemmas.WorkedPremises.{at_one, follow_one, late_by, here_by, order_by, others_by, own_names, ports_by}
-use Rattle.law_model.specs.Rules.{EndRule}
+use Rattle.law_model.specs.{EndRule}
 use Rattle.audit_spared.proofs.SparedLemmas.WorkedLate.{late_refused}
 use Rattle.audit_spared.proofs.SparedLemmas.WorkedCaptures.{late_there_lawful}
 use Rattle.audit_spared.proofs.spared.worked.requests_must_not_come_late.Goals as goal

@@ -1,7 +1,7 @@
 use Rattle.std.proofs.Common.{◌≤◌, All, List, length, sym, subst, ◌∙◌, arith}
 use Rattle.std.proofs.lemmas.List.Elements.{All-drop}
 use Rattle.std.proofs.lemmas.List.{nil_from_length}
-use Rattle.audit_views.specs.Views.{Held}
+use Rattle.audit_views.specs.declared.views.held.Held.{Held}
 use Rattle.audit_views.proofs.ViewsLemmas.Holding.{IsGivenSoFar, given_all, given_none, given_one}
 use Rattle.audit_views.proofs.views.server_view.judge_of.Goals as goal
 

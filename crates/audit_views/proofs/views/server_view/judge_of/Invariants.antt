@@ -2,7 +2,8 @@ use Rattle.std.proofs.Common.{◌≡◌, ◌+◌, ◌≤◌, List, All, length, 
 use Rattle.std.specs.VecDeque.{deque_len}
 use Rattle.audit_flows.specs.Transfers.{AreEndsAfter}
 use Rattle.audit_flows.specs.Lines.{Placed}
-use Rattle.audit_views.specs.Views.{Held, Naming, AreHeld}
+use Rattle.audit_views.specs.Views.{Naming, AreHeld}
+use Rattle.audit_views.specs.declared.views.held.Held.{Held}
 use Rattle.audit_views.proofs.ViewsLemmas.Holding.{IsGivenSoFar}
 use Rattle.audit_views.proofs.views.server_view.judge_of.Given as goal
 

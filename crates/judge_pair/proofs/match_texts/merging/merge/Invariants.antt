@@ -1,5 +1,5 @@
 use Rattle.std.proofs.Common.{◌≡◌, ◌<◌, ◌+◌, None}
-use Rattle.net_streams.specs.Streams.{Standing}
+use Rattle.net_streams.specs.{Standing}
 use Rattle.judge_pair.specs.MatchTexts.{BothRun, lines_left, seen}
 use Rattle.judge_pair.proofs.match_texts.merging.merge.Given as goal
 

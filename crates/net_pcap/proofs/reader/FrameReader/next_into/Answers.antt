@@ -1,6 +1,6 @@
 use Rattle.std.proofs.Common.{◌≡◌, Err, ap}
 use Rattle.net_pcap.proofs.Standings.{continues_frame, continues_end, continues_fault, short_fault}
-use Rattle.net_streams.specs.Streams.{Open}
+use Rattle.net_streams.specs.{Open}
 use Rattle.net_pcap.proofs.reader.FrameReader.next_into.Goals as goal
 
 pub returns-in-Ok-true-clause-continues : goal.returns-in-Ok-true-clause-continues

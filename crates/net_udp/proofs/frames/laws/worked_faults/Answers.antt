@@ -1,5 +1,9 @@
 use Rattle.std.proofs.Common.{◌++◌, [], ◌∷◌, refl, arith, Some, None, Err, take, drop}
-use Rattle.net_udp.specs.Frames.{Linked, Cut, Ethernet, Raw, Ipv4, Unknown, ipv4_bytes, two_tags}
+use Rattle.net_udp.specs.Frames.{Linked, ipv4_bytes, two_tags}
+use Rattle.net_udp.specs.declared.frames.fault.FrameFault.TheVariants.{Cut}
+use Rattle.net_udp.specs.declared.frames.link.LinkType.TheVariants.{Ethernet, Raw}
+use Rattle.net_udp.specs.declared.frames.link.Network.TheVariants.{Ipv4}
+use Rattle.net_udp.specs.declared.frames.packet.Direction.TheVariants.{Unknown}
 use Rattle.net_udp.specs.declared.frames.fault.FrameFault.TheVariants.{Protocol}
 use Rattle.net_udp.proofs.FramesLemmas.Tags.{cut_tag}
 use Rattle.net_udp.proofs.FramesLemmas.FaultOrder.{judged, length_first, protocol_first, network_first, frame_first}

@@ -1,5 +1,6 @@
 use Rattle.std.proofs.Common.{◌≡◌, [], Ok, inl, refl, ap, ◌∙◌}
-use Rattle.net_udp.specs.Fragments.{part_of, Arrival, set_at, Outcome}
+use Rattle.net_udp.specs.Fragments.{part_of, Arrival, set_at}
+use Rattle.net_udp.specs.declared.fragments.outcome.Outcome.{Outcome}
 use Rattle.net_udp.proofs.FragmentsLemmas.Rooms.{on_err}
 use Rattle.net_udp.proofs.RecordingLemmas.Bringing.{makes_room, may_be_put, never_full}
 use Rattle.net_udp.proofs.recording.brought.take_part.Goals as goal

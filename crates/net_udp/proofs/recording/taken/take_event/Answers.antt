@@ -1,7 +1,8 @@
 use Rattle.std.proofs.Common.{◌≡◌, inl, inr, sym, ap, subst}
 use Rattle.net_udp.proofs.FragmentsLemmas.Rooms.{on_err}
 use Rattle.net_pcap.specs.{FrameState}
-use Rattle.net_udp.specs.Recording.{Comes, EventState, IsSentOf, Likeness, WantsNext}
+use Rattle.net_udp.specs.Recording.{Comes, EventState, IsSentOf, WantsNext}
+use Rattle.net_udp.specs.declared.recording.likeness.Likeness.{Likeness}
 use Rattle.net_udp.proofs.recording.taken.take_event.Goals as goal
 
 pub returns-in_err-likeness-clause-wants : goal.returns-in_err-likeness-clause-wants

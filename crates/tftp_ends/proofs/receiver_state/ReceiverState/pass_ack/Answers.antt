@@ -1,7 +1,8 @@
 use Rattle.std.proofs.Common.{List, subst, sym, inl, inr, refl}
 use Rattle.tftp_packet.specs.{Ack}
 use Rattle.tftp_packet.specs.Hosts.{Datagram}
-use Rattle.law_model.specs.Rules.{FirstEndBroken, usable, AckAhead, AckZero}
+use Rattle.law_model.specs.Rules.{FirstEndBroken, usable}
+use Rattle.law_model.specs.{AckAhead, AckZero}
 use Rattle.tftp_ends.specs.{IsReceiverAfter, NoneBroken}
 use Rattle.tftp_ends.proofs.AfterReceiver.{sent_usable, sent_unusable}
 use Rattle.tftp_ends.proofs.FirstRules.{refute, above_zero, both}

@@ -1,7 +1,7 @@
 use Rattle.std.proofs.Common.{rules, Err, ◌≡◌, sym, subst, ap, ◌∙◌}
 use Rattle.std.proofs.lemmas.Result.{err_from_is_err_and}
 use Rattle.tftp_packet.specs.{Data, Packet, Spells, meaning}
-use Rattle.tftp_packet.specs.Hosts.{In, Out}
+use Rattle.tftp_packet.specs.{In, Out}
 use Rattle.tftp_ends.specs.{IsAside, IsFound, IsOfItsAuthor}
 use Rattle.tftp_ends.proofs.AfterSender.{sender_aside}
 use Rattle.tftp_ends.proofs.SenderRules.{one_part, own_way, other_way, out_of}

@@ -1,7 +1,8 @@
 use Rattle.std.proofs.Common.{rules, Err, ◌≡◌, ◌≢◌, ◌≤◌, ◌⊎◌, inl, inr, refl, sym, subst, ◌∙◌, arith}
 use Rattle.std.proofs.lemmas.Result.{err_from_is_err_and}
 use Rattle.tftp_packet.specs.{Data}
-use Rattle.law_model.specs.Rules.{FirstEndBroken, BlockSkipped, GoneBack}
+use Rattle.law_model.specs.Rules.{FirstEndBroken}
+use Rattle.law_model.specs.{BlockSkipped, GoneBack}
 use Rattle.tftp_ends.specs.{IsSenderAfter, IsFound, NoneBroken}
 use Rattle.tftp_ends.proofs.AfterSender.{sent_usable, sent_unusable}
 use Rattle.tftp_ends.proofs.FirstRules.{found_broken}

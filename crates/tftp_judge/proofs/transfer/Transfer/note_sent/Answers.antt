@@ -1,5 +1,5 @@
 use Rattle.std.proofs.Common.{◌≡◌, inl, refl, rules, ◌∙◌}
-use Rattle.tftp_packet.specs.Hosts.{Out}
+use Rattle.tftp_packet.specs.{Out}
 use Rattle.tftp_judge.proofs.transfer.Transfer.note_sent.Goals as goal
 
 pub returns-in-Data-clause-block_sent : goal.returns-in-Data-clause-block_sent

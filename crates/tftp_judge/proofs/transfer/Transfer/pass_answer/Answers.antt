@@ -3,7 +3,7 @@ use Rattle.std.proofs.lemmas.Bool.{false≢true}
 use Rattle.std.proofs.lemmas.Result.{err_from_is_err_and}
 use Rattle.tftp_packet.specs.{meaning, Side}
 use Rattle.tftp_ends.specs.{terms_of}
-use Rattle.law_model.specs.Rules.{Plain}
+use Rattle.law_model.specs.{Plain}
 use Rattle.law_end.specs.{Begins, plain_terms}
 use Rattle.tftp_judge.specs.{WaitsForReply, Transfer, IsExchange}
 use Rattle.tftp_judge.proofs.MessageFound.{finds_rejected}

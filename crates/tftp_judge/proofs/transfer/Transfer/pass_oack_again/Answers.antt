@@ -1,7 +1,8 @@
 use Rattle.std.proofs.Common.{◌≡◌, List, true≢false, sym, subst, ap, rules, ◌∙◌}
 use Rattle.std.proofs.lemmas.Bool.{false≢true}
 use Rattle.tftp_packet.specs.{End, Client}
-use Rattle.tftp_packet.specs.Hosts.{Out, Datagram, Header}
+use Rattle.tftp_packet.specs.Hosts.{Datagram, Header}
+use Rattle.tftp_packet.specs.{Out}
 use Rattle.law_model.specs.Rules.{author_of}
 use Rattle.tftp_judge.specs.{Errors, AreErrors, Transfer, IsTransferAfter}
 use Rattle.tftp_judge.proofs.MessageFound.{oack_again_ended, oack_again_goes, oack_again_late, oack_again_passes}

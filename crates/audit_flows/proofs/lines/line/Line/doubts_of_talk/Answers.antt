@@ -2,7 +2,10 @@ use Rattle.std.proofs.Common.{◌≡◌, false, List, Some, None, option_map, re
 use Rattle.std.specs.BTreeMap.{get}
 use Rattle.std.specs.List.{list_any}
 use Rattle.std.specs.Ordering.{nat_cmp}
-use Rattle.audit_flows.specs.Lines.{Line, Placed, Talks, Transfer, before_talk, begins_oack, history_of, may_be_earlier, may_follow, same_endpoint, endpoint_cmp, other_of, other_end, live, line, may_answer, talk_in, is_another, is_past, is_the_one, acked_0_in, answer_of, answered_last, IsLineOf}
+use Rattle.audit_flows.specs.Lines.{Placed, before_talk, begins_oack, history_of, may_be_earlier, may_follow, same_endpoint, endpoint_cmp, other_of, other_end, live, line, may_answer, talk_in, is_another, is_past, is_the_one, acked_0_in, answer_of, answered_last, IsLineOf}
+use Rattle.audit_flows.specs.declared.lines.line.Line.{Line}
+use Rattle.audit_flows.specs.declared.lines.place.Place.TheVariants.{Talks}
+use Rattle.audit_flows.specs.declared.lines.place.Transfer.{Transfer}
 use Rattle.audit_flows.specs.Lines.Kept.{up_to}
 use Rattle.audit_flows.proofs.LinesLemmas.Histories.{told_up_to}
 use Rattle.audit_flows.proofs.lines.line.Line.doubts_of_talk.Goals as goal

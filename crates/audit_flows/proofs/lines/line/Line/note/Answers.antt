@@ -1,7 +1,9 @@
 use Rattle.std.proofs.Common.{cond, option_map, refl, sym, ap, subst, ◌∙◌, Option, Some}
 use Rattle.std.specs.BTreeMap.{get}
 use Rattle.std.specs.Ordering.{is_eq}
-use Rattle.audit_flows.specs.Lines.{History, Talked, endpoint_cmp, history_of, seen_of, comes_to, talk_after, went_on_after, AreTimed}
+use Rattle.audit_flows.specs.Lines.{endpoint_cmp, history_of, seen_of, comes_to, talk_after, went_on_after, AreTimed}
+use Rattle.audit_flows.specs.declared.lines.history.History.{History}
+use Rattle.audit_flows.specs.declared.lines.line.Talked.{Talked}
 use Rattle.law_model.specs.Rules.{or_this}
 use Rattle.audit_flows.specs.Lines.Kept.{IsHistoryAfter}
 use Rattle.audit_flows.proofs.LinesLemmas.Endpoints.{same_by_order, same_itself}

@@ -1,7 +1,8 @@
 use Rattle.std.proofs.Common.{rules, refl, subst, ◌∙◌, sym, ap, ◌&&◌, if◌then◌else◌}
 use Rattle.std.specs.BTreeMap.{get}
 use Rattle.std.specs.Str.{bytes_eq}
-use Rattle.audit_flows.specs.Lines.{Opens, Repeats, asked_part, endpoint_cmp, history_of, opened_by, same_endpoint, IsHistoryOf}
+use Rattle.audit_flows.specs.Lines.{asked_part, endpoint_cmp, history_of, opened_by, same_endpoint, IsHistoryOf}
+use Rattle.audit_flows.specs.declared.lines.place.Place.TheVariants.{Opens, Repeats}
 use Rattle.audit_flows.proofs.LinesLemmas.Histories.{history_same}
 use Rattle.audit_flows.proofs.LinesLemmas.Requests.{opened_again, opened_alike}
 use Rattle.audit_flows.proofs.lines.line.Line.open.Goals as goal

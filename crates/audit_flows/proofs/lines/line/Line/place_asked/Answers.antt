@@ -1,5 +1,5 @@
 use Rattle.std.proofs.Common.{true, false, sym, ap, ◌∙◌}
-use Rattle.audit_flows.specs.Lines.{Opens}
+use Rattle.audit_flows.specs.declared.lines.place.Place.TheVariants.{Opens}
 use Rattle.audit_flows.proofs.LinesLemmas.Requests.{asked_is}
 use Rattle.audit_flows.proofs.lines.line.Line.place_asked.Goals as goal
 

@@ -1,5 +1,9 @@
 use Rattle.std.proofs.Common.{◌≡◌, ℕ, List, [], length, Some, refl, sym, ap, subst, ◌∙◌}
-use Rattle.audit_flows.specs.Lines.{Place, Opens, Repeats, Talks, Apart, Beside, Nowhere, Doubts, Placed, Recorded, Transfer, live, line, transfer_of, doubts_of, is_near, is_stray_at, newest_of, IsLineOf}
+use Rattle.audit_flows.specs.Lines.{Placed, Recorded, live, line, transfer_of, doubts_of, is_near, is_stray_at, newest_of, IsLineOf}
+use Rattle.audit_flows.specs.declared.lines.place.Place.{Place}
+use Rattle.audit_flows.specs.declared.lines.place.Place.TheVariants.{Opens, Repeats, Talks, Apart, Beside, Nowhere}
+use Rattle.audit_flows.specs.declared.lines.doubts.Doubts.{Doubts}
+use Rattle.audit_flows.specs.declared.lines.place.Transfer.{Transfer}
 use Rattle.audit_flows.proofs.TransfersLemmas.AllLines.{repeats_live}
 use Rattle.audit_flows.proofs.TransfersLemmas.Doubting.{none_doubted}
 use Rattle.audit_flows.proofs.TransfersLemmas.Ends.{IsWhere, placed_where}

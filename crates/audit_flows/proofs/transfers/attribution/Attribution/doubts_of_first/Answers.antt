@@ -1,5 +1,8 @@
 use Rattle.std.proofs.Common.{◌≡◌, Bool, false, None, sym, ap, ◌∙◌, nat_lt}
-use Rattle.audit_flows.specs.Lines.{Opens, Doubts, Transfer, is_near, is_stray_at, newest_of}
+use Rattle.audit_flows.specs.Lines.{is_near, is_stray_at, newest_of}
+use Rattle.audit_flows.specs.declared.lines.place.Place.TheVariants.{Opens}
+use Rattle.audit_flows.specs.declared.lines.doubts.Doubts.{Doubts}
+use Rattle.audit_flows.specs.declared.lines.place.Transfer.{Transfer}
 use Rattle.audit_flows.proofs.TransfersLemmas.Doubting.{first_doubted}
 use Rattle.audit_flows.proofs.transfers.attribution.Attribution.doubts_of_first.Goals as goal
 

@@ -1,5 +1,7 @@
 use Rattle.std.proofs.Common.{◌≡◌, true, ◌∷◌, length, Some, refl, sym, ap, subst, ◌∙◌, OnOk}
-use Rattle.audit_flows.specs.Lines.{Place, Transfer, is_between, live, line, place_asked, AreLinesOf, other_end}
+use Rattle.audit_flows.specs.Lines.{is_between, live, line, place_asked, AreLinesOf, other_end}
+use Rattle.audit_flows.specs.declared.lines.place.Place.{Place}
+use Rattle.audit_flows.specs.declared.lines.place.Transfer.{Transfer}
 use Rattle.audit_flows.proofs.TransfersLemmas.AllLines.{lines_same}
 use Rattle.audit_flows.proofs.TransfersLemmas.Ends.{IsWhere, placed_where}
 use Rattle.audit_flows.proofs.TransfersLemmas.Serving.{between_other}

@@ -1,5 +1,6 @@
 use Rattle.std.proofs.Common.{◌≡◌, [], sym, ap, subst, ◌∙◌}
-use Rattle.audit_flows.specs.Lines.{Opens, begins_write, has_window, live, line, place_asked}
+use Rattle.audit_flows.specs.Lines.{begins_write, has_window, live, line, place_asked}
+use Rattle.audit_flows.specs.declared.lines.place.Place.TheVariants.{Opens}
 use Rattle.audit_flows.proofs.transfers.attribution.Attribution.place_asked.Goals as goal
 
 pub returns-in-None : goal.returns-in-None

@@ -1,5 +1,6 @@
 use Rattle.std.proofs.Common.{◌≡◌, Bool, true, false, length, sym, ap, ◌∙◌, if◌then◌else◌}
-use Rattle.audit_flows.specs.Lines.{Place, live, line, place_asked}
+use Rattle.audit_flows.specs.Lines.{live, line, place_asked}
+use Rattle.audit_flows.specs.declared.lines.place.Place.{Place}
 use Rattle.audit_flows.specs.Transfers.{is_nowhere, at_client, beside}
 use Rattle.audit_flows.proofs.transfers.attribution.Attribution.place_of.Goals as goal
 

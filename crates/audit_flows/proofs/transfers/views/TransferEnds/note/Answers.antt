@@ -1,6 +1,7 @@
 use Rattle.std.proofs.Common.{◌≡◌, false, Option, refl, sym, ap, ◌∙◌}
-use Rattle.audit_flows.specs.Lines.{Endpoint, Placed, is_of}
-use Rattle.audit_flows.specs.Transfers.{TransferEnds}
+use Rattle.audit_flows.specs.Lines.{Placed, is_of}
+use Rattle.audit_flows.specs.declared.lines.endpoint.Endpoint.{Endpoint}
+use Rattle.audit_flows.specs.declared.transfers.views.TransferEnds.{TransferEnds}
 use Rattle.audit_flows.proofs.TransfersLemmas.OwnDatagrams.{comes_none, goes_none, none_passes, of_place, opens_none}
 use Rattle.audit_flows.proofs.transfers.views.TransferEnds.note.Goals as goal
 

@@ -1,7 +1,8 @@
 use Rattle.std.proofs.Common.{◌≡◌, ℕ, max, refl, sym, subst, ap, ◌∙◌}
 use Rattle.std.specs.Option.{unwrap_or}
 use Rattle.tftp_capture.specs.{IsPort}
-use Rattle.audit_flows.specs.Lines.{Endpoint, doubts_of, clock, Recorded, Place}
+use Rattle.audit_flows.specs.Lines.{doubts_of, clock, Recorded}
+use Rattle.audit_flows.specs.{Endpoint, Place}
 use Rattle.audit_views.specs.Parties.{host_name}
 use Rattle.audit_flows.specs.Transfers.{IsRecorded, placed}
 use Rattle.audit_recording.specs.Audit.{time_by}

@@ -1,6 +1,6 @@
 use Rattle.std.proofs.Common.{Option, ◌∷◌, List, subst, MatchOption}
 use Rattle.audit_flows.specs.Lines.{Recorded}
-use Rattle.audit_flows.specs.Transfers.{Attributed}
+use Rattle.audit_flows.specs.{Attributed}
 use Rattle.audit_recording.specs.Audit.{AuditsAfter, IsAttributed}
 use Rattle.audit_recording.proofs.audit.audit.RecordingAudit.note.Goals as goal
 

@@ -1,5 +1,5 @@
 use Rattle.std.proofs.Common.{rules, sym, subst}
-use Rattle.audit_flows.specs.Lines.{Transfer}
+use Rattle.audit_flows.specs.{Transfer}
 use Rattle.audit_views.specs.Views.{client_capture, client_header, server_capture, server_header, IsJudgedWith}
 use Rattle.audit_views.specs.Parties.{host_name}
 use Rattle.audit_recording.specs.Judges.{BetweenStands, ClientStands, Judges, ServerStands}

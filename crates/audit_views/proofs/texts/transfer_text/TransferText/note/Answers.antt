@@ -5,9 +5,11 @@ use Rattle.std.proofs.lemmas.List.{map-append}
 use Rattle.audit_flows.specs.Lines.{Placed}
 use Rattle.audit_flows.specs.Transfers.{is_about}
 use Rattle.audit_flows.proofs.TransfersLemmas.OwnDatagrams.{about_none}
-use Rattle.audit_views.specs.Views.{AreHeld, IsFed, Held}
+use Rattle.audit_views.specs.Views.{AreHeld, IsFed}
+use Rattle.audit_views.specs.declared.views.held.Held.{Held}
 use Rattle.audit_views.proofs.ViewsLemmas.Holding.{ends_too, held_newest, same_own}
-use Rattle.audit_views.specs.Texts.{AreNotesAfter, Notes, Noted}
+use Rattle.audit_views.specs.Texts.{AreNotesAfter, Notes}
+use Rattle.audit_views.specs.declared.texts.noted.Noted.{Noted}
 use Rattle.audit_views.specs.Texts.Kept.{CanBeWritten}
 use Rattle.audit_views.proofs.texts.transfer_text.TransferText.note.Goals as goal
 

@@ -1,7 +1,9 @@
 use Rattle.std.proofs.Common.{◌≡◌, ℕ, List, ◌∷◌, [], true, sym, ap, ◌∙◌, subst}
 use Rattle.tftp_capture.specs.{IsPort}
-use Rattle.tftp_packet.specs.Hosts.{Datagram, Dir, In, Out}
-use Rattle.audit_views.specs.Views.{IsFed, Party, captured_as}
+use Rattle.tftp_packet.specs.Hosts.{Datagram}
+use Rattle.tftp_packet.specs.{Dir, In, Out}
+use Rattle.audit_views.specs.Views.{IsFed, captured_as}
+use Rattle.audit_views.specs.declared.views.party.Party.{Party}
 use Rattle.audit_views.specs.Texts.{is_seen}
 use Rattle.audit_views.proofs.TextsLemmas.Writing.{ShowsNote, added_none, added_one, on_written, shown, unseen}
 use Rattle.audit_views.proofs.texts.transfer_text.TransferText.put.Goals as goal

@@ -4,7 +4,8 @@ use Rattle.tftp_capture.specs.{commented_text, said_in, HasWrittenHosts}
 use Rattle.tftp_capture.specs.Commented.Entry.{Comment}
 use Rattle.audit_flows.specs.Transfers.{is_about}
 use Rattle.audit_views.specs.Views.{AreHeld}
-use Rattle.audit_views.specs.Texts.{Notes, HasComment, capture_at, header_at, Noted}
+use Rattle.audit_views.specs.Texts.{Notes, HasComment, capture_at, header_at}
+use Rattle.audit_views.specs.declared.texts.noted.Noted.{Noted}
 use Rattle.audit_views.proofs.TextsLemmas.Captures.{capture_more, header_is, own_capture}
 use Rattle.audit_views.proofs.TextsLemmas.Entries.{said-append}
 use Rattle.audit_views.proofs.TextsLemmas.Notes.{IsFedAs, all_taken, at_place}

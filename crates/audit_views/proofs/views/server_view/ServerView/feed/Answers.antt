@@ -1,6 +1,6 @@
 use Rattle.std.proofs.Common.{◌≡◌, ◌∷◌, Some, false, true, refl, sym, ap, ◌∙◌, subst, Option}
 use Rattle.audit_flows.specs.Transfers.{is_about, is_settled}
-use Rattle.audit_flows.specs.Lines.{Transfer}
+use Rattle.audit_flows.specs.{Transfer}
 use Rattle.audit_views.specs.Views.{IsGoingOn, IsViewAfter, Server, View, ViewedBy}
 use Rattle.audit_views.proofs.ViewsLemmas.Holding.{goes_on_too, on_ok, passes_by}
 use Rattle.audit_views.proofs.views.server_view.ServerView.feed.Goals as goal

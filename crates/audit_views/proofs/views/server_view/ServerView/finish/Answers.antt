@@ -1,5 +1,5 @@
 use Rattle.std.proofs.Common.{sym, ap, ◌∙◌, subst, filter, Option}
-use Rattle.audit_flows.specs.Lines.{Transfer}
+use Rattle.audit_flows.specs.{Transfer}
 use Rattle.audit_flows.specs.Transfers.{is_about}
 use Rattle.audit_views.specs.Views.{server_capture, server_header, IsJudgedWith, IsServerAfter, IsViewAfter, IsWaiting, Server, View, ViewedBy}
 use Rattle.audit_views.proofs.ViewsLemmas.Holding.{own_alone}

@@ -1,8 +1,9 @@
 use Rattle.std.proofs.Common.{◌≡◌, ◌≤◌, ◌∷◌, List, length, None, Some, true, reverse, sym, ap, ◌∙◌, subst, arith, filter, Option}
 use Rattle.std.specs.List.{All}
 use Rattle.audit_flows.specs.Transfers.{AreEndsAfter, is_settled, is_about}
-use Rattle.audit_flows.specs.Lines.{Transfer}
-use Rattle.audit_views.specs.Views.{Held, AreHeld, IsFed, IsGoingOn, IsServerAfter, IsViewAfter, IsWaiting, Server, View, ViewedBy}
+use Rattle.audit_flows.specs.{Transfer}
+use Rattle.audit_views.specs.Views.{AreHeld, IsFed, IsGoingOn, IsServerAfter, IsViewAfter, IsWaiting, Server, View, ViewedBy}
+use Rattle.audit_views.specs.declared.views.held.Held.{Held}
 use Rattle.audit_views.proofs.ViewsLemmas.Holding.{held_newest, held_short, own_alone}
 use Rattle.audit_views.proofs.views.server_view.ServerView.wait.Goals as goal
 use Rattle.audit_views.proofs.views.server_view.ServerView.wait.Goals.{in-Some-1, in-None-3}

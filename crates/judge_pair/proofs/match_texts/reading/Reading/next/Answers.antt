@@ -2,7 +2,8 @@ use Rattle.std.proofs.Common.{None, Ok, refl, sym, ap, subst}
 use Rattle.tftp_capture.specs.{datagram_of, IsReadFault}
 use Rattle.tftp_judge.specs.{IsJudgeAfter}
 use Rattle.tftp_judge.proofs.Follows.{still_clean, reads_or_clean}
-use Rattle.judge_pair.specs.MatchTexts.{IsGiven, IsHalted, Ended, Fault}
+use Rattle.judge_pair.specs.MatchTexts.{IsGiven, IsHalted}
+use Rattle.judge_pair.specs.declared.match_texts.reading.Halt.TheVariants.{Ended, Fault}
 use Rattle.judge_pair.proofs.MatchTextsLemmas.Halting.{given, halted_end, halted_fault}
 use Rattle.judge_pair.proofs.match_texts.reading.Reading.next.Goals as goal
 

@@ -1,5 +1,5 @@
 use Rattle.std.proofs.Common.{◌≡◌, ◌<◌, ◌≤◌, ◌-◌, ◌^◌, None}
-use Rattle.net_streams.specs.Streams.{Standing}
+use Rattle.net_streams.specs.{Standing}
 use Rattle.law_model.specs.Model.Roles.{other_end}
 use Rattle.judge_pair.specs.Judge.{HasSame, side_at}
 use Rattle.judge_pair.specs.MatchTexts.{Runs, judge_at, seen}

@@ -1,5 +1,5 @@
 use Rattle.std.proofs.Common.{◌≡◌, ◌<◌, ◌-◌, ◌^◌, true, is_some, None}
-use Rattle.net_streams.specs.Streams.{Standing}
+use Rattle.net_streams.specs.{Standing}
 use Rattle.law_model.specs.Model.Roles.{other_end}
 use Rattle.judge_pair.specs.Judge.{left_at}
 use Rattle.judge_pair.specs.MatchTexts.{RestRuns, left_judge_at, seen}

@@ -1,5 +1,6 @@
 use Rattle.std.proofs.Common.{Option, MatchBool, sym, subst}
-use Rattle.net_udp.specs.Recording.{IsDiscarded, Sent}
+use Rattle.net_udp.specs.Recording.{IsDiscarded}
+use Rattle.net_udp.specs.declared.recording.sent.Sent.{Sent}
 use Rattle.net_udp.proofs.RecordingLemmas.Discarding.{discards}
 use Rattle.net_udp.proofs.recording.senders.Senders.discard.Goals as goal
 

@@ -1,5 +1,6 @@
 use Rattle.std.proofs.Common.{◌∷◌, Option, sym, subst}
-use Rattle.net_udp.specs.Recording.{Knows, Sent}
+use Rattle.net_udp.specs.Recording.{Knows}
+use Rattle.net_udp.specs.declared.recording.sent.Sent.{Sent}
 use Rattle.net_udp.proofs.RecordingLemmas.Discarding.{knows_nothing_new}
 use Rattle.net_udp.proofs.recording.senders.Senders.note.Goals as goal
 

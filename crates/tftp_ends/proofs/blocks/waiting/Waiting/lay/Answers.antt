@@ -1,6 +1,7 @@
 use Rattle.std.proofs.Common.{ap, sym, subst, ◌∙◌, ◌≡◌, ◌++◌, length, arith}
 use Rattle.std.proofs.lemmas.List.{length-append}
-use Rattle.tftp_ends.specs.Blocks.{Span, placed, shown, AreWithin}
+use Rattle.tftp_ends.specs.Blocks.{placed, shown, AreWithin}
+use Rattle.tftp_ends.specs.declared.blocks.waiting.Span.{Span}
 use Rattle.tftp_ends.proofs.BlocksLemmas.Spans.{within_more, within_placed, shown_held}
 use Rattle.tftp_ends.proofs.blocks.waiting.Waiting.lay.Goals as goal
 
