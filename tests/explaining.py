@@ -420,7 +420,7 @@ def try_recordings(trial: Trial, programs: Words, folder: pathlib.Path) -> None:
     """Recordings that are made here: at which end a refusal is explained, its doubts, and what the program tells."""
     late, path = made.late_block(), folder / "a recording"
     begun, gone_back = late[:5], refusal(5, Rule.GONE_BACK)
-    unsure = "Doubtful: its client had not gone on with who answered what it asked for before"
+    unanswered = "Doubtful: nobody had answered for sure what its client asked for before: what comes may be"
     again = "its client had asked the same and sent nothing else since: the transfer before goes on"
     at_server, at_client = "out, from port 41000 of the server to", "in, from 192.0.2.1 port 42000 to port 40000 of the"
     inside = "Accused: the server at 127.0.0.1:41000, which sent the datagram."
@@ -439,7 +439,7 @@ def try_recordings(trial: Trial, programs: Words, folder: pathlib.Path) -> None:
         ("both inside a host", made.file_of(made.at_one_host(late, "127.0.0.1")), (), gone_back, (inside,)),
         (
             "a doubt of a transfer", made.file_of(made.asked_again()), (2, "client"),
-            refusal(2, Rule.WINDOW_OVERRUN), (at_client, unsure, again),
+            refusal(2, Rule.WINDOW_OVERRUN), (at_client, unanswered, again),
         ),
         (
             "what is told beside", made.file_of([*late, name]), (), sound,

@@ -177,7 +177,7 @@ def try_others(trial: Trial, programs: Words, folder: pathlib.Path) -> None:
     output, _, status = run([*programs, path])
     words = Page(output).text()
     is_told = f"doubtful: refused datagram 2 rule {Rule.WINDOW_OVERRUN}" in words
-    is_told = is_told and "Doubtful its client had not gone on with who answered" in words
+    is_told = is_told and "Doubtful nobody had answered for sure what its client asked for before" in words
     is_told = is_told and "its client had asked the same and sent nothing else since" in words
     trial.check("a doubt", is_told and "Accused" not in words and status == 1, words)
     for place in ((), ("--end", "between")):

@@ -44,7 +44,7 @@ LISTED = """number client server kind mode file options datagrams frames
 SOUND = "accepted get octet blocks 1 bytes 2"
 WHOLE = Row(1, "between", None, SOUND)
 ONE_WAY = "nothing that came to its client is there: one direction only"
-UNSURE = "its client had not gone on with who answered what it asked for before"
+UNANSWERED = "nobody had answered for sure what its client asked for before: what comes may be the late answer"
 LED_ASTRAY = "its client did not go on with who sent it something first"
 UNPLACED = "it may have been recorded between its two ends: name the place with --end"
 AT_CLIENT, AT_SERVER, BETWEEN = ("--end", "client"), ("--end", "server"), ("--end", "between")
@@ -342,6 +342,14 @@ def try_splitting(trial: Trial, program: str) -> None:
     trial.check("a server on the service port", got == wanted, got)
 
 
+def behind_error(host: str, code: int) -> list[Datagram]:
+    """A request to which this ERROR comes, and a read behind it, whose client acknowledges a block too many."""
+    request, *_ = read("a", 40_000, 41_000)
+    asked, block, _ = read("b", 40_000, 42_000)
+    stop, ahead = error(code, "no")[0], ack(7)[0]
+    return [request, Datagram(host, 41_000, C, 40_000, stop), asked, block, Datagram(C, 40_000, S, 42_000, ahead)]
+
+
 def try_doubts(trial: Trial, program: str) -> None:
     """A refusal that the recording does not carry is doubtful, with the reason, and its status is 1."""
     late = late_block()
@@ -363,16 +371,19 @@ def try_doubts(trial: Trial, program: str) -> None:
         ("one host, between", at_one_host(late), BETWEEN, [Row(1, "between", None, sound)], 0),
         (
             "the same request again", asked_again(), AT_CLIENT,
-            [Row(1, "client", None, incomplete), Row(2, "client", 4, overrun, (UNSURE, again, LED_ASTRAY))], 1,
+            [Row(1, "client", None, incomplete), Row(2, "client", 4, overrun, (UNANSWERED, again, LED_ASTRAY))], 1,
         ),
         (
             "the same request again, between", asked_again(), (),
-            [Row(1, "between", None, incomplete), Row(2, "between", 4, overrun, (UNSURE, again, LED_ASTRAY))], 1,
+            [Row(1, "between", None, incomplete), Row(2, "between", 4, overrun, (UNANSWERED, again, LED_ASTRAY))], 1,
         ),
     )
     for name, passed, words, rows, status in cases:
         got = checked(program, file_of(passed), *words)
         trial.check(name, (got[0], got[2]) == (rows, status), got)
+    for host, code, doubts in ((S, 1, ()), (THIRD, 1, (UNANSWERED,)), (S, 0, (UNANSWERED,)), (S, 5, (UNANSWERED,))):
+        row = checked(program, file_of(behind_error(host, code)), *AT_CLIENT)[0][1]
+        trial.check(f"behind ERROR {code} of {host}", (row.frame, row.doubts) == (5, doubts), row)
     rows = checked(program, file_of(late[:5]), *AT_SERVER)[0]
     trial.check("the frame of a refusal at the server", rows == [Row(1, "server", 5, unsound)], rows)
     rows = checked(program, file_of([*late[:2], late[3]]), *AT_SERVER)[0]

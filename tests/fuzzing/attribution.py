@@ -93,11 +93,16 @@ def passes_in(writes: bool, is_client: bool, payload: bytes) -> bool:
     return begins(payload, 5) or begins(payload, 6) and not is_client
 
 
+def refuses(payload: bytes) -> bool:
+    """Whether it is an ERROR that may answer a request: ERROR 0 may answer anything, and ERROR 5 what comes late."""
+    return begins(payload, 5) and int.from_bytes(payload[2:4], "big") not in (0, 5) and len(payload) >= 4
+
+
 class Doubt(NamedTuple):
     """Of refusals of a transfer from this datagram on, and why."""
 
     since: int
-    word: Literal["late", "disordered", "again", "apart", "strays", "unanswered", "unsure"]
+    word: Literal["late", "disordered", "again", "apart", "strays", "unanswered"]
     why: str
 
 
@@ -152,9 +157,9 @@ class Transfer:
     def has_window(self) -> bool:
         return b"windowsize" in self.seen[0].payload.lower().split(b"\0")
 
-    def has_error(self) -> bool:
-        """Whether an ERROR came to its client."""
-        return any(it.target == self.client and begins(it.payload, 5) for it in self.seen)
+    def is_refusal(self, it: Datagram) -> bool:
+        """Whether the host that was asked refuses the request by it."""
+        return it.target == self.client and it.source.host == self.asked.host and refuses(it.payload)
 
     # ---- what may be late from an earlier transfer between the same two
 
@@ -236,6 +241,8 @@ class Line:
     request: Datagram
     ends_in_request: bool = True
     only_asked: bool = True
+    # whether the latest request was answered for sure
+    is_answered: bool = False
     talks: dict[Endpoint, Talk] = field(default_factory=dict)
     said: list[tuple[Datagram, Transfer]] = field(default_factory=list)
 
@@ -330,17 +337,15 @@ class Attribution:
         if line is None:
             self.lines[it.source] = Line(one, self.clock, it)
             return one
-        if line.latest.answered is None:
-            why = "nobody had answered what its client asked before, and may still"
+        if line.latest.answered is None or not line.is_answered:
+            why = "what its client asked before was not answered for sure: who it asked may still answer"
             one.doubts.append(Doubt(0, "unanswered", why))
-        elif line.only_asked and not line.latest.has_error():
-            why = "its client had not gone on with who answered what it asked before, and who it asked may still answer"
-            one.doubts.append(Doubt(0, "unsure", why))
         if line.only_asked and asks_alike(line.request, it):
             why = "its client had asked the same and sent nothing else since: the transfer before goes on"
             one.doubts.append(Doubt(0, "again", why))
         line.latest, line.moment, line.request = one, self.clock, it
         line.ends_in_request = line.only_asked = True
+        line.is_answered = False
         return one
 
     def at_client(self, it: Datagram) -> Optional[Found]:
@@ -390,10 +395,12 @@ class Attribution:
         if it.source == other:
             one.answered = one.answered or other
             self.served[other] = one, self.clock
+        says_more = it.source == client and not begins(it.payload, 5)
+        line.is_answered |= one is line.latest and (says_more or one.is_refusal(it))
         if it.source == client:
             talk.acked_0 = it.payload == ACK_0
             one.is_followed |= it.payload[:4] != ERROR_5 and one is line.latest and one.answered == other
-            if not begins(it.payload, 5):
+            if says_more:
                 line.only_asked = False
                 one.went_on = one.went_on or other
         self.keep(one, it)

@@ -48,7 +48,7 @@ def told(found: Attribution) -> list[str]:
     for one in found.transfers:
         late = [doubt.since for doubt in one.doubts if doubt.word == "late"]
         its = {doubt.word for doubt in one.doubts}
-        doubted = ("doubted",) if its - {"late", "unsure"} else ()
+        doubted = ("doubted",) if its - {"late"} else ()
         words = sorted({*(word for word in its if word in WORDS), *passed_in(one), *doubted})
         rows.append(" ".join((f"transfer {one.number}", *words, *(f"since {first}" for first in late[:1]))))
         rows.append(" ".join(("at-client", *(str(it.number) for it in one.view("client")))))

@@ -5,7 +5,7 @@ use Rattle.std.specs.Str.{bytes_eq}
 use Rattle.std.specs.BTreeMap.{get, BTreeMap}
 use Rattle.std.specs.Ordering.{is_eq, nat_cmp}
 use Rattle.law_model.specs.Rules.{or_this}
-use Rattle.audit_flows.specs.Lines.{Recorded, same_endpoint, endpoint_cmp, is_between, Placed, opens, is_request, newest_of, latest_in, reach, answers, answered_in, talked_of, talk_in, place_asked, IsLineOf, seen_of, asked_by, history_of, opened_by, place_of_talk, comes_to, talk_after, ends_after, went_on_after, AreTimed, is_past, asked_part, says_more, is_alike_in, is_later}
+use Rattle.audit_flows.specs.Lines.{Recorded, same_endpoint, endpoint_cmp, is_between, Placed, opens, is_request, newest_of, latest_in, reach, answers, answered_in, talked_of, talk_in, place_asked, IsLineOf, seen_of, asked_by, history_of, opened_by, place_of_talk, comes_to, surely_after, talk_after, ends_after, went_on_after, AreTimed, is_past, answers_surely, asked_part, says_more, is_alike_in, is_later}
 use Rattle.audit_flows.specs.declared.lines.endpoint.Endpoint.{Endpoint}
 use Rattle.audit_flows.specs.declared.lines.place.Place.TheVariants.{Repeats}
 use Rattle.audit_flows.specs.declared.lines.place.Transfer.{Transfer}
@@ -66,11 +66,17 @@ pub record IsNoted (old new : Line) (o : Endpoint) (talked : Option Transfer) (d
       ≡ cond (is_eq (endpoint_cmp o q)) (history_of (get endpoint_cmp new.talks o)) (history_of (get endpoint_cmp old.talks q))
   pub history : IsHistoryAfter (history_of (get endpoint_cmp old.talks o)) (history_of (get endpoint_cmp new.talks o)) talked (seen_of d).kind.number
   pub went_on : new.went_on ≡ went_on_after talked (seen_of d) old.went_on
+  pub surely : new.is_answered ≡ surely_after old.latest.number talked (seen_of d) old.is_answered
   pub newest : AreTimed old.newest new.newest talked d.time
 
 says_after : (c : Endpoint) (talked : Option Transfer) (d : Recorded) (now : ℕ) (before : Bool) → (says_more (talk_placed c d now talked) || before) ≡ went_on_after talked (seen_of d) before
 says_after c None d now before = refl
 says_after c (Some x) d now before = refl
+
+answers_after : (c : Endpoint) (n : ℕ) (talked : Option Transfer) (d : Recorded) (now : ℕ) (before : Bool)
+    → (answers_surely n (talk_placed c d now talked) || before) ≡ surely_after n talked (seen_of d) before
+answers_after c n None d now before = refl
+answers_after c n (Some x) d now before = refl
 
 times_after : (old new : BTreeMap ℕ ℕ) (c : Endpoint) (talked : Option Transfer) (d : Recorded) (now n at : ℕ) (line : List Placed) → AreTimed old new talked d.time
     → list_any (is_later n at) line ≡ is_past at (get nat_cmp old n) → list_any (is_later n at) (talk_placed c d now talked ∷ line) ≡ is_past at (get nat_cmp new n)
@@ -136,5 +142,9 @@ note_stands old new o talked d now line noted between stands =
       went_on = ap (λ b. list_any says_more (if b then [] else p ∷ reach line)) shut
           ∙ says_after old.latest.client talked d now (list_any says_more (reach line))
           ∙ ap (went_on_after talked (seen_of d)) stands.went_on ∙ sym noted.went_on;
+      surely = ap (λ x. list_any (answers_surely x.number) (reach (p ∷ line))) noted.latest
+          ∙ ap (λ b. list_any (answers_surely old.latest.number) (if b then [] else p ∷ reach line)) shut
+          ∙ answers_after old.latest.client old.latest.number talked d now (list_any (answers_surely old.latest.number) (reach line))
+          ∙ ap (surely_after old.latest.number talked (seen_of d)) stands.surely ∙ sym noted.surely;
       newest = λ n at. times_after old.newest new.newest old.latest.client talked d now n at line noted.newest (stands.newest n at);
     }

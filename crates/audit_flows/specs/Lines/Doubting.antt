@@ -8,7 +8,7 @@ use Rattle.audit_flows.specs.declared.lines.place.Place.{Place}
 use Rattle.audit_flows.specs.declared.lines.place.Place.TheVariants.{Opens, Repeats, Talks, Beside, Nowhere}
 use Rattle.audit_flows.specs.declared.lines.place.Transfer.{Transfer}
 use Rattle.audit_flows.specs.declared.lines.doubts.Doubts.{Doubts}
-use Rattle.audit_flows.specs.Lines.Recording.{Recorded, same_endpoint, is_between, other_of, begins_error, begins_oack, begins_packet, begins_unknown_id, is_ack_0, is_block, is_data_1, number_of, passes_in, asks_alike}
+use Rattle.audit_flows.specs.Lines.Recording.{Recorded, same_endpoint, is_between, other_of, begins_error, begins_oack, begins_packet, begins_unknown_id, is_ack_0, is_block, is_data_1, number_of, passes_in, asks_alike, refuses, same_address}
 use Rattle.audit_flows.specs.Lines.Places.{Placed, is_request, is_of, newest_of, live, line, silence, transfer_of, latest_in, reach, talk_in, answered_in, may_answer}
 
 -- the client's line as the datagram came
@@ -138,11 +138,29 @@ follows_strays p older = by p.place where
   by (Opens x) = is_near p.moment (newest_of (is_stray_at x.client) older)
   by _ = false
 
--- its client had asked for another before, and nobody had answered that: what comes may be the late answer
+-- the host that its client had asked refuses the request
+abbrev pub is_refusal : Placed → Bool
+is_refusal p = by p.place where
+  by : Place → Bool
+  by (Talks x) =
+      same_endpoint p.datagram.target x.client && same_address p.datagram.source.address x.asked.address
+      && refuses p.datagram.payload
+  by _ = false
+
+-- the transfer with this number is answered for sure: its client goes on, or the host that it asked refuses it
+abbrev pub answers_surely : ℕ → Placed → Bool
+answers_surely n p = (says_more p || is_refusal p) && is_of n p
+
+-- nobody has answered the latest transfer, or not for sure
+abbrev pub is_unanswered : List Placed → Option Transfer → Bool
+is_unanswered line None = false
+is_unanswered line (Some latest) = not (is_some (answered_in latest line)) || not (list_any (answers_surely latest.number) (reach line))
+
+-- its client had asked for another before, which nobody had answered for sure: what comes may be the late answer to that
 abbrev pub follows_unanswered : Placed → List Placed → Bool
 follows_unanswered p older = by p.place where
   by : Place → Bool
-  by (Opens x) = is_some (latest_in (line_before x.client p older)) && not (is_some (answered_last (line_before x.client p older)))
+  by (Opens x) = is_unanswered (line_before x.client p older) (latest_in (line_before x.client p older))
   by _ = false
 
 -- ---- and in another

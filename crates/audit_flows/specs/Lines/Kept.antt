@@ -15,9 +15,9 @@ use Rattle.audit_flows.specs.declared.lines.line.Talk.{Talk}
 use Rattle.audit_flows.specs.declared.lines.line.Talked.{Talked}
 use Rattle.audit_flows.specs.declared.lines.history.History.{History}
 use Rattle.audit_flows.specs.declared.lines.history.Progress.{Progress}
-use Rattle.audit_flows.specs.Lines.Recording.{Recorded, same_endpoint, endpoint_cmp, asked_part, begins_request, begins_error, begins_oack, begins_packet, begins_unknown_id, is_ack, is_ack_0, is_block, is_data_1, is_answer, number_of, passes_in}
+use Rattle.audit_flows.specs.Lines.Recording.{Recorded, same_endpoint, endpoint_cmp, asked_part, begins_request, begins_error, begins_oack, begins_packet, begins_unknown_id, refuses, same_address, is_ack, is_ack_0, is_block, is_data_1, is_answer, number_of, passes_in}
 use Rattle.audit_flows.specs.Lines.Places.{Placed, is_request, newest_of, clock, live, line, reach, latest_in, answered_in, opened_by, talk_in, place_asked}
-use Rattle.audit_flows.specs.Lines.Doubting.{acked_0_in, before_talk, is_talk, may_follow, says_more, is_alike_in, is_later}
+use Rattle.audit_flows.specs.Lines.Doubting.{acked_0_in, answers_surely, before_talk, is_talk, may_follow, says_more, is_alike_in, is_later}
 
 -- what is looked at of a payload
 abbrev pub kind_of : List ℕ → Kind
@@ -26,6 +26,7 @@ kind_of payload = record {
   begins_error = begins_error payload;
   begins_packet = begins_packet payload;
   begins_unknown_id = begins_unknown_id payload;
+  refuses = refuses payload;
   is_ack_0 = is_ack_0 payload;
   is_data_1 = is_data_1 payload;
   is_answer = is_answer payload;
@@ -126,6 +127,7 @@ pub record IsLineOf (l : Line) (line : List Placed) : Type 0 where
   pub again : (d : Recorded) → d.source ≡ l.latest.client
       → is_alike_in d (newest_of is_request line) ≡ (bytes_eq (asked_part l.request.items) (asked_part d.payload) && same_endpoint l.latest.asked d.target)
   pub went_on : list_any says_more (reach line) ≡ l.went_on
+  pub surely : list_any (answers_surely l.latest.number) (reach line) ≡ l.is_answered
   pub newest : (n time : ℕ) → list_any (is_later n time) line ≡ is_past time (get nat_cmp l.newest n)
 
 -- ---- one datagram more, which is no request
@@ -155,6 +157,15 @@ ends_after (Some x) ended = false
 abbrev pub went_on_after : Option Transfer → Seen → Bool → Bool
 went_on_after None s before = before
 went_on_after (Some x) s before = (same_endpoint s.source x.client && not s.kind.begins_error) || before
+
+-- the host that was asked refuses the transfer's request
+abbrev pub refuses_to : Transfer → Seen → Bool
+refuses_to x s = same_endpoint s.target x.client && same_address s.source.address x.asked.address && s.kind.refuses
+
+-- the transfer with this number has been answered for sure
+abbrev pub surely_after : ℕ → Option Transfer → Seen → Bool → Bool
+surely_after n None s before = before
+surely_after n (Some x) s before = (((same_endpoint s.source x.client && not s.kind.begins_error) || refuses_to x s) && (x.number == n)) || before
 
 -- the times after a datagram of this transfer passed at this one
 abbrev pub IsTimed : BTreeMap ℕ ℕ → BTreeMap ℕ ℕ → ℕ → ℕ → Type 0

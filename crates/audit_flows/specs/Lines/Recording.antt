@@ -96,6 +96,10 @@ begins_packet payload = nat_le 1 (opcode_of payload) && nat_le (opcode_of payloa
 abbrev pub begins_unknown_id : List ℕ → Bool
 begins_unknown_id payload = starts_with nat_eq payload (0 ∷ 5 ∷ 0 ∷ 5 ∷ [])
 
+-- An ERROR that may refuse a request: ERROR 0 may answer anything, and ERROR 5 answers what comes late.
+abbrev pub refuses : List ℕ → Bool
+refuses payload = begins_error payload && not (opcode_of (drop 2 payload) == 0) && not (opcode_of (drop 2 payload) == 5)
+
 -- of a request its side and the name of its file: what stands before the zero that ends the name
 abbrev pub asked_part : List ℕ → List ℕ
 asked_part payload = by (position (λ b. b == 0) (drop 2 payload)) where

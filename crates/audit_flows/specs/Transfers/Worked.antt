@@ -177,6 +177,29 @@ late_answer =
     ∷ requests 0 client service (codes "f")
     ∷ []
 
+-- Something comes to the client, which then asks for another file.
+abbrev pub asks_behind : Endpoint → List ℕ → List Recorded
+asks_behind source payload =
+    requests 2 client service (codes "g")
+    ∷ passes 1 source client payload
+    ∷ requests 0 client service (codes "f")
+    ∷ []
+
+-- Once it has asked for another, the client acknowledges the block of the first file; and then it asks for a third.
+abbrev pub acked_late : List Recorded
+acked_late =
+    requests 4 client service (codes "h")
+    ∷ passes 3 client server (ack_of 1)
+    ∷ asks_behind server (data_of 1)
+
+-- Nothing came to the client, which sends an ACK all the same.
+abbrev pub acked_unheard : List Recorded
+acked_unheard =
+    requests 2 client service (codes "g")
+    ∷ passes 1 client server (ack_of 1)
+    ∷ requests 0 client service (codes "f")
+    ∷ []
+
 -- A stranger sends the client a whole request, and is told so.
 abbrev pub stray_request : List Recorded
 stray_request =
@@ -235,11 +258,12 @@ errors =
 abbrev pub oack : List ℕ
 oack = 0 ∷ 6 ∷ codes "blksize" ++ 0 ∷ codes "8" ++ 0 ∷ []
 
--- The same, but the server agrees on something first.
+-- A client keeps its port and the server has one: what it agrees on with the second file may be late from the first, and block 7
+-- is no block of that.
 abbrev pub one_port_agrees : List Recorded
 one_port_agrees =
     passes 6 server client (data_of 7)
-    ∷ passes 5 server client (error_of 5)
+    ∷ passes 5 client server (ack_of 0)
     ∷ passes 4 server client oack
     ∷ requests 3 client service (codes "g")
     ∷ passes 2 client server (ack_of 1)

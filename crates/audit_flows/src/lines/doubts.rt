@@ -44,7 +44,8 @@ pub struct Doubts {
     /// It opens the transfer where, in the last 300 s, something passed at its client's endpoint that is of no line, though it
     /// begins as a packet of TFTP does or went to port 69.
     pub follows_strays: bool,
-    /// It opens the transfer, and nobody had answered what its client had asked for before.
+    /// It opens the transfer, and nobody had answered for sure what its client had asked for before: the client had not gone on,
+    /// and the host that it asked had not refused it.
     pub follows_unanswered: bool,
 }
 
@@ -127,7 +128,7 @@ impl Line {
     {
         Doubts {
             is_asked_again: self.is_asked_again(seen.target, payload),
-            follows_unanswered: self.answered.is_none(),
+            follows_unanswered: self.answered.is_none() || !self.is_answered,
             ..Doubts::of_first(seen.time < now, is_after_strays)
         }
     }

@@ -3,7 +3,7 @@
 ghost use Rattle.std.specs.Prelude.{◌≡◌, ◌==◌, ◌||◌, ℕ, List, drop, position, true};
 ghost use Rattle.tftp_packet.specs.{Message, RequestParts, Spells, meaning, opcode_of};
 ghost use Rattle.audit_flows.specs.Lines.Kept.{kind_of, other_end};
-ghost use Rattle.audit_flows.specs.Lines.Recording.{asked_part, has_window, is_block, passes_in};
+ghost use Rattle.audit_flows.specs.Lines.Recording.{asked_part, has_window, is_block, passes_in, refuses};
 
 use crate::lines::endpoint::Endpoint;
 use tftp_packet::{Packet, opcode, read_packet};
@@ -19,6 +19,8 @@ pub struct Kind {
     pub begins_packet: bool,
     /// It begins as ERROR 5 does, "Unknown transfer ID".
     pub begins_unknown_id: bool,
+    /// It is an ERROR that may refuse a request: neither ERROR 0 nor ERROR 5.
+    pub refuses: bool,
     /// It is ACK 0, and nothing more.
     pub is_ack_0: bool,
     /// It begins as DATA 1 does.
@@ -92,6 +94,7 @@ impl Kind {
             begins_error: opcode(payload) == 5,
             begins_packet: opcode(payload) >= 1 && opcode(payload) <= 6,
             begins_unknown_id: payload.starts_with(ERROR_5.as_slice()),
+            refuses: refuses(payload),
             is_ack_0,
             is_data_1,
             is_answer: is_answer_code(opcode(payload)) || is_ack_0 || is_data_1,
@@ -126,6 +129,13 @@ fn second(payload: &[u8]) -> u16
         Some(rest) => opcode(rest),
         None => 0,
     }
+}
+
+/// Whether it is an ERROR that may refuse a request: neither ERROR 0 nor ERROR 5.
+fn refuses(payload: &[u8]) -> bool
+    ensures { result ≡ refuses payload.now }
+{
+    opcode(payload) == 5 && second(payload) != 0 && second(payload) != 5
 }
 
 fn is_block(payload: &[u8]) -> bool

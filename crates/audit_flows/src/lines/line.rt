@@ -1,10 +1,10 @@
 //! A client's line: what passed at its endpoint since it was last silent.
 
-ghost use Rattle.std.specs.Prelude.{◌≡◌, ◌≤◌, ◌+◌, [], ◌∷◌, ℕ, List, true, false, nat_le, Some, None, Ok, IfOk, OnOk, OnErr, is_some, option_map, bytes_eq, ◌&&◌, not, if◌then◌else◌};
+ghost use Rattle.std.specs.Prelude.{◌≡◌, ◌≤◌, ◌+◌, [], ◌∷◌, ℕ, List, true, false, nat_le, Some, None, Ok, IfOk, OnOk, OnErr, is_some, option_map, bytes_eq, ◌&&◌, ◌||◌, not, if◌then◌else◌};
 ghost use Rattle.std.specs.BTreeMap.{get, IsUnchanged};
 ghost use Rattle.audit_flows.specs.Lines.Recording.{Recorded, same_endpoint, is_between, endpoint_cmp};
 ghost use Rattle.audit_flows.specs.Lines.Places.{Placed, live, place_at, place_talked, place_asked, is_known_host, may_answer, silence};
-ghost use Rattle.audit_flows.specs.Lines.Kept.{IsLineOf, IsRequestOf, IsHistoryAfter, history_of, seen_of, place_of_talk, comes_to, talk_after, ends_after, went_on_after, IsTimed, AreTimed};
+ghost use Rattle.audit_flows.specs.Lines.Kept.{IsLineOf, IsRequestOf, IsHistoryAfter, history_of, seen_of, place_of_talk, comes_to, refuses_to, surely_after, talk_after, ends_after, went_on_after, IsTimed, AreTimed};
 ghost use Rattle.audit_flows.specs.Lines.Doubting.{acked_0_in};
 ghost use Rattle.law_model.specs.Rules.{or_this};
 ghost use Rattle.audit_flows.specs.declared.lines.place.Place.{Place};
@@ -60,6 +60,8 @@ pub struct Line {
     pub ends_in_request: bool,
     /// Since the latest transfer was opened, the client sent what is no request and no ERROR.
     pub went_on: bool,
+    /// The latest transfer is answered for sure: its client went on, or the host that it asked refused it.
+    pub is_answered: bool,
     /// The greatest time of each transfer's datagrams, by its number.
     pub newest: BTreeMap<u64, u64>,
     /// With whom the client talks.
@@ -198,6 +200,7 @@ impl Line {
             request,
             ends_in_request: true,
             went_on: false,
+            is_answered: false,
             newest,
             talks: BTreeMap::new(alloc),
         })
@@ -226,6 +229,7 @@ impl Line {
         self.request = request;
         self.ends_in_request = true;
         self.went_on = false;
+        self.is_answered = false;
         Ok(())
     }
 
@@ -259,6 +263,7 @@ impl Line {
         self.talks.insert(other, Talked { talk, history })?;
         note_talk(&mut self.newest, &talked, seen.time)?;
         self.went_on = went_on_after(&talked, seen, self.went_on);
+        self.is_answered = self.surely_after(&talked, seen);
         self.answered = self.answered_after(talked, seen);
         self.ends_in_request = ends_after(&talked, self.ends_in_request);
         self.moment = now;
@@ -294,6 +299,19 @@ impl Line {
         match talked {
             None => before,
             Some(transfer) => Some(History::after(before, transfer, seen.kind.number)),
+        }
+    }
+
+    /// Whether the latest transfer is answered for sure, after one datagram more that is no request.
+    fn surely_after(&self, talked: &Option<Transfer>, seen: &Seen) -> bool
+        ensures { result ≡ surely_after self.now.latest.number talked.now seen.now self.now.is_answered }
+    {
+        match talked {
+            None => self.is_answered,
+            Some(transfer) => {
+                let is_latest = transfer.number == self.latest.number;
+                (answers_surely(transfer, seen) && is_latest) || self.is_answered
+            }
         }
     }
 
@@ -337,8 +355,30 @@ fn went_on_after(talked: &Option<Transfer>, seen: &Seen, went_on: bool) -> bool
 {
     match talked {
         None => went_on,
-        Some(transfer) => { (seen.source == transfer.client && !seen.kind.begins_error) || went_on }
+        Some(transfer) => goes_on(transfer, seen) || went_on,
     }
+}
+
+/// Whether a datagram of this transfer answers it for sure: its client goes on, or the host that it asked refuses it.
+fn answers_surely(transfer: &Transfer, seen: &Seen) -> bool
+    ensures { result ≡ ((same_endpoint seen.now.source transfer.now.client && not seen.now.kind.begins_error) || refuses_to transfer.now seen.now) }
+{
+    goes_on(transfer, seen) || refuses_to(transfer, seen)
+}
+
+/// Whether the transfer's client sends what is no request and no ERROR.
+fn goes_on(transfer: &Transfer, seen: &Seen) -> bool
+    ensures { result ≡ (same_endpoint seen.now.source transfer.now.client && not seen.now.kind.begins_error) }
+{
+    seen.source == transfer.client && !seen.kind.begins_error
+}
+
+/// Whether the host that was asked refuses the transfer's request.
+fn refuses_to(transfer: &Transfer, seen: &Seen) -> bool
+    ensures { result ≡ refuses_to transfer.now seen.now }
+{
+    let is_asked = seen.source.address == transfer.asked.address;
+    seen.target == transfer.client && is_asked && seen.kind.refuses
 }
 
 /// Notes the time of a datagram of this transfer.

@@ -14,6 +14,9 @@ ghost use Rattle.audit_flows.specs.Transfers.Worked.{
   where_all,
   asked_twice,
   asked_after_answer,
+  asks_behind,
+  acked_late,
+  acked_unheard,
   one_port,
   one_port_on,
   one_port_agrees,
@@ -36,6 +39,9 @@ ghost use Rattle.audit_flows.specs.Transfers.Worked.{
   is_late_in,
   respelled,
   late_answer,
+  next_server,
+  server,
+  stranger,
   stray_request,
   begun_late,
   begun_long_ago,
@@ -128,12 +134,14 @@ pub fn an_error_5_ends_nothing()
     ensures { doubtful_in is_doubtful 0 errors ≡ true ∷ true ∷ false ∷ false ∷ false ∷ false ∷ [] }
 {}
 
-/// An OACK may be late too: then all that may rest on it is doubtful; and so is an ERROR 5.
+/// An OACK may be late too: then all that may rest on it is doubtful at the client, by that alone.
 pub fn what_may_rest_on_a_late_oack_is_a_doubt()
-    ensures at_client { doubtful_in is_doubtful_at_client 3 one_port_agrees
-        ≡ true ∷ true ∷ true ∷ false ∷ false ∷ false ∷ false ∷ [] }
-    ensures not_late { earlier_words (placed [] one_port_agrees)
+    ensures elsewhere { doubtful_in is_doubtful 3 one_port_agrees
+        ≡ false ∷ false ∷ false ∷ false ∷ false ∷ false ∷ false ∷ [] }
+    ensures earlier { earlier_words (placed [] one_port_agrees)
         ≡ false ∷ true ∷ true ∷ false ∷ false ∷ false ∷ false ∷ [] }
+    ensures at_client { doubtful_in is_doubtful_at_client 3 one_port_agrees
+        ≡ true ∷ false ∷ true ∷ false ∷ false ∷ false ∷ false ∷ [] }
 {}
 
 /// What comes to a client's own port is no request, whatever it spells.
@@ -153,6 +161,19 @@ pub fn doubts_are_where_answers_may_be_late()
     ensures begun { follows_strays_in 1 begun_late ≡ true }
     ensures long_ago { follows_strays_in 1 begun_long_ago ≡ false }
     ensures spoken { first_words (placed [] wrong_ports) ≡ true ∷ true ∷ false ∷ false ∷ false ∷ [] }
+{}
+
+/// A request is answered for sure once something comes and its client goes on in that transfer, or the host that it asked refuses
+/// it: not by what comes alone, nor by a stranger's ERROR, nor by ERROR 0 or ERROR 5.
+pub fn what_follows_no_sure_answer_is_doubtful()
+    ensures block { follows_unanswered_in 2 (asks_behind server (data_of 1)) ≡ true }
+    ensures refused { follows_unanswered_in 2 (asks_behind server (error_of 1)) ≡ false }
+    ensures from_next_port { follows_unanswered_in 2 (asks_behind next_server (error_of 2)) ≡ false }
+    ensures from_stranger { follows_unanswered_in 2 (asks_behind stranger (error_of 1)) ≡ true }
+    ensures error_0 { follows_unanswered_in 2 (asks_behind server (error_of 0)) ≡ true }
+    ensures error_5 { follows_unanswered_in 2 (asks_behind server (error_of 5)) ≡ true }
+    ensures gone_on_before { follows_unanswered_in 4 acked_late ≡ true }
+    ensures unheard { follows_unanswered_in 2 acked_unheard ≡ true }
 {}
 
 /// The server sees what its client sends to the port that it had asked.

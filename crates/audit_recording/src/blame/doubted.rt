@@ -17,8 +17,6 @@ pub struct Doubted {
     pub begins: u64,
     /// Nothing came to its client.
     pub is_one_way: bool,
-    /// Who was asked in its client's transfer before may still have answered when it was opened.
-    pub follows_unsure: bool,
     /// The frame of a datagram that may be a copy of the one before.
     pub copied_from: Option<u64>,
     /// The frame of a datagram that was received with an error.
@@ -57,15 +55,14 @@ impl Doubted {
         let doubts = &self.doubts;
         put_if(reasons, doubts.is_disordered(), Reason::Disordered)?;
         put_some(reasons, self.left_out.map(|frame| Reason::LeftOut(frame)))?;
-        put_if(reasons, self.follows_unsure, Reason::FollowsUnsure)?;
-        put_if(reasons, doubts.is_asked_again(), Reason::AskedAgain)?;
-        put_if(reasons, doubts.is_answered_apart(), Reason::AnsweredApart)?;
-        put_if(reasons, doubts.follows_strays(), Reason::FollowsStrays)?;
         put_if(
             reasons,
             doubts.follows_unanswered(),
             Reason::FollowsUnanswered,
-        )
+        )?;
+        put_if(reasons, doubts.is_asked_again(), Reason::AskedAgain)?;
+        put_if(reasons, doubts.is_answered_apart(), Reason::AnsweredApart)?;
+        put_if(reasons, doubts.follows_strays(), Reason::FollowsStrays)
     }
 
     /// Whether something had come to its client, which never went on with who sent it something first.

@@ -19,10 +19,8 @@ pub enum Reason {
     AskedAgain,
     /// A transfer may have been under way whose request was not recorded.
     FollowsStrays,
-    /// What comes may be the late answer to the client's request before.
+    /// Nobody had answered the client's request before for sure: what comes may be the late answer to that.
     FollowsUnanswered,
-    /// The client had not gone on with who answered its request before: who it asked then may still answer.
-    FollowsUnsure,
     /// The client did not go on with who sent it something first.
     LedAstray,
     /// The datagram is an ERROR 5, "Unknown transfer ID" (RFC 1350, section 5).
@@ -102,10 +100,7 @@ impl Reason {
                 "something passed at its client's endpoint before its request: another transfer was under way, it may be"
             }
             Reason::FollowsUnanswered => {
-                "nobody had answered what its client asked for before: what comes may be the late answer"
-            }
-            Reason::FollowsUnsure => {
-                "its client had not gone on with who answered what it asked for before"
+                "nobody had answered for sure what its client asked for before: what comes may be the late answer"
             }
             Reason::LedAstray => "its client did not go on with who sent it something first",
             Reason::UnknownId => {

@@ -33,12 +33,6 @@ pub struct Trail {
     pub ends: TransferEnds,
     /// Whether something came to the client.
     is_answered: bool,
-    /// Whether an ERROR came to the client.
-    has_error: bool,
-    /// Whether the client sent what is no request and no ERROR.
-    went_on: bool,
-    /// Whether who was asked in the client's transfer before may still have answered when this one was opened.
-    follows_unsure: bool,
     /// The frame of what was left out, and may be of it by its time.
     left_out: Option<u64>,
     twice: Twice,
@@ -67,9 +61,6 @@ impl Trail {
             last_time: 0,
             ends: TransferEnds::new(transfer.number),
             is_answered: false,
-            has_error: false,
-            went_on: false,
-            follows_unsure: false,
             left_out: None,
             twice: Twice::new(alloc),
             copied_from: None,
@@ -90,7 +81,6 @@ impl Trail {
     ) -> Result<(), AllocError> {
         if found.place.transfer().is_some() {
             self.note_own(passing)?;
-            self.note_talk(found, passing);
         }
         if passing.is_doubtful && self.copied_from.is_none() {
             self.copied_from = Some(passing.frame);
@@ -113,26 +103,6 @@ impl Trail {
             self.from_client = first_spoilt(self.from_client, passing);
         }
         self.twice.note(passing)
-    }
-
-    /// Notes whether an ERROR came to its client, and whether this went on.
-    fn note_talk(&mut self, found: &Attributed, passing: &Passing<'_>) {
-        let is_error = matches!(passing.payload, [0, 5, ..]);
-        if passing.target == self.transfer.client {
-            self.has_error = self.has_error || is_error;
-        } else if matches!(found.place, Place::Talks(_)) {
-            self.went_on = self.went_on || !is_error;
-        }
-    }
-
-    /// Whether who was asked may still answer: something came, but its client did not go on with that, and it was no ERROR.
-    pub fn may_be_answered_still(&self) -> bool {
-        self.is_answered && !self.went_on && !self.has_error
-    }
-
-    /// Notes that who was asked in the client's transfer before may still answer.
-    pub fn follow_unsure(&mut self) {
-        self.follows_unsure = true;
     }
 
     /// The first spoilt datagram of its client, and the first to its client.
@@ -199,7 +169,6 @@ impl Trail {
             is_twice: self.twice.are_all_twice(),
             begins: self.first,
             is_one_way: !self.is_answered,
-            follows_unsure: self.follows_unsure,
             copied_from: self.copied_from,
             damaged: self.damaged,
             discarded: self.discarded,

@@ -178,9 +178,6 @@ impl Session {
         let payload = Vec::from_slice(alloc, request.payload)?;
         let mut trail = Trail::new(alloc, transfer, payload, request.frame);
         let time = self.notes.clock.time_of(request.time);
-        if self.is_unsure_before(transfer.client, time) {
-            trail.follow_unsure();
-        }
         let later = self.unplaced.open(transfer.client, transfer.number, time);
         let asked = self.notes.ask(alloc, &trail);
         if let Ok(Some(frame)) = later {
@@ -190,20 +187,6 @@ impl Session {
         self.trails.insert(transfer.number, trail)?;
         later?;
         asked
-    }
-
-    /// Whether who was asked in the newest transfer of a client may still answer.
-    fn is_unsure_before(&self, client: Endpoint, time: u64) -> bool {
-        let Some(number) = self.unplaced.newest(client) else {
-            return false;
-        };
-        match self.trails.get(&number) {
-            Some(trail) => {
-                let is_soon = time <= trail.last_time.saturating_add(SILENCE);
-                is_soon && trail.may_be_answered_still()
-            }
-            None => false,
-        }
     }
 
     /// Notes a datagram at the transfer that it is about.

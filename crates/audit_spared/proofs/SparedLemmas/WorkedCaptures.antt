@@ -199,7 +199,7 @@ pub service_port_lawful : IsLawful (at_client_of 69) (map (as_seen_by own_name s
 service_port_lawful = shown (codes "f") (at_client_of 69) service_port_ids (takes_block ∷ sends_block ∷ is_asked ∷ asks_it ∷ []) service_port_3 (map (as_seen_by own_name service_client) (reverse (passes 3 service_client (at 1 5000) (error_of 5) ∷ requests 2 (at 1 5000) service_client (codes "f") ∷ passes 1 server service_client (data_of 1) ∷ requests 0 service_client service (codes "f") ∷ []))) refl refl refl
     (record { dir = refl; here = refl; there = any_first _ _ service_port_1 (refl, refl); spells = error_5 }, (record { dir = refl; here = refl; elsewhere = service_port_apart_2; after = any_first _ _ service_port_0 ((Took (Data 1), refl), refl); no_request = λ is. absurd (client_only is) }, (came (codes "f") f_spelled service_port_ids service_port_0 (as_seen_by own_name service_client (passes 1 server service_client (data_of 1))) refl refl refl refl, (asked (codes "f") f_spelled service_port_ids [] (as_seen_by own_name service_client (requests 0 service_client service (codes "f"))) refl refl refl refl refl, tt))))
 
--- two hosts of one name
+-- two hosts of one name, and an ERROR from another port
 
 abbrev two_hosts_ids : TransferIds
 two_hosts_ids = record { own = 40000; peer = record { host = one_name server.address; port = 41000 }; asked = one_name service.address }
@@ -211,14 +211,20 @@ abbrev two_hosts_1 : Division
 two_hosts_1 = label (as_seen_by one_name client (passes 1 server client (data_of 1))) (Main (Took (Data 1))) ∷ two_hosts_0
 
 abbrev two_hosts_2 : Division
-two_hosts_2 = label (as_seen_by one_name client (requests 2 client (at 2 69) (codes "f"))) (Main (Sent Req)) ∷ two_hosts_1
+two_hosts_2 = label (as_seen_by one_name client (passes 2 next_server client (error_of 1))) (Stray) ∷ two_hosts_1
 
 abbrev two_hosts_3 : Division
-two_hosts_3 = label (as_seen_by one_name client (passes 3 client (at 2 41000) (ack_of 1))) (Main (Sent (Ack 1))) ∷ two_hosts_2
+two_hosts_3 = label (as_seen_by one_name client (requests 2 client (at 2 69) (codes "f"))) (Main (Sent Req)) ∷ two_hosts_2
 
-pub two_hosts_lawful : IsLawful (at_client_of 69) (map (as_seen_by one_name client) (reverse (passes 3 client (at 2 41000) (ack_of 1) ∷ requests 2 client (at 2 69) (codes "f") ∷ passes 1 server client (data_of 1) ∷ requests 0 client service (codes "f") ∷ [])))
-two_hosts_lawful = shown (codes "f") (at_client_of 69) two_hosts_ids (sends_ack ∷ asks_it ∷ takes_block ∷ sends_block ∷ is_asked ∷ asks_it ∷ []) two_hosts_3 (map (as_seen_by one_name client) (reverse (passes 3 client (at 2 41000) (ack_of 1) ∷ requests 2 client (at 2 69) (codes "f") ∷ passes 1 server client (data_of 1) ∷ requests 0 client service (codes "f") ∷ []))) refl refl refl
-    (acked (codes "f") f_spelled two_hosts_ids two_hosts_2 (as_seen_by one_name client (passes 3 client (at 2 41000) (ack_of 1))) refl refl refl refl (any_later _ _ two_hosts_1 (any_first _ _ two_hosts_0 refl)), (asked (codes "f") f_spelled two_hosts_ids two_hosts_1 (as_seen_by one_name client (requests 2 client (at 2 69) (codes "f"))) refl refl refl refl refl, (came (codes "f") f_spelled two_hosts_ids two_hosts_0 (as_seen_by one_name client (passes 1 server client (data_of 1))) refl refl refl refl, (asked (codes "f") f_spelled two_hosts_ids [] (as_seen_by one_name client (requests 0 client service (codes "f"))) refl refl refl refl refl, tt))))
+abbrev two_hosts_4 : Division
+two_hosts_4 = label (as_seen_by one_name client (passes 3 client (at 2 41000) (ack_of 1))) (Main (Sent (Ack 1))) ∷ two_hosts_3
+
+two_hosts_apart_2 : peer_of (as_seen_by one_name client (passes 2 next_server client (error_of 1))) ≡ two_hosts_ids.peer → ⊥
+two_hosts_apart_2 is = false≢true (ap (λ (p : PeerId). p.port == 41000) is)
+
+pub two_hosts_lawful : IsLawful (at_client_of 69) (map (as_seen_by one_name client) (reverse (passes 3 client (at 2 41000) (ack_of 1) ∷ requests 2 client (at 2 69) (codes "f") ∷ passes 2 next_server client (error_of 1) ∷ passes 1 server client (data_of 1) ∷ requests 0 client service (codes "f") ∷ [])))
+two_hosts_lawful = shown (codes "f") (at_client_of 69) two_hosts_ids (sends_ack ∷ asks_it ∷ takes_block ∷ sends_block ∷ is_asked ∷ asks_it ∷ []) two_hosts_4 (map (as_seen_by one_name client) (reverse (passes 3 client (at 2 41000) (ack_of 1) ∷ requests 2 client (at 2 69) (codes "f") ∷ passes 2 next_server client (error_of 1) ∷ passes 1 server client (data_of 1) ∷ requests 0 client service (codes "f") ∷ []))) refl refl refl
+    (acked (codes "f") f_spelled two_hosts_ids two_hosts_3 (as_seen_by one_name client (passes 3 client (at 2 41000) (ack_of 1))) refl refl refl refl (any_later _ _ two_hosts_2 (any_first _ _ two_hosts_1 refl)), (asked (codes "f") f_spelled two_hosts_ids two_hosts_2 (as_seen_by one_name client (requests 2 client (at 2 69) (codes "f"))) refl refl refl refl refl, (record { dir = refl; here = refl; elsewhere = two_hosts_apart_2; after = any_first _ _ two_hosts_0 ((Took (Data 1), refl), refl); no_request = λ is. absurd (client_only is) }, (came (codes "f") f_spelled two_hosts_ids two_hosts_0 (as_seen_by one_name client (passes 1 server client (data_of 1))) refl refl refl refl, (asked (codes "f") f_spelled two_hosts_ids [] (as_seen_by one_name client (requests 0 client service (codes "f"))) refl refl refl refl refl, tt)))))
 
 -- at the server: two requests, a block and the ACK
 

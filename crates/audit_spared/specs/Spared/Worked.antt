@@ -5,7 +5,7 @@ use Rattle.law_end.specs.{IsRefused, Rule}
 use Rattle.audit_flows.specs.Lines.{Recorded, Placed, clock, transfer_of, bytes_of, version_of}
 use Rattle.audit_flows.specs.{Address, Endpoint, Transfer}
 use Rattle.audit_flows.specs.Transfers.{ack_of, client, data_of, service, client_view, is_beside, place_of, placed}
-use Rattle.audit_flows.specs.Transfers.Worked.{at, error_of, next_server, oack, other_client, passes, requests, server, stranger}
+use Rattle.audit_flows.specs.Transfers.Worked.{at, error_of, next_server, other_client, passes, requests, server, stranger}
 use Rattle.audit_spared.specs.Spared.Seen.{as_seen_by, at_client_of}
 use Rattle.audit_spared.specs.Spared.Spared.{needs_doubt}
 use Rattle.audit_spared.specs.Spared.Served.{at_server_of, seen_at_server, server_saw, transfer_beside}
@@ -176,6 +176,15 @@ stray_is_told = passes 3 service_client (at 1 5000) (error_of 5)
 abbrev pub asks_two_hosts : List Recorded
 asks_two_hosts = requests 2 client (at 2 69) (codes "f") ∷ passes 1 server client (data_of 1) ∷ requests 0 client service (codes "f") ∷ []
 
+-- The first host had refused, from another port.
+abbrev pub refused_elsewhere : List Recorded
+refused_elsewhere =
+    requests 2 client (at 2 69) (codes "f")
+    ∷ passes 2 next_server client (error_of 1)
+    ∷ passes 1 server client (data_of 1)
+    ∷ requests 0 client service (codes "f")
+    ∷ []
+
 abbrev pub to_second_host : Recorded
 to_second_host = passes 3 client (at 2 41000) (ack_of 1)
 
@@ -198,16 +207,3 @@ asked_late =
 
 abbrev pub ack_again : Recorded
 ack_again = passes 5 client server (ack_of 1)
-
--- A client keeps its port and the server has one: what it agrees on with the second file may be late from the first, and block 7
--- is no block of that.
-abbrev pub on_a_late_oack : List Recorded
-on_a_late_oack =
-    passes 6 server client (data_of 7)
-    ∷ passes 5 client server (ack_of 0)
-    ∷ passes 4 server client oack
-    ∷ requests 3 client service (codes "g")
-    ∷ passes 2 client server (ack_of 1)
-    ∷ passes 1 server client (data_of 1)
-    ∷ requests 0 client service (codes "f")
-    ∷ []

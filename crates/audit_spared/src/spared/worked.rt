@@ -5,8 +5,8 @@ ghost use Rattle.std.specs.Prelude.{◌≡◌, ◌||◌, true, false, List, [], 
 ghost use Rattle.law_end.specs.{IsLawful};
 ghost use Rattle.audit_flows.specs.Lines.{Recorded, is_late};
 ghost use Rattle.audit_flows.specs.{Endpoint};
-ghost use Rattle.audit_flows.specs.Transfers.{ack_of, client, data_of, read_of, service, is_doubtful, is_doubtful_at_client, is_doubtful_at_server, placed, some_of};
-ghost use Rattle.audit_flows.specs.Transfers.Worked.{doubtful_in, earlier_words, error_of, seen_by_client, seen_by_server};
+ghost use Rattle.audit_flows.specs.Transfers.{ack_of, client, data_of, read_of, service, is_doubtful, is_doubtful_at_server, placed, some_of};
+ghost use Rattle.audit_flows.specs.Transfers.Worked.{error_of, seen_by_client, seen_by_server};
 ghost use Rattle.audit_spared.specs.Spared.{
   AreAtHost,
   AreInOrder,
@@ -46,11 +46,11 @@ ghost use Rattle.audit_spared.specs.Spared.Worked.{
   late_ack,
   needs_doubt_there,
   newest,
-  on_a_late_oack,
   one_client,
   one_name,
   other_error,
   own_name,
+  refused_elsewhere,
   served_by_asker,
   service_client,
   silent_capture,
@@ -135,11 +135,11 @@ pub fn none_else_may_ask()
 
 /// Where two hosts have one name, a client may go on with the other; and at the server a stray's ERROR may be taken for the client's.
 pub fn hosts_must_have_their_own_names()
-    ensures captures { (c : Endpoint) → Contains one_client c → FollowOneAnother (IsWholeCapture one_name c) (filter (is_with c) (to_second_host ∷ asks_two_hosts)) }
-    ensures others { AskersAreElsewhere one_client (to_second_host ∷ asks_two_hosts) }
+    ensures captures { (c : Endpoint) → Contains one_client c → FollowOneAnother (IsWholeCapture one_name c) (filter (is_with c) (to_second_host ∷ refused_elsewhere)) }
+    ensures others { AskersAreElsewhere one_client (to_second_host ∷ refused_elsewhere) }
     ensures ports { HaveNoServicePort one_client }
-    ensures order { AreInOrder (to_second_host ∷ asks_two_hosts) }
-    ensures accused { IsAccusedAtClient one_name is_doubtful to_second_host asks_two_hosts }
+    ensures order { AreInOrder (to_second_host ∷ refused_elsewhere) }
+    ensures accused { IsAccusedAtClient one_name is_doubtful to_second_host refused_elsewhere }
     ensures captures_there { (c : Endpoint) → Contains one_client c → FollowOneAnother (IsTimelyCapture one_name c) (filter (is_with c) (other_error ∷ told_by_namesake)) }
     ensures here { AreAtHost service.address one_client (other_error ∷ told_by_namesake) }
     ensures others_there { AskersAreElsewhere one_client (other_error ∷ told_by_namesake) }
@@ -177,11 +177,4 @@ pub fn requests_must_not_come_late()
     ensures order { AreInOrder (ack_again ∷ asked_late) }
     ensures accused { IsAccusedAtServer own_name needs_doubt_there ack_again asked_late }
     ensures shared { is_shared (newest ack_again asked_late) (placed [] asked_late) ≡ true }
-{}
-
-/// What may rest on an OACK that may be late from an earlier transfer is doubtful at the client by that alone.
-pub fn what_rests_on_a_late_oack_is_doubtful()
-    ensures elsewhere { doubtful_in is_doubtful 3 on_a_late_oack ≡ false ∷ false ∷ false ∷ false ∷ false ∷ false ∷ false ∷ [] }
-    ensures earlier { earlier_words (placed [] on_a_late_oack) ≡ false ∷ true ∷ true ∷ false ∷ false ∷ false ∷ false ∷ [] }
-    ensures at_client { doubtful_in is_doubtful_at_client 3 on_a_late_oack ≡ true ∷ false ∷ true ∷ false ∷ false ∷ false ∷ false ∷ [] }
 {}

@@ -1,7 +1,7 @@
 use Rattle.std.proofs.Common.{cond, option_map, refl, sym, ap, subst, ◌∙◌, Option, Some}
 use Rattle.std.specs.BTreeMap.{get}
 use Rattle.std.specs.Ordering.{is_eq}
-use Rattle.audit_flows.specs.Lines.{endpoint_cmp, history_of, seen_of, comes_to, talk_after, went_on_after, AreTimed}
+use Rattle.audit_flows.specs.Lines.{endpoint_cmp, history_of, seen_of, comes_to, surely_after, talk_after, went_on_after, AreTimed}
 use Rattle.audit_flows.specs.declared.lines.history.History.{History}
 use Rattle.audit_flows.specs.declared.lines.line.Talked.{Talked}
 use Rattle.law_model.specs.Rules.{or_this}
@@ -33,5 +33,6 @@ returns-clause-stands c line d stands seen between =
       history = subst (λ (h : Option History). IsHistoryAfter (history_of (get endpoint_cmp c.args.self.now.talks c.args.other)) h c.args.talked (seen_of d).kind.number) (sym here)
           (subst (λ s. IsHistoryAfter (history_of (get endpoint_cmp c.args.self.now.talks c.args.other)) c.history_after-history.result c.args.talked s.kind.number) seen c.history_after-history.ensures);
       went_on = c.went_on_after-self.ensures ∙ ap (λ s. went_on_after c.args.talked s c.args.self.now.went_on) seen;
+      surely = c.surely_after-self.ensures ∙ ap (λ s. surely_after c.args.self.now.latest.number c.args.talked s c.args.self.now.is_answered) seen;
       newest = subst (λ s. AreTimed c.args.self.now.newest c.note_talk.new.newest c.args.talked s.time) seen c.in_ok-note_talk.ensures;
     }) between stands

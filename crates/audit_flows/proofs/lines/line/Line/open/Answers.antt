@@ -20,5 +20,6 @@ returns-clause-stands c line d stands is same = record {
   again = λ e that. opened_alike c.args.transfer c.args.payload.now c.args.time d e is that
       ∙ ap (λ p. bytes_eq (asked_part p) (asked_part e.payload) && same_endpoint c.args.transfer.asked e.target) (sym c.in_ok-request.ensures.items);
   went_on = search rules;
+  surely = search rules;
   newest = search rules;
 }
