@@ -2,7 +2,7 @@
 # Builds a library of the repository in a copy of what it is built of, and hands it out:
 #   library.sh COPIES NAME LIBRARY..   COPIES has the copies, each by its library's name; the libraries that NAME stands on
 #                                      are built in theirs
-# What rt says stands in COPIES/NAME/log. Status 0 if it was built.
+# What rt says stands in COPIES/NAME/log. Status 0 if it was built, or stands there already, built of the same sources.
 set -eu
 
 top=$(dirname "$(dirname "$(readlink -f "$0")")")
@@ -15,6 +15,22 @@ link_to() {
     cp -Rl "$1" "$2" 2>/dev/null || { rm -rf "$2/$(basename "$1")" && cp -R "$1" "$2"; }
 }
 
+# The sources that it is built of: its own, and those of the libraries below it.
+sources() {
+    cd "$top"
+    for it in "$name" "$@"; do
+        grep "^$it[ :]" crates.txt
+        find "crates/$it" -type f \( -path '*/src/*' -o -path '*/specs/*' -o -path '*/proofs/*' \) -exec cksum {} +
+    done | LC_ALL=C sort | cksum
+}
+
+made_of=$top/crates/$name/out/made-of
+sum=$(sources "$@")
+if [ -d "$top/crates/$name/out/rlib" ] && [ "$sum" = "$(cat "$made_of" 2>/dev/null)" ]; then
+    mkdir -p "$copies/$name/crates/$name"
+    link_to "$top/crates/$name/out" "$copies/$name/crates/$name"
+    exit 0
+fi
 mkdir "$copies/$name/crates"
 for it in "$name" "$@"; do
     grep "^$it[ :]" "$top/crates.txt" >>"$copies/$name/crates.txt"
@@ -32,4 +48,5 @@ cd "$copies/$name/crates/$name"
 rt lib >../../log 2>&1
 rm -rf "$top/crates/$name/out"
 link_to out "$top/crates/$name"
+printf '%s\n' "$sum" >"$made_of"
 echo "checked $name"
