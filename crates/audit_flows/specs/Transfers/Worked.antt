@@ -185,11 +185,12 @@ asks_behind source payload =
     ∷ requests 0 client service (codes "f")
     ∷ []
 
--- Once it has asked for another, the client acknowledges the block of the first file; and then it asks for a third.
+-- Once a block of the second file is there too, the client acknowledges that of the first, and then it asks for a third.
 abbrev pub acked_late : List Recorded
 acked_late =
-    requests 4 client service (codes "h")
-    ∷ passes 3 client server (ack_of 1)
+    requests 7 client service (codes "h")
+    ∷ passes 6 client server (ack_of 1)
+    ∷ passes 5 next_server client (data_of 1)
     ∷ asks_behind server (data_of 1)
 
 -- Nothing came to the client, which sends an ACK all the same.

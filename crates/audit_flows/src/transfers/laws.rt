@@ -172,7 +172,7 @@ pub fn what_follows_no_sure_answer_is_doubtful()
     ensures from_stranger { follows_unanswered_in 2 (asks_behind stranger (error_of 1)) ≡ true }
     ensures error_0 { follows_unanswered_in 2 (asks_behind server (error_of 0)) ≡ true }
     ensures error_5 { follows_unanswered_in 2 (asks_behind server (error_of 5)) ≡ true }
-    ensures gone_on_before { follows_unanswered_in 4 acked_late ≡ true }
+    ensures gone_on_before { follows_unanswered_in 5 acked_late ≡ true }
     ensures unheard { follows_unanswered_in 2 acked_unheard ≡ true }
 {}
 
