@@ -8,4 +8,3 @@ pub use Rattle.judge_pair.specs.MatchTexts.Datagrams.{HasDatagrams, capture_of}
 pub use Rattle.judge_pair.specs.MatchTexts.Reading.{GoesOnAt, HasRead, IsFinished, IsGiven, IsHalted, IsSeenAt, Seen, said_by, seen}
 pub use Rattle.judge_pair.specs.MatchTexts.Merging.{AloneRuns, AreSeenBoth, BothRun, HasBegun, IsAloneAt, IsPairAt, IsRestAt, RestRuns, Runs, RunsBy, itself, judge_at, left_judge_at, lines_left}
 pub use Rattle.judge_pair.specs.MatchTexts.Said.{AreCopies, AreNumbersOf, AreTogether, AreWhys, IsAllLawful, IsApart, IsPairSaid, IsStopped, IsTextFault, IsWhy, NamesEnd, SaysMatched}
-pub use Rattle.judge_pair.specs.Judge.{Matched}

@@ -9,7 +9,8 @@ use Rattle.tftp_judge.specs.declared.refusal.Refusal.TheVariants.{Memory}
 use Rattle.law_pair.specs.{Capture, IsLawfulTo, IsPairVerdict}
 use Rattle.judge_pair.specs.Judge.Rest.{Rest}
 use Rattle.judge_pair.specs.Judge.{IsRestAfter, IsReadOf}
-use Rattle.judge_pair.specs.MatchTexts.{capture_of, HasBegun, IsFinished, IsHalted, said_by, AreCopies, AreNumbersOf, AreTogether, AreWhys, IsApart, IsPairSaid, IsWhy, Matched}
+use Rattle.judge_pair.specs.MatchTexts.{capture_of, HasBegun, IsFinished, IsHalted, said_by, AreCopies, AreNumbersOf, AreTogether, AreWhys, IsApart, IsPairSaid, IsWhy}
+use Rattle.judge_pair.specs.declared.judge.matched.Matched.{Matched}
 use Rattle.judge_pair.specs.declared.match_texts.reading.Halt.{Halt}
 use Rattle.judge_pair.specs.declared.match_texts.said.Apart.{Apart}
 use Rattle.judge_pair.specs.declared.match_texts.said.Apart.TheVariants.{WrongEnd, Stopped}

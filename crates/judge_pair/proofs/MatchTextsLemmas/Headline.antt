@@ -17,7 +17,8 @@ use Rattle.tftp_judge.proofs.OneVerdict.{not_lawful}
 use Rattle.tftp_judge.proofs.TextFound.{answers}
 use Rattle.law_pair.specs.{AreConsistent}
 use Rattle.law_pair.proofs.PairVerdict.{kept_all, lawful_whole, pair_decides}
-use Rattle.judge_pair.specs.MatchTexts.{capture_of, IsJudged, IsAllLawful, IsPairSaid, IsTextFault, SaysMatched, Matched}
+use Rattle.judge_pair.specs.MatchTexts.{capture_of, IsJudged, IsAllLawful, IsPairSaid, IsTextFault, SaysMatched}
+use Rattle.judge_pair.specs.declared.judge.matched.Matched.{Matched}
 use Rattle.judge_pair.specs.declared.match_texts.said.Apart.{Apart}
 use Rattle.judge_pair.specs.declared.match_texts.said.Apart.TheVariants.{WrongEnd, Stopped}
 use Rattle.judge_pair.proofs.MatchTextsLemmas.Fronts.{has_all}
