@@ -1,4 +1,4 @@
-mod Apart
-mod Clock
-mod Taking
-mod Writing
+pub mod Apart
+pub mod Clock
+pub mod Taking
+pub mod Writing

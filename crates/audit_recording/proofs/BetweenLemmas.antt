@@ -1,5 +1,5 @@
-mod Tapping
+pub mod Tapping
 pub mod Sides
-mod Settling
-mod Feeding
+pub mod Settling
+pub mod Feeding
 pub mod Holding

@@ -1,2 +1,2 @@
-mod Watching
-mod Keeping
+pub mod Watching
+pub mod Keeping

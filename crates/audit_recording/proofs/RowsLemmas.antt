@@ -1,3 +1,3 @@
-mod Accusing
-mod Placing
+pub mod Accusing
+pub mod Placing
 pub mod AllTold

@@ -1,2 +1,2 @@
-mod Names
+pub mod Names
 pub mod Addresses

@@ -1,4 +1,4 @@
-mod Judging
+pub mod Judging
 pub mod Settling
 pub mod Feeding
 pub mod Holding

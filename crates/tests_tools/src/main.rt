@@ -9,28 +9,29 @@ mod strays;
 mod works;
 
 use crate::works::work;
-use std::env;
 use std::process::ExitCode;
+use std::{env, io};
 
 /// Ends with status 0 where all that the first word asks for was done, and else with 2.
 fn main(rt: HostRuntime) -> ExitCode {
-    match is_done(rt) {
-        true => ExitCode::SUCCESS,
-        false => ExitCode::from(2),
+    match answer(rt) {
+        Ok(true) => ExitCode::SUCCESS,
+        _ => ExitCode::from(2),
     }
 }
 
-/// Whether all that the first word asks for was done.
-fn is_done(rt: HostRuntime) -> bool {
-    let Ok(words) = env::args(&rt).and_then(|words| words.collect::<Vec<String>>(rt.alloc())) else {
-        return false;
+/// Does what the first word asks for, and says whether all of it was done.
+fn answer(rt: HostRuntime) -> io::Result<bool> {
+    let words = env::args(&rt)?.collect::<Vec<String>>(rt.alloc())?;
+    let [_, word] = words.as_slice() else {
+        return Ok(false);
     };
-    match words.as_slice() {
-        [_, word] => match word.as_str() {
-            "datagrams" => matches!(datagrams::list(rt), Ok(true)),
-            "places" => places::list(rt).is_ok(),
-            other => work(rt, other).is_ok(),
-        },
-        _ => false,
+    match word.as_str() {
+        "datagrams" => datagrams::list(rt),
+        "places" => Ok(places::list(rt).is_ok()),
+        other => {
+            work(rt, other)?;
+            Ok(true)
+        }
     }
 }
