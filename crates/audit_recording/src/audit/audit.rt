@@ -28,6 +28,7 @@ use net_streams::streams::Latched;
 use net_udp::recording::{Datagram, Event, Fate, RecordingReader};
 use std::alloc::{AllocError, Global};
 use std::io::Read;
+use std::marker::Model;
 use tftp_ends::blocks::Delivered;
 
 /// The judges of a recording's transfers, to be given what became of each of its frames, from the first to the last.

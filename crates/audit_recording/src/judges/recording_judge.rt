@@ -16,6 +16,7 @@ use audit_flows::transfers::{Attributed, Attribution, AttributionFault};
 use audit_views::views::{Fed, Party};
 use std::alloc::{AllocError, Global};
 use std::collections::BTreeMap;
+use std::marker::Model;
 use tftp_ends::blocks::Delivered;
 
 /// The judge of a whole recording, fed from its first datagram to its last: it divides what passed into transfers, and
