@@ -310,7 +310,10 @@ def counted_at(order: str, place: int, blocks: list[tuple[int, recorded.Block]],
             it.missed = chance.choice((0, 1, 3, 65_534))
             missed += it.missed
     counts = [(chance.randrange(5), chance.randrange(5)) for _ in range(chance.choice((0, 0, 1, 2)))]
-    told = [recorded.statistics(order, place, dropped, system) for dropped, system in counts]
+    told = [
+        recorded.statistics(order, place, (recorded.IF_DROP, dropped), (recorded.OS_DROP, system))
+        for dropped, system in counts
+    ]
     return Counted(told, max([missed, *(dropped + system for dropped, system in counts)]))
 
 
