@@ -5,7 +5,8 @@ BENCH = crates/tftp_bench/out/tftp_bench
 DATAGRAMS = crates/tftp_datagrams/out/tftp_datagrams
 MATCH = crates/tftp_match_main/out/tftp_match_main
 
-.PHONY: build build-for-any ready test test-here plants tables contracts bench fuzz install uninstall dist deb
+.PHONY: build build-for-any ready test test-here check-scripts check-programs plants tables contracts bench fuzz
+.PHONY: install uninstall dist deb
 
 # Proves the three programs and builds them for the processor at hand, each where its sources are not those that it was
 # built of, or where it was built for others. TFTP_AUDIT_CPU=any builds them for any processor, as build-for-any does,
@@ -24,21 +25,30 @@ ready:
 	@./tftp-match --ready
 
 # The gate: rt ci, which is every proof from nothing, the must-fail edits, the tests and the programs' stored runs; then
-# the programs that it built, for any processor, with failing reads, writes and growths, on larger captures and on
-# recorded transfers.
+# the scripts; and then the programs that it built, for any processor, with failing reads, writes and growths, on larger
+# captures and on recorded transfers. What fails stops nothing of the rest.
 test:
 	@./tftp-audit --gate
-	sh tests/run.sh $(PROGRAM)
+	@$(MAKE) --no-print-directory -k check-scripts check-programs
 
-# That, and then the same of the programs that are built for the processor at hand, where that is another build: what they
-# stand on is proved once more for it, which takes as long as the gate.
+# The tests that need no built program, side by side: of the launchers, the packages, the wrong bodies and the pages; and
+# what mypy and ruff say of the Python, where they are installed. `python3 -m tests tests.test_links` tries one module.
+check-scripts:
+	@python3 -m tests --scripts
+
+# Those that need the built programs, which must be there.
+check-programs:
+	@python3 -m tests --programs --required
+
+# That, and then the programs that are built for the processor at hand, where that is another build: what they stand on is
+# proved once more for it, which takes as long as the gate.
 test-here: test
 	@sh tests/here.sh
 
 # Every wrong body, those that the gate tries too: the prover must refuse each. `python3 tools/plants NAME..` tries those
 # of some crates, or some edits.
 plants:
-	python3 tests/plants.py
+	python3 -m tests tests.test_plants
 	python3 tools/plants
 
 # Writes the tables of the rules in the pages and in the plugin of Wireshark, and their names on the pages.
