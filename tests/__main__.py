@@ -21,6 +21,11 @@ from typing import NamedTuple
 import programs
 from repository import TOP
 
+# Those that take longest begin first.
+LONGEST = (
+    "failures", "rows", "growths", "match", "pairs", "packages", "audit_launcher", "transfers_launcher",
+    "match_launcher", "loopback", "legs", "sources",
+)
 COUNTED = re.compile(r"(?m)^(\d+) tests, (\d+) cases$")
 SKIPPED = re.compile(r"(?m)^skipped (.*)$")
 
@@ -50,9 +55,9 @@ def words_of(arguments: Sequence[str]) -> argparse.Namespace:
 
 
 def modules() -> list[str]:
-    """All modules of tests, the larger before the smaller, since they tend to take longer."""
-    files = sorted((TOP / "tests").glob("test_*.py"), key=lambda file: -file.stat().st_size)
-    return [f"tests.{file.stem}" for file in files]
+    """All modules of tests."""
+    found = sorted(f"tests.{file.stem}" for file in (TOP / "tests").glob("test_*.py"))
+    return sorted(found, key=lambda name: name.partition("test_")[2] not in LONGEST)
 
 
 def tell(name: str, words: argparse.Namespace) -> Told:
