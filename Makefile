@@ -4,7 +4,8 @@ TRANSFERS = crates/tftp_transfers/out/tftp_transfers
 TOOLS = crates/tests_tools/out/tests_tools
 MATCH = crates/tftp_match/out/tftp_match
 
-.PHONY: build build-for-any ready test test-here plants tables contracts bench fuzz install uninstall dist deb
+.PHONY: build build-for-any ready test test-here check-scripts check-programs plants tables doc bench fuzz
+.PHONY: install uninstall dist deb
 
 # Proves the three programs and builds them for the processor at hand, each where its sources are not those that it was
 # built of, or where it was built for others. TFTP_AUDIT_CPU=any builds them for any processor, as build-for-any does,
@@ -23,29 +24,38 @@ ready:
 	@./tftp-match --ready
 
 # The gate: rt ci, which is every proof from nothing, the must-fail edits, the tests and the programs' stored runs; then
-# the programs that it built, for any processor, with failing reads, writes and growths, on larger captures and on
-# recorded transfers.
+# the scripts; and then the programs that it built, for any processor, with failing reads, writes and growths, on larger
+# captures and on recorded transfers. What fails stops nothing of the rest.
 test:
 	@./tftp-audit --gate
-	sh tests/run.sh $(PROGRAM)
+	@$(MAKE) --no-print-directory -k check-scripts check-programs
 
-# That, and then the same of the programs that are built for the processor at hand, where that is another build: what they
-# stand on is proved once more for it, which takes as long as the gate.
+# The tests that need no built program, side by side: of the launchers, the packages, the wrong bodies and the pages; and
+# what mypy and ruff say of the Python, where they are installed. `python3 -m tests tests.test_links` tries one module.
+check-scripts:
+	@python3 -m tests --scripts
+
+# Those that need the built programs, which must be there.
+check-programs:
+	@python3 -m tests --programs --required
+
+# That, and then the programs that are built for the processor at hand, where that is another build: what they stand on is
+# proved once more for it, which takes as long as the gate.
 test-here: test
 	@sh tests/here.sh
 
 # Every wrong body, those that the gate tries too: the prover must refuse each. `python3 tools/plants NAME..` tries those
 # of some crates, or some edits.
 plants:
-	python3 tests/plants.py
+	python3 -m tests tests.test_plants
 	python3 tools/plants
 
 # Writes the tables of the rules in the pages and in the plugin of Wireshark, and their names on the pages.
 tables:
 	@python3 tools/tables
 
-# Writes the pages of docs/contracts/ from the clauses and the comments of the sources.
-contracts:
+# Writes the pages of docs/contracts/ from the clauses and the comments of the sources; they are not kept with these.
+doc:
 	@python3 tools/contracts
 
 # How fast the program and its libraries are, beside wc -l, a plain copy and the hex crate alone on the same bytes.
@@ -75,7 +85,7 @@ fuzz: ready
 # readers, the examples and what shells complete; in share the plugin of Wireshark and the schemas of JSON. The programs
 # are those that a call would run, so for the processor at hand where make build, or nothing, has built them, and for any
 # after the gate; where other machines run them too, make build-for-any comes first.
-install: ready
+install: ready doc
 	@sh tools/install.sh install "$(DESTDIR)$(PREFIX)"
 
 # Takes away what install put there, by the list that it left, and nothing else.
@@ -84,9 +94,9 @@ uninstall:
 
 # dist/tftp-audit-VERSION.tar.gz, with all that install puts, the sum of each file, and a file PROVED; the same bytes
 # from the same commit and the same programs. Packages are for any processor.
-dist: build-for-any
+dist: build-for-any doc
 	@python3 tools/package tar
 
 # A package of Debian of the same.
-deb: build-for-any
+deb: build-for-any doc
 	@python3 tools/package deb

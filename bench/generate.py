@@ -30,10 +30,15 @@ of `reversed` come round and round. The strays of a larger capture are longer; t
 from __future__ import annotations
 
 import base64
+import pathlib
 import random
 import struct
 import sys
 from collections.abc import Callable
+
+sys.path.append(str(pathlib.Path(__file__).resolve().parent.parent / "tests"))
+
+import recorded  # noqa: E402
 
 HEADER = b"tftp-capture 1\nend client\nservice 69\n"
 # The blocks of a read whose request names no size (RFC 1350), and their number at most.
@@ -205,13 +210,12 @@ def record(number: int, source: int, target: int, payload: bytes, client: int = 
     hosts = bytes((192, 0, 2, 1, 192, 0, 2, 7)) if target == client else bytes((192, 0, 2, 7, 192, 0, 2, 1))
     ip = struct.pack("!BBHHHBBH", 0x45, 0, 20 + len(udp), number % 65_535 + 1, 0, 64, 17, 0) + hosts
     frame = bytes(12) + b"\x08\0" + ip + udp
-    seconds, part = divmod(100 * number, 1_000_000)
-    return struct.pack("<IIII", 1_700_000_000 + seconds, part, len(frame), len(frame)) + frame
+    return recorded.record(recorded.Frame(recorded.ETHERNET, frame, recorded.FIRST_TIME + 100_000 * number))
 
 
 def recording(wanted: int, size: int = USUAL) -> None:
     """A recording of a read in blocks of this size in lock step, round and round."""
-    out.write(struct.pack("<IHHiIII", 0xA1B2C3D4, 2, 4, 0, 0, 262_144, 1))
+    out.write(recorded.header(recorded.ETHERNET))
     out.write(record(0, 40_000, 69, REQUEST))
     pairs = wanted // (len(record(0, SERVER, 40_000, bytes(4 + size))) + len(record(0, 40_000, SERVER, bytes(4))))
     for pair in range(pairs):
@@ -237,7 +241,7 @@ def transfers(wanted: int, size: int = 0) -> None:
     """A recording of so many reads of this size, or of one, that it has about so many bytes."""
     pair = len(record(0, SERVER, 40_000, bytes(4 + FRAME))) + len(record(0, 40_000, SERVER, bytes(4)))
     size = size or min(MOST - 1, wanted // pair) * FRAME
-    out.write(struct.pack("<IHHiIII", 0xA1B2C3D4, 2, 4, 0, 0, 262_144, 1))
+    out.write(recorded.header(recorded.ETHERNET))
     frames = 0
     for number in range(max(1, wanted // ((size // FRAME + 1) * pair))):
         frames += one_transfer(frames, 20_000 + number % 10_000, 40_000 + number % 10_000, size)

@@ -14,20 +14,21 @@ from __future__ import annotations
 
 import argparse
 import collections
-import os
 import sys
 from collections.abc import Iterator
 from typing import Literal, Union
 
 import repository  # noqa: F401
 from captures import EndName
+from checks import Check
+from fuzzing.attribution import Attribution, Datagram, Transfer, attributed
 from fuzzing.between import doubts_of, sides_of, verdict
+from fuzzing.command import parser_of, runnable, seed_of, tell
 from fuzzing.dense import alone, drawn_reads, whole
 from fuzzing.places import differences, spoiled
 from fuzzing.program import Program
 from fuzzing.sessions import SERVER, STRANGER, simulated
 from judged import checked, recording
-from fuzzing.attribution import Attribution, Datagram, Transfer, attributed
 
 Told = collections.Counter[tuple[str, str]]
 # Where a session is recorded.
@@ -117,37 +118,27 @@ def recordings_of(seed: int) -> list[list[Datagram]]:
 
 
 def words_of(arguments: list[str]) -> argparse.Namespace:
-    parser = argparse.ArgumentParser(prog="attribution.py", description=(__doc__ or "").split("\n\n", maxsplit=1)[0])
+    parser = parser_of("attribution.py", __doc__)
     parser.add_argument("--cases", type=int, default=100, help="how many cases are tried")
-    parser.add_argument("--seed", type=int, help="the seed of the first case; each further one has the next number")
-    parser.add_argument("--places", metavar="PLACES", help="the program tests_tools, whose places is compared with it")
-    parser.add_argument("--transfers", metavar="TRANSFERS", default="", help="the program that reads recordings")
-    parser.add_argument("program")
-    words = parser.parse_args(arguments)
-    if not os.access(words.program, os.X_OK):
-        parser.error(f"there is no program {words.program}")
-    if words.seed is None:
-        words.seed = int.from_bytes(os.urandom(4), "big")
-    return words
+    parser.add_argument("--places", type=runnable, help="the program tests_tools, whose places is compared with it")
+    parser.add_argument("--transfers", type=runnable, default="", help="the program that reads recordings")
+    parser.add_argument("program", type=runnable)
+    return parser.parse_args(arguments)
 
 
-def main(arguments: list[str]) -> int:
-    words = words_of(arguments)
-    program = Program(os.path.abspath(words.program))
-    trier, failed = Trier(program, os.path.abspath(words.transfers) if words.transfers else ""), 0
-    for seed in range(words.seed, words.seed + words.cases):
+def tried(words: argparse.Namespace) -> Iterator[Check]:
+    """The cases, and then a table of what was said in them."""
+    program, first = Program(words.program), seed_of(words.seed)
+    trier = Trier(program, words.transfers)
+    for seed in range(first, first + words.cases):
         accused = [*trier.dense_case(seed), *trier.session_case(seed)]
         if words.places:
-            accused += differences(os.path.abspath(words.places), recordings_of(seed))[:3]
-        failed += bool(accused)
-        for said in accused:
-            print(f"FAILED case {seed}: {said}")
+            accused += differences(words.places, recordings_of(seed))[:3]
+        yield Check(f"case {seed}", not accused, "\n".join(accused))
     program.close()
     for (what, word), count in sorted(trier.told.items()):
         print(f"{what}: {count} {word}")
-    print(f"{words.cases - failed} passed, {failed} failed")
-    return 1 if failed else 0
 
 
 if __name__ == "__main__":
-    sys.exit(main(sys.argv[1:]))
+    sys.exit(tell(tried(words_of(sys.argv[1:]))))

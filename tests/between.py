@@ -13,18 +13,19 @@ from __future__ import annotations
 
 import argparse
 import collections
-import os
 import sys
+from collections.abc import Iterator
 from random import Random
-from typing import NamedTuple
+from typing import NamedTuple, Optional
 
 import repository  # noqa: F401
+from checks import Check
 from fuzzing.attribution import Datagram, attributed
 from fuzzing.between import doubts_of, sides_of, verdict
+from fuzzing.command import parser_of, runnable, seed_of, tell
 from fuzzing.segments import Drawn, Sent, changed, numbered
 from fuzzing.tapped import try_list
 from judged import Row, checked, recording
-from trial import Trial
 
 AT_ONCE, CHANGES, LISTS = 100, 3, 10
 # The client's host, in its subnet, of a transfer that is not changed.
@@ -43,8 +44,8 @@ class Words(argparse.Namespace):
     """The words of a call."""
 
     cases: int
-    seed: int | None
-    transfers: str | None
+    seed: Optional[int]
+    transfers: Optional[str]
 
 
 def kind_of(line: str) -> str:
@@ -53,9 +54,8 @@ def kind_of(line: str) -> str:
     return " ".join(words[4:6]) if words[0] == "refused" else words[0]
 
 
-def recorded(trial: Trial, met: Met, first: int, cases: int) -> Recorded:
-    """Draws the cases, each with hosts of its own, and tries the reference on them."""
-    sent: list[Sent] = []
+def drawn(met: Met, first: int, cases: int, sent: list[Sent]) -> Iterator[Check]:
+    """Draws the cases, each with hosts of its own, adds what they send, and tries the reference on them."""
     for seed in range(first, first + cases):
         chance = Random(seed)
         for change in range(1 + CHANGES):
@@ -63,14 +63,13 @@ def recorded(trial: Trial, met: Met, first: int, cases: int) -> Recorded:
             if change:
                 sent += changed(chance, Drawn(chance, subnet).sent)
                 continue
-            drawn = Drawn(chance, subnet)
-            said, wanted = verdict(drawn.sides, numbered(drawn.sent)), drawn.expected()
-            trial.check(f"case {seed}, lawful, by the reference", said == wanted, (said, wanted))
+            one = Drawn(chance, subnet)
+            said, wanted = verdict(one.sides, numbered(one.sent)), one.expected()
+            yield Check(f"case {seed}, lawful, by the reference", said == wanted, (said, wanted))
             met["lawful", kind_of(wanted)] += 1
-            sent += drawn.sent
+            sent += one.sent
         wrong = [said for said in (try_list(chance) for _ in range(LISTS)) if said]
-        trial.check(f"case {seed}, lists of packets, by the reference", not wrong, wrong)
-    return Recorded(first, numbered(sent))
+        yield Check(f"case {seed}, lists of packets, by the reference", not wrong, wrong)
 
 
 class Wanted(NamedTuple):
@@ -103,57 +102,52 @@ def told_rows(transfers: str, datagrams: list[Datagram], *words: str) -> tuple[d
     return found, status
 
 
-def try_recorded(trial: Trial, met: Met, it: Recorded, wanted: list[Wanted]) -> None:
+def as_recorded(met: Met, it: Recorded, wanted: list[Wanted]) -> Iterator[Check]:
     """Nobody is accused in a transfer that is as it was drawn, however a recording of it is divided."""
     for row, _, is_lawful in wanted:
         met["as recorded" if is_lawful else "changed", kind_of(row.verdict)] += 1
         if is_lawful:
-            trial.check(f"cases from {it.first} on, lawful, as recorded", not row.is_accused(), row)
+            yield Check(f"cases from {it.first} on, lawful, as recorded", not row.is_accused(), row)
 
 
-def try_program(trial: Trial, transfers: str, it: Recorded, wanted: list[Wanted]) -> None:
+def by_program(transfers: str, it: Recorded, wanted: list[Wanted]) -> Iterator[Check]:
     """The program's rows are the reference's, where the place is named and where none is."""
     named, status = told_rows(transfers, it.datagrams, "--end", "between")
     unnamed, _ = told_rows(transfers, it.datagrams)
     name, numbers = f"cases from {it.first} on", [row.number for row, _, _ in wanted]
     is_bad = any(not row.verdict.startswith("accepted") for row, _, _ in wanted)
-    trial.check(f"{name}, the status", status == int(is_bad), status)
-    trial.check(f"{name}, the transfers", sorted(named) == sorted(unnamed) == numbers, (len(named), len(unnamed)))
+    yield Check(f"{name}, the status", status == int(is_bad), status)
+    yield Check(f"{name}, the transfers", sorted(named) == sorted(unnamed) == numbers, (len(named), len(unnamed)))
     for row, is_apart, _ in wanted:
         got = named.get(row.number)
-        trial.check(f"{name}, transfer {row.number}", got == [row], (got, row))
+        yield Check(f"{name}, transfer {row.number}", got == [row], (got, row))
         if is_apart:
             got = unnamed.get(row.number)
-            trial.check(f"{name}, transfer {row.number}, no end named", got == [row], (got, row))
+            yield Check(f"{name}, transfer {row.number}, no end named", got == [row], (got, row))
 
 
 def words_of(arguments: list[str]) -> Words:
-    parser = argparse.ArgumentParser(prog="between.py", description=(__doc__ or "").split("\n\n", maxsplit=1)[0])
+    parser = parser_of("between.py", __doc__)
     parser.add_argument("--cases", type=int, default=300, help="how many cases are tried")
-    parser.add_argument("--seed", type=int, help="the seed of the first case; each further one has the next number")
-    parser.add_argument("transfers", nargs="?", help="the program that reads recordings")
-    words = parser.parse_args(arguments, Words())
-    if words.transfers and not os.access(words.transfers, os.X_OK):
-        parser.error(f"there is no program {words.transfers}")
-    return words
+    parser.add_argument("transfers", type=runnable, nargs="?", help="the program that reads recordings")
+    return parser.parse_args(arguments, Words())
 
 
-def main(arguments: list[str]) -> int:
-    words = words_of(arguments)
-    begun = int.from_bytes(os.urandom(4), "big") if words.seed is None else words.seed
-    print(f"seed {begun}", flush=True)
-    trial, met = Trial(), Met()
+def tried(words: Words) -> Iterator[Check]:
+    """The cases, and then what was met in them."""
+    begun, met = seed_of(words.seed), Met()
     for first in range(begun, begun + words.cases, AT_ONCE):
-        it = recorded(trial, met, first, min(AT_ONCE, begun + words.cases - first))
+        sent: list[Sent] = []
+        yield from drawn(met, first, min(AT_ONCE, begun + words.cases - first), sent)
+        it = Recorded(first, numbered(sent))
         wanted = wanted_rows(it.datagrams)
-        try_recorded(trial, met, it, wanted)
+        yield from as_recorded(met, it, wanted)
         if words.transfers:
-            try_program(trial, os.path.abspath(words.transfers), it, wanted)
+            yield from by_program(words.transfers, it, wanted)
     for group in ("lawful", "as recorded", "changed"):
         found = sorted((name, count) for (its, name), count in met.items() if its == group)
         print(f"{group}: " + ", ".join(f"{name} {count}" for name, count in found))
-    return trial.end()
 
 
 if __name__ == "__main__":
-    sys.exit(main(sys.argv[1:]))
+    sys.exit(tell(tried(words_of(sys.argv[1:]))))

@@ -11,22 +11,21 @@ from __future__ import annotations
 
 import argparse
 import dataclasses
-import os
 import pathlib
 import re
 import subprocess
 import sys
 import tempfile
 from collections import Counter
+from collections.abc import Iterator
 from random import Random
 
-sys.dont_write_bytecode = True
-
-from fuzzing.ends import Packet  # noqa: E402
-from fuzzing.meanings import Spelling, meaning_of  # noqa: E402
-from fuzzing.transfers import ENDS, Step, Transfer  # noqa: E402
-from fuzzing.views import View  # noqa: E402
-from trial import Trial  # noqa: E402
+from checks import Check
+from fuzzing.command import parser_of, runnable, seed_of, tell
+from fuzzing.ends import Packet
+from fuzzing.meanings import Spelling, meaning_of
+from fuzzing.transfers import ENDS, Step, Transfer
+from fuzzing.views import View
 
 Steps = list["Step | None"]
 MATCHED = re.compile("matched(?: lost ([0-9]+) repeated ([0-9]+))?")
@@ -138,15 +137,14 @@ class Run:
         return dataclasses.replace(view.capture, datagrams=tuple(datagrams)).text(), steps
 
 
-class Matching(Trial):
+class Matching:
     """The runs of the program."""
 
     def __init__(self, program: str, folder: pathlib.Path) -> None:
-        super().__init__()
         self.program, self.paths = program, [folder / end for end in ENDS]
         self.met: Counter[str] = Counter()
 
-    def try_texts(self, name: str, texts: tuple[bytes, bytes], ends: tuple[Steps, Steps]) -> None:
+    def try_texts(self, name: str, texts: tuple[bytes, bytes], ends: tuple[Steps, Steps]) -> Check:
         """The program's line on the two is that of these steps."""
         for path, text in zip(self.paths, texts):
             path.write_bytes(text)
@@ -156,18 +154,18 @@ class Matching(Trial):
         is_lawful = not any(line.startswith("refused") for line in lines[:2])
         holds = is_right(third, ends, is_lawful) and done.returncode == int(not third.startswith("matched"))
         got = lines, done.stderr, done.returncode
-        self.check(name, holds and not done.stderr, (got, merged(ends), counts_of(ends)))
         self.met[third.partition(" ")[0]] += 1
+        return Check(name, holds and not done.stderr, (got, merged(ends), counts_of(ends)))
 
-    def try_case(self, seed: int) -> None:
+    def try_case(self, seed: int) -> Iterator[Check]:
         """A transfer at both ends: whole, cut somewhere, and with another byte at one end."""
         run = Run(seed)
         whole = len(run.client.steps), len(run.server.steps)
         spelled = run.client.capture.spelled(run.chance), run.server.capture.spelled(run.chance)
-        self.try_texts(f"{seed}", spelled, run.steps(whole))
+        yield self.try_texts(f"{seed}", spelled, run.steps(whole))
         counts = run.chance.randint(0, whole[0]), run.chance.randint(0, whole[1])
         cut = run.client.capture.text(counts[0]), run.server.capture.text(counts[1])
-        self.try_texts(f"{seed}, cut to {counts}", cut, run.steps(counts))
+        yield self.try_texts(f"{seed}, cut to {counts}", cut, run.steps(counts))
         own = run.chance.randrange(2)
         changed = run.changed(own)
         if changed:
@@ -175,24 +173,25 @@ class Matching(Trial):
             texts, steps = (changed[0], other.capture.text()), (changed[1], list(other.steps))
             if own:
                 texts, steps = (texts[1], texts[0]), (steps[1], steps[0])
-            self.try_texts(f"{seed}, changed at the {ENDS[own]}", texts, steps)
+            yield self.try_texts(f"{seed}, changed at the {ENDS[own]}", texts, steps)
 
 
-def main() -> int:
-    parser = argparse.ArgumentParser()
-    parser.add_argument("--cases", type=int, default=200)
-    parser.add_argument("--seed", type=int)
-    parser.add_argument("program")
-    asked = parser.parse_args()
-    seed = int.from_bytes(os.urandom(4), "big") if asked.seed is None else asked.seed
-    print(f"seed {seed}", flush=True)
+def words_of(arguments: list[str]) -> argparse.Namespace:
+    parser = parser_of("both.py", __doc__)
+    parser.add_argument("--cases", type=int, default=200, help="how many cases are tried")
+    parser.add_argument("program", type=runnable)
+    return parser.parse_args(arguments)
+
+
+def tried(words: argparse.Namespace) -> Iterator[Check]:
+    """The cases, and then how many were matched."""
+    first = seed_of(words.seed)
     with tempfile.TemporaryDirectory() as folder:
-        trial = Matching(asked.program, pathlib.Path(folder))
-        for number in range(seed, seed + asked.cases):
-            trial.try_case(number)
-        print(", ".join(f"{word or 'nothing'} {count}" for word, count in sorted(trial.met.items())))
-        return trial.end()
+        matching = Matching(words.program, pathlib.Path(folder))
+        for seed in range(first, first + words.cases):
+            yield from matching.try_case(seed)
+    print(", ".join(f"{word or 'nothing'} {count}" for word, count in sorted(matching.met.items())))
 
 
 if __name__ == "__main__":
-    sys.exit(main())
+    sys.exit(tell(tried(words_of(sys.argv[1:]))))

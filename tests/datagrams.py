@@ -11,22 +11,23 @@ from __future__ import annotations
 import argparse
 import dataclasses
 import itertools
-import pathlib
 import random
 import shutil
 import struct
 import subprocess
 import sys
 import tempfile
-from collections.abc import Callable, Collection
+from collections.abc import Callable, Collection, Iterator
 
 import recorded
+from checks import Check
 from fuzzing import slow_reader
+from fuzzing.command import runnable, tell
 from fuzzing.recording_changes import changed
 from recorded import Datagram, Fragment, Frame, Interface
-from trial import Trial
+from repository import TOP
 
-EXAMPLES = pathlib.Path(__file__).resolve().parent.parent / "examples"
+EXAMPLES = TOP / "examples"
 HOSTS = {
     4: ("192.0.2.7", "192.0.2.1", "10.0.0.255", "127.0.0.1"),
     6: ("2001:db8::7", "2001:db8::1", "fe80::1:0:0:9", "::1", "2001:db8:0:1:1:1:1:1", "::ffff:192.0.2.9"),
@@ -210,7 +211,6 @@ class Maker:
     def noise(self, kind: str) -> Frame:
         """A frame that is no datagram, or not a whole one."""
         it, self.id = self.datagram(), self.id + 1
-        content = recorded.udp(it)
         if kind == "another type" and self.typed():
             return self.frame(bytes(28), recorded.ARP, self.typed())
         if kind == "a fragment of another protocol":
@@ -310,7 +310,10 @@ def counted_at(order: str, place: int, blocks: list[tuple[int, recorded.Block]],
             it.missed = chance.choice((0, 1, 3, 65_534))
             missed += it.missed
     counts = [(chance.randrange(5), chance.randrange(5)) for _ in range(chance.choice((0, 0, 1, 2)))]
-    told = [recorded.statistics(order, place, dropped, system) for dropped, system in counts]
+    told = [
+        recorded.statistics(order, place, (recorded.IF_DROP, dropped), (recorded.OS_DROP, system))
+        for dropped, system in counts
+    ]
     return Counted(told, max([missed, *(dropped + system for dropped, system in counts)]))
 
 
@@ -346,11 +349,10 @@ def listed(file: bytes, taken: list[tuple[Frame, Datagram | None, bool]], is_com
     return Made(file, rows, left, is_compared, damaged, lost, sums)
 
 
-class DatagramTrial(Trial):
-    """The program's lists."""
+class Lists:
+    """The program's lists, and what they should be."""
 
     def __init__(self, program: str) -> None:
-        super().__init__()
         self.program, self.tshark = program, shutil.which("tshark")
 
     def tell(self, file: bytes) -> Told:
@@ -380,34 +382,34 @@ class DatagramTrial(Trial):
         told = self.tell(file)
         return told.rows, told.left, told.fault, told.status
 
-    def try_made(self, name: str, it: Made) -> None:
+    def try_made(self, name: str, it: Made) -> Iterator[Check]:
         """A generated recording: its datagrams, what is left out, and the same of its beginning."""
         told = self.tell(it.file)
         rows, left, fault, status = told.rows, told.left, told.fault, told.status
-        self.check(f"{name}, datagrams", rows == it.rows, difference(rows, it.rows))
-        self.check(f"{name}, received with an error", told.damaged == it.damaged, (told.damaged, it.damaged))
-        self.check(f"{name}, lost", told.lost == it.lost, (told.lost, it.lost))
-        self.check(f"{name}, checksums", told.sums == it.sums, (told.sums, it.sums))
-        self.check(f"{name}, left out", sorted({frame for frame, _ in left}) == it.left, (left, it.left))
+        yield Check(f"{name}, datagrams", rows == it.rows, difference(rows, it.rows))
+        yield Check(f"{name}, received with an error", told.damaged == it.damaged, (told.damaged, it.damaged))
+        yield Check(f"{name}, lost", told.lost == it.lost, (told.lost, it.lost))
+        yield Check(f"{name}, checksums", told.sums == it.sums, (told.sums, it.sums))
+        yield Check(f"{name}, left out", sorted({frame for frame, _ in left}) == it.left, (left, it.left))
         counted = [int(row.split()[1]) for row in rows] + [frame for frame, _ in left]
-        self.check(f"{name}, each frame once", len(set(counted)) == len(counted), sorted(counted))
-        self.check(f"{name}, its end", (fault, status) == ("", 0), (fault, status))
+        yield Check(f"{name}, each frame once", len(set(counted)) == len(counted), sorted(counted))
+        yield Check(f"{name}, its end", (fault, status) == ("", 0), (fault, status))
         if self.tshark and it.is_compared:
-            self.compare(name, it.file, rows, {frame for frame, kind in left if kind == "Discarded"})
+            yield from self.compare(name, it.file, rows, {frame for frame, kind in left if kind == "Discarded"})
 
-    def try_changed(self, name: str, file: bytes) -> None:
+    def try_changed(self, name: str, file: bytes) -> Iterator[Check]:
         """A changed recording: all that the program says of it is what the slow reader says."""
         told, wanted = self.tell(file), slow_reader.listing(file)
         rows, left, fault, status = told.rows, told.left, told.fault, told.status
         seen = told.damaged, told.lost, told.sums
         said = wanted.damaged, wanted.lost, wanted.sums
-        self.check(f"{name}, errors, losses and checksums", seen == said, (seen, said))
-        self.check(f"{name}, datagrams", rows == wanted.rows, difference(rows, wanted.rows))
-        self.check(f"{name}, left out", sorted(left) == wanted.left, (sorted(left), wanted.left))
+        yield Check(f"{name}, errors, losses and checksums", seen == said, (seen, said))
+        yield Check(f"{name}, datagrams", rows == wanted.rows, difference(rows, wanted.rows))
+        yield Check(f"{name}, left out", sorted(left) == wanted.left, (sorted(left), wanted.left))
         ends = wanted.fault, 2 if wanted.fault else 0
-        self.check(f"{name}, its end", (fault, status) == ends, (fault, status, ends))
+        yield Check(f"{name}, its end", (fault, status) == ends, (fault, status, ends))
 
-    def try_copies(self) -> None:
+    def try_copies(self) -> Iterator[Check]:
         """A datagram that stands twice: what another interface recorded too is left out, but not what its sender may
         have repeated, nor what one interface recorded twice."""
         it = Datagram("192.0.2.7", 40_000, "192.0.2.1", 69, b"\0\4\0\1")
@@ -421,9 +423,9 @@ class DatagramTrial(Trial):
             rows = [row(number, frame, it) for number, frame in enumerate(frames, 1) if number == 1 or not is_left]
             got = self.run(way.file(frames))
             name = f"identification {id}, {apart} ns apart, {way.name}"
-            self.check(name, got == (rows, left, "", 0), (got, rows, left))
+            yield Check(name, got == (rows, left, "", 0), (got, rows, left))
 
-    def try_protocols(self) -> None:
+    def try_protocols(self) -> Iterator[Check]:
         """A datagram of IPv6 in two fragments, of which the second names ICMP (RFC 8200, section 4.5), in both orders;
         and ICMP whose second one names UDP."""
         it = Datagram("2001:db8::7", 40_000, "2001:db8::1", 69, bytes(range(32)))
@@ -436,9 +438,9 @@ class DatagramTrial(Trial):
                 rows = [row(2, frames[1], it)] if is_udp else []
                 left = [] if is_udp else [(1, "Protocol"), (2, "Protocol")]
                 got = self.run(recorded.pcap(frames))
-                self.check(f"fragments of IPv6 that name {kinds}", got == (rows, left, "", 0), (got, rows, left))
+                yield Check(f"fragments of IPv6 that name {kinds}", got == (rows, left, "", 0), (got, rows, left))
 
-    def compare(self, name: str, file: bytes, rows: list[str], gone: Collection[int] = ()) -> None:
+    def compare(self, name: str, file: bytes, rows: list[str], gone: Collection[int] = ()) -> Iterator[Check]:
         """The program's list beside the fields of tshark, but for the frames of what was discarded."""
         with tempfile.NamedTemporaryFile(suffix=".pcap") as path:
             path.write(file)
@@ -452,7 +454,7 @@ class DatagramTrial(Trial):
         kept = [it for it in fields if int(it["frame.number"]) not in gone]
         wanted = [told for told in (as_tshark(it) for it in kept) if told]
         got = [" ".join(words[:2] + words[4:]) for words in (line.split() for line in rows)]
-        self.check(f"{name}, as tshark has it", got == wanted, difference(got, wanted))
+        yield Check(f"{name}, as tshark has it", got == wanted, difference(got, wanted))
 
 
 def as_tshark(it: dict[str, str]) -> str:
@@ -475,36 +477,44 @@ def difference(got: list[str], wanted: list[str]) -> str:
     return f"{len(got)} lines, and {len(wanted)} were wanted"
 
 
-def main() -> int:
+def words_of(arguments: list[str]) -> argparse.Namespace:
     form = argparse.ArgumentParser(description=__doc__, formatter_class=argparse.RawDescriptionHelpFormatter)
-    form.add_argument("program")
+    form.add_argument("program", type=runnable)
     form.add_argument("--cases", type=int, default=40, metavar="N", help="so many generated recordings (40)")
     form.add_argument("--changes", type=int, default=400, metavar="N", help="so many changed recordings (400)")
     form.add_argument("--seed", type=int, default=1_350, metavar="S", help="case i has the seed S plus i (1350)")
-    given = form.parse_args()
-    trial = DatagramTrial(given.program)
+    return form.parse_args(arguments)
+
+
+def listed_files(lists: Lists) -> Iterator[Check]:
+    """The recordings of examples/, and files that are none."""
     for path in sorted(EXAMPLES.glob("*.pcap*")):
         file = path.read_bytes()
-        rows, left, fault, status = trial.run(file)
-        trial.check(f"{path.name}, its end", (fault, status) == ("", 0), (fault, status))
-        if trial.tshark:
-            trial.compare(path.name, file, rows)
+        rows, left, fault, status = lists.run(file)
+        yield Check(f"{path.name}, its end", (fault, status) == ("", 0), (fault, status))
+        if lists.tshark:
+            yield from lists.compare(path.name, file, rows)
     for name, file in OTHERS.items():
-        rows, left, fault, status = trial.run(file)
+        rows, left, fault, status = lists.run(file)
         holds = (rows, left, status) == ([], [], 2) and fault.endswith("NotARecording")
-        trial.check(f"no recording: {name}", holds, (rows, fault, status))
-    trial.try_copies()
-    trial.try_protocols()
-    for case in range(given.cases):
-        chance = random.Random(given.seed + case)
+        yield Check(f"no recording: {name}", holds, (rows, fault, status))
+
+
+def tried(words: argparse.Namespace) -> Iterator[Check]:
+    """All cases."""
+    lists = Lists(words.program)
+    yield from listed_files(lists)
+    yield from lists.try_copies()
+    yield from lists.try_protocols()
+    for seed in range(words.seed, words.seed + words.cases):
+        chance = random.Random(seed)
         make = chance.choice((made_pcap, made_pcapng))
-        trial.try_made(f"seed {given.seed + case}", make(chance))
-    for case in range(given.changes):
-        chance = random.Random(given.seed + case)
+        yield from lists.try_made(f"seed {seed}", make(chance))
+    for seed in range(words.seed, words.seed + words.changes):
+        chance = random.Random(seed)
         file = changed(chance.choice((made_pcap, made_pcapng))(chance).file, chance)
-        trial.try_changed(f"seed {given.seed + case}, changed", file)
-    return trial.end()
+        yield from lists.try_changed(f"seed {seed}, changed", file)
 
 
 if __name__ == "__main__":
-    sys.exit(main())
+    sys.exit(tell(tried(words_of(sys.argv[1:]))))

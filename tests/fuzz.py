@@ -28,8 +28,10 @@ import time
 from collections.abc import Iterator, Sequence
 from typing import NamedTuple
 
+from checks import Check
 from commands import COMMANDS
 from fuzzing.cases import Failure, Trier, try_case
+from fuzzing.command import parser_of, seed_of, tell
 from fuzzing.program import Program
 from fuzzing.reached import told
 
@@ -65,9 +67,10 @@ class Work(NamedTuple):
 
 
 class Tried(NamedTuple):
-    """How many cases were tried in how many runs, the seed, name and command of each that failed, what was met in each
-    group of cases, and what was reached."""
+    """The seed of the first case and how many were tried in how many runs, the seed, name and command of each that
+    failed, what was met in each group of cases, and what was reached."""
 
+    first: int
     cases: int
     failed: list[tuple[int, str, str]]
     runs: int
@@ -76,10 +79,9 @@ class Tried(NamedTuple):
 
 
 def work_of(arguments: Sequence[str]) -> Work:
-    parser = argparse.ArgumentParser(prog="fuzz.py", description=(__doc__ or "").split("\n\n", maxsplit=1)[0])
+    parser = parser_of("fuzz.py", __doc__)
     parser.add_argument("--cases", type=int, default=10_000, help="how many cases are tried at the most")
     parser.add_argument("--seconds", type=float, help="how long cases are begun")
-    parser.add_argument("--seed", type=int, help="the seed of the first case; each further one has the next number")
     parser.add_argument("--jobs", type=int, default=1, help="how many processes try them")
     parser.add_argument("--commands", default=",".join(COMMANDS), help="the program's commands that are tried")
     parser.add_argument("--folder", type=pathlib.Path, help="where the failing cases are written")
@@ -96,7 +98,7 @@ def work_of(arguments: Sequence[str]) -> Work:
     if words.refuse and not os.path.isfile(words.refuse):
         parser.error(f"there is no file {words.refuse}")
     refuse = words.refuse and os.path.abspath(words.refuse)
-    seed = int.from_bytes(os.urandom(4), "big") if words.seed is None else words.seed
+    seed = seed_of(words.seed)
     folder = words.folder or pathlib.Path(tempfile.gettempdir()) / f"tftp-audit-fuzz-{seed}"
     return Work(seed, words.cases, words.seconds, words.jobs, words.commands, folder, words.slower, refuse, program)
 
@@ -131,7 +133,7 @@ def try_some(work: Work, first: int, count: int) -> Tried:
         if trier.failures:
             failed.append((seed, trier.failures[0].name, trier.failures[0].command))
     program.close()
-    return Tried(count, failed, program.runs, trier.met, trier.reached.counts)
+    return Tried(first, count, failed, program.runs, trier.met, trier.reached.counts)
 
 
 def chunks(work: Work) -> Iterator[tuple[Work, int, int]]:
@@ -169,21 +171,24 @@ def print_met(met: collections.Counter[tuple[str, str]]) -> None:
         print(f"{group}: " + ", ".join(f"{name} {met[group, name]}" for name in names))
 
 
-def main(arguments: Sequence[str]) -> int:
-    work, begun = work_of(arguments), time.monotonic()
-    print(f"seed {work.first}", flush=True)
-    whole = Tried(0, [], 0, collections.Counter(), collections.Counter())
+def checks_of(work: Work, some: Tried) -> Iterator[Check]:
+    failed = {seed: (name, command) for seed, name, command in some.failed}
+    for seed in range(some.first, some.first + some.cases):
+        where = work.folder / f"case-{seed}"
+        yield Check(", ".join((f"case {seed}", *failed.get(seed, ()))), seed not in failed, f"see {where}")
+
+
+def tried(work: Work) -> Iterator[Check]:
+    """The cases, and then what was met and reached in them."""
+    begun, cases, runs = time.monotonic(), 0, 0
+    met, reached = collections.Counter[tuple[str, str]](), collections.Counter[tuple[str, str]]()
     for some in results(work):
-        for seed, name, command in some.failed:
-            print(f"case {seed}, {name}, {command}: see {work.folder / f'case-{seed}'}", flush=True)
-        failed, met, reached = whole.failed + some.failed, whole.met + some.met, whole.reached + some.reached
-        whole = Tried(whole.cases + some.cases, failed, whole.runs + some.runs, met, reached)
-    print(f"{whole.cases} cases in {time.monotonic() - begun:.1f} s, {whole.runs} runs of the program")
-    print_met(whole.met)
-    print("\n".join(told(whole.reached)))
-    print(f"{whole.cases - len(whole.failed)} passed, {len(whole.failed)} failed")
-    return 1 if whole.failed else 0
+        yield from checks_of(work, some)
+        cases, runs, met, reached = cases + some.cases, runs + some.runs, met + some.met, reached + some.reached
+    print(f"{cases} cases in {time.monotonic() - begun:.1f} s, {runs} runs of the program")
+    print_met(met)
+    print("\n".join(told(reached)))
 
 
 if __name__ == "__main__":
-    sys.exit(main(sys.argv[1:]))
+    sys.exit(tell(tried(work_of(sys.argv[1:]))))

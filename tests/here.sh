@@ -1,6 +1,6 @@
 #!/bin/sh
 # After the gate, whose programs are for any processor, builds the programs for the one at hand, where that is another
-# build, and tries them as those of the gate were tried (programs.sh).
+# build, and tries them as those of the gate were tried.
 set -eu
 
 top=$(dirname "$(dirname "$(readlink -f "$0")")")
@@ -16,4 +16,4 @@ if [ "$(processor)" = any ]; then
 fi
 make -s -C "$top" build
 echo "the programs for this processor:"
-sh "$top/tests/programs.sh" "$program"
+make -s -C "$top" check-programs

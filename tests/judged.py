@@ -35,7 +35,8 @@ def recording(datagrams: Sequence[Datagram]) -> bytes:
 
 @dataclass(frozen=True)
 class Row:
-    """A verdict on a transfer, as the program says it; which end it accuses is no part of it, where rows are compared."""
+    """A verdict on a transfer, as the program says it; which end it accuses is no part of it, where rows are
+    compared."""
 
     number: int
     place: str

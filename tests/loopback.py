@@ -1,14 +1,11 @@
-"""Makes recordings of real transfers over the loopback, in a network namespace of their own, and tries tftp-transfers
-on them: tftp-hpa, atftp and curl as clients, tftpd-hpa, atftpd and dnsmasq as servers, as far as they are installed.
-
-    loopback.py TRANSFERS [FOLDER]
-
-The recordings stay in FOLDER, where one is named. What is not installed is told, and not tried. Prints each case that
-is not as it should be, then a last line 'N passed, M failed'; status 1 if any failed.
+"""Recordings of real transfers over the loopback, in a network namespace of their own: of tftp-hpa, atftp and curl as
+clients, tftpd-hpa, atftpd and dnsmasq as servers, as far as they are installed. The recordings stay in a folder, where
+the environment names one as TFTP_RECORDINGS.
 """
 from __future__ import annotations
 
 import contextlib
+import ctypes
 import dataclasses
 import os
 import pathlib
@@ -16,23 +13,23 @@ import re
 import shutil
 import signal
 import subprocess
-import sys
-import tempfile
 import time
 from collections.abc import Callable, Iterator, Sequence
 from typing import Optional
 
+from checks import Checks
 from judged import Row, checked
 from refusals import Rule, refusal
 from relay import Disturbance, Relay
-from trial import Trial
 
 SERVER, CLIENT, RELAY = "192.0.2.1", "192.0.2.7", "192.0.2.2"
 SERVER_6, CLIENT_6 = "2001:db8::1", "2001:db8::7"
-INSIDE = "TFTP_AUDIT_NAMESPACE"
+KEPT = "TFTP_RECORDINGS"
+# The kind of namespace that a network is (sched.h).
+CLONE_NEWNET = 0x40000000
 CLIENTS = ("curl", "tftp", "atftp")
 CLIENT_SECONDS = "60"
-ALWAYS = ("tcpdump", "ip", "unshare")
+ALWAYS = ("tcpdump", "ip")
 SIZES = {"boot.cfg": 1_300, "whole.img": 1_024, "kernel.img": 9_000, "empty.txt": 0}
 # What the clients send.
 UPLOADS = {"upload.log": 1_536, "report.bin": 5_000}
@@ -238,42 +235,25 @@ def are_wanted(case: Case, at_ends: Sequence[tuple[list[Row], str, int]]) -> boo
     return True
 
 
-def try_case(trial: Trial, transfers: str, case: Case, keep: pathlib.Path) -> None:
-    with tempfile.TemporaryDirectory() as name:
-        folder = pathlib.Path(name)
-        folder.chmod(0o755)
-        make_files(folder)
-        recording = keep / f"loopback-{case.name}.pcap"
-        record(case, recording, folder)
-        got = at_each_end(transfers, recording)
-        trial.check(f"{case.name}, the verdicts", are_wanted(case, got), got)
-        differing = not_between(transfers, recording)
-        trial.check(f"{case.name}, accepted between the ends", not differing, differing)
-        for place, sizes in (("client", SIZES), ("root", UPLOADS)):
-            other = folder / ("root" if place == "client" else "client")
-            for name in sizes:
-                copy = folder / place / name
-                same = not copy.exists() or copy.read_bytes() == (other / name).read_bytes()
-                trial.check(f"{case.name}, {name} came over", same == (name not in case.spoilt))
-
-
 def missing(case: Case) -> list[str]:
     """The programs of a case that are not installed."""
     wanted = {case.server.split()[0]} | {word for text in case.clients for word in text.split() if word in CLIENTS}
     return sorted(word for word in wanted if not named(word))
 
 
-def enter_namespace(script: str, words: list[str]) -> int:
-    """Runs a script again where the loopback is its own."""
-    lacking = [name for name in ALWAYS if not named(name)]
-    if lacking:
-        print(f"not installed, so nothing is recorded over the loopback: {', '.join(lacking)}")
-        return 0
-    if subprocess.run(["unshare", "--net", "true"], stderr=subprocess.DEVNULL).returncode != 0:
-        print("no network namespace can be had here, as root can, so nothing is recorded over the loopback")
-        return 0
-    command = ["unshare", "--net", sys.executable, script, *words]
-    return subprocess.run(command, env={**os.environ, INSIDE: "1"}).returncode
+def enter_network() -> Callable[[], None]:
+    """Brings what this thread does, and begins, into a network of its own; answers what brings it back."""
+    system = ctypes.CDLL(None, use_errno=True)
+    outer = os.open("/proc/thread-self/ns/net", os.O_RDONLY)
+    if system.unshare(CLONE_NEWNET) != 0:
+        os.close(outer)
+        raise OSError(ctypes.get_errno(), os.strerror(ctypes.get_errno()))
+
+    def leave() -> None:
+        system.setns(outer, CLONE_NEWNET)
+        os.close(outer)
+
+    return leave
 
 
 def set_up() -> None:
@@ -283,25 +263,29 @@ def set_up() -> None:
         subprocess.run(["ip", "addr", "add", address, "dev", "lo"], check=True)
 
 
-def try_all(cases: Sequence[Case], folder: Optional[str], try_one: Callable[[Trial, Case, pathlib.Path], None]) -> int:
-    """Tries each case whose programs are installed, with its recording in the folder, if one is named."""
-    set_up()
-    trial = Trial()
-    with tempfile.TemporaryDirectory() as scratch:
+class OverLoopback(Checks):
+    """Tests on recordings that are made meanwhile."""
+
+    def setUp(self) -> None:
+        super().setUp()
+        if lacking := [name for name in ALWAYS if not named(name)]:
+            self.skipTest(f"not installed, so nothing is recorded over the loopback: {', '.join(lacking)}")
+        try:
+            self.addCleanup(enter_network())
+        except OSError as why:
+            self.skipTest(f"no network namespace can be had here, as root can: {why}")
+        set_up()
+        self.kept = pathlib.Path(os.environ.get(KEPT) or self.folder).resolve()
+
+    def try_each(self, cases: Sequence[Case], try_one: Callable[[Case, pathlib.Path], None]) -> None:
+        """Each case whose programs are installed, with its files in a folder of its own."""
         for case in cases:
-            lacking = missing(case)
-            if lacking:
-                print(f"{case.name} is not tried, since it is not installed: {', '.join(lacking)}")
-            else:
-                try_one(trial, case, pathlib.Path(folder or scratch).resolve())
-    return trial.end()
-
-
-def main(transfers: str, folder: Optional[str]) -> int:
-    return try_all(CASES, folder, lambda trial, case, keep: try_case(trial, transfers, case, keep))
-
-
-if __name__ == "__main__":
-    if INSIDE in os.environ:
-        sys.exit(main(sys.argv[1], sys.argv[2] if len(sys.argv) > 2 else None))
-    sys.exit(enter_namespace(__file__, sys.argv[1:]))
+            if lacking := missing(case):
+                self.leave(case.name, f"not installed: {', '.join(lacking)}")
+                continue
+            folder = self.folder / case.name
+            folder.mkdir()
+            for each in (self.folder, folder):
+                each.chmod(0o755)
+            make_files(folder)
+            try_one(case, folder)

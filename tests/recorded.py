@@ -155,13 +155,19 @@ def parts_of(content: bytes, size: int, id: int) -> list[tuple[Fragment, bytes]]
 def pcap(frames: list[Frame], order: str = "<", is_nano: bool = False, snaplen: int = 262_144) -> bytes:
     """A file of frames of one link type."""
     link = frames[0].link if frames else ETHERNET
-    unit, magic = (1, 0xA1B23C4D) if is_nano else (1000, 0xA1B2C3D4)
-    file = struct.pack(f"{order}IHHiIII", magic, 2, 4, 0, 0, snaplen, link)
-    for it in frames:
-        seconds, fraction = divmod(it.time, 1_000_000_000)
-        head = seconds, fraction // unit, len(it.content), it.original or len(it.content)
-        file += struct.pack(f"{order}IIII", *head) + it.content
-    return file
+    return header(link, order, is_nano, snaplen) + b"".join(record(it, order, is_nano) for it in frames)
+
+
+def header(link: int, order: str = "<", is_nano: bool = False, snaplen: int = 262_144) -> bytes:
+    """What a file of frames of a link type begins with."""
+    return struct.pack(f"{order}IHHiIII", 0xA1B23C4D if is_nano else 0xA1B2C3D4, 2, 4, 0, 0, snaplen, link)
+
+
+def record(it: Frame, order: str = "<", is_nano: bool = False) -> bytes:
+    """A frame as it stands in a file, in nanoseconds or microseconds."""
+    seconds, fraction = divmod(it.time, 1_000_000_000)
+    head = seconds, fraction // (1 if is_nano else 1000), len(it.content), it.original or len(it.content)
+    return struct.pack(f"{order}IIII", *head) + it.content
 
 
 def block(order: str, kind: int, body: bytes) -> bytes:
@@ -171,11 +177,11 @@ def block(order: str, kind: int, body: bytes) -> bytes:
     return struct.pack(f"{order}I", kind) + size + body + size
 
 
-def options(order: str, *pairs: tuple[int, bytes]) -> bytes:
+def options(order: str, *pairs: tuple[int, bytes], is_ended: bool = True) -> bytes:
     """Options, each to a whole word, and their end; none where there is none."""
     padded = ((code, len(value), value + bytes(-len(value) % 4)) for code, value in pairs)
     told = b"".join(struct.pack(f"{order}HH", code, length) + value for code, length, value in padded)
-    return told + bytes(4) if pairs else b""
+    return told + bytes(4) if pairs and is_ended else told
 
 
 def other_block(order: str, chance: random.Random) -> bytes:
@@ -215,13 +221,16 @@ class Interface:
 Block = Union[Frame, bytes]
 # The flag of a packet that was received with a wrong checksum of Ethernet (draft-ietf-opsawg-pcapng, section 4.3.1).
 CRC_ERROR = 1 << 24
+# The options of what an interface dropped, and the operating system (section 4.6).
+IF_DROP, OS_DROP = 5, 7
 # In an obsolete packet block the count of what was lost, where nobody counted.
 NO_COUNT = 0xFFFF
 
 
-def statistics(order: str, place: int, dropped: int, system: int) -> bytes:
-    """A statistics block: what an interface and the operating system dropped since the capture began (section 4.6)."""
-    told = options(order, (5, struct.pack(f"{order}Q", dropped)), (7, struct.pack(f"{order}Q", system)))
+def statistics(order: str, place: int, *counts: tuple[int, int], is_ended: bool = True) -> bytes:
+    """A statistics block of an interface, with counts by the codes of their options, and perhaps no end of these: what
+    the interface or the operating system dropped since the capture began (section 4.6)."""
+    told = options(order, *((code, struct.pack(f"{order}Q", count)) for code, count in counts), is_ended=is_ended)
     return block(order, 5, struct.pack(f"{order}III", place, 0, 0) + told)
 
 

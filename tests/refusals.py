@@ -1,5 +1,5 @@
 """The line of a refusal, by its rule. Tests name a rule as the scripts' one table does, and its printed name is that of
-the table; tests/tables.py compares it with the definition of what the programs print."""
+the table; tests/test_tables.py compares it with the definition of what the programs print."""
 from __future__ import annotations
 
 import repository  # noqa: F401

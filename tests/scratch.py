@@ -15,6 +15,8 @@ Word = Union[str, pathlib.Path]
 SCRIPTS = ("tftp-explain", "tftp-ladder", "tftp-report")
 # What programs are built for where the processor has AVX2 and what came with it, and what these are by Linux's names.
 V3 = "x86-64-v3"
+# What is installed beside the pages.
+PAPERS = ("README.md", "CHANGELOG.md", "SECURITY.md", "LICENSE", "LICENSE-MIT", "LICENSE-APACHE")
 NEEDED = ("avx2", "bmi1", "bmi2", "f16c", "fma", "abm", "movbe")
 # What the script writes, what it writes as errors, its status, and how often rt was called.
 Ran = tuple[str, str, int, int]
@@ -60,9 +62,14 @@ build "$crate" "$cpu" || exit 1
 shift 2
 exec "out/$crate" "$@"
 """
-# In the place of the tests that `make test` runs; those of the name $BROKEN fail.
-TESTED = r"""echo "${0##*/} was run on $("$1" check </dev/null | cut -d: -f1)" >>"$CALLS"
-[ "${0##*/}" != "$BROKEN" ]
+# In the place of the tests that `make test` runs; those fail that $BROKEN names, by their part or by what is told of
+# them.
+TESTED = r"""import os, subprocess, sys
+done = subprocess.run(["crates/tftp_audit/out/tftp_audit", "check"], input="", capture_output=True, text=True)
+line = f"{sys.argv[1][2:]} were tried on {done.stdout.partition(':')[0]}"
+with open(os.environ["CALLS"], "a") as calls:
+    calls.write(f"{line}\n")
+sys.exit(os.environ["BROKEN"] in (sys.argv[1], line))
 """
 
 
@@ -107,7 +114,7 @@ class Scratch:
         for part in (*(f"{it.crate}/src" for it in LAUNCHERS), *(f"tftp_low/{it}" for it in of_low)):
             (crates / part).mkdir(parents=True)
             (crates / part / "first.rt").write_text("first")
-        for name in (*(it.name for it in LAUNCHERS), "Makefile", "README.md", "CHANGELOG.md", ".gitignore"):
+        for name in (*(it.name for it in LAUNCHERS), "Makefile", ".gitignore", *PAPERS):
             shutil.copy(TOP / name, self.top)
         for name in ("tools", "docs", "share"):
             shutil.copytree(TOP / name, self.top / name, ignore=shutil.ignore_patterns("__pycache__"))
@@ -115,8 +122,7 @@ class Scratch:
         (self.top / "HANDLES").write_text("Handles allowed: none.\n")
         for file, text, mode in (
             (self.top / "examples" / "one-block.capture", "an example", 0o644),
-            (self.top / "tests" / "run.sh", TESTED, 0o644),
-            (self.top / "tests" / "programs.sh", TESTED, 0o644),
+            (self.top / "tests" / "__main__.py", TESTED, 0o644),
             (self.top / "tests" / "here.sh", (TOP / "tests" / "here.sh").read_text(), 0o644),
             (self.bin / "rt", STAND_IN, 0o755),
         ):
@@ -150,7 +156,7 @@ class Scratch:
         """The status of a target of the Makefile, what it writes as errors, and whether the tests were run."""
         words = target, f"DESTDIR={self.top.parent}", "PREFIX=/a prefix"
         _, errors, status, _ = self.run(*words, script="make", meanwhile=meanwhile, broken=broken)
-        return status, errors, "run.sh was run" in self.calls.read_text()
+        return status, errors, "were tried on" in self.calls.read_text()
 
     def program_of(self, launcher: Launcher) -> pathlib.Path:
         return self.top / "crates" / launcher.crate / "out" / launcher.crate

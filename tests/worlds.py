@@ -1,27 +1,28 @@
-"""Draws worlds of lawful clients and servers, over networks that lose, repeat, delay and reorder, with strays, ports that
-are used again, late answers, clocks that jump and more, each kind by its name (fuzzing/worlds.py, fuzzing/framed.py).
-What was recorded of them, at each host and between, is divided by the slow reading of the definition, and each transfer
-judged at its place by the slow judges: nobody may be accused who kept the law. Some recordings are written as files, with
-the trouble that only frames have, and nobody may be accused by the program that reads recordings.
+"""Draws worlds of lawful clients and servers, over networks that lose, repeat, delay and reorder, with strays, ports
+that are used again, late answers, clocks that jump and more, each kind by its name (fuzzing/worlds.py,
+fuzzing/framed.py). What was recorded of them, at each host and between, is divided by the slow reading of the
+definition, and each transfer judged at its place by the slow judges: nobody may be accused who kept the law. Some
+recordings are written as files, with the trouble that only frames have, and nobody may be accused by the program that
+reads recordings.
 
     worlds.py [--recordings N] [--files N] [--sessions N] [--seed SEED] [--kinds NAME,..] [--jobs N] [TRANSFERS]
 
-Then the price of that caution is told: sessions with one breach are drawn, and how many are told without a doubt; and of
-lawful sessions, in how many transfers a refusal would be doubtful. The first world has the seed SEED, and each further
-one the next number. A recording in which one is accused is printed, without what may be left out of it. The last line is
-'N passed, M failed'; status 1 if any failed.
+Then the price of that caution is told: sessions with one breach are drawn, and how many are told without a doubt; and
+of lawful sessions, in how many transfers a refusal would be doubtful. The first world has the seed SEED, and each
+further one the next number. A recording in which one is accused is printed, without what may be left out of it. The
+last line is 'N passed, M failed'; status 1 if any failed.
 """
 from __future__ import annotations
 
 import argparse
 import collections
 import concurrent.futures
-import os
 import sys
 from collections.abc import Iterator
 from typing import NamedTuple, Optional
 
 import repository  # noqa: F401
+from fuzzing.command import parser_of, runnable, seed_of
 from fuzzing.framed import drawn_frame_kinds, framed
 from fuzzing.innocents import accusations, rows_of, shrunk
 from fuzzing.price import FORMS, Price
@@ -75,7 +76,8 @@ def accused_in_file(transfers: str, world: Drawn, recording: Recording) -> Itera
     for place in ((), ("--end", recording.place)) if file.sources else ():
         for row in checked(transfers, file.file, *place, *named)[0]:
             if row.is_accused() and file.sender(row.frame) not in world.strangers:
-                yield f"seed {world.seed}, {recording.place} {recording.host}, as a file, {sorted(kinds)}, {place}: {row}"
+                told = f"{recording.place} {recording.host}, as a file, {sorted(kinds)}, {place}"
+                yield f"seed {world.seed}, {told}: {row}"
 
 
 def try_some(work: Work) -> Tried:
@@ -98,13 +100,12 @@ def try_some(work: Work) -> Tried:
 def works(first: int, words: Words) -> Iterator[Work]:
     """Pieces of work without end; every so many has files, as often as is asked for."""
     kinds = tuple(words.kinds.split(",")) if words.kinds else DRAWN
-    transfers = os.path.abspath(words.transfers) if words.transfers else None
     place, owed = first, 1.0
     while True:
         owed += words.files / max(1, words.recordings)
         has_files = owed >= 1
         owed -= has_files
-        yield Work(place, kinds, transfers if has_files else None)
+        yield Work(place, kinds, words.transfers if has_files else None)
         place += AT_ONCE
 
 
@@ -140,17 +141,14 @@ def told_price(first: int, words: Words) -> list[str]:
 
 
 def words_of(arguments: list[str]) -> Words:
-    parser = argparse.ArgumentParser(prog="worlds.py", description=(__doc__ or "").split("\n\n", maxsplit=1)[0])
+    parser = parser_of("worlds.py", __doc__, "world")
     parser.add_argument("--recordings", type=int, default=2_000, help="how many recordings are tried at the least")
     parser.add_argument("--files", type=int, default=200, help="about how many of them are written as files too")
     parser.add_argument("--sessions", type=int, default=100, help="how many sessions of each form tell the price")
-    parser.add_argument("--seed", type=int, help="the seed of the first world; each further one has the next number")
     parser.add_argument("--kinds", default="", help="the kinds of trouble that may be drawn: " + ", ".join(KINDS))
     parser.add_argument("--jobs", type=int, default=1, help="how many processes try them")
-    parser.add_argument("transfers", nargs="?", help="the program that reads recordings")
+    parser.add_argument("transfers", type=runnable, nargs="?", help="the program that reads recordings")
     words = parser.parse_args(arguments, Words())
-    if words.transfers and not os.access(words.transfers, os.X_OK):
-        parser.error(f"there is no program {words.transfers}")
     if unknown := set(filter(None, words.kinds.split(","))) - set(KINDS):
         parser.error(f"there is no kind {', '.join(sorted(unknown))}")
     return words
@@ -158,8 +156,7 @@ def words_of(arguments: list[str]) -> Words:
 
 def main(arguments: list[str]) -> int:
     words = words_of(arguments)
-    first = int.from_bytes(os.urandom(4), "big") if words.seed is None else words.seed
-    print(f"seed {first}", flush=True)
+    first = seed_of(words.seed)
     whole = Tried(0, 0, 0, collections.Counter(), [])
     for tried in results(first, words):
         for said in tried.failed:
@@ -169,7 +166,8 @@ def main(arguments: list[str]) -> int:
         if whole.recordings >= words.recordings:
             break
     print(", ".join(f"{name} {count}" for name, count in sorted(whole.drawn.items())))
-    print(f"{whole.recordings} recordings, {whole.files} of them as files, {len(whole.failed)} accused; left out {whole.left_out}")
+    rest = f"{len(whole.failed)} accused; left out {whole.left_out}"
+    print(f"{whole.recordings} recordings, {whole.files} of them as files, {rest}")
     dear = told_price(first, words) if words.sessions else []
     for said in dear:
         print(f"MISSED {said}")

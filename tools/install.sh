@@ -85,7 +85,7 @@ put_all() {
     put 644 share/man/man1 docs/man/*.1
     put 644 share/tftp-audit/wireshark share/wireshark/tftp-audit.lua
     put 644 share/tftp-audit/schemas docs/schemas/*.json
-    put 644 share/doc/tftp-audit README.md CHANGELOG.md
+    put 644 share/doc/tftp-audit README.md CHANGELOG.md SECURITY.md LICENSE LICENSE-MIT LICENSE-APACHE
     put 644 share/doc/tftp-audit/docs docs/*.md
     put 644 share/doc/tftp-audit/docs/contracts docs/contracts/*.md
     put 644 share/doc/tftp-audit/examples examples/*

@@ -12,7 +12,7 @@ from fuzzing.between import MOST_BLOCKS, Terms
 from fuzzing.ends import Packet
 from fuzzing.meanings import chosen, spelled_options, spelled_request
 from fuzzing.slow_judge import Judge
-from fuzzing.spelled import Data, Error, Oack, Request
+from fuzzing.spelled import Error, Oack, Request
 from fuzzing.views import HOSTS, STRAY_REQUESTS, STRAYS, Capture, Datagram, Peer, View, port_of
 from normal import KNOWN, USUAL_SIZE, Mode, Options, Side, Value, number
 from refusals import Rule

@@ -116,7 +116,8 @@ class Transfer:
     beside: list[tuple[Datagram, Endpoint]] = field(default_factory=list)
     answered: Optional[Endpoint] = None
     went_on: Optional[Endpoint] = None
-    # the greatest time of what passed at the client, whether something came to it, and whether something is out of order
+    # the greatest time of what passed at the client, whether something came to it, and whether something is out of
+    # order
     newest: int = 0
     is_answered: bool = False
     is_left_out: bool = False
@@ -141,7 +142,10 @@ class Transfer:
     def view(self, end: EndName) -> list[Datagram]:
         if end == "client":
             return self.seen
-        own = [it for it in self.seen if it.number in self.requests or it.target == self.asked or self.is_with_server(it)]
+        own = [
+            it for it in self.seen
+            if it.number in self.requests or it.target == self.asked or self.is_with_server(it)
+        ]
         return sorted(own + [it for it, at in self.beside if at == self.server()])
 
     def talked(self) -> Iterator[Datagram]:

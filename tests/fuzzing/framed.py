@@ -1,6 +1,6 @@
 """A recording of a world as a file, with the trouble that only frames have: fragments that are missing or out of order,
-frames that the recorder dropped and counted, datagrams that a host discarded by their checksum, a mirror port that gives
-each frame twice, and one direction only."""
+frames that the recorder dropped and counted, datagrams that a host discarded by their checksum, a mirror port that
+gives each frame twice, and one direction only."""
 from __future__ import annotations
 
 import random
@@ -23,8 +23,6 @@ FRAME_KINDS: dict[str, str] = {
     "one_way": "one direction only is recorded",
 }
 PIECE, MICROSECOND, MOST_ID = 400, 1_000, 65_535
-# Options of an interface's statistics and of a packet's block: what was dropped (pcapng).
-IF_DROP, OS_DROP, DROP_COUNT = 5, 7, 4
 UDP = 17
 
 
@@ -176,9 +174,8 @@ class Recorder:
         """A pcapng whose last block says how many packets were dropped."""
         interface = Interface(recorded.RAW, 9)
         blocks: list[tuple[int, recorded.Block]] = [(0, it) for it in frames]
-        code = self.drawn.choice((IF_DROP, OS_DROP))
-        told = recorded.options("<", (code, struct.pack("<Q", self.dropped)))
-        statistics = recorded.block("<", 5, struct.pack("<III", 0, 0, 0) + told)
+        code = self.drawn.choice((recorded.IF_DROP, recorded.OS_DROP))
+        statistics = recorded.statistics("<", 0, (code, self.dropped))
         return recorded.section("<", [interface], [*blocks, (0, statistics)], self.drawn)
 
 

@@ -17,7 +17,8 @@ Division = Callable[[Sequence[Datagram], Iterable[int]], Attribution]
 
 
 class Told(NamedTuple):
-    """What is said of a transfer: the datagram that is refused, by its number in the recording, and why it is doubtful."""
+    """What is said of a transfer: the datagram that is refused, by its number in the recording, and why it is
+    doubtful."""
 
     one: Transfer
     line: str
@@ -40,7 +41,8 @@ class Accusation(NamedTuple):
         it = self.told.refused
         who = it.source.told() if it else ""
         number = it.number if it else 0
-        return f"{self.place} {self.host}: transfer {self.told.one.number}, datagram {number}, {self.told.rule()}: {who}"
+        what = f"transfer {self.told.one.number}, datagram {number}, {self.told.rule()}"
+        return f"{self.place} {self.host}: {what}: {who}"
 
 
 def at_end(one: Transfer, end: EndName, view: Sequence[Datagram]) -> list[views.Datagram]:

@@ -1,6 +1,6 @@
 """Clients and servers that keep the law, whatever comes to them: each that sends against it by what it sent and took
-itself is found out by the slow judge as it does, and its world is not tried. They live in a world, which says what is to
-be drawn and carries what they send."""
+itself is found out by the slow judge as it does, and its world is not tried. They live in a world, which says what is
+to be drawn and carries what they send."""
 from __future__ import annotations
 
 import random

@@ -1,6 +1,7 @@
 """The price of caution: how much of what is truly broken is told without a doubt, and in how much that is lawful a
 refusal would be doubtful. Sessions of lawful ends are drawn, undisturbed but for a few losses; one datagram of one
-transfer is changed so that its sender breaks a rule, which the transfer alone shows, and the whole recording is judged."""
+transfer is changed so that its sender breaks a rule, which the transfer alone shows, and the whole recording is
+judged."""
 from __future__ import annotations
 
 import collections
@@ -14,7 +15,8 @@ from fuzzing.innocents import Division, Told, all_told
 from fuzzing.worlds import Drawn, Place, Recording, renumbered
 
 # Each form of a session: what every one of it has, how many transfers it has, and the least share that is to be told.
-SINGLE, FORKING, FIRMWARE = "one transfer", "one client port, a server port for each", "one client port, one server port"
+SINGLE, FORKING = "one transfer", "one client port, a server port for each"
+FIRMWARE = "one client port, one server port"
 FORMS: dict[str, tuple[frozenset[str], tuple[int, ...], float]] = {
     SINGLE: (frozenset(), (1,), 0.9),
     FORKING: (frozenset(), (2, 3, 4), 0.9),
@@ -154,7 +156,8 @@ class Price:
             for place in PLACES:
                 told, tried = self.breaches[form, place, "refused"], self.tried(form, place)
                 if told < least * tried:
-                    found.append(f"{form}, {place}: {share(told, tried)} of the breaches told, not {share(int(100 * least), 100)}")
+                    wanted = share(int(100 * least), 100)
+                    found.append(f"{form}, {place}: {share(told, tried)} of the breaches told, not {wanted}")
                 doubted = self.rows[form, place, "doubted"]
                 rows = doubted + self.rows[form, place, "sure"]
                 if doubted > MOST_DOUBTED[form] * rows:

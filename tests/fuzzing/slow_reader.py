@@ -5,14 +5,10 @@ from __future__ import annotations
 
 import dataclasses
 import ipaddress
-from typing import Literal, NamedTuple, Optional, Union
+from typing import NamedTuple, Optional, Union
 
-SECTION = b"\x0a\x0d\x0d\x0a"
-MAGICS: dict[bytes, tuple[Literal["little", "big"], int]] = {
-    b"\xa1\xb2\xc3\xd4": ("big", 1000), b"\xa1\xb2\x3c\x4d": ("big", 1),
-    b"\xd4\xc3\xb2\xa1": ("little", 1000), b"\x4d\x3c\xb2\xa1": ("little", 1),
-}
-ORDERS: dict[bytes, Literal["little", "big"]] = {b"\x1a\x2b\x3c\x4d": "big", b"\x4d\x3c\x2b\x1a": "little"}
+from tftp_tools.pieces import CLASSIC, ORDERS, PCAP_HEADER, RECORD_HEADER, SECTION, Order, Piece, blocks, records
+
 LONGEST_FRAME, LONGEST_BLOCK, MOST_INTERFACES = 262_144, 16_777_216, 65_536
 SECOND, PATIENCE, MOST_TIME = 1_000_000_000, 30_000_000_000, 1 << 64
 # A copy of a packet is at another interface, among so many after it, and no more nanoseconds from it.
@@ -66,7 +62,7 @@ def frames_of(file: bytes) -> tuple[list[Frame], str, int]:
     try:
         if file[:4] == SECTION:
             read_blocks(file, frames, counts)
-        elif file[:4] in MAGICS:
+        elif file[:4] in CLASSIC:
             read_classic(file, frames)
         else:
             raise Fault("NotARecording")
@@ -95,25 +91,22 @@ class Counts:
 
 
 def read_classic(file: bytes, frames: list[Frame]) -> None:
-    """A header of 24 bytes, and records."""
-    order, unit = MAGICS[file[:4]]
-    if len(file) < 24:
+    """A header, which names one link for all records."""
+    header, *rest = records(file)
+    if len(header.content) < PCAP_HEADER:
         raise Fault("Truncated")
-    if int.from_bytes(file[4:6], order) != 2:
+    if header.number(4, 2) != 2:
         raise Fault("Bad")
-    link = int.from_bytes(file[20:24], order) % 65_536
-    at = 24
-    while at < len(file):
-        if len(file) - at < 16:
+    link, (_, unit) = header.number(20) % 65_536, CLASSIC[file[:4]]
+    for it in rest:
+        if len(it.content) < RECORD_HEADER:
             raise Fault("Truncated")
-        seconds, fraction, size, _ = (int.from_bytes(file[at + k : at + k + 4], order) for k in (0, 4, 8, 12))
-        if size > LONGEST_FRAME:
+        if it.size - RECORD_HEADER > LONGEST_FRAME:
             raise Fault("TooLong")
-        if len(file) - at - 16 < size:
+        if len(it.content) < it.size:
             raise Fault("Truncated")
-        time = seconds * SECOND + fraction * unit
-        frames.append(Frame((0, 0), link, time, "unknown", file[at + 16 : at + 16 + size]))
-        at += 16 + size
+        time = it.number(0) * SECOND + it.number(4) * unit
+        frames.append(Frame((0, 0), link, time, "unknown", it.content[RECORD_HEADER:]))
 
 
 class Interface(NamedTuple):
@@ -133,45 +126,41 @@ class Interface(NamedTuple):
         return moment if 0 <= moment < MOST_TIME else None
 
 
+def body_of(it: Piece) -> bytes:
+    """What a block says between its lengths, where it is one."""
+    if len(it.content) < 12:
+        raise Fault("Truncated")
+    if it.content[:4] == SECTION and it.content[8:12] not in ORDERS:
+        raise Fault("Bad")
+    if it.size > LONGEST_BLOCK:
+        raise Fault("TooLong")
+    if it.size < 12 or it.size % 4:
+        raise Fault("Bad")
+    if len(it.content) < it.size:
+        raise Fault("Truncated")
+    if it.number(it.size - 4) != it.size:
+        raise Fault("Bad")
+    return it.content[8:-4]
+
+
 def read_blocks(file: bytes, frames: list[Frame], counts: Counts) -> None:
     """Blocks, one after another; the first one is a section header."""
-    at = sections = 0
-    order: Literal["little", "big"] = "little"
-    interfaces: list[Interface] = []
-    while at < len(file):
-        if len(file) - at < 12:
-            raise Fault("Truncated")
-        is_section = file[at : at + 4] == SECTION
-        if is_section:
-            if file[at + 8 : at + 12] not in ORDERS:
-                raise Fault("Bad")
-            order = ORDERS[file[at + 8 : at + 12]]
-        size = int.from_bytes(file[at + 4 : at + 8], order)
-        if size > LONGEST_BLOCK:
-            raise Fault("TooLong")
-        if size < 12 or size % 4:
+    sections, interfaces = 0, list[Interface]()
+    for it in blocks(file):
+        body = body_of(it)
+        if it.content[:4] != SECTION:
+            read_block(it, body, sections, interfaces, frames, counts)
+            continue
+        if len(body) < 16 or int.from_bytes(body[4:6], it.order) != 1:
             raise Fault("Bad")
-        if len(file) - at < size:
-            raise Fault("Truncated")
-        if int.from_bytes(file[at + size - 4 : at + size], order) != size:
-            raise Fault("Bad")
-        body = file[at + 8 : at + size - 4]
-        if is_section:
-            if len(body) < 16 or int.from_bytes(body[4:6], order) != 1:
-                raise Fault("Bad")
-            interfaces, sections = [], sections + 1
-        else:
-            read_block(order, int.from_bytes(file[at : at + 4], order), body, sections, interfaces, frames, counts)
-        at += size
-
-
-Order = Literal["little", "big"]
+        interfaces, sections = [], sections + 1
 
 
 def read_block(
-    order: Order, kind: int, body: bytes, section: int, interfaces: list[Interface], frames: list[Frame], counts: Counts
+    it: Piece, body: bytes, section: int, interfaces: list[Interface], frames: list[Frame], counts: Counts
 ) -> None:
     """A block that is no section header: an interface, a frame, what an interface lost, or what is skipped."""
+    kind, order = it.kind, it.order
     if kind == 1:
         if len(interfaces) == MOST_INTERFACES:
             raise Fault("Bad")

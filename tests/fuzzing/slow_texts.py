@@ -9,7 +9,7 @@ from typing import Optional
 
 from captures import EndName
 from fuzzing.slow_judge import Verdict, verdict_of
-from fuzzing.spelled import Ack, Data, Error, Fault, Oack, Request, read
+from fuzzing.spelled import Ack, Data, Fault, Oack, Request, read
 from fuzzing.views import Datagram
 from normal import Output, outputs_of_refused
 

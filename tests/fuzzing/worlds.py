@@ -297,8 +297,8 @@ class Drawn:
 
 def is_traced(datagrams: list[Datagram], of: list[int], first: int) -> bool:
     """Whether a recording that begins there shows what was under way: where something of a transfer that began before
-    passes after the next request of its client, or something between two that had talked before, something between the two
-    had passed in the recording before that request."""
+    passes after the next request of its client, or something between two that had talked before, something between the
+    two had passed in the recording before that request."""
     begun = set(of[:first])
     old = {frozenset((it.source, it.target)) for it in datagrams[:first]}
     seen: set[frozenset[Endpoint]] = set()

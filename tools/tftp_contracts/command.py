@@ -81,5 +81,5 @@ def main() -> int:
         else:
             write(TOP, path, pages.get(path))
     if others and is_checked:
-        print("run `make contracts`")
+        print("run `make doc`")
     return 1 if others and is_checked else 0

@@ -41,8 +41,8 @@ def statement(said: Said) -> str:
 
 
 class Page:
-    """The page of one crate. The words that its statements cite are gathered as they are written, and so are the types of
-    other crates."""
+    """The page of one crate. The words that its statements cite are gathered as they are written, and so are the types
+    of other crates."""
 
     def __init__(self, crate: Crate, definitions: Definitions, has_notes: bool) -> None:
         self.crate, self.definitions, self.has_notes = crate, definitions, has_notes

@@ -9,7 +9,7 @@ from dataclasses import dataclass
 from pathlib import Path
 from typing import Optional
 
-from .errors import Refused, tell, told
+from .errors import Refused, told
 
 REFUSED = re.compile(r"refused datagram ([0-9]+) rule ([0-9]+) ([A-Za-z0-9]+)(?: ([A-Za-z]+))?")
 FAULT = re.compile(r"fault line ([0-9]+) ([A-Za-z]+)")

@@ -10,14 +10,13 @@ from typing import Any, Literal, Optional, TypeVar
 from .capture import Capture, read_capture
 from .errors import Refused, read_file, tell
 from .frames import without_frames
+from .pieces import MAGICS
 from .program import Verdict, ask, check
 
 EndName = Literal["client", "server"]
 PlaceName = Literal["client", "server", "between"]
 ENDS: tuple[EndName, ...] = ("client", "server")
 PLACES: tuple[PlaceName, ...] = ("client", "server", "between")
-# The first bytes of pcap, in both orders of bytes, in microseconds and nanoseconds, and of pcapng.
-MAGICS = tuple(bytes.fromhex(it) for it in ("a1b2c3d4", "d4c3b2a1", "a1b23c4d", "4d3cb2a1", "0a0d0d0a"))
 # How a capture text begins, and the comment in it that names its transfer.
 BEGINS = re.compile(rb"^tftp-capture ", re.MULTILINE)
 OF = re.compile(rb"^# transfer ([0-9]+) of ", re.MULTILINE)

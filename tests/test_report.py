@@ -1,0 +1,262 @@
+"""The pages of tools/tftp-report: what stands in them of each transfer, that they load nothing, and that a browser
+shows them where one is installed.
+"""
+from __future__ import annotations
+
+import dataclasses
+import hashlib
+import pathlib
+import re
+import shutil
+import subprocess
+import time
+from collections.abc import Sequence
+from html.parser import HTMLParser
+
+import made
+from captures import ack, data, error, oack, read_request
+from checks import Checks
+from programs import AUDIT, TRANSFERS
+from recorded import Datagram
+from refusals import Rule
+from repository import TOP
+
+SCRIPT, EXAMPLES = TOP / "tools" / "tftp-report", TOP / "examples"
+BROWSERS = ("chromium", "chromium-browser", "google-chrome")
+# HTML's elements without an end.
+VOID = ("meta", "br")
+LOADING = ("link", "script", "img", "iframe", "object", "embed", "video", "audio", "base", "form")
+MANY, LONGEST = 1_000, 300.0
+
+
+class Page(HTMLParser):
+    """What is read of a page: its words, its elements, and whether each is closed where it is due."""
+
+    def __init__(self, text: str) -> None:
+        super().__init__()
+        self.open: list[str] = []
+        self.tags: list[tuple[str, dict[str, str | None]]] = []
+        self.words: list[str] = []
+        self.is_sound = text.startswith("<!DOCTYPE html>\n")
+        self.feed(text)
+        self.close()
+        self.is_sound = self.is_sound and not self.open
+
+    def handle_starttag(self, tag: str, attrs: list[tuple[str, str | None]]) -> None:
+        self.tags.append((tag, dict(attrs)))
+        if tag not in VOID:
+            self.open.append(tag)
+
+    def handle_startendtag(self, tag: str, attrs: list[tuple[str, str | None]]) -> None:
+        self.tags.append((tag, dict(attrs)))
+
+    def handle_endtag(self, tag: str) -> None:
+        self.is_sound = self.is_sound and bool(self.open) and self.open.pop() == tag
+
+    def handle_data(self, content: str) -> None:
+        if self.open[-1:] != ["style"]:
+            self.words.append(content)
+
+    def text(self) -> str:
+        return " ".join(" ".join(self.words).split())
+
+    def named(self, tag: str) -> list[dict[str, str | None]]:
+        return [attributes for name, attributes in self.tags if name == tag]
+
+    def ids(self) -> list[str]:
+        return [attributes["id"] or "" for _, attributes in self.tags if "id" in attributes]
+
+
+def run(words: Sequence[object], given: bytes = b"") -> tuple[str, str, int]:
+    done = subprocess.run([str(word) for word in (SCRIPT, *words)], input=given, capture_output=True, timeout=LONGEST)
+    return done.stdout.decode(), done.stderr.decode(), done.returncode
+
+
+def lines_of_page(output: str) -> list[str]:
+    """The cells of each row of the table, as text."""
+    rows = re.findall(r"<tr>(.*?)</tr>", output)
+    return [" | ".join(re.sub(r"<[^>]*>", "", cell) for cell in re.findall(r"<t[hd].*?</t[hd]>", row)) for row in rows]
+
+
+def lossy() -> list[Datagram]:
+    """A read in windows, in which block 2 is lost once, a second passes, and the window comes again."""
+    out, back = (made.C, 40_000, made.S, 41_000), (made.S, 41_000, made.C, 40_000)
+    asked = read_request("boot.img", "octet", blksize=8, windowsize=4)[0]
+    content = [b"%08d" % number for number in range(1, 5)]
+    window = [Datagram(*back, data(number, content[number - 1])[0]) for number in (1, 3, 4)]
+    again = [Datagram(*back, data(number, content[number - 1])[0]) for number in (2, 3, 4)]
+    begun = [Datagram(made.C, 40_000, made.S, 69, asked), Datagram(*back, oack(blksize=8, windowsize=4)[0])]
+    acks = [Datagram(*out, ack(number)[0]) for number in (0, 1, 4, 5)]
+    return [*begun, acks[0], *window, acks[1], *again, acks[2], Datagram(*back, data(5, b"")[0]), acks[3]]
+
+
+def many() -> list[Datagram]:
+    """So many reads from ports of their own, of which every tenth is refused."""
+    passed = []
+    for number in range(MANY):
+        read = made.read("a", 10_000 + number, 41_000)
+        if number % 10 == 0:
+            read[2] = dataclasses.replace(read[2], payload=ack(2)[0])
+        passed += read
+    return passed
+
+
+class Report(Checks):
+    """What stands in the pages."""
+
+    needs = (AUDIT, TRANSFERS)
+    programs = "--program", AUDIT.path, "--transfers", TRANSFERS.path
+
+    def try_whole(self, name: str, output: str) -> Page:
+        """The page is well formed, loads nothing, and what refers to another part finds it."""
+        page = Page(output)
+        self.check(f"{name}, well formed", page.is_sound, page.open)
+        loading = [
+            tag for tag, attributes in page.tags if tag in LOADING or attributes.keys() & {"src", "srcset", "data"}
+        ]
+        self.check(
+            f"{name}, nothing is loaded", not loading and "url(" not in output and "@import" not in output, loading
+        )
+        ids = page.ids()
+        self.check(f"{name}, each id is one element's", len(ids) == len(set(ids)), ids)
+        wanted = [it["href"][1:] for it in page.named("a") if it["href"]]
+        wanted += [word for _, it in page.tags for word in (it.get("aria-labelledby") or "").split()]
+        self.check(f"{name}, each reference", set(wanted) <= set(ids), set(wanted) - set(ids))
+        pictures = page.named("svg")
+        self.check(f"{name}, each picture is told", all(it.get("role") == "img" for it in pictures), pictures)
+        return page
+
+    def test_table(self) -> None:
+        """The rows of a session, by what loopback.py's clients did."""
+        output, errors, status = run([*self.programs, EXAMPLES / "loopback-session.pcap"])
+        page = self.try_whole("a session", output)
+        self.check("a session, status", (errors, status) == ("", 1), (errors, status))
+        rows = lines_of_page(output)
+        self.check("a session, a row each", len(rows) == 6, rows)
+        first = '1 | 192.0.2.1:34056 | 192.0.2.1:51973 | get &quot;boot.cfg&quot; | 1,300 | - | '
+        self.check("a session, the first", rows[1].startswith(first), rows[1])
+        self.check("a session, its verdict", rows[1].endswith(" | accepted get octet blocks 3 bytes 1300"), rows[1])
+        self.check("a session, the third", rows[3].endswith(f" | refused datagram 3 rule {Rule.ACK_AHEAD}"), rows[3])
+        boot = b"".join(b"boot.cfg line %05d\n" % number for number in range(82))[:1300]
+        words = page.text()
+        for told in (
+            "5 transfers, 1 of them not accepted.", f"1,300 bytes, SHA-256 {hashlib.sha256(boot).hexdigest()}.",
+            "It follows the ERROR in datagram 2 (line 8, frame 16), which is not acknowledged; this does no harm.",
+            "Refused: datagram 3 (line 10, frame 17)", "00000 00 04 00 01",
+            "Compared with: datagram 2 (line 8, frame 16)",
+            "What if No verdict: what follows is what the program says once the datagrams that it refused are left"
+            " out.",
+            "Without datagram 3: aborted by peer code 1.",
+        ):
+            self.check(f"a session, {told}", told in words, words[:3000])
+        heads = [it for it in page.named("th") if it.get("scope") == "col"]
+        self.check("a session, headings", len(heads) == 10 and page.named("html")[0].get("lang") == "en", heads)
+
+    def test_pictures(self) -> None:
+        """What the pictures say in words: repeats, a pause, what is missing; and what a reader of the table is told."""
+        path, passed = self.folder / "lossy.pcap", lossy()
+        times = [0.01 * place if place < 7 else 1 + 0.01 * place for place in range(len(passed))]
+        path.write_bytes(made.file_of(passed, times))
+        output, errors, status = run([*self.programs, "--end", "client", path])
+        words = self.try_whole("a window", output).text()
+        self.check("a window, status", (errors, status) == ("", 0), (errors, status))
+        for told in (
+            "7 blocks and 4 ACKs, the highest block is 5. 2 blocks and 0 ACKs are repeats.",
+            "A pause of 1.010 s after 0.060 s.",
+            "recorded at the client", "Passed 13 datagrams.",
+        ):
+            self.check(f"a window, {told}", told in words, words)
+        row = lines_of_page(output)[1]
+        holds = "| 32 | blksize=8 windowsize=4 | 1.120 | 29 B/s | 2, 0 | accepted get octet blocks 5 bytes 32" in row
+        self.check("a window, its row", holds, row)
+        self.check("a window, repeats are hollow", output.count('class="hollow s-error"') >= 2)
+        path.write_bytes(made.file_of(passed[:6], times[:6]))
+        output, _, _ = run([*self.programs, "--end", "client", path])
+        self.check("a window, what is missing", "1 block missing: 2." in Page(output).text(), output)
+
+    def test_others(self) -> None:
+        """Names with the signs of HTML, doubts, notes, recordings that come in, and what is no recording."""
+        path = self.folder / "a <b> & c.pcap"
+        evil = made.read('<script>alert("x")</script>', 40_000, 41_000)
+        refused = Datagram(made.S, 41_000, made.C, 40_000, error(1, "<img src=x>")[0])
+        path.write_bytes(made.file_of([evil[0], refused, Datagram(made.C, 40_000, made.S, 41_000, ack(1)[0])]))
+        output, errors, status = run([*self.programs, path])
+        words = self.try_whole("signs of HTML", output).text()
+        holds = "TFTP in " in words and "<script>alert(" in words and "<img src=x>" in words and "<script" not in output
+        self.check("signs of HTML, as words", holds and (errors, status) == ("", 1), (words, errors))
+        is_told = f"Accused the client at {made.C}:40000, which sent the datagram." in words
+        self.check("who is accused", is_told, words)
+        path.write_bytes(made.file_of(made.asked_again()))
+        output, _, status = run([*self.programs, path])
+        words = Page(output).text()
+        is_told = f"doubtful: refused datagram 2 rule {Rule.WINDOW_OVERRUN}" in words
+        is_told = is_told and "Doubtful nobody had answered for sure what its client asked for before" in words
+        is_told = is_told and "its client had asked the same and sent nothing else since" in words
+        self.check("a doubt", is_told and "Accused" not in words and status == 1, words)
+        for place in ((), ("--end", "between")):
+            path.write_bytes(made.file_of(made.late_block()))
+            output, errors, status = run([*self.programs, *place, path])
+            words = self.try_whole(f"between the ends, {place}", output).text()
+            digest = hashlib.sha256(b"." * 512 + b"!").hexdigest()
+            is_told = f"513 bytes, SHA-256 {digest}." in words and "frames 1 to 6; judged between the ends" in words
+            self.check(f"between the ends, {place}", is_told and (errors, status) == ("", 0), words)
+        path.write_bytes(made.file_of(made.late_block())[:-2])
+        output, errors, status = run([*self.programs, path])
+        self.check("a recording that is cut", output == "" and "not whole" in errors and status == 2, errors)
+        session = (EXAMPLES / "loopback-session.pcap").read_bytes()
+        output, _, status = run([*self.programs, "-"], session)
+        self.check("a recording that comes in", len(lines_of_page(output)) == 6 and status == 1, output[:200])
+        output, errors, status = run([*self.programs, EXAMPLES / "one-block.capture"])
+        self.check("a text", output == "" and "is no recording" in errors and status == 2, errors)
+        output, errors, status = run([*self.programs, "-"], b"\x1f\x8b" + bytes(40))
+        self.check("gzip", output == "" and "is no recording" in errors and status == 2, errors)
+
+    def try_many(self) -> pathlib.Path:
+        """A thousand transfers; how long that takes is told."""
+        path, written = self.folder / "many.pcap", self.folder / "many.html"
+        path.write_bytes(made.file_of(many()))
+        begun = time.monotonic()
+        output, errors, status = run([*self.programs, "--end", "client", path])
+        print(f"a page of {MANY:,} transfers: {time.monotonic() - begun:.1f} s, {len(output.encode()) / 1e6:.1f} MB")
+        page = self.try_whole("many", output)
+        sections, pictures = len(page.named("section")), len(page.named("svg"))
+        told = "100 transfers of 1,000 have pictures: those not accepted come first." in page.text()
+        holds = (sections, pictures, status) == (MANY, 200, 1) and told
+        self.check("many, sections and pictures", holds, (sections, pictures, errors))
+        self.check("many, those not accepted", "1,000 transfers, 100 of them not accepted." in page.text())
+        written.write_text(output)
+        return written
+
+    def try_browser(self, large: pathlib.Path) -> None:
+        """A browser shows the page in light and in dark, and prints it; its ground is as it should be."""
+        browser = next((found for found in map(shutil.which, BROWSERS) if found), None)
+        if browser is None:
+            self.leave("in a browser", "no Chromium is installed, so no page is shown in one")
+            return
+        small = self.folder / "small.html"
+        small.write_text(run([*self.programs, EXAMPLES / "loopback-repeated-oack.pcap"])[0])
+        call = [browser, "--headless", "--no-sandbox", "--disable-gpu", f"--user-data-dir={self.folder / 'profile'}"]
+        for name, page, words in (
+            ("light", small, ("--window-size=1280,1600",)), ("many", large, ("--window-size=1280,1600",)),
+            ("dark", small, ("--window-size=1280,1600", "--blink-settings=preferredColorScheme=0")),
+        ):
+            shot = self.folder / f"{name}.png"
+            shown = subprocess.run(
+                [*call, *words, f"--screenshot={shot}", page.as_uri()], capture_output=True, timeout=120
+            )
+            is_drawn = shot.exists() and shot.stat().st_size > 20_000
+            self.check(f"in a browser, {name}", is_drawn, shown.stderr[-500:])
+        light, dark = ((self.folder / f"{name}.png") for name in ("light", "dark"))
+        differ = light.exists() and dark.exists() and light.read_bytes() != dark.read_bytes()
+        self.check("in a browser, dark is not light", differ)
+        printed = self.folder / "page.pdf"
+        subprocess.run([*call, f"--print-to-pdf={printed}", small.as_uri()], capture_output=True, timeout=120)
+        self.check("in a browser, printed", printed.exists() and printed.read_bytes().startswith(b"%PDF"))
+
+    def test_many(self) -> None:
+        """A thousand transfers, which a browser shows too."""
+        self.try_browser(self.try_many())
+
+    def test_words(self) -> None:
+        output, _, status = run(["--help"])
+        self.check("tftp-report --help", status == 0 and output.startswith("usage: tftp-report"), output)

@@ -1,0 +1,59 @@
+"""The launcher tftp-transfers: what it passes to the program, beside what is tried of each launcher."""
+from __future__ import annotations
+
+import pathlib
+
+from launchers import Launchers
+from scratch import TRANSFERS, Word, said_of
+
+
+class TransfersLauncher(Launchers):
+    """The runs of tftp-transfers."""
+
+    def test_launcher(self) -> None:
+        self.try_launcher(TRANSFERS, self.recordings)
+
+    def recordings(self) -> None:
+        """The words go to the program as they are, and standard input with them."""
+        folder = self.scratch.top.parent / "a folder of recordings"
+        folder.mkdir()
+        recording = folder / "the recording"
+        recording.write_text("its bytes")
+        passed: tuple[list[Word], ...] = (
+            ["check", recording], ["check", "missing", recording], ["check", recording, "missing"],
+            ["check", "--json", "-"], ["check"], ["check", "--help"], ["check", "missing", "--json"],
+        )
+        for words in passed:
+            got = self.scratch.run(*words, given="other")
+            self.runs(f"{words}", got, "mended", 0, words=said_of(words), given="other")
+        more: tuple[list[Word], ...] = (
+            ["list", recording], ["text", "2", "client", recording], [recording, "--service", "6969"], ["--version"],
+            [], ["-", "--service", "69"], ["help"], [""], ["--build", "x", "-"], ["--ready", "-"],
+        )
+        for words in more:
+            got = self.scratch.run(*words, given="other")
+            self.runs(f"{words}", got, "mended", 0, words=said_of(words), given="other", status=2)
+        self.recordings_before_a_build(recording)
+
+    def recordings_before_a_build(self, recording: pathlib.Path) -> None:
+        """What cannot be read is told before the program is built; scripts have it built."""
+        self.scratch.source.write_text("seven")
+        unread: tuple[list[Word], ...] = (
+            ["missing"], ["check", "missing"], ["check", "gone", "missing"], ["text", "1", "client", "missing"],
+            ["--service", "69", "missing"],
+        )
+        for words in unread:
+            got = self.scratch.run(*words, given="other")
+            self.refuses(f"{words} before a build", got, "tftp-transfers: cannot read the file 'missing'\n")
+        folder = recording.parent
+        got = self.scratch.run("check", folder)
+        self.refuses("a folder", got, f"tftp-transfers: cannot read the file '{folder}'\n")
+        got = self.scratch.run("check", recording, given="other")
+        self.runs("a file after an edit", got, "seven", 1, words=said_of(["check", recording]), given="other")
+        self.scratch.source.write_text("eight")
+        _, errors, status, _ = self.scratch.run(recording, script=self.scratch.top / "tools" / "tftp-explain")
+        lines = errors.splitlines()
+        holds = status == 2 and "rt: progress on eight" in lines and "gave no rows" in lines[-1]
+        self.check("a script builds the program before it asks it", holds and "progress" not in lines[-1], errors)
+        self.scratch.source.write_text("3")
+        self.refuses("a trial run that ends with status 3", self.scratch.call(), self.not_built(), 1)
