@@ -1,2 +1,3 @@
 pub mod FairLemmas
 pub mod SparedLemmas
+pub mod FinalityLemmas

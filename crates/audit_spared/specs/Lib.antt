@@ -1,2 +1,3 @@
 pub mod Fair
 pub mod Spared
+pub mod Finality

@@ -1,0 +1,3 @@
+pub mod Naming
+pub mod Known
+pub mod Silent
