@@ -20,7 +20,12 @@ pub mod Lawful
 pub mod Kept
 pub mod Whole
 pub mod Spared
+pub mod PutIn
+pub mod Strays
+pub mod StrayedViews
+pub mod Astray
 pub mod ClientEnd
+pub mod Interleaved
 pub mod ServedRuns
 pub mod ServedLaw
 pub mod ServedViews
@@ -32,3 +37,5 @@ pub mod WorkedPremises
 pub mod WorkedCaptures
 pub mod WorkedLate
 pub mod WorkedNames
+pub mod WorkedStrays
+pub mod WorkedWrites

@@ -65,6 +65,11 @@ module _ (h : Header) (see : Recorded → Datagram) (same_see : (d e : Recorded)
   view_lawful may older kp n asked bottom lawful = subst (OneEnded h) (sym (ap (map seen) asked.view ∙ map_both (filter (is_of n) kp) asked.before))
       (repeated_lawful may asked.r asked.before (map seen (filter (is_of n) kp)) asked.repeated (bottom_seen asked.r n kp bottom) lawful)
 
+  -- what was asked for in the same words and nothing else
+  pub all_same : IsRepeatable h → (r : Recorded) (ps : List Placed) → AllByRecursion (λ q. (is_request q ≡ true) × Same q.datagram r) ps → OneEnded h (see r ∷ []) → OneEnded h (map seen ps)
+  all_same may r [] all lawful = tt
+  all_same may r (q ∷ ps) all lawful = subst (λ s. OneEnded h (s ∷ map seen ps)) (sym (same_see q.datagram r all.0.1)) (repeated_lawful may r ps (see r ∷ []) all.1 refl lawful)
+
   -- the capture's datagrams, as they were placed
   pub seen_of : (kp : List Placed) (k : List Recorded) → map (λ p. p.datagram) kp ≡ k → OneEnded h (map see k) → OneEnded h (map seen kp)
   seen_of kp k are lawful = subst (OneEnded h) (twice kp) (subst (λ l. OneEnded h (map see l)) (sym are) lawful) where

@@ -1,5 +1,5 @@
 -- A list of captures at one client, one after another.
-use Rattle.std.proofs.Common.{◌≡◌, true, List, [], ◌∷◌, ◌++◌, inl, inr, refl, sym, ap, subst, ◌∙◌, filter, if◌then◌else◌}
+use Rattle.std.proofs.Common.{◌≡◌, true, List, [], ◌∷◌, ◌++◌, inl, inr, refl, sym, ap, subst, ◌∙◌, if◌then◌else◌}
 use Rattle.std.specs.List.{AllByRecursion, flat_map}
 use Rattle.std.proofs.lemmas.Bool.{false≢true, or_cases, or_left, or_right, and_from}
 use Rattle.audit_flows.specs.Lines.{Recorded, same_endpoint, is_between, other_of, goes}
@@ -9,7 +9,6 @@ use Rattle.audit_flows.proofs.LinesLemmas.Lines.{by_test}
 use Rattle.audit_spared.specs.Spared.Seen.{HasNoSilence, is_with}
 use Rattle.audit_spared.specs.Spared.{AreCaptures, Follows, begins, goes_on}
 use Rattle.audit_spared.proofs.SparedLemmas.Basics.{all_first, all_last}
-use Rattle.audit_spared.proofs.SparedLemmas.Lists.{filter_all}
 
 -- each passed at the client
 abbrev pub AreHere : Endpoint → List Recorded → Type 0
@@ -48,9 +47,9 @@ module _ (c : Endpoint) where
           one_capture d k (flat_map (λ l. l) each) k0 older all.0.0 (here_all (d ∷ k) (all_first (λ e. is_with c e ≡ true) (d ∷ k) (flat_map (λ l. l) each) here)) all.0.1,
         )
 
-    pub captures_at : (recorded : List Recorded) (each : List (List Recorded)) → filter (is_with c) recorded ≡ flat_map (λ capture. capture) each
-        → AllByRecursion (λ k. lawful k × HasNoSilence k) each → (k : List Recorded) × AreCaptures lawful c (filter (is_with c) recorded) k
-    captures_at recorded each same all =
-        let here = subst (AllByRecursion (λ d. is_with c d ≡ true)) same (filter_all (is_with c) recorded) in
+    pub captures_at : (listed : List Recorded) (each : List (List Recorded)) → AllByRecursion (λ d. is_with c d ≡ true) listed → listed ≡ flat_map (λ capture. capture) each
+        → AllByRecursion (λ k. lawful k × HasNoSilence k) each → (k : List Recorded) × AreCaptures lawful c listed k
+    captures_at listed each with same all =
+        let here = subst (AllByRecursion (λ d. is_with c d ≡ true)) same with in
         let (k, captures) = all_captures each all here in
         (k, subst (λ l. AreCaptures lawful c l k) (sym same) captures)

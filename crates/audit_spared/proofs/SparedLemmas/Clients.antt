@@ -13,7 +13,8 @@ use Rattle.audit_flows.proofs.TransfersLemmas.Ends.{IsEnd, asked_place, beside_e
 use Rattle.audit_flows.proofs.TransfersLemmas.Numbers.{length_placed}
 use Rattle.audit_spared.proofs.FairLemmas.Thinned.{filter_dropped}
 use Rattle.audit_spared.proofs.SparedLemmas.Basics.{doubted_more}
-use Rattle.audit_spared.proofs.SparedLemmas.Stands.{new, AskedBefore, State, doubted, asking, answered, reopened, taken, mixed, Has}
+use Rattle.audit_spared.proofs.SparedLemmas.Talks.{view_first}
+use Rattle.audit_spared.proofs.SparedLemmas.Stands.{new, AskedBefore, State, doubted, asking, waiting, misled, answered, reopened, taken, mixed, Opened, Has}
 use Rattle.audit_spared.proofs.SparedLemmas.Owned.{AreOwn, IsOwn, place_below}
 use Rattle.audit_spared.proofs.SparedLemmas.Recordings.{no_line}
 
@@ -54,6 +55,20 @@ at_which older now d e is = by (place_of [] older now d) refl is where
   by : (place : Place) → place_of [] older now d ≡ place → is_at e (new d now place) ≡ true → IsAt older now d e
   by (Opens x) here at = asks_here (sym (is_same x.client e at) ∙ ((placed_where [] older now d).opens x here).0) (has_asked older now d x (inl here))
   by (Repeats x) here at = asks_here (sym (is_same x.client e at) ∙ ((placed_where [] older now d).repeats x here).0) (has_asked older now d x (inr here))
+  by (Talks x) here at = ended x.client ((placed_where [] older now d).talks x here) at
+  by (Apart c) here at = ended c ((placed_where [] older now d).apart c here) at
+  by (Beside x) here at = absurd (false≢true at)
+  by Nowhere here at = absurd (false≢true at)
+
+-- where it is at a client, that asks by it or its line goes on
+pub at_lived : (older : List Placed) (now : ℕ) (d : Recorded) (e : Endpoint) → is_at e (new d now (place_of [] older now d)) ≡ true → (asks [] older now d ≡ true) ⊎ (live now (line e older) ≢ [])
+at_lived older now d e is = by (place_of [] older now d) refl is where
+  ended : (c : Endpoint) → IsEnd older now d c → same_endpoint c e ≡ true → (asks [] older now d ≡ true) ⊎ (live now (line e older) ≢ [])
+  ended c (which, some) same = inr (subst (λ o. live now (line o older) ≢ []) (is_same c e same) some)
+
+  by : (place : Place) → place_of [] older now d ≡ place → is_at e (new d now place) ≡ true → (asks [] older now d ≡ true) ⊎ (live now (line e older) ≢ [])
+  by (Opens x) here at = inl (has_asked older now d x (inl here))
+  by (Repeats x) here at = inl (has_asked older now d x (inr here))
   by (Talks x) here at = ended x.client ((placed_where [] older now d).talks x here) at
   by (Apart c) here at = ended c ((placed_where [] older now d).apart c here) at
   by (Beside x) here at = absurd (false≢true at)
@@ -148,10 +163,43 @@ module _ (whole : List Recorded) where
 asked_other : (older kp : List Placed) (n : ℕ) (p : Placed) → is_of n p ≡ false → AskedBefore older kp n → AskedBefore (p ∷ older) kp n
 asked_other older kp n p off asked = record { r = asked.r; before = asked.before; view = filter_dropped (is_of n) p older off ∙ asked.view; repeated = asked.repeated }
 
+abbrev opened_other : (c : Endpoint) (older kp : List Placed) (n : ℕ) (p : Placed) → Opened c older kp n → Opened c (p ∷ older) kp n
+opened_other c older kp n p a = record {
+  opener = a.opener;
+  view = view_first n p a.opener older a.view;
+  newer = a.newer;
+  early = a.early;
+  split = a.split;
+  from = a.from;
+  silent = a.silent;
+  others = a.others;
+}
+
 state_other : (c : Endpoint) (k : List Recorded) (older kp rest : List Placed) (x : Transfer) (p : Placed) → is_of x.number p ≡ false → State c k older kp rest x → State c k (p ∷ older) kp rest x
 unfolding asked_other
 state_other c k older kp rest x p off (doubted is) = doubted (doubted_more x.number p older is)
 state_other c k older kp rest x p off (asking a) = asking (record { none_came = a.none_came; asked = asked_other older kp x.number p off a.asked; own = a.own; others = a.others })
+state_other c k older kp rest x p off (waiting a) = waiting (record {
+  strayed = a.strayed;
+  ends = a.ends;
+  core = record {
+    asked = asked_other older kp x.number p off a.core.asked;
+    bottom = a.core.bottom;
+    requests = a.core.requests;
+    others = a.core.others;
+    silent = a.core.silent;
+    heard = a.core.heard;
+  };
+})
+state_other c k older kp rest x p off (misled a) = misled (record {
+  strayed = a.strayed;
+  ends = a.ends;
+  by = a.by;
+  answered = a.answered;
+  opened = opened_other c older kp x.number p a.opened;
+  first = a.first;
+  heard = a.heard;
+})
 state_other c k older kp rest x p off (answered a) = answered (record {
   came = a.came;
   asked = asked_other older kp x.number p off a.asked;
@@ -166,7 +214,9 @@ state_other c k older kp rest x p off (answered a) = answered (record {
   server = a.server;
   is_talked = a.is_talked;
   serves = a.serves;
+  opened = opened_other c older kp x.number p a.opened;
   first = a.first;
+  by_server = a.by_server;
 })
 state_other c k older kp rest x p off (reopened a) = reopened (record {
   untimely = a.untimely;

@@ -144,8 +144,11 @@ module _ (write : Address → List ℕ) (write_one : (a b : Address) → write a
         service = to_service d k passes;
         alike = alike d k passes;
         known = known d k passes here.1 first;
-        answers = λ off none. sym (ap is_answer (payload_seen write c d)) ∙ first_answers 69 (seen d) (map seen k) passes (ap not (goes_seen write c d ∙ off)) (came_seen k ∙ none);
       }
+
+  -- what comes first is an answer
+  pub answers_lawful : (d : Recorded) (k : List Recorded) → IsLawfulAt write c (d ∷ k) → goes_from c d ≡ false → list_any (comes_at c) k ≡ false → is_answer d.payload ≡ true
+  answers_lawful d k passes off none = sym (ap is_answer (payload_seen write c d)) ∙ first_answers 69 (seen d) (map seen k) passes (ap not (goes_seen write c d ∙ off)) (came_seen k ∙ none)
 
   -- and it is asked for in time
   pub in_time_lawful : (k : List Recorded) → IsLawfulAt write c k → AsksInTime c k

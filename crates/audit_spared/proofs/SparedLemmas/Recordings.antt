@@ -1,7 +1,7 @@
 -- A whole recording at one client, whose captures follow one another.
-use Rattle.std.proofs.Common.{◌≡◌, ◌⊎◌, inl, inr, ◌≤◌, ℕ, ◌+◌, Bool, true, false, List, [], ◌∷◌, ◌++◌, refl, sym, ap, subst, ◌∙◌, ◌==◌, ◌&&◌, ◌||◌, not, map, length, nat_le, max, is_some, ne_eqb, arith, if◌then◌else◌}
+use Rattle.std.proofs.Common.{◌≡◌, ◌⊎◌, inl, inr, ◌<◌, ◌≤◌, ℕ, ◌+◌, Bool, true, false, List, [], ◌∷◌, ◌++◌, refl, sym, ap, subst, ◌∙◌, ◌==◌, ◌&&◌, ◌||◌, not, map, length, nat_le, max, is_some, ne_eqb, arith, if◌then◌else◌}
 use Rattle.std.specs.List.{list_any, AllByRecursion}
-use Rattle.std.proofs.lemmas.Bool.{or_left, and_parts, eq-eqb, le-leb}
+use Rattle.std.proofs.lemmas.Bool.{or_left, and_parts, eq-eqb, le-leb, leb-true}
 use Rattle.audit_flows.specs.Lines.{Recorded, Placed, same_endpoint, other_of, is_of, is_request, is_at, live, line, latest_in, clock, silence, begins_request, place_asked, place_at, talk_in, goes}
 use Rattle.audit_flows.specs.{Endpoint, Place, Opens, Repeats, Talks, Transfer}
 use Rattle.audit_flows.specs.Transfers.{asks, at_client, beside, either, is_client, is_nowhere, is_service, place_of, placed}
@@ -133,6 +133,19 @@ live_on c e k older (q ∷ ps) rest x now has clear near =
     let all : AllByRecursion IsOnTime (q ∷ ps ++ rest) = subst (AllByRecursion IsOnTime) has.whole (line_all IsOnTime c older clear) in
     let moment : q.moment ≡ e.time = all.0 ∙ ap (λ d. d.time) this in
     live_is now (line c older) (ap (λ l. nat_le now (clock l + silence)) has.whole ∙ ap (λ m. nat_le now (m + silence)) moment ∙ le-leb now (e.time + silence) near)
+
+-- it has been silent since
+pub live_off : (c : Endpoint) (e : Recorded) (k : List Recorded) (older kp rest : List Placed) (x : Transfer) (now : ℕ) → Has c (e ∷ k) older kp rest x → AllByRecursion IsOnTime older → e.time + silence < now
+    → live now (line c older) ≡ []
+live_off c e k older [] rest x now has clear far = absurd (has.some refl)
+live_off c e k older (q ∷ ps) rest x now has clear far =
+    let this : q.datagram ≡ e = cons_first q.datagram e (map (λ p. p.datagram) ps) k has.are in
+    let all : AllByRecursion IsOnTime (q ∷ ps ++ rest) = subst (AllByRecursion IsOnTime) has.whole (line_all IsOnTime c older clear) in
+    let moment : q.moment ≡ e.time = all.0 ∙ ap (λ d. d.time) this in
+    let off : nat_le now (e.time + silence) ≡ false = by_test (nat_le now (e.time + silence))
+    (λ is. let low : now ≤ e.time + silence = leb-true now (e.time + silence) is in absurd (omega (arith, low, far)))
+    (λ none. none) in
+    live_not now (line c older) (ap (λ l. nat_le now (clock l + silence)) has.whole ∙ ap (λ m. nat_le now (m + silence)) moment ∙ off)
 
 -- ---- the times
 

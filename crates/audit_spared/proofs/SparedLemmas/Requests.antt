@@ -12,8 +12,8 @@ use Rattle.audit_spared.proofs.FairLemmas.Thinned.{filter_kept, filter_dropped, 
 use Rattle.audit_spared.specs.Spared.{Follows, asks_from, comes_at, goes_from, goes_on_from}
 use Rattle.audit_spared.proofs.SparedLemmas.Basics.{doubted_more, doubted_again, all_and, all_first}
 use Rattle.law_model.proofs.ModelLemmas.Members.{contains_first, contains_later}
-use Rattle.audit_spared.proofs.SparedLemmas.Stands.{new, ends_in_request, IsPlain, asks, talks, Same, OthersOf, Asking, State, doubted, asking, answered, reopened, taken, mixed, Has}
-use Rattle.audit_spared.proofs.SparedLemmas.Talks.{asked_more}
+use Rattle.audit_spared.proofs.SparedLemmas.Stands.{new, ends_in_request, IsPlain, asks, talks, Same, OthersOf, Asking, State, doubted, asking, waiting, misled, answered, reopened, taken, mixed, Has}
+use Rattle.audit_spared.proofs.SparedLemmas.Talks.{asked_more, filter_told}
 
 -- ---- a request repeats what stands before it, or it opens a transfer
 
@@ -96,6 +96,8 @@ repeat_has c k older kp rest x d now has request is here lived state = record {
 repeat_state : (c : Endpoint) (k : List Recorded) (older : List Placed) (q : Placed) (ps rest : List Placed) (x : Transfer) (d : Recorded) (now : ℕ) → is_request q ≡ true → is_again q.datagram d ≡ true
     → asks_from c d ≡ true → State c k older (q ∷ ps) rest x → State c (d ∷ k) (new d now (Repeats x) ∷ older) (new d now (Repeats x) ∷ q ∷ ps) rest x
 repeat_state c k older q ps rest x d now request again is (doubted already) = doubted (doubted_more x.number (new d now (Repeats x)) older already)
+repeat_state c k older q ps rest x d now request again is (waiting a) = absurd (false≢true (sym a.ends ∙ request))
+repeat_state c k older q ps rest x d now request again is (misled a) = absurd (false≢true (sym a.ends ∙ request))
 repeat_state c k older q ps rest x d now request again is (answered a) = absurd (false≢true (sym a.ends ∙ request))
 repeat_state c k older q ps rest x d now request again is (taken a) = absurd (false≢true (sym a.ends ∙ request))
 repeat_state c k older q ps rest x d now request again is (mixed a) = absurd (false≢true (sym a.ends ∙ request))
@@ -258,12 +260,6 @@ begin_step c older d now follows silent fresh =
     subst (λ place. (rest : List Placed) × (y : Transfer) × Has c (d ∷ []) (new d now place ∷ older) (new d now place ∷ []) rest y) (sym here)
     ([], opening (length older) d, open_first c older [] d now follows (follows.first refl) silent tt fresh tt)
 
-pub filter_told : (P : Placed → Type 0) (test : Placed → Bool) (ps : List Placed) → AllByRecursion (λ p. test p ≡ true → P p) ps → AllByRecursion P (filter test ps)
-filter_told P test [] all = tt
-filter_told P test (p ∷ ps) all = kept_or_not test p
-    (λ is. subst (AllByRecursion P) (sym (filter_kept test p ps is)) (all.0 is, filter_told P test ps all.1))
-    (λ off. subst (AllByRecursion P) (sym (filter_dropped test p ps off)) (filter_told P test ps all.1))
-
 repeat_first : (c : Endpoint) (k : List Recorded) (older : List Placed) (q : Placed) (ps rest : List Placed) (x : Transfer) (d : Recorded) (now : ℕ) → Has c k older (q ∷ ps) rest x → Follows c [] d
     → is_request q ≡ true → is_again q.datagram d ≡ true → live now (line c older) ≡ line c older
     → Has c (d ∷ []) (new d now (Repeats x) ∷ older) (new d now (Repeats x) ∷ []) (q ∷ ps ++ rest) x
@@ -288,6 +284,8 @@ repeat_first c k older q ps rest x d now has follows request again lived =
 
     by : State c k older (q ∷ ps) rest x → State c (d ∷ []) (new d now (Repeats x) ∷ older) (new d now (Repeats x) ∷ []) (q ∷ ps ++ rest) x
     by (doubted already) = doubted (doubted_more x.number (new d now (Repeats x)) older already)
+    by (waiting a) = absurd (false≢true (sym a.ends ∙ request))
+    by (misled a) = absurd (false≢true (sym a.ends ∙ request))
     by (answered a) = absurd (false≢true (sym a.ends ∙ request))
     by (taken a) = absurd (false≢true (sym a.ends ∙ request))
     by (mixed a) = absurd (false≢true (sym a.ends ∙ request))

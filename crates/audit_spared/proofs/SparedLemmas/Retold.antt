@@ -7,7 +7,7 @@ use Rattle.audit_flows.specs.Lines.{Recorded, Placed, is_of, same_endpoint}
 use Rattle.audit_flows.specs.{Address, Endpoint, Transfer}
 use Rattle.audit_flows.specs.Transfers.{client_view, is_at_server, placed}
 use Rattle.audit_spared.specs.Spared.{as_served, captured_there, seen_at_server, server_saw, went_out}
-use Rattle.audit_spared.specs.Spared.Seen.{as_seen_by, is_with}
+use Rattle.audit_spared.specs.Spared.Seen.{as_seen_by}
 use Rattle.audit_spared.proofs.SparedLemmas.Basics.{all_last, all_map}
 use Rattle.audit_spared.proofs.SparedLemmas.Lists.{all_flat, filter_with, map_reversed}
 use Rattle.audit_spared.proofs.SparedLemmas.Renamed.{IsNamedAsBefore, as_before, renamed}
@@ -45,9 +45,9 @@ module _ (write : Address → List ℕ) (recorded : List Recorded) where
   seen_same d is false = there_same false d is
 
   -- of each capture all hosts have the names that they had
-  pub captures_before : (c : Endpoint) (each : List (List Recorded)) → filter (is_with c) recorded ≡ flat_map (λ capture. capture) each → AllByRecursion (λ k. AllByRecursion AsBefore k) each
-  captures_before c each same = all_flat AsBefore each (subst (AllByRecursion AsBefore) same
-      (all_map (λ d. (is_with c d ≡ true) × AsBefore d) AsBefore (λ d both. both.1) (filter (is_with c) recorded) (filter_with AsBefore (is_with c) recorded (as_before write recorded))))
+  pub captures_before : (test : Recorded → Bool) (each : List (List Recorded)) → filter test recorded ≡ flat_map (λ capture. capture) each → AllByRecursion (λ k. AllByRecursion AsBefore k) each
+  captures_before test each same = all_flat AsBefore each (subst (AllByRecursion AsBefore) same
+      (all_map (λ d. (test d ≡ true) × AsBefore d) AsBefore (λ d both. both.1) (filter test recorded) (filter_with AsBefore test recorded (as_before write recorded))))
 
   pub capture_same : (c : Endpoint) (k : List Recorded) → AllByRecursion AsBefore k → map (as_seen_by named c) (reverse k) ≡ map (as_seen_by write c) (reverse k)
   capture_same c k all = reverse_same (as_seen_by named c) (as_seen_by write c) k

@@ -17,7 +17,7 @@ use Rattle.audit_spared.proofs.FairLemmas.Thinned.{filter_kept, filter_dropped, 
 use Rattle.audit_spared.specs.Spared.Seen.{HasNoSilence, is_with}
 use Rattle.audit_spared.specs.Spared.{AreCaptures, AsksInTime, as_served, at_server_of, captured_there, goes_from, is_doubted_there, is_shared, needs_doubt, seen_at_server, server_saw, transfer_beside, went_out}
 use Rattle.audit_spared.proofs.SparedLemmas.Basics.{all_last, all_map, doubtful_is}
-use Rattle.audit_spared.proofs.SparedLemmas.Lists.{all_flat, all_from, filter_with, map_reversed}
+use Rattle.audit_spared.proofs.SparedLemmas.Lists.{all_flat, all_from, filter_all, filter_with, map_reversed}
 use Rattle.audit_spared.proofs.SparedLemmas.Requests.{all_second as all_each}
 use Rattle.audit_spared.proofs.SparedLemmas.Stands.{new, Has}
 use Rattle.audit_spared.proofs.SparedLemmas.Places.{of_talk, no_request_talks}
@@ -255,7 +255,7 @@ served_lawful write c k shown = subst (OneEnded (at_server_of 69)) (sym (map_rev
 
 pub server_captures : (Late : Type 0) (write : Address → List ℕ) (host : Address) (c : Endpoint) (recorded : List Recorded) (each : List (List Recorded)) → filter (is_with c) recorded ≡ flat_map (λ capture. capture) each
     → AllByRecursion (λ k. IsServed Late write host c k × HasNoSilence k) each → (k : List Recorded) × AreCaptures (IsServed Late write host c) c (filter (is_with c) recorded) k
-server_captures Late write host c recorded each same all = captures_at c (IsServed Late write host c) (served_before write host c Late) (follows_served write host c Late) recorded each same all
+server_captures Late write host c recorded each same all = captures_at c (IsServed Late write host c) (served_before write host c Late) (follows_served write host c Late) (filter (is_with c) recorded) each (filter_all (is_with c) recorded) same all
 
 each_served : (Late : Type 0) (write : Address → List ℕ) (host : Address) (c : Endpoint) (each : List (List Recorded)) → AllByRecursion (λ k. AllByRecursion (λ d. (is_with c d ≡ true) × ((other_of c d).address ≡ host)) k) each
     → AllByRecursion (λ k. OneEnded (at_server_of 69) (map (as_served write c) k) × HasNoSilence k × (Late ⊎ AsksInTime c k)) each → AllByRecursion (λ k. IsServed Late write host c k × HasNoSilence k) each
@@ -307,7 +307,7 @@ asks_nothing write false d off = by_test (begins_request d.payload)
     and_false false = refl
 
 module _ (Late : Type 0) (write : Address → List ℕ) (write_one : (a b : Address) → write a ≡ write b → a ≡ b) (host : Address) (clients : List Endpoint) (recorded : List Recorded)
-    (g : AreAll (IsServed Late write host) clients recorded) where
+    (g : AreAll (IsServed Late write host) clients recorded) (none_aside : (c : Endpoint) (d : Recorded) → g.busy c d ≡ is_with c d) where
   abbrev all : List Placed
   all = placed [] recorded
 
@@ -346,7 +346,7 @@ module _ (Late : Type 0) (write : Address → List ℕ) (write_one : (a b : Addr
     module _ (talks : AreTalks) where
       fits : FitsAll write write_one host x (placed [] recorded) (placed [] recorded)
       fits = fits_all write write_one host x (placed [] recorded) (placed [] recorded) own_all
-          (all_map (IsApart (IsServed Late write host) clients recorded g) (λ q. is_beside q ≡ true → is_with x.client q.datagram ≡ false) (λ q is beside. (is beside).1 x.client is_client) (placed [] recorded) apart) talks
+          (all_map (IsApart (IsServed Late write host) clients recorded g) (λ q. is_beside q ≡ true → is_with x.client q.datagram ≡ false) (λ q is beside. sym (none_aside x.client q.datagram) ∙ (is beside).1 x.client is_client) (placed [] recorded) apart) talks
 
       abbrev Fit : Placed → Type 0
       Fit = Fits (keeps 69 (name write host x.client x.client)) (is_at_server x.number (placed [] recorded)) (is_of x.number) (seen_at_server write x (placed [] recorded)) (seen write host x.client)

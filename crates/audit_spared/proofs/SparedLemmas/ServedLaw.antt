@@ -14,7 +14,7 @@ use Rattle.audit_flows.specs.Lines.Recording.{is_answer}
 use Rattle.audit_flows.proofs.LinesLemmas.Endpoints.{is_same, same_itself}
 use Rattle.audit_flows.proofs.LinesLemmas.Lines.{by_test}
 use Rattle.audit_spared.specs.Spared.Seen.{is_with}
-use Rattle.audit_spared.specs.Spared.{AsksInTime, Follows, as_served, at_server_of, captured_there, asks_from, comes_at, goes_from}
+use Rattle.audit_spared.specs.Spared.{AnswersFirst, AsksInTime, Follows, as_served, at_server_of, captured_there, asks_from, comes_at, goes_from}
 use Rattle.audit_spared.proofs.SparedLemmas.Alike.{asked_alike}
 use Rattle.audit_spared.proofs.SparedLemmas.Captured.{AreHere}
 use Rattle.audit_spared.proofs.SparedLemmas.Places.{comes_to_it}
@@ -170,8 +170,10 @@ module _ (write : Address → List ℕ) (host : Address) (c : Endpoint) where
           let parts = others_part run.m run.wire run.ids (d ∷ k) run.parts s.at_host in
           let there : d.target ≡ Own run.m run.wire run.ids = sym (ap (λ b. if b then d.target else d.source) from) ∙ parts.0 (plain_off from plain) in
           heard_all run.m run.wire run.ids d.target there k here.1 parts.1 (run.heard (came_seen d ∙ from) (says_seen d ∙ plain));
-      answers = λ off none. sym (ap is_answer (payload_seen d)) ∙ run.answers (went_seen d ∙ ap not off) (went_none k none);
     }
+
+    first_answers : goes_from c d ≡ false → list_any (comes_at c) k ≡ false → is_answer d.payload ≡ true
+    first_answers off none = sym (ap is_answer (payload_seen d)) ∙ run.answers (went_seen d ∙ ap not off) (went_none k none)
 
     -- what comes to the client says no request
     pub comes_plain : goes_from c d ≡ false → begins_request d.payload ≡ false
@@ -188,3 +190,9 @@ module _ (write : Address → List ℕ) (host : Address) (c : Endpoint) where
         unmapped : (ks : List Recorded) → AllByRecursion (IsPart run.m run.wire run.ids) (map see ks) → AllByRecursion (λ e. IsPart run.m run.wire run.ids (see e)) ks
         unmapped [] all = tt
         unmapped (e ∷ ks) all = (all.0, unmapped ks all.1)
+
+  -- what comes first is an answer
+  pub answers_served : (Late : Type 0) (k : List Recorded) → IsServed Late write host c k → AnswersFirst c k
+  answers_served Late [] s = tt
+  answers_served Late (d ∷ []) s = (first_answers Late d [] s, tt)
+  answers_served Late (d ∷ e ∷ k) s = (first_answers Late d (e ∷ k) s, answers_served Late (e ∷ k) (served_before Late d e k s))

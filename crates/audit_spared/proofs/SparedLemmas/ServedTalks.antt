@@ -13,15 +13,15 @@ use Rattle.audit_spared.specs.Spared.Seen.{is_with}
 use Rattle.audit_spared.specs.Spared.{is_doubted_there, comes_at, goes_from}
 use Rattle.audit_spared.proofs.SparedLemmas.Basics.{doubted_more, all_and, all_first, any_append, newest_all}
 use Rattle.audit_spared.proofs.SparedLemmas.Lists.{any_filter, passing}
-use Rattle.audit_spared.proofs.SparedLemmas.Stands.{new, IsPlain, talks, State, doubted, asking, answered, reopened, taken, mixed, Reopened, Taken, AreWith, Asking, Answered, Same, IsKnown, Has}
+use Rattle.audit_spared.proofs.SparedLemmas.Stands.{new, IsPlain, talks, State, doubted, asking, waiting, misled, answered, reopened, taken, mixed, Reopened, Taken, AreWith, Asking, Answered, Same, IsKnown, Has}
 use Rattle.audit_spared.proofs.SparedLemmas.Stands.IsPlain.{asks as asked}
 use Rattle.audit_spared.proofs.SparedLemmas.Places.{of_talk, no_request_talks, place_some, talk_found, talk_none, other_is, comes_to_it, from_none}
-use Rattle.audit_spared.proofs.SparedLemmas.Talks.{any_map}
-use Rattle.audit_spared.proofs.SparedLemmas.Requests.{all_filter, all_second, filter_told}
+use Rattle.audit_spared.proofs.SparedLemmas.Talks.{any_map, filter_told}
+use Rattle.audit_spared.proofs.SparedLemmas.Requests.{all_filter, all_second}
 use Rattle.audit_spared.proofs.SparedLemmas.Recordings.{line_all, live_all}
 use Rattle.audit_spared.proofs.SparedLemmas.Bottoms.{filter_whole}
 use Rattle.audit_spared.proofs.SparedLemmas.Spared.{rest_same}
-use Rattle.audit_spared.proofs.SparedLemmas.ServedLaw.{IsServed}
+use Rattle.audit_spared.proofs.SparedLemmas.ServedLaw.{IsServed, answers_served}
 use Rattle.audit_spared.proofs.SparedLemmas.ServedViews.{all_own, with_whom}
 
 -- ---- what is talked of another transfer than the latest was talked of so with the same endpoint before
@@ -277,6 +277,8 @@ module _ (Late : Type 0) (write : Address → List ℕ) (host : Address) (c : En
       state (doubted is) = doubtful is
       state (answered a) = answered_told c whom.0 k (new d now place ∷ older) (new d now place ∷ kp) rest x has a whom.1
       state (asking a) = asking_told c k (new d now place ∷ older) (new d now place ∷ kp) rest x a
+      state (waiting a) = absurd (a.strayed (answers_served write host c Late k served))
+      state (misled a) = absurd (a.strayed (answers_served write host c Late k served))
       state (reopened a) = reopened_told c k (new d now place ∷ older) (new d now place ∷ kp) rest x a
       state (taken a) = taken_told c whom.0 k (new d now place ∷ older) (new d now place ∷ kp) rest x has a whom.1
       state (mixed a) = absurd (a.mixed whom.0 whom.1)

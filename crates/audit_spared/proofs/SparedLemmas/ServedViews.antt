@@ -13,13 +13,12 @@ use Rattle.audit_flows.proofs.TransfersLemmas.Ends.{spoken}
 use Rattle.audit_spared.specs.Spared.{as_served, at_server_of, captured_there, asks_from}
 use Rattle.audit_spared.proofs.SparedLemmas.Stands.{Same, Asking, Answered, Reopened, AreWith, IsKnown, Has}
 use Rattle.audit_spared.proofs.SparedLemmas.Places.{other_is}
-use Rattle.audit_spared.proofs.SparedLemmas.Talks.{bottom_own}
+use Rattle.audit_spared.proofs.SparedLemmas.Talks.{bottom_own, filter_told}
 use Rattle.audit_spared.proofs.SparedLemmas.Basics.{all_and}
-use Rattle.audit_spared.proofs.SparedLemmas.Requests.{filter_told}
-use Rattle.audit_spared.proofs.SparedLemmas.Bottoms.{filter_whole, own_all, repeated_lawful, seen_of, view_lawful}
+use Rattle.audit_spared.proofs.SparedLemmas.Bottoms.{all_same, filter_whole, own_all, seen_of, view_lawful}
 use Rattle.audit_spared.proofs.SparedLemmas.Repeated.{repeated_passes}
 use Rattle.audit_spared.proofs.SparedLemmas.Spared.{IsStated}
-use Rattle.audit_spared.proofs.SparedLemmas.ServedLaw.{IsServed, alone_lawful, one_server}
+use Rattle.audit_spared.proofs.SparedLemmas.ServedLaw.{IsServed, alone_lawful, answers_served, one_server}
 
 pub all_with : (c o : Endpoint) (kp : List Placed) (k : List Recorded) → map (λ p. p.datagram) kp ≡ k → AllByRecursion (IsKnown c) kp → AllByRecursion (λ d. asks_from c d ≡ false → other_of c d ≡ o) k → AreWith c o kp
 all_with c o [] k are known all = tt
@@ -96,14 +95,9 @@ module _ (write : Address → List ℕ) (host : Address) (c : Endpoint) where
           (subst (λ l. OneEnded (at_server_of 69) (map seen l)) (sym (filter_whole x.number kp (own_all x.number a.asked.r kp a.own))) whole)
 
     -- where a transfer was opened by a late request, it was asked for and nothing else
-    all_same : (r : Recorded) (ps : List Placed) → AllByRecursion (λ q. (is_request q ≡ true) × Same q.datagram r) ps → OneEnded (at_server_of 69) (as_served write c r ∷ []) → IsFair ps
-    all_same r [] all lawful = tt
-    all_same r (q ∷ ps) all lawful = subst (λ s. OneEnded (at_server_of 69) (s ∷ map seen ps)) (sym (same_seen q.datagram r all.0.1))
-        (repeated_lawful (at_server_of 69) (as_served write c) same_seen (repeated_passes Server 69) r ps (as_served write c r ∷ []) all.1 refl lawful)
-
     reopened_fair : (k : List Recorded) (older kp rest : List Placed) (x : Transfer) → Has c k older kp rest x → IsServed Late write host c k → Reopened c k older kp rest x → IsFair (client_view x.number older)
     reopened_fair [] older kp rest x has s a = absurd (false≢true a.went_on)
-    reopened_fair (d ∷ k) older kp rest x has s a = all_same a.asked.r (client_view x.number older)
+    reopened_fair (d ∷ k) older kp rest x has s a = all_same (at_server_of 69) (as_served write c) same_seen (repeated_passes Server 69) a.asked.r (client_view x.number older)
         (subst (AllByRecursion (λ q. (is_request q ≡ true) × Same q.datagram a.asked.r)) (sym a.asked.view)
         (all_and (λ q. (is_request q ≡ true) × Same q.datagram a.asked.r) (filter (is_of x.number) kp) a.asked.before
         (filter_told (λ q. (is_request q ≡ true) × Same q.datagram a.asked.r) (is_of x.number) kp a.same) a.asked.repeated))
@@ -113,6 +107,8 @@ module _ (write : Address → List ℕ) (host : Address) (c : Endpoint) where
     stated = record {
       is_asked = asking_fair;
       is_answered = answered_fair;
+      is_waiting = λ k older kp rest x has s a. absurd (a.strayed (answers_served write host c Late k s));
+      is_misled = λ k older kp rest x has s a. absurd (a.strayed (answers_served write host c Late k s));
       is_reopened = reopened_fair;
       is_taken = λ k older kp rest x has s a. elim s.timely [ inl late ↦ let (o, all) = with_whom k older kp rest x has s in (late, o, all) | inr in_time ↦ absurd (a.untimely in_time) ];
       is_mixed = λ k older kp rest x has s a. let (o, all) = with_whom k older kp rest x has s in a.mixed o all;

@@ -12,7 +12,7 @@ use Rattle.audit_flows.proofs.TransfersLemmas.AllLines.{line_here}
 use Rattle.audit_spared.proofs.FairLemmas.Thinned.{filter_dropped}
 use Rattle.audit_spared.specs.Spared.{is_doubted_there, is_shared, is_talk_of_another, needs_doubt}
 use Rattle.audit_spared.proofs.SparedLemmas.Basics.{any_append, doubted_more}
-use Rattle.audit_spared.proofs.SparedLemmas.Stands.{new, IsPlain, talks, State, doubted, asking, answered, reopened, taken, mixed, Asking, Answered, Reopened, Taken, Mixed, AreWith, IsKnown, talks_apart, Has}
+use Rattle.audit_spared.proofs.SparedLemmas.Stands.{new, IsPlain, talks, State, doubted, asking, waiting, misled, answered, reopened, taken, mixed, Asking, Waiting, Misled, Answered, Reopened, Taken, Mixed, AreWith, IsKnown, talks_apart, Has}
 use Rattle.audit_spared.proofs.SparedLemmas.Stands.IsPlain.{asks as asked}
 use Rattle.audit_spared.proofs.SparedLemmas.Whole.{AreAll, kept_of}
 
@@ -73,6 +73,8 @@ TopShared n (q ∷ older) = is_of n q ≡ true → is_shared q older ≡ true
 -- with one endpoint.
 pub record IsStated (lawful : List Recorded → Type 0) (c : Endpoint) (good : List Placed → Type 0) (Late : Type 0) : Type 0 where
   pub is_asked : (k : List Recorded) (older kp rest : List Placed) (x : Transfer) → Has c k older kp rest x → lawful k → Asking c k older kp rest x → good (client_view x.number older)
+  pub is_waiting : (k : List Recorded) (older kp rest : List Placed) (x : Transfer) → Has c k older kp rest x → lawful k → Waiting c k older kp rest x → good (client_view x.number older)
+  pub is_misled : (k : List Recorded) (older kp rest : List Placed) (x : Transfer) → Has c k older kp rest x → lawful k → Misled c k older kp rest x → good (client_view x.number older)
   pub is_answered : (k : List Recorded) (older kp rest : List Placed) (x : Transfer) → Has c k older kp rest x → lawful k → Answered c k older kp rest x → good (client_view x.number older)
   pub is_reopened : (k : List Recorded) (older kp rest : List Placed) (x : Transfer) → Has c k older kp rest x → lawful k → Reopened c k older kp rest x → good (client_view x.number older)
   pub is_taken : (k : List Recorded) (older kp rest : List Placed) (x : Transfer) → Has c k older kp rest x → lawful k → Taken c k older kp rest x → Late × (o : Endpoint) × AreWith c o kp
@@ -105,6 +107,8 @@ module _ (lawful : List Recorded → Type 0) (c : Endpoint) (good : List Placed 
     by : State c k (new d now place ∷ older) (new d now place ∷ kp) rest x → Spared x.number (new d now place ∷ older)
     by (doubted is) = doubtful is
     by (asking a) = fair (stated.is_asked k (new d now place ∷ older) (new d now place ∷ kp) rest x has may a)
+    by (waiting a) = fair (stated.is_waiting k (new d now place ∷ older) (new d now place ∷ kp) rest x has may a)
+    by (misled a) = fair (stated.is_misled k (new d now place ∷ older) (new d now place ∷ kp) rest x has may a)
     by (answered a) = fair (stated.is_answered k (new d now place ∷ older) (new d now place ∷ kp) rest x has may a)
     by (reopened a) = fair (stated.is_reopened k (new d now place ∷ older) (new d now place ∷ kp) rest x has may a)
     by (taken a) =

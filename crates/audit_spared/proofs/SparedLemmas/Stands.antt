@@ -3,11 +3,12 @@
 use Rattle.std.proofs.Common.{◌≡◌, ◌≢◌, ℕ, Bool, true, false, List, [], ◌∷◌, ◌++◌, ◌&&◌, not, Contains, Some, map}
 use Rattle.std.specs.List.{list_any, AllByRecursion, filter}
 use Rattle.law_model.specs.Rules.{first_of}
-use Rattle.audit_flows.specs.Lines.{Recorded, Placed, is_between, other_of, is_of, is_request, newest_of, reach, line, transfer_of, latest_in, answered_in, says_more, asks_alike, is_alike_in}
+use Rattle.audit_flows.specs.Lines.{Recorded, Placed, is_between, other_of, is_of, is_request, newest_of, reach, line, transfer_of, latest_in, answered_in, says_more, asks_alike, is_alike_in, goes, comes_in}
 use Rattle.audit_flows.specs.{Endpoint, Place, Talks, Transfer}
+use Rattle.audit_flows.specs.Lines.Recording.{is_answer}
 use Rattle.audit_flows.specs.Transfers.{client_view, comes}
 use Rattle.audit_flows.proofs.TransfersLemmas.Ends.{spoken}
-use Rattle.audit_spared.specs.Spared.{is_doubted_there, AsksInTime, asks_from, comes_at, goes_on_from}
+use Rattle.audit_spared.specs.Spared.{is_doubted_there, AnswersFirst, AsksInTime, asks_from, comes_at, goes_from, goes_on_from}
 
 abbrev pub new : Recorded → ℕ → Place → Placed
 new d now place = record { datagram = d; moment = now; place = place }
@@ -54,6 +55,58 @@ pub record Asking (c : Endpoint) (k : List Recorded) (older kp rest : List Place
   pub own : AllByRecursion (λ q. (is_request q ≡ true) × (is_of x.number q ≡ true) × Same q.datagram asked.r) kp
   pub others : AllByRecursion (OthersOf x.number) (kp ++ rest)
 
+-- it came to its client, and is no request
+abbrev pub came_in : Placed → Bool
+came_in q = comes_in q []
+
+-- it came from this endpoint
+abbrev pub came_from : Endpoint → Endpoint → Recorded → Bool
+came_from c o d = goes o c d && comes_at c d
+
+-- if it came, it is no answer
+abbrev pub IsNoAnswer : Endpoint → Placed → Type 0
+IsNoAnswer c q = goes_from c q.datagram ≡ false → is_answer q.datagram.payload ≡ false
+
+-- something had come from whom it passed with
+abbrev pub IsHeard : Endpoint → List Placed → Placed → Type 0
+IsHeard c ps q = is_request q ≡ false → list_any (λ e. came_from c (other_of c q.datagram) e.datagram) ps ≡ true
+
+-- Of what passed but requests nothing is of the transfer; and no answer came.
+pub record Unanswered (c : Endpoint) (older kp rest : List Placed) (x : Transfer) : Type 0 where
+  pub asked : AskedBefore older kp x.number
+  pub bottom : Bottom asked.r x.number kp
+  pub requests : AllByRecursion (λ q. is_request q ≡ true → (is_of x.number q ≡ true) × Same q.datagram asked.r) kp
+  pub others : AllByRecursion (OthersOf x.number) (kp ++ rest)
+  pub silent : AllByRecursion (IsNoAnswer c) kp
+  pub heard : AllByRecursion (IsHeard c kp) kp
+
+-- the same, once something has come
+pub record Waiting (c : Endpoint) (k : List Recorded) (older kp rest : List Placed) (x : Transfer) : Type 0 where
+  pub strayed : AnswersFirst c k → ⊥
+  pub ends : ends_in_request kp ≡ false
+  pub core : Unanswered c older kp rest x
+
+-- the first of the transfer that came, and what stood before it in the capture
+pub record Opened (c : Endpoint) (older kp : List Placed) (n : ℕ) : Type 0 where
+  pub opener : Placed
+  pub view : first_of came_in (client_view n older) ≡ Some opener
+  pub newer : List Placed
+  pub early : List Placed
+  pub split : kp ≡ newer ++ opener ∷ early
+  pub from : goes_from c opener.datagram ≡ false
+  pub silent : AllByRecursion (IsNoAnswer c) early
+  pub others : AllByRecursion (OthersOf n) early
+
+-- From where the first of the transfer came, something had come before in the capture.
+pub record Misled (c : Endpoint) (k : List Recorded) (older kp rest : List Placed) (x : Transfer) : Type 0 where
+  pub strayed : AnswersFirst c k → ⊥
+  pub ends : ends_in_request kp ≡ false
+  pub by : Endpoint
+  pub answered : answered_in x (kp ++ rest) ≡ Some by
+  pub opened : Opened c older kp x.number
+  pub first : by ≡ other_of c opened.opener.datagram
+  pub heard : list_any (λ e. came_from c (other_of c opened.opener.datagram) e.datagram) opened.early ≡ true
+
 pub record Answered (c : Endpoint) (k : List Recorded) (older kp rest : List Placed) (x : Transfer) : Type 0 where
   pub came : list_any (comes_at c) k ≡ true
   pub asked : AskedBefore older kp x.number
@@ -70,7 +123,9 @@ pub record Answered (c : Endpoint) (k : List Recorded) (older kp rest : List Pla
   pub server : Endpoint
   pub is_talked : talked server ≡ true
   pub serves : list_any (spoken c server) kp ≡ true
-  pub first : (q : Placed) → first_of (λ p. comes_at c p.datagram) kp ≡ Some q → other_of c q.datagram ≡ server
+  pub opened : Opened c older kp x.number
+  pub first : other_of c opened.opener.datagram ≡ server
+  pub by_server : by ≡ server
 
 -- what is no request passed with this endpoint
 abbrev pub AreWith : Endpoint → Endpoint → List Placed → Type 0
@@ -113,6 +168,8 @@ pub record Mixed (c : Endpoint) (k : List Recorded) (kp : List Placed) : Type 0 
 pub data State (c : Endpoint) (k : List Recorded) (older kp rest : List Placed) (x : Transfer) : Type 0 where
   doubted : is_doubted_there x.number older ≡ true → State c k older kp rest x
   asking : Asking c k older kp rest x → State c k older kp rest x
+  waiting : Waiting c k older kp rest x → State c k older kp rest x
+  misled : Misled c k older kp rest x → State c k older kp rest x
   answered : Answered c k older kp rest x → State c k older kp rest x
   reopened : Reopened c k older kp rest x → State c k older kp rest x
   taken : Taken c k older kp rest x → State c k older kp rest x

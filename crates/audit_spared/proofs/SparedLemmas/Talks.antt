@@ -1,23 +1,23 @@
 -- A client's line with one datagram more of the same capture, which is no request.
 use Rattle.std.proofs.Common.{◌≡◌, ◌≢◌, ℕ, Bool, true, false, List, [], ◌∷◌, ◌++◌, Option, Some, None, inl, inr, refl, sym, ap, subst, ◌∙◌, ◌==◌, ◌&&◌, ◌||◌, not, map, option_map, if◌then◌else◌}
-use Rattle.std.specs.List.{list_any, AllByRecursion}
+use Rattle.std.specs.List.{list_any, AllByRecursion, filter}
 use Rattle.std.proofs.lemmas.Bool.{false≢true, or_cases, or_parts, or_left, or_right, and_from, and_parts, eq-eqb, eqb-true}
 use Rattle.law_model.specs.Rules.{first_of, or_this}
 use Rattle.audit_flows.specs.Lines.{Recorded, Placed, same_endpoint, is_between, other_of, is_of, is_request, newest_of, reach, live, line, says_more, begins_request, begins_error, goes, last_was_ack_0, answers, answered_in, latest_in, opens, place_at, is_another, may_be_answer_of, may_answer, talk_in}
 use Rattle.audit_flows.specs.{Endpoint, Place, Talks, Transfer}
 use Rattle.audit_flows.specs.Lines.Recording.{is_answer, is_data_1}
 use Rattle.audit_flows.specs.Lines.Doubting.{acked_0_in, answer_of, is_next_data}
-use Rattle.audit_flows.specs.Transfers.{comes, is_it}
+use Rattle.audit_flows.specs.Transfers.{client_view, comes, is_it}
 use Rattle.law_model.proofs.ModelLemmas.Members.{contains_later}
 use Rattle.audit_flows.proofs.LinesLemmas.Endpoints.{is_same, same_itself}
 use Rattle.audit_flows.proofs.LinesLemmas.Lines.{by_test, answered_more}
 use Rattle.audit_flows.proofs.TransfersLemmas.AllLines.{line_here}
 use Rattle.audit_flows.proofs.TransfersLemmas.Ends.{spoken}
-use Rattle.audit_spared.proofs.FairLemmas.Thinned.{filter_kept, filter_dropped}
-use Rattle.audit_spared.specs.Spared.{Follows, asks_from, comes_at, goes_from, goes_on_from}
-use Rattle.audit_spared.proofs.SparedLemmas.Basics.{some_or, doubted_more, doubted_apart, all_first, all_last, all_map, newest_all, newest_first, newest_some, any_append}
-use Rattle.audit_spared.proofs.SparedLemmas.Places.{of_talk, talk_found, place_new, place_old, place_unanswered, heard_before, spoken_other, other_is, comes_to_it}
-use Rattle.audit_spared.proofs.SparedLemmas.Stands.{new, IsPlain, asks, talks, Same, Bottom, OthersOf, AskedBefore, Asking, Answered, State, doubted, asking, answered, reopened, taken, mixed, Reopened, Taken, AreWith, talks_apart, IsKnown, Has}
+use Rattle.audit_spared.proofs.FairLemmas.Thinned.{filter_kept, filter_dropped, kept_or_not}
+use Rattle.audit_spared.specs.Spared.{AnswersFirst, Follows, asks_from, comes_at, goes_from, goes_on_from}
+use Rattle.audit_spared.proofs.SparedLemmas.Basics.{some_or, doubted_more, doubted_apart, all_and, all_first, all_last, all_map, newest_all, newest_first, newest_some, any_append}
+use Rattle.audit_spared.proofs.SparedLemmas.Places.{of_talk, talk_found, place_new, place_old, place_unanswered, heard_before, spoken_other, other_is, comes_to_it, from_none}
+use Rattle.audit_spared.proofs.SparedLemmas.Stands.{new, IsPlain, asks, talks, Same, Bottom, OthersOf, AskedBefore, Asking, Answered, State, doubted, asking, waiting, misled, answered, reopened, taken, mixed, Reopened, Taken, AreWith, talks_apart, IsKnown, Has, came_in, came_from, IsNoAnswer, IsHeard, Unanswered, Opened, Misled}
 
 -- no request goes from the client
 pub no_begin : (c : Endpoint) (d : Recorded) → asks_from c d ≡ false → goes_from c d ≡ true → begins_request d.payload ≡ false
@@ -93,6 +93,28 @@ asked_more older kp n p asked = record {
   repeated = asked.repeated;
 }
 
+-- ---- the first of a transfer that came
+
+first_more : (test : Placed → Bool) (ps : List Placed) (p q : Placed) → first_of test ps ≡ Some q → first_of test (p ∷ ps) ≡ Some q
+first_more test ps p q found = ap (λ o. or_this o (test p) p) found
+
+pub view_first : (n : ℕ) (p q : Placed) (older : List Placed) → first_of came_in (client_view n older) ≡ Some q → first_of came_in (client_view n (p ∷ older)) ≡ Some q
+view_first n p q older found = kept_or_not (is_of n) p
+    (λ is. ap (first_of came_in) (filter_kept (is_of n) p older is) ∙ first_more came_in (client_view n older) p q found)
+    (λ off. ap (first_of came_in) (filter_dropped (is_of n) p older off) ∙ found)
+
+abbrev pub opened_more : (c : Endpoint) (older kp : List Placed) (n : ℕ) (p : Placed) → Opened c older kp n → Opened c (p ∷ older) (p ∷ kp) n
+opened_more c older kp n p a = record {
+  opener = a.opener;
+  view = view_first n p a.opener older a.view;
+  newer = p ∷ a.newer;
+  early = a.early;
+  split = ap (λ l. p ∷ l) a.split;
+  from = a.from;
+  silent = a.silent;
+  others = a.others;
+}
+
 -- whom it is talked with
 pub record TalksOn (c : Endpoint) (kp : List Placed) (n : ℕ) (server o : Endpoint) (y : Transfer) : Type 0 where
   pub talked : Endpoint → Bool
@@ -116,10 +138,9 @@ answered_on c k older kp rest x y d now has a on = record {
   server = a.server;
   is_talked = on.with_server;
   serves = or_right (spoken c a.server (new d now (Talks y))) (list_any (spoken c a.server) kp) a.serves;
-  first = λ q found.
-      let (f, is) = first_some (λ p. comes_at c p.datagram) kp (any_map c kp (subst (λ l. list_any (comes_at c) l ≡ true) (sym has.are) a.came)) in
-      let same : Some f ≡ Some q = sym (ap (λ o. or_this o (comes_at c d) (new d now (Talks y))) is) ∙ found in
-      a.first q (is ∙ same);
+  opened = opened_more c older kp x.number (new d now (Talks y)) a.opened;
+  first = a.first;
+  by_server = a.by_server;
 }
 
 -- it was talked with it before
@@ -242,50 +263,151 @@ bottom_own r n [] some all = absurd (some refl)
 bottom_own r n (q ∷ []) some all = all.0
 bottom_own r n (q ∷ s ∷ ps) some all = bottom_own r n (s ∷ ps) (λ none. absurd (cc)) all.1
 
-none_first : (test : Placed → Bool) (ps : List Placed) → list_any test ps ≡ false → first_of test ps ≡ None
+pub none_first : (test : Placed → Bool) (ps : List Placed) → list_any test ps ≡ false → first_of test ps ≡ None
 none_first test [] none = refl
 none_first test (p ∷ ps) none =
     let parts = or_parts (test p) (list_any test ps) none in
     ap (λ o. or_this o (test p) p) (none_first test ps parts.1) ∙ ap (λ b. or_this None b p) parts.0
 
-none_map : (c : Endpoint) (ps : List Placed) → list_any (comes_at c) (map (λ p. p.datagram) ps) ≡ false → list_any (λ p. comes_at c p.datagram) ps ≡ false
-none_map c [] none = refl
-none_map c (p ∷ ps) none =
-    let parts = or_parts (comes_at c p.datagram) (list_any (comes_at c) (map (λ q. q.datagram) ps)) none in
-    ap (λ b. b || list_any (λ q. comes_at c q.datagram) ps) parts.0 ∙ none_map c ps parts.1
+-- no request came
+request_at : (d : Recorded) (now : ℕ) (place : Place) → is_request (new d now place) ≡ true → came_in (new d now place) ≡ false
+request_at d now (Talks y) is = absurd (false≢true is)
+request_at d now _ is = refl
 
--- the first answer
-first_answered : (c : Endpoint) (k : List Recorded) (older kp rest : List Placed) (x : Transfer) (d : Recorded) (now : ℕ) → Has c k older kp rest x → Asking c k older kp rest x
-    → goes_from c d ≡ false → is_between c (other_of c d) d ≡ true → Answered c (d ∷ k) (new d now (Talks x) ∷ older) (new d now (Talks x) ∷ kp) rest x
-first_answered c k older kp rest x d now has a off here =
-    let to = and_parts (same_endpoint d.source (other_of c d)) (same_endpoint d.target c) (comes_to_it c d off here) in
-    let came : comes_at c d ≡ true = ap not off in
-    record {
-      came = or_left (comes_at c d) (list_any (comes_at c) k) came;
-      asked = asked_more older kp x.number (new d now (Talks x)) a.asked;
-      bottom = bottom_more a.asked.r x.number (new d now (Talks x)) kp (bottom_own a.asked.r x.number kp has.some a.own);
-      by = d.source;
-      answered = answered_more x (new d now (Talks x)) (kp ++ rest) refl
-          ∙ ap (λ o. or_this o (answers x (new d now (Talks x))) d.source) (unanswered x (kp ++ rest) a.others)
-          ∙ ap (λ b. or_this None b d.source) (and_from (x.number == x.number) (same_endpoint d.target x.client) (eq-eqb x.number x.number refl) (subst (λ e. same_endpoint d.target e ≡ true) (sym has.client) to.1));
-      ends = refl;
-      talked = λ e. same_endpoint e (other_of c d);
-      requests = (λ is. absurd (false≢true is), all_map (λ q. (is_request q ≡ true) × (is_of x.number q ≡ true) × Same q.datagram a.asked.r) (λ q. is_request q ≡ true → is_of x.number q ≡ true) (λ q own is. own.1) kp a.own);
-      talks = (
-        λ plain. eq-eqb x.number x.number refl ∙ sym (same_itself (other_of c d)),
-        all_map (λ q. (is_request q ≡ true) × (is_of x.number q ≡ true) × Same q.datagram a.asked.r) (λ q. is_request q ≡ false → is_of x.number q ≡ same_endpoint (other_of c q.datagram) (other_of c d))
-            (λ q own plain. absurd (false≢true (sym plain ∙ own.0))) kp a.own,
-      );
-      others = all_last (OthersOf x.number) kp rest a.others;
-      server = other_of c d;
-      is_talked = same_itself (other_of c d);
-      serves = or_left (spoken c (other_of c d) (new d now (Talks x))) (list_any (spoken c (other_of c d)) kp) here;
-      first = λ q found.
-          let none = none_first (λ p. comes_at c p.datagram) kp (none_map c kp (subst (λ l. list_any (comes_at c) l ≡ false) (sym has.are) a.none_came)) in
-          let same : Some (new d now (Talks x)) ≡ Some q = sym (ap (λ o. or_this o (comes_at c d) (new d now (Talks x))) none ∙ ap (λ b. or_this None b (new d now (Talks x))) came) ∙ found in
-          let this : new d now (Talks x) ≡ q = cc in
-          sym (ap (λ p. other_of c p.datagram) this);
-    }
+requests_in : (ps : List Placed) → AllByRecursion (λ q. is_request q ≡ true) ps → list_any came_in ps ≡ false
+requests_in [] all = refl
+requests_in (q ∷ ps) all = ap (λ b. b || list_any came_in ps) (request_at q.datagram q.moment q.place all.0) ∙ requests_in ps all.1
+
+pub own_requests : (n : ℕ) (kp : List Placed) → AllByRecursion (OthersOf n) kp → AllByRecursion (λ q. is_of n q ≡ true → is_request q ≡ true) kp
+own_requests n [] all = tt
+own_requests n (q ∷ kp) all = ((λ of. by_test (is_request q) (λ is. is) (λ off. absurd (false≢true (sym (all.0 off) ∙ of)))), own_requests n kp all.1)
+
+pub filter_told : (P : Placed → Type 0) (test : Placed → Bool) (ps : List Placed) → AllByRecursion (λ p. test p ≡ true → P p) ps → AllByRecursion P (filter test ps)
+filter_told P test [] all = tt
+filter_told P test (p ∷ ps) all = kept_or_not test p
+    (λ is. subst (AllByRecursion P) (sym (filter_kept test p ps is)) (all.0 is, filter_told P test ps all.1))
+    (λ off. subst (AllByRecursion P) (sym (filter_dropped test p ps off)) (filter_told P test ps all.1))
+
+none_in_view : (older kp : List Placed) (n : ℕ) → (a : AskedBefore older kp n) → AllByRecursion (OthersOf n) kp → list_any came_in (client_view n older) ≡ false
+none_in_view older kp n a others = ap (list_any came_in) a.view
+    ∙ requests_in (filter (is_of n) kp ++ a.before)
+    (all_and (λ q. is_request q ≡ true) (filter (is_of n) kp) a.before (filter_told (λ q. is_request q ≡ true) (is_of n) kp (own_requests n kp others))
+    (all_map (λ q. (is_request q ≡ true) × Same q.datagram a.r) (λ q. is_request q ≡ true) (λ q both. both.0) a.before a.repeated))
+
+-- ---- captures as they were placed
+
+pub any_mapped : (f : Recorded → Bool) (ps : List Placed) → list_any f (map (λ p. p.datagram) ps) ≡ list_any (λ p. f p.datagram) ps
+any_mapped f [] = refl
+any_mapped f (p ∷ ps) = ap (λ b. f p.datagram || b) (any_mapped f ps)
+
+-- where something came and no answer did, what came first is none
+strayed_is : (c : Endpoint) (kp : List Placed) → AllByRecursion (IsNoAnswer c) kp → list_any (λ q. comes_at c q.datagram) kp ≡ true → AnswersFirst c (map (λ p. p.datagram) kp) → ⊥
+strayed_is c [] silent any first = false≢true any
+strayed_is c (q ∷ kp) silent any first = by_test (list_any (λ p. comes_at c p.datagram) kp)
+    (λ before. strayed_is c kp silent.1 before first.1)
+    (λ none. elim (or_cases (comes_at c q.datagram) (list_any (λ p. comes_at c p.datagram) kp) any) [
+      | inl this ↦ let off = from_none c q.datagram this in false≢true (sym (silent.0 off) ∙ first.0 off (any_mapped (comes_at c) kp ∙ none))
+      | inr later ↦ false≢true (sym none ∙ later)
+    ])
+
+-- with whom the client spoke, from there something came
+spoken_heard : (c o : Endpoint) (whole ps : List Placed) → AllByRecursion (IsHeard c whole) ps → list_any (spoken c o) ps ≡ true → list_any (λ e. came_from c o e.datagram) whole ≡ true
+spoken_heard c o whole [] all any = absurd (false≢true any)
+spoken_heard c o whole (q ∷ ps) all any = elim (or_cases (spoken c o q) (list_any (spoken c o) ps) any) [
+  | inl this ↦
+      let parts = and_parts (not (is_request q)) (is_between c o q.datagram) this in
+      let plain : is_request q ≡ false = by_test (is_request q) (λ t. absurd (false≢true (sym (ap not t) ∙ parts.0))) (λ f. f) in
+      subst (λ e. list_any (λ r. came_from c e r.datagram) whole ≡ true) (other_is c o q.datagram parts.1) (all.0 plain)
+  | inr later ↦ spoken_heard c o whole ps all.1 later
+]
+
+heard_came : (c o : Endpoint) (ps : List Placed) → list_any (λ e. came_from c o e.datagram) ps ≡ true → list_any (λ e. comes_at c e.datagram) ps ≡ true
+heard_came c o ps any = any_first_part (λ e. goes o c e.datagram) (λ e. comes_at c e.datagram) ps any
+
+-- what the client sends itself does not come
+no_self : (c o : Endpoint) (k : List Recorded) → o ≡ c → list_any (λ e. goes o c e && comes_at c e) k ≡ true → ⊥
+no_self c o [] is any = false≢true any
+no_self c o (e ∷ k) is any = elim (or_cases (goes o c e && comes_at c e) (list_any (λ r. goes o c r && comes_at c r) k) any) [
+  | inl this ↦
+      let parts = and_parts (goes o c e) (comes_at c e) this in
+      let source = (and_parts (same_endpoint e.source o) (same_endpoint e.target c) parts.0).0 in
+      false≢true (sym (ap not (subst (λ s. same_endpoint e.source s ≡ true) is source)) ∙ parts.1)
+  | inr later ↦ no_self c o k is later
+]
+
+-- ---- the first answer
+
+module _ (c : Endpoint) (k : List Recorded) (older kp rest : List Placed) (x : Transfer) (d : Recorded) (now : ℕ) (has : Has c k older kp rest x) (u : Unanswered c older kp rest x)
+    (off : goes_from c d ≡ false) (here : is_between c (other_of c d) d ≡ true) where
+  abbrev here_in : Placed
+  here_in = new d now (Talks x)
+
+  itself : (x.number == x.number) ≡ true
+  itself = eq-eqb x.number x.number refl
+
+  to_client : same_endpoint d.target x.client ≡ true
+  to_client = subst (λ e. same_endpoint d.target e ≡ true) (sym has.client) (and_parts (same_endpoint d.source (other_of c d)) (same_endpoint d.target c) (comes_to_it c d off here)).1
+
+  source_is : d.source ≡ other_of c d
+  source_is = sym (ap (λ b. if b then d.target else d.source) off)
+
+  in_view : first_of came_in (client_view x.number (here_in ∷ older)) ≡ Some here_in
+  in_view = ap (first_of came_in) (filter_kept (is_of x.number) here_in older itself)
+      ∙ ap (λ o. or_this o (same_endpoint d.target x.client) here_in) (none_first came_in (client_view x.number older) (none_in_view older kp x.number u.asked (all_first (OthersOf x.number) kp rest u.others)))
+      ∙ ap (λ b. or_this None b here_in) to_client
+
+  answered_now : answered_in x (here_in ∷ kp ++ rest) ≡ Some d.source
+  answered_now = answered_more x here_in (kp ++ rest) refl
+      ∙ ap (λ o. or_this o (answers x here_in) d.source) (unanswered x (kp ++ rest) u.others)
+      ∙ ap (λ b. or_this None b d.source) (and_from (x.number == x.number) (same_endpoint d.target x.client) itself to_client)
+
+  abbrev first_opened : Opened c (here_in ∷ older) (here_in ∷ kp) x.number
+  first_opened = record {
+    opener = here_in;
+    view = in_view;
+    newer = [];
+    early = kp;
+    split = refl;
+    from = off;
+    silent = u.silent;
+    others = all_first (OthersOf x.number) kp rest u.others;
+  }
+
+  first_answered : list_any (spoken c (other_of c d)) kp ≡ false → Answered c (d ∷ k) (here_in ∷ older) (here_in ∷ kp) rest x
+  first_answered none = record {
+    came = or_left (comes_at c d) (list_any (comes_at c) k) (ap not off);
+    asked = asked_more older kp x.number here_in u.asked;
+    bottom = bottom_more u.asked.r x.number here_in kp u.bottom;
+    by = d.source;
+    answered = answered_now;
+    ends = refl;
+    talked = λ e. if same_endpoint e (other_of c d) then true else false;
+    requests = ((λ is. absurd (false≢true is)), all_map (λ q. is_request q ≡ true → (is_of x.number q ≡ true) × Same q.datagram u.asked.r) (λ q. is_request q ≡ true → is_of x.number q ≡ true) (λ q own is. (own is).0) kp u.requests);
+    talks = (
+      (λ plain. itself ∙ sym (ap (λ (b : Bool). if b then true else false) (same_itself (other_of c d)))),
+      apart_before c (other_of c d) x.number true (λ e. false) kp has.known none (all_first (OthersOf x.number) kp rest u.others),
+    );
+    others = all_last (OthersOf x.number) kp rest u.others;
+    server = other_of c d;
+    is_talked = ap (λ (b : Bool). if b then true else false) (same_itself (other_of c d));
+    serves = or_left (spoken c (other_of c d) here_in) (list_any (spoken c (other_of c d)) kp) here;
+    opened = first_opened;
+    first = refl;
+    by_server = source_is;
+  }
+
+  -- where something had come from there before
+  first_misled : list_any (spoken c (other_of c d)) kp ≡ true → Misled c (d ∷ k) (here_in ∷ older) (here_in ∷ kp) rest x
+  first_misled any =
+      let heard = spoken_heard c (other_of c d) kp kp u.heard any in record {
+        strayed = λ first. strayed_is c kp u.silent (heard_came c (other_of c d) kp heard) (subst (AnswersFirst c) (sym has.are) first.1);
+        ends = refl;
+        by = d.source;
+        answered = answered_now;
+        opened = first_opened;
+        first = source_is;
+        heard = heard;
+      }
 
 -- DATA 1 may be the first answer, but it was placed in another transfer
 apart_is : (c : Endpoint) (k : List Recorded) (older kp rest : List Placed) (x y : Transfer) (d : Recorded) (now : ℕ) (q : Placed) → Has c k older kp rest x
@@ -307,51 +429,138 @@ apart_is c k older kp rest x y d now q has lived found is client other none may 
 flip : (a b : ℕ) → (a == b) ≡ false → (b == a) ≡ false
 flip a b off = by_test (b == a) (λ is. absurd (false≢true (sym off ∙ eq-eqb a b (sym (eqb-true b a is))))) (λ none. none)
 
-asking_talk : (c : Endpoint) (k : List Recorded) (older kp rest : List Placed) (x : Transfer) (d : Recorded) (now : ℕ) → Has c k older kp rest x → Asking c k older kp rest x
+-- where no answer came, and nothing of the transfer
+unanswered_talk : (c : Endpoint) (k : List Recorded) (older kp rest : List Placed) (x : Transfer) (d : Recorded) (now : ℕ) → Has c k older kp rest x → Unanswered c older kp rest x
     → Follows c k d → asks_from c d ≡ false → live now (line c older) ≡ line c older → Talked c k older kp rest x d now
 unfolding Talked
-asking_talk c k older kp rest x d now has a follows off lived = by_test (goes_from c d)
-    (λ from. absurd (false≢true (sym a.none_came ∙ any_first_part (λ e. goes d.target c e) (comes_at c) k (follows.known from (no_begin c d off from)))))
-    (λ came. by (newest_of (spoken c o) (kp ++ rest)) refl came)
-  where
-    o : Endpoint
-    o = other_of c d
+unanswered_talk c k older kp rest x d now has u follows off lived = by (newest_of (spoken c o) (kp ++ rest)) refl where
+  o : Endpoint
+  o = other_of c d
 
-    Result : Type 0
-    Result = (y : Transfer) × (y.client ≡ c) × (place_at c o (kp ++ rest) d ≡ Talks y) × State c (d ∷ k) (new d now (Talks y) ∷ older) (new d now (Talks y) ∷ kp) rest x
+  Result : Type 0
+  Result = (y : Transfer) × (y.client ≡ c) × (place_at c o (kp ++ rest) d ≡ Talks y) × State c (d ∷ k) (new d now (Talks y) ∷ older) (new d now (Talks y) ∷ kp) rest x
 
-    none : answered_in x (kp ++ rest) ≡ None
-    none = unanswered x (kp ++ rest) a.others
+  none : answered_in x (kp ++ rest) ≡ None
+  none = unanswered x (kp ++ rest) u.others
 
-    may : goes_from c d ≡ false → (goes o c d && is_answer d.payload) ≡ true
-    may came = and_from (goes o c d) (is_answer d.payload) (comes_to_it c d came follows.here) (follows.answers came a.none_came)
+  target : goes_from c d ≡ true → other_of c d ≡ d.target
+  target from = ap (λ b. if b then d.target else d.source) from
 
-    talk : (q : Placed) → newest_of (spoken c o) (kp ++ rest) ≡ Some q → is_request q ≡ false → is_of x.number q ≡ false → goes_from c d ≡ false → IsPlain c q → Result
-    talk q found plain other came (asks z is at) = absurd (false≢true (sym plain ∙ is))
-    talk q found plain other came (talks y is client) =
-        let differs : (y.number == x.number) ≡ false = sym (of_talk x.number q y is) ∙ other in
-        let place = place_unanswered c o (kp ++ rest) d x y q has.latest found is none in
-        by_test (is_data_1 d.payload && last_was_ack_0 c o (kp ++ rest))
-        (λ next. (
-          y,
-          client,
-          place ∙ ap (λ b. if b && not (is_data_1 d.payload && last_was_ack_0 c o (kp ++ rest)) then Talks x else Talks y) (may came) ∙ ap (λ b. if not b then Talks x else Talks y) next,
-          doubted (doubted_apart x.number (new d now (Talks y)) older (apart_is c k older kp rest x y d now q has lived found is client (flip y.number x.number differs) none (may came) next)),
-        ))
-        (λ not_next. (
-          x,
-          has.client,
-          place ∙ ap (λ b. if b && not (is_data_1 d.payload && last_was_ack_0 c o (kp ++ rest)) then Talks x else Talks y) (may came) ∙ ap (λ b. if not b then Talks x else Talks y) not_next,
-          answered (first_answered c k older kp rest x d now has a came follows.here),
-        ))
+  heard_from : goes_from c d ≡ true → list_any (λ e. goes d.target c e && comes_at c e) k ≡ true
+  heard_from from = follows.known from (no_begin c d off from)
 
-    by : (found : Option Placed) → newest_of (spoken c o) (kp ++ rest) ≡ found → goes_from c d ≡ false → Result
-    by None nobody came = (x, has.client, place_new c o (kp ++ rest) d x has.latest nobody came, answered (first_answered c k older kp rest x d now has a came follows.here))
-    by (Some q) found came =
-        let (is, spoke) = newest_all (λ p. IsPlain c p × OthersOf x.number p) (spoken c o) (kp ++ rest) q (all_both (IsPlain c) (OthersOf x.number) (kp ++ rest) has.plain a.others) found in
-        let parts = and_parts (not (is_request q)) (is_between c o q.datagram) spoke in
-        let plain : is_request q ≡ false = by_test (is_request q) (λ t. absurd (false≢true (sym (ap not t) ∙ parts.0))) (λ f. f) in
-        talk q found plain (is.1 plain) came is.0
+  heard_there : goes_from c d ≡ true → list_any (λ e. came_from c o e.datagram) kp ≡ true
+  heard_there from = sym (any_mapped (came_from c o) kp)
+      ∙ subst (λ e. list_any (came_from c e) (map (λ p. p.datagram) kp) ≡ true) (sym (target from))
+      (subst (λ l. list_any (λ e. goes d.target c e && comes_at c e) l ≡ true) (sym has.are) (heard_from from))
+
+  sent : goes_from c d ≡ true → list_any (spoken c o) (kp ++ rest) ≡ true
+  sent from = any_append (spoken c o) kp rest (heard_before c o kp has.known
+      (subst (λ e. list_any (λ r. goes e c r && comes_at c r) (map (λ p. p.datagram) kp) ≡ true) (sym (target from))
+      (subst (λ l. list_any (λ r. goes d.target c r && comes_at c r) l ≡ true) (sym has.are) (heard_from from))))
+
+  -- it is of the transfer
+  mine : goes_from c d ≡ false → State c (d ∷ k) (new d now (Talks x) ∷ older) (new d now (Talks x) ∷ kp) rest x
+  mine came = by_test (list_any (spoken c o) kp)
+      (λ any. misled (first_misled c k older kp rest x d now has u came follows.here any))
+      (λ new_one. answered (first_answered c k older kp rest x d now has u came follows.here new_one))
+
+  came_to : (goes o c d && is_answer d.payload) ≡ true → goes_from c d ≡ false
+  came_to may =
+      let to = (and_parts (same_endpoint d.source o) (same_endpoint d.target c) (and_parts (goes o c d) (is_answer d.payload) may).0).1 in
+      by_test (goes_from c d) (λ from. absurd (no_self c d.target k (is_same d.target c to) (heard_from from))) (λ came. came)
+
+  -- it is of another
+  stays : (y : Transfer) → (y.number == x.number) ≡ false → (goes o c d && is_answer d.payload) ≡ false → State c (d ∷ k) (new d now (Talks y) ∷ older) (new d now (Talks y) ∷ kp) rest x
+  stays y differs may_not = waiting (record {
+    strayed = λ first. strayed_is c (new d now (Talks y) ∷ kp) silent (heard_came c o (new d now (Talks y) ∷ kp) heard) (subst (AnswersFirst c) (sym (ap (λ l. d ∷ l) has.are)) first);
+    ends = refl;
+    core = record {
+      asked = asked_more older kp x.number (new d now (Talks y)) u.asked;
+      bottom = bottom_more u.asked.r x.number (new d now (Talks y)) kp u.bottom;
+      requests = ((λ is. absurd (false≢true is)), u.requests);
+      others = ((λ plain. differs), u.others);
+      silent = silent;
+      heard = (
+        (λ plain. heard),
+        all_map (IsHeard c kp) (IsHeard c (new d now (Talks y) ∷ kp))
+            (λ q is plain. or_right (came_from c (other_of c q.datagram) d) (list_any (λ e. came_from c (other_of c q.datagram) e.datagram) kp) (is plain)) kp u.heard,
+      );
+    };
+  }) where
+    silent : AllByRecursion (IsNoAnswer c) (new d now (Talks y) ∷ kp)
+    silent = ((λ came. sym (ap (λ b. b && is_answer d.payload) (comes_to_it c d came follows.here)) ∙ may_not), u.silent)
+
+    heard : list_any (λ e. came_from c o e.datagram) (new d now (Talks y) ∷ kp) ≡ true
+    heard = by_test (goes_from c d)
+        (λ from. or_right (came_from c o d) (list_any (λ e. came_from c o e.datagram) kp) (heard_there from))
+        (λ came. or_left (came_from c o d) (list_any (λ e. came_from c o e.datagram) kp) (and_from (goes o c d) (comes_at c d) (comes_to_it c d came follows.here) (ap not came)))
+
+  talk : (q : Placed) → newest_of (spoken c o) (kp ++ rest) ≡ Some q → is_request q ≡ false → is_of x.number q ≡ false → IsPlain c q → Result
+  talk q found plain other (asks z is at) = absurd (false≢true (sym plain ∙ is))
+  talk q found plain other (talks y is client) =
+      let differs : (y.number == x.number) ≡ false = sym (of_talk x.number q y is) ∙ other in
+      let place = place_unanswered c o (kp ++ rest) d x y q has.latest found is none in
+      by_test (goes o c d && is_answer d.payload)
+      (λ may. by_test (is_data_1 d.payload && last_was_ack_0 c o (kp ++ rest))
+      (λ next. (
+        y,
+        client,
+        place ∙ ap (λ b. if b && not (is_data_1 d.payload && last_was_ack_0 c o (kp ++ rest)) then Talks x else Talks y) may ∙ ap (λ b. if not b then Talks x else Talks y) next,
+        doubted (doubted_apart x.number (new d now (Talks y)) older (apart_is c k older kp rest x y d now q has lived found is client (flip y.number x.number differs) none may next)),
+      ))
+      (λ not_next. (
+        x,
+        has.client,
+        place ∙ ap (λ b. if b && not (is_data_1 d.payload && last_was_ack_0 c o (kp ++ rest)) then Talks x else Talks y) may ∙ ap (λ b. if not b then Talks x else Talks y) not_next,
+        mine (came_to may),
+      )))
+      (λ may_not. (
+        y,
+        client,
+        place ∙ ap (λ b. if b && not (is_data_1 d.payload && last_was_ack_0 c o (kp ++ rest)) then Talks x else Talks y) may_not,
+        stays y differs may_not,
+      ))
+
+  by : (found : Option Placed) → newest_of (spoken c o) (kp ++ rest) ≡ found → Result
+  by None nobody = by_test (goes_from c d)
+      (λ from. absurd (false≢true (sym (newest_some (spoken c o) (kp ++ rest) nobody) ∙ sent from)))
+      (λ came. (x, has.client, place_new c o (kp ++ rest) d x has.latest nobody came, mine came))
+  by (Some q) found =
+      let (is, spoke) = newest_all (λ p. IsPlain c p × OthersOf x.number p) (spoken c o) (kp ++ rest) q (all_both (IsPlain c) (OthersOf x.number) (kp ++ rest) has.plain u.others) found in
+      let parts = and_parts (not (is_request q)) (is_between c o q.datagram) spoke in
+      let plain : is_request q ≡ false = by_test (is_request q) (λ t. absurd (false≢true (sym (ap not t) ∙ parts.0))) (λ f. f) in
+      talk q found plain (is.1 plain) is.0
+
+-- where nothing came
+none_silent : (c : Endpoint) (kp : List Placed) → list_any (comes_at c) (map (λ p. p.datagram) kp) ≡ false → AllByRecursion (IsNoAnswer c) kp
+none_silent c [] none = tt
+none_silent c (q ∷ kp) none =
+    let parts = or_parts (comes_at c q.datagram) (list_any (comes_at c) (map (λ p. p.datagram) kp)) none in
+    ((λ off. absurd (false≢true (sym parts.0 ∙ ap not off))), none_silent c kp parts.1)
+
+pub unanswered_asking : (c : Endpoint) (k : List Recorded) (older kp rest : List Placed) (x : Transfer) → Has c k older kp rest x → Asking c k older kp rest x → Unanswered c older kp rest x
+unanswered_asking c k older kp rest x has a = record {
+  asked = a.asked;
+  bottom = bottom_own a.asked.r x.number kp has.some a.own;
+  requests = all_map (λ q. (is_request q ≡ true) × (is_of x.number q ≡ true) × Same q.datagram a.asked.r) (λ q. is_request q ≡ true → (is_of x.number q ≡ true) × Same q.datagram a.asked.r)
+      (λ q own is. (own.1, own.2)) kp a.own;
+  others = a.others;
+  silent = none_silent c kp (subst (λ l. list_any (comes_at c) l ≡ false) (sym has.are) a.none_came);
+  heard = all_map (λ q. (is_request q ≡ true) × (is_of x.number q ≡ true) × Same q.datagram a.asked.r) (IsHeard c kp) (λ q own plain. absurd (false≢true (sym plain ∙ own.0))) kp a.own;
+}
+
+misled_talk : (c : Endpoint) (k : List Recorded) (older kp rest : List Placed) (x : Transfer) (d : Recorded) (now : ℕ) → Misled c k older kp rest x
+    → (y : Transfer) → State c (d ∷ k) (new d now (Talks y) ∷ older) (new d now (Talks y) ∷ kp) rest x
+misled_talk c k older kp rest x d now a y = misled (record {
+  strayed = λ first. a.strayed first.1;
+  ends = refl;
+  by = a.by;
+  answered = answered_more x (new d now (Talks y)) (kp ++ rest) refl ∙ ap (λ o. or_this o (answers x (new d now (Talks y))) d.source) a.answered;
+  opened = opened_more c older kp x.number (new d now (Talks y)) a.opened;
+  first = a.first;
+  heard = a.heard;
+})
 
 -- ---- in one that was opened by a late request
 
@@ -528,5 +737,7 @@ talk_step c k older kp rest x d now has follows off lived = by has.state where
   by (mixed a) = all (any_talk c k older kp rest x d now has
       (λ y. mixed (record { untimely = λ timely. a.untimely timely.1; ends = refl; mixed = λ e with. a.mixed e with.1 })) follows off)
   by (reopened a) = all (reopened_talk c k older kp rest x d now has a follows off)
-  by (asking a) = all (asking_talk c k older kp rest x d now has a follows off lived)
+  by (asking a) = all (unanswered_talk c k older kp rest x d now has (unanswered_asking c k older kp rest x has a) follows off lived)
+  by (waiting a) = all (unanswered_talk c k older kp rest x d now has a.core follows off lived)
+  by (misled a) = all (any_talk c k older kp rest x d now has (misled_talk c k older kp rest x d now a) follows off)
   by (answered a) = all (answered_talk c k older kp rest x d now has a follows off)

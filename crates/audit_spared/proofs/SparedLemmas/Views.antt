@@ -1,5 +1,4 @@
--- A view that is not doubtful is lawful: it is the capture without what passed with others, and what was asked before in the
--- same words.
+-- Of a lawful capture the part is lawful that passed with some, where what came first did.
 use Rattle.std.proofs.Common.{◌≡◌, ℕ, Bool, true, false, List, [], ◌∷◌, Option, Some, None, refl, sym, ap, subst, ◌∙◌, ◌&&◌, ◌||◌, not, map, reverse, option_map, if◌then◌else◌}
 use Rattle.std.specs.List.{list_any, AllByRecursion, filter}
 use Rattle.std.proofs.lemmas.Bool.{false≢true, or_left, or_right, and_from, and_parts}
@@ -11,17 +10,14 @@ use Rattle.law_model.specs.Rules.{comes_in, goes_out, first_of, or_this}
 use Rattle.law_end.specs.{OneEnded}
 use Rattle.law_end.proofs.Division.RouteTests.{is_same as same_peers, same_is as peers_same}
 use Rattle.audit_flows.specs.Lines.{Recorded, Placed, same_endpoint, other_of, is_of, is_request, begins_request}
-use Rattle.audit_flows.specs.{Address, Endpoint, Transfer}
+use Rattle.audit_flows.specs.{Address, Endpoint}
 use Rattle.audit_flows.proofs.LinesLemmas.Lines.{by_test, map_or}
-use Rattle.audit_flows.specs.Transfers.{client_view}
 use Rattle.audit_spared.specs.Spared.Seen.{as_seen_by, at_client_of}
 use Rattle.audit_spared.specs.Fair.{AreApart, is_own_request, stays}
 use Rattle.audit_spared.proofs.FairLemmas.ByRules.{passes_without}
 use Rattle.audit_spared.proofs.FairLemmas.Thinned.{filter_kept, filter_dropped, filter_reverse, kept_or_not}
-use Rattle.audit_spared.specs.Spared.{IsLawfulAt, comes_at, goes_from}
-use Rattle.audit_spared.proofs.SparedLemmas.Talks.{bottom_own}
-use Rattle.audit_spared.proofs.SparedLemmas.Bottoms.{IsRepeatable, filter_whole, own_all, seen_of, view_lawful}
-use Rattle.audit_spared.proofs.SparedLemmas.Stands.{Same, Asking, Answered, IsKnown, Has}
+use Rattle.audit_spared.specs.Spared.{comes_at, goes_from}
+use Rattle.audit_spared.proofs.SparedLemmas.Stands.{Same, IsKnown}
 
 -- ---- lists
 
@@ -148,40 +144,25 @@ module _ (write : Address → List ℕ) (c : Endpoint) where
         stays_all [] known requests talks all found = tt
         stays_all (q ∷ ps) known requests talks all found = (stays_is q known.0 requests.0 talks.0 all found.0, stays_all ps known.1 requests.1 talks.1 all found.1)
 
-    -- ---- in a transfer that was answered, the view's part of the capture is lawful
+    -- ---- of a lawful list the part is lawful that passed with some, where what came first is of it
 
-    module _ (k : List Recorded) (older kp rest : List Placed) (x : Transfer) (a : Answered c k older kp rest x) where
-      first_stays : (d : Datagram) → first_of comes_in (map seen kp) ≡ Some d → out x.number kp (peer_of d) ≡ false
+    module _ (n : ℕ) (kp : List Placed) (talked : Endpoint → Bool) (requests : AllByRecursion (λ q. is_request q ≡ true → is_of n q ≡ true) kp) (talks : AllByRecursion (Talks n kp talked) kp)
+        (first : (q : Placed) → first_of (λ p. comes_at c p.datagram) kp ≡ Some q → talked (other_of c q.datagram) ≡ true) where
+      first_stays : (d : Datagram) → first_of comes_in (map seen kp) ≡ Some d → out n kp (peer_of d) ≡ false
       first_stays d found = by (first_of (λ p. comes_at c p.datagram) kp) refl where
-        by : (o : Option Placed) → first_of (λ p. comes_at c p.datagram) kp ≡ o → out x.number kp (peer_of d) ≡ false
+        by : (o : Option Placed) → first_of (λ p. comes_at c p.datagram) kp ≡ o → out n kp (peer_of d) ≡ false
         by None none = let both : None ≡ Some d = sym (first_map kp ∙ ap (option_map seen) none) ∙ found in absurd (cc)
         by (Some q) is =
             let both : Some (seen q) ≡ Some d = sym (first_map kp ∙ ap (option_map seen) is) ∙ found in
             let same : seen q ≡ d = cc in
-            ap (λ e. out x.number kp (peer_of e)) (sym same) ∙ ap (out x.number kp) (peer_seen q.datagram ∙ ap name (a.first q is))
-            ∙ shuns_none x.number kp a.talked kp a.server a.talks a.is_talked
+            ap (λ e. out n kp (peer_of e)) (sym same) ∙ ap (out n kp) (peer_seen q.datagram)
+            ∙ shuns_none n kp talked kp (other_of c q.datagram) talks (first q is)
 
-      pub part_lawful : AllByRecursion (IsKnown c) kp → OneEnded (at_client_of 69) (map seen kp) → OneEnded (at_client_of 69) (map seen (filter (is_of x.number) kp))
+      pub part_lawful : AllByRecursion (IsKnown c) kp → OneEnded (at_client_of 69) (map seen kp) → OneEnded (at_client_of 69) (map seen (filter (is_of n) kp))
       part_lawful known lawful =
-          let ds = map seen kp in
-          let h = at_client_of 69 in
-          let keep = stays Client (out x.number kp) in
-          let apart : AreApart (out x.number kp) (reverse (map seen kp)) = λ d found. first_stays d (ap (first_of comes_in) (sym (reverse-reverse (map seen kp))) ∙ found) in
-          let left = passes_without (at_client_of 69) (out x.number kp) [] (reverse (map seen kp)) apart (subst (OneEnded (at_client_of 69)) (sym (reverse-reverse (map seen kp))) lawful) in
-          let same : reverse (filter (stays Client (out x.number kp)) (reverse (map seen kp))) ≡ filter (stays Client (out x.number kp)) (map seen kp) =
-          sym (filter_reverse (stays Client (out x.number kp)) (reverse (map seen kp))) ∙ ap (filter (stays Client (out x.number kp))) (reverse-reverse (map seen kp)) in
-          let all = stays_all x.number kp a.talked kp known a.requests a.talks a.talks (each_found (λ y q. shuns x.number kp (peer_of (seen q)) y) kp) in
-          subst (OneEnded (at_client_of 69)) (same ∙ sym (filter_seen (is_of x.number) (stays Client (out x.number kp)) kp all)) left
-
-    -- ---- and what was asked before in the same words changes nothing
-
-    module _ (may : IsRepeatable (at_client_of 69)) (k : List Recorded) (older kp rest : List Placed) (x : Transfer) (has : Has c k older kp rest x) (lawful : IsLawfulAt write c k) where
-      whole : OneEnded (at_client_of 69) (map seen kp)
-      whole = seen_of (at_client_of 69) (as_seen_by write c) same_seen kp k has.are lawful
-
-      pub answered_lawful : Answered c k older kp rest x → OneEnded (at_client_of 69) (map seen (client_view x.number older))
-      answered_lawful a = view_lawful (at_client_of 69) (as_seen_by write c) same_seen may older kp x.number a.asked a.bottom (part_lawful k older kp rest x a has.known whole)
-
-      pub asking_lawful : Asking c k older kp rest x → OneEnded (at_client_of 69) (map seen (client_view x.number older))
-      asking_lawful a = view_lawful (at_client_of 69) (as_seen_by write c) same_seen may older kp x.number a.asked (bottom_own a.asked.r x.number kp has.some a.own)
-          (subst (λ l. OneEnded (at_client_of 69) (map seen l)) (sym (filter_whole x.number kp (own_all x.number a.asked.r kp a.own))) whole)
+          let apart : AreApart (out n kp) (reverse (map seen kp)) = λ d found. first_stays d (ap (first_of comes_in) (sym (reverse-reverse (map seen kp))) ∙ found) in
+          let left = passes_without (at_client_of 69) (out n kp) [] (reverse (map seen kp)) apart (subst (OneEnded (at_client_of 69)) (sym (reverse-reverse (map seen kp))) lawful) in
+          let same : reverse (filter (stays Client (out n kp)) (reverse (map seen kp))) ≡ filter (stays Client (out n kp)) (map seen kp) =
+          sym (filter_reverse (stays Client (out n kp)) (reverse (map seen kp))) ∙ ap (filter (stays Client (out n kp))) (reverse-reverse (map seen kp)) in
+          let all = stays_all n kp talked kp known requests talks talks (each_found (λ y q. shuns n kp (peer_of (seen q)) y) kp) in
+          subst (OneEnded (at_client_of 69)) (same ∙ sym (filter_seen (is_of n) (stays Client (out n kp)) kp all)) left

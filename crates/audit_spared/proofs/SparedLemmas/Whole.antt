@@ -19,11 +19,16 @@ use Rattle.audit_spared.proofs.SparedLemmas.Stands.IsPlain.{asks as asked}
 use Rattle.audit_spared.proofs.SparedLemmas.Recordings.{IsQuiet, IsQuietAt, quiet_at, Standing, nothing, asks_not, clock_now, on_time, order_rest, plain_asks}
 use Rattle.audit_spared.proofs.SparedLemmas.Owned.{AreOwn, IsOwn, place_below, transfer_below}
 use Rattle.audit_spared.proofs.SparedLemmas.Clients.{AreAtClients, all_own, at_more, own}
-use Rattle.audit_spared.proofs.SparedLemmas.Kept.{AllBefore, At, IsGiven, ComesFromElsewhere, at_before, at_here, kept_at, all_kept, next_has, step}
+use Rattle.audit_spared.proofs.SparedLemmas.Kept.{AllBefore, AreAside, At, IsGiven, ComesFromElsewhere, at_before, at_here, kept_at, all_kept, next_has, step}
 
 -- At each client captures follow one another, such as may be there; who asks elsewhere speaks with no client.
+-- But some may pass aside, with no other client.
 pub record AreAll (lawful : Endpoint → List Recorded → Type 0) (clients : List Endpoint) (recorded : List Recorded) : Type 0 where
-  pub captures : (c : Endpoint) → Contains clients c → (k : List Recorded) × AreCaptures (lawful c) c (filter (is_with c) recorded) k
+  pub busy : Endpoint → Recorded → Bool
+  pub busy_with : (c : Endpoint) (d : Recorded) → busy c d ≡ true → is_with c d ≡ true
+  pub asides : (c : Endpoint) → Contains clients c → AreAside c (busy c) recorded
+  pub strangers : (c e : Endpoint) → Contains clients c → Contains clients e → AllByRecursion (λ d. busy c d ≡ false → is_with c d ≡ true → is_with e d ≡ true → c ≡ e) recorded
+  pub captures : (c : Endpoint) → Contains clients c → (k : List Recorded) × AreCaptures (lawful c) c (filter (busy c) recorded) k
   pub others : AskersAreElsewhere clients recorded
   pub quiet : (c : Endpoint) → Contains clients c → IsQuiet (lawful c) c
   pub order : AreInOrder recorded
@@ -84,6 +89,15 @@ plain_beside : (c : Endpoint) (q : Placed) → IsPlain c q → is_beside q ≡ t
 plain_beside c q (asked x request at) beside = request_beside q.datagram q.moment q.place request beside
 plain_beside c q (talks y at client) beside = false≢true (sym (ap (λ place. is_beside (new q.datagram q.moment place)) at) ∙ beside)
 
+-- where nothing passes aside
+pub with_aside : (c : Endpoint) (ds : List Recorded) → AreAside c (is_with c) ds
+with_aside c [] = tt
+with_aside c (d ∷ ds) = ((λ off. inl off), with_aside c ds)
+
+pub with_strangers : (c e : Endpoint) (ds : List Recorded) → AllByRecursion (λ d. is_with c d ≡ false → is_with c d ≡ true → is_with e d ≡ true → c ≡ e) ds
+with_strangers c e [] = tt
+with_strangers c e (d ∷ ds) = ((λ off with also. absurd (false≢true (sym off ∙ with))), with_strangers c e ds)
+
 module _ (lawful : Endpoint → List Recorded → Type 0) (clients : List Endpoint) (recorded : List Recorded) (g : AreAll lawful clients recorded) where
   -- ---- who has a line: the clients, and who asks elsewhere
 
@@ -99,19 +113,19 @@ module _ (lawful : Endpoint → List Recorded → Type 0) (clients : List Endpoi
 
   -- ---- captures
 
-  captures_of : (c : Endpoint) → Contains clients c → (k : List Recorded) × At (lawful c) c recorded k
+  captures_of : (c : Endpoint) → Contains clients c → (k : List Recorded) × At (lawful c) c (g.busy c) recorded k
   captures_of c is_client = g.captures c is_client
 
-  before_them : (c : Endpoint) (is_client : Contains clients c) (newer ds k : List Recorded) → At (lawful c) c (newer ++ ds) k → (k0 : List Recorded) × At (lawful c) c ds k0
+  before_them : (c : Endpoint) (is_client : Contains clients c) (newer ds k : List Recorded) → At (lawful c) c (g.busy c) (newer ++ ds) k → (k0 : List Recorded) × At (lawful c) c (g.busy c) ds k0
   before_them c is_client [] ds k captures = (k, captures)
   before_them c is_client (d ∷ newer) ds k captures =
-      let (k0, before) = at_before (lawful c) c Here recorded d (newer ++ ds) k captures in
+      let (k0, before) = at_before (lawful c) c (g.busy c) Here recorded d (newer ++ ds) k captures in
       before_them c is_client newer ds k0 before
 
-  captures_at : (c : Endpoint) → Contains clients c → (newer ds : List Recorded) → recorded ≡ newer ++ ds → (k : List Recorded) × At (lawful c) c ds k
+  captures_at : (c : Endpoint) → Contains clients c → (newer ds : List Recorded) → recorded ≡ newer ++ ds → (k : List Recorded) × At (lawful c) c (g.busy c) ds k
   captures_at c is_client newer ds is =
       let (k, captures) = captures_of c is_client in
-      before_them c is_client newer ds k (subst (λ l. At (lawful c) c l k) is captures)
+      before_them c is_client newer ds k (subst (λ l. At (lawful c) c (g.busy c) l k) is captures)
 
   -- ---- no two clients speak with each other: the first word would be a request to the other's port, which is no service port
 
@@ -128,11 +142,11 @@ module _ (lawful : Endpoint → List Recorded → Type 0) (clients : List Endpoi
     | inr later ↦ answered_between c e d ds to one.1 later
   ]
 
-  next_quiet : (e : Endpoint) → Contains clients e → (d : Recorded) (ds k : List Recorded) → IsNext (lawful e) e (At (lawful e) e ds) d k → IsQuietAt e d
+  next_quiet : (e : Endpoint) → Contains clients e → (d : Recorded) (ds k : List Recorded) → IsNext (lawful e) e (At (lawful e) e (g.busy e) ds) d k → IsQuietAt e d
   next_quiet e is_client d ds k (begins k0 before follows good is) = quiet_at (lawful e) e (g.quiet e is_client) d [] good
   next_quiet e is_client d ds k (goes_on r k0 before follows near good is) = quiet_at (lawful e) e (g.quiet e is_client) d (r ∷ k0) good
 
-  sent_between : (c e : Endpoint) (d : Recorded) → IsQuietAt e d → (ds k : List Recorded) → IsNext (lawful c) c (At (lawful c) c ds) d k → d.source ≡ c → d.target ≡ e → AllByRecursion (AreOne c e) ds → c ≡ e
+  sent_between : (c e : Endpoint) (d : Recorded) → IsQuietAt e d → (ds k : List Recorded) → IsNext (lawful c) c (At (lawful c) c (g.busy c) ds) d k → d.source ≡ c → d.target ≡ e → AllByRecursion (AreOne c e) ds → c ≡ e
   sent_between c e d quiet ds k next from to one = by next where
     sent : goes_from c d ≡ true
     sent = subst (λ o. same_endpoint o c ≡ true) (sym from) (same_itself c)
@@ -145,13 +159,13 @@ module _ (lawful : Endpoint → List Recorded → Type 0) (clients : List Endpoi
           (λ off. absurd (false≢true (sym (plain off) ∙ (and_parts (goes_from c d) (begins_request d.payload) is).1)))
     ]
 
-    by : IsNext (lawful c) c (At (lawful c) c ds) d k → c ≡ e
+    by : IsNext (lawful c) c (At (lawful c) c (g.busy c) ds) d k → c ≡ e
     by (begins k0 before follows good is) = no_service [] follows (follows.first refl)
     by (goes_on r k0 before follows near good is) = by_test (begins_request d.payload)
         (λ asks_it. no_service (r ∷ k0) follows (and_from (goes_from c d) (begins_request d.payload) sent asks_it))
         (λ plain. answered_between c e d ds to one
-        (any_filter (λ q. goes d.target c q && comes_at c q) (is_with c) ds
-        (any_captured (lawful c) c (λ q. goes d.target c q && comes_at c q) (filter (is_with c) ds) (r ∷ k0) before (follows.known sent plain))))
+        (any_filter (λ q. goes d.target c q && comes_at c q) (g.busy c) ds
+        (any_captured (lawful c) c (λ q. goes d.target c q && comes_at c q) (filter (g.busy c) ds) (r ∷ k0) before (follows.known sent plain))))
 
   turned : (c e : Endpoint) (ds : List Recorded) → AllByRecursion (AreOne c e) ds → AllByRecursion (AreOne e c) ds
   turned c e [] one = tt
@@ -162,24 +176,36 @@ module _ (lawful : Endpoint → List Recorded → Type 0) (clients : List Endpoi
   between_two c e one other newer (d ∷ ds) is =
       let before = between_two c e one other (newer ++ d ∷ []) ds (is ∙ sym (append_assoc newer (d ∷ []) ds)) in (now_two before, before)
     where
-      to_other : (a b : Endpoint) → Contains clients a → Contains clients b → AllByRecursion (AreOne a b) ds → d.source ≡ a → is_with a d ≡ true → is_with b d ≡ true → a ≡ b
-      to_other a b one_client other_client all from with_a with_b = elim (or_cases (same_endpoint d.source b) (same_endpoint d.target b) with_b) [
+      to_other : (a b : Endpoint) → Contains clients a → Contains clients b → AllByRecursion (AreOne a b) ds → d.source ≡ a → g.busy a d ≡ true → g.busy b d ≡ true → is_with b d ≡ true → a ≡ b
+      to_other a b one_client other_client all from busy_a busy_b with_b = elim (or_cases (same_endpoint d.source b) (same_endpoint d.target b) with_b) [
         | inl source ↦ sym from ∙ is_same d.source b source
         | inr target ↦
             let (k, captures) = captures_at a one_client newer (d ∷ ds) is in
             let (kb, captures_b) = captures_at b other_client newer (d ∷ ds) is in
-            let quiet = next_quiet b other_client d ds kb (at_here (lawful b) b d ds kb with_b captures_b) in
-            sent_between a b d quiet ds k (at_here (lawful a) a d ds k with_a captures) from (is_same d.target b target) all
+            let quiet = next_quiet b other_client d ds kb (at_here (lawful b) b (g.busy b) d ds kb busy_b captures_b) in
+            sent_between a b d quiet ds k (at_here (lawful a) a (g.busy a) d ds k busy_a captures) from (is_same d.target b target) all
       ]
 
-      now_two : AllByRecursion (AreOne c e) ds → AreOne c e d
-      now_two before with_c with_e = elim (or_cases (same_endpoint d.source c) (same_endpoint d.target c) with_c) [
-        | inl source ↦ to_other c e one other before (is_same d.source c source) with_c with_e
+      stranger : (a b : Endpoint) → Contains clients a → Contains clients b → g.busy a d ≡ false → is_with a d ≡ true → is_with b d ≡ true → a ≡ b
+      stranger a b one_client other_client off with_a with_b =
+          (all_last (λ r. g.busy a r ≡ false → is_with a r ≡ true → is_with b r ≡ true → a ≡ b) newer (d ∷ ds)
+          (subst (AllByRecursion (λ r. g.busy a r ≡ false → is_with a r ≡ true → is_with b r ≡ true → a ≡ b)) is (g.strangers a b one_client other_client))).0 off with_a with_b
+
+      both_busy : AllByRecursion (AreOne c e) ds → g.busy c d ≡ true → g.busy e d ≡ true → AreOne c e d
+      both_busy before busy_c busy_e with_c with_e = elim (or_cases (same_endpoint d.source c) (same_endpoint d.target c) with_c) [
+        | inl source ↦ to_other c e one other before (is_same d.source c source) busy_c busy_e with_e
         | inr target ↦ elim (or_cases (same_endpoint d.source e) (same_endpoint d.target e) with_e) [
-          | inl source ↦ sym (to_other e c other one (turned c e ds before) (is_same d.source e source) with_e with_c)
+          | inl source ↦ sym (to_other e c other one (turned c e ds before) (is_same d.source e source) busy_e busy_c with_c)
           | inr too ↦ sym (is_same d.target c target) ∙ is_same d.target e too
         ]
       ]
+
+      now_two : AllByRecursion (AreOne c e) ds → AreOne c e d
+      now_two before with_c with_e = by_test (g.busy c d)
+          (λ busy_c. by_test (g.busy e d)
+          (λ busy_e. both_busy before busy_c busy_e with_c with_e)
+          (λ off. sym (stranger e c other one off with_e with_c)))
+          (λ off. stranger c e one other off with_c with_e)
 
   -- ---- what comes to a client comes from none who has a line
 
@@ -187,7 +213,7 @@ module _ (lawful : Endpoint → List Recorded → Type 0) (clients : List Endpoi
   no_asker c is_client d there with asker = false≢true (sym (g.others asker.request d asker.there there asker.none asker.begins_it c is_client with)
       ∙ or_left (same_endpoint d.source asker.request.source) (same_endpoint d.target asker.request.source) (subst (λ e. same_endpoint d.source e ≡ true) asker.source (same_itself d.source)))
 
-  elsewhere : (c : Endpoint) → Contains clients c → ComesFromElsewhere (lawful c) c Here recorded recorded
+  elsewhere : (c : Endpoint) → Contains clients c → ComesFromElsewhere (lawful c) c (g.busy c) Here recorded recorded
   elsewhere c is_client = all_from (λ d. is_with c d ≡ true → goes_from c d ≡ false → Here d.source → ⊥) recorded none where
     none : (d : Recorded) → Contains recorded d → is_with c d ≡ true → goes_from c d ≡ false → Here d.source → ⊥
     none d there with off here = elim here [
@@ -202,8 +228,21 @@ module _ (lawful : Endpoint → List Recorded → Type 0) (clients : List Endpoi
   in_order [] ds order = order
   in_order (d ∷ newer) ds order = in_order newer ds (order_rest d (newer ++ ds) order)
 
-  given : (c : Endpoint) (is_client : Contains clients c) (newer ds : List Recorded) → recorded ≡ newer ++ ds → IsGiven (lawful c) c Here recorded ds
+  aside_last : (c : Endpoint) (newer ds : List Recorded) → AreAside c (g.busy c) (newer ++ ds) → AreAside c (g.busy c) ds
+  aside_last c [] ds all = all
+  aside_last c (d ∷ newer) ds all = aside_last c newer ds all.1
+
+  -- what passes at a client aside says no request
+  aside_plain : (c : Endpoint) → Contains clients c → (newer ds : List Recorded) (d : Recorded) → recorded ≡ newer ++ d ∷ ds → is_with c d ≡ true → g.busy c d ≡ false → begins_request d.payload ≡ false
+  aside_plain c is_client newer ds d is with off = elim ((aside_last c newer (d ∷ ds) (subst (AreAside c (g.busy c)) is (g.asides c is_client))).0 off) [
+    | inl out ↦ absurd (false≢true (sym out ∙ with))
+    | inr lone ↦ lone.plain
+  ]
+
+  given : (c : Endpoint) (is_client : Contains clients c) (newer ds : List Recorded) → recorded ≡ newer ++ ds → IsGiven (lawful c) c (g.busy c) Here recorded ds
   given c is_client newer ds is = record {
+    busy_with = g.busy_with c;
+    asides = aside_last c newer ds (subst (AreAside c (g.busy c)) is (g.asides c is_client));
     order = in_order newer ds (subst AreInOrder is g.order);
     quiet = g.quiet c is_client;
     elsewhere = all_last (λ d. is_with c d ≡ true → goes_from c d ≡ false → Here d.source → ⊥) newer ds
@@ -219,15 +258,17 @@ module _ (lawful : Endpoint → List Recorded → Type 0) (clients : List Endpoi
 
   record Global (ds : List Recorded) : Type 0 where
     at : AreAtClients Here (placed [] ds)
-    stood : (c : Endpoint) → Contains clients c → (k : List Recorded) → At (lawful c) c ds k → Standing c k (placed [] ds)
+    stood : (c : Endpoint) → Contains clients c → (k : List Recorded) → At (lawful c) c (g.busy c) ds k → Standing c k (placed [] ds)
 
   asked_by : (d : Recorded) (newer ds : List Recorded) → recorded ≡ newer ++ d ∷ ds → Global ds → asks [] (placed [] ds) (now d ds) d ≡ true → Here d.source
   asked_by d newer ds is before says =
       let there : Contains recorded d = subst (λ l. Contains l d) (sym is) (Contains-append_right newer (d ∷ ds) d (contains_first d ds)) in
       elim (one_passes (λ c. is_with c d) clients) [
-        | inl found ↦
+        | inl found ↦ by_test (g.busy found.0 d)
+            (λ on.
             let (k, captures) = captures_at found.0 found.1 newer (d ∷ ds) is in
-            inl (by found.0 found.1 k (at_here (lawful found.0) found.0 d ds k found.2 captures))
+            inl (by found.0 found.1 k (at_here (lawful found.0) found.0 (g.busy found.0) d ds k on captures)))
+            (λ off. absurd (false≢true (sym (plain_asks (placed [] ds) (now d ds) d (aside_plain found.0 found.1 newer ds d is found.2 off)) ∙ says)))
         | inr none ↦ by_test (begins_request d.payload)
             (λ begins_it. inr (record { request = d; there = there; none = none; begins_it = begins_it; source = refl }))
             (λ plain. absurd (false≢true (sym (plain_asks (placed [] ds) (now d ds) d plain) ∙ says)))
@@ -239,7 +280,7 @@ module _ (lawful : Endpoint → List Recorded → Type 0) (clients : List Endpoi
       found : (c : Endpoint) → Contains clients c → asks_from c d ≡ true → Contains clients d.source
       found c is_client from = subst (Contains clients) (sym (is_same d.source c (and_parts (goes_from c d) (begins_request d.payload) from).0)) is_client
 
-      by : (c : Endpoint) → Contains clients c → (k : List Recorded) → IsNext (lawful c) c (At (lawful c) c ds) d k → Contains clients d.source
+      by : (c : Endpoint) → Contains clients c → (k : List Recorded) → IsNext (lawful c) c (At (lawful c) c (g.busy c) ds) d k → Contains clients d.source
       by c is_client k (begins k0 b follows good same) = found c is_client (follows.first refl)
       by c is_client k (goes_on e k0 b follows near good same) = by_test (asks_from c d)
           (λ from. found c is_client from)
@@ -251,11 +292,11 @@ module _ (lawful : Endpoint → List Recorded → Type 0) (clients : List Endpoi
   global newer (d ∷ ds) is =
       let before = global (newer ++ d ∷ []) ds (is ∙ sym (append_assoc newer (d ∷ []) ds)) in record {
         at = at_more Here (placed [] ds) (now d ds) d (λ says. asked_by d newer ds is before says) before.at;
-        stood = λ c is_client k captures. step (lawful c) c Here recorded d ds k (given c is_client newer (d ∷ ds) is)
+        stood = λ c is_client k captures. step (lawful c) c (g.busy c) Here recorded d ds k (given c is_client newer (d ∷ ds) is)
             (record { at = before.at; stood = λ k0 at. before.stood c is_client k0 at }) captures;
       }
 
-  all_before : (c : Endpoint) (is_client : Contains clients c) (newer ds : List Recorded) → recorded ≡ newer ++ ds → AllBefore (lawful c) c Here recorded ds
+  all_before : (c : Endpoint) (is_client : Contains clients c) (newer ds : List Recorded) → recorded ≡ newer ++ ds → AllBefore (lawful c) c (g.busy c) Here recorded ds
   all_before c is_client newer [] is = tt
   all_before c is_client newer (d ∷ ds) is =
       let later = is ∙ sym (append_assoc newer (d ∷ []) ds) in
@@ -270,30 +311,33 @@ module _ (lawful : Endpoint → List Recorded → Type 0) (clients : List Endpoi
   IsAskedThere x = Contains clients x.client → x.asked.port ≡ 69
 
   asked_there : (d : Recorded) (newer ds : List Recorded) → recorded ≡ newer ++ d ∷ ds → asks [] (placed [] ds) (now d ds) d ≡ true → Contains clients d.source → d.target.port ≡ 69
-  asked_there d newer ds is says is_client = by k (at_here (lawful d.source) d.source d ds k with captures) where
-    with : is_with d.source d ≡ true
-    with = or_left (same_endpoint d.source d.source) (same_endpoint d.target d.source) (same_itself d.source)
+  asked_there d newer ds is says is_client = by_test (g.busy d.source d)
+      (λ on. by k (at_here (lawful d.source) d.source (g.busy d.source) d ds k on captures))
+      (λ off. plain (aside_plain d.source is_client newer ds d is with off))
+    where
+      with : is_with d.source d ≡ true
+      with = or_left (same_endpoint d.source d.source) (same_endpoint d.target d.source) (same_itself d.source)
 
-    captured : (k : List Recorded) × At (lawful d.source) d.source (d ∷ ds) k
-    captured = captures_at d.source is_client newer (d ∷ ds) is
+      captured : (k : List Recorded) × At (lawful d.source) d.source (g.busy d.source) (d ∷ ds) k
+      captured = captures_at d.source is_client newer (d ∷ ds) is
 
-    k : List Recorded
-    k = captured.0
+      k : List Recorded
+      k = captured.0
 
-    captures : At (lawful d.source) d.source (d ∷ ds) k
-    captures = captured.1
+      captures : At (lawful d.source) d.source (g.busy d.source) (d ∷ ds) k
+      captures = captured.1
 
-    plain : begins_request d.payload ≡ false → d.target.port ≡ 69
-    plain none = absurd (false≢true (sym (plain_asks (placed [] ds) (now d ds) d none) ∙ says))
+      plain : begins_request d.payload ≡ false → d.target.port ≡ 69
+      plain none = absurd (false≢true (sym (plain_asks (placed [] ds) (now d ds) d none) ∙ says))
 
-    asked_it : (k0 : List Recorded) → Follows d.source k0 d → d.target.port ≡ 69
-    asked_it k0 follows = by_test (begins_request d.payload)
-        (λ begins_it. follows.service (and_from (goes_from d.source d) (begins_request d.payload) (same_itself d.source) begins_it))
-        plain
+      asked_it : (k0 : List Recorded) → Follows d.source k0 d → d.target.port ≡ 69
+      asked_it k0 follows = by_test (begins_request d.payload)
+          (λ begins_it. follows.service (and_from (goes_from d.source d) (begins_request d.payload) (same_itself d.source) begins_it))
+          plain
 
-    by : (k : List Recorded) → IsNext (lawful d.source) d.source (At (lawful d.source) d.source ds) d k → d.target.port ≡ 69
-    by k (begins k0 b follows good same) = asked_it [] follows
-    by k (goes_on e k0 b follows near good same) = asked_it (e ∷ k0) follows
+      by : (k : List Recorded) → IsNext (lawful d.source) d.source (At (lawful d.source) d.source (g.busy d.source) ds) d k → d.target.port ≡ 69
+      by k (begins k0 b follows good same) = asked_it [] follows
+      by k (goes_on e k0 b follows near good same) = asked_it (e ∷ k0) follows
 
   all_asked_there : (newer ds : List Recorded) → recorded ≡ newer ++ ds → AreOwn IsAskedThere (placed [] ds)
   all_asked_there newer [] is = tt
@@ -313,19 +357,19 @@ module _ (lawful : Endpoint → List Recorded → Type 0) (clients : List Endpoi
 
   -- what passed beside a server was at no client, and goes to port 69 only if it says no request
   abbrev pub IsApart : Placed → Type 0
-  IsApart q = is_beside q ≡ true → (begins_request q.datagram.payload ≡ true → (q.datagram.target.port == 69) ≡ false) × ((c : Endpoint) → Contains clients c → is_with c q.datagram ≡ false)
+  IsApart q = is_beside q ≡ true → (begins_request q.datagram.payload ≡ true → (q.datagram.target.port == 69) ≡ false) × ((c : Endpoint) → Contains clients c → g.busy c q.datagram ≡ false)
 
   apart_one : (newer ds : List Recorded) (d : Recorded) → recorded ≡ newer ++ d ∷ ds → IsApart (new d (now d ds) (place_of [] (placed [] ds) (now d ds) d))
   apart_one newer ds d is is_there = (λ begins_it. beside_port (placed [] ds) (now d ds) d begins_it is_there, none) where
     before : Global ds
     before = global (newer ++ d ∷ []) ds (is ∙ sym (append_assoc newer (d ∷ []) ds))
 
-    none : (c : Endpoint) → Contains clients c → is_with c d ≡ false
-    none c is_client = by_test (is_with c d)
-        (λ with.
+    none : (c : Endpoint) → Contains clients c → g.busy c d ≡ false
+    none c is_client = by_test (g.busy c d)
+        (λ on.
         let (k, captures) = captures_at c is_client newer (d ∷ ds) is in
-        let (kp, rest, x, has) = next_has (lawful c) c Here recorded d ds k (given c is_client newer (d ∷ ds) is) with
-        (record { at = before.at; stood = λ k0 at. before.stood c is_client k0 at }) (at_here (lawful c) c d ds k with captures) in
+        let (kp, rest, x, has) = next_has (lawful c) c (g.busy c) Here recorded d ds k (given c is_client newer (d ∷ ds) is) (g.busy_with c d on)
+        (record { at = before.at; stood = λ k0 at. before.stood c is_client k0 at }) (at_here (lawful c) c (g.busy c) d ds k on captures) in
         absurd (plain_beside c (new d (now d ds) (place_of [] (placed [] ds) (now d ds) d)) has.plain.0 is_there))
         (λ off. off)
 
@@ -342,12 +386,12 @@ module _ (lawful : Endpoint → List Recorded → Type 0) (clients : List Endpoi
     kept_of is_client newer older p are x at is =
         let owned = own_of newer older p are x at in
         let (k, captures) = captures_of c is_client in
-        kept_at (lawful c) c Here recorded Kept none other one x owned is recorded k
+        kept_at (lawful c) c (g.busy c) Here recorded Kept none other one x owned is recorded k
         (given c is_client [] recorded refl) (all_before c is_client [] recorded refl) captures newer older p are
 
     pub kept_whole : Contains clients c → (newer older : List Placed) (p : Placed) → placed [] recorded ≡ newer ++ p ∷ older → (x : Transfer) → transfer_of p.place ≡ Some x → x.client ≡ c → Kept x.number (placed [] recorded)
     kept_whole is_client newer older p are x at is =
         let owned = own_of newer older p are x at in
         let (k, captures) = captures_of c is_client in
-        all_kept (lawful c) c Here recorded Kept none other one x owned is recorded k
+        all_kept (lawful c) c (g.busy c) Here recorded Kept none other one x owned is recorded k
         (given c is_client [] recorded refl) (all_before c is_client [] recorded refl) captures

@@ -14,23 +14,23 @@ use Rattle.audit_spared.specs.Spared.{as_seen_by, as_served, at_client_of, at_se
 use Rattle.audit_spared.specs.Spared.Worked.{first_capture, first_served, one_name, own_name, second_capture, second_served, service_client}
 use Rattle.audit_spared.proofs.SparedLemmas.WorkedReads.{shown, f_spelled, g_spelled, asked, came, acked, was_asked, went, was_acked, told_error, was_told, stop_spelled, full_spelled, error_5}
 
-abbrev label : Datagram → Label → Labelled
+abbrev pub label : Datagram → Label → Labelled
 label d l = record { datagram = d; label = l }
 
 client_only : Client ≡ Server → ⊥
 client_only is = absurd (cc)
 
 -- each did this: it asked, was asked, sent the block, took it, sent the ACK and took it
-abbrev asks_it : Step
+abbrev pub asks_it : Step
 asks_it = client_does (Sent Req)
 
-abbrev is_asked : Step
+abbrev pub is_asked : Step
 is_asked = server_does (Took Req)
 
-abbrev sends_block : Step
+abbrev pub sends_block : Step
 sends_block = server_does (Sent (Data 1))
 
-abbrev takes_block : Step
+abbrev pub takes_block : Step
 takes_block = client_does (Took (Data 1))
 
 abbrev sends_ack : Step
@@ -43,7 +43,7 @@ abbrev sends_error : Step
 sends_error = server_does (Sent (Error 1 []))
 
 -- the client stops by this ERROR
-abbrev stops_by : ℕ → Step
+abbrev pub stops_by : ℕ → Step
 stops_by code = client_does (Sent (Error code []))
 
 abbrev is_stopped_by : ℕ → Step

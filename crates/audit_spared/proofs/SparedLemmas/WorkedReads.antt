@@ -21,10 +21,10 @@ module _ (test : ℕ → Bool) (P : ℕ → Type 0) (tells : (x : ℕ) → test 
   all_from [] e = tt
   all_from (x ∷ xs) e = let parts = and_parts (test x) (list_all test xs) e in (tells x parts.0, all_from xs parts.1)
 
-bytes_are : (xs : List ℕ) → list_all (λ b. nat_lt b 256) xs ≡ true → AllByRecursion (λ b. b < 256) xs
+pub bytes_are : (xs : List ℕ) → list_all (λ b. nat_lt b 256) xs ≡ true → AllByRecursion (λ b. b < 256) xs
 bytes_are = all_from (λ b. nat_lt b 256) (λ b. b < 256) (λ b e. ltb-true b 256 e)
 
-string_is : (xs : List ℕ) → list_all (λ b. nat_lt 0 b) xs ≡ true → IsString xs
+pub string_is : (xs : List ℕ) → list_all (λ b. nat_lt 0 b) xs ≡ true → IsString xs
 string_is = all_from (λ b. nat_lt 0 b) (λ b. b ≡ 0 → ⊥) (λ b e is. let low = ltb-true 0 b e in omega arith)
 
 pub f_spelled : Spells (read_of (codes "f")) (Message.Request (octet_read (codes "f")))
@@ -59,7 +59,7 @@ g_spelled = (
   },
 )
 
-block_spelled : Spells (data_of 1) (Message.Data 1 (5 ∷ []))
+pub block_spelled : Spells (data_of 1) (Message.Data 1 (5 ∷ []))
 block_spelled = (bytes_are (data_of 1) refl, (0, 1, (omega arith, omega arith, omega arith), refl))
 
 pub ack_spelled : Spells (ack_of 1) (Message.Ack 1)
@@ -71,7 +71,7 @@ stop_spelled = (bytes_are (error_of 1) refl, (0, 1, (omega arith, omega arith, o
 pub full_spelled : Spells (error_of 2) (Message.Error 2 [])
 full_spelled = (bytes_are (error_of 2) refl, (0, 2, (omega arith, omega arith, omega arith), tt, refl))
 
-error_spelled : Spells (error_of 5) (Message.Error 5 [])
+pub error_spelled : Spells (error_of 5) (Message.Error 5 [])
 error_spelled = (bytes_are (error_of 5) refl, (0, 5, (omega arith, omega arith, omega arith), tt, refl))
 
 -- ---- the meaning

@@ -23,15 +23,19 @@ asks_from c d = goes_from c d && begins_request d.payload
 abbrev pub goes_on_from : Endpoint → Recorded → Bool
 goes_on_from c d = if begins_request d.payload then false else (goes_from c d && not (begins_error d.payload))
 
--- What may come next at a client that has these behind it. The first is a request; each request is for the same file; the client
--- speaks to whom it has heard; and what comes first is an answer.
+-- What may come next at a client that has these behind it. The first is a request; each request is for the same file; and the
+-- client speaks to whom it has heard.
 pub record Follows (c : Endpoint) (k : List Recorded) (d : Recorded) : Type 0 where
   pub here : is_between c (other_of c d) d ≡ true
   pub first : k ≡ [] → asks_from c d ≡ true
   pub service : asks_from c d ≡ true → d.target.port ≡ 69
   pub alike : asks_from c d ≡ true → AllByRecursion (λ e. asks_from c e ≡ true → asks_alike e d ≡ true) k
   pub known : goes_from c d ≡ true → begins_request d.payload ≡ false → list_any (λ e. goes d.target c e && comes_at c e) k ≡ true
-  pub answers : goes_from c d ≡ false → list_any (comes_at c) k ≡ false → is_answer d.payload ≡ true
+
+-- what comes first is an answer
+abbrev pub AnswersFirst : Endpoint → List Recorded → Type 0
+AnswersFirst c [] = Unit {0}
+AnswersFirst c (d ∷ k) = (goes_from c d ≡ false → list_any (comes_at c) k ≡ false → is_answer d.payload ≡ true) × AnswersFirst c k
 
 -- no request comes once its client has sent a block or an ACK
 abbrev pub AsksInTime : Endpoint → List Recorded → Type 0

@@ -1,12 +1,13 @@
 -- Recordings that meet the premises; and for each premise one that meets the others, in which a lawful end is accused. Times are
 -- in seconds, the newest datagram is first.
-use Rattle.std.specs.Prelude.{◌≡◌, ℕ, ◌||◌, Bool, false, List, [], ◌∷◌, ◌++◌, codes, map, max, Some}
+use Rattle.std.specs.Prelude.{◌≡◌, ℕ, ◌*◌, ◌&&◌, ◌||◌, nat_le, Bool, true, false, List, [], ◌∷◌, ◌++◌, codes, map, max, Some}
+use Rattle.std.specs.Str.{bytes_eq}
 use Rattle.law_end.specs.{IsRefused, Rule}
 use Rattle.audit_flows.specs.Lines.{Recorded, Placed, clock, transfer_of, bytes_of, version_of}
 use Rattle.audit_flows.specs.{Address, Endpoint, Transfer}
 use Rattle.audit_flows.specs.Transfers.{ack_of, client, data_of, service, client_view, is_beside, place_of, placed}
-use Rattle.audit_flows.specs.Transfers.Worked.{at, error_of, next_server, other_client, passes, requests, server, stranger}
-use Rattle.audit_spared.specs.Spared.Seen.{as_seen_by, at_client_of}
+use Rattle.audit_flows.specs.Transfers.Worked.{at, error_of, next_server, other_client, passes, requests, second, server, stranger}
+use Rattle.audit_spared.specs.Spared.Seen.{as_seen_by, at_client_of, is_with}
 use Rattle.audit_spared.specs.Spared.Spared.{needs_doubt}
 use Rattle.audit_spared.specs.Spared.Served.{at_server_of, seen_at_server, server_saw, transfer_beside}
 
@@ -81,6 +82,30 @@ another_client = passes 6 other_client server (ack_of 9) ∷ requests 6 other_cl
 abbrev pub two_captures : List Recorded
 two_captures = second_capture ++ another_client ++ first_capture
 
+-- ---- a stray before the answer
+
+-- In the second capture a block of the first one's server comes late, before the answer, and is told so.
+abbrev pub is_late_block : Recorded → Bool
+is_late_block d = nat_le (7 * second) d.time && is_with server d
+
+abbrev pub late_block_first : List Recorded
+late_block_first =
+    passes 8 next_server client (data_of 1)
+    ∷ passes 8 client server (error_of 5)
+    ∷ passes 7 server client (data_of 1)
+    ∷ requests 7 client service (codes "g")
+    ∷ first_capture
+
+-- and a block of a transfer of before the recording began
+abbrev pub is_of_before : Recorded → Bool
+is_of_before d = bytes_eq d.payload (data_of 3)
+
+abbrev pub begun_within : List Recorded
+begun_within = late_block_first ++ passes 0 next_server client (data_of 3) ∷ []
+
+abbrev pub ack_of_answer : Recorded
+ack_of_answer = passes 9 client next_server (ack_of 1)
+
 -- ---- two captures, at a server
 
 abbrev pub first_served : List Recorded
@@ -130,6 +155,10 @@ ack_after_silence = passes 402 client server (ack_of 1)
 
 abbrev pub ack_of_block : Recorded
 ack_of_block = passes 3 client server (ack_of 1)
+
+-- The client asks again after the block came, and what stands before is not recorded.
+abbrev pub asked_again_only : List Recorded
+asked_again_only = requests 2 client service (codes "f") ∷ []
 
 -- It asks again 400 s after the block came.
 abbrev pub silent_capture : List Recorded
@@ -207,3 +236,27 @@ asked_late =
 
 abbrev pub ack_again : Recorded
 ack_again = passes 5 client server (ack_of 1)
+
+-- ---- a request to write comes late
+
+abbrev pub write_of : List ℕ → List ℕ
+write_of name = 0 ∷ 2 ∷ name ++ 0 ∷ codes "octet" ++ 0 ∷ []
+
+abbrev pub asks_to_write : ℕ → Recorded
+asks_to_write seconds = record { time = seconds * second; source = client; target = service; payload = write_of (codes "f"); is_spelled = true }
+
+-- The client's request comes again behind its block; the server answers it again, and the client gives up.
+abbrev pub written_late : List Recorded
+written_late =
+    passes 6 client server (error_of 1)
+    ∷ passes 5 server client (ack_of 0)
+    ∷ asks_to_write 4
+    ∷ passes 3 server client (ack_of 1)
+    ∷ passes 2 client server (data_of 1)
+    ∷ passes 1 server client (ack_of 0)
+    ∷ asks_to_write 0
+    ∷ []
+
+-- the server's ACK of the block comes again too
+abbrev pub block_acked_again : Recorded
+block_acked_again = passes 7 server client (ack_of 1)

@@ -1,12 +1,20 @@
 //! Laws of the definitions in `specs/`. Each is the contract of a function that does nothing.
 
-ghost use Rattle.audit_spared.specs.Spared.{SparesClients, SparesClientsByThree, SparesServers, SparesServersByFive, SparesServersByFour};
+ghost use Rattle.audit_spared.specs.Spared.{SparesClients, SparesClientsByThree, SparesServers, SparesServersByFive, SparesServersByFour, SparesStrayedClients, SparesStrayedClientsByFour};
 
 /// Where captures of lawful transfers follow one another at the endpoints of some clients, whatever others do elsewhere, no view
 /// of theirs is refused without a doubt; and three of the doubts are enough.
 pub fn no_lawful_client_is_refused_without_a_doubt()
     ensures spared { SparesClients }
     ensures by_three { SparesClientsByThree }
+{}
+
+/// The same where strays come to a client, as late datagrams of an earlier server: before its server's first answer too, and
+/// whatever they say. It may answer them by ERROR 5. Then a fourth doubt is needed: that something came to the client, which never
+/// went on with who sent something first.
+pub fn no_client_is_refused_for_strays_without_a_doubt()
+    ensures spared { SparesStrayedClients }
+    ensures by_four { SparesStrayedClientsByFour }
 {}
 
 /// Where captures of lawful transfers follow one another between some clients and the server's host, whatever strays come to its

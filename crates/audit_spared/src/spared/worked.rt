@@ -1,17 +1,18 @@
 //! Worked recordings: some meet the premises of the laws; and for a premise one meets all others, and a lawful end is accused.
 //! Each law is the contract of a function that does nothing.
 
-ghost use Rattle.std.specs.Prelude.{◌≡◌, ◌||◌, true, false, List, [], ◌∷◌, codes, filter, map, reverse, Contains};
+ghost use Rattle.std.specs.Prelude.{◌≡◌, ◌||◌, true, false, List, [], ◌∷◌, ◌++◌, codes, filter, map, reverse, Contains};
 ghost use Rattle.law_end.specs.{IsLawful};
 ghost use Rattle.audit_flows.specs.Lines.{Recorded, is_late};
 ghost use Rattle.audit_flows.specs.{Endpoint};
-ghost use Rattle.audit_flows.specs.Transfers.{ack_of, client, data_of, read_of, service, is_doubtful, is_doubtful_at_server, placed, some_of};
+ghost use Rattle.audit_flows.specs.Transfers.{ack_of, client, data_of, read_of, service, is_doubtful, is_doubtful_at_server, is_led_astray, placed, some_of};
 ghost use Rattle.audit_flows.specs.Transfers.Worked.{error_of, seen_by_client, seen_by_server};
 ghost use Rattle.audit_spared.specs.Spared.{
   AreAtHost,
   AreInOrder,
   AreInterleaved,
   AreServed,
+  AreStrayed,
   AskersAreElsewhere,
   AsksInTime,
   FollowOneAnother,
@@ -35,14 +36,20 @@ ghost use Rattle.audit_spared.specs.Spared.Worked.{
   IsAccusedAtServer,
   ack_after_silence,
   ack_again,
+  ack_of_answer,
   ack_of_block,
+  asked_again_only,
   asked_by_stray,
   asked_late,
   asks_elsewhere,
   asks_two_hosts,
   back_in_time,
   back_in_time_there,
+  begun_within,
+  block_acked_again,
   block_came,
+  is_late_block,
+  is_of_before,
   late_ack,
   needs_doubt_there,
   newest,
@@ -60,6 +67,7 @@ ghost use Rattle.audit_spared.specs.Spared.Worked.{
   two_captures,
   two_clients,
   two_served,
+  written_late,
 };
 
 /// Two captures with a repeated request and strays meet all premises, at the client and at the server, whatever another client
@@ -79,6 +87,17 @@ pub fn two_captures_meet_the_premises()
         ≡ false ∷ false ∷ [] }
 {}
 
+/// Late blocks and other strays may come before the answer, and before the first request: a recording meets all premises, in the
+/// view of its second transfer the stray stands first, and the client's lawful ACK is refused there. The fourth doubt alone is left
+/// of those that the law needs.
+pub fn strays_may_come_before_the_answer()
+    ensures meets { AreStrayed own_name is_late_block is_of_before one_client (ack_of_answer ∷ begun_within) }
+    ensures view { seen_by_client 7 (ack_of_answer ∷ begun_within)
+        ≡ ack_of 1 ∷ data_of 1 ∷ error_of 5 ∷ data_of 1 ∷ read_of (codes "g") ∷ [] }
+    ensures fourth { IsAccusedAtClient own_name needs_doubt ack_of_answer begun_within }
+    ensures astray { is_led_astray 7 (placed [] (ack_of_answer ∷ begun_within)) (newest ack_of_answer begun_within) (placed [] begun_within) ≡ true }
+{}
+
 /// Who asks again at the port that answered is accused, at the client and at the server: all other premises are met.
 pub fn captures_must_be_lawful()
     ensures captures { (c : Endpoint) → Contains one_client c → FollowOneAnother HasNoSilence (filter (is_with c) (asks_elsewhere ∷ block_came)) }
@@ -90,6 +109,13 @@ pub fn captures_must_be_lawful()
     ensures order { AreInOrder (asks_elsewhere ∷ block_came) }
     ensures accused { IsAccusedAtClient own_name is_doubtful asks_elsewhere block_came }
     ensures accused_there { IsAccusedAtServer own_name is_doubtful_at_server asks_elsewhere block_came }
+{}
+
+/// Where a recording begins within a capture, a lawful client is accused: it asked again after the block came, and all that is
+/// recorded is this request and its ACK. The whole recording meets the premises.
+pub fn recordings_must_begin_before_their_captures()
+    ensures meets { AreInterleaved own_name one_client (ack_of_block ∷ asked_again_only ++ block_came) }
+    ensures accused { IsAccusedAtClient own_name is_doubtful_at_client ack_of_block asked_again_only }
 {}
 
 /// Where a client asks again after a silence, its ACK of the block before is refused.
@@ -177,4 +203,12 @@ pub fn requests_must_not_come_late()
     ensures order { AreInOrder (ack_again ∷ asked_late) }
     ensures accused { IsAccusedAtServer own_name needs_doubt_there ack_again asked_late }
     ensures shared { is_shared (newest ack_again asked_late) (placed [] asked_late) ≡ true }
+{}
+
+/// And then no doubt of the program need be left: where a request to write comes late, the server's ACK of the block before is
+/// refused in the transfer that it opens, and is told as its fault.
+pub fn late_requests_are_no_doubt_of_the_program()
+    ensures meets { AreServed (IsServedCapture own_name) own_name service.address one_client (block_acked_again ∷ written_late) }
+    ensures accused { IsAccusedAtServer own_name is_doubtful_at_server block_acked_again written_late }
+    ensures shared { is_shared (newest block_acked_again written_late) (placed [] written_late) ≡ true }
 {}

@@ -1,4 +1,4 @@
-use Rattle.std.proofs.Common.{◌≡◌, ◌⊎◌, ◌||◌, ℕ, [], ◌∷◌, ◌++◌, List, inl, inr, map, subst, sym}
+use Rattle.std.proofs.Common.{◌≡◌, ◌⊎◌, ◌||◌, ℕ, [], ◌∷◌, ◌++◌, List, inl, inr, map, refl, subst, sym}
 use Rattle.std.specs.List.{AllByRecursion}
 use Rattle.std.proofs.lemmas.Bool.{or_left, or_right}
 use Rattle.law_end.specs.{IsRefused, OneEnded, Rule}
@@ -7,11 +7,11 @@ use Rattle.audit_flows.specs.{Address, Endpoint, Transfer}
 use Rattle.audit_flows.specs.Transfers.{is_beside}
 use Rattle.audit_flows.specs.Transfers.Places.{placed}
 use Rattle.audit_spared.specs.Spared.{AreServed, AsksInTime, IsServedCapture, IsTimelyCapture, SparesServersByFour, as_served, at_server_of, is_shared, needs_doubt, seen_at_server, server_saw}
-use Rattle.audit_spared.specs.Spared.Seen.{HasNoSilence}
+use Rattle.audit_spared.specs.Spared.Seen.{HasNoSilence, is_with}
 use Rattle.audit_spared.proofs.SparedLemmas.Lists.{by_recursion}
 use Rattle.audit_spared.proofs.SparedLemmas.Renamed.{IsNamedAsBefore, renamed, renamed_one}
 use Rattle.audit_spared.proofs.SparedLemmas.Retold.{all_both, captures_before, server_before, server_here, served_same}
-use Rattle.audit_spared.proofs.SparedLemmas.Whole.{AreAll}
+use Rattle.audit_spared.proofs.SparedLemmas.Whole.{AreAll, with_aside, with_strangers}
 use Rattle.audit_spared.proofs.SparedLemmas.ServedLaw.{IsServed, comes_plain}
 use Rattle.audit_spared.proofs.SparedLemmas.ServedEnd.{doubtful_there, served_each, served_lawful, server_captures, server_is_spared}
 use Rattle.audit_spared.proofs.spared.laws.no_lawful_end_is_refused_at_the_server_without_a_doubt.Goals as goal
@@ -20,15 +20,19 @@ use Rattle.audit_spared.proofs.spared.laws.no_lawful_end_is_refused_at_the_serve
 abbrev Said : Type 0 → (Address → List ℕ) → Endpoint → List Recorded → Type 0
 Said Late write c k = OneEnded (at_server_of 69) (map (as_served write c) k) × HasNoSilence k × (Late ⊎ AsksInTime c k)
 
-given : (Late : Type 0) (IsCapture : Endpoint → List Recorded → Type 0) (write : Address → List ℕ) (host : Address) (clients : List Endpoint) (recorded : List Recorded)
+abbrev given : (Late : Type 0) (IsCapture : Endpoint → List Recorded → Type 0) (write : Address → List ℕ) (host : Address) (clients : List Endpoint) (recorded : List Recorded)
     → ((c : Endpoint) (k : List Recorded) → IsCapture c k → Said Late write c k) → AreServed IsCapture write host clients recorded → AreAll (IsServed Late (renamed write recorded) host) clients recorded
 given Late IsCapture write host clients recorded said g = record {
+  busy = is_with;
+  busy_with = λ c d is. is;
+  asides = λ c is_client. with_aside c recorded;
+  strangers = λ c e is_client other. with_strangers c e recorded;
   captures = λ c is_client.
       let (each, same, all) = g.captures c is_client in
       server_captures Late (renamed write recorded) host c recorded each same
       (served_each Late (renamed write recorded) host c recorded each same (λ d there with. g.here d c there is_client with)
       (all_both (IsCapture c) (λ k. AllByRecursion (IsNamedAsBefore write recorded) k) (Said Late (renamed write recorded) c) (λ k capture before. renamed_said c k (said c k capture) before)
-      each (by_recursion (IsCapture c) each all) (captures_before write recorded c each same)));
+      each (by_recursion (IsCapture c) each all) (captures_before write recorded (is_with c) each same)));
   others = g.others;
   quiet = λ c is_client. inr (λ d k served. comes_plain (renamed write recorded) host c Late d k served);
   order = g.order;
@@ -53,7 +57,7 @@ of_timely write c k capture = (served_lawful write c k capture.served.lawful, ca
 pub returns-clause-by_five : goal.returns-clause-by_five
 returns-clause-by_five c write host clients recorded g newer older p are x at is_client rule refused =
     let served : AreAll (IsServed (Unit {0}) (renamed write recorded) host) clients recorded = given (Unit {0}) (IsServedCapture write) write host clients recorded (of_late write) g in
-    elim (server_is_spared (Unit {0}) (renamed write recorded) (renamed_one write recorded g.hosts) host clients recorded served
+    elim (server_is_spared (Unit {0}) (renamed write recorded) (renamed_one write recorded g.hosts) host clients recorded served (λ c d. refl)
     newer older p are x at is_client rule (renamed_refused write recorded newer older p are x rule refused)) [
       | inl doubt ↦ or_left (needs_doubt x.number (placed [] recorded) p older || is_beside p) (is_shared p older) doubt
       | inr shared ↦ or_right (needs_doubt x.number (placed [] recorded) p older || is_beside p) (is_shared p older) shared.1
@@ -62,7 +66,7 @@ returns-clause-by_five c write host clients recorded g newer older p are x at is
 by_four : SparesServersByFour
 by_four write host clients recorded g newer older p are x at is_client rule refused =
     let served : AreAll (IsServed ⊥ (renamed write recorded) host) clients recorded = given ⊥ (IsTimelyCapture write) write host clients recorded (of_timely write) g in
-    elim (server_is_spared ⊥ (renamed write recorded) (renamed_one write recorded g.hosts) host clients recorded served
+    elim (server_is_spared ⊥ (renamed write recorded) (renamed_one write recorded g.hosts) host clients recorded served (λ c d. refl)
     newer older p are x at is_client rule (renamed_refused write recorded newer older p are x rule refused)) [
       | inl doubt ↦ doubt
       | inr shared ↦ absurd shared.0
