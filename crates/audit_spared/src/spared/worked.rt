@@ -5,7 +5,7 @@ ghost use Rattle.std.specs.Prelude.{◌≡◌, ◌||◌, true, false, List, [], 
 ghost use Rattle.law_end.specs.{IsLawful};
 ghost use Rattle.audit_flows.specs.Lines.{Recorded, is_late};
 ghost use Rattle.audit_flows.specs.{Endpoint};
-ghost use Rattle.audit_flows.specs.Transfers.{ack_of, client, data_of, read_of, service, is_doubtful, is_doubtful_at_server, is_led_astray, placed, some_of};
+ghost use Rattle.audit_flows.specs.Transfers.{ack_of, client, data_of, read_of, service, is_doubtful, is_doubtful_at_client, is_doubtful_at_server, is_led_astray, placed, some_of};
 ghost use Rattle.audit_flows.specs.Transfers.Worked.{error_of, seen_by_client, seen_by_server};
 ghost use Rattle.audit_spared.specs.Spared.{
   AreAtHost,
