@@ -1,4 +1,5 @@
-//! The line of one client, which is what passed at its endpoint since it was last silent: what is kept of it, and where a Which datagrams of a recording are one transfer: the definition, and the place of each datagram in one pass.
+//! Which datagrams of a recording are one transfer, and what makes a refusal doubtful: the definitions, the line of one
+//! client, and the place of each datagram in one pass.
 #![tactic(auto)]
 
 pub mod lines;

@@ -1,5 +1,5 @@
-//! What may be left out of a capture that is lawful. No lawful end is refused without a doubt: no client, and no end at the server.
-//! What is known of a transfer is final once its client has been silent.
+//! Whom a recording accuses: no lawful end is refused without a doubt, what may be left out of a lawful capture, and when
+//! all is known of a transfer.
 #![tactic(auto)]
 
 pub mod fair;

@@ -1,4 +1,5 @@
-//! The parties of a recorded datagram: an IP address becomes a host of a judge, with its name. The judges of one transfer's two ends, fed with a recording datagram by datagram. The capture text of one transfer of a recording, at an end.
+//! What each end of a transfer saw in a recording: its parties with the names of their hosts, the judges of both views in
+//! one pass, and the capture text of a view.
 #![tactic(auto)]
 
 pub mod parties;

@@ -305,7 +305,7 @@ module _ (s : TapSides) (earlier : List TapDatagram) (d : TapDatagram) where
     by (inr server) (inl client) = absurd (of_client client (cases_Bool (asks_in d.payload)))
     by (inr server) (inr client) = absurd (elsewhere client server (cases_Bool (same_peer d.destination s.client)) (cases_Bool (same_peer d.destination s.server)) (cases_Bool ((s.server.port == s.asked.port) && asks_in d.payload)))
 
--- ---- where memory is wanting for the first request
+-- ---- where memory runs out for the first request
 
 pub wants_memory : {X : Type 0} (payload : List ℕ) (asked : RequestParts) → Spells payload (Message.Request asked) → (r : Result X PassError) → IsErrAnd r (λ stop. stop ≡ Memory) → IfErr r (λ stop. IsNoRequest payload stop)
 wants_memory payload asked says (Ok x) is = tt

@@ -62,7 +62,7 @@ BeginsAtTap s earlier d (Ok transfer) = TapPasses s earlier d × IsTapTransfer t
 BeginsAtTap s earlier d (Err (Breaks rule)) = FirstTapBroken s earlier d rule
 BeginsAtTap s earlier d (Err Memory) = TapPasses s earlier d
 
--- why a payload asks for nothing, or memory is wanting for what it asks for
+-- why a payload asks for nothing, or memory runs out for what it asks for
 abbrev pub IsNoRequest : List ℕ → PassError → Type 0
 IsNoRequest payload (Breaks (rule.Malformed fault)) = FirstFault payload fault
 IsNoRequest payload (Breaks rule.NoRequest) = asks_in payload ≡ false

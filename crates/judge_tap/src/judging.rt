@@ -54,7 +54,7 @@ impl<D: Delivered + Drop> TapJudge<D> {
     }
 
     /// Takes the next datagram: Ok exactly if it breaks no rule after those that were accepted, and so if some run of two ends
-    /// passes them all here. Else it answers the datagram's index, from 1, with the first rule that it breaks, or want of memory
+    /// passes them all here. Else it answers the datagram's index, from 1, with the first rule that it breaks, or being out of memory
     /// with the number of those before it. After a refusal it answers that one for good. Memory is taken for a way that none has
     /// gone, the first request, the first OACK, a block that has not passed and the first ERROR of an end. A payload is at most
     /// what a packet of UDP holds.
@@ -66,7 +66,7 @@ impl<D: Delivered + Drop> TapJudge<D> {
         ensures accepts { (s : TapSides) (earlier : List Passing) → IsTapJudge self.old s earlier
             → OnOk result (TapPasses s earlier (passing_of datagram) × IsTapJudge self.new s (passing_of datagram ∷ earlier)) }
 
-        // Or the first rule that this one breaks; memory is wanting only where it breaks none, and is one that takes some.
+        // Or the first rule that this one breaks; memory runs out only where it breaks none, and is one that takes some.
         ensures refuses { (s : TapSides) (earlier : List Passing) → IsTapJudge self.old s earlier
             → IfErr result (RefusesAtTap s earlier (passing_of datagram)) }
         ensures keeps { IfErr result (λ refusal. self.new.refused ≡ Some refusal) }

@@ -69,7 +69,7 @@ EndReached _ size taken piece = length taken < size
 abbrev pub IsBad : Layout → List NamedInterface → List ℕ → Type 0
 IsBad layout interfaces part = IsIrregular layout part ⊎ (IsWhole layout part × ((said : Said) → Says layout interfaces part said → ⊥))
 
--- What a fault says of the bytes that were read of a piece, after so many. Want of memory: the piece is not whole, or it
+-- What a fault says of the bytes that were read of a piece, after so many. Being out of memory: the piece is not whole, or it
 -- names an interface.
 abbrev pub Stops : FaultKind → Mode → ℕ → List ℕ → Type 0
 Stops NotARecording mode count part = (mode.layout ≡ Unopened) × (BeginsAsOne part → ⊥)

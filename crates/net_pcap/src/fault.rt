@@ -23,7 +23,7 @@ pub enum FaultKind {
     #[error("a read failed")]
     Read,
     /// Memory was refused.
-    #[error("no memory")]
+    #[error("out of memory")]
     Memory,
 }
 

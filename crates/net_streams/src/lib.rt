@@ -1,4 +1,5 @@
-//! Streams of bytes: readers that remember whether they have failed, what is read ahead, and a writer of lines. Hex digits, as `hex` reads and writes them, in memory that the caller has, and by vectors.
+//! What is read and written as a stream of bytes: readers that remember whether they have failed, what is read ahead, a
+//! writer of lines, and hex digits in memory that the caller has.
 #![tactic(auto)]
 
 pub mod digits;

@@ -1,4 +1,5 @@
-//! Frames of a network's recording: the IP packets that they carry, and the UDP datagrams of these. Fragments of IP packets, put together in whatever order they come. Copies of packets in a recording that was made at several interfaces of a host. The UDP datagrams of a recording: its frames, the IP packets that they carry, and the fragments of these put together.
+//! The UDP datagrams of a recording: its frames and the IP packets that they carry, fragments put together in whatever
+//! order they come, and copies of packets that several interfaces of a host recorded.
 #![tactic(auto)]
 
 pub mod copies;

@@ -1,4 +1,4 @@
-//! Tests of the stores of blocks, and of the code at one end: its states and its ports. Tests of the judge, and of the verdicts on texts.
+//! Tests of the stores of blocks, of the states and ports of one end, and of the judge and its verdicts.
 #![tactic(auto)]
 
 pub mod ends;

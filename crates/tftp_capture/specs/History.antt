@@ -46,7 +46,7 @@ pub record SaysOneMore (text : List ℕ) (datagrams : List Numbered) (line : ℕ
   pub stands : Stands text lines [] (Body version header) (datagrams ++ (line, datagram) ∷ [])
   pub at_line : line ≡ length lines
 
--- what want of memory says of the bytes that were taken, and of the datagrams that were given before it
+-- what being out of memory says of the bytes that were taken, and of the datagrams that were given before it
 abbrev pub MemoryTells : CaptureFault → List ℕ → List Numbered → Type 0
 MemoryTells (Text line fault) text datagrams = Unit {0}
 MemoryTells (Read line) text datagrams = Unit {0}

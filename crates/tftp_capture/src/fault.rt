@@ -55,6 +55,6 @@ pub enum CaptureFault {
     #[error("line {0}: a read failed")]
     Read(u64),
     /// Memory was refused while that line was read.
-    #[error("line {0}: no memory")]
+    #[error("line {0}: out of memory")]
     Memory(u64),
 }

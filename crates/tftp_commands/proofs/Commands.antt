@@ -59,7 +59,7 @@ silent_output a words source cut is told clean = command_output a words source c
 abbrev Only : List (List ℕ) → Result Action UsageFault → Type 0
 Only words r = (a : Action) → IsCommand a words → (r ≡ Ok a) ⊎ (r ≡ Err (memory_fault a))
 
--- a fault of the words is no want of memory
+-- a fault of the words never says that memory ran out
 no_memory : (a : Action) → usage.Usage ≡ memory_fault a → ⊥
 no_memory Check e = cc
 no_memory Extract e = cc
@@ -80,7 +80,7 @@ no_command words r e only a is = elim (only a is) [
   | inr other ↦ no_memory a (one_fault r usage.Usage (memory_fault a) e other)
 ]
 
--- the words of a command for which memory was wanting are those of one that says so
+-- the words of a command for which memory ran out are those of one that says so
 pub memory_told : (words : List (List ℕ)) (r : Result Action UsageFault) → r ≡ Err usage.Memory → Only words r → (a : Action) → IsCommand a words → memory_fault a ≡ usage.Memory
 memory_told words r e only a is = elim (only a is) [
   | inl other ↦ absurd (no_action r a usage.Memory e other)
@@ -99,7 +99,7 @@ no_name Normal word is check extract normal show count = normal is
 no_name Show word is check extract normal show count = show is
 no_name Count word is check extract normal show count = count is
 
--- how want of memory is told, by the word
+-- how being out of memory is told, by the word
 
 other_length : (word name : List ℕ) → word ≡ name → length name ≢ 7 → length name ≢ 6 → IsQuiet word → ⊥
 other_length word name is seven six quiet = elim quiet [

@@ -1,4 +1,4 @@
--- Want of memory for its first line may be said of any text, where no read failed.
+-- Being out of memory for its first line may be said of any text, where no read failed.
 use Rattle.std.proofs.Common.{◌≡◌, [], Bool, false, true≢false, Err, refl, sym, ◌∙◌, inl}
 use Rattle.tftp_capture.specs.declared.fault.CaptureFault.TheVariants.{Memory}
 use Rattle.tftp_judge.specs.{Capture}

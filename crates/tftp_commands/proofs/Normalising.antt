@@ -19,7 +19,7 @@ status_after (Err fault.Write) = status.Fault
 status_after (Err fault.Memory) = status.Fault
 status_after (Err (fault.Verdict verdict)) = verdict_status verdict
 
--- what is said in the end: of a text that is accepted, that memory was wanting to write it
+-- what is said in the end: of a text that is accepted, that memory ran out to write it
 abbrev last_said : Meaning → Result (Unit {0}) NormalFault → Result Meaning Verdict
 last_said m (Ok done) = Ok m
 last_said m (Err fault.Write) = Ok m

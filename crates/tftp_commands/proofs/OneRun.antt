@@ -1,4 +1,4 @@
--- The output of a run is one, or that of want of memory.
+-- The output of a run is one, or that of being out of memory.
 use Rattle.std.proofs.Common.{◌≡◌, ◌⊎◌, inl, inr, ℕ, ◌++◌, List, [], ◌∷◌, Bool, true, false, true≢false, Result, Ok, Err, refl, sym, ap, ◌∙◌}
 use Rattle.std.specs.List.{AllByRecursion}
 use Rattle.std.specs.Str.{bytes_eq}
@@ -11,9 +11,9 @@ use Rattle.tftp_commands.specs.{Action, Check, Extract, Normal, Show, Count, che
 use Rattle.tftp_commands.proofs.OneOutput.{OneVerdict, one_checked, one_counted, one_extracted, one_normalised}
 use Rattle.tftp_commands.proofs.OneShown.{one_shown}
 
--- ---- what says that memory was wanting
+-- ---- what says that memory ran out
 
--- the outputs of what is said, where it is want of memory
+-- the outputs of what is said, where it is being out of memory
 pub record WantsMemory (said : Result Meaning Verdict) : Type 0 where
   pub check : IsMemoryOutput Check (checked said)
   pub extract : IsMemoryOutput Extract (extracted said)

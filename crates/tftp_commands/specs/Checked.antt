@@ -33,7 +33,7 @@ abbrev pub verdict_line : Verdict → List ℕ
 verdict_line (Capture fault) = fault_line fault
 verdict_line (Refused refusal) = refusal_line refusal
 
--- 2 where the text has a fault, a read failed or memory was wanting, and 1 where its datagrams are refused
+-- 2 where the text has a fault, a read failed or memory ran out, and 1 where its datagrams are refused
 abbrev pub verdict_status : Verdict → Status
 verdict_status (Capture fault) = status.Fault
 verdict_status (Refused (Unlawful index rule)) = status.Refused

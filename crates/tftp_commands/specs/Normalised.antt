@@ -14,7 +14,7 @@ abbrev pub normalised : Result Meaning Verdict → Output
 normalised (Ok m) = record { bytes = normal_text m; status = status.Success }
 normalised (Err verdict) = record { bytes = []; status = verdict_status verdict }
 
--- The output is that of what there is to say of what was read; that memory was wanting is said too where it was to write
+-- The output is that of what there is to say of what was read; that memory ran out is said too where it was to write
 -- what is accepted.
 abbrev pub IsNormalised : Source → Output → Type 0
 IsNormalised = IsToldBy normalised

@@ -10,16 +10,16 @@ use Rattle.tftp_commands.specs.Outputs.{Output, memory_line}
 use Rattle.tftp_commands.specs.Shown.{Ending, Faulty}
 use Rattle.tftp_commands.specs.Words.{IsCommand, IsNoCommand}
 
--- said of the text, or that a read failed, and not that memory was wanting
+-- said of the text, or that a read failed, and not that memory ran out
 abbrev pub SaysNoMemory : Result Meaning Verdict → Type 0
 SaysNoMemory said = IsOfText said ⊎ SaysReadFailed said
 
--- any ending but want of memory
+-- any ending but being out of memory
 abbrev pub IsNoMemoryEnding : Ending → Type 0
 IsNoMemoryEnding (Faulty (Memory line)) = ⊥
 IsNoMemoryEnding _ = Unit {0}
 
--- the output of a command for which memory was wanting: beside a file or a normal text nothing is said, and what is shown
+-- the output of a command for which memory ran out: beside a file or a normal text nothing is said, and what is shown
 -- ends with it
 abbrev pub IsMemoryOutput : Action → Output → Type 0
 IsMemoryOutput Check output = output ≡ record { bytes = memory_line; status = status.Fault }

@@ -20,7 +20,7 @@ IsOutputOf Normal source cut output = IsNormalised source output
 IsOutputOf Show source cut output = IsShown source cut output
 IsOutputOf Count source cut output = IsCounted source output
 
--- that the words are no command; where they are two, for which a parse is needed, perhaps want of memory
+-- that the words are no command; where they are two, for which a parse is needed, perhaps being out of memory
 abbrev pub IsRefused : List (List ℕ) → Output → Type 0
 IsRefused words output =
     (output ≡ record { bytes = usage_line; status = status.Fault })

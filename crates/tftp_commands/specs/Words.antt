@@ -25,7 +25,7 @@ IsNoCommand words = (action : Action) → IsCommand action words → ⊥
 abbrev pub IsQuiet : List ℕ → Type 0
 IsQuiet word = (word ≡ codes "extract") ⊎ (word ≡ codes "normal")
 
--- how it is told that memory was wanting for a command's words
+-- how it is told that memory ran out for a command's words
 abbrev pub memory_fault : Action → UsageFault
 memory_fault Check = usage.Memory
 memory_fault Extract = usage.Silent

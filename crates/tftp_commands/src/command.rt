@@ -17,7 +17,7 @@ use tftp_normal::{NormalFault, normalise};
 
 /// Runs a command. `check` says in one line what a capture text means, and `count` how many datagrams its normal capture has;
 /// both say why a text is not accepted. `extract` writes its file (RFC 1350, section 1), and `normal` its normal text, and
-/// nothing beside it: of a text that is not accepted, or where memory is wanting, nothing; and an empty file makes no write.
+/// nothing beside it: of a text that is not accepted, or where memory runs out, nothing; and an empty file makes no write.
 pub fn run_command<R: Read, W: Write>(
     alloc: Global,
     action: Action,

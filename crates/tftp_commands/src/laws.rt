@@ -16,7 +16,7 @@ ghost use Rattle.tftp_commands.specs.declared.status.Status.{Status};
 use tftp_judge::laws::text_has_one_verdict;
 
 /// On what was read, and on whether a read failed, `check` has at most one right output, bytes and status, that does not
-/// come of want of memory.
+/// come of being out of memory.
 #[tactic(auto, using(crate::proofs::OneOutput::one_checked))]
 pub fn check_has_one_output()
     ensures { (source : Source) (one other : Output) (first : IsChecked source one) (second : IsChecked source other) → SaysNoMemory first.said → SaysNoMemory second.said
@@ -25,7 +25,7 @@ pub fn check_has_one_output()
     text_has_one_verdict();
 }
 
-/// `extract` has at most one right output on its source that does not come of want of memory.
+/// `extract` has at most one right output on its source that does not come of being out of memory.
 #[tactic(auto, using(crate::proofs::OneOutput::one_extracted))]
 pub fn extract_has_one_output()
     ensures { (source : Source) (one other : Output) (first : IsExtracted source one) (second : IsExtracted source other) → SaysNoMemory first.said → SaysNoMemory second.said
@@ -34,7 +34,7 @@ pub fn extract_has_one_output()
     text_has_one_verdict();
 }
 
-/// `normal` has at most one right output on its source that does not come of want of memory.
+/// `normal` has at most one right output on its source that does not come of being out of memory.
 #[tactic(auto, using(crate::proofs::OneOutput::one_normalised))]
 pub fn normal_has_one_output()
     ensures { (source : Source) (one other : Output) (first : IsNormalised source one) (second : IsNormalised source other) → SaysNoMemory first.said → SaysNoMemory second.said
@@ -43,7 +43,7 @@ pub fn normal_has_one_output()
     text_has_one_verdict();
 }
 
-/// `count` has at most one right output on its source that does not come of want of memory.
+/// `count` has at most one right output on its source that does not come of being out of memory.
 #[tactic(auto, using(crate::proofs::OneOutput::one_counted))]
 pub fn count_has_one_output()
     ensures { (source : Source) (one other : Output) (first : IsCounted source one) (second : IsCounted source other) → SaysNoMemory first.said → SaysNoMemory second.said
@@ -52,7 +52,7 @@ pub fn count_has_one_output()
     text_has_one_verdict();
 }
 
-/// `show` has at most one right output on its source that does not end with want of memory, where no write failed: each
+/// `show` has at most one right output on its source that does not end with being out of memory, where no write failed: each
 /// datagram has one line, and its showing one end.
 pub fn show_has_one_output()
     ensures { (source : Source) (one other : Output) (first : IsShown source false one) (second : IsShown source false other) → IsNoMemoryEnding first.ending → IsNoMemoryEnding second.ending

@@ -217,7 +217,7 @@ passing_is ForeignPort passed e = absurd (cc)
 passing_is WrongPort passed e = absurd (cc)
 passing_is NoStrayAnswer passed e = absurd (cc)
 
--- no route is want of memory
+-- no route is being out of memory
 pub route_takes_none : (route : Route) → Err PortFault.Memory ≡ answer_of route → ⊥
 route_takes_none Request e = cc
 route_takes_none Peer e = cc

@@ -20,7 +20,7 @@ IsFound t passed m (Ok _) = NoneBroken t passed m
 IsFound t passed m (Err (Broken rule)) = FirstEndBroken t passed m rule
 IsFound t passed m (Err Memory) = NoneBroken t passed m
 
--- Why a block can't be held: another one with its number is, or memory is wanting and none with its number is.
+-- Why a block can't be held: another one with its number is, or memory runs out and none with its number is.
 abbrev pub CannotHold : Held → ℕ → List ℕ → Rejection → Type 0
 CannotHold held k bytes (Broken rule) = (rule ≡ BlockChanged) × ((other : List ℕ) × (map.get held k ≡ Some other) × (other ≢ bytes))
 CannotHold held k bytes Memory = map.get held k ≡ None

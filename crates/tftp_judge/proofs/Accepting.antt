@@ -212,7 +212,7 @@ stray_found h earlier d new route routed off answers header kept =
       },
     )
 
--- what does not pass by its ports; or a stray, for which memory is wanting
+-- what does not pass by its ports; or a stray, for which memory runs out
 pub fault_found : (h : Header) (earlier : List Datagram) (d : Datagram) (After : Type 0) (result : Result MayPass PortFault) (fault : PortFault) → result ≡ Err fault
     → (result ≢ Err PortFault.Memory → result ≡ answer_of (route_of h earlier d)) → (result ≡ Err PortFault.Memory → IsNewStray h earlier d) → FindsOf h earlier d After (Err (error_by_port fault))
 fault_found h earlier d After result (PortFault.Broken port) is answer memory = port_first h earlier d (PortFault.Broken port) After (sym is ∙ answer (λ e. let same = sym is ∙ e in cc))

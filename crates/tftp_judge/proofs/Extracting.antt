@@ -8,7 +8,7 @@ use Rattle.tftp_judge.specs.declared.extraction.OutFault.TheVariants as fault
 abbrev Exact : Result Meaning Verdict → Meaning → Type 0
 Exact said m = (said ≡ Ok m) ⊎ WantsMemory said
 
--- where memory was wanting before anything was written
+-- where memory ran out before anything was written
 pub wanted_file : {W : Type 0} (contents : W → Option (List ℕ)) (old new : Sink W) (m : Meaning) (verdict : Verdict) (result : Result (Unit {0}) OutFault) → result ≡ Err (fault.Verdict verdict) → new ≡ old
     → Exact (Err verdict) m → WritesFile contents old new m result
 wanted_file contents old new m verdict result is same (inl other) = absurd (cc)

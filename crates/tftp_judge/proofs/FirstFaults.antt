@@ -54,7 +54,7 @@ none_front (n ∷ es) rest e = absurd (omega (arith, ap length e))
 pub none_in : (text : List ℕ) → LawfulIn text []
 none_in text h es begins (rest, is) = subst (λ x. IsLawful h (unnumbered x)) (sym (none_front es rest is)) (empty_is_lawful h)
 
--- for what memory was wanting, where it was: for the first line before any byte was read, or for a datagram
+-- for what memory ran out, where it was: for the first line before any byte was read, or for a datagram
 abbrev pub Wants : CaptureFault → List ℕ → List ℕ → List Numbered → Type 0
 Wants (Text line fault) text ahead ds = Unit {0}
 Wants (Read line) text ahead ds = Unit {0}
@@ -70,7 +70,7 @@ wants_more text ahead ds (Text line fault) tells = tt
 wants_more text ahead ds (Read line) tells = tt
 wants_more text ahead ds (Memory line) tells = inr tells
 
--- where memory was wanting it may be, no fault is before the line, and the datagrams before it are these
+-- where memory ran out it may be, no fault is before the line, and the datagrams before it are these
 abbrev BeforeWant : CaptureFault → List ℕ → List Numbered → Type 0
 BeforeWant (Text line fault) text ds = Unit {0}
 BeforeWant (Read line) text ds = Unit {0}

@@ -64,7 +64,7 @@ StandAs text ds h = (version : Version) × (lines : List (List ℕ)) × Stands t
 begins_by : (text more : List ℕ) (ds : List Numbered) (h : Header) → StandAs text ds h → Begins (text ++ more) h ds
 begins_by text more ds h (version, lines, stands) = record { read = text; more = more; lines = lines; are = refl; stands = (version, stands) }
 
--- memory was wanting for the last datagram
+-- memory ran out for the last datagram
 wants_for : (text ahead : List ℕ) (h : Header) (ds : List Numbered) (line : ℕ) (d : Datagram) (count : ℕ) → OneEnded h (reverse (unnumbered ds)) → StandAs text (with_one ds line d) h → length ahead ≤ most_ahead
     → Refuses h (reverse (unnumbered ds)) d (Memory count) → WantsToJudge (text ++ ahead) count
 wants_for text ahead h ds line d count passed (version, lines, stands) near (is, passes, takes) = record {

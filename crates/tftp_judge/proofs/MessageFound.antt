@@ -22,7 +22,7 @@ finds_by P Q A B there back more (Ok x) found = ((λ rule q. found.0 rule (back 
 finds_by P Q A B there back more (Err (PassError.Broken rule)) found = (there rule found.0, λ other low q. found.1 other low (back other q))
 finds_by P Q A B there back more (Err PassError.Memory) found = λ rule q. found rule (back rule q)
 
--- want of memory, where none is broken
+-- being out of memory, where none is broken
 pub finds_memory : (P : Rule → Type 0) (A : Type 0) (r : Result (Unit {0}) PassError) → (stop : PassError) × (r ≡ Err stop) × (stop ≡ PassError.Memory) → NoneBreaks P → Finds P A r
 finds_memory P A r is none = subst (Finds P A) (sym (is.1 ∙ ap (λ (s : PassError). Err s) is.2)) none
 

@@ -55,7 +55,7 @@ module _ (one two : List ℕ) (h : Header) (ds : List Numbered) (first : IsCaptu
       let all = es ++ (line, d) ∷ [] in
       inr (h, es, d, capture_begins_front two h ds all second (capture_has one h k ds all first begins).1)
 
-  -- memory was wanting for the same datagram
+  -- memory ran out for the same datagram
   wants_both : (count : ℕ) (read more : List ℕ) → one ≡ read ++ more → WantsToJudge read count → (read more : List ℕ) × (two ≡ read ++ more) × WantsToJudge read count
   wants_both count read more are wants =
       let all = wants.datagrams ++ wants.last ∷ [] in

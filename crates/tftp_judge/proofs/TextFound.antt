@@ -58,7 +58,7 @@ pub record Found (before after : Option (List ℕ)) (failed : Bool) (r : Result 
   pub failing : SaysReadFailed r → failed ≡ true
   pub latched : failed ≡ true → SaysReadFailed r
 
--- an answer is of the text, or that a read failed, or want of memory
+-- an answer is of the text, or that a read failed, or being out of memory
 pub answers : (r : Result Meaning Verdict) → IsOfText r ⊎ (SaysReadFailed r ⊎ WantsMemory r)
 answers (Err (Refused (refusal.Memory count))) = inr (inr tt)
 answers (Err (Capture (Read line))) = inr (inl tt)

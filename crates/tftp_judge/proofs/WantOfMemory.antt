@@ -1,4 +1,4 @@
--- Which datagrams stand on the lines before the one for which memory was wanting: those that were given.
+-- Which datagrams stand on the lines before the one for which memory ran out: those that were given.
 use Rattle.std.proofs.Common.{◌≡◌, ℕ, ◌+◌, ◌<◌, ◌≤◌, ◌⊎◌, inl, inr, List, [], ◌∷◌, ◌++◌, ◌==◌, length, length-append, All, refl, sym, ap, ◌∙◌, subst, arith, append_assoc, append-nil}
 use Rattle.std.proofs.lemmas.List.Elements.{All-cons, All-head, All-nil, All-tail, All-weaker}
 use Rattle.tftp_capture.specs.CaptureText.{Datagram, Header}
@@ -61,7 +61,7 @@ without_last P (d ∷ ds) (y ∷ ys) rest x not e all =
     let (more, is) = without_last P ds ys rest x not (ap tail_of e) (All-tail P y ys all) in
     (more, ap (λ v. v ∷ ds) (ap (head_or d) e) ∙ ap (λ v. y ∷ v) is)
 
--- ---- the line for which memory was wanting
+-- ---- the line for which memory ran out
 
 module _ (text more : List ℕ) (ds es : List Numbered) (line : ℕ) (header : Header) (begins : Begins (text ++ more) header es) (before : All (IsBefore line) es) where
   -- the line says one datagram more
@@ -107,7 +107,7 @@ pub no_fault_before : (text more : List ℕ) (ds : List Numbered) (line : ℕ) �
 no_fault_before text more ds line said es at fault has =
     omega (arith, said.at_line, fault_past text more said.lines [] (Body said.version said.header) (ds ++ (line, said.datagram) ∷ []) es at fault said.stands (fault_is (text ++ more) es at fault has))
 
--- every text may have a first line for which memory was wanting
+-- every text may have a first line for which memory ran out
 pub wants_first_line : (text : List ℕ) → MayWantAt text 1 × NoFaultBefore text 1 × LawfulBefore text 1
 wants_first_line text = (inl refl, no_fault, none) where
   no_fault : NoFaultBefore text 1

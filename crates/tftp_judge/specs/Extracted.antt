@@ -17,7 +17,7 @@ Extracts contents old new (Err verdict) (Ok done) = ⊥
 Extracts contents old new (Err verdict) (Err fault.Write) = ⊥
 Extracts contents old new (Err verdict) (Err (fault.Verdict other)) = (other ≡ verdict) × (new ≡ old)
 
--- Of a text that is accepted with this meaning: its file, whole, or in part where a write failed; or memory was wanting,
+-- Of a text that is accepted with this meaning: its file, whole, or in part where a write failed; or memory ran out,
 -- and nothing was written.
 abbrev pub WritesFile : {W : Type 0} → (W → Option (List ℕ)) → Sink W → Sink W → Meaning → Result (Unit {0}) OutFault → Type 0
 WritesFile contents old new m result =

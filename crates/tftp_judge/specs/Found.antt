@@ -19,7 +19,7 @@ NoneBreaks Breaks = (rule : Rule) → Breaks rule → ⊥
 abbrev pub IsFirstOf : (Rule → Type 0) → Rule → Type 0
 IsFirstOf Breaks rule = IsFirst number_of Breaks rule
 
--- No rule is broken, and then this holds; or the first that is; or memory is wanting, where none is broken.
+-- No rule is broken, and then this holds; or the first that is; or memory runs out, where none is broken.
 abbrev pub Finds : (Rule → Type 0) → Type 0 → Result (Unit {0}) PassError → Type 0
 Finds Breaks After (Ok _) = NoneBreaks Breaks × After
 Finds Breaks After (Err (Broken rule)) = IsFirstOf Breaks rule

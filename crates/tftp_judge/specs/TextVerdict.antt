@@ -35,7 +35,7 @@ abbrev pub LawfulBefore : List ℕ → ℕ → Type 0
 LawfulBefore text line =
     (header : Header) (datagrams : List Numbered) → Begins text header datagrams → All (λ d. d.0 < line) datagrams → IsLawful header (unnumbered datagrams)
 
--- ---- want of memory
+-- ---- being out of memory
 
 -- What was read is what was taken, and what a reader has read ahead of that.
 abbrev pub IsReadTo : List ℕ → List ℕ → List ℕ → Type 0
@@ -83,7 +83,7 @@ IsFaultOf text (Read line) = ((datagrams : List Numbered) × (due : Due) × Unfi
 IsFaultOf text (Memory line) = MayWantAt text line × NoFaultBefore text line × LawfulBefore text line
 
 -- The first unlawful datagram on the lines before the text's first fault; else that fault; else what is said of the
--- datagrams. A text whose reading failed is what came before. Want of memory may be said of the first line, or of one that
+-- datagrams. A text whose reading failed is what came before. Being out of memory may be said of the first line, or of one that
 -- says a datagram, before which there is no fault and the datagrams are lawful; or of a datagram that takes memory after
 -- others with which it is lawful; never of the meaning of all.
 abbrev pub IsTextVerdict : List ℕ → Result Meaning Verdict → Type 0
@@ -95,13 +95,13 @@ IsTextVerdict text (Err (Refused refusal.NormalTooLong)) = IsCaptureBy text (Err
 IsTextVerdict text (Err (Refused (refusal.Memory count))) = (read more : List ℕ) × (text ≡ read ++ more) × WantsToJudge read count
 IsTextVerdict text (Err (Capture fault)) = IsFaultOf text fault
 
--- The same of what was read, where that is all: what comes after the want of memory was read ahead.
+-- The same of what was read, where that is all: what comes after the being out of memory was read ahead.
 abbrev pub IsReadVerdict : List ℕ → Result Meaning Verdict → Type 0
 IsReadVerdict read (Err (Capture (Memory line))) = WantsToRead read line × LawfulBefore read line
 IsReadVerdict read (Err (Refused (refusal.Memory count))) = WantsToJudge read count
 IsReadVerdict read r = IsTextVerdict read r
 
--- want of memory
+-- being out of memory
 abbrev pub WantsMemory : Result Meaning Verdict → Type 0
 WantsMemory (Err (Capture (Memory line))) = Unit {0}
 WantsMemory (Err (Refused (refusal.Memory count))) = Unit {0}

@@ -59,7 +59,7 @@ impl<D: Delivered + Drop> Judge<D> {
     }
 
     /// Takes the next datagram: Ok exactly if it breaks no rule after those that were accepted, and so if a run of two ends
-    /// has them all. Else it answers the datagram's index, from 1, with the first rule that it breaks, or want of memory
+    /// has them all. Else it answers the datagram's index, from 1, with the first rule that it breaks, or being out of memory
     /// with the number of those before it. After a refusal it answers that one for good. Memory is taken for the first
     /// request, the first OACK, a block that is not held, the first ERROR of a way and a stray from where none has come. A
     /// payload is at most what a packet of UDP holds.
@@ -71,7 +71,7 @@ impl<D: Delivered + Drop> Judge<D> {
         ensures accepts { (h : HeaderParts) (earlier : List DatagramParts) → IsJudgeAfter self.old h earlier
             → OnOk result (Passes h earlier (datagram_of datagram.now) × IsJudgeAfter self.new h (datagram_of datagram.now ∷ earlier)) }
 
-        // Or the first rule that this one breaks; memory is wanting only where it breaks none, and is one that takes some.
+        // Or the first rule that this one breaks; memory runs out only where it breaks none, and is one that takes some.
         ensures refuses { (h : HeaderParts) (earlier : List DatagramParts) → IsJudgeAfter self.old h earlier
             → IfErr result (Refuses h earlier (datagram_of datagram.now)) }
         ensures keeps { IfErr result (λ refusal. self.new.refused ≡ Some refusal) }

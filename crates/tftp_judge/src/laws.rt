@@ -19,7 +19,7 @@ pub fn rules_give_the_verdict()
         ↔ IsVerdictByRules header datagrams v }
 {}
 
-/// A list of datagrams has one verdict: two that are of the datagrams, and do not tell of want of memory, are the same.
+/// A list of datagrams has one verdict: two that are of the datagrams, and do not tell of being out of memory, are the same.
 #[tactic(auto, using(crate::proofs::OneVerdict::one_verdict))]
 pub fn verdict_is_one()
     ensures { (header : Header) (datagrams : List Datagram) (v w : Result Meaning Refusal) → IsSaid v → IsSaid w

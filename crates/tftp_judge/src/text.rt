@@ -15,7 +15,7 @@ use tftp_ends::blocks::RingDelivered;
 
 /// What a capture text means, or why it is not accepted, by the runs of two ends (RFC 1350; RFC 2347; RFC 7440): the first
 /// unlawful datagram on the lines before the text's first fault, else that fault, else what there is to say of its
-/// datagrams. A fault is the text's first, a failed read, or want of memory, with its line, counted from 1; where it is the
+/// datagrams. A fault is the text's first, a failed read, or being out of memory, with its line, counted from 1; where it is the
 /// judge that wants memory, how many datagrams came before is told in place of the line. Each datagram is judged when it is
 /// read, and nothing is read after a refusal. The text may have 2^40 bytes; held are the blocks, a
 /// line and the datagram on it, into whose memory the next one is read.

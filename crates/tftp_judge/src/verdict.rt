@@ -5,7 +5,7 @@ use tftp_capture::CaptureFault;
 /// Why a capture text is not accepted.
 #[derive(Clone, Copy, Debug, PartialEq, Eq)]
 pub enum Verdict {
-    /// The text's first fault, a failed read, or want of memory, with its line.
+    /// The text's first fault, a failed read, or being out of memory, with its line.
     Capture(CaptureFault),
     /// What its datagrams are refused for.
     Refused(Refusal),

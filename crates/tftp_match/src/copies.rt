@@ -47,7 +47,7 @@ impl Copies {
 /// The copies of each packet that passed, those of the client's packets first.
 pub fn copies_in(alloc: Global, matched: &Matched) -> Result<Vec<Copies>> {
     let (Some(client), Some(server)) = (&matched.client_counts, &matched.server_counts) else {
-        bail!("the packets are not counted: no memory");
+        bail!("the packets are not counted: out of memory");
     };
     let mut copies = Vec::new(alloc);
     add_from(&mut copies, End::Client, client, server)?;

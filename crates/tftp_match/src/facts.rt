@@ -110,7 +110,7 @@ fn text_of(alloc: Global, written: LineWriter<Vec<u8>>) -> Result<String> {
     let (line, _) = written.finish();
     match line.as_slice() {
         [line @ .., b'\n'] => Ok(String::from_utf8_lossy(alloc, line)?),
-        _ => bail!("no memory"),
+        _ => bail!("out of memory"),
     }
 }
 

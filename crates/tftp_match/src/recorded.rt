@@ -182,7 +182,7 @@ impl<'a> Recorded<'a> {
         let mut written = LineWriter::new(alloc, Vec::new(alloc));
         match found.text.write(&mut written, self.end, &found.heading) {
             Ok(()) => Ok(written.finish().0),
-            Err(_) => bail!("no memory"),
+            Err(_) => bail!("out of memory"),
         }
     }
 

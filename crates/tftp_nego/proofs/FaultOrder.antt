@@ -4,7 +4,7 @@ use Rattle.tftp_packet.specs.{OptionMap, RequestParts}
 use Rattle.tftp_packet.proofs.FirstOf.{first_one, Unless, first_unless}
 use Rattle.tftp_nego.specs.{NegoFault, Broken, OackEmpty, MulticastAgreed, OptionNotRequested, OptionOutsideProfile, OptionValue, BeyondBlock65535, Memory, Holds, number, FirstFault}
 
--- the fault with this number; the numbers between are no fault's, as if want of memory stood there
+-- the fault with this number; the numbers between are no fault's, as if being out of memory stood there
 abbrev pub fault_at : ℕ → NegoFault
 fault_at n = get_or (Broken OackEmpty ∷ Broken MulticastAgreed ∷ Broken OptionNotRequested ∷ Broken OptionOutsideProfile ∷ Broken OptionValue ∷ Memory ∷ Memory ∷ Memory ∷ Memory ∷ BeyondBlock65535 ∷ []) (n - 11) Memory
 

@@ -41,14 +41,14 @@ AgreementBroken OptionOutsideProfile request agreed = (name : List ℕ) × HasOp
 AgreementBroken BadValue request agreed = (name : List ℕ) × (asked given : OptionValue) × (map.get request.options name ≡ Some asked)
     × (map.get agreed name ≡ Some given) × IsWrongValue request.side name asked given
 
--- what each fault says of the request and of the OACK's options; want of memory says nothing of them
+-- what each fault says of the request and of the OACK's options; being out of memory says nothing of them
 abbrev pub Holds : NegoFault → RequestParts → OptionMap → Type 0
 Holds (fault.Broken rule) request agreed = AgreementBroken rule request agreed
 Holds fault.BeyondBlock65535 request agreed = (size : ℕ) × (request.mode ≡ Octet) × (map.get agreed (codes "tsize") ≡ Some (Num size))
     × (65535 < size / option_or 512 agreed (codes "blksize") + 1)
 Holds fault.Memory request agreed = ⊥
 
--- the number of the rule that a fault breaks, which is its place in the order; want of memory breaks none and comes last
+-- the number of the rule that a fault breaks, which is its place in the order; being out of memory breaks none and comes last
 abbrev pub number : NegoFault → ℕ
 number (fault.Broken rule) = agreement_number rule
 number fault.BeyondBlock65535 = 20

@@ -18,7 +18,7 @@ pub written_normal : {W : Type 0} (contents : W → Option (List ℕ)) (old new 
 written_normal contents old new m text (Ok done) said is = (m, shown_text text m said, is.3)
 written_normal contents old new m text (Err fault) said is = tt
 
--- of a text that is accepted, where memory was wanting before anything was written
+-- of a text that is accepted, where memory ran out before anything was written
 pub wanted_normal : {W : Type 0} (contents : W → Option (List ℕ)) (old new : Sink W) (m : Meaning) (verdict : Verdict) (result : Result (Unit {0}) NormalFault) → result ≡ Err (fault.Verdict verdict) → new ≡ old
     → (◌≡◌ {A = Result Meaning Verdict} (Err verdict) (Ok m)) ⊎ WantsMemory (Err verdict) → WritesNormal contents old new m result
 wanted_normal contents old new m verdict result is same (inl other) = absurd (cc)

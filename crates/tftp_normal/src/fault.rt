@@ -7,14 +7,14 @@ use thiserror::Error;
 /// Why a normal text was not written, or not whole.
 #[derive(Clone, Copy, Debug, PartialEq, Eq, Error)]
 pub enum NormalFault {
-    /// The text is not accepted, want of memory while it was judged included; nothing was written.
+    /// The text is not accepted, being out of memory while it was judged included; nothing was written.
     #[error("the text is not accepted")]
     Verdict(Verdict),
     /// A write failed, or took no byte. A part of the normal text, from its start, was written.
     #[error("a write failed")]
     Write,
     /// Memory was refused, before anything was written.
-    #[error("no memory")]
+    #[error("out of memory")]
     Memory,
 }
 

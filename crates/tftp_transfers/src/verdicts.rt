@@ -294,7 +294,7 @@ impl Viewed {
         self.said.refused_frame()
     }
 
-    /// 0 where it is accepted, 2 where memory was wanting, else 1.
+    /// 0 where it is accepted, 2 where memory ran out, else 1.
     pub fn status(&self) -> u8 {
         self.said.status()
     }

@@ -21,7 +21,7 @@ pub fn tell_fault(rt: HostRuntime, program: &str, fault: &WordsFault) -> io::Res
             Ok(2)
         }
         WordsFault::Memory => {
-            eprintln!(rt; "{program}: no memory")?;
+            eprintln!(rt; "{program}: out of memory")?;
             Ok(2)
         }
     }

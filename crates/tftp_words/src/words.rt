@@ -21,7 +21,7 @@ pub enum WordsFault {
     #[error("{0}")]
     Wrong(Error),
     /// Memory was refused.
-    #[error("no memory")]
+    #[error("out of memory")]
     Memory,
 }
 

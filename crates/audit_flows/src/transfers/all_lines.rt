@@ -1,5 +1,5 @@
 //! The lines of all clients, with one datagram more. Where none is kept of a client, only `open` notes anything; and after
-//! want of memory they may stand for no datagrams any more.
+//! being out of memory they may stand for no datagrams any more.
 
 ghost use Rattle.std.specs.Prelude.{◌≡◌, ◌≢◌, ◌≤◌, ◌∷◌, ℕ, List, [], true, Some, OnOk};
 ghost use Rattle.audit_flows.specs.Lines.{Recorded, is_between, Placed, live, line, clock, place_asked, AreLinesOf, IsRequestOf, seen_of, place_of_talk};

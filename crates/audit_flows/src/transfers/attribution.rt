@@ -139,7 +139,7 @@ impl Attribution {
     }
 
     /// Where the next datagram of the recording belongs, and what it makes doubtful. Times are in nanoseconds; `is_spelled` says whether the payload
-    /// spells a request from its first byte to its last. Once memory was wanting, it is wanting for good.
+    /// spells a request from its first byte to its last. Once memory ran out, that is answered for good.
     pub fn feed(
         &mut self,
         alloc: Global,

@@ -20,7 +20,7 @@ use Rattle.audit_recording.specs.Judges.Points.{points_of}
 
 -- ---- one transfer
 
--- The judges of a transfer, each where it is judged; or memory was wanting for a datagram.
+-- The judges of a transfer, each where it is judged; or memory ran out for a datagram.
 pub record Judges : Type 0 where
   pub client : Option Client
   pub server : Option View
@@ -90,7 +90,7 @@ pub record AreTold (v : Verdicts) (points : Points) : Type 0 where
   pub server : is_some v.server ≡ points.server
   pub between : is_some v.between ≡ points.between
 
--- at each point it is that memory was wanting
+-- at each point it is that memory ran out
 pub record AreWants (j : Judges) (v : Verdicts) : Type 0 where
   pub client : IfSome v.client (λ said. said ≡ Err (Memory (fed_at_client j.client)))
   pub server : IfSome v.server (λ said. said ≡ Err (Memory (fed_at_server j.server)))
@@ -140,7 +140,7 @@ IsKept judging name out all fed n (Some w) = (opened n all ≡ Some w.transfer) 
 abbrev pub AreKept : BTreeMap ℕ Watched → Judging → Naming → List ℕ → List Placed → List Placed → Type 0
 AreKept watched judging name out all fed = (n : ℕ) → IsKept judging name out all fed n (get nat_cmp watched n)
 
--- What the judge of a recording keeps: what places the datagrams, the transfers by their numbers, whether memory was wanting
+-- What the judge of a recording keeps: what places the datagrams, the transfers by their numbers, whether memory ran out
 -- for a datagram, and where transfers are to be judged.
 pub record RecordingJudge : Type 0 where
   pub attribution : Attribution

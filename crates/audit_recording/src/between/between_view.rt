@@ -138,7 +138,7 @@ impl<D: Delivered + Drop> BetweenView<D> {
         }
     }
 
-    /// What a datagram was refused for, or that memory was wanting for one, where it is known by now: what `finish` will
+    /// What a datagram was refused for, or that memory ran out for one, where it is known by now: what `finish` will
     /// answer. It is none where the client is the server too.
     pub fn refused(&self) -> Option<TapRefusal>
         ensures { result ≡ has_refused self.now }

@@ -107,7 +107,7 @@ impl<D: Delivered + Drop> SidesJudge<D> {
         }
     }
 
-    /// What the judge refused a datagram for, or that memory was wanting for one.
+    /// What the judge refused a datagram for, or that memory ran out for one.
     pub fn refused(&self) -> Option<TapRefusal>
         ensures { result ≡ refused_by self.now }
     {

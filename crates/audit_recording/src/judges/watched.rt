@@ -127,7 +127,7 @@ impl<D: Delivered + Drop> Watched<D> {
     }
 
     /// What there is to say of all that was fed, at each point where it is judged: of each end's view the verdict of the text
-    /// that has just it, and of what passed between two ends that of all of it; or want of memory. Of a client that asked
+    /// that has just it, and of what passed between two ends that of all of it; or being out of memory. Of a client that asked
     /// itself nothing is said between the ends but how many datagrams there are.
     pub fn finish(self, alloc: Global) -> Verdicts
         ensures client { (judging : JudgingKind) (x : Transfer) (name : Naming) (whole : List Placed) → IsWatching self judging x name whole

@@ -75,7 +75,7 @@ impl Said {
         matches!(self, Said::Refused(Rule::Port(PortRule::BadAnswer), _))
     }
 
-    /// The exit status that a program has which says it: 0 where it is accepted, 2 where memory was wanting, and else 1.
+    /// The exit status that a program has which says it: 0 where it is accepted, 2 where memory ran out, and else 1.
     pub fn status(&self) -> u8
         ensures { result ≡ status_of self.now }
     {

@@ -14,7 +14,7 @@ pub enum ReadFault {
     #[error("{0}")]
     Format(FaultKind),
     /// Memory was refused.
-    #[error("no memory")]
+    #[error("out of memory")]
     Memory,
     /// It has more datagrams than can be counted.
     #[error("too many datagrams")]

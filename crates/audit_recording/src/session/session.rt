@@ -75,7 +75,7 @@ impl Session {
         }
     }
 
-    /// The recording is read no further. What was read before is told, unless memory was wanting.
+    /// The recording is read no further. What was read before is told, unless memory ran out.
     fn stop(&mut self, fault: PcapFault) -> Result<bool, ReadFault> {
         if let FaultKind::Memory = fault.kind {
             return Err(ReadFault::Memory);

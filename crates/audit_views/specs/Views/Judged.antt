@@ -39,6 +39,6 @@ pub record IsJudged (h : Header) (given : List Datagram) (said : Result Meaning 
   pub verdict : IsVerdict h (reverse given) said
   pub text : AreWritten h given → IsTextVerdict (text_with_hosts h (reverse given)) (of_text said)
 
--- unless memory was wanting
+-- unless memory ran out
 abbrev pub IsJudgedWith : Header → List Datagram → Result Meaning Refusal → Type 0
 IsJudgedWith h given said = IsSaid said → IsJudged h given said

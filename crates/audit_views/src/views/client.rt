@@ -103,14 +103,14 @@ impl<D: Delivered + Drop> ClientJudge<D> {
         self.judge.fed()
     }
 
-    /// What a datagram of the client's view was refused for, or that memory was wanting for one: what `finish` will answer.
+    /// What a datagram of the client's view was refused for, or that memory ran out for one: what `finish` will answer.
     pub fn refused(&self) -> Option<Refusal>
         ensures { result ≡ self.now.end.judge.refused }
     {
         self.judge.refused()
     }
 
-    /// What there is to say of the client's view: the verdict of the text that has just it, or want of memory.
+    /// What there is to say of the client's view: the verdict of the text that has just it, or being out of memory.
     pub fn finish(self, alloc: Global) -> Result<Meaning, Refusal>
         ensures judged { (name : Naming) (placed : List Placed) → IsClientAfter self name placed
             → IsJudgedWith (client_header self.transfer) (client_capture name self.transfer placed) result }

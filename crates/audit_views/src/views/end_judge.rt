@@ -102,14 +102,14 @@ impl<D: Delivered + Drop> EndJudge<D> {
         self.judge.fed()
     }
 
-    /// What it refused a datagram for, or that memory was wanting for one, which it will answer in the end.
+    /// What it refused a datagram for, or that memory ran out for one, which it will answer in the end.
     pub fn refused(&self) -> Option<Refusal>
         ensures { result ≡ self.now.judge.refused }
     {
         self.judge.refused()
     }
 
-    /// What there is to say of all that it was given: the verdict of the text that has just them, or want of memory. That
+    /// What there is to say of all that it was given: the verdict of the text that has just them, or being out of memory. That
     /// comes for the datagram that it was wanting for, or of a whole transfer whose store takes memory to join the blocks.
     pub fn finish(self, alloc: Global) -> Result<Meaning, Refusal>
         ensures judged { (h : HeaderParts) (given : List DatagramParts) → HasJudged self.judge h given → IsJudgedWith h given result }

@@ -129,7 +129,7 @@ impl<D: Delivered + Drop> ServerJudge<D> {
         self.judge.fed()
     }
 
-    /// What a datagram of the server's view was refused for, or that memory was wanting for one: what `finish` will answer.
+    /// What a datagram of the server's view was refused for, or that memory ran out for one: what `finish` will answer.
     pub fn refused(&self) -> Option<Refusal>
         ensures { result ≡ self.now.end.judge.refused }
     {

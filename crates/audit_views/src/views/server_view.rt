@@ -129,7 +129,7 @@ impl<D: Delivered + Drop> ServerView<D> {
         }
     }
 
-    /// What a datagram of the server's view was refused for, or that memory was wanting for one, where it is known by now:
+    /// What a datagram of the server's view was refused for, or that memory ran out for one, where it is known by now:
     /// what `finish` will answer.
     pub fn refused(&self) -> Option<Refusal>
         ensures { result ≡ has_refused self.now }

@@ -64,7 +64,7 @@ IsTextFault (Err (Capture (Text line fault))) = Unit {0}
 IsTextFault (Err (Capture (Read line))) = ⊥
 IsTextFault (Err (Capture (Memory line))) = ⊥
 
--- What is said is not said of the text, for memory was wanting or a read failed; or it is a fault before all datagrams.
+-- What is said is not said of the text, for memory ran out or a read failed; or it is a fault before all datagrams.
 abbrev pub IsStopped : Option (List ℕ) → Result Meaning Verdict → Type 0
 IsStopped before r = IsOfText r → IsTextFault r × ((text : List ℕ) → before ≡ Some text → (h : Header) (ds : List Numbered) → Begins text h ds → ds ≡ [])
 

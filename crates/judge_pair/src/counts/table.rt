@@ -54,7 +54,7 @@ impl Table {
         Some(count)
     }
 
-    /// Counts a packet once more. None where memory is wanting, or where it passed 2^64 times; then the table is of no use.
+    /// Counts a packet once more. None where memory runs out, or where it passed 2^64 times; then the table is of no use.
     pub fn note(&mut self, packet: usize) -> Option<()>
         requires { packet < 262144 }
         ensures counted { OnSome result ((other : ℕ) → slice_index_or self.new other 0 ≡ slice_index_or self.old other 0 + (if packet == other then 1 else 0)) }

@@ -17,7 +17,7 @@ pub struct Matched {
     pub client_why: Option<Wait>,
     /// Why the server's datagram behind the matched ones waits; None where no lawful one is left.
     pub server_why: Option<Wait>,
-    /// How often each packet passed at the client, as far as its datagrams are lawful; None where memory was wanting to count it.
+    /// How often each packet passed at the client, as far as its datagrams are lawful; None where memory ran out to count it.
     pub client_counts: Option<Counts>,
     /// How often each passed at the server.
     pub server_counts: Option<Counts>,

@@ -29,7 +29,7 @@ pub struct Side<D: Delivered + Drop> {
     waits: bool,
     /// The datagram that waits, or memory for one.
     kept: Datagram,
-    /// How often each packet passed; none once memory was wanting for it.
+    /// How often each packet passed; none once memory ran out for it.
     counts: Option<Counts>,
 }
 
@@ -93,7 +93,7 @@ impl<D: Delivered + Drop> Side<D> {
         self.judge.fed().saturating_sub(u64::from(self.waits))
     }
 
-    /// The judge of this end, and how often each packet passed; None once memory was wanting for that.
+    /// The judge of this end, and how often each packet passed; None once memory ran out for that.
     pub fn into_parts(self) -> (Judge<D>, Option<Counts>)
         ensures judge { result.0 ≡ self.judge }
         ensures counts { result.1 ≡ self.counts }
@@ -182,7 +182,7 @@ impl<D: Delivered + Drop> Side<D> {
         self.counts = Counts::note(counts, datagram.dir, datagram.payload.as_slice());
     }
 
-    /// What the network lost and repeated of what this end and the other have sent each other; None once memory was wanting for
+    /// What the network lost and repeated of what this end and the other have sent each other; None once memory ran out for
     /// that.
     pub fn carried(&self, other: &Self) -> Option<Carried>
         ensures none { (h k : HeaderParts) (read other_read : List DatagramParts) → IsSideAfter self.now h read → IsSideAfter other.now k other_read

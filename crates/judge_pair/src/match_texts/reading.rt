@@ -18,7 +18,7 @@ pub enum Halt {
     Ended,
     /// Its last datagram was refused.
     Refused,
-    /// It has a fault, or a read failed, or memory was wanting.
+    /// It has a fault, or a read failed, or memory ran out.
     Fault(CaptureFault),
 }
 

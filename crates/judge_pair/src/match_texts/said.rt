@@ -12,7 +12,7 @@ use tftp_packet::End;
 pub enum Apart {
     /// The text of this end names the other one.
     WrongEnd(End),
-    /// A text has a fault before all datagrams, or a read failed, or memory was wanting: what is said of the text says which.
+    /// A text has a fault before all datagrams, or a read failed, or memory ran out: what is said of the text says which.
     Stopped,
 }
 

@@ -68,7 +68,7 @@ pub record EventState : Type 0 where
   pub sent : Option Sent
   pub is_discarded : Bool
 
--- the reader of frames, the last packets, what waits, who makes the checksums of hosts, and the want of memory that ended
+-- the reader of frames, the last packets, what waits, who makes the checksums of hosts, and the end of memory that ended
 -- the reading
 pub record RecordingState : Type 0 where
   pub frames : ReaderState

@@ -170,7 +170,7 @@ fn answer<D: Delivered + Drop>(
 /// A datagram by its way, the port at the other side and its payload, and what is answered to it.
 type Row = ((Dir, u16, &'static [u8]), Result<(), Refusal>);
 
-/// Want of memory as the tests tell it, and any other answer.
+/// Being out of memory as the tests tell it, and any other answer.
 fn other(found: Result<(), Refusal>) -> Fail {
     match found {
         Err(Refusal::Memory(_)) => Fail::new("want of memory"),

@@ -139,12 +139,12 @@ fn each_read_fails_in_turn(rt: HostRuntime) -> Result<(), Fail> {
     each_fails(&rt, BLOCKS.as_bytes())
 }
 
-/// Whether memory is wanting on one of so many lines.
+/// Whether memory runs out on one of so many lines.
 fn wants_memory(found: Outcome, lines: u64) -> bool {
     matches!(found, Err(CaptureFault::Memory(line)) if 1 <= line && line <= lines)
 }
 
-/// Fails unless the text has that outcome, byte by byte, or memory is wanting on one of so many lines.
+/// Fails unless the text has that outcome, byte by byte, or memory runs out on one of so many lines.
 pub fn gives_or_wants(
     rt: &HostRuntime,
     text: &[u8],

@@ -53,7 +53,7 @@ pub fn with_line(
     changed(rt, whole, *number, line.as_slice())
 }
 
-/// With a growth refused the answer is the text's own, or want of memory on one of its lines.
+/// With a growth refused the answer is the text's own, or being out of memory on one of its lines.
 #[test]
 fn texts_with_a_growth_refused(rt: HostRuntime) -> Result<(), Fail> {
     let bad: &[u8] = b"tftp-capture 1\nend client\nservice 69\nout 1 2 0g\n";

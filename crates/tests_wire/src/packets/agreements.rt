@@ -29,7 +29,7 @@ fn has_numbers(agreed: &Agreed, (blksize, windowsize, timeout, tsize): Numbers) 
         && agreed.tsize() == tsize
 }
 
-/// Want of memory as the tests tell it, and any other fault.
+/// Being out of memory as the tests tell it, and any other fault.
 fn refused(fault: NegoFault) -> Fail {
     match fault {
         NegoFault::Memory => Fail::new("want of memory"),

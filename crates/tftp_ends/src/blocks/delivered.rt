@@ -113,7 +113,7 @@ pub trait Delivered: Sized {
         ensures count { IsPending (held self.now) result }
         ensures fewer { result < window self.now };
 
-    /// The blocks up to the front, joined. After want of memory the store is gone.
+    /// The blocks up to the front, joined. After being out of memory the store is gone.
     fn into_wire(self, alloc: Global) -> Result<Vec<u8>, AllocError>
         ensures joined { IfOk result (λ wire. (front : ℕ) → IsHeldFront (held self) front → IsJoin (held self) front wire.items) }
         ensures memory { OnErr result (join_takes (held self)) };

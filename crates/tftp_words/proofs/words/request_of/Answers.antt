@@ -2,7 +2,7 @@ use Rattle.std.proofs.Common.{◌≡◌, inl, inr}
 use Rattle.tftp_words.specs.declared.given.ReadFault.TheVariants as fault
 use Rattle.tftp_words.proofs.words.request_of.Goals as goal
 
--- want of memory is no other fault
+-- being out of memory is no other fault
 apart : fault.Unknown ≡ fault.Memory → ⊥
 apart e = cc
 

@@ -60,7 +60,7 @@ returns-in-Request-clause-finds g c = λ h earlier d at one kept is on dir paylo
     let named : h.named ≡ c.self.inside.header.named = ap (λ (x : Header). x.named) (sym at) ∙ sym (ap (λ (k : JudgeState). k.header.named) c.self.view_is) in
     began h earlier d c.self.inside.header.named (parts c.in-Request.asked) c.begin.new.self.transfer c.begin.result named one none routed other spells c.begin.ensures.begins c.begin.ensures.wanting
 
--- ---- want of memory
+-- ---- being out of memory
 
 pub returns-in_err-pass-clause-memory : goal.returns-in_err-pass-clause-memory
 returns-in_err-pass-clause-memory g c = λ h earlier d kept is on dir payload want.

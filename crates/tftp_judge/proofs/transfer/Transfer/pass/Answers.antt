@@ -64,7 +64,7 @@ returns-in-Data-clause-finds g c = λ h passed d after says.
     kind_finds h asked passed c.args.dir m right stays (IsTransferAfter c.pass_block.new.self h (d ∷ passed)) c.pass_block.result
     (block_finds h asked passed c.args.dir m (IsTransferAfter c.pass_block.new.self h (d ∷ passed)) c.pass_block.result kind (c.pass_block.ensures.finds h passed d after says right))
 
--- ---- want of memory
+-- ---- being out of memory
 
 pub returns-in-Error-clause-memory : goal.returns-in-Error-clause-memory
 returns-in-Error-clause-memory g c = λ h passed after is.
