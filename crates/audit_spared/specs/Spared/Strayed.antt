@@ -12,7 +12,7 @@ use Rattle.audit_spared.specs.Spared.Seen.{as_seen_by, at_client_of, is_with, Ha
 use Rattle.audit_spared.specs.Spared.Captures.{AreInOrder, comes_at, goes_from}
 use Rattle.audit_spared.specs.Spared.Spared.{AskersAreElsewhere, FollowOneAnother, HaveNoServicePort, HaveOwnNames, needs_doubt}
 
--- ---- a capture with strays; `strays` tells which datagrams they and the answers to them are
+-- ---- a capture with strays: `strays` tells which they are, and what answers them
 
 abbrev pub without_strays : (Recorded → Bool) → List Recorded → List Recorded
 without_strays strays passed = filter (λ d. not (strays d)) passed
@@ -41,14 +41,14 @@ pub record IsStrayedCapture (write : Address → List ℕ) (strays : Recorded �
   pub apart : AreStraysHere strays c capture
   pub steady : HasNoSilence capture
 
--- ---- the recording; `idle` tells what passes between captures
+-- ---- the recording: `idle` tells what passes between its captures
 
--- what passes at this client, but that
+-- what passes at this client and is not idle
 abbrev pub is_busy : (Recorded → Bool) → Endpoint → Recorded → Bool
 is_busy idle c d = if idle d then false else is_with c d
 
--- It says no request, nothing else passed at the client in the last 300 s, and it passes with no other of the clients: what comes
--- late, or is of a transfer that was asked for before the recording begins.
+-- It says no request, nothing but such passed at the client in the last 300 s, and it passes with no other of the clients: it may
+-- be late, or of a transfer that was asked for before the recording began.
 pub record IsIdle (idle : Recorded → Bool) (clients : List Endpoint) (c : Endpoint) (before : List Recorded) (d : Recorded) : Type 0 where
   pub plain : begins_request d.payload ≡ false
   pub alone : AllByRecursion (λ e. is_busy idle c e ≡ true → e.time + silence < d.time) before

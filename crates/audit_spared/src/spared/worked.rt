@@ -205,8 +205,8 @@ pub fn requests_must_not_come_late()
     ensures shared { is_shared (newest ack_again asked_late) (placed [] asked_late) ≡ true }
 {}
 
-/// And then no doubt of the program need be left: where a request to write comes late, the server's ACK of the block before is
-/// refused in the transfer that it opens, and is told as its fault.
+/// The program's own doubts are not enough there: a request to write comes late, and the server's ACK of the block before is refused
+/// in the transfer that this opens, without a doubt.
 pub fn late_requests_are_no_doubt_of_the_program()
     ensures meets { AreServed (IsServedCapture own_name) own_name service.address one_client (block_acked_again ∷ written_late) }
     ensures accused { IsAccusedAtServer own_name is_doubtful_at_server block_acked_again written_late }
