@@ -1,2 +1,3 @@
 pub mod Watching
 pub mod Keeping
+pub mod Finding

@@ -7,7 +7,7 @@ ghost use Rattle.net_streams.specs.{Standing};
 ghost use Rattle.net_udp.specs.Recording.{IsFateOf, StandsFor, Step, standing_of};
 ghost use Rattle.net_udp.specs.{Fate};
 ghost use Rattle.net_udp.specs.declared.recording.fate.Datagram.{Datagram};
-ghost use Rattle.audit_recording.specs.Audit.Audited.{AuditsAfter, GoesOn, IsAttributed, IsNoted, IsOf};
+ghost use Rattle.audit_recording.specs.Audit.Audited.{AuditsAfter, GoesOn, IsAttributed, IsGivenBy, IsNoted, IsOf};
 ghost use Rattle.audit_recording.specs.declared.audit.next.AuditFault.{AuditFault};
 ghost use Rattle.audit_recording.specs.declared.audit.next.NextFrame.{NextFrame};
 ghost use Rattle.audit_recording.specs.Audit.Sound.{IsSoundDatagram};
@@ -40,9 +40,16 @@ pub struct RecordingAudit<D: Delivered + Drop> {
 }
 
 impl<D: Delivered + Drop> Model for RecordingAudit<D> {
+    ghost use Rattle.std.specs.Coded.{codes};
+    ghost use Rattle.std_collections.specs.Layout.BTreeMap.{btree_map_code};
+    ghost use Rattle.std_collections.specs.Layout.BTreeSet.{btree_set_code};
+    ghost use Rattle.tftp_ends.specs.StatesKept.{sender_code, receiver_code};
+    ghost use Rattle.tftp_packet.specs.Owned.{options_code, parts_code};
     ghost use Rattle.audit_recording.specs.Audit.Audited.{RecordingAudit};
 
     ghost Value = { RecordingAudit };
+
+    ghost coded = { Prim.hlevel (codes, btree_map_code, btree_set_code, sender_code, receiver_code, options_code, parts_code) };
 
     ghost view = { λ a. record { judge = a.judge; last_time = a.last_time } };
 }
@@ -72,7 +79,7 @@ impl<D: Delivered + Drop> RecordingAudit<D> {
             → IsOf step event.now
             → IfOk result (λ found. MatchOption found
             (AuditsAfter self.new named out (step ∷ history) passed)
-            (λ a. (d : Recorded) × IsAttributed named passed d a
+            (λ a. (d : Recorded) × IsGivenBy event.now passed d × IsAttributed named passed d a
             × AuditsAfter self.new named out (step ∷ history) (d ∷ passed))) }
         ensures spare { OnErr result ((given : Datagram) × IsFateOf event.now.frame.parts event.now.likeness event.now.brought.outcome event.now.is_discarded (Fate.Datagram given)) }
         ensures full { result ≡ Err AttributionFault.TooMany → (self.old.judge.attribution.count + 1 ≡ 2 ^ 64) ⊎ AreCrowded self.old.judge.watched }
@@ -103,7 +110,7 @@ impl<D: Delivered + Drop> RecordingAudit<D> {
             → (taken : List ℕ)
             × Consumes (prepend_known recording.old.frames.pieces.ahead (R.remaining reader.old.0)) (prepend_known recording.new.frames.pieces.ahead (R.remaining reader.new.0)) taken
             × GoesOn (λ frames datagrams. StandsFor recording.new (bytes ++ taken) frames
-            × AuditsAfter self.new named out frames datagrams) named history passed result }
+            × AuditsAfter self.new named out frames datagrams) named history passed event.new result }
         ensures ends { result ≡ Ok NextFrame.End → standing_of recording.new ≡ Standing.Over }
         ensures stops { (fault : PcapFault) → result ≡ Err (AuditFault.Recording fault) → standing_of recording.new ≡ Standing.Failed fault }
         ensures fails { (fault : AttributionFault) → result ≡ Err (AuditFault.Judges fault) → self.new.judge.failed ≡ true }
@@ -121,7 +128,7 @@ impl<D: Delivered + Drop> RecordingAudit<D> {
         ensures stands { (named : List ℕ) (out : List ℕ) (history : List Step) (passed : List Recorded) (step : Step)
             → AuditsAfter self.old named out history passed
             → IsOf step event.now
-            → IsNoted (λ datagrams. AuditsAfter self.new named out (step ∷ history) datagrams) named passed result }
+            → IsNoted (λ datagrams. AuditsAfter self.new named out (step ∷ history) datagrams) named passed event.now result }
         ensures no_end { result ≢ Ok NextFrame.End }
         ensures no_stop { (fault : PcapFault) → result ≢ Err (AuditFault.Recording fault) }
         ensures fails { OnErr result (self.new.judge.failed ≡ true) }

@@ -30,9 +30,16 @@ pub struct RecordingJudge<D: Delivered + Drop> {
 }
 
 impl<D: Delivered + Drop> Model for RecordingJudge<D> {
+    ghost use Rattle.std.specs.Coded.{codes};
+    ghost use Rattle.std_collections.specs.Layout.BTreeMap.{btree_map_code};
+    ghost use Rattle.std_collections.specs.Layout.BTreeSet.{btree_set_code};
+    ghost use Rattle.tftp_ends.specs.StatesKept.{sender_code, receiver_code};
+    ghost use Rattle.tftp_packet.specs.Owned.{options_code, parts_code};
     ghost use Rattle.audit_recording.specs.Judges.Kept.{RecordingJudge};
 
     ghost Value = { RecordingJudge };
+
+    ghost coded = { Prim.hlevel (codes, btree_map_code, btree_set_code, sender_code, receiver_code, options_code, parts_code) };
 
     ghost view = { λ j. record { attribution = j.attribution; watched = j.watched; failed = j.failed; judging = j.judging } };
 }

@@ -1,7 +1,10 @@
-use Rattle.std.proofs.Common.{◌++◌, Bool, Ok, refl, subst}
-use Rattle.net_udp.specs.Recording.{StandsFor, Step, with_step}
-use Rattle.audit_recording.specs.Audit.{AuditsAfter}
-use Rattle.audit_recording.proofs.AuditLemmas.Taking.{noted_goes_on}
+use Rattle.std.proofs.Common.{arith, ◌≡◌, ◌++◌, ◌∷◌, ◌∙◌, ap, Bool, Ok, Result, sym, refl, subst}
+use Rattle.net_pcap.specs.{PcapFault}
+use Rattle.net_streams.specs.{Open}
+use Rattle.net_streams.specs.Streams.{standing_after}
+use Rattle.net_udp.specs.Recording.{StandsFor, Step, standing_of, with_step}
+use Rattle.audit_recording.specs.Audit.{AuditsAfter, IsOfEvent}
+use Rattle.audit_recording.proofs.AuditLemmas.Taking.{counted, noted_goes_on}
 use Rattle.audit_recording.proofs.audit.audit.RecordingAudit.next_into.Goals as goal
 
 pub returns-in-Ok-true-clause-continues : goal.returns-in-Ok-true-clause-continues
@@ -16,10 +19,25 @@ returns-in-Ok-true-clause-continues g c named out bytes history passed stands af
       sent = c.next_into.new.event.sent;
       is_discarded = c.next_into.new.event.is_discarded;
     } in
+    let whole = subst (λ (b : Bool). StandsFor c.next_into.new.self (bytes ++ read.taken) (with_step history (Ok b) c.next_into.new.event c.next_into.new.self.waiting read.came)) c.in-Ok-true.field-0-test read.stands in
+    let ok : Bool → Result Bool PcapFault = λ b. Ok b in
+    let opened : standing_of c.next_into.new.self ≡ Open =
+    c.in-Ok-true.ensures.standing ∙ ap (λ (b : Bool). standing_after (ok b)) c.in-Ok-true.field-0-test in
+    let read_on = ap ok c.in-Ok-true.field-0-test in
+    let number = c.in-Ok-true.ensures.number read_on ∙ sym (c.in-Ok-true.ensures.counts read_on)
+    ∙ counted c.next_into.new.self.refused c.next_into.new.self (bytes ++ read.taken) (step ∷ history) whole.1 opened in
+    let of : IsOfEvent step history c.next_into.new.event = record {
+      number = (let counted_so = number in omega arith);
+      frame = refl;
+      likeness = refl;
+      brought = refl;
+      sent = refl;
+      is_discarded = refl;
+    } in
     let noted = c.note.ensures.stands named out history passed step after (record { frame = refl; likeness = refl; outcome = refl; is_discarded = refl }) in (
       read.taken,
       read.consumed,
       noted_goes_on (StandsFor c.next_into.new.self (bytes ++ read.taken))
           (λ frames datagrams. AuditsAfter c.note.new.self named out frames datagrams)
-          named history passed step c.note.result (subst (λ (b : Bool). StandsFor c.next_into.new.self (bytes ++ read.taken) (with_step history (Ok b) c.next_into.new.event c.next_into.new.self.waiting read.came)) c.in-Ok-true.field-0-test read.stands) c.note.ensures.no_end c.note.ensures.no_stop noted,
+          named history passed step c.next_into.new.event c.note.result of whole c.note.ensures.no_end c.note.ensures.no_stop noted,
     )
