@@ -11,7 +11,7 @@ from collections.abc import Iterator
 from checks import Checks
 from programs import AUDIT, MATCH, TRANSFERS
 from repository import TOP
-from tftp_tools.crates import below
+from tftp_tools.crates import below, libraries_of
 from tftp_tools.rules import PACKET_FAULTS, Rule
 from tftp_tools.textfaults import MEANINGS
 
@@ -199,8 +199,7 @@ class Pages(Checks):
                     f"the clause {clause} of {name} in CONTRACTS.md", clause in self.sources.functions.get(name, set())
                 )
         for crate in re.findall(r"(?m)^### (\w+)$", text):
-            there = (TOP / "docs" / "contracts" / f"{crate}.md").exists()
-            self.check(f"the section on {crate} in CONTRACTS.md", there)
+            self.check(f"the section on {crate} in CONTRACTS.md", crate in libraries_of(TOP))
 
 
 class Shown(Checks):
