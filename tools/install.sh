@@ -87,6 +87,8 @@ put_all() {
     put 644 share/tftp-audit/schemas docs/schemas/*.json
     put 644 share/doc/tftp-audit README.md CHANGELOG.md SECURITY.md LICENSE LICENSE-MIT LICENSE-APACHE
     put 644 share/doc/tftp-audit/docs docs/*.md
+    # they are made of the sources, by make doc
+    [ -e docs/contracts/README.md ] || python3 tools/contracts >/dev/null
     put 644 share/doc/tftp-audit/docs/contracts docs/contracts/*.md
     put 644 share/doc/tftp-audit/examples examples/*
     put 644 share/bash-completion/completions share/completions/bash/*
