@@ -1,4 +1,4 @@
--- Frames for worked examples: the acknowledgement of the worked frames of tftp_frames, in two fragments, and recorded twice.
+-- Frames for worked examples: the acknowledgement of `Frames.Worked`, in two fragments, and recorded twice.
 use Rattle.std.specs.Prelude.{ℕ, Bool, List, [], ◌∷◌, ◌++◌, length, map, Option, Some, None, true, false}
 use Rattle.std.specs.Global.{Vec}
 use Rattle.net_udp.specs.Copies.{Packet as Recorded}
