@@ -6,6 +6,8 @@ from checks import Checks
 from programs import AUDIT, TOOLS, TRANSFERS
 
 CASES = 8
+# In these recordings a lawful end was once accused.
+ACCUSED_ONCE = (1558112239,)
 
 
 class Attributed(Checks):
@@ -14,5 +16,11 @@ class Attributed(Checks):
     needs = (AUDIT, TOOLS, TRANSFERS)
 
     def test_recordings(self) -> None:
-        programs = ["--places", TOOLS.path, "--transfers", TRANSFERS.path, AUDIT.path]
-        self.check_each(tried(words_of(["--cases", str(CASES), *programs])))
+        self.check_each(tried(words_of(["--cases", str(CASES), *self.programs()])))
+
+    def test_accused_once(self) -> None:
+        for seed in ACCUSED_ONCE:
+            self.check_each(tried(words_of(["--cases", "1", "--seed", str(seed), *self.programs()])))
+
+    def programs(self) -> list[str]:
+        return ["--places", TOOLS.path, "--transfers", TRANSFERS.path, AUDIT.path]

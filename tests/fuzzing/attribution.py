@@ -15,6 +15,8 @@ SILENCE = 300 * 10**9
 TFTP = 69
 ACK_0, DATA_1, ERROR_5 = b"\0\4\0\0", b"\0\3\0\1", b"\0\5\0\5"
 MODES = (b"octet", b"netascii", b"mail")
+# What may have been, where a request did not pass.
+UNSEEN = "its client may have asked again, by a request that did not pass here"
 
 
 class Endpoint(NamedTuple):
@@ -195,6 +197,11 @@ class Transfer:
         )
         return self.may_be_earlier(it) or agrees_late and self.rests_on_terms(it)
 
+    def follows_unknown_id(self, it: Datagram) -> bool:
+        """Whether an ERROR 5 had passed between its two ends."""
+        two, before = {it.source, it.target}, self.said[: self.stood.get(it.number, 0)]
+        return any(one.payload[:4] == ERROR_5 and {one.source, one.target} == two for one, _ in before)
+
     def tells_strays(self, it: Datagram) -> bool:
         """Whether it is an ERROR 5, or an ERROR after one."""
         before = any(one.payload[:4] == ERROR_5 for one in self.talked() if one.number < it.number)
@@ -211,6 +218,8 @@ class Transfer:
             told.append("its client did not go on with who first sent it something")
         if self.tells_strays(it):
             told.append("ERROR 5 may answer what came late")
+        if place == "between" and self.follows_unknown_id(it):
+            told.append(UNSEEN)
         if place == "server" and number in self.spoken_first:
             told.append("nothing had passed there between the two")
         if not self.is_answered and number != self.seen[0].number:

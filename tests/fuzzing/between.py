@@ -9,15 +9,13 @@ from collections.abc import Iterator, Sequence
 from typing import Literal, NamedTuple, Optional, Union
 
 from captures import EndName
-from fuzzing.attribution import Datagram, Endpoint, Transfer
+from fuzzing.attribution import UNSEEN, Datagram, Endpoint, Transfer
 from fuzzing.spelled import Ack, Data, Error, Fault, Message, Oack, Request, opcode_of, read
 from normal import KNOWN, USUAL_SIZE, Meaning, Options, Side, decoded
 from refusals import RULES, Rule
 
 MOST_BLOCKS = 65_535
 UNKNOWN_ID = 5
-# What a client may have done that sends something else than ERROR 5 to where a stray came from.
-UNSEEN = "its client may have asked again, by a request that did not pass here"
 Route = Literal["transfer", "stray", "answer", "1", "2", "3"]
 
 

@@ -13,7 +13,7 @@ from fuzzing.attribution import ERROR_5, Attribution, Datagram, Endpoint, Transf
 # The doubts of a transfer that tests_tools tells by name; of the others it tells `doubted`.
 WORDS = ("late", "disordered", "again", "apart")
 # What it tells of a datagram beside its place, and is compared.
-OF_DATAGRAMS = ("earlier", "terms")
+OF_DATAGRAMS = ("earlier", "terms", "anew")
 
 
 def row(it: Datagram) -> str:
@@ -24,7 +24,7 @@ def row(it: Datagram) -> str:
 
 def beside_of(one: Transfer, it: Datagram) -> tuple[str, ...]:
     """What is told of a datagram of a transfer, in these words."""
-    holds = (one.may_be_earlier(it), one.rests_on_terms(it))
+    holds = (one.may_be_earlier(it), one.rests_on_terms(it), one.follows_unknown_id(it))
     return tuple(word for word, is_so in zip(OF_DATAGRAMS, holds) if is_so)
 
 

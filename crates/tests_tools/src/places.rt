@@ -184,6 +184,7 @@ fn put_found(rt: HostRuntime, found: &Attributed) -> Result<()> {
     let doubts = &found.doubts;
     put_doubt(rt, doubts.may_be_earlier, "earlier")?;
     put_doubt(rt, doubts.rests_on_terms, "terms")?;
+    put_doubt(rt, doubts.follows_unknown_id, "anew")?;
     put_doubt(rt, doubts.is_late, "late")?;
     put_doubt(rt, doubts.is_disordered, "disordered")?;
     put_doubt(rt, doubts.is_asked_again, "again")?;

@@ -186,7 +186,7 @@ impl Judged {
         match (&view.said, &view.blamed) {
             (Said::Refused(_, _), Some(blamed)) => {
                 put_if(reasons, told.telling.depends_on_place(), Reason::Unplaced)?;
-                put_if(reasons, view.may_be_asked, Reason::Unseen)?;
+                put_if(reasons, is_unseen(told, blamed), Reason::Unseen)?;
                 put_if(
                     reasons,
                     matches!(view.point, Point::Server) && blamed.speaks_first,
@@ -298,6 +298,14 @@ impl Viewed {
     pub fn status(&self) -> u8 {
         self.said.status()
     }
+}
+
+/// Whether a request may have passed elsewhere that explains what is refused: between the ends alone, or where it is not known
+/// whether the recording was made there.
+fn is_unseen(told: &Told<'_>, blamed: &Blamed) -> bool {
+    let may_be_between = told.telling.between.is_some()
+        || matches!(told.view.point, Point::Between);
+    told.view.may_be_asked || (may_be_between && blamed.follows_unknown_id)
 }
 
 fn frame_of(blamed: &Option<Blamed>) -> Option<u64> {

@@ -62,6 +62,7 @@ repeated_stands old new times line d number x time now stands from is after time
           ∙ (λ i. chosen (sym ended.0 i && bytes_eq old.request.items e.payload && same_endpoint old.latest.asked e.target) (sym known.1 i) n e);
       talks = stands.talks;
       histories = λ o. history_same old.latest.client o p line (history_of (get endpoint_cmp old.talks o)) refl (stands.histories o);
+      unknown = stands.unknown;
       again = λ e that. alike_is old.latest.client old.latest.asked old.request.items d e from (sym (is_same old.latest.asked d.target both.1)) (sym ((bytes_eq-Decides old.request.items d.payload).0 ended.1)) that;
       went_on = stands.went_on;
       surely = stands.surely;

@@ -249,6 +249,21 @@ says_unknown_id p = by p.place where
   by (Talks x) = begins_unknown_id p.datagram.payload
   by _ = false
 
+-- the client and this endpoint say ERROR 5 by it, "Unknown transfer ID" (RFC 1350, section 5)
+abbrev pub is_unknown_talk : Endpoint → Endpoint → Placed → Bool
+is_unknown_talk c o q = by q.place where
+  by : Place → Bool
+  by (Talks y) = is_between c o q.datagram && begins_unknown_id q.datagram.payload
+  by _ = false
+
+-- An ERROR 5 had passed between its two ends by then: who sent that has begun anew with the other, it may be, by a request
+-- that did not pass where the recording was made.
+abbrev pub follows_unknown_id : Placed → List Placed → Bool
+follows_unknown_id p older = by p.place where
+  by : Place → Bool
+  by (Talks x) = list_any (is_unknown_talk x.client (other_of x.client p.datagram)) (line_before x.client p older)
+  by _ = false
+
 -- all that a datagram makes doubtful, after those before it
 abbrev pub doubts_of : Placed → List Placed → Doubts
 doubts_of p older = record {
@@ -263,6 +278,7 @@ doubts_of p older = record {
   comes_in = comes_in p older;
   goes_on_with_first = goes_on_with_first p older;
   speaks_first = speaks_first p older;
+  follows_unknown_id = follows_unknown_id p older;
   follows_strays = follows_strays p older;
   follows_unanswered = follows_unanswered p older;
 }

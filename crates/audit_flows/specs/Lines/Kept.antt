@@ -17,7 +17,7 @@ use Rattle.audit_flows.specs.declared.lines.history.History.{History}
 use Rattle.audit_flows.specs.declared.lines.history.Progress.{Progress}
 use Rattle.audit_flows.specs.Lines.Recording.{Recorded, same_endpoint, endpoint_cmp, asked_part, begins_request, begins_error, begins_oack, begins_packet, begins_unknown_id, refuses, same_address, is_ack, is_ack_0, is_block, is_data_1, is_answer, number_of, passes_in}
 use Rattle.audit_flows.specs.Lines.Places.{Placed, is_request, newest_of, clock, live, line, reach, latest_in, answered_in, opened_by, talk_in, place_asked}
-use Rattle.audit_flows.specs.Lines.Doubting.{acked_0_in, answers_surely, before_talk, is_talk, may_follow, says_more, is_alike_in, is_later}
+use Rattle.audit_flows.specs.Lines.Doubting.{acked_0_in, answers_surely, before_talk, is_talk, is_unknown_talk, may_follow, says_more, is_alike_in, is_later}
 
 -- what is looked at of a payload
 abbrev pub kind_of : List ℕ → Kind
@@ -104,6 +104,16 @@ abbrev pub history_of : Option Talked → Option History
 history_of None = None
 history_of (Some talked) = talked.history
 
+-- whether ERROR 5 has passed between the two
+abbrev pub unknown_of : Option Talked → Bool
+unknown_of None = false
+unknown_of (Some talked) = talked.says_unknown_id
+
+-- after a datagram of this transfer, or of none
+abbrev pub unknown_after : Option Transfer → Seen → Bool → Bool
+unknown_after None s before = before
+unknown_after (Some x) s before = s.kind.begins_unknown_id || before
+
 -- ---- a line
 
 -- where a request goes, by what the line keeps
@@ -124,6 +134,7 @@ pub record IsLineOf (l : Line) (line : List Placed) : Type 0 where
   pub asked : (number : ℕ) (d : Recorded) → d.source ≡ l.latest.client → place_asked number d line ≡ asked_by l number d
   pub talks : (o : Endpoint) → option_map (λ t. t.talk) (get endpoint_cmp l.talks o) ≡ talk_in l.latest.client o line
   pub histories : (o : Endpoint) → IsHistoryOf l.latest.client o line (history_of (get endpoint_cmp l.talks o))
+  pub unknown : (o : Endpoint) → list_any (is_unknown_talk l.latest.client o) line ≡ unknown_of (get endpoint_cmp l.talks o)
   pub again : (d : Recorded) → d.source ≡ l.latest.client
       → is_alike_in d (newest_of is_request line) ≡ (bytes_eq (asked_part l.request.items) (asked_part d.payload) && same_endpoint l.latest.asked d.target)
   pub went_on : list_any says_more (reach line) ≡ l.went_on

@@ -1,6 +1,6 @@
 -- When a refusal of a transfer is no accusation. Lists have the newest first; a transfer is known by its number.
 use Rattle.std.specs.Prelude.{ℕ, ◌==◌, ◌&&◌, ◌||◌, not, Bool, true, false, List, [], ◌∷◌, Option, Some, None}
-use Rattle.audit_flows.specs.Lines.{Placed, is_of, agrees_late, begins_error, begins_unknown_id, comes_in, follows_strays, follows_unanswered, goes_on_with_first, is_late, is_disordered, is_asked_again, is_sent_by_client, may_be_answer_of, may_be_earlier, rests_on_terms, says_unknown_id, speaks_first}
+use Rattle.audit_flows.specs.Lines.{Placed, is_of, agrees_late, begins_error, begins_unknown_id, comes_in, follows_strays, follows_unanswered, follows_unknown_id, goes_on_with_first, is_late, is_disordered, is_asked_again, is_sent_by_client, may_be_answer_of, may_be_earlier, rests_on_terms, says_unknown_id, speaks_first}
 use Rattle.audit_flows.specs.declared.lines.place.Place.{Place}
 use Rattle.audit_flows.specs.declared.lines.place.Place.TheVariants.{Beside}
 
@@ -62,6 +62,6 @@ abbrev pub is_doubtful_at_server : ℕ → List Placed → Placed → List Place
 is_doubtful_at_server n placed p older =
     is_doubtful n placed p older || speaks_first p older || (is_sent_by_client p && comes_of_earlier n p older)
 
--- Between its ends.
+-- Between its ends, where a request may not have passed too.
 abbrev pub is_doubtful_between : ℕ → List Placed → Placed → List Placed → Bool
-is_doubtful_between n placed p older = is_doubtful n placed p older || comes_of_earlier n p older
+is_doubtful_between n placed p older = is_doubtful n placed p older || comes_of_earlier n p older || follows_unknown_id p older

@@ -255,6 +255,29 @@ errors =
     ∷ requests 0 client service (codes "f")
     ∷ []
 
+-- The client tells ERROR 5 to a first answer, since it serves itself elsewhere; it asks again, which is not recorded, and goes
+-- on with that server after all.
+abbrev pub begun_anew : List Recorded
+begun_anew =
+    passes 6 client server (ack_of 2)
+    ∷ passes 5 server client (data_of 2)
+    ∷ passes 4 client server (ack_of 1)
+    ∷ passes 3 server client (data_of 1)
+    ∷ passes 2 client server (error_of 5)
+    ∷ passes 1 server client (data_of 1)
+    ∷ requests 0 client service (codes "f")
+    ∷ []
+
+-- It tells ERROR 5 to another than its server.
+abbrev pub told_another : List Recorded
+told_another =
+    passes 4 client server (ack_of 1)
+    ∷ passes 3 client next_server (error_of 5)
+    ∷ passes 2 next_server client (data_of 1)
+    ∷ passes 1 server client (data_of 1)
+    ∷ requests 0 client service (codes "f")
+    ∷ []
+
 -- OACK: blocks of 8 bytes
 abbrev pub oack : List ℕ
 oack = 0 ∷ 6 ∷ codes "blksize" ++ 0 ∷ codes "8" ++ 0 ∷ []

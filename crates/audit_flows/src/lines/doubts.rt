@@ -41,6 +41,8 @@ pub struct Doubts {
     pub goes_on_with_first: bool,
     /// Its client sent it to where nothing had passed between the two.
     pub speaks_first: bool,
+    /// ERROR 5, "Unknown transfer ID", had passed between its two ends (RFC 1350, section 5).
+    pub follows_unknown_id: bool,
     /// It opens the transfer where, in the last 300 s, something passed at its client's endpoint that is of no line, though it
     /// begins as a packet of TFTP does or went to port 69.
     pub follows_strays: bool,
@@ -52,7 +54,7 @@ pub struct Doubts {
 impl Doubts {
     /// Nothing is doubtful.
     pub fn none() -> Self
-        ensures { result ≡ record { may_be_earlier = false; agrees_late = false; rests_on_terms = false; says_unknown_id = false; is_late = false; is_disordered = false; is_asked_again = false; may_be_answer_of = None; comes_in = false; goes_on_with_first = false; speaks_first = false; follows_strays = false; follows_unanswered = false } }
+        ensures { result ≡ record { may_be_earlier = false; agrees_late = false; rests_on_terms = false; says_unknown_id = false; is_late = false; is_disordered = false; is_asked_again = false; may_be_answer_of = None; comes_in = false; goes_on_with_first = false; speaks_first = false; follows_unknown_id = false; follows_strays = false; follows_unanswered = false } }
     {
         Doubts {
             may_be_earlier: false,
@@ -66,6 +68,7 @@ impl Doubts {
             comes_in: false,
             goes_on_with_first: false,
             speaks_first: false,
+            follows_unknown_id: false,
             follows_strays: false,
             follows_unanswered: false,
         }
@@ -74,7 +77,7 @@ impl Doubts {
     /// What a datagram makes doubtful that opens a transfer where no line goes on, by whether it is older than one before it in
     /// the recording.
     pub fn of_first(is_disordered: bool, is_after_strays: bool) -> Self
-        ensures { result ≡ record { may_be_earlier = false; agrees_late = false; rests_on_terms = false; says_unknown_id = false; is_late = false; is_disordered = is_disordered; is_asked_again = false; may_be_answer_of = None; comes_in = false; goes_on_with_first = false; speaks_first = false; follows_strays = is_after_strays; follows_unanswered = false } }
+        ensures { result ≡ record { may_be_earlier = false; agrees_late = false; rests_on_terms = false; says_unknown_id = false; is_late = false; is_disordered = is_disordered; is_asked_again = false; may_be_answer_of = None; comes_in = false; goes_on_with_first = false; speaks_first = false; follows_unknown_id = false; follows_strays = is_after_strays; follows_unanswered = false } }
     {
         Doubts {
             is_disordered,
@@ -163,6 +166,7 @@ impl Line {
             comes_in: seen.target == transfer.client,
             goes_on_with_first: self.goes_on_with_first(transfer, seen),
             speaks_first: self.speaks_first(transfer, other, seen),
+            follows_unknown_id: self.has_told_unknown_id(other),
             follows_strays: false,
             follows_unanswered: false,
         }

@@ -4,7 +4,7 @@ ghost use Rattle.std.specs.Prelude.{◌≡◌, ◌≤◌, ◌+◌, [], ◌∷◌
 ghost use Rattle.std.specs.BTreeMap.{get, IsUnchanged};
 ghost use Rattle.audit_flows.specs.Lines.Recording.{Recorded, same_endpoint, is_between, endpoint_cmp};
 ghost use Rattle.audit_flows.specs.Lines.Places.{Placed, live, place_at, place_talked, place_asked, is_known_host, may_answer, silence};
-ghost use Rattle.audit_flows.specs.Lines.Kept.{IsLineOf, IsRequestOf, IsHistoryAfter, history_of, seen_of, place_of_talk, comes_to, refuses_to, surely_after, talk_after, ends_after, went_on_after, IsTimed, AreTimed};
+ghost use Rattle.audit_flows.specs.Lines.Kept.{IsLineOf, IsRequestOf, IsHistoryAfter, history_of, seen_of, place_of_talk, comes_to, refuses_to, surely_after, unknown_after, unknown_of, talk_after, ends_after, went_on_after, IsTimed, AreTimed};
 ghost use Rattle.audit_flows.specs.Lines.Doubting.{acked_0_in};
 ghost use Rattle.law_model.specs.Rules.{or_this};
 ghost use Rattle.audit_flows.specs.declared.lines.place.Place.{Place};
@@ -43,6 +43,8 @@ pub struct Talked {
     pub talk: Talk,
     /// How far their transfers came; none where they have none.
     pub history: Option<History>,
+    /// ERROR 5, "Unknown transfer ID", has passed between the two in one of these (RFC 1350, section 5).
+    pub says_unknown_id: bool,
 }
 
 /// What is kept of a line.
@@ -113,6 +115,16 @@ impl Line {
         match self.talks.get(&other) {
             None => None,
             Some(talked) => talked.history,
+        }
+    }
+
+    /// Whether ERROR 5 has passed between its client and this endpoint in one of their transfers.
+    pub(crate) fn has_told_unknown_id(&self, other: Endpoint) -> bool
+        ensures { result ≡ unknown_of (get endpoint_cmp self.now.talks other) }
+    {
+        match self.talks.get(&other) {
+            None => false,
+            Some(talked) => talked.says_unknown_id,
         }
     }
 
@@ -260,7 +272,14 @@ impl Line {
     {
         let talk = self.talk_after(other, talked, seen);
         let history = self.history_after(other, &talked, seen);
-        self.talks.insert(other, Talked { talk, history })?;
+        let told = self.has_told_unknown_id(other);
+        let says_unknown_id = unknown_after(&talked, seen, told);
+        let all = Talked {
+            talk,
+            history,
+            says_unknown_id,
+        };
+        self.talks.insert(other, all)?;
         note_talk(&mut self.newest, &talked, seen.time)?;
         self.went_on = went_on_after(&talked, seen, self.went_on);
         self.is_answered = self.surely_after(&talked, seen);
@@ -336,6 +355,16 @@ pub(crate) fn was_acked_0(talk: Option<Talk>) -> bool
     match talk {
         None => false,
         Some(talk) => talk.acked_0,
+    }
+}
+
+/// Whether ERROR 5 has passed between the two, after one datagram more that is no request.
+fn unknown_after(talked: &Option<Transfer>, seen: &Seen, told: bool) -> bool
+    ensures { result ≡ unknown_after talked.now seen.now told }
+{
+    match talked {
+        None => told,
+        Some(_) => seen.kind.begins_unknown_id || told,
     }
 }
 

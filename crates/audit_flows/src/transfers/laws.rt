@@ -22,6 +22,8 @@ ghost use Rattle.audit_flows.specs.Transfers.Worked.{
   one_port_agrees,
   one_port_window,
   errors,
+  begun_anew,
+  told_another,
   doubtful_in,
   earlier_words,
   two_clients,
@@ -132,6 +134,16 @@ pub fn what_may_be_late_is_a_doubt_at_its_target()
 /// An ERROR 5 is no end of a transfer, nor may be an ERROR behind it.
 pub fn an_error_5_ends_nothing()
     ensures { doubtful_in is_doubtful 0 errors ≡ true ∷ true ∷ false ∷ false ∷ false ∷ false ∷ [] }
+{}
+
+/// Between the ends who told ERROR 5 may have begun anew with the same other end, by a request that did not pass there. At an end
+/// that request would be there; and what passes with others is not doubtful by it.
+pub fn between_the_ends_who_told_error_5_may_begin_anew()
+    ensures between { doubtful_in is_doubtful_between 0 begun_anew
+        ≡ true ∷ true ∷ true ∷ true ∷ true ∷ false ∷ false ∷ [] }
+    ensures at_client { doubtful_in is_doubtful_at_client 0 begun_anew
+        ≡ false ∷ false ∷ false ∷ false ∷ true ∷ false ∷ false ∷ [] }
+    ensures another { doubtful_in is_doubtful_between 0 told_another ≡ false ∷ true ∷ false ∷ false ∷ false ∷ [] }
 {}
 
 /// An OACK may be late too: then all that may rest on it is doubtful at the client, by that alone.

@@ -2,7 +2,7 @@ use Rattle.std.proofs.Common.{◌≡◌, false, List, Some, None, option_map, re
 use Rattle.std.specs.BTreeMap.{get}
 use Rattle.std.specs.List.{list_any}
 use Rattle.std.specs.Ordering.{nat_cmp}
-use Rattle.audit_flows.specs.Lines.{Placed, before_talk, begins_oack, history_of, may_be_earlier, may_follow, same_endpoint, endpoint_cmp, other_of, other_end, live, line, may_answer, talk_in, is_another, is_past, is_the_one, acked_0_in, answer_of, answered_last, IsLineOf}
+use Rattle.audit_flows.specs.Lines.{Placed, before_talk, begins_oack, history_of, may_be_earlier, may_follow, same_endpoint, endpoint_cmp, other_of, other_end, live, line, may_answer, talk_in, is_another, is_past, is_the_one, is_unknown_talk, acked_0_in, answer_of, answered_last, IsLineOf}
 use Rattle.audit_flows.specs.declared.lines.line.Line.{Line}
 use Rattle.audit_flows.specs.declared.lines.place.Place.TheVariants.{Talks}
 use Rattle.audit_flows.specs.declared.lines.place.Transfer.{Transfer}
@@ -42,6 +42,8 @@ returns c d now older client stands seen =
       goes_on_with_first = (c.goes_on_with_first.ensures
           ∙ (λ j. (same_endpoint (seen j).source c.args.transfer.now.client && not (seen j).kind.begins_unknown_id) && not (is_another c.args.transfer.now (sym stands.latest j)) && is_the_one (seen j).target (last_by before l stands j))) i;
       speaks_first = (c.speaks_first.ensures ∙ (λ j. same_endpoint (seen j).source c.args.transfer.now.client && not (is_some (talk j)))) i;
+      follows_unknown_id = (c.has_told_unknown_id.ensures ∙ sym (stands.unknown c.other_end-other.result)
+          ∙ (λ j. list_any (is_unknown_talk (client j) (other j)) (live now (line c.args.transfer.now.client older)))) i;
       follows_strays = false;
       follows_unanswered = false;
     }

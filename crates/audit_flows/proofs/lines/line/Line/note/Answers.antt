@@ -1,21 +1,21 @@
 use Rattle.std.proofs.Common.{cond, option_map, refl, sym, ap, subst, ◌∙◌, Option, Some}
 use Rattle.std.specs.BTreeMap.{get}
 use Rattle.std.specs.Ordering.{is_eq}
-use Rattle.audit_flows.specs.Lines.{endpoint_cmp, history_of, seen_of, comes_to, surely_after, talk_after, went_on_after, AreTimed}
+use Rattle.audit_flows.specs.Lines.{endpoint_cmp, history_of, seen_of, comes_to, surely_after, talk_after, unknown_after, unknown_of, went_on_after, AreTimed}
 use Rattle.audit_flows.specs.declared.lines.history.History.{History}
 use Rattle.audit_flows.specs.declared.lines.line.Talked.{Talked}
 use Rattle.law_model.specs.Rules.{or_this}
 use Rattle.audit_flows.specs.Lines.Kept.{IsHistoryAfter}
 use Rattle.audit_flows.proofs.LinesLemmas.Endpoints.{same_by_order, same_itself}
-use Rattle.audit_flows.proofs.LinesLemmas.Noted.{cond_history, cond_talk, note_stands}
+use Rattle.audit_flows.proofs.LinesLemmas.Noted.{cond_history, cond_talk, cond_unknown, note_stands}
 use Rattle.audit_flows.proofs.lines.line.Line.note.Goals as goal
 
 pub returns-clause-stands : goal.returns-clause-stands
 returns-clause-stands c line d stands seen between =
-    let talked : Talked = record { talk = c.talk_after-talk.result; history = c.history_after-history.result } in
+    let talked : Talked = record { talk = c.talk_after-talk.result; history = c.history_after-history.result; says_unknown_id = c.unknown_after-says_unknown_id.result } in
     let here =
     ap history_of (c.in_ok-insert.ensures.updates.0 c.args.other)
-    ∙ cond_history (is_eq (endpoint_cmp c.args.other c.args.other)) (record { talk = c.talk_after-talk.result; history = c.history_after-history.result }) (get endpoint_cmp c.args.self.now.talks c.args.other)
+    ∙ cond_history (is_eq (endpoint_cmp c.args.other c.args.other)) (record { talk = c.talk_after-talk.result; history = c.history_after-history.result; says_unknown_id = c.unknown_after-says_unknown_id.result }) (get endpoint_cmp c.args.self.now.talks c.args.other)
     ∙ ap (λ b. cond b c.history_after-history.result (history_of (get endpoint_cmp c.args.self.now.talks c.args.other))) (same_by_order c.args.other c.args.other ∙ same_itself c.args.other) in
     note_stands _ _ c.args.other c.args.talked d c.args.now line (record {
       latest = refl;
@@ -32,6 +32,11 @@ returns-clause-stands c line d stands seen between =
           ∙ ap (λ h. cond (is_eq (endpoint_cmp c.args.other q)) h (history_of (get endpoint_cmp c.args.self.now.talks q))) (sym here);
       history = subst (λ (h : Option History). IsHistoryAfter (history_of (get endpoint_cmp c.args.self.now.talks c.args.other)) h c.args.talked (seen_of d).kind.number) (sym here)
           (subst (λ s. IsHistoryAfter (history_of (get endpoint_cmp c.args.self.now.talks c.args.other)) c.history_after-history.result c.args.talked s.kind.number) seen c.history_after-history.ensures);
+      unknowns = λ q. ap unknown_of (c.in_ok-insert.ensures.updates.0 q)
+          ∙ cond_unknown (is_eq (endpoint_cmp c.args.other q)) talked (get endpoint_cmp c.args.self.now.talks q)
+          ∙ ap (λ b. cond (is_eq (endpoint_cmp c.args.other q)) b (unknown_of (get endpoint_cmp c.args.self.now.talks q)))
+          (c.unknown_after-says_unknown_id.ensures
+          ∙ (λ i. unknown_after c.args.talked (seen i) (c.has_told_unknown_id-told.ensures i)));
       went_on = c.went_on_after-self.ensures ∙ ap (λ s. went_on_after c.args.talked s c.args.self.now.went_on) seen;
       surely = c.surely_after-self.ensures ∙ ap (λ s. surely_after c.args.self.now.latest.number c.args.talked s c.args.self.now.is_answered) seen;
       newest = subst (λ s. AreTimed c.args.self.now.newest c.note_talk.new.newest c.args.talked s.time) seen c.in_ok-note_talk.ensures;
