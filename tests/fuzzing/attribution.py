@@ -126,6 +126,8 @@ class Transfer:
     # whether the client went on with who first sent it something, and those that it sent to where nothing had passed
     is_followed: bool = False
     spoken_first: set[int] = field(default_factory=set)
+    # what may be its client's first word to an answer that came before the recording began
+    first_words: set[int] = field(default_factory=set)
     # what its client and others said to each other in the line, and how much of that stood before each of its datagrams
     said: list[tuple[Datagram, Transfer]] = field(default_factory=list)
     stood: dict[int, int] = field(default_factory=dict)
@@ -202,6 +204,10 @@ class Transfer:
         two, before = {it.source, it.target}, self.said[: self.stood.get(it.number, 0)]
         return any(one.payload[:4] == ERROR_5 and {one.source, one.target} == two for one, _ in before)
 
+    def says_first(self, it: Datagram) -> bool:
+        """Whether a client may say this first to who has answered it."""
+        return passes_in(self.writes(), True, it.payload) and number_of(it.payload) <= 1
+
     def tells_strays(self, it: Datagram) -> bool:
         """Whether it is an ERROR 5, or an ERROR after one."""
         before = any(one.payload[:4] == ERROR_5 for one in self.talked() if one.number < it.number)
@@ -220,6 +226,8 @@ class Transfer:
             told.append("ERROR 5 may answer what came late")
         if place == "between" and self.follows_unknown_id(it):
             told.append(UNSEEN)
+        if any(at <= number for at in self.first_words):
+            told.append("its client spoke before anything came to it: the recording began later, it may be")
         if place == "server" and number in self.spoken_first:
             told.append("nothing had passed there between the two")
         if not self.is_answered and number != self.seen[0].number:
@@ -254,10 +262,16 @@ class Line:
     request: Datagram
     ends_in_request: bool = True
     only_asked: bool = True
+    # with whom something else than requests and ERRORs passed
+    spoken: set[Endpoint] = field(default_factory=set)
     # whether the latest request was answered for sure
     is_answered: bool = False
     talks: dict[Endpoint, Talk] = field(default_factory=dict)
     said: list[tuple[Datagram, Transfer]] = field(default_factory=list)
+
+    def note_word(self, other: Endpoint, it: Datagram) -> None:
+        if not begins(it.payload, 5):
+            self.spoken.add(other)
 
 
 class Found(NamedTuple):
@@ -375,6 +389,7 @@ class Attribution:
             return None
         line, other = apart[0]
         line.talks.setdefault(other, Talk(None))
+        line.note_word(other, it)
         line.moment = self.clock
         if other == it.target:
             line.talks[other].acked_0 = it.payload == ACK_0
@@ -400,6 +415,9 @@ class Attribution:
             return None
         if it.source == client and other not in line.talks:
             one.spoken_first.add(it.number)
+        if it.source == client and line.only_asked and other not in line.spoken and one.says_first(it):
+            one.first_words.add(it.number)
+        line.note_word(other, it)
         one.said, one.stood[it.number] = line.said, len(line.said)
         line.said.append((it, one))
         line.talks[other], line.moment, line.ends_in_request = talk, self.clock, False

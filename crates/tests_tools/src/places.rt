@@ -124,6 +124,7 @@ impl Listing {
             print!(rt; "transfer {}", transfer.number())?;
             put_doubt(rt, transfer.agrees_late(), "agrees")?;
             put_doubt(rt, transfer.says_unknown_id(), "unknown")?;
+            put_doubt(rt, transfer.says_first_word(), "first")?;
             put_doubt(rt, transfer.is_late(), "late")?;
             put_doubt(rt, transfer.is_disordered(), "disordered")?;
             put_doubt(rt, transfer.is_asked_again(), "again")?;

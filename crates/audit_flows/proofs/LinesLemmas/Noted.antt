@@ -1,11 +1,11 @@
 -- A line after one datagram more that is no request.
-use Rattle.std.proofs.Common.{◌≡◌, ℕ, Bool, true, false, List, [], ◌∷◌, Option, Some, None, cond, refl, sym, ap, subst, ◌∙◌, ◌==◌, ◌&&◌, ◌||◌, nat_lt, option_map, if◌then◌else◌}
+use Rattle.std.proofs.Common.{◌≡◌, ℕ, Bool, true, false, List, [], ◌∷◌, Option, Some, None, cond, refl, sym, ap, subst, ◌∙◌, ◌==◌, ◌&&◌, ◌||◌, not, nat_lt, option_map, if◌then◌else◌}
 use Rattle.std.specs.List.{list_any}
 use Rattle.std.specs.Str.{bytes_eq}
 use Rattle.std.specs.BTreeMap.{get, BTreeMap}
 use Rattle.std.specs.Ordering.{is_eq, nat_cmp}
 use Rattle.law_model.specs.Rules.{or_this}
-use Rattle.audit_flows.specs.Lines.{Recorded, same_endpoint, endpoint_cmp, is_between, Placed, opens, is_request, newest_of, latest_in, reach, answers, answered_in, talked_of, talk_in, place_asked, IsLineOf, seen_of, asked_by, history_of, opened_by, place_of_talk, comes_to, surely_after, talk_after, ends_after, went_on_after, AreTimed, is_past, is_unknown_talk, unknown_after, unknown_of, answers_surely, asked_part, says_more, is_alike_in, is_later}
+use Rattle.audit_flows.specs.Lines.{Recorded, same_endpoint, endpoint_cmp, is_between, Placed, opens, is_request, newest_of, latest_in, reach, answers, answered_in, talked_of, talk_in, place_asked, IsLineOf, seen_of, asked_by, history_of, opened_by, place_of_talk, comes_to, surely_after, talk_after, ends_after, went_on_after, AreTimed, is_past, is_unknown_talk, is_word, spoken_after, spoken_of, unknown_after, unknown_of, answers_surely, asked_part, says_more, is_alike_in, is_later}
 use Rattle.audit_flows.specs.declared.lines.endpoint.Endpoint.{Endpoint}
 use Rattle.audit_flows.specs.declared.lines.place.Place.TheVariants.{Repeats}
 use Rattle.audit_flows.specs.declared.lines.place.Transfer.{Transfer}
@@ -67,6 +67,8 @@ pub record IsNoted (old new : Line) (o : Endpoint) (talked : Option Transfer) (d
   pub history : IsHistoryAfter (history_of (get endpoint_cmp old.talks o)) (history_of (get endpoint_cmp new.talks o)) talked (seen_of d).kind.number
   pub unknowns : (q : Endpoint) → unknown_of (get endpoint_cmp new.talks q)
       ≡ cond (is_eq (endpoint_cmp o q)) (unknown_after talked (seen_of d) (unknown_of (get endpoint_cmp old.talks o))) (unknown_of (get endpoint_cmp old.talks q))
+  pub spoken : (q : Endpoint) → spoken_of (get endpoint_cmp new.talks q)
+      ≡ cond (is_eq (endpoint_cmp o q)) (spoken_after (seen_of d) (spoken_of (get endpoint_cmp old.talks o))) (spoken_of (get endpoint_cmp old.talks q))
   pub went_on : new.went_on ≡ went_on_after talked (seen_of d) old.went_on
   pub surely : new.is_answered ≡ surely_after old.latest.number talked (seen_of d) old.is_answered
   pub newest : AreTimed old.newest new.newest talked d.time
@@ -147,6 +149,36 @@ unknowns_after old new o talked d now line noted between stands q =
     ∙ stands.unknown q
     ∙ sym (kept ∙ ap (λ b. cond b (unknown_after talked (seen_of d) (unknown_of (get endpoint_cmp old.talks o))) (unknown_of (get endpoint_cmp old.talks q))) off))
 
+pub cond_spoken : (b : Bool) (new : Talked) (old : Option Talked) → spoken_of (cond b (Some new) old) ≡ cond b new.has_spoken (spoken_of old)
+cond_spoken true new old = refl
+cond_spoken false new old = refl
+
+word_here : (c o : Endpoint) (talked : Option Transfer) (d : Recorded) (now : ℕ) (before : Bool) → is_between c o d ≡ true
+    → (is_word c o (talk_placed c d now talked) || before) ≡ spoken_after (seen_of d) before
+word_here c o None d now before between = rw between refl
+word_here c o (Some x) d now before between = rw between refl
+
+word_apart : (c o q : Endpoint) (talked : Option Transfer) (d : Recorded) (now : ℕ) → is_between c o d ≡ true → same_endpoint o q ≡ false → is_word c q (talk_placed c d now talked) ≡ false
+word_apart c o q None d now between other = rw (not_between c o q d between other) refl
+word_apart c o q (Some x) d now between other = rw (not_between c o q d between other) refl
+
+spoken_since : (old new : Line) (o : Endpoint) (talked : Option Transfer) (d : Recorded) (now : ℕ) (line : List Placed) → IsNoted old new o talked d now
+    → is_between old.latest.client o d ≡ true → IsLineOf old line → (q : Endpoint)
+    → list_any (is_word old.latest.client q) (talk_placed old.latest.client d now talked ∷ line) ≡ spoken_of (get endpoint_cmp new.talks q)
+spoken_since old new o talked d now line noted between stands q =
+    let c : Endpoint = old.latest.client in
+    let p : Placed = talk_placed old.latest.client d now talked in
+    let kept : spoken_of (get endpoint_cmp new.talks q) ≡ cond (same_endpoint o q) (spoken_after (seen_of d) (spoken_of (get endpoint_cmp old.talks o))) (spoken_of (get endpoint_cmp old.talks q)) =
+    noted.spoken q ∙ ap (λ b. cond b (spoken_after (seen_of d) (spoken_of (get endpoint_cmp old.talks o))) (spoken_of (get endpoint_cmp old.talks q))) (same_by_order o q) in
+    by_test (same_endpoint o q)
+    (λ is. ap (λ e. list_any (is_word c e) (p ∷ line)) (sym (is_same o q is))
+    ∙ word_here c o talked d now (list_any (is_word c o) line) between
+    ∙ ap (spoken_after (seen_of d)) (stands.spoken o)
+    ∙ sym (kept ∙ ap (λ b. cond b (spoken_after (seen_of d) (spoken_of (get endpoint_cmp old.talks o))) (spoken_of (get endpoint_cmp old.talks q))) is))
+    (λ off. ap (λ b. b || list_any (is_word c q) line) (word_apart c o q talked d now between off)
+    ∙ stands.spoken q
+    ∙ sym (kept ∙ ap (λ b. cond b (spoken_after (seen_of d) (spoken_of (get endpoint_cmp old.talks o))) (spoken_of (get endpoint_cmp old.talks q))) off))
+
 pub note_stands : (old new : Line) (o : Endpoint) (talked : Option Transfer) (d : Recorded) (now : ℕ) (line : List Placed) → IsNoted old new o talked d now
     → is_between old.latest.client o d ≡ true → IsLineOf old line → IsLineOf new (talk_placed old.latest.client d now talked ∷ line)
 note_stands old new o talked d now line noted between stands =
@@ -173,6 +205,8 @@ note_stands old new o talked d now line noted between stands =
       again = λ e from. ap (λ b. is_alike_in e (if b then Some p else newest_of is_request line)) plain
           ∙ stands.again e (from ∙ ap (λ x. x.client) noted.latest)
           ∙ (λ i. bytes_eq (asked_part (sym noted.request i)) (asked_part e.payload) && same_endpoint (sym noted.latest i).asked e.target);
+      spoken = λ q. ap (λ x. list_any (is_word x.client q) (p ∷ line)) noted.latest
+          ∙ spoken_since old new o talked d now line noted between stands q;
       went_on = ap (λ b. list_any says_more (if b then [] else p ∷ reach line)) shut
           ∙ says_after old.latest.client talked d now (list_any says_more (reach line))
           ∙ ap (went_on_after talked (seen_of d)) stands.went_on ∙ sym noted.went_on;

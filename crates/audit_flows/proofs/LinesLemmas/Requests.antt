@@ -64,6 +64,7 @@ repeated_stands old new times line d number x time now stands from is after time
       histories = λ o. history_same old.latest.client o p line (history_of (get endpoint_cmp old.talks o)) refl (stands.histories o);
       unknown = stands.unknown;
       again = λ e that. alike_is old.latest.client old.latest.asked old.request.items d e from (sym (is_same old.latest.asked d.target both.1)) (sym ((bytes_eq-Decides old.request.items d.payload).0 ended.1)) that;
+      spoken = stands.spoken;
       went_on = stands.went_on;
       surely = stands.surely;
       newest = λ n at. (λ i. (((sym known.1 i).number == n) && nat_lt at (passed i)) || stands.newest n at i) ∙ sym (timed n at);

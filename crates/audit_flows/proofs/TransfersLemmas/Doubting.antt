@@ -19,6 +19,7 @@ first_of_line d now older x = record {
   comes_in = false;
   goes_on_with_first = false;
   speaks_first = false;
+  says_first_word = false;
   follows_unknown_id = false;
   follows_strays = follows_strays (record { datagram = d; moment = now; place = Opens x }) older;
   follows_unanswered = false;
@@ -37,6 +38,7 @@ none = record {
   comes_in = false;
   goes_on_with_first = false;
   speaks_first = false;
+  says_first_word = false;
   follows_unknown_id = false;
   follows_strays = false;
   follows_unanswered = false;

@@ -107,6 +107,21 @@ speaks_first p older = by p.place where
   by (Talks x) = same_endpoint p.datagram.source x.client && not (is_some (talk_in x.client (other_of x.client p.datagram) (line_before x.client p older)))
   by _ = false
 
+-- the client and this endpoint talk by it, which is no request and no ERROR
+abbrev pub is_word : Endpoint → Endpoint → Placed → Bool
+is_word c o q = not (is_request q) && (is_between c o q.datagram && not (begins_error q.datagram.payload))
+
+-- A client's first word in a transfer: before it requests and ERRORs alone had passed between the two, and it is what a client
+-- may say first to who has answered it. The answer did not pass: the recording began later, it may be.
+abbrev pub says_first_word : Placed → List Placed → Bool
+says_first_word p older = by p.place where
+  by : Place → Bool
+  by (Talks x) =
+      same_endpoint p.datagram.source x.client && not (list_any says_more (reach (line_before x.client p older)))
+      && not (list_any (is_word x.client (other_of x.client p.datagram)) (line_before x.client p older))
+      && (passes_in x.writes true p.datagram.payload && nat_le (number_of p.datagram.payload) 1)
+  by _ = false
+
 -- ---- what else passed at an endpoint of the recording
 
 -- it begins as a packet of TFTP does, or goes to where requests go
@@ -278,6 +293,7 @@ doubts_of p older = record {
   comes_in = comes_in p older;
   goes_on_with_first = goes_on_with_first p older;
   speaks_first = speaks_first p older;
+  says_first_word = says_first_word p older;
   follows_unknown_id = follows_unknown_id p older;
   follows_strays = follows_strays p older;
   follows_unanswered = follows_unanswered p older;

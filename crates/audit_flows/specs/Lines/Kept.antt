@@ -17,7 +17,7 @@ use Rattle.audit_flows.specs.declared.lines.history.History.{History}
 use Rattle.audit_flows.specs.declared.lines.history.Progress.{Progress}
 use Rattle.audit_flows.specs.Lines.Recording.{Recorded, same_endpoint, endpoint_cmp, asked_part, begins_request, begins_error, begins_oack, begins_packet, begins_unknown_id, refuses, same_address, is_ack, is_ack_0, is_block, is_data_1, is_answer, number_of, passes_in}
 use Rattle.audit_flows.specs.Lines.Places.{Placed, is_request, newest_of, clock, live, line, reach, latest_in, answered_in, opened_by, talk_in, place_asked}
-use Rattle.audit_flows.specs.Lines.Doubting.{acked_0_in, answers_surely, before_talk, is_talk, is_unknown_talk, may_follow, says_more, is_alike_in, is_later}
+use Rattle.audit_flows.specs.Lines.Doubting.{acked_0_in, answers_surely, before_talk, is_talk, is_unknown_talk, is_word, may_follow, says_more, is_alike_in, is_later}
 
 -- what is looked at of a payload
 abbrev pub kind_of : List ℕ → Kind
@@ -114,6 +114,15 @@ abbrev pub unknown_after : Option Transfer → Seen → Bool → Bool
 unknown_after None s before = before
 unknown_after (Some x) s before = s.kind.begins_unknown_id || before
 
+-- whether something else than requests and ERRORs has passed between the two
+abbrev pub spoken_of : Option Talked → Bool
+spoken_of None = false
+spoken_of (Some talked) = talked.has_spoken
+
+-- after one datagram more that is no request
+abbrev pub spoken_after : Seen → Bool → Bool
+spoken_after s before = not s.kind.begins_error || before
+
 -- ---- a line
 
 -- where a request goes, by what the line keeps
@@ -137,6 +146,7 @@ pub record IsLineOf (l : Line) (line : List Placed) : Type 0 where
   pub unknown : (o : Endpoint) → list_any (is_unknown_talk l.latest.client o) line ≡ unknown_of (get endpoint_cmp l.talks o)
   pub again : (d : Recorded) → d.source ≡ l.latest.client
       → is_alike_in d (newest_of is_request line) ≡ (bytes_eq (asked_part l.request.items) (asked_part d.payload) && same_endpoint l.latest.asked d.target)
+  pub spoken : (o : Endpoint) → list_any (is_word l.latest.client o) line ≡ spoken_of (get endpoint_cmp l.talks o)
   pub went_on : list_any says_more (reach line) ≡ l.went_on
   pub surely : list_any (answers_surely l.latest.number) (reach line) ≡ l.is_answered
   pub newest : (n time : ℕ) → list_any (is_later n time) line ≡ is_past time (get nat_cmp l.newest n)

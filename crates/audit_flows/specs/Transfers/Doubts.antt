@@ -1,6 +1,6 @@
 -- When a refusal of a transfer is no accusation. Lists have the newest first; a transfer is known by its number.
 use Rattle.std.specs.Prelude.{ℕ, ◌==◌, ◌&&◌, ◌||◌, not, Bool, true, false, List, [], ◌∷◌, Option, Some, None}
-use Rattle.audit_flows.specs.Lines.{Placed, is_of, agrees_late, begins_error, begins_unknown_id, comes_in, follows_strays, follows_unanswered, follows_unknown_id, goes_on_with_first, is_late, is_disordered, is_asked_again, is_sent_by_client, may_be_answer_of, may_be_earlier, rests_on_terms, says_unknown_id, speaks_first}
+use Rattle.audit_flows.specs.Lines.{Placed, is_of, agrees_late, begins_error, begins_unknown_id, comes_in, follows_strays, follows_unanswered, follows_unknown_id, goes_on_with_first, is_late, is_disordered, is_asked_again, is_sent_by_client, may_be_answer_of, may_be_earlier, rests_on_terms, says_first_word, says_unknown_id, speaks_first}
 use Rattle.audit_flows.specs.declared.lines.place.Place.{Place}
 use Rattle.audit_flows.specs.declared.lines.place.Place.TheVariants.{Beside}
 
@@ -47,11 +47,16 @@ tells_strays n p older =
 abbrev pub comes_of_earlier : ℕ → Placed → List Placed → Bool
 comes_of_earlier n p older = may_be_earlier p older || (some_of n agrees_late (p ∷ older) && rests_on_terms p)
 
--- A refusal of the transfer at this datagram, after those before it, is doubtful wherever it was recorded.
-abbrev pub is_doubtful : ℕ → List Placed → Placed → List Placed → Bool
-is_doubtful n placed p older =
+-- A refusal of the transfer at this datagram, after those before it, is doubtful wherever it was recorded, though the recording
+-- began before the transfer.
+abbrev pub is_doubtful_in_whole : ℕ → List Placed → Placed → List Placed → Bool
+is_doubtful_in_whole n placed p older =
     is_doubted n placed || is_led_astray n placed p older || some_of n is_late (p ∷ older) || is_beside p
     || tells_strays n p older
+
+-- It is so, or the recording began later, it may be: its client had spoken before anything came to it.
+abbrev pub is_doubtful : ℕ → List Placed → Placed → List Placed → Bool
+is_doubtful n placed p older = is_doubtful_in_whole n placed p older || some_of n says_first_word (p ∷ older)
 
 -- At its client, by what came to it: what an end sends itself is not late there.
 abbrev pub is_doubtful_at_client : ℕ → List Placed → Placed → List Placed → Bool

@@ -3,7 +3,7 @@ use Rattle.std.specs.Prelude.{◌≡◌, ◌⊎◌, ◌+◌, ℕ, Bool, true, fa
 use Rattle.std.specs.BTreeMap.{get, BTreeMap}
 use Rattle.std.specs.List.{list_any}
 use Rattle.std.specs.Ordering.{nat_cmp, is_eq}
-use Rattle.audit_flows.specs.Lines.{Recorded, endpoint_cmp, Placed, clock, newest_of, silence, AreLinesOf, comes_in, follows_strays, follows_unanswered, goes_on_with_first, agrees_late, says_unknown_id, is_late, is_disordered, is_asked_again, is_near, is_stray_at, may_be_tftp}
+use Rattle.audit_flows.specs.Lines.{Recorded, endpoint_cmp, Placed, clock, newest_of, silence, AreLinesOf, comes_in, follows_strays, follows_unanswered, goes_on_with_first, agrees_late, says_first_word, says_unknown_id, is_late, is_disordered, is_asked_again, is_near, is_stray_at, may_be_tftp}
 use Rattle.audit_flows.specs.declared.lines.endpoint.Endpoint.{Endpoint}
 use Rattle.audit_flows.specs.declared.lines.place.Place.{Place}
 use Rattle.audit_flows.specs.declared.lines.place.Place.TheVariants.{Opens, Repeats, Beside, Nowhere}
@@ -79,6 +79,7 @@ takes_memory place d = true
 pub record IsDoubtedAfter (t : TransferDoubts) (placed : List Placed) : Type 0 where
   pub agrees_late : t.agrees_late ≡ some_of t.number agrees_late placed
   pub says_unknown_id : t.says_unknown_id ≡ some_of t.number (λ q before. says_unknown_id q) placed
+  pub says_first_word : t.says_first_word ≡ some_of t.number says_first_word placed
   pub is_late : t.is_late ≡ some_of t.number is_late placed
   pub is_disordered : t.is_disordered ≡ some_of t.number is_disordered placed
   pub is_asked_again : t.is_asked_again ≡ some_of t.number is_asked_again placed

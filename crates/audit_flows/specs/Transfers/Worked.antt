@@ -278,6 +278,13 @@ told_another =
     ∷ requests 0 client service (codes "f")
     ∷ []
 
+-- The recording begins within a capture, whose client asks once more: the answer came before.
+abbrev pub begun_within : ℕ → List Recorded
+begun_within number =
+    passes 1 client server (ack_of number)
+    ∷ requests 0 client service (codes "f")
+    ∷ []
+
 -- OACK: blocks of 8 bytes
 abbrev pub oack : List ℕ
 oack = 0 ∷ 6 ∷ codes "blksize" ++ 0 ∷ codes "8" ++ 0 ∷ []

@@ -1,12 +1,12 @@
 //! What a datagram makes doubtful: when a refusal of a transfer is no accusation.
 
-ghost use Rattle.std.specs.Prelude.{◌≡◌, ◌&&◌, ◌||◌, not, ℕ, List, None, Some, false, bytes_eq, is_some, nat_lt, option_map, if◌then◌else◌};
+ghost use Rattle.std.specs.Prelude.{◌≡◌, ◌&&◌, ◌||◌, not, ℕ, List, None, Some, false, true, bytes_eq, is_some, nat_le, nat_lt, option_map, if◌then◌else◌};
 ghost use Rattle.std.specs.BTreeMap.{get};
 ghost use Rattle.std.specs.Ordering.{nat_cmp};
-ghost use Rattle.audit_flows.specs.Lines.Recording.{Recorded, asked_part, same_endpoint, endpoint_cmp};
+ghost use Rattle.audit_flows.specs.Lines.Recording.{Recorded, asked_part, same_endpoint, endpoint_cmp, number_of, passes_in};
 ghost use Rattle.audit_flows.specs.Lines.Places.{Placed, live, line, transfer_of, may_answer};
 ghost use Rattle.audit_flows.specs.Lines.Doubting.{is_another, is_the_one, acked_0_in, doubts_of, follows_strays, rests_on_terms};
-ghost use Rattle.audit_flows.specs.Lines.Kept.{IsLineOf, history_of, kind_of, seen_of, is_past, up_to};
+ghost use Rattle.audit_flows.specs.Lines.Kept.{IsLineOf, history_of, kind_of, seen_of, spoken_of, is_past, up_to};
 ghost use Rattle.audit_flows.specs.declared.lines.place.Place.{Place};
 ghost use Rattle.audit_flows.specs.declared.lines.place.Transfer.{Transfer};
 
@@ -41,6 +41,8 @@ pub struct Doubts {
     pub goes_on_with_first: bool,
     /// Its client sent it to where nothing had passed between the two.
     pub speaks_first: bool,
+    /// It is its client's first word to an answer (RFC 1350, section 4), and nothing but requests and ERRORs had passed there.
+    pub says_first_word: bool,
     /// ERROR 5, "Unknown transfer ID", had passed between its two ends (RFC 1350, section 5).
     pub follows_unknown_id: bool,
     /// It opens the transfer where, in the last 300 s, something passed at its client's endpoint that is of no line, though it
@@ -54,7 +56,7 @@ pub struct Doubts {
 impl Doubts {
     /// Nothing is doubtful.
     pub fn none() -> Self
-        ensures { result ≡ record { may_be_earlier = false; agrees_late = false; rests_on_terms = false; says_unknown_id = false; is_late = false; is_disordered = false; is_asked_again = false; may_be_answer_of = None; comes_in = false; goes_on_with_first = false; speaks_first = false; follows_unknown_id = false; follows_strays = false; follows_unanswered = false } }
+        ensures { result ≡ record { may_be_earlier = false; agrees_late = false; rests_on_terms = false; says_unknown_id = false; is_late = false; is_disordered = false; is_asked_again = false; may_be_answer_of = None; comes_in = false; goes_on_with_first = false; speaks_first = false; says_first_word = false; follows_unknown_id = false; follows_strays = false; follows_unanswered = false } }
     {
         Doubts {
             may_be_earlier: false,
@@ -68,6 +70,7 @@ impl Doubts {
             comes_in: false,
             goes_on_with_first: false,
             speaks_first: false,
+            says_first_word: false,
             follows_unknown_id: false,
             follows_strays: false,
             follows_unanswered: false,
@@ -77,7 +80,7 @@ impl Doubts {
     /// What a datagram makes doubtful that opens a transfer where no line goes on, by whether it is older than one before it in
     /// the recording.
     pub fn of_first(is_disordered: bool, is_after_strays: bool) -> Self
-        ensures { result ≡ record { may_be_earlier = false; agrees_late = false; rests_on_terms = false; says_unknown_id = false; is_late = false; is_disordered = is_disordered; is_asked_again = false; may_be_answer_of = None; comes_in = false; goes_on_with_first = false; speaks_first = false; follows_unknown_id = false; follows_strays = is_after_strays; follows_unanswered = false } }
+        ensures { result ≡ record { may_be_earlier = false; agrees_late = false; rests_on_terms = false; says_unknown_id = false; is_late = false; is_disordered = is_disordered; is_asked_again = false; may_be_answer_of = None; comes_in = false; goes_on_with_first = false; speaks_first = false; says_first_word = false; follows_unknown_id = false; follows_strays = is_after_strays; follows_unanswered = false } }
     {
         Doubts {
             is_disordered,
@@ -166,6 +169,7 @@ impl Line {
             comes_in: seen.target == transfer.client,
             goes_on_with_first: self.goes_on_with_first(transfer, seen),
             speaks_first: self.speaks_first(transfer, other, seen),
+            says_first_word: self.says_first_word(transfer, other, seen),
             follows_unknown_id: self.has_told_unknown_id(other),
             follows_strays: false,
             follows_unanswered: false,
@@ -186,6 +190,16 @@ impl Line {
         ensures { result ≡ (same_endpoint seen.now.source transfer.now.client && not (is_some (option_map (λ t. t.talk) (get endpoint_cmp self.now.talks other)))) }
     {
         seen.source == transfer.client && !self.talks_with(&other)
+    }
+
+    /// Whether it is what the client may say first to an answer, where nothing but requests and ERRORs has passed between the two.
+    fn says_first_word(&self, transfer: &Transfer, other: Endpoint, seen: &Seen) -> bool
+        ensures { (payload : List ℕ) → seen.now.kind ≡ kind_of payload
+            → result ≡ (same_endpoint seen.now.source transfer.now.client && not self.now.went_on && not (spoken_of (get endpoint_cmp self.now.talks other)) && (passes_in transfer.now.writes true payload && nat_le (number_of payload) 1)) }
+    {
+        let is_first = seen.source == transfer.client && !self.went_on;
+        let may_answer = seen.kind.passes_in(transfer.writes, true) && seen.kind.number <= 1;
+        is_first && !self.has_spoken_with(other) && may_answer
     }
 
     /// Whether it first sent the client a datagram of the latest transfer.

@@ -4,7 +4,7 @@ ghost use Rattle.std.specs.Prelude.{◌≡◌, ◌≤◌, ◌+◌, [], ◌∷◌
 ghost use Rattle.std.specs.BTreeMap.{get, IsUnchanged};
 ghost use Rattle.audit_flows.specs.Lines.Recording.{Recorded, same_endpoint, is_between, endpoint_cmp};
 ghost use Rattle.audit_flows.specs.Lines.Places.{Placed, live, place_at, place_talked, place_asked, is_known_host, may_answer, silence};
-ghost use Rattle.audit_flows.specs.Lines.Kept.{IsLineOf, IsRequestOf, IsHistoryAfter, history_of, seen_of, place_of_talk, comes_to, refuses_to, surely_after, unknown_after, unknown_of, talk_after, ends_after, went_on_after, IsTimed, AreTimed};
+ghost use Rattle.audit_flows.specs.Lines.Kept.{IsLineOf, IsRequestOf, IsHistoryAfter, history_of, seen_of, spoken_after, spoken_of, place_of_talk, comes_to, refuses_to, surely_after, unknown_after, unknown_of, talk_after, ends_after, went_on_after, IsTimed, AreTimed};
 ghost use Rattle.audit_flows.specs.Lines.Doubting.{acked_0_in};
 ghost use Rattle.law_model.specs.Rules.{or_this};
 ghost use Rattle.audit_flows.specs.declared.lines.place.Place.{Place};
@@ -45,6 +45,8 @@ pub struct Talked {
     pub history: Option<History>,
     /// ERROR 5, "Unknown transfer ID", has passed between the two in one of these (RFC 1350, section 5).
     pub says_unknown_id: bool,
+    /// Something else than requests and ERRORs has passed between the two.
+    pub has_spoken: bool,
 }
 
 /// What is kept of a line.
@@ -125,6 +127,16 @@ impl Line {
         match self.talks.get(&other) {
             None => false,
             Some(talked) => talked.says_unknown_id,
+        }
+    }
+
+    /// Whether something else than requests and ERRORs has passed between its client and this endpoint.
+    pub(crate) fn has_spoken_with(&self, other: Endpoint) -> bool
+        ensures { result ≡ spoken_of (get endpoint_cmp self.now.talks other) }
+    {
+        match self.talks.get(&other) {
+            None => false,
+            Some(talked) => talked.has_spoken,
         }
     }
 
@@ -274,10 +286,13 @@ impl Line {
         let history = self.history_after(other, &talked, seen);
         let told = self.has_told_unknown_id(other);
         let says_unknown_id = unknown_after(&talked, seen, told);
+        let spoken = self.has_spoken_with(other);
+        let has_spoken = spoken_after(seen, spoken);
         let all = Talked {
             talk,
             history,
             says_unknown_id,
+            has_spoken,
         };
         self.talks.insert(other, all)?;
         note_talk(&mut self.newest, &talked, seen.time)?;
@@ -366,6 +381,13 @@ fn unknown_after(talked: &Option<Transfer>, seen: &Seen, told: bool) -> bool
         None => told,
         Some(_) => seen.kind.begins_unknown_id || told,
     }
+}
+
+/// Whether something else than requests and ERRORs has passed between the two, after one datagram more that is no request.
+fn spoken_after(seen: &Seen, spoken: bool) -> bool
+    ensures { result ≡ spoken_after seen.now spoken }
+{
+    !seen.kind.begins_error || spoken
 }
 
 /// Whether a line ends in a request, after one datagram more that is none.

@@ -1,7 +1,7 @@
 //! The doubts of one transfer, of all its datagrams.
 
 ghost use Rattle.std.specs.Prelude.{◌≡◌, ◌∷◌, ℕ, List, []};
-ghost use Rattle.audit_flows.specs.Lines.{Placed, comes_in, doubts_of, follows_strays, follows_unanswered, agrees_late, goes_on_with_first, is_late, says_unknown_id, is_disordered, is_asked_again};
+ghost use Rattle.audit_flows.specs.Lines.{Placed, comes_in, doubts_of, follows_strays, follows_unanswered, agrees_late, goes_on_with_first, is_late, says_first_word, says_unknown_id, is_disordered, is_asked_again};
 ghost use Rattle.audit_flows.specs.Transfers.Doubts.{is_answered_apart, is_doubted, some_of};
 ghost use Rattle.audit_flows.specs.Transfers.Kept.{IsDoubtedAfter};
 
@@ -13,6 +13,7 @@ pub struct TransferDoubts {
     number: u64,
     agrees_late: bool,
     says_unknown_id: bool,
+    says_first_word: bool,
     is_late: bool,
     is_disordered: bool,
     is_asked_again: bool,
@@ -33,6 +34,7 @@ impl TransferDoubts {
             number,
             agrees_late: false,
             says_unknown_id: false,
+            says_first_word: false,
             is_late: false,
             is_disordered: false,
             is_asked_again: false,
@@ -54,6 +56,7 @@ impl TransferDoubts {
         if found.place.is_of(self.number) {
             self.agrees_late = doubts.agrees_late || self.agrees_late;
             self.says_unknown_id = doubts.says_unknown_id || self.says_unknown_id;
+            self.says_first_word = doubts.says_first_word || self.says_first_word;
             self.is_late = doubts.is_late || self.is_late;
             self.is_disordered = doubts.is_disordered || self.is_disordered;
             self.is_asked_again = doubts.is_asked_again || self.is_asked_again;
@@ -105,6 +108,14 @@ impl TransferDoubts {
         ensures { (placed : List Placed) → IsDoubtedAfter self.now placed → result ≡ some_of self.now.number (λ q before. says_unknown_id q) placed }
     {
         self.says_unknown_id
+    }
+
+    /// Whether its client spoke, up to the datagram that was noted last, before anything but requests and ERRORs had passed at
+    /// its endpoint, what it may say first to an answer (RFC 1350, section 4): that came before the recording began, it may be.
+    pub fn says_first_word(&self) -> bool
+        ensures { (placed : List Placed) → IsDoubtedAfter self.now placed → result ≡ some_of self.now.number says_first_word placed }
+    {
+        self.says_first_word
     }
 
     /// Whether one of its datagrams is older than one before it.

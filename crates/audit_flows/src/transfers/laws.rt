@@ -23,6 +23,7 @@ ghost use Rattle.audit_flows.specs.Transfers.Worked.{
   one_port_window,
   errors,
   begun_anew,
+  begun_within,
   told_another,
   doubtful_in,
   earlier_words,
@@ -144,6 +145,14 @@ pub fn between_the_ends_who_told_error_5_may_begin_anew()
     ensures at_client { doubtful_in is_doubtful_at_client 0 begun_anew
         ≡ false ∷ false ∷ false ∷ false ∷ true ∷ false ∷ false ∷ [] }
     ensures another { doubtful_in is_doubtful_between 0 told_another ≡ false ∷ true ∷ false ∷ false ∷ false ∷ [] }
+{}
+
+/// What a client says first, and may say to an answer, is doubtful: that came before the recording began. It is no such word
+/// where the client says more than it could, nor where something had passed but its requests.
+pub fn what_a_client_says_first_may_answer_what_came_before()
+    ensures acknowledged { doubtful_in is_doubtful 0 (begun_within 1) ≡ true ∷ false ∷ [] }
+    ensures too_far { doubtful_in is_doubtful 0 (begun_within 2) ≡ false ∷ false ∷ [] }
+    ensures heard { doubtful_in is_doubtful 0 wrong_ports ≡ false ∷ false ∷ false ∷ false ∷ false ∷ [] }
 {}
 
 /// An OACK may be late too: then all that may rest on it is doubtful at the client, by that alone.

@@ -20,6 +20,8 @@ pub struct Blamed {
     pub is_answered: bool,
     /// Whether its client sent it to where nothing had passed between the two.
     pub speaks_first: bool,
+    /// Whether its client had spoken by then before anything came to it.
+    pub says_first_word: bool,
     /// Whether an ERROR 5 had passed between its two ends.
     pub follows_unknown_id: bool,
     /// Whether it is an ERROR 5, "Unknown transfer ID" (RFC 1350, section 5), or an ERROR after one.

@@ -27,6 +27,8 @@ pub enum Reason {
     UnknownId,
     /// At the server: its client sent the datagram to where it had heard nothing from.
     SpeaksFirst,
+    /// The client spoke before anything came to it: the recording began later than the transfer, it may be.
+    FirstWord,
     /// Its first answer may be a datagram that is another transfer's.
     AnsweredApart,
     /// The datagram may be late from an earlier transfer between the same two endpoints, or rest on an OACK that may be.
@@ -107,6 +109,9 @@ impl Reason {
                 "it is an ERROR 5, by which an end answers what is none of its transfer"
             }
             Reason::SpeaksFirst => "its client had heard nothing from there",
+            Reason::FirstWord => {
+                "its client spoke before anything came to it: the recording began later, it may be"
+            }
             Reason::AnsweredApart => {
                 "a DATA 1 from where an earlier transfer was served may be its answer"
             }

@@ -138,6 +138,7 @@ impl Trail {
             is_beside: matches!(place, Place::Beside(_)),
             is_answered: doubts.comes_in(),
             speaks_first: found.doubts.speaks_first,
+            says_first_word: doubts.says_first_word(),
             follows_unknown_id: found.doubts.follows_unknown_id,
             tells_strays: tells_strays(passing.payload, &doubts),
             comes_of_earlier: comes_of_earlier(&found.doubts, &doubts),

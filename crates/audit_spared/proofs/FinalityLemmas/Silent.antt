@@ -2,7 +2,7 @@
 use Rattle.std.proofs.Common.{◌≡◌, ◌≢◌, ◌≤◌, ◌<◌, ℕ, ◌+◌, Bool, true, false, List, [], ◌∷◌, ◌++◌, Option, Some, None, arith, refl, sym, ap, subst, ◌∙◌, ◌==◌, ◌&&◌, ◌||◌, not, nat_le, cond, filter, length, if◌then◌else◌}
 use Rattle.std.proofs.Math.Nat.{le-max_right}
 use Rattle.std.proofs.lemmas.Bool.{ne_eqb, eqb-true, eq-eqb, leb-false, lt-leb}
-use Rattle.audit_flows.specs.Lines.{Recorded, Placed, same_endpoint, other_of, is_at, newest_of, live, line, silence, transfer_of, latest_in, answered_in, may_answer, clock, is_another, is_next_data, answer_of, may_be_answer_of, comes_in, follows_strays, follows_unanswered, follows_unknown_id, goes_on_with_first, is_asked_again, is_disordered, is_late, is_sent_by_client, speaks_first}
+use Rattle.audit_flows.specs.Lines.{Recorded, Placed, same_endpoint, other_of, is_at, newest_of, live, line, silence, transfer_of, latest_in, answered_in, may_answer, clock, is_another, is_next_data, answer_of, may_be_answer_of, comes_in, follows_strays, follows_unanswered, follows_unknown_id, goes_on_with_first, is_asked_again, is_disordered, is_late, is_sent_by_client, says_first_word, speaks_first}
 use Rattle.audit_flows.specs.{Endpoint, Place, Opens, Repeats, Talks, Apart, Beside, Nowhere, Transfer, Served}
 use Rattle.audit_flows.specs.Transfers.{last_served, served_within, placed, is_about, is_it, is_answered_apart, is_at_server, is_beside, is_doubted, is_doubtful, is_led_astray, is_settled, opened_it, some_of, client_view, comes_of_earlier, server_view, server_of, tells_strays}
 use Rattle.audit_spared.specs.Finality.{AreSameDoubts, IsFinal, IsSilent, opened}
@@ -176,8 +176,8 @@ module _ (n : ℕ) (named : List ℕ) (recorded more : List Recorded) (apart : A
 
   same_doubtful : (p : Placed) (older : List Placed) → is_doubtful n after p older ≡ is_doubtful n before p older
   same_doubtful p older =
-      ap (λ b. b || is_led_astray n after p older || some_of n is_late (p ∷ older) || is_beside p || tells_strays n p older) same_doubted
-      ∙ ap (λ b. is_doubted n before || (some_of n comes_in (p ∷ older) && not b) || some_of n is_late (p ∷ older) || is_beside p || tells_strays n p older) (apart.some goes_on_with_first)
+      ap (λ b. b || is_led_astray n after p older || some_of n is_late (p ∷ older) || is_beside p || tells_strays n p older || some_of n says_first_word (p ∷ older)) same_doubted
+      ∙ ap (λ b. is_doubted n before || (some_of n comes_in (p ∷ older) && not b) || some_of n is_late (p ∷ older) || is_beside p || tells_strays n p older || some_of n says_first_word (p ∷ older)) (apart.some goes_on_with_first)
 
   same_doubts : AreSameDoubts n before after
   same_doubts = record {

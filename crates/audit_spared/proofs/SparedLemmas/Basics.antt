@@ -2,7 +2,7 @@
 use Rattle.std.proofs.Common.{◌≡◌, ℕ, Bool, true, false, List, [], ◌∷◌, ◌++◌, Some, None, refl, sym, ap, subst, ◌∙◌, ◌&&◌, ◌||◌, if◌then◌else◌}
 use Rattle.std.specs.List.{list_any, AllByRecursion}
 use Rattle.std.proofs.lemmas.Bool.{false≢true, or_left, or_right, and_from}
-use Rattle.audit_flows.specs.Lines.{Placed, is_of, newest_of, follows_strays, follows_unanswered, is_disordered, is_asked_again, is_late, may_be_answer_of}
+use Rattle.audit_flows.specs.Lines.{Placed, is_of, newest_of, follows_strays, follows_unanswered, is_disordered, is_asked_again, is_late, may_be_answer_of, says_first_word}
 use Rattle.audit_flows.specs.Transfers.{is_beside, is_doubted, is_doubtful, is_it, is_led_astray, some_of, is_answered_apart, tells_strays}
 use Rattle.audit_spared.specs.Spared.{is_doubted_there, needs_doubt}
 use Rattle.audit_flows.proofs.LinesLemmas.Lines.{by_test}
@@ -43,9 +43,12 @@ doubted_is n placed is =
     (some_of n is_disordered placed || some_of n is_asked_again placed) (is_answered_apart n placed)
     (or_right (some_of n is_disordered placed) (some_of n is_asked_again placed)) (λ apart. apart) is))
 
+pub or_more : (b c d : Bool) → b ≡ true → (b || c || d) ≡ true
+or_more b c d is = or_left (b || c) d (or_left b c is)
+
 pub doubtful_is : (n : ℕ) (placed : List Placed) (p : Placed) (older : List Placed) → needs_doubt n placed p older ≡ true → is_doubtful n placed p older ≡ true
 doubtful_is n placed p older is =
-    or_left (is_doubted n placed || is_led_astray n placed p older || some_of n is_late (p ∷ older) || is_beside p) (tells_strays n p older)
+    or_more (is_doubted n placed || is_led_astray n placed p older || some_of n is_late (p ∷ older) || is_beside p) (tells_strays n p older) (some_of n says_first_word (p ∷ older))
     (or_left (is_doubted n placed || is_led_astray n placed p older || some_of n is_late (p ∷ older)) (is_beside p)
     (some_or (is_doubted_there n placed) (some_of n is_late (p ∷ older)) (is_doubted n placed || is_led_astray n placed p older) (some_of n is_late (p ∷ older))
     (λ there. or_left (is_doubted n placed) (is_led_astray n placed p older) (doubted_is n placed there)) (λ late. late) is))

@@ -8,7 +8,7 @@ use Rattle.law_model.specs.Rules.{asks, first_of, or_this}
 use Rattle.law_end.specs.{OneEnded, IsLawful, IsRefused, Passes, Rule}
 use Rattle.law_end.proofs.Division.RouteTests.{same_is as peers_same, is_same as same_peers}
 use Rattle.law_end.proofs.Whole.TwoEnds.{lawful}
-use Rattle.audit_flows.specs.Lines.{Recorded, Placed, same_address, same_endpoint, other_of, is_of, is_request, transfer_of, begins_error, begins_request, is_late, is_sent_by_client, speaks_first}
+use Rattle.audit_flows.specs.Lines.{Recorded, Placed, same_address, same_endpoint, other_of, is_of, is_request, transfer_of, begins_error, begins_request, is_late, is_sent_by_client, says_first_word, speaks_first}
 use Rattle.audit_flows.specs.{Address, Endpoint, Place, Opens, Repeats, Talks, Apart, Beside, Nowhere, Transfer}
 use Rattle.audit_flows.proofs.LinesLemmas.Endpoints.{is_same, same_itself}
 use Rattle.audit_flows.proofs.LinesLemmas.Lines.{by_test}
@@ -16,7 +16,7 @@ use Rattle.audit_flows.specs.Transfers.{asked_of as asked_by, client_view, place
 use Rattle.audit_spared.proofs.FairLemmas.Thinned.{filter_kept, filter_dropped, kept_or_not}
 use Rattle.audit_spared.specs.Spared.Seen.{HasNoSilence, is_with}
 use Rattle.audit_spared.specs.Spared.{AreCaptures, AsksInTime, as_served, at_server_of, captured_there, goes_from, is_doubted_there, is_shared, needs_doubt, seen_at_server, server_saw, transfer_beside, went_out}
-use Rattle.audit_spared.proofs.SparedLemmas.Basics.{all_last, all_map, doubtful_is}
+use Rattle.audit_spared.proofs.SparedLemmas.Basics.{all_last, all_map, doubtful_is, or_more}
 use Rattle.audit_spared.proofs.SparedLemmas.Lists.{all_flat, all_from, filter_all, filter_with, map_reversed}
 use Rattle.audit_spared.proofs.SparedLemmas.Requests.{all_second as all_each}
 use Rattle.audit_spared.proofs.SparedLemmas.Stands.{new, Has}
@@ -422,6 +422,6 @@ doubtful_there n placed p older is = or_left (is_doubtful n placed p older || sp
     (or_left (is_doubtful n placed p older) (speaks_first p older) (elim (or_cases (needs_doubt n placed p older) (is_beside p) is) [
       | inl doubt ↦ doubtful_is n placed p older doubt
       | inr beside ↦
-          or_left (is_doubted n placed || is_led_astray n placed p older || some_of n is_late (p ∷ older) || is_beside p) (tells_strays n p older)
+          or_more (is_doubted n placed || is_led_astray n placed p older || some_of n is_late (p ∷ older) || is_beside p) (tells_strays n p older) (some_of n says_first_word (p ∷ older))
           (or_right (is_doubted n placed || is_led_astray n placed p older || some_of n is_late (p ∷ older)) (is_beside p) beside)
     ]))

@@ -5,8 +5,8 @@ ghost use Rattle.std.specs.Prelude.{◌≡◌, ◌||◌, true, false, List, [], 
 ghost use Rattle.law_end.specs.{IsLawful};
 ghost use Rattle.audit_flows.specs.Lines.{Recorded, is_late};
 ghost use Rattle.audit_flows.specs.{Endpoint};
-ghost use Rattle.audit_flows.specs.Transfers.{ack_of, client, data_of, read_of, service, is_doubtful, is_doubtful_at_client, is_doubtful_at_server, is_led_astray, placed, some_of};
-ghost use Rattle.audit_flows.specs.Transfers.Worked.{error_of, seen_by_client, seen_by_server};
+ghost use Rattle.audit_flows.specs.Transfers.{ack_of, client, data_of, read_of, service, is_doubtful, is_doubtful_at_client, is_doubtful_at_server, is_doubtful_in_whole, is_led_astray, placed, some_of};
+ghost use Rattle.audit_flows.specs.Transfers.Worked.{doubtful_in, error_of, seen_by_client, seen_by_server};
 ghost use Rattle.audit_spared.specs.Spared.{
   AreAtHost,
   AreInOrder,
@@ -111,11 +111,13 @@ pub fn captures_must_be_lawful()
     ensures accused_there { IsAccusedAtServer own_name is_doubtful_at_server asks_elsewhere block_came }
 {}
 
-/// Where a recording begins within a capture, a lawful client is accused: it asked again after the block came, and all that is
-/// recorded is this request and its ACK. The whole recording meets the premises.
-pub fn recordings_must_begin_before_their_captures()
+/// Where a recording begins within a capture, a lawful client is refused: it asked again after the block came, and all that is
+/// recorded is this request and its ACK. The whole recording meets the premises. What it says first is a doubt, which the
+/// captures of the theorem do not need.
+pub fn recordings_may_begin_within_their_captures()
     ensures meets { AreInterleaved own_name one_client (ack_of_block ∷ asked_again_only ++ block_came) }
-    ensures accused { IsAccusedAtClient own_name is_doubtful_at_client ack_of_block asked_again_only }
+    ensures refused { IsAccusedAtClient own_name is_doubtful_in_whole ack_of_block asked_again_only }
+    ensures doubted { doubtful_in is_doubtful 0 (ack_of_block ∷ asked_again_only) ≡ true ∷ false ∷ [] }
 {}
 
 /// Where a client asks again after a silence, its ACK of the block before is refused.
@@ -130,7 +132,7 @@ pub fn captures_must_be_steady()
     ensures ports { HaveNoServicePort one_client }
     ensures order { AreInOrder (ack_after_silence ∷ silent_capture) }
     ensures hosts { (recorded : List Recorded) → HaveOwnNames own_name recorded }
-    ensures accused { IsAccusedAtClient own_name is_doubtful ack_after_silence silent_capture }
+    ensures accused { IsAccusedAtClient own_name is_doubtful_in_whole ack_after_silence silent_capture }
     ensures accused_there { IsAccusedAtServer own_name needs_doubt_there ack_after_silence silent_capture }
 {}
 
@@ -143,7 +145,7 @@ pub fn times_must_not_go_back()
     ensures others_there { AskersAreElsewhere two_clients (late_ack ∷ back_in_time_there) }
     ensures ports { HaveNoServicePort two_clients }
     ensures hosts { (recorded : List Recorded) → HaveOwnNames own_name recorded }
-    ensures accused { IsAccusedAtClient own_name is_doubtful late_ack back_in_time }
+    ensures accused { IsAccusedAtClient own_name is_doubtful_in_whole late_ack back_in_time }
     ensures accused_there { IsAccusedAtServer own_name needs_doubt_there late_ack back_in_time_there }
 {}
 
@@ -155,7 +157,7 @@ pub fn none_else_may_ask()
     ensures ports { HaveNoServicePort one_client }
     ensures order { AreInOrder (ack_of_block ∷ served_by_asker) }
     ensures hosts { (recorded : List Recorded) → HaveOwnNames own_name recorded }
-    ensures accused { IsAccusedAtClient own_name is_doubtful ack_of_block served_by_asker }
+    ensures accused { IsAccusedAtClient own_name is_doubtful_in_whole ack_of_block served_by_asker }
     ensures accused_there { IsAccusedAtServer own_name needs_doubt_there ack_of_block served_by_asker }
 {}
 

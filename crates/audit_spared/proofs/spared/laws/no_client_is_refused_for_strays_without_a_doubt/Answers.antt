@@ -2,12 +2,12 @@ use Rattle.std.proofs.Common.{◌≡◌, ℕ, Bool, true, false, ◌||◌, [], �
 use Rattle.std.specs.List.{AllByRecursion}
 use Rattle.std.proofs.lemmas.Bool.{false≢true, or_cases, or_left, or_right}
 use Rattle.law_end.specs.{IsLawful}
-use Rattle.audit_flows.specs.Lines.{Recorded, is_late}
+use Rattle.audit_flows.specs.Lines.{Recorded, is_late, says_first_word}
 use Rattle.audit_flows.specs.{Address, Endpoint}
 use Rattle.audit_flows.proofs.LinesLemmas.Lines.{by_test}
 use Rattle.audit_spared.specs.Spared.{AreIdle, AreStrayed, AreStraysHere, IsStrayedCapture, is_busy, needs_doubt, without_strays}
 use Rattle.audit_spared.specs.Spared.Seen.{HasNoSilence, at_client_of, is_with}
-use Rattle.audit_spared.proofs.SparedLemmas.Basics.{doubtful_is}
+use Rattle.audit_spared.proofs.SparedLemmas.Basics.{doubtful_is, or_more}
 use Rattle.audit_spared.proofs.SparedLemmas.ClientEnd.{client_captures, lawful_at}
 use Rattle.audit_spared.proofs.SparedLemmas.Interleaved.{strayed_by_four}
 use Rattle.audit_spared.proofs.SparedLemmas.Kept.{AreAside}
@@ -96,7 +96,7 @@ returns-clause-spared c write strays idle clients recorded g newer older p are x
     elim (or_cases (needs_doubt n whole p older) (is_led_astray n whole p older) (strayed_by_four write strays clients recorded g.hosts (given write strays idle clients recorded g) newer older p are x at is_client rule refused)) [
       | inl doubt ↦ doubtful_is x.number (placed [] recorded) p older doubt
       | inr led ↦
-          or_left (is_doubted n whole || is_led_astray n whole p older || some_of n is_late (p ∷ older) || is_beside p) (tells_strays n p older)
+          or_more (is_doubted n whole || is_led_astray n whole p older || some_of n is_late (p ∷ older) || is_beside p) (tells_strays n p older) (some_of n says_first_word (p ∷ older))
           (or_left (is_doubted n whole || is_led_astray n whole p older || some_of n is_late (p ∷ older)) (is_beside p)
           (or_left (is_doubted n whole || is_led_astray n whole p older) (some_of n is_late (p ∷ older))
           (or_right (is_doubted n whole) (is_led_astray n whole p older) led)))

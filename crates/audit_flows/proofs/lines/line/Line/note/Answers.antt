@@ -1,21 +1,21 @@
 use Rattle.std.proofs.Common.{cond, option_map, refl, sym, ap, subst, ◌∙◌, Option, Some}
 use Rattle.std.specs.BTreeMap.{get}
 use Rattle.std.specs.Ordering.{is_eq}
-use Rattle.audit_flows.specs.Lines.{endpoint_cmp, history_of, seen_of, comes_to, surely_after, talk_after, unknown_after, unknown_of, went_on_after, AreTimed}
+use Rattle.audit_flows.specs.Lines.{endpoint_cmp, history_of, seen_of, spoken_after, spoken_of, comes_to, surely_after, talk_after, unknown_after, unknown_of, went_on_after, AreTimed}
 use Rattle.audit_flows.specs.declared.lines.history.History.{History}
 use Rattle.audit_flows.specs.declared.lines.line.Talked.{Talked}
 use Rattle.law_model.specs.Rules.{or_this}
 use Rattle.audit_flows.specs.Lines.Kept.{IsHistoryAfter}
 use Rattle.audit_flows.proofs.LinesLemmas.Endpoints.{same_by_order, same_itself}
-use Rattle.audit_flows.proofs.LinesLemmas.Noted.{cond_history, cond_talk, cond_unknown, note_stands}
+use Rattle.audit_flows.proofs.LinesLemmas.Noted.{cond_history, cond_spoken, cond_talk, cond_unknown, note_stands}
 use Rattle.audit_flows.proofs.lines.line.Line.note.Goals as goal
 
 pub returns-clause-stands : goal.returns-clause-stands
 returns-clause-stands c line d stands seen between =
-    let talked : Talked = record { talk = c.talk_after-talk.result; history = c.history_after-history.result; says_unknown_id = c.unknown_after-says_unknown_id.result } in
+    let talked : Talked = record { talk = c.talk_after-talk.result; history = c.history_after-history.result; says_unknown_id = c.unknown_after-says_unknown_id.result; has_spoken = c.spoken_after-has_spoken.result } in
     let here =
     ap history_of (c.in_ok-insert.ensures.updates.0 c.args.other)
-    ∙ cond_history (is_eq (endpoint_cmp c.args.other c.args.other)) (record { talk = c.talk_after-talk.result; history = c.history_after-history.result; says_unknown_id = c.unknown_after-says_unknown_id.result }) (get endpoint_cmp c.args.self.now.talks c.args.other)
+    ∙ cond_history (is_eq (endpoint_cmp c.args.other c.args.other)) (record { talk = c.talk_after-talk.result; history = c.history_after-history.result; says_unknown_id = c.unknown_after-says_unknown_id.result; has_spoken = c.spoken_after-has_spoken.result }) (get endpoint_cmp c.args.self.now.talks c.args.other)
     ∙ ap (λ b. cond b c.history_after-history.result (history_of (get endpoint_cmp c.args.self.now.talks c.args.other))) (same_by_order c.args.other c.args.other ∙ same_itself c.args.other) in
     note_stands _ _ c.args.other c.args.talked d c.args.now line (record {
       latest = refl;
@@ -37,6 +37,10 @@ returns-clause-stands c line d stands seen between =
           ∙ ap (λ b. cond (is_eq (endpoint_cmp c.args.other q)) b (unknown_of (get endpoint_cmp c.args.self.now.talks q)))
           (c.unknown_after-says_unknown_id.ensures
           ∙ (λ i. unknown_after c.args.talked (seen i) (c.has_told_unknown_id-told.ensures i)));
+      spoken = λ q. ap spoken_of (c.in_ok-insert.ensures.updates.0 q)
+          ∙ cond_spoken (is_eq (endpoint_cmp c.args.other q)) talked (get endpoint_cmp c.args.self.now.talks q)
+          ∙ ap (λ b. cond (is_eq (endpoint_cmp c.args.other q)) b (spoken_of (get endpoint_cmp c.args.self.now.talks q)))
+          (c.spoken_after-has_spoken.ensures ∙ (λ i. spoken_after (seen i) (c.has_spoken_with-spoken.ensures i)));
       went_on = c.went_on_after-self.ensures ∙ ap (λ s. went_on_after c.args.talked s c.args.self.now.went_on) seen;
       surely = c.surely_after-self.ensures ∙ ap (λ s. surely_after c.args.self.now.latest.number c.args.talked s c.args.self.now.is_answered) seen;
       newest = subst (λ s. AreTimed c.args.self.now.newest c.note_talk.new.newest c.args.talked s.time) seen c.in_ok-note_talk.ensures;

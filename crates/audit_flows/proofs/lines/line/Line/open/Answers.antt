@@ -2,7 +2,7 @@ use Rattle.std.proofs.Common.{◌≡◌, rules, refl, subst, ◌∙◌, sym, ap,
 use Rattle.std.specs.BTreeMap.{get}
 use Rattle.std.specs.Str.{bytes_eq}
 use Rattle.std.specs.List.{list_any}
-use Rattle.audit_flows.specs.Lines.{asked_part, endpoint_cmp, history_of, is_unknown_talk, opened_by, same_endpoint, unknown_of, IsHistoryOf}
+use Rattle.audit_flows.specs.Lines.{asked_part, endpoint_cmp, history_of, is_unknown_talk, is_word, opened_by, same_endpoint, spoken_of, unknown_of, IsHistoryOf}
 use Rattle.audit_flows.specs.declared.lines.place.Place.TheVariants.{Opens, Repeats}
 use Rattle.audit_flows.proofs.LinesLemmas.Histories.{history_same}
 use Rattle.audit_flows.proofs.LinesLemmas.Requests.{opened_again, opened_alike}
@@ -21,6 +21,7 @@ returns-clause-stands c line d stands is same = record {
   unknown = λ o. subst (λ e. list_any (is_unknown_talk e o) line ≡ unknown_of (get endpoint_cmp c.args.self.now.talks o)) (sym same) (stands.unknown o);
   again = λ e that. opened_alike c.args.transfer c.args.payload.now c.args.time d e is that
       ∙ ap (λ p. bytes_eq (asked_part p) (asked_part e.payload) && same_endpoint c.args.transfer.asked e.target) (sym c.in_ok-request.ensures.items);
+  spoken = λ o. subst (λ e. list_any (is_word e o) line ≡ spoken_of (get endpoint_cmp c.args.self.now.talks o)) (sym same) (stands.spoken o);
   went_on = search rules;
   surely = search rules;
   newest = search rules;

@@ -26,6 +26,7 @@ returns-in-Opens c named older d x after later seen is silent =
       comes_in = false;
       goes_on_with_first = false;
       speaks_first = false;
+      says_first_word = false;
       follows_unknown_id = false;
       follows_strays = strays;
       follows_unanswered = false;

@@ -9,7 +9,7 @@ use Rattle.audit_spared.specs.Spared.Worked.{ack_of_block, asked_again_only, blo
 use Rattle.audit_spared.proofs.SparedLemmas.ClientEnd.{lawful_at}
 use Rattle.audit_spared.proofs.SparedLemmas.WorkedPremises.{at_one, follow_one, order_by, others_by, own_names, ports_by, whole_by, wrong_port}
 use Rattle.audit_spared.proofs.SparedLemmas.WorkedCaptures.{silent_lawful}
-use Rattle.audit_spared.proofs.spared.worked.recordings_must_begin_before_their_captures.Goals as goal
+use Rattle.audit_spared.proofs.spared.worked.recordings_may_begin_within_their_captures.Goals as goal
 
 pub returns-clause-meets : goal.returns-clause-meets
 returns-clause-meets x = record {
@@ -22,8 +22,8 @@ returns-clause-meets x = record {
   order = order_by (ack_of_block ∷ asked_again_only ++ block_came) refl;
 }
 
-pub returns-clause-accused : goal.returns-clause-accused
-returns-clause-accused x = record {
+pub returns-clause-refused : goal.returns-clause-refused
+returns-clause-refused x = record {
   transfer = record { number = 0; client = client; asked = service; writes = false; has_window = false };
   at = refl;
   rule = Rule.Port PortRule.Wrong;
