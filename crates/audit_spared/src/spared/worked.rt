@@ -167,7 +167,7 @@ pub fn hosts_must_have_their_own_names()
     ensures others { AskersAreElsewhere one_client (to_second_host ∷ refused_elsewhere) }
     ensures ports { HaveNoServicePort one_client }
     ensures order { AreInOrder (to_second_host ∷ refused_elsewhere) }
-    ensures accused { IsAccusedAtClient one_name is_doubtful to_second_host refused_elsewhere }
+    ensures accused { IsAccusedAtClient one_name is_doubtful_in_whole to_second_host refused_elsewhere }
     ensures captures_there { (c : Endpoint) → Contains one_client c → FollowOneAnother (IsTimelyCapture one_name c) (filter (is_with c) (other_error ∷ told_by_namesake)) }
     ensures here { AreAtHost service.address one_client (other_error ∷ told_by_namesake) }
     ensures others_there { AskersAreElsewhere one_client (other_error ∷ told_by_namesake) }
