@@ -262,7 +262,7 @@ class Line:
     request: Datagram
     ends_in_request: bool = True
     only_asked: bool = True
-    # with whom something else than requests and ERRORs passed
+    # with whom something else passed than requests, ERROR 0 and ERROR 5
     spoken: set[Endpoint] = field(default_factory=set)
     # whether the latest request was answered for sure
     is_answered: bool = False
@@ -270,7 +270,7 @@ class Line:
     said: list[tuple[Datagram, Transfer]] = field(default_factory=list)
 
     def note_word(self, other: Endpoint, it: Datagram) -> None:
-        if not begins(it.payload, 5):
+        if not begins(it.payload, 5) or refuses(it.payload):
             self.spoken.add(other)
 
 

@@ -107,12 +107,12 @@ speaks_first p older = by p.place where
   by (Talks x) = same_endpoint p.datagram.source x.client && not (is_some (talk_in x.client (other_of x.client p.datagram) (line_before x.client p older)))
   by _ = false
 
--- the client and this endpoint talk by it, which is no request and no ERROR
+-- the client and this endpoint talk by it, and it is no ERROR 0 and no ERROR 5: each of these may come at any time
 abbrev pub is_word : Endpoint → Endpoint → Placed → Bool
-is_word c o q = not (is_request q) && (is_between c o q.datagram && not (begins_error q.datagram.payload))
+is_word c o q = not (is_request q) && (is_between c o q.datagram && (not (begins_error q.datagram.payload) || refuses q.datagram.payload))
 
--- A client's first word in a transfer: before it requests and ERRORs alone had passed between the two, and it is what a client
--- may say first to who has answered it. The answer did not pass: the recording began later, it may be.
+-- A client's first word in a transfer: before it requests, ERROR 0 and ERROR 5 alone had passed between the two, and it is what a
+-- client may say first to who has answered it. The answer did not pass: the recording began later, it may be.
 abbrev pub says_first_word : Placed → List Placed → Bool
 says_first_word p older = by p.place where
   by : Place → Bool

@@ -114,14 +114,14 @@ abbrev pub unknown_after : Option Transfer → Seen → Bool → Bool
 unknown_after None s before = before
 unknown_after (Some x) s before = s.kind.begins_unknown_id || before
 
--- whether something else than requests and ERRORs has passed between the two
+-- whether something else has passed between the two than requests, ERROR 0 and ERROR 5
 abbrev pub spoken_of : Option Talked → Bool
 spoken_of None = false
 spoken_of (Some talked) = talked.has_spoken
 
 -- after one datagram more that is no request
 abbrev pub spoken_after : Seen → Bool → Bool
-spoken_after s before = not s.kind.begins_error || before
+spoken_after s before = (not s.kind.begins_error || s.kind.refuses) || before
 
 -- ---- a line
 

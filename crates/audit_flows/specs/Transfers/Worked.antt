@@ -278,6 +278,14 @@ told_another =
     ∷ requests 0 client service (codes "f")
     ∷ []
 
+-- The client acknowledges an ERROR.
+abbrev pub acked_error : ℕ → List Recorded
+acked_error code =
+    passes 2 client server (ack_of 1)
+    ∷ passes 1 server client (error_of code)
+    ∷ requests 0 client service (codes "f")
+    ∷ []
+
 -- The recording begins within a capture, whose client asks once more: the answer came before.
 abbrev pub begun_within : ℕ → List Recorded
 begun_within number =

@@ -41,7 +41,7 @@ pub struct Doubts {
     pub goes_on_with_first: bool,
     /// Its client sent it to where nothing had passed between the two.
     pub speaks_first: bool,
-    /// It is its client's first word to an answer (RFC 1350, section 4), and nothing but requests and ERRORs had passed there.
+    /// It is its client's first word to an answer (RFC 1350, section 4), and nothing but requests, ERROR 0 and ERROR 5 had passed there.
     pub says_first_word: bool,
     /// ERROR 5, "Unknown transfer ID", had passed between its two ends (RFC 1350, section 5).
     pub follows_unknown_id: bool,
@@ -192,7 +192,7 @@ impl Line {
         seen.source == transfer.client && !self.talks_with(&other)
     }
 
-    /// Whether it is what the client may say first to an answer, where nothing but requests and ERRORs has passed between the two.
+    /// Whether it is what the client may say first to an answer, where nothing but requests, ERROR 0 and ERROR 5 has passed between the two.
     fn says_first_word(&self, transfer: &Transfer, other: Endpoint, seen: &Seen) -> bool
         ensures { (payload : List ℕ) → seen.now.kind ≡ kind_of payload
             → result ≡ (same_endpoint seen.now.source transfer.now.client && not self.now.went_on && not (spoken_of (get endpoint_cmp self.now.talks other)) && (passes_in transfer.now.writes true payload && nat_le (number_of payload) 1)) }

@@ -45,7 +45,7 @@ pub struct Talked {
     pub history: Option<History>,
     /// ERROR 5, "Unknown transfer ID", has passed between the two in one of these (RFC 1350, section 5).
     pub says_unknown_id: bool,
-    /// Something else than requests and ERRORs has passed between the two.
+    /// Something else has passed between the two than requests, ERROR 0 and ERROR 5.
     pub has_spoken: bool,
 }
 
@@ -130,7 +130,7 @@ impl Line {
         }
     }
 
-    /// Whether something else than requests and ERRORs has passed between its client and this endpoint.
+    /// Whether something else has passed between its client and this endpoint than requests, ERROR 0 and ERROR 5.
     pub(crate) fn has_spoken_with(&self, other: Endpoint) -> bool
         ensures { result ≡ spoken_of (get endpoint_cmp self.now.talks other) }
     {
@@ -383,11 +383,12 @@ fn unknown_after(talked: &Option<Transfer>, seen: &Seen, told: bool) -> bool
     }
 }
 
-/// Whether something else than requests and ERRORs has passed between the two, after one datagram more that is no request.
+/// Whether something else has passed between the two than requests, ERROR 0 and ERROR 5, after one datagram more that is no
+/// request.
 fn spoken_after(seen: &Seen, spoken: bool) -> bool
     ensures { result ≡ spoken_after seen.now spoken }
 {
-    !seen.kind.begins_error || spoken
+    !seen.kind.begins_error || seen.kind.refuses || spoken
 }
 
 /// Whether a line ends in a request, after one datagram more that is none.

@@ -110,8 +110,8 @@ impl TransferDoubts {
         self.says_unknown_id
     }
 
-    /// Whether its client spoke, up to the datagram that was noted last, before anything but requests and ERRORs had passed at
-    /// its endpoint, what it may say first to an answer (RFC 1350, section 4): that came before the recording began, it may be.
+    /// Whether its client has said, up to the datagram that was noted last, what it may say first to an answer (RFC 1350, section
+    /// 4), where no answer had passed: that came before the recording began, it may be.
     pub fn says_first_word(&self) -> bool
         ensures { (placed : List Placed) → IsDoubtedAfter self.now placed → result ≡ some_of self.now.number says_first_word placed }
     {

@@ -23,6 +23,7 @@ ghost use Rattle.audit_flows.specs.Transfers.Worked.{
   one_port_window,
   errors,
   begun_anew,
+  acked_error,
   begun_within,
   told_another,
   doubtful_in,
@@ -148,10 +149,12 @@ pub fn between_the_ends_who_told_error_5_may_begin_anew()
 {}
 
 /// What a client says first, and may say to an answer, is doubtful: that came before the recording began. It is no such word
-/// where the client says more than it could, nor where something had passed but its requests.
+/// where the client says more than it could, nor where it had heard an answer, as an ERROR is that refuses its request.
 pub fn what_a_client_says_first_may_answer_what_came_before()
     ensures acknowledged { doubtful_in is_doubtful 0 (begun_within 1) ≡ true ∷ false ∷ [] }
     ensures too_far { doubtful_in is_doubtful 0 (begun_within 2) ≡ false ∷ false ∷ [] }
+    ensures acked_error_0 { doubtful_in is_doubtful 0 (acked_error 0) ≡ true ∷ false ∷ false ∷ [] }
+    ensures acked_refusal { doubtful_in is_doubtful 0 (acked_error 1) ≡ false ∷ false ∷ false ∷ [] }
     ensures heard { doubtful_in is_doubtful 0 wrong_ports ≡ false ∷ false ∷ false ∷ false ∷ false ∷ [] }
 {}
 
