@@ -12,7 +12,9 @@ ghost use Rattle.audit_flows.specs.declared.lines.place.Transfer.{Transfer};
 
 use crate::lines::endpoint::Endpoint;
 use crate::lines::kind::{Seen, asked_part, other_end};
-use crate::lines::line::{Line, was_acked_0};
+use crate::lines::line::{
+    Line, Talked, has_spoken, has_told_unknown_id, history_of, talk_of, was_acked_0,
+};
 use crate::lines::place::{Place, Transfer};
 
 /// What one datagram makes doubtful, and with whom its client goes on. All but `may_be_answer_of` are of its own transfer.
@@ -156,7 +158,8 @@ impl Line {
             → result ≡ doubts_of (record { datagram = d; moment = now; place = Place.Talks transfer.now }) older }
     {
         let other = other_end(&transfer.client, seen);
-        let may_be_earlier = self.may_be_earlier(transfer, other, seen);
+        let talked = self.talked_with(other);
+        let may_be_earlier = may_be_earlier(transfer, talked, seen);
         Doubts {
             may_be_earlier,
             agrees_late: agrees_late(seen, may_be_earlier),
@@ -165,12 +168,12 @@ impl Line {
             is_late: self.is_behind(transfer),
             is_disordered: self.has_later(transfer.number, seen.time),
             is_asked_again: false,
-            may_be_answer_of: self.answers_instead(transfer, other, seen),
+            may_be_answer_of: self.answers_instead(transfer, other, talked, seen),
             comes_in: seen.target == transfer.client,
             goes_on_with_first: self.goes_on_with_first(transfer, seen),
-            speaks_first: self.speaks_first(transfer, other, seen),
-            says_first_word: self.says_first_word(transfer, other, seen),
-            follows_unknown_id: self.has_told_unknown_id(other),
+            speaks_first: speaks_first(transfer, talked, seen),
+            says_first_word: self.says_first_word(transfer, talked, seen),
+            follows_unknown_id: has_told_unknown_id(talked),
             follows_strays: false,
             follows_unanswered: false,
         }
@@ -185,21 +188,14 @@ impl Line {
         is_own && !self.is_behind(transfer) && self.was_first(seen.target)
     }
 
-    /// Whether the client sends to where nothing had passed between the two.
-    fn speaks_first(&self, transfer: &Transfer, other: Endpoint, seen: &Seen) -> bool
-        ensures { result ≡ (same_endpoint seen.now.source transfer.now.client && not (is_some (option_map (λ t. t.talk) (get endpoint_cmp self.now.talks other)))) }
-    {
-        seen.source == transfer.client && !self.talks_with(&other)
-    }
-
     /// Whether it is what the client may say first to an answer, where nothing but requests, ERROR 0 and ERROR 5 has passed between the two.
-    fn says_first_word(&self, transfer: &Transfer, other: Endpoint, seen: &Seen) -> bool
+    fn says_first_word(&self, transfer: &Transfer, talked: Option<Talked>, seen: &Seen) -> bool
         ensures { (payload : List ℕ) → seen.now.kind ≡ kind_of payload
-            → result ≡ (same_endpoint seen.now.source transfer.now.client && not self.now.went_on && not (spoken_of (get endpoint_cmp self.now.talks other)) && (passes_in transfer.now.writes true payload && nat_le (number_of payload) 1)) }
+            → result ≡ (same_endpoint seen.now.source transfer.now.client && not self.now.went_on && not (spoken_of talked) && (passes_in transfer.now.writes true payload && nat_le (number_of payload) 1)) }
     {
         let is_first = seen.source == transfer.client && !self.went_on;
         let may_answer = seen.kind.passes_in(transfer.writes, true) && seen.kind.number <= 1;
-        is_first && !self.has_spoken_with(other) && may_answer
+        is_first && !has_spoken(talked) && may_answer
     }
 
     /// Whether it first sent the client a datagram of the latest transfer.
@@ -209,20 +205,6 @@ impl Line {
         match &self.answered {
             None => false,
             Some(first) => other == *first,
-        }
-    }
-
-    /// Whether it may be late, from another transfer in which the two talked before.
-    fn may_be_earlier(&self, transfer: &Transfer, other: Endpoint, seen: &Seen) -> bool
-        ensures { (payload : List ℕ) → seen.now.kind ≡ kind_of payload
-            → result ≡ up_to transfer.now.number (history_of (get endpoint_cmp self.now.talks other)) (same_endpoint seen.now.source transfer.now.client) payload }
-    {
-        match self.history_with(other) {
-            None => false,
-            Some(history) => {
-                let progress = history.up_to(transfer.number);
-                progress.is_within(&seen.kind, seen.source == transfer.client)
-            }
         }
     }
 
@@ -252,13 +234,19 @@ impl Line {
     }
 
     /// The latest transfer's number, where a datagram of another one may be its first answer.
-    fn answers_instead(&self, transfer: &Transfer, other: Endpoint, seen: &Seen) -> Option<u64>
+    fn answers_instead(
+        &self,
+        transfer: &Transfer,
+        other: Endpoint,
+        talked: Option<Talked>,
+        seen: &Seen,
+    ) -> Option<u64>
         ensures { (d : Recorded) → seen.now ≡ seen_of d
             → result ≡ (if is_another transfer.now (Some self.now.latest)
-            && (may_answer transfer.now.client other self.now.answered d && (seen.now.kind.is_data_1 && acked_0_in (option_map (λ t. t.talk) (get endpoint_cmp self.now.talks other))))
+            && (may_answer transfer.now.client other self.now.answered d && (seen.now.kind.is_data_1 && acked_0_in (option_map (λ t. t.talk) talked)))
             then Some self.now.latest.number else None) }
     {
-        if self.may_answer_first(transfer, other, seen) {
+        if self.may_answer_first(transfer, other, talked, seen) {
             Some(self.latest.number)
         } else {
             None
@@ -266,13 +254,19 @@ impl Line {
     }
 
     /// Whether a datagram of another transfer may be the latest one's first answer.
-    fn may_answer_first(&self, transfer: &Transfer, other: Endpoint, seen: &Seen) -> bool
+    fn may_answer_first(
+        &self,
+        transfer: &Transfer,
+        other: Endpoint,
+        talked: Option<Talked>,
+        seen: &Seen,
+    ) -> bool
         ensures { (d : Recorded) → seen.now ≡ seen_of d
             → result ≡ (is_another transfer.now (Some self.now.latest)
-            && (may_answer transfer.now.client other self.now.answered d && (seen.now.kind.is_data_1 && acked_0_in (option_map (λ t. t.talk) (get endpoint_cmp self.now.talks other))))) }
+            && (may_answer transfer.now.client other self.now.answered d && (seen.now.kind.is_data_1 && acked_0_in (option_map (λ t. t.talk) talked)))) }
     {
         let answers = self.may_answer(transfer.client, other, seen);
-        let is_next = seen.kind.is_data_1 && was_acked_0(self.talk_with(other));
+        let is_next = seen.kind.is_data_1 && was_acked_0(talk_of(talked));
         self.is_behind(transfer) && (answers && is_next)
     }
 
@@ -300,4 +294,25 @@ fn rests_on_terms(transfer: &Transfer, seen: &Seen) -> bool
         .kind
         .passes_in(transfer.writes, seen.source == transfer.client);
     is_its_own && (seen.kind.is_block || seen.kind.is_ack_0)
+}
+
+/// Whether it may be late, from another transfer in which the two talked before.
+fn may_be_earlier(transfer: &Transfer, talked: Option<Talked>, seen: &Seen) -> bool
+    ensures { (payload : List ℕ) → seen.now.kind ≡ kind_of payload
+        → result ≡ up_to transfer.now.number (history_of talked) (same_endpoint seen.now.source transfer.now.client) payload }
+{
+    match history_of(talked) {
+        None => false,
+        Some(history) => {
+            let progress = history.up_to(transfer.number);
+            progress.is_within(&seen.kind, seen.source == transfer.client)
+        }
+    }
+}
+
+/// Whether the client sends to where nothing had passed between the two.
+fn speaks_first(transfer: &Transfer, talked: Option<Talked>, seen: &Seen) -> bool
+    ensures { result ≡ (same_endpoint seen.now.source transfer.now.client && not (is_some (option_map (λ t. t.talk) talked))) }
+{
+    seen.source == transfer.client && talked.is_none()
 }

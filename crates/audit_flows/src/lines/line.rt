@@ -110,33 +110,13 @@ impl Line {
         }
     }
 
-    /// What its client and this endpoint said to each other in their transfers.
-    pub(crate) fn history_with(&self, other: Endpoint) -> Option<History>
-        ensures { result ≡ history_of (get endpoint_cmp self.now.talks other) }
+    /// What is kept of its client and this endpoint.
+    pub(crate) fn talked_with(&self, other: Endpoint) -> Option<Talked>
+        ensures { result ≡ get endpoint_cmp self.now.talks other }
     {
         match self.talks.get(&other) {
             None => None,
-            Some(talked) => talked.history,
-        }
-    }
-
-    /// Whether ERROR 5 has passed between its client and this endpoint in one of their transfers.
-    pub(crate) fn has_told_unknown_id(&self, other: Endpoint) -> bool
-        ensures { result ≡ unknown_of (get endpoint_cmp self.now.talks other) }
-    {
-        match self.talks.get(&other) {
-            None => false,
-            Some(talked) => talked.says_unknown_id,
-        }
-    }
-
-    /// Whether something else has passed between its client and this endpoint than requests, ERROR 0 and ERROR 5.
-    pub(crate) fn has_spoken_with(&self, other: Endpoint) -> bool
-        ensures { result ≡ spoken_of (get endpoint_cmp self.now.talks other) }
-    {
-        match self.talks.get(&other) {
-            None => false,
-            Some(talked) => talked.has_spoken,
+            Some(talked) => Some(*talked),
         }
     }
 
@@ -282,18 +262,8 @@ impl Line {
             → OnOk result (IsLineOf self.new (record { datagram = d; moment = now; place = place_of_talk self.old.latest.client talked } ∷ line)) }
         ensures client { self.new.latest ≡ self.old.latest }
     {
-        let talk = self.talk_after(other, talked, seen);
-        let history = self.history_after(other, &talked, seen);
-        let told = self.has_told_unknown_id(other);
-        let says_unknown_id = unknown_after(&talked, seen, told);
-        let spoken = self.has_spoken_with(other);
-        let has_spoken = spoken_after(seen, spoken);
-        let all = Talked {
-            talk,
-            history,
-            says_unknown_id,
-            has_spoken,
-        };
+        let before = self.talked_with(other);
+        let all = talked_after(self.latest.client, other, talked, seen, before);
         self.talks.insert(other, all)?;
         note_talk(&mut self.newest, &talked, seen.time)?;
         self.went_on = went_on_after(&talked, seen, self.went_on);
@@ -302,38 +272,6 @@ impl Line {
         self.ends_in_request = ends_after(&talked, self.ends_in_request);
         self.moment = now;
         Ok(())
-    }
-
-    /// The talk with this endpoint, after one datagram more.
-    fn talk_after(&self, other: Endpoint, talked: Option<Transfer>, seen: &Seen) -> Talk
-        ensures { result ≡ talk_after self.now.latest.client other talked seen.now (option_map (λ t. t.talk) (get endpoint_cmp self.now.talks other)) }
-    {
-        let is_sent = seen.source == self.latest.client && seen.target == other;
-        let acked_0 = if is_sent {
-            seen.kind.is_ack_0
-        } else {
-            was_acked_0(self.talk_with(other))
-        };
-        Talk {
-            transfer: talked,
-            acked_0,
-        }
-    }
-
-    /// How far the transfers with this endpoint came, after one datagram more.
-    fn history_after(
-        &self,
-        other: Endpoint,
-        talked: &Option<Transfer>,
-        seen: &Seen,
-    ) -> Option<History>
-        ensures { IsHistoryAfter (history_of (get endpoint_cmp self.now.talks other)) result talked.now seen.now.kind.number }
-    {
-        let before = self.history_with(other);
-        match talked {
-            None => before,
-            Some(transfer) => Some(History::after(before, transfer, seen.kind.number)),
-        }
     }
 
     /// Whether the latest transfer is answered for sure, after one datagram more that is no request.
@@ -361,6 +299,98 @@ impl Line {
             }
             (None, _) => None,
         }
+    }
+}
+
+/// What is kept of a client and another endpoint, after one datagram more between the two that is no request.
+fn talked_after(
+    client: Endpoint,
+    other: Endpoint,
+    talked: Option<Transfer>,
+    seen: &Seen,
+    before: Option<Talked>,
+) -> Talked
+    ensures talk { result.talk ≡ talk_after client other talked seen.now (option_map (λ t. t.talk) before) }
+    ensures history { IsHistoryAfter (history_of before) result.history talked seen.now.kind.number }
+    ensures unknown { result.says_unknown_id ≡ unknown_after talked seen.now (unknown_of before) }
+    ensures spoken { result.has_spoken ≡ spoken_after seen.now (spoken_of before) }
+{
+    Talked {
+        talk: talk_after(client, other, talked, seen, talk_of(before)),
+        history: history_after(&talked, seen, history_of(before)),
+        says_unknown_id: unknown_after(&talked, seen, has_told_unknown_id(before)),
+        has_spoken: spoken_after(seen, has_spoken(before)),
+    }
+}
+
+/// What passed last between a client and another endpoint, after one datagram more.
+fn talk_after(
+    client: Endpoint,
+    other: Endpoint,
+    talked: Option<Transfer>,
+    seen: &Seen,
+    before: Option<Talk>,
+) -> Talk
+    ensures { result ≡ talk_after client other talked seen.now before }
+{
+    let acked_0 = if seen.source == client && seen.target == other {
+        seen.kind.is_ack_0
+    } else {
+        was_acked_0(before)
+    };
+    Talk {
+        transfer: talked,
+        acked_0,
+    }
+}
+
+/// How far the transfers of the two came, after one datagram more.
+fn history_after(talked: &Option<Transfer>, seen: &Seen, before: Option<History>) -> Option<History>
+    ensures { IsHistoryAfter before result talked.now seen.now.kind.number }
+{
+    match talked {
+        None => before,
+        Some(transfer) => Some(History::after(before, transfer, seen.kind.number)),
+    }
+}
+
+/// What passed last between a client and another endpoint, requests aside.
+pub(crate) fn talk_of(talked: Option<Talked>) -> Option<Talk>
+    ensures { result ≡ option_map (λ t. t.talk) talked }
+{
+    match talked {
+        None => None,
+        Some(talked) => Some(talked.talk),
+    }
+}
+
+/// What the two said to each other in their transfers.
+pub(crate) fn history_of(talked: Option<Talked>) -> Option<History>
+    ensures { result ≡ history_of talked }
+{
+    match talked {
+        None => None,
+        Some(talked) => talked.history,
+    }
+}
+
+/// Whether ERROR 5 has passed between the two in one of their transfers.
+pub(crate) fn has_told_unknown_id(talked: Option<Talked>) -> bool
+    ensures { result ≡ unknown_of talked }
+{
+    match talked {
+        None => false,
+        Some(talked) => talked.says_unknown_id,
+    }
+}
+
+/// Whether something else has passed between the two than requests, ERROR 0 and ERROR 5.
+pub(crate) fn has_spoken(talked: Option<Talked>) -> bool
+    ensures { result ≡ spoken_of talked }
+{
+    match talked {
+        None => false,
+        Some(talked) => talked.has_spoken,
     }
 }
 

@@ -2,7 +2,7 @@ use Rattle.std.proofs.Common.{◌≡◌, false, List, Some, None, option_map, na
 use Rattle.std.specs.BTreeMap.{get}
 use Rattle.std.specs.List.{list_any}
 use Rattle.std.specs.Ordering.{nat_cmp}
-use Rattle.audit_flows.specs.Lines.{Placed, before_talk, begins_oack, history_of, may_be_earlier, may_follow, same_endpoint, endpoint_cmp, number_of, passes_in, other_of, other_end, live, line, may_answer, talk_in, is_another, is_past, is_the_one, is_unknown_talk, is_word, spoken_of, acked_0_in, answer_of, answered_last, IsLineOf}
+use Rattle.audit_flows.specs.Lines.{Placed, before_talk, begins_oack, history_of, may_be_earlier, may_follow, same_endpoint, endpoint_cmp, number_of, passes_in, other_of, other_end, live, line, may_answer, talk_in, is_another, is_past, is_the_one, is_unknown_talk, is_word, spoken_of, unknown_of, acked_0_in, answer_of, answered_last, IsLineOf}
 use Rattle.audit_flows.specs.declared.lines.line.Line.{Line}
 use Rattle.audit_flows.specs.declared.lines.place.Place.TheVariants.{Talks}
 use Rattle.audit_flows.specs.declared.lines.place.Transfer.{Transfer}
@@ -19,13 +19,14 @@ returns c d now older client stands seen =
     let l : Line = c.args.self.now in
     let before : List Placed = live now (line c.args.transfer.now.client older) in
     let other : c.other_end-other.result ≡ other_of c.args.transfer.now.client d = c.other_end-other.ensures ∙ ap (other_end c.args.transfer.now.client) seen in
-    let talk : option_map (λ t. t.talk) (get endpoint_cmp c.args.self.now.talks c.other_end-other.result) ≡ talk_in c.args.transfer.now.client (other_of c.args.transfer.now.client d) (live now (line c.args.transfer.now.client older)) =
-    stands.talks c.other_end-other.result ∙ (λ i. talk_in (client i) (other i) (live now (line c.args.transfer.now.client older))) in
-    let spoken : spoken_of (get endpoint_cmp c.args.self.now.talks c.other_end-other.result) ≡ list_any (is_word c.args.transfer.now.client (other_of c.args.transfer.now.client d)) (live now (line c.args.transfer.now.client older)) =
-    sym (stands.spoken c.other_end-other.result) ∙ (λ i. list_any (is_word (client i) (other i)) (live now (line c.args.transfer.now.client older))) in
+    let talked : c.talked_with-talked.result ≡ get endpoint_cmp c.args.self.now.talks c.other_end-other.result = c.talked_with-talked.ensures in
+    let talk : option_map (λ t. t.talk) c.talked_with-talked.result ≡ talk_in c.args.transfer.now.client (other_of c.args.transfer.now.client d) (live now (line c.args.transfer.now.client older)) =
+    ap (option_map (λ t. t.talk)) talked ∙ stands.talks c.other_end-other.result ∙ (λ i. talk_in (client i) (other i) (live now (line c.args.transfer.now.client older))) in
+    let spoken : spoken_of c.talked_with-talked.result ≡ list_any (is_word c.args.transfer.now.client (other_of c.args.transfer.now.client d)) (live now (line c.args.transfer.now.client older)) =
+    ap spoken_of talked ∙ sym (stands.spoken c.other_end-other.result) ∙ (λ i. list_any (is_word (client i) (other i)) (live now (line c.args.transfer.now.client older))) in
     let earlier : c.may_be_earlier-may_be_earlier.result ≡ may_be_earlier (record { datagram = d; moment = now; place = Talks c.args.transfer.now }) older =
     c.may_be_earlier-may_be_earlier.ensures d.payload (ap (λ s. s.kind) seen)
-    ∙ ap (λ s. up_to c.args.transfer.now.number (history_of (get endpoint_cmp c.args.self.now.talks c.other_end-other.result)) (same_endpoint s.source c.args.transfer.now.client) d.payload) seen
+    ∙ (λ i. up_to c.args.transfer.now.number (history_of (talked i)) (same_endpoint (seen i).source c.args.transfer.now.client) d.payload)
     ∙ sym (told_up_to c.args.self.now.latest.client c.other_end-other.result (live now (line c.args.transfer.now.client older)) (history_of (get endpoint_cmp c.args.self.now.talks c.other_end-other.result))
     c.args.transfer.now.number (same_endpoint d.source c.args.transfer.now.client) d.payload (stands.histories c.other_end-other.result))
     ∙ (λ i. list_any (may_follow (client i) (other i) (same_endpoint d.source c.args.transfer.now.client) d.payload) (before_talk (client i) (other i) c.args.transfer.now.number (live now (line c.args.transfer.now.client older)))) in
@@ -46,7 +47,7 @@ returns c d now older client stands seen =
       speaks_first = (c.speaks_first.ensures ∙ (λ j. same_endpoint (seen j).source c.args.transfer.now.client && not (is_some (talk j)))) i;
       says_first_word = (c.says_first_word.ensures d.payload (ap (λ s. s.kind) seen)
           ∙ (λ j. same_endpoint (seen j).source c.args.transfer.now.client && not (sym stands.went_on j) && not (spoken j) && (passes_in c.args.transfer.now.writes true d.payload && nat_le (number_of d.payload) 1))) i;
-      follows_unknown_id = (c.has_told_unknown_id.ensures ∙ sym (stands.unknown c.other_end-other.result)
+      follows_unknown_id = (c.has_told_unknown_id.ensures ∙ ap unknown_of talked ∙ sym (stands.unknown c.other_end-other.result)
           ∙ (λ j. list_any (is_unknown_talk (client j) (other j)) (live now (line c.args.transfer.now.client older)))) i;
       follows_strays = false;
       follows_unanswered = false;
