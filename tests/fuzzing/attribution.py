@@ -162,6 +162,12 @@ class Transfer:
     def writes(self) -> bool:
         return begins(self.seen[0].payload, 2)
 
+    def writes_by(self, it: Datagram) -> bool:
+        """Whether a file is written by it; what is no block and no ACK is of its transfer's side."""
+        if is_block(it.payload):
+            return it.source == self.client
+        return it.source != self.client if is_ack(it.payload) else self.writes()
+
     def has_window(self) -> bool:
         return b"windowsize" in self.seen[0].payload.lower().split(b"\0")
 
@@ -184,7 +190,7 @@ class Transfer:
             return False
         is_client, number = it.source == self.client, number_of(it.payload)
         return any(
-            passes_in(of.writes(), is_client, it.payload)
+            passes_in(of.writes_by(one), is_client, it.payload)
             and (of.has_window() or number <= number_of(one.payload) + 1)
             for one, of in self.before_talk(it)
         )

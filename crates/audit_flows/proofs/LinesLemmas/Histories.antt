@@ -2,7 +2,7 @@
 use Rattle.std.proofs.Common.{◌≡◌, ℕ, Bool, true, false, List, [], ◌∷◌, Option, Some, None, refl, sym, ap, ◌∙◌, ◌+◌, ◌==◌, ◌&&◌, ◌||◌, not, nat_le, if◌then◌else◌}
 use Rattle.std.specs.List.{list_any}
 use Rattle.std.proofs.lemmas.Bool.{eq-eqb, eqb-true}
-use Rattle.audit_flows.specs.Lines.{Placed, Recorded, before_talk, is_between, is_other_talk, is_talk, is_within, may_follow, number_of, passes_in, IsHistoryOf, TellsOf}
+use Rattle.audit_flows.specs.Lines.{Placed, Recorded, before_talk, is_between, is_other_talk, is_talk, is_within, may_follow, number_of, passes_in, writes_by, IsHistoryOf, TellsOf}
 use Rattle.audit_flows.specs.declared.lines.endpoint.Endpoint.{Endpoint}
 use Rattle.audit_flows.specs.declared.lines.place.Place.TheVariants.{Talks}
 use Rattle.audit_flows.specs.declared.lines.history.History.{History}
@@ -76,13 +76,13 @@ other_is : (c o : Endpoint) (d : Recorded) (m n : ℕ) (y : Transfer) → is_bet
 other_is c o d m n y between = rw between refl
 
 pub history_more : (c o : Endpoint) (d : Recorded) (m : ℕ) (y : Transfer) (line : List Placed) (old : Option History) (h : History) → is_between c o d ≡ true
-    → IsHistoryOf c o line old → IsNextHistory old y (number_of d.payload) h → TellsOf c o (now_at d m (Talks y) ∷ line) h
+    → IsHistoryOf c o line old → IsNextHistory old y (writes_by c y d) (number_of d.payload) h → TellsOf c o (now_at d m (Talks y) ∷ line) h
 history_more c o d m y line old h between is next =
     let p : Placed = now_at d m (Talks y) in
     let same : h.number ≡ y.number = next.talked in
     let whole : (w : Bool) (payload : List ℕ) → list_any (may_follow c o w payload) (now_at d m (Talks y) ∷ line) ≡ is_within h.whole w payload = λ w payload.
-    ap (λ b. (b && (passes_in y.writes w payload && nat_le (number_of payload) (far_by y (number_of d.payload) + 1))) || list_any (may_follow c o w payload) line) between
-    ∙ ap (λ b. (passes_in y.writes w payload && nat_le (number_of payload) (far_by y (number_of d.payload) + 1)) || b) (told_all c o line old w payload is)
+    ap (λ b. (b && (passes_in (writes_by c y d) w payload && nat_le (number_of payload) (far_by y (number_of d.payload) + 1))) || list_any (may_follow c o w payload) line) between
+    ∙ ap (λ b. (passes_in (writes_by c y d) w payload && nat_le (number_of payload) (far_by y (number_of d.payload) + 1)) || b) (told_all c o line old w payload is)
     ∙ sym (next.whole w payload) in
     record {
       whole = whole;

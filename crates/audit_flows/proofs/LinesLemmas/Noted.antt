@@ -11,7 +11,7 @@ use Rattle.audit_flows.specs.declared.lines.place.Place.TheVariants.{Repeats}
 use Rattle.audit_flows.specs.declared.lines.place.Transfer.{Transfer}
 use Rattle.audit_flows.specs.declared.lines.line.Line.{Line}
 use Rattle.audit_flows.proofs.LinesLemmas.Endpoints.{same_by_order, is_same}
-use Rattle.audit_flows.specs.Lines.{is_talk, number_of, IsHistoryOf}
+use Rattle.audit_flows.specs.Lines.{is_talk, IsHistoryOf}
 use Rattle.audit_flows.specs.declared.lines.history.History.{History}
 use Rattle.audit_flows.specs.declared.lines.line.Talked.{Talked}
 use Rattle.audit_flows.specs.Lines.Kept.{IsHistoryAfter}
@@ -64,7 +64,7 @@ pub record IsNoted (old new : Line) (o : Endpoint) (talked : Option Transfer) (d
       ≡ cond (is_eq (endpoint_cmp o q)) (Some (talk_after old.latest.client o talked (seen_of d) (option_map (λ t. t.talk) (get endpoint_cmp old.talks o)))) (option_map (λ t. t.talk) (get endpoint_cmp old.talks q))
   pub histories : (q : Endpoint) → history_of (get endpoint_cmp new.talks q)
       ≡ cond (is_eq (endpoint_cmp o q)) (history_of (get endpoint_cmp new.talks o)) (history_of (get endpoint_cmp old.talks q))
-  pub history : IsHistoryAfter (history_of (get endpoint_cmp old.talks o)) (history_of (get endpoint_cmp new.talks o)) talked (seen_of d).kind.number
+  pub history : IsHistoryAfter (history_of (get endpoint_cmp old.talks o)) (history_of (get endpoint_cmp new.talks o)) old.latest.client talked (seen_of d)
   pub unknowns : (q : Endpoint) → unknown_of (get endpoint_cmp new.talks q)
       ≡ cond (is_eq (endpoint_cmp o q)) (unknown_after talked (seen_of d) (unknown_of (get endpoint_cmp old.talks o))) (unknown_of (get endpoint_cmp old.talks q))
   pub spoken : (q : Endpoint) → spoken_of (get endpoint_cmp new.talks q)
@@ -102,7 +102,7 @@ no_talk c o q None d now between other = refl
 no_talk c o q (Some x) d now between other = not_between c o q d between other
 
 history_here : (c o : Endpoint) (talked : Option Transfer) (d : Recorded) (now : ℕ) (line : List Placed) (old new : Option History) → is_between c o d ≡ true → IsHistoryOf c o line old
-    → IsHistoryAfter old new talked (number_of d.payload) → IsHistoryOf c o (talk_placed c d now talked ∷ line) new
+    → IsHistoryAfter old new c talked (seen_of d) → IsHistoryOf c o (talk_placed c d now talked ∷ line) new
 history_here c o None d now line old new between is after = subst (IsHistoryOf c o (talk_placed c d now None ∷ line)) (sym after) (history_same c o (talk_placed c d now None) line old refl is)
 history_here c o (Some x) d now line old (Some h) between is after = history_more c o d now x line old h between is after
 history_here c o (Some x) d now line old None between is after = absurd after

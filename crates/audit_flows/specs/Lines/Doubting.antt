@@ -8,7 +8,7 @@ use Rattle.audit_flows.specs.declared.lines.place.Place.{Place}
 use Rattle.audit_flows.specs.declared.lines.place.Place.TheVariants.{Opens, Repeats, Talks, Beside, Nowhere}
 use Rattle.audit_flows.specs.declared.lines.place.Transfer.{Transfer}
 use Rattle.audit_flows.specs.declared.lines.doubts.Doubts.{Doubts}
-use Rattle.audit_flows.specs.Lines.Recording.{Recorded, same_endpoint, is_between, other_of, begins_error, begins_oack, begins_packet, begins_unknown_id, is_ack_0, is_block, is_data_1, number_of, passes_in, asks_alike, refuses, same_address}
+use Rattle.audit_flows.specs.Lines.Recording.{Recorded, same_endpoint, is_between, other_of, begins_error, begins_oack, begins_packet, begins_unknown_id, is_ack, is_ack_0, is_block, is_data_1, number_of, passes_in, asks_alike, refuses, same_address}
 use Rattle.audit_flows.specs.Lines.Places.{Placed, is_request, is_of, newest_of, live, line, silence, transfer_of, latest_in, reach, talk_in, answered_in, may_answer}
 
 -- the client's line as the datagram came
@@ -229,12 +229,17 @@ before_talk c o n (q ∷ line) = if is_other_talk c o n q then q ∷ line else b
 abbrev pub far : Transfer → Placed → ℕ
 far y q = if y.has_window then 65535 else number_of q.datagram.payload
 
+-- Whether a file is written by it: who writes sends blocks, and who reads ACKs (RFC 1350, section 2). What is neither is of its
+-- transfer's side.
+abbrev pub writes_by : Endpoint → Transfer → Recorded → Bool
+writes_by c y d = if is_block d.payload then same_endpoint d.source c else (if is_ack d.payload then not (same_endpoint d.source c) else y.writes)
+
 -- Such a payload of the client, or of the other end, may be of the transfer in which the two talk here: it is what this end
 -- sends in one, and the next at the most (RFC 1350, section 2).
 abbrev pub may_follow : Endpoint → Endpoint → Bool → List ℕ → Placed → Bool
 may_follow c o is_client payload q = by q.place where
   by : Place → Bool
-  by (Talks y) = is_between c o q.datagram && (passes_in y.writes is_client payload && nat_le (number_of payload) (far y q + 1))
+  by (Talks y) = is_between c o q.datagram && (passes_in (writes_by c y q.datagram) is_client payload && nat_le (number_of payload) (far y q + 1))
   by _ = false
 
 -- it may be of an earlier transfer between the two, and late

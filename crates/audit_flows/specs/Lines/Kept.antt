@@ -84,21 +84,25 @@ IsHistoryOf c o line (Some h) = TellsOf c o line h
 abbrev pub far_by : Transfer → ℕ → ℕ
 far_by x number = if x.has_window then 65535 else number
 
--- how far all came, with a datagram of this transfer and this number more
-abbrev pub IsFurther : Transfer → ℕ → (Bool → List ℕ → Bool) → Progress → Type 0
-IsFurther x number before progress = (is_client : Bool) (payload : List ℕ) → is_within progress is_client payload
-    ≡ ((passes_in x.writes is_client payload && nat_le (number_of payload) (far_by x number + 1)) || before is_client payload)
+-- whether a file is written by a datagram of this transfer between the client and another
+abbrev pub writes_in : Endpoint → Transfer → Seen → Bool
+writes_in c x s = if s.kind.is_block then same_endpoint s.source c else (if s.kind.is_ack then not (same_endpoint s.source c) else x.writes)
 
--- the history after a datagram of this transfer with this number
-pub record IsNextHistory (old : Option History) (x : Transfer) (number : ℕ) (h : History) : Type 0 where
+-- how far all came, with a datagram more of this side, which came so far
+abbrev pub IsFurther : Bool → ℕ → (Bool → List ℕ → Bool) → Progress → Type 0
+IsFurther writes far before progress = (is_client : Bool) (payload : List ℕ) → is_within progress is_client payload
+    ≡ ((passes_in writes is_client payload && nat_le (number_of payload) (far + 1)) || before is_client payload)
+
+-- the history after a datagram of this transfer, of this side and with this number
+pub record IsNextHistory (old : Option History) (x : Transfer) (writes : Bool) (number : ℕ) (h : History) : Type 0 where
   pub talked : h.number ≡ x.number
-  pub whole : IsFurther x number (all_by old) h.whole
+  pub whole : IsFurther writes (far_by x number) (all_by old) h.whole
   pub before : (is_client : Bool) (payload : List ℕ) → is_within h.before is_client payload ≡ up_to x.number old is_client payload
 
 -- after a datagram of this transfer, or of none
-abbrev pub IsHistoryAfter : Option History → Option History → Option Transfer → ℕ → Type 0
-IsHistoryAfter old new None number = new ≡ old
-IsHistoryAfter old new (Some x) number = IsSomeAnd new (IsNextHistory old x number)
+abbrev pub IsHistoryAfter : Option History → Option History → Endpoint → Option Transfer → Seen → Type 0
+IsHistoryAfter old new c None s = new ≡ old
+IsHistoryAfter old new c (Some x) s = IsSomeAnd new (IsNextHistory old x (writes_in c x s) s.kind.number)
 
 abbrev pub history_of : Option Talked → Option History
 history_of None = None

@@ -321,6 +321,22 @@ one_port_window =
     ∷ record { time = 0; source = client; target = service; payload = read_of (codes "f") ++ codes "WindowSize" ++ 0 ∷ codes "4" ++ 0 ∷ []; is_spelled = true }
     ∷ []
 
+-- With the server of one port the client writes a second file, whose answer a stranger's comes before: what the two say is told
+-- of the first, a read. In the third that server's ACK 0 comes late.
+abbrev pub strayed_write : List Recorded
+strayed_write =
+    passes 9 server client (ack_of 0)
+    ∷ passes 8 client server (ack_of 1)
+    ∷ passes 7 server client (data_of 1)
+    ∷ requests 6 client service (codes "h")
+    ∷ passes 5 server client (ack_of 0)
+    ∷ passes 4 stranger client (data_of 7)
+    ∷ record { time = 3 * second; source = client; target = service; payload = 0 ∷ 2 ∷ codes "g" ++ 0 ∷ codes "octet" ++ 0 ∷ []; is_spelled = true }
+    ∷ passes 2 client server (ack_of 1)
+    ∷ passes 1 server client (data_of 1)
+    ∷ requests 0 client service (codes "f")
+    ∷ []
+
 -- ---- views and doubts, by the payloads
 
 abbrev pub seen_by_client : ℕ → List Recorded → List (List ℕ)

@@ -2,7 +2,7 @@
 
 ghost use Rattle.std.specs.Prelude.{◌≡◌, ◌+◌, ◌==◌, ◌&&◌, ◌||◌, ℕ, Bool, List, Option, None, Some, false, true, nat_le, max, if◌then◌else◌};
 ghost use Rattle.audit_flows.specs.Lines.Recording.{number_of, passes_in};
-ghost use Rattle.audit_flows.specs.Lines.Kept.{IsFurther, IsNextHistory, is_reached, is_within, kind_of};
+ghost use Rattle.audit_flows.specs.Lines.Kept.{IsFurther, IsNextHistory, far_by, is_reached, is_within, kind_of};
 ghost use Rattle.audit_flows.specs.declared.lines.history.History.{History};
 ghost use Rattle.audit_flows.specs.declared.lines.history.Progress.{Progress};
 
@@ -41,16 +41,11 @@ impl Progress {
         }
     }
 
-    /// After a datagram of this transfer more, with this number.
-    pub(crate) fn after(&self, transfer: &Transfer, number: u16) -> Self
-        ensures { IsFurther transfer.now number (λ is_client payload. is_within self.now is_client payload) result }
+    /// After a datagram more, by which a file is written or read, and which came so far.
+    pub(crate) fn after(&self, writes: bool, far: u16) -> Self
+        ensures { IsFurther writes far (λ is_client payload. is_within self.now is_client payload) result }
     {
-        let far = if transfer.has_window {
-            u16::MAX
-        } else {
-            number
-        };
-        if transfer.writes {
+        if writes {
             return Progress {
                 reads: self.reads,
                 writes: further(self.writes, far),
@@ -73,19 +68,25 @@ impl Progress {
 }
 
 impl History {
-    /// After a datagram more, of this transfer and with this number.
-    pub(crate) fn after(before: Option<History>, transfer: &Transfer, number: u16) -> Self
-        ensures { IsNextHistory before transfer.now number result }
+    /// After a datagram more, of this transfer and with this number, by which a file is written or read.
+    pub(crate) fn after(
+        before: Option<History>,
+        transfer: &Transfer,
+        writes: bool,
+        number: u16,
+    ) -> Self
+        ensures { IsNextHistory before transfer.now writes number result }
     {
+        let far = far_by(transfer, number);
         match before {
             None => History {
                 number: transfer.number,
-                whole: Progress::none().after(transfer, number),
+                whole: Progress::none().after(writes, far),
                 before: Progress::none(),
             },
             Some(history) => History {
                 number: transfer.number,
-                whole: history.whole.after(transfer, number),
+                whole: history.whole.after(writes, far),
                 before: history.up_to(transfer.number),
             },
         }
@@ -100,6 +101,17 @@ impl History {
         } else {
             self.whole
         }
+    }
+}
+
+/// How far a datagram with this number came: anywhere, where a window was asked for.
+fn far_by(transfer: &Transfer, number: u16) -> u16
+    ensures { result ≡ far_by transfer.now number }
+{
+    if transfer.has_window {
+        u16::MAX
+    } else {
+        number
     }
 }
 

@@ -4,7 +4,7 @@ ghost use Rattle.std.specs.Prelude.{◌≡◌, ◌≤◌, ◌+◌, [], ◌∷◌
 ghost use Rattle.std.specs.BTreeMap.{get, IsUnchanged};
 ghost use Rattle.audit_flows.specs.Lines.Recording.{Recorded, same_endpoint, is_between, endpoint_cmp};
 ghost use Rattle.audit_flows.specs.Lines.Places.{Placed, live, place_at, place_talked, place_asked, is_known_host, may_answer, silence};
-ghost use Rattle.audit_flows.specs.Lines.Kept.{IsLineOf, IsRequestOf, IsHistoryAfter, history_of, seen_of, spoken_after, spoken_of, place_of_talk, comes_to, refuses_to, surely_after, unknown_after, unknown_of, talk_after, ends_after, went_on_after, IsTimed, AreTimed};
+ghost use Rattle.audit_flows.specs.Lines.Kept.{IsLineOf, IsRequestOf, IsHistoryAfter, history_of, seen_of, spoken_after, spoken_of, place_of_talk, comes_to, refuses_to, surely_after, unknown_after, unknown_of, talk_after, ends_after, went_on_after, writes_in, IsTimed, AreTimed};
 ghost use Rattle.audit_flows.specs.Lines.Doubting.{acked_0_in};
 ghost use Rattle.law_model.specs.Rules.{or_this};
 ghost use Rattle.audit_flows.specs.declared.lines.place.Place.{Place};
@@ -311,13 +311,13 @@ fn talked_after(
     before: Option<Talked>,
 ) -> Talked
     ensures talk { result.talk ≡ talk_after client other talked seen.now (option_map (λ t. t.talk) before) }
-    ensures history { IsHistoryAfter (history_of before) result.history talked seen.now.kind.number }
+    ensures history { IsHistoryAfter (history_of before) result.history client talked seen.now }
     ensures unknown { result.says_unknown_id ≡ unknown_after talked seen.now (unknown_of before) }
     ensures spoken { result.has_spoken ≡ spoken_after seen.now (spoken_of before) }
 {
     Talked {
         talk: talk_after(client, other, talked, seen, talk_of(before)),
-        history: history_after(&talked, seen, history_of(before)),
+        history: history_after(client, &talked, seen, history_of(before)),
         says_unknown_id: unknown_after(&talked, seen, has_told_unknown_id(before)),
         has_spoken: spoken_after(seen, has_spoken(before)),
     }
@@ -345,13 +345,34 @@ fn talk_after(
 }
 
 /// How far the transfers of the two came, after one datagram more.
-fn history_after(talked: &Option<Transfer>, seen: &Seen, before: Option<History>) -> Option<History>
-    ensures { IsHistoryAfter before result talked.now seen.now.kind.number }
+fn history_after(
+    client: Endpoint,
+    talked: &Option<Transfer>,
+    seen: &Seen,
+    before: Option<History>,
+) -> Option<History>
+    ensures { IsHistoryAfter before result client talked.now seen.now }
 {
     match talked {
         None => before,
-        Some(transfer) => Some(History::after(before, transfer, seen.kind.number)),
+        Some(transfer) => {
+            let writes = writes_in(client, transfer, seen);
+            Some(History::after(before, transfer, writes, seen.kind.number))
+        }
     }
+}
+
+/// Whether a file is written by a datagram of this transfer between its client and another endpoint.
+fn writes_in(client: Endpoint, transfer: &Transfer, seen: &Seen) -> bool
+    ensures { result ≡ writes_in client transfer.now seen.now }
+{
+    if seen.kind.is_block {
+        return seen.source == client;
+    }
+    if seen.kind.is_ack {
+        return seen.source != client;
+    }
+    transfer.writes
 }
 
 /// What passed last between a client and another endpoint, requests aside.

@@ -21,6 +21,7 @@ ghost use Rattle.audit_flows.specs.Transfers.Worked.{
   one_port_on,
   one_port_agrees,
   one_port_window,
+  strayed_write,
   errors,
   begun_anew,
   acked_error,
@@ -130,6 +131,8 @@ pub fn what_may_be_late_is_a_doubt_at_its_target()
         ≡ false ∷ false ∷ false ∷ false ∷ true ∷ false ∷ false ∷ false ∷ false ∷ false ∷ [] }
     ensures between { doubtful_in is_doubtful_between 3 one_port_on
         ≡ false ∷ false ∷ false ∷ true ∷ true ∷ true ∷ false ∷ false ∷ false ∷ false ∷ [] }
+    ensures either_side { earlier_words (placed [] strayed_write)
+        ≡ true ∷ true ∷ true ∷ false ∷ false ∷ false ∷ false ∷ false ∷ false ∷ false ∷ [] }
     ensures window { earlier_words (placed [] one_port_window) ≡ true ∷ true ∷ false ∷ false ∷ false ∷ false ∷ [] }
 {}
 

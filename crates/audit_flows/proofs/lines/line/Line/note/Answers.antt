@@ -31,9 +31,9 @@ returns-clause-stands c line d stands seen between =
       histories = λ q. ap history_of (c.in_ok-insert.ensures.updates.0 q)
           ∙ cond_history (is_eq (endpoint_cmp c.args.other q)) talked (get endpoint_cmp c.args.self.now.talks q)
           ∙ ap (λ h. cond (is_eq (endpoint_cmp c.args.other q)) h (history_of (get endpoint_cmp c.args.self.now.talks q))) (sym here);
-      history = subst (λ (h : Option History). IsHistoryAfter (history_of (get endpoint_cmp c.args.self.now.talks c.args.other)) h c.args.talked (seen_of d).kind.number) (sym here)
-          (subst (λ s. IsHistoryAfter (history_of (get endpoint_cmp c.args.self.now.talks c.args.other)) c.talked_after-all.result.history c.args.talked s.kind.number) seen
-          (subst (λ t. IsHistoryAfter (history_of t) c.talked_after-all.result.history c.args.talked c.args.seen.now.kind.number) before c.talked_after-all.ensures.history));
+      history = subst (λ (h : Option History). IsHistoryAfter (history_of (get endpoint_cmp c.args.self.now.talks c.args.other)) h c.args.self.now.latest.client c.args.talked (seen_of d)) (sym here)
+          (subst (λ s. IsHistoryAfter (history_of (get endpoint_cmp c.args.self.now.talks c.args.other)) c.talked_after-all.result.history c.args.self.now.latest.client c.args.talked s) seen
+          (subst (λ t. IsHistoryAfter (history_of t) c.talked_after-all.result.history c.args.self.now.latest.client c.args.talked c.args.seen.now) before c.talked_after-all.ensures.history));
       unknowns = λ q. ap unknown_of (c.in_ok-insert.ensures.updates.0 q)
           ∙ cond_unknown (is_eq (endpoint_cmp c.args.other q)) talked (get endpoint_cmp c.args.self.now.talks q)
           ∙ ap (λ b. cond (is_eq (endpoint_cmp c.args.other q)) b (unknown_of (get endpoint_cmp c.args.self.now.talks q)))
