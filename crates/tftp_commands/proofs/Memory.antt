@@ -1,8 +1,10 @@
--- Being out of memory for the first line may be said where nothing was read, and no read failed.
-use Rattle.std.proofs.Common.{◌≡◌, ◌⊎◌, lit≤, ℕ, List, [], ◌∷◌, ◌++◌, Bool, false, true≢false, Option, Ok, Err, Result, refl, sym, ◌∙◌, subst, inl, inr}
+-- Of what being out of memory may be said: before any byte was read, or for a datagram.
+use Rattle.std.proofs.Common.{◌≡◌, ◌≤◌, ◌⊎◌, lit≤, ℕ, List, [], ◌∷◌, ◌++◌, All, length, codes, Bool, false, true≢false, Option, Some, Ok, Err, Result, refl, sym, ◌∙◌, subst, inl, inr}
 use Rattle.std.specs.Fmt.{digits}
-use Rattle.std.proofs.lemmas.List.Elements.{All-nil}
-use Rattle.tftp_capture.specs.{Begins, IsCapture, IsLawful, NamesNoHost, Numbered, worked_header}
+use Rattle.std.specs.List.{AllByRecursion}
+use Rattle.std.proofs.lemmas.List.Elements.{All-cons, All-nil}
+use Rattle.tftp_capture.specs.{Begins, IsCapture, IsLawful, NamesNoHost, Numbered, One, SaysDatagram, Stands, line, worked_header}
+use Rattle.tftp_capture.specs.CaptureText.Due.{Body}
 use Rattle.tftp_capture.specs.declared.fault.CaptureFault.TheVariants.{Text, Read, Memory}
 use Rattle.tftp_capture.proofs.Beginnings.{begins_more, capture_has}
 use Rattle.tftp_capture.proofs.Canonical.{canonical_is_read}
@@ -11,7 +13,7 @@ use Rattle.tftp_judge.specs.{Capture, IsReadVerdict, Refused, Verdict, WantsToJu
 use Rattle.tftp_judge.specs.declared.refusal.Refusal.TheVariants as refusal
 use Rattle.tftp_judge.proofs.WantOfMemory.{wants_first_line}
 use Rattle.tftp_commands.specs.declared.status.Status.TheVariants as status
-use Rattle.tftp_commands.specs.{Action, AsGiven, AsRead, Check, Extract, Normal, Show, Count, Extent, HasDatagram, HasRead, IsJudged, IsMemoryOutput, IsSaid, IsUnread, Output, SaysNoMemory, memory_line, IsOutputOf, Faulty, Source, WantsToShow, empty_text, memory_fault, so_far}
+use Rattle.tftp_commands.specs.{Action, AreTaken, AsGiven, AsRead, Check, Extract, Normal, Show, Count, Extent, HasDatagram, HasRead, IsJudged, IsMemoryOutput, IsSaid, IsShown, IsUnread, Output, SaysNoMemory, memory_line, IsOutputOf, Faulty, Source, WantsToShow, empty_text, first_datagram, first_text, memory_fault, so_far}
 use Rattle.tftp_commands.specs.declared.words.UsageFault.TheVariants as usage
 
 -- ---- before any byte was read
@@ -114,3 +116,72 @@ empty_wants_none left failed said judged = elim (memory_of empty_text left faile
   | inr (inl none) ↦ absurd (cc)
   | inr (inr has) ↦ absurd (empty_has_none has)
 ]
+
+-- ---- a text up to its first datagram
+
+abbrev first_line : List ℕ
+first_line = codes "out 40000 69 -"
+
+first_datagram_said : SaysDatagram One first_line first_datagram
+unfolding digits
+first_datagram_said = record {
+  local = codes "40000";
+  remote = codes "69";
+  digits = codes "-";
+  cut = (refl, refl);
+  local_port = ((lit≤ tt, lit≤ tt), refl);
+  host = record { some = lit≤ tt; few = lit≤ tt; signs = ((lit≤ tt, lit≤ tt), tt) };
+  remote_port = ((lit≤ tt, lit≤ tt), refl);
+  payload = inl (refl, refl);
+  fits = lit≤ tt;
+}
+
+narrow_lines : (lines : List (List ℕ)) → AllByRecursion (λ (l : List ℕ). length l ≤ 131070) lines → All (λ (l : List ℕ). length l ≤ 131070) lines
+narrow_lines [] h = All-nil (λ (l : List ℕ). length l ≤ 131070)
+narrow_lines (l ∷ ls) h = All-cons (λ (l : List ℕ). length l ≤ 131070) l ls h.0 (narrow_lines ls h.1)
+
+abbrev first_lines : List (List ℕ)
+first_lines = codes "tftp-capture 1" ∷ codes "end client" ∷ codes "service 69" ∷ first_line ∷ []
+
+first_stands : Stands first_text first_lines [] (Body One worked_header) ((4, first_datagram) ∷ [])
+unfolding digits
+first_stands = record {
+  divided = refl;
+  says = record {
+    after_head = codes "end client" ∷ codes "service 69" ∷ first_line ∷ [];
+    at_end = 2;
+    at_service = 3;
+    bodies = (4, first_line) ∷ [];
+    begins = refl;
+    are = refl;
+    port = (lit≤ tt, lit≤ tt);
+    each = ((refl, first_datagram_said), tt);
+  };
+  short = lit≤ tt;
+  narrow = narrow_lines first_lines (lit≤ tt, (lit≤ tt, (lit≤ tt, (lit≤ tt, tt))));
+  narrow_rest = lit≤ tt;
+  last = λ o. absurd o;
+}
+
+-- it is taken with its datagram
+pub first_taken : AreTaken first_text ((4, first_datagram) ∷ [])
+first_taken = record { taken = first_text; ahead = []; to = (refl, lit≤ tt); version = One; lines = first_lines; header = worked_header; stands = first_stands }
+
+-- or memory was wanting for that line
+pub next_wanted : WantsToShow first_text [] 4
+next_wanted = record {
+  taken = first_text;
+  ahead = [];
+  to = (refl, lit≤ tt);
+  wants = inr (record { version = One; header = worked_header; datagram = first_datagram; lines = first_lines; stands = first_stands; at_line = refl });
+}
+
+pub none_shown : IsShown (so_far first_text (Some (line (codes "total 1"))) false) false (record { bytes = memory_line; status = status.Fault })
+none_shown = record {
+  datagrams = [];
+  ending = Faulty (Memory 4);
+  lines = [];
+  are = refl;
+  ends = (inl refl, refl, (first_text, refl, next_wanted));
+  is = refl;
+}

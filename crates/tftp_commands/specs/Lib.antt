@@ -23,7 +23,7 @@ pub use Extracted.{IsExtracted, extracted}
 pub use Normalised.{IsNormalised, IsUnwritten, normalised}
 pub use Counted.{IsCounted, counted}
 pub use Run.{IsOutput, IsOutputOf, IsRefused}
-pub use One.{HasDatagram, IsLeft, IsMemoryOutput, IsNoMemoryEnding, IsUnread, SaysNoMemory, TellsOfMemory, empty_text}
+pub use One.{HasDatagram, IsLeft, IsMemoryOutput, IsNoMemoryEnding, IsUnread, SaysNoMemory, TellsOfMemory, empty_text, first_datagram, first_text}
 pub use declared.status.Status.{Status}
 pub use declared.words.Action.{Action}
 pub use declared.words.Action.TheVariants.{Check, Count, Extract, Normal, Show}

@@ -1,5 +1,7 @@
 -- When an output is the only one: where memory was not wanting.
 use Rattle.std.specs.Prelude.{◌≡◌, ◌⊎◌, ℕ, ◌++◌, List, [], ◌∷◌, codes, Result}
+use Rattle.tftp_packet.specs.{Out}
+use Rattle.tftp_packet.specs.Hosts.{no_host}
 use Rattle.tftp_capture.specs.CaptureText.{Datagram, Header}
 use Rattle.tftp_capture.specs.{Begins, BeginsWith, Numbered, line}
 use Rattle.tftp_capture.specs.declared.fault.CaptureFault.TheVariants.{Memory}
@@ -39,6 +41,13 @@ IsLeft shown line all = (datagram : Datagram) × BeginsWith all (shown ++ (line,
 -- a text of no datagram
 abbrev pub empty_text : List ℕ
 empty_text = line (codes "tftp-capture 1") ++ line (codes "end client") ++ line (codes "service 69") ++ line (codes "total 0")
+
+-- a text up to its first datagram, whose payload is empty
+abbrev pub first_text : List ℕ
+first_text = line (codes "tftp-capture 1") ++ line (codes "end client") ++ line (codes "service 69") ++ line (codes "out 40000 69 -")
+
+abbrev pub first_datagram : Datagram
+first_datagram = record { dir = Out; local = 40000; host = no_host; remote = 69; payload = [] }
 
 -- ---- what is told of it
 

@@ -2,7 +2,8 @@
 //! below. The source may be a text that was given whole, and then the output is the text's. And for what memory may be
 //! wanted: what was read has the datagram, unless nothing was read.
 
-ghost use Rattle.std.specs.Prelude.{◌≡◌, ◌⊎◌, ℕ, List, [], Bool, Option, Some, Result, false};
+ghost use Rattle.std.specs.Prelude.{◌≡◌, ◌⊎◌, ℕ, List, [], ◌∷◌, Bool, codes, Option, Some, Result, false};
+ghost use Rattle.tftp_capture.specs.{line};
 ghost use Rattle.tftp_capture.specs.declared.fault.CaptureFault.TheVariants.{Memory};
 ghost use Rattle.law_model.specs.Model.{Meaning};
 ghost use Rattle.tftp_judge.specs.{Verdict};
@@ -10,10 +11,10 @@ ghost use Rattle.tftp_commands.specs.Checked.{IsChecked};
 ghost use Rattle.tftp_commands.specs.Counted.{IsCounted};
 ghost use Rattle.tftp_commands.specs.Extracted.{IsExtracted};
 ghost use Rattle.tftp_commands.specs.Normalised.{IsNormalised};
-ghost use Rattle.tftp_commands.specs.One.{HasDatagram, IsLeft, IsMemoryOutput, IsNoMemoryEnding, IsUnread, SaysNoMemory, TellsOfMemory, empty_text};
-ghost use Rattle.tftp_commands.specs.Outputs.{IsWritten, Output};
+ghost use Rattle.tftp_commands.specs.One.{HasDatagram, IsLeft, IsMemoryOutput, IsNoMemoryEnding, IsUnread, SaysNoMemory, TellsOfMemory, empty_text, first_datagram, first_text};
+ghost use Rattle.tftp_commands.specs.Outputs.{IsWritten, Output, memory_line};
 ghost use Rattle.tftp_commands.specs.Run.{IsOutput, IsOutputOf};
-ghost use Rattle.tftp_commands.specs.Shown.{Faulty, IsShown};
+ghost use Rattle.tftp_commands.specs.Shown.{AreTaken, Faulty, IsShown, WantsToShow};
 ghost use Rattle.tftp_commands.specs.Sources.{Source, so_far};
 ghost use Rattle.tftp_commands.specs.declared.status.Status.{Status};
 ghost use Rattle.tftp_commands.specs.declared.words.Action.{Action};
@@ -95,6 +96,13 @@ pub fn memory_is_wanted_for_a_datagram()
 /// A text of no datagram is never out of memory, once it was read.
 pub fn no_memory_is_wanted_for_an_empty_text()
     ensures { (left : Option (List ℕ)) (failed : Bool) (said : Result Meaning Verdict) → IsJudged (so_far empty_text left failed) said → SaysNoMemory said }
+{}
+
+/// Memory is wanting for the first datagram of a text, on line 4: `show` says so, and shows nothing. Else it is taken.
+pub fn memory_is_wanted_for_the_first_datagram()
+    ensures wanted { WantsToShow first_text [] 4 }
+    ensures shown { IsShown (so_far first_text (Some (line (codes "total 1"))) false) false (record { bytes = memory_line; status = Status.Fault }) }
+    ensures taken { AreTaken first_text ((4, first_datagram) ∷ []) }
 {}
 
 /// Where `show` ends with being out of memory and no write failed, the next datagram of what was read is left unshown, and
