@@ -1,7 +1,7 @@
 -- What is printed, by the words.
-use Rattle.std.proofs.Common.{◌≡◌, ◌≢◌, ◌⊎◌, inl, inr, ℕ, List, [], ◌∷◌, length, Bool, false, Result, Ok, Err, codes, nat_eq, if◌then◌else◌, refl, sym, ap, ◌∙◌, subst, arith}
+use Rattle.std.proofs.Common.{◌≡◌, ◌≢◌, ◌⊎◌, inl, inr, ℕ, List, [], ◌∷◌, Bool, false, Some, Result, Ok, Err, codes, nat_eq, if◌then◌else◌, refl, sym, ap, ◌∙◌, subst}
 use Rattle.tftp_commands.specs.declared.status.Status.TheVariants as status
-use Rattle.tftp_commands.specs.{Action, Check, Extract, Normal, Show, Count, UsageFault, Output, memory_line, usage_line, IsOutput, IsOutputOf, Source, IsCommand, IsNoCommand, IsQuiet, memory_fault, name_of}
+use Rattle.tftp_commands.specs.{Action, Check, Extract, Normal, Show, Count, UsageFault, Output, memory_line, usage_line, IsOutput, IsOutputOf, Source, IsCommand, IsNoCommand, IsUnread, memory_fault, name_of}
 use Rattle.tftp_commands.specs.declared.words.UsageFault.TheVariants as usage
 use Rattle.tftp_commands.proofs.Memory.{memory_said, silent_said}
 
@@ -29,7 +29,7 @@ told_by_third Normal = refl
 told_by_third Show = refl
 told_by_third Count = refl
 
-one_command : (words : List (List ℕ)) (a b : Action) → IsCommand a words → IsCommand b words → a ≡ b
+pub one_command : (words : List (List ℕ)) (a b : Action) → IsCommand a words → IsCommand b words → a ≡ b
 one_command words a b one two = sym (told_by_third a) ∙ ap (λ ws. by_third (third (second ws))) (sym one.1 ∙ two.1) ∙ told_by_third b
 
 -- ---- the output
@@ -41,18 +41,15 @@ command_output a words source cut output is h = record {
 }
 
 pub usage_output : (words : List (List ℕ)) (source : Source) (cut : Bool) → IsNoCommand words → IsOutput words source cut (record { bytes = usage_line; status = status.Fault })
-usage_output words source cut none = record { command = λ a is. absurd (none a is); none = λ _. inl refl }
+usage_output words source cut none = record { command = λ a is. absurd (none a is); none = λ _. refl }
 
-pub memory_output : (words : List (List ℕ)) (source : Source) (cut : Bool) → length words ≡ 2 → ((a : Action) → IsCommand a words → memory_fault a ≡ usage.Memory) → source.failed ≡ false
+pub memory_output : (a : Action) (words : List (List ℕ)) (source : Source) (cut : Bool) → IsCommand a words → memory_fault a ≡ usage.Memory → IsUnread source → source.failed ≡ false
     → IsOutput words source cut (record { bytes = memory_line; status = status.Fault })
-memory_output words source cut two told clean = record {
-  command = λ a is. memory_said a source cut (told a is) clean;
-  none = λ _. inr (two, refl);
-}
+memory_output a words source cut is told unread clean = command_output a words source cut (record { bytes = memory_line; status = status.Fault }) is (memory_said source unread clean a cut told)
 
-pub silent_output : (a : Action) (words : List (List ℕ)) (source : Source) (cut : Bool) → IsCommand a words → memory_fault a ≡ usage.Silent → source.failed ≡ false
+pub silent_output : (a : Action) (words : List (List ℕ)) (source : Source) (cut : Bool) → IsCommand a words → memory_fault a ≡ usage.Silent → IsUnread source → source.failed ≡ false
     → IsOutput words source cut (record { bytes = []; status = status.Fault })
-silent_output a words source cut is told clean = command_output a words source cut (record { bytes = []; status = status.Fault }) is (silent_said a source cut told clean)
+silent_output a words source cut is told unread clean = command_output a words source cut (record { bytes = []; status = status.Fault }) is (silent_said source unread clean a cut told)
 
 -- ---- by the fault of the words
 
@@ -80,16 +77,12 @@ no_command words r e only a is = elim (only a is) [
   | inr other ↦ no_memory a (one_fault r usage.Usage (memory_fault a) e other)
 ]
 
--- the words of a command for which memory ran out are those of one that says so
-pub memory_told : (words : List (List ℕ)) (r : Result Action UsageFault) → r ≡ Err usage.Memory → Only words r → (a : Action) → IsCommand a words → memory_fault a ≡ usage.Memory
-memory_told words r e only a is = elim (only a is) [
-  | inl other ↦ absurd (no_action r a usage.Memory e other)
-  | inr other ↦ one_fault r (memory_fault a) usage.Memory other e
-]
-
 -- the command that the words name is the only one
 pub only_named : (a : Action) (words : List (List ℕ)) → IsCommand a words → Only words (Ok a)
 only_named a words is b other = inl (ap Ok (one_command words a b is other))
+
+pub some_named : (a : Action) (words : List (List ℕ)) → IsCommand a words → (b : Action) → IsCommand b words → Some a ≡ Some b
+some_named a words is b other = ap Some (one_command words a b is other)
 
 -- a word that is no command's name
 pub no_name : (a : Action) (word : List ℕ) → word ≡ name_of a → word ≢ codes "check" → word ≢ codes "extract" → word ≢ codes "normal" → word ≢ codes "show" → word ≢ codes "count" → ⊥
@@ -98,26 +91,6 @@ no_name Extract word is check extract normal show count = extract is
 no_name Normal word is check extract normal show count = normal is
 no_name Show word is check extract normal show count = show is
 no_name Count word is check extract normal show count = count is
-
--- how being out of memory is told, by the word
-
-other_length : (word name : List ℕ) → word ≡ name → length name ≢ 7 → length name ≢ 6 → IsQuiet word → ⊥
-other_length word name is seven six quiet = elim quiet [
-  | inl extract ↦ seven (sym (ap length is) ∙ ap length extract)
-  | inr normal ↦ six (sym (ap length is) ∙ ap length normal)
-]
-
-pub told_as : (a : Action) (r : UsageFault) (word : List ℕ) → word ≡ name_of a → (IsQuiet word → r ≡ usage.Silent) → ((IsQuiet word → ⊥) → r ≡ usage.Memory) → r ≡ memory_fault a
-told_as Check r word is silent memory = memory (other_length word (codes "check") is (λ e. omega (arith, e)) (λ e. omega (arith, e)))
-told_as Extract r word is silent memory = silent (inl is)
-told_as Normal r word is silent memory = silent (inr is)
-told_as Show r word is silent memory = memory (other_length word (codes "show") is (λ e. omega (arith, e)) (λ e. omega (arith, e)))
-told_as Count r word is silent memory = memory (other_length word (codes "count") is (λ e. omega (arith, e)) (λ e. omega (arith, e)))
-
--- the command that a quiet word names
-pub quiet_command : (words : List (List ℕ)) (word : List ℕ) → IsQuiet word → (p : List ℕ) × (words ≡ p ∷ word ∷ []) → (a : Action) × IsCommand a words × (memory_fault a ≡ usage.Silent)
-quiet_command words word (inl extract) (p, are) = (Extract, (p, are ∙ ap (λ w. p ∷ w ∷ []) extract), refl)
-quiet_command words word (inr normal) (p, are) = (Normal, (p, are ∙ ap (λ w. p ∷ w ∷ []) normal), refl)
 
 pub same_word : (words : List (List ℕ)) (p q x y : List ℕ) → words ≡ p ∷ x ∷ [] → words ≡ q ∷ y ∷ [] → x ≡ y
 same_word words p q x y one other = cc

@@ -5,8 +5,7 @@ use Rattle.net_streams.specs.Streams.{IsFresh, Sink}
 use Rattle.law_model.specs.Model.{Meaning}
 use Rattle.tftp_judge.specs.{Extracts, EndsText, IsReadVerdict, IsTextVerdict, SaysReadFailed, OutFault, Verdict}
 use Rattle.tftp_judge.specs.declared.extraction.OutFault.TheVariants as fault
-use Rattle.tftp_judge.proofs.ReadVerdicts.{read_is_text}
-use Rattle.tftp_commands.specs.{Status, verdict_status, IsExtracted, extracted, Output, Prints, Runs, given}
+use Rattle.tftp_commands.specs.{Status, verdict_status, IsExtracted, extracted, Output, Prints, Runs, given, so_far}
 use Rattle.tftp_commands.specs.declared.status.Status.TheVariants as status
 use Rattle.tftp_commands.proofs.Written.{cut_fresh, printed_fresh, printed_none}
 
@@ -41,13 +40,13 @@ module _ {W : Type 0} (contents : W → Option (List ℕ)) (old new : Sink W) wh
         (read : List ℕ) × (said : Result Meaning Verdict) × Consumes before after read × IsReadVerdict read said × (EndsText said → IsAtEnd after) × (SaysReadFailed said → failed ≡ true) × (failed ≡ true → SaysReadFailed said)
         × Extracts contents old new said result
 
-    extracted_said : Told → (read : List ℕ) × (output : Output) × Consumes before after read × IsExtracted (record { read = read; left = after; failed = failed }) output
+    extracted_said : Told → (read : List ℕ) × (output : Output) × Consumes before after read × IsExtracted (so_far read after failed) output
         × Prints contents old new output (status_after result)
     extracted_said (read, said, consumed, is_said, at_end, reads, tally, is) = (
       read,
       extracted said,
       consumed,
-      record { said = said; judged = record { is_said = read_is_text read said is_said; at_end = at_end; failed = (reads, tally) }; is = refl },
+      record { said = said; judged = record { is_said = is_said; at_end = at_end; failed = (reads, tally) }; is = refl },
       written said result fresh is,
     )
 

@@ -5,7 +5,6 @@ use Rattle.std.specs.Io.KnownBytes.{Consumes, IsAtEnd}
 use Rattle.net_streams.specs.Streams.{Sink}
 use Rattle.law_model.specs.Model.{Meaning}
 use Rattle.tftp_judge.specs.{EndsText, IsReadVerdict, IsTextVerdict, SaysReadFailed, Verdict}
-use Rattle.tftp_judge.proofs.ReadVerdicts.{read_is_text}
 use Rattle.tftp_commands.specs.{Status, IsToldBy, Output, Prints, Runs}
 
 pub judged_runs : {R W : Type 0} (remaining : R → Option (List ℕ)) (contents : W → Option (List ℕ)) (answer : Result Meaning Verdict → Output) (r0 r1 : R × Bool) (w0 w1 : Sink W) (said : Result Meaning Verdict) (status : Status)
@@ -17,7 +16,7 @@ judged_runs remaining contents answer r0 r1 w0 w1 said status judged ended reads
     judged.0,
     answer said,
     judged.1,
-    record { said = said; judged = record { is_said = read_is_text judged.0 said judged.2; at_end = ended; failed = (reads, tally) }; is = refl },
+    record { said = said; judged = record { is_said = judged.2; at_end = ended; failed = (reads, tally) }; is = refl },
     written,
   );
   whole = λ text tells clean. (

@@ -1,16 +1,13 @@
 -- What was written of a text whose normal text was asked for.
-use Rattle.std.proofs.Common.{◌≡◌, ℕ, List, Bool, true, false, true≢false, Option, Some, Result, Ok, Err, refl, sym, ap, ◌∙◌, subst}
+use Rattle.std.proofs.Common.{◌≡◌, ◌⊎◌, inl, inr, ℕ, List, [], Bool, true, false, true≢false, Option, Some, Result, Ok, Err, refl, sym, ap, ◌∙◌, subst}
 use Rattle.std.specs.Io.KnownBytes.{Consumes, IsAtEnd}
 use Rattle.net_streams.specs.Streams.{IsFresh, Sink}
-use Rattle.tftp_capture.specs.declared.fault.CaptureFault.TheVariants.{Memory}
 use Rattle.law_model.specs.Model.{Meaning}
-use Rattle.tftp_judge.specs.{EndsText, IsReadVerdict, IsTextVerdict, SaysReadFailed, Verdict, Capture}
-use Rattle.tftp_judge.proofs.ReadVerdicts.{read_is_text}
+use Rattle.tftp_judge.specs.{EndsText, IsReadVerdict, IsTextVerdict, SaysReadFailed, Verdict}
 use Rattle.tftp_normal.specs.{normal_text, Normalises, NormalFault}
 use Rattle.tftp_normal.specs.declared.fault.NormalFault.TheVariants as fault
-use Rattle.tftp_commands.specs.{Status, verdict_status, IsJudged, IsNormalised, normalised, Output, Prints, Runs, Source, given}
+use Rattle.tftp_commands.specs.{Status, verdict_status, IsJudged, IsNormalised, IsUnwritten, normalised, Output, Prints, Runs, Source, given, so_far}
 use Rattle.tftp_commands.specs.declared.status.Status.TheVariants as status
-use Rattle.tftp_commands.proofs.Memory.{memory_judged}
 use Rattle.tftp_commands.proofs.Written.{cut_fresh, printed_fresh, printed_none}
 
 abbrev pub status_after : Result (Unit {0}) NormalFault → Status
@@ -19,30 +16,30 @@ status_after (Err fault.Write) = status.Fault
 status_after (Err fault.Memory) = status.Fault
 status_after (Err (fault.Verdict verdict)) = verdict_status verdict
 
--- what is said in the end: of a text that is accepted, that memory ran out to write it
-abbrev last_said : Meaning → Result (Unit {0}) NormalFault → Result Meaning Verdict
-last_said m (Ok done) = Ok m
-last_said m (Err fault.Write) = Ok m
-last_said m (Err fault.Memory) = Err (Capture (Memory 1))
-last_said m (Err (fault.Verdict verdict)) = Ok m
+-- the output of what is accepted, by how the writing of it ended
+abbrev pub accepted_output : Meaning → Result (Unit {0}) NormalFault → Output
+accepted_output m (Ok done) = normalised (Ok m)
+accepted_output m (Err fault.Write) = normalised (Ok m)
+accepted_output m (Err fault.Memory) = record { bytes = []; status = status.Fault }
+accepted_output m (Err (fault.Verdict verdict)) = normalised (Ok m)
 
-abbrev pub told : Result Meaning Verdict → Result (Unit {0}) NormalFault → Result Meaning Verdict
-told (Ok m) result = last_said m result
-told (Err verdict) result = Err verdict
+abbrev pub output_of : Result Meaning Verdict → Result (Unit {0}) NormalFault → Output
+output_of (Ok m) result = accepted_output m result
+output_of (Err verdict) result = normalised (Err verdict)
 
-not_true : (b : Bool) → (b ≡ true → ⊥) → b ≡ false
-not_true true none = absurd (none refl)
-not_true false none = refl
+-- the output is that of what is said, or memory was wanting to write it
+abbrev pub IsRight : Source → Output → Type 0
+IsRight source output = IsNormalised source output ⊎ IsUnwritten source output
 
-judged_told : (source : Source) (said : Result Meaning Verdict) (result : Result (Unit {0}) NormalFault) → IsJudged source said → IsJudged source (told said result)
-judged_told source (Ok m) (Ok done) judged = judged
-judged_told source (Ok m) (Err fault.Write) judged = judged
-judged_told source (Ok m) (Err fault.Memory) judged = memory_judged source (not_true source.failed judged.failed.1)
-judged_told source (Ok m) (Err (fault.Verdict verdict)) judged = judged
-judged_told source (Err verdict) result judged = judged
+right_of : (source : Source) (said : Result Meaning Verdict) (result : Result (Unit {0}) NormalFault) → IsJudged source said → IsRight source (output_of said result)
+right_of source (Ok m) (Ok done) judged = inl (record { said = Ok m; judged = judged; is = refl })
+right_of source (Ok m) (Err fault.Write) judged = inl (record { said = Ok m; judged = judged; is = refl })
+right_of source (Ok m) (Err fault.Memory) judged = inr (m, judged, refl)
+right_of source (Ok m) (Err (fault.Verdict verdict)) judged = inl (record { said = Ok m; judged = judged; is = refl })
+right_of source (Err verdict) result judged = inl (record { said = Err verdict; judged = judged; is = refl })
 
 module _ {W : Type 0} (contents : W → Option (List ℕ)) (old new : Sink W) where
-  written : (said : Result Meaning Verdict) (result : Result (Unit {0}) NormalFault) → IsFresh old → Normalises contents old new said result → Prints contents old new (normalised (told said result)) (status_after result)
+  written : (said : Result Meaning Verdict) (result : Result (Unit {0}) NormalFault) → IsFresh old → Normalises contents old new said result → Prints contents old new (output_of said result) (status_after result)
   written (Ok m) (Ok done) fresh is = printed_fresh contents old new (normal_text m) status.Success fresh is
   written (Ok m) (Err fault.Write) fresh is = cut_fresh contents old new (normal_text m) status.Success fresh is
   written (Ok m) (Err fault.Memory) fresh is = printed_none contents old new status.Fault status.Fault fresh is refl
@@ -71,39 +68,31 @@ module _ {W : Type 0} (contents : W → Option (List ℕ)) (old new : Sink W) wh
         (read : List ℕ) × (said : Result Meaning Verdict) × Consumes before after read × IsReadVerdict read said × (EndsText said → IsAtEnd after) × (SaysReadFailed said → failed ≡ true) × (failed ≡ true → SaysReadFailed said)
         × Normalises contents old new said result
 
-    normalised_said : Told → (read : List ℕ) × (output : Output) × Consumes before after read × IsNormalised (record { read = read; left = after; failed = failed }) output
+    normalised_said : Told → (read : List ℕ) × (output : Output) × Consumes before after read × IsRight (so_far read after failed) output
         × Prints contents old new output (status_after result)
     normalised_said (read, said, consumed, is_said, at_end, reads, tally, is) = (
       read,
-      normalised (told said result),
+      output_of said result,
       consumed,
-      record {
-        said = told said result;
-        judged = judged_told (record { read = read; left = after; failed = failed }) said result (record { is_said = read_is_text read said is_said; at_end = at_end; failed = (reads, tally) });
-        is = refl;
-      },
+      right_of (so_far read after failed) said result (record { is_said = is_said; at_end = at_end; failed = (reads, tally) }),
       written said result fresh is,
     )
 
     normalised_whole : Told → failed ≡ false → (text : List ℕ) → (said : Result Meaning Verdict) × IsTextVerdict text said × Normalises contents old new said result
-        → (output : Output) × IsNormalised (given text) output × Prints contents old new output (status_after result)
+        → (output : Output) × IsRight (given text) output × Prints contents old new output (status_after result)
     normalised_whole (read, one, consumed, is_said, at_end, reads, tally, was) sound text (said, is_text, is) = (
-      normalised (told said result),
-      record {
-        said = told said result;
-        judged = judged_told (given text) said result (record {
-          is_said = is_text;
-          at_end = λ ends. refl;
-          failed = (λ h. absurd (true≢false (sym (reads (same_failure one said result was is h)) ∙ sound)), λ e. absurd (true≢false (sym e)));
-        });
-        is = refl;
-      },
+      output_of said result,
+      right_of (given text) said result (record {
+        is_said = is_text;
+        at_end = λ ends. refl;
+        failed = (λ h. absurd (true≢false (sym (reads (same_failure one said result was is h)) ∙ sound)), λ e. absurd (true≢false (sym e)));
+      }),
       written said result fresh is,
     )
 
   pub normalised_runs : {R : Type 0} (remaining : R → Option (List ℕ)) (r0 r1 : R × Bool) (result : Result (Unit {0}) NormalFault) (fresh : IsFresh old) → Told (remaining r0.0) (remaining r1.0) r1.1 result fresh
       → ((text : List ℕ) → remaining r0.0 ≡ Some text → r1.1 ≡ false → (said : Result Meaning Verdict) × IsTextVerdict text said × Normalises contents old new said result)
-      → Runs remaining contents IsNormalised r0 r1 old new (status_after result)
+      → Runs remaining contents IsRight r0 r1 old new (status_after result)
   normalised_runs remaining r0 r1 result fresh told whole = record {
     said = normalised_said (remaining r0.0) (remaining r1.0) r1.1 result fresh told;
     whole = λ text tells sound. normalised_whole (remaining r0.0) (remaining r1.0) r1.1 result fresh told sound text (whole text tells sound);

@@ -5,7 +5,8 @@ use Rattle.tftp_capture.specs.{Due, Numbered, Unfinished}
 use Rattle.tftp_capture.specs.declared.fault.CaptureFault.TheVariants.{Text, Read}
 use Rattle.law_model.specs.Model.{Meaning}
 use Rattle.tftp_judge.specs.{IsOfText, IsTextVerdict, SaysReadFailed, Verdict, Capture, Refused}
-use Rattle.tftp_commands.specs.{IsChecked, checked, IsCounted, counted, IsExtracted, extracted, IsJudged, IsNormalised, normalised, SaysNoMemory, Output, Source}
+use Rattle.tftp_judge.proofs.ReadVerdicts.{read_is_text}
+use Rattle.tftp_commands.specs.{AsGiven, AsRead, Extent, IsChecked, checked, IsCounted, counted, IsExtracted, extracted, IsJudged, IsNormalised, normalised, IsSaid, SaysNoMemory, Output, Source}
 
 -- ---- what is said is one
 
@@ -26,16 +27,24 @@ same_read text (Err (Capture (Read line))) (Err (Capture (Read other))) h too ((
 same_read text (Err (Capture (Read line))) _ h too is also = absurd too
 same_read text _ w h too is also = absurd h
 
+-- what is said of what was read is said of it as a text
+said_of_text : (extent : Extent) (read : List ℕ) (v : Result Meaning Verdict) → IsSaid extent read v → IsTextVerdict read v
+said_of_text AsRead read v is = read_is_text read v is
+said_of_text AsGiven text v is = is
+
+text_verdict : (source : Source) (v : Result Meaning Verdict) → IsJudged source v → IsTextVerdict source.read v
+text_verdict source v is = said_of_text source.extent source.read v is.is_said
+
 -- of a text there is one verdict
 abbrev pub OneVerdict : Type 0
 OneVerdict = (text : List ℕ) (v w : Result Meaning Verdict) → IsOfText v → IsOfText w → IsTextVerdict text v → IsTextVerdict text w → v ≡ w
 
 module _ (one_verdict : OneVerdict) (source : Source) where
   one_said : (v w : Result Meaning Verdict) → SaysNoMemory v → SaysNoMemory w → IsJudged source v → IsJudged source w → v ≡ w
-  one_said v w (inl of) (inl too) is also = one_verdict source.read v w of too is.is_said also.is_said
+  one_said v w (inl of) (inl too) is also = one_verdict source.read v w of too (text_verdict source v is) (text_verdict source w also)
   one_said v w (inl of) (inr too) is also = absurd (of_text_or_read v of (is.failed.1 (also.failed.0 too)))
   one_said v w (inr of) (inl too) is also = absurd (of_text_or_read w too (also.failed.1 (is.failed.0 of)))
-  one_said v w (inr of) (inr too) is also = same_read source.read v w of too is.is_said also.is_said
+  one_said v w (inr of) (inr too) is also = same_read source.read v w of too (text_verdict source v is) (text_verdict source w also)
 
   pub one_checked : (one other : Output) (first : IsChecked source one) (second : IsChecked source other) → SaysNoMemory first.said → SaysNoMemory second.said → one ≡ other
   one_checked one other first second of too = first.is ∙ ap checked (one_said first.said second.said of too first.judged second.judged) ∙ sym second.is

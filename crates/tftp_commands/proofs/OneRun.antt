@@ -7,7 +7,7 @@ use Rattle.tftp_capture.specs.declared.fault.CaptureFault.TheVariants.{Text, Rea
 use Rattle.law_model.specs.Model.{Meaning}
 use Rattle.tftp_judge.specs.declared.refusal.Refusal.TheVariants as refusal
 use Rattle.tftp_judge.specs.{Verdict, Capture, Refused}
-use Rattle.tftp_commands.specs.{Action, Check, Extract, Normal, Show, Count, checked, counted, extracted, normalised, IsMemoryOutput, IsNoMemoryEnding, SaysNoMemory, TellsOfMemory, Output, IsOutput, IsOutputOf, IsRefused, Cut, Ending, Faulty, Whole, last_line, status_of, Source, IsCommand, IsNoCommand, name_of}
+use Rattle.tftp_commands.specs.{Action, Check, Extract, Normal, Show, Count, checked, counted, extracted, normalised, IsMemoryOutput, IsNoMemoryEnding, IsNormalised, IsUnwritten, SaysNoMemory, TellsOfMemory, Output, IsOutput, IsOutputOf, Cut, Ending, Faulty, Whole, last_line, status_of, Source, IsCommand, IsNoCommand, name_of}
 use Rattle.tftp_commands.proofs.OneOutput.{OneVerdict, one_checked, one_counted, one_extracted, one_normalised}
 use Rattle.tftp_commands.proofs.OneShown.{one_shown}
 
@@ -53,13 +53,18 @@ module _ (action : Action) (one other : Output) {P Q S T : Type 0} where
   either (inl p) (inr t) same first second = inr (inr (second t))
 
 module _ (one_verdict : OneVerdict) (source : Source) where
+  one_normal : (one other : Output) → IsNormalised source one ⊎ IsUnwritten source one → IsNormalised source other ⊎ IsUnwritten source other → OneOf Normal one other
+  one_normal one other (inl first) (inl second) =
+      either Normal one other (told first.said) (told second.said) (one_normalised one_verdict source one other first second) (λ w. first.is ∙ w.normal) (λ w. second.is ∙ w.normal)
+  one_normal one other (inr unwritten) second = inr (inl unwritten.2)
+  one_normal one other (inl first) (inr unwritten) = inr (inr unwritten.2)
+
   one_of : (action : Action) (one other : Output) → IsOutputOf action source false one → IsOutputOf action source false other → OneOf action one other
   one_of Check one other first second =
       either Check one other (told first.said) (told second.said) (one_checked one_verdict source one other first second) (λ w. first.is ∙ w.check) (λ w. second.is ∙ w.check)
   one_of Extract one other first second =
       either Extract one other (told first.said) (told second.said) (one_extracted one_verdict source one other first second) (λ w. first.is ∙ w.extract) (λ w. second.is ∙ w.extract)
-  one_of Normal one other first second =
-      either Normal one other (told first.said) (told second.said) (one_normalised one_verdict source one other first second) (λ w. first.is ∙ w.normal) (λ w. second.is ∙ w.normal)
+  one_of Normal one other first second = one_normal one other first second
   one_of Show one other first second =
       either Show one other (ending_told first.ending) (ending_told second.ending) (one_shown source one other first second)
       (λ w. (let m = w first.lines in (m.0, first.is ∙ m.1))) (λ w. (let m = w second.lines in (m.0, second.is ∙ m.1)))
@@ -118,17 +123,12 @@ OneOutput words one other = (one ≡ other) ⊎ TellsOfMemory words one ⊎ Tell
 
 by_command : (words : List (List ℕ)) (action : Action) (one other : Output) → IsCommand action words → OneOf action one other → OneOutput words one other
 by_command words action one other is (inl same) = inl same
-by_command words action one other is (inr (inl memory)) = inr (inl (inl (action, is, memory)))
-by_command words action one other is (inr (inr memory)) = inr (inr (inl (action, is, memory)))
-
-by_none : (words : List (List ℕ)) (one other : Output) → IsNoCommand words → IsRefused words one → IsRefused words other → OneOutput words one other
-by_none words one other none (inl usage) (inl also) = inl (usage ∙ sym also)
-by_none words one other none (inr memory) also = inr (inl (inr (none, memory.1)))
-by_none words one other none (inl usage) (inr memory) = inr (inr (inr (none, memory.1)))
+by_command words action one other is (inr (inl memory)) = inr (inl (action, is, memory))
+by_command words action one other is (inr (inr memory)) = inr (inr (action, is, memory))
 
 pub one_output : OneVerdict → (words : List (List ℕ)) (source : Source) (one other : Output) → IsOutput words source false one → IsOutput words source false other → OneOutput words one other
 one_output one_verdict words source one other first second = by (decided words)
   where
     by : Decided words → OneOutput words one other
     by (inl (action, is)) = by_command words action one other is (one_of one_verdict source action one other (first.command action is) (second.command action is))
-    by (inr none) = by_none words one other none (first.none none) (second.none none)
+    by (inr none) = inl (first.none none ∙ sym (second.none none))

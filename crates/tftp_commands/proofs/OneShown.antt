@@ -3,13 +3,15 @@ use Rattle.std.proofs.Common.{◌≡◌, ◌⊎◌, inl, inr, ℕ, ◌+◌, List
 use Rattle.tftp_packet.proofs.FaultOrder.{first_fault_unique}
 use Rattle.tftp_packet.proofs.NoFault.{no_fault}
 use Rattle.tftp_capture.specs.CaptureText.{Datagram, Header}
-use Rattle.tftp_capture.specs.{Due, HasFault, IsCapture, Numbered, Stands, Unfinished, dir_word, TextFault, Truncated}
+use Rattle.tftp_capture.specs.{Begins, BeginsWith, Due, HasFault, IsCapture, Numbered, Stands, Unfinished, dir_word, TextFault, Truncated}
 use Rattle.tftp_capture.specs.CaptureText.Due.{Head, EndLine, ServiceLine, Body, Nothing}
 use Rattle.tftp_capture.specs.CaptureText.Reading.{Capture, Fault}
 use Rattle.tftp_capture.specs.declared.fault.CaptureFault.TheVariants.{Text, Read, Memory}
+use Rattle.tftp_capture.proofs.Beginnings.{begins_more, capture_has, fault_after, unfinished_has}
 use Rattle.tftp_capture.proofs.Readings.{reads_same}
+use Rattle.tftp_judge.proofs.FirstFaults.{begins_longer}
 use Rattle.law_end.proofs.Spelled.{spelled_once}
-use Rattle.tftp_commands.specs.{packet_fault_name, IsNoMemoryEnding, Output, AreLines, Cut, Ending, EndsBy, Faulty, IsDatagramLine, IsPayloadText, IsShown, Whole, last_line, message_text, status_of, Source}
+use Rattle.tftp_commands.specs.{packet_fault_name, IsLeft, IsNoMemoryEnding, IsUnread, Output, AsGiven, AreLines, AsRead, Cut, Ending, EndsBy, Extent, Faulty, HasRead, IsDatagramLine, IsPayloadText, IsShown, WantsToShow, Whole, last_line, message_text, status_of, Source}
 use Rattle.tftp_commands.proofs.OneOutput.{last_line_is}
 
 -- ---- the lines of datagrams
@@ -66,7 +68,7 @@ ends_is source ds Whole fine ((h, is), end, clean) = whole h is clean
 ends_is source ds (Faulty (Text line fault)) fine (has, end, clean) = faulty line fault has clean
 ends_is source ds (Faulty (Read line)) fine ((due, ends), failed) = unread line due ends failed
 ends_is source ds (Faulty (Memory line)) fine ends = absurd fine
-ends_is source ds Cut fine (first, clean, cut) = absurd (true≢false (sym cut))
+ends_is source ds Cut fine (first, clean, cut, stops) = absurd (true≢false (sym cut))
 
 read_or_not : (source : Source) → source.failed ≡ false → source.failed ≡ true → ⊥
 read_or_not source clean failed = true≢false (sym failed ∙ clean)
@@ -95,3 +97,41 @@ one_shown source one other first second fine well =
     let same = one_end source first.datagrams second.datagrams first.ending second.ending (ends_is source first.datagrams first.ending fine first.ends) (ends_is source second.datagrams second.ending well second.ends) in
     let lines : first.lines ≡ second.lines = one_lines 1 second.datagrams first.lines second.lines (subst (λ (x : List Numbered). AreLines 1 x first.lines) same.0 first.are) second.are in
     first.is ∙ ap (λ (l : List ℕ). shown l first.ending) lines ∙ ap (shown second.lines) same.1 ∙ sym second.is
+
+-- ---- what is left where memory was wanting
+
+-- what was read is bytes of the source from their start
+read_begins : (extent : Extent) (bytes read : List ℕ) (header : Header) (ds : List Numbered) → HasRead extent bytes read → Begins read header ds → Begins bytes header ds
+read_begins AsRead bytes read header ds is begins = subst (λ t. Begins t header ds) (sym is) begins
+read_begins AsGiven text read header ds (more, is) begins = subst (λ t. Begins t header ds) (sym is) (begins_longer read more header ds begins)
+
+-- no byte was read, or the source has the datagram for which memory was wanted
+abbrev WantIs : Extent → List ℕ → List Numbered → ℕ → Type 0
+WantIs extent bytes ds line = HasRead extent bytes [] ⊎ ((header : Header) × (d : Datagram) × Begins bytes header (ds ++ (line, d) ∷ []))
+
+want_is : (extent : Extent) (bytes read : List ℕ) (ds : List Numbered) (line : ℕ) → HasRead extent bytes read → WantsToShow read ds line → WantIs extent bytes ds line
+want_is extent bytes read ds line has want = elim want.wants as (λ _. WantIs extent bytes ds line) [
+  | inl first ↦ inl (subst (HasRead extent bytes) first.0 has)
+  | inr said ↦
+      let all = ds ++ (line, said.datagram) ∷ [] in
+      let begins : Begins read said.header all = subst (λ t. Begins t said.header all) (sym want.to.0) (begins_more want.taken want.ahead said.lines said.header all said.stands) in
+      inr (said.header, said.datagram, read_begins extent bytes read said.header all has begins)
+]
+
+-- a showing that ends otherwise has all datagrams of its source
+has_all : (source : Source) (ds es : List Numbered) (e : Ending) (header : Header) → Ends source ds e → Begins source.read header es → BeginsWith ds es
+has_all source ds es _ header (whole h is clean) begins = (capture_has source.read h header ds es is begins).1
+has_all source ds es _ header (faulty line fault has clean) begins = fault_after source.read header ds es line fault has begins
+has_all source ds es _ header (unread line due ends failed) begins = unfinished_has source.read header ds es line due ends begins
+
+memory_ends : (source : Source) (ds : List Numbered) (line : ℕ) (e : Ending) → e ≡ Faulty (Memory line) → EndsBy e source false ds → WantIs source.extent source.read ds line
+memory_ends source ds line e is ends =
+    let wants : EndsBy (Faulty (Memory line)) source false ds = subst (λ x. EndsBy x source false ds) is ends in
+    want_is source.extent source.read wants.2.0 ds line wants.2.1 wants.2.2
+
+pub left_unshown : (source : Source) (one other : Output) (first : IsShown source false one) (second : IsShown source false other) (line : ℕ) → first.ending ≡ Faulty (Memory line) → IsNoMemoryEnding second.ending
+    → IsUnread source ⊎ IsLeft first.datagrams line second.datagrams
+left_unshown source one other first second line is fine = elim (memory_ends source first.datagrams line first.ending is first.ends) as (λ _. IsUnread source ⊎ IsLeft first.datagrams line second.datagrams) [
+  | inl none ↦ inl none
+  | inr next ↦ inr (next.1, has_all source second.datagrams (first.datagrams ++ (line, next.1) ∷ []) second.ending next.0 (ends_is source second.datagrams second.ending fine second.ends) next.2)
+]

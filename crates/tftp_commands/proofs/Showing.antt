@@ -1,9 +1,9 @@
 -- A text that is shown while it is read.
-use Rattle.std.proofs.Common.{◌≡◌, ◌≢◌, ◌⊎◌, inl, inr, ℕ, ◌+◌, List, [], ◌∷◌, ◌++◌, length, Bool, true, false, true≢false, Option, Some, None, Result, Ok, Err, refl, sym, ap, ◌∙◌, subst, append_assoc, append-nil, length-append, arith}
+use Rattle.std.proofs.Common.{◌≡◌, ◌≢◌, ◌≤◌, ◌⊎◌, inl, inr, ℕ, ◌+◌, List, [], ◌∷◌, ◌++◌, length, Bool, true, false, true≢false, Option, Some, None, Result, Ok, Err, refl, sym, ap, ◌∙◌, subst, append_assoc, append-nil, length-append, arith}
 use Rattle.std.specs.Io.KnownBytes.{prepend_known, Consumes, IsAtEnd}
 use Rattle.std.proofs.KnownBytes.{Consumes-trans}
-use Rattle.tftp_capture.specs.{TextFault, BadHeader, BadEnd, BadService, LineTooLong, BadLine, BadPort, BadHost, BadHex, PayloadTooLong, TotalWrong, Truncated, TrailingText, TextTooLong, CaptureFault, Version, Numbered, Stands, IsCapture, HasFault, datagram_of, Continues, FailsToBegin, FaultTells, GoesOn, IsAtTextEnd, IsReadFault, ReaderState, StandsFor}
-use Rattle.net_streams.specs.Streams.{AppendsPrefix, Gathers, Sink}
+use Rattle.tftp_capture.specs.{TextFault, BadHeader, BadEnd, BadService, LineTooLong, BadLine, BadPort, BadHost, BadHex, PayloadTooLong, TotalWrong, Truncated, TrailingText, TextTooLong, CaptureFault, Version, Numbered, Stands, IsCapture, HasFault, datagram_of, Continues, FailsToBegin, FaultTells, FirstTells, GoesOn, MemoryTells, IsAtTextEnd, IsReadFault, ReaderState, StandsFor, WantTells}
+use Rattle.net_streams.specs.Streams.{AppendsPrefix, Gathers, Sink, most_ahead}
 use Rattle.net_streams.specs.{Failed, Open, Over}
 use Rattle.tftp_capture.specs.declared.fault.CaptureFault.TheVariants.{Text, Read, Memory}
 use Rattle.tftp_capture.specs.declared.datagram.Datagram.{Datagram as Owned}
@@ -11,7 +11,7 @@ use Rattle.tftp_capture.specs.CaptureText.{Header}
 use Rattle.tftp_capture.specs.CaptureText.Due.{Body}
 use Rattle.tftp_capture.proofs.Staying.{stays}
 use Rattle.net_streams.proofs.StreamsLemmas.Gathering.{gathers_more, gathers_none, prefix_after}
-use Rattle.tftp_commands.specs.{Status, IsWritten, Output, AreFirst, AreLines, Ending, Whole, Faulty, Cut, EndsBy, IsDatagramLine, IsShown, Runs, last_line, status_of, given}
+use Rattle.tftp_commands.specs.{Status, IsWritten, Output, AreFirst, AreLines, Ending, Whole, Faulty, Cut, EndsBy, IsDatagramLine, IsShown, Runs, WantsToShow, last_line, status_of, given, so_far}
 use Rattle.tftp_commands.specs.declared.status.Status.TheVariants as status
 use Rattle.tftp_commands.proofs.Lines.{lines_more}
 use Rattle.tftp_commands.proofs.Written.{written_after}
@@ -31,7 +31,7 @@ pub record Showing (start now : Option (List ℕ)) (capture : ReaderState) (befo
 -- a run so far, whatever comes of it: what was read of the source, and the output of which all or a part was written
 abbrev pub Said : Option (List ℕ) → Option (List ℕ) → Bool → Option (List ℕ) → Option (List ℕ) → Bool → Status → Type 0
 Said start now failed before after cut result =
-    (read : List ℕ) × (output : Output) × Consumes start now read × IsShown (record { read = read; left = now; failed = failed }) cut output × IsWritten before after cut output result
+    (read : List ℕ) × (output : Output) × Consumes start now read × IsShown (so_far read now failed) cut output × IsWritten before after cut output result
 
 -- ---- what is read ahead
 
@@ -100,9 +100,9 @@ one_more start mid now before c1 c2 old new w1 w2 number d line s going next sti
 -- ---- endings
 
 pub cut_here : (start mid now before c1 c2 : Option (List ℕ)) (old new : ReaderState) (w1 : List ℕ) (number : ℕ) (d : Owned) (line : List ℕ) (failed cut : Bool)
-    → Showing start mid old before c1 w1 number → old.standing ≡ Open → Nexts old new mid now (Ok (Some d)) → new.standing ≡ Open → failed ≡ false → cut ≡ true
+    → Showing start mid old before c1 w1 number → old.standing ≡ Open → Nexts old new mid now (Ok (Some d)) → new.standing ≡ Open → length new.lines.ahead ≤ most_ahead → failed ≡ false → cut ≡ true
     → IsDatagramLine (number + 1) (datagram_of d) line → AppendsPrefix c1 c2 (w1 ++ line) → Said start now failed before c2 cut status.Fault
-cut_here start mid now before c1 c2 old new w1 number d line failed cut s going next still clean is_cut is g =
+cut_here start mid now before c1 c2 old new w1 number d line failed cut s going next still near clean is_cut is g =
     let n = next s.read s.datagrams (opened old s.read s.datagrams going s.stands) in
     let goes : GoesOn new.header new.lines new.count (s.read ++ n.taken) (s.datagrams ++ (new.handed, datagram_of d) ∷ []) = rw still at n.stands in
     let part : AppendsPrefix before c2 ((s.lines ++ line) ++ []) = rw append-nil (prefix_after before c1 c2 [] w1 s.lines line s.gathered g) in (
@@ -114,7 +114,16 @@ cut_here start mid now before c1 c2 old new w1 number d line failed cut s going 
         ending = Cut;
         lines = s.lines ++ line;
         are = next_line number s.datagrams s.lines (new.handed, datagram_of d) line s.counted s.are is;
-        ends = (begins new.lines.version new.header goes.lines (s.read ++ n.taken) new.lines.ahead _ goes.stands, clean, is_cut);
+        ends = (
+          begins new.lines.version new.header goes.lines (s.read ++ n.taken) new.lines.ahead _ goes.stands,
+          clean,
+          is_cut,
+          (
+            (s.read ++ n.taken) ++ new.lines.ahead,
+            refl,
+            record { taken = s.read ++ n.taken; ahead = new.lines.ahead; to = (refl, near); version = new.lines.version; lines = goes.lines; header = new.header; stands = goes.stands },
+          ),
+        );
         is = refl;
       },
       rw is_cut (part, refl),
@@ -157,16 +166,32 @@ truncated_or_not Truncated = inl refl
 truncated_or_not TrailingText = inr (λ e. cc)
 truncated_or_not TextTooLong = inr (λ e. cc)
 
+-- for what memory ran out, where it did
+abbrev Wants : CaptureFault → List ℕ → List Numbered → Type 0
+Wants (Text line fault) read ds = Unit {0}
+Wants (Read line) read ds = Unit {0}
+Wants (Memory line) read ds = WantsToShow read ds line
+
+wants_first : (taken ahead : List ℕ) (fault : CaptureFault) → FirstTells fault taken ahead → length ahead ≤ most_ahead → Wants fault (taken ++ ahead) []
+wants_first taken ahead (Text line fault) tells near = tt
+wants_first taken ahead (Read line) tells near = tt
+wants_first taken ahead (Memory line) tells near = record { taken = taken; ahead = ahead; to = (refl, near); wants = inl (ap (λ t. t ++ ahead) tells.1 ∙ tells.2, tells.0, refl) }
+
+wants_more : (taken ahead : List ℕ) (ds : List Numbered) (fault : CaptureFault) → MemoryTells fault taken ds → length ahead ≤ most_ahead → Wants fault (taken ++ ahead) ds
+wants_more taken ahead ds (Text line fault) tells near = tt
+wants_more taken ahead ds (Read line) tells near = tt
+wants_more taken ahead ds (Memory line) tells near = record { taken = taken; ahead = ahead; to = (refl, near); wants = inr tells }
+
 -- what a fault says of all that was read
 abbrev FaultEnds : Option (List ℕ) → Option (List ℕ) → Bool → Bool → CaptureFault → List Numbered → Type 0
-FaultEnds start now failed cut fault ds = (read : List ℕ) × Consumes start now read × EndsBy (Faulty fault) (record { read = read; left = now; failed = failed }) cut ds
+FaultEnds start now failed cut fault ds = (read : List ℕ) × Consumes start now read × EndsBy (Faulty fault) (so_far read now failed) cut ds
 
 fault_ends : (start now : Option (List ℕ)) (taken ahead : List ℕ) (failed cut : Bool) (fault : CaptureFault) (ds : List Numbered) → Consumes start now (taken ++ ahead)
-    → (IsAtTextEnd fault → Consumes start now taken × IsAtEnd now) → (IsReadFault fault → Consumes start now taken) → FaultTells fault taken ds → AreFirst (taken ++ ahead) ds
+    → (IsAtTextEnd fault → Consumes start now taken × IsAtEnd now) → (IsReadFault fault → Consumes start now taken) → FaultTells fault taken ds → AreFirst (taken ++ ahead) ds → Wants fault (taken ++ ahead) ds
     → (IsReadFault fault → failed ≡ true) → ((IsReadFault fault → ⊥) → failed ≡ false) → FaultEnds start now failed cut fault ds
-fault_ends start now taken ahead failed cut (Read line) ds p end drained tells first failing working = (taken, drained tt, (tells, failing tt))
-fault_ends start now taken ahead failed cut (Memory line) ds p end drained tells first failing working = (taken ++ ahead, p, (first, working (λ h. h)))
-fault_ends start now taken ahead failed cut (Text line fault) ds p end drained tells first failing working = by (truncated_or_not fault)
+fault_ends start now taken ahead failed cut (Read line) ds p end drained tells first wants failing working = (taken, drained tt, (tells, failing tt))
+fault_ends start now taken ahead failed cut (Memory line) ds p end drained tells first wants failing working = (taken ++ ahead, p, (first, working (λ h. h), (taken ++ ahead, refl, wants)))
+fault_ends start now taken ahead failed cut (Text line fault) ds p end drained tells first wants failing working = by (truncated_or_not fault)
   where
     by : (fault ≡ Truncated) ⊎ (fault ≢ Truncated) → FaultEnds start now failed cut (Text line fault) ds
     by (inl is) = (taken, (end is).0, (tells, λ h. (end h).1, working (λ h. h)))
@@ -175,17 +200,19 @@ fault_ends start now taken ahead failed cut (Text line fault) ds p end drained t
 -- the first datagrams, and then the fault
 pub shown_fault : (start mid now before c1 c2 : Option (List ℕ)) (old new : ReaderState) (w1 : List ℕ) (number : ℕ) (failed cut : Bool) (result : Status) (fault : CaptureFault)
     → Showing start mid old before c1 w1 number → old.standing ≡ Open → Nexts old new mid now (Err fault) → new.standing ≡ Failed fault
-    → (IsAtTextEnd fault → IsAtEnd (prepend_known new.lines.ahead now)) → (IsReadFault fault → new.lines.ahead ≡ [])
+    → length new.lines.ahead ≤ most_ahead → (IsAtTextEnd fault → IsAtEnd (prepend_known new.lines.ahead now)) → (IsReadFault fault → new.lines.ahead ≡ [])
     → (IsReadFault fault → failed ≡ true) → ((IsReadFault fault → ⊥) → failed ≡ false)
     → IsWritten c1 c2 cut (record { bytes = w1 ++ last_line (Faulty fault); status = status_of (Faulty fault) }) result → Said start now failed before c2 cut result
-shown_fault start mid now before c1 c2 old new w1 number failed cut result fault s going next stopped end drained failing working written =
+shown_fault start mid now before c1 c2 old new w1 number failed cut result fault s going next stopped near end drained failing working written =
     let n = next s.read s.datagrams (opened old s.read s.datagrams going s.stands) in
     let tells : FaultTells fault (s.read ++ n.taken) s.datagrams = rw stopped at n.stands in
+    let want : MemoryTells fault (s.read ++ n.taken) s.datagrams = subst (λ x. WantTells x (Err fault) (s.read ++ n.taken) s.datagrams) going n.memory in
     let p = Consumes-trans _ _ _ _ _ s.consumed n.consumed in
     let first : AreFirst ((s.read ++ n.taken) ++ new.lines.ahead) s.datagrams = rw append_assoc (begins old.lines.version old.header s.stands.lines s.read (n.taken ++ new.lines.ahead) s.datagrams s.stands.stands) in
     let ended =
     fault_ends start now (s.read ++ n.taken) new.lines.ahead failed cut fault s.datagrams (consumed_ahead start now new.lines.ahead (s.read ++ n.taken) p)
-    (λ h. consumed_end start now new.lines.ahead (s.read ++ n.taken) p (end h)) (λ h. consumed_none start now new.lines.ahead (s.read ++ n.taken) p (drained h)) tells first failing working in (
+    (λ h. consumed_end start now new.lines.ahead (s.read ++ n.taken) p (end h)) (λ h. consumed_none start now new.lines.ahead (s.read ++ n.taken) p (drained h)) tells first
+    (wants_more (s.read ++ n.taken) new.lines.ahead s.datagrams fault want near) failing working in (
       ended.0,
       record { bytes = s.lines ++ last_line (Faulty fault); status = status_of (Faulty fault) },
       ended.1,
@@ -206,7 +233,7 @@ pub shown_nothing : (start now before after : Option (List ℕ)) (failed cut : B
     → IsWritten before after cut (record { bytes = last_line (Faulty fault); status = status_of (Faulty fault) }) result → Said start now failed before after cut result
 shown_nothing start now before after failed cut result fault f end failing working written =
     let drop_ahead = λ (none : f.ahead ≡ []). subst (Consumes start now) (ap (λ l. f.taken ++ l) none ∙ append-nil f.taken) f.consumed in
-    let ended = fault_ends start now f.taken f.ahead failed cut fault [] f.consumed (λ h. (drop_ahead (f.ended h), end h)) (λ h. drop_ahead (f.drained h)) f.tells (inl refl) failing working in (
+    let ended = fault_ends start now f.taken f.ahead failed cut fault [] f.consumed (λ h. (drop_ahead (f.ended h), end h)) (λ h. drop_ahead (f.drained h)) f.tells (inl refl) (wants_first f.taken f.ahead fault f.memory f.near) failing working in (
       ended.0,
       record { bytes = last_line (Faulty fault); status = status_of (Faulty fault) },
       ended.1,
@@ -239,12 +266,15 @@ first_more text read rest ds e (inr b) = inr (
 all_read : (text read rest : List ℕ) → text ≡ read ++ rest → rest ≡ [] → read ≡ text
 all_read text read rest e none = sym (e ∙ ap (λ l. read ++ l) none ∙ append-nil read)
 
+given_read : (text read rest part : List ℕ) → text ≡ read ++ rest → read ≡ part → text ≡ part ++ rest
+given_read text read rest part e is = e ∙ ap (λ l. l ++ rest) is
+
 ends_given : (ending : Ending) (text read rest : List ℕ) (failed cut : Bool) (ds : List Numbered) → text ≡ read ++ rest → failed ≡ false
-    → EndsBy ending (record { read = read; left = Some rest; failed = failed }) cut ds → EndsBy ending (given text) cut ds
+    → EndsBy ending (so_far read (Some rest) failed) cut ds → EndsBy ending (given text) cut ds
 ends_given Whole text read rest failed cut ds e clean h = ((h.0.0, subst (λ l. IsCapture l h.0.0 ds) (all_read text read rest e h.1) h.0.1), refl, refl)
 ends_given (Faulty (Read line)) text read rest failed cut ds e clean h = absurd (true≢false (sym h.1 ∙ clean))
-ends_given (Faulty (Memory line)) text read rest failed cut ds e clean h = (first_more text read rest ds e h.0, refl)
-ends_given Cut text read rest failed cut ds e clean h = (first_more text read rest ds e h.0, refl, h.2)
+ends_given (Faulty (Memory line)) text read rest failed cut ds e clean h = (first_more text read rest ds e h.0, refl, (h.2.0, (rest, given_read text read rest h.2.0 e h.2.1), h.2.2))
+ends_given Cut text read rest failed cut ds e clean h = (first_more text read rest ds e h.0, refl, h.2, (h.3.0, (rest, given_read text read rest h.3.0 e h.3.1), h.3.2))
 ends_given (Faulty (Text line fault)) text read rest failed cut ds e clean h = by (truncated_or_not fault)
   where
     by : (fault ≡ Truncated) ⊎ (fault ≢ Truncated) → EndsBy (Faulty (Text line fault)) (given text) cut ds

@@ -11,19 +11,19 @@ pub mod Normalised
 pub mod Counted
 pub mod Run
 pub mod One
-pub use Words.{IsCommand, IsNoCommand, IsQuiet, audit_app, memory_fault, name_of, with_command}
+pub use Words.{IsCommand, IsNoCommand, audit_app, memory_fault, name_of, with_command}
 pub use Names.{by_name, packet_fault_name, text_fault_name}
 pub use Outputs.{IsWritten, Output, Prints, fault_line, memory_line, usage_line}
-pub use Sources.{Source, given}
-pub use Shown.{AreFirst, AreLines, Cut, Ending, EndsBy, Faulty, IsDatagramLine, IsPayloadText, IsShown, Whole, last_line, message_text, status_of}
-pub use Judged.{IsJudged, IsToldBy}
+pub use Sources.{AsGiven, AsRead, Extent, HasRead, Source, given, so_far}
+pub use Shown.{AreFirst, AreLines, AreTaken, Cut, Ending, EndsBy, Faulty, IsDatagramLine, IsPayloadText, IsShown, StopsAfter, WantsAfter, WantsToShow, Whole, last_line, message_text, status_of}
+pub use Judged.{IsJudged, IsSaid, IsToldBy}
 pub use Running.{Runs}
 pub use Checked.{IsChecked, checked, detail, refusal_line, verdict_status}
 pub use Extracted.{IsExtracted, extracted}
-pub use Normalised.{IsNormalised, normalised}
+pub use Normalised.{IsNormalised, IsUnwritten, normalised}
 pub use Counted.{IsCounted, counted}
 pub use Run.{IsOutput, IsOutputOf, IsRefused}
-pub use One.{IsMemoryOutput, IsNoMemoryEnding, SaysNoMemory, TellsOfMemory}
+pub use One.{HasDatagram, IsLeft, IsMemoryOutput, IsNoMemoryEnding, IsUnread, SaysNoMemory, TellsOfMemory, empty_text, first_datagram, first_text}
 pub use declared.status.Status.{Status}
 pub use declared.words.Action.{Action}
 pub use declared.words.Action.TheVariants.{Check, Count, Extract, Normal, Show}

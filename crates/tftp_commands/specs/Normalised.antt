@@ -1,11 +1,11 @@
 -- What `normal` writes of a capture text: its normal text, and nothing where it is not accepted.
-use Rattle.std.specs.Prelude.{[], Result, Ok, Err}
+use Rattle.std.specs.Prelude.{◌≡◌, [], Result, Ok, Err}
 use Rattle.law_model.specs.Model.{Meaning}
 use Rattle.tftp_judge.specs.{Verdict}
 use Rattle.tftp_normal.specs.{normal_text}
 use Rattle.tftp_commands.specs.declared.status.Status.TheVariants as status
 use Rattle.tftp_commands.specs.Checked.{verdict_status}
-use Rattle.tftp_commands.specs.Judged.{IsToldBy}
+use Rattle.tftp_commands.specs.Judged.{IsJudged, IsToldBy}
 use Rattle.tftp_commands.specs.Outputs.{Output}
 use Rattle.tftp_commands.specs.Sources.{Source}
 
@@ -14,7 +14,10 @@ abbrev pub normalised : Result Meaning Verdict → Output
 normalised (Ok m) = record { bytes = normal_text m; status = status.Success }
 normalised (Err verdict) = record { bytes = []; status = verdict_status verdict }
 
--- The output is that of what there is to say of what was read; that memory ran out is said too where it was to write
--- what is accepted.
+-- the output is that of what there is to say of what was read
 abbrev pub IsNormalised : Source → Output → Type 0
 IsNormalised = IsToldBy normalised
+
+-- memory ran out for writing the normal text of what is accepted: nothing was written
+abbrev pub IsUnwritten : Source → Output → Type 0
+IsUnwritten source output = (m : Meaning) × IsJudged source (Ok m) × (output ≡ record { bytes = []; status = status.Fault })

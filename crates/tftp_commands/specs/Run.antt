@@ -1,13 +1,13 @@
 -- What a run of the program writes, by its words and by what it was given.
-use Rattle.std.specs.Prelude.{◌≡◌, ◌⊎◌, ℕ, List, Bool, length}
+use Rattle.std.specs.Prelude.{◌≡◌, ◌⊎◌, ℕ, List, Bool}
 use Rattle.tftp_commands.specs.declared.status.Status.TheVariants as status
 use Rattle.tftp_commands.specs.declared.words.Action.{Action}
 use Rattle.tftp_commands.specs.declared.words.Action.TheVariants.{Check, Extract, Normal, Show, Count}
 use Rattle.tftp_commands.specs.Checked.{IsChecked}
 use Rattle.tftp_commands.specs.Counted.{IsCounted}
 use Rattle.tftp_commands.specs.Extracted.{IsExtracted}
-use Rattle.tftp_commands.specs.Normalised.{IsNormalised}
-use Rattle.tftp_commands.specs.Outputs.{Output, memory_line, usage_line}
+use Rattle.tftp_commands.specs.Normalised.{IsNormalised, IsUnwritten}
+use Rattle.tftp_commands.specs.Outputs.{Output, usage_line}
 use Rattle.tftp_commands.specs.Shown.{IsShown}
 use Rattle.tftp_commands.specs.Sources.{Source}
 use Rattle.tftp_commands.specs.Words.{IsCommand, IsNoCommand}
@@ -16,17 +16,15 @@ use Rattle.tftp_commands.specs.Words.{IsCommand, IsNoCommand}
 abbrev pub IsOutputOf : Action → Source → Bool → Output → Type 0
 IsOutputOf Check source cut output = IsChecked source output
 IsOutputOf Extract source cut output = IsExtracted source output
-IsOutputOf Normal source cut output = IsNormalised source output
+IsOutputOf Normal source cut output = IsNormalised source output ⊎ IsUnwritten source output
 IsOutputOf Show source cut output = IsShown source cut output
 IsOutputOf Count source cut output = IsCounted source output
 
--- that the words are no command; where they are two, for which a parse is needed, perhaps being out of memory
-abbrev pub IsRefused : List (List ℕ) → Output → Type 0
-IsRefused words output =
-    (output ≡ record { bytes = usage_line; status = status.Fault })
-    ⊎ ((length words ≡ 2) × (output ≡ record { bytes = memory_line; status = status.Fault }))
+-- that the words are no command
+abbrev pub IsRefused : Output → Type 0
+IsRefused output = output ≡ record { bytes = usage_line; status = status.Fault }
 
 -- the output that there may be of the words
 pub record IsOutput (words : List (List ℕ)) (source : Source) (cut : Bool) (output : Output) : Type 0 where
   pub command : (action : Action) → IsCommand action words → IsOutputOf action source cut output
-  pub none : IsNoCommand words → IsRefused words output
+  pub none : IsNoCommand words → IsRefused output

@@ -3,13 +3,15 @@ use Rattle.std.specs.Prelude.{◌≡◌, ◌⊎◌, ℕ, ◌+◌, List, [], ◌�
 use Rattle.std.specs.Io.KnownBytes.{IsAtEnd}
 use Rattle.tftp_packet.specs.{Message, Request, Data, Ack, Error, Oack, Spells, FirstFault, PacketFault}
 use Rattle.tftp_capture.specs.CaptureText.{Header, Datagram}
-use Rattle.tftp_capture.specs.{Numbered, Due, dir_word, IsCapture, HasFault, Unfinished, Begins, IsAtTextEnd, CaptureFault}
+use Rattle.tftp_capture.specs.CaptureText.Due.{Body}
+use Rattle.tftp_capture.specs.{Numbered, Due, Stands, Version, dir_word, IsCapture, HasFault, SaysOneMore, Unfinished, Begins, IsAtTextEnd, CaptureFault}
 use Rattle.tftp_capture.specs.declared.fault.CaptureFault.TheVariants.{Text, Read, Memory}
+use Rattle.tftp_judge.specs.TextVerdict.{IsReadTo}
 use Rattle.tftp_commands.specs.declared.status.Status.{Status}
 use Rattle.tftp_commands.specs.declared.status.Status.TheVariants as status
 use Rattle.tftp_commands.specs.Names.{request_name, packet_fault_name}
 use Rattle.tftp_commands.specs.Outputs.{Output, fault_line}
-use Rattle.tftp_commands.specs.Sources.{Source}
+use Rattle.tftp_commands.specs.Sources.{HasRead, Source}
 
 -- ---- the lines of datagrams
 
@@ -43,6 +45,31 @@ AreLines number (d ∷ datagrams) bytes = (line more : List ℕ) × IsDatagramLi
 abbrev pub AreFirst : List ℕ → List Numbered → Type 0
 AreFirst text datagrams = (datagrams ≡ []) ⊎ ((header : Header) × Begins text header datagrams)
 
+-- What was read is whole lines that say these datagrams and no more, and what a reader has read ahead of them.
+pub record AreTaken (read : List ℕ) (datagrams : List Numbered) : Type 0 where
+  pub taken : List ℕ
+  pub ahead : List ℕ
+  pub to : IsReadTo read taken ahead
+  pub version : Version
+  pub lines : List (List ℕ)
+  pub header : Header
+  pub stands : Stands taken lines [] (Body version header) datagrams
+
+-- The reader wanted memory for this line: the first, before any byte was read and any datagram was given; or the last that
+-- was taken, which says the datagram after these.
+pub record WantsToShow (read : List ℕ) (datagrams : List Numbered) (line : ℕ) : Type 0 where
+  pub taken : List ℕ
+  pub ahead : List ℕ
+  pub to : IsReadTo read taken ahead
+  pub wants : ((read ≡ []) × (line ≡ 1) × (datagrams ≡ [])) ⊎ SaysOneMore taken datagrams line
+
+-- the same of what was read of a source
+abbrev pub StopsAfter : Source → List Numbered → Type 0
+StopsAfter source datagrams = (read : List ℕ) × HasRead source.extent source.read read × AreTaken read datagrams
+
+abbrev pub WantsAfter : Source → List Numbered → ℕ → Type 0
+WantsAfter source datagrams line = (read : List ℕ) × HasRead source.extent source.read read × WantsToShow read datagrams line
+
 -- at the text's end, at a fault, or where a write failed
 pub data Ending : Type 0 where
   Whole : Ending
@@ -50,13 +77,14 @@ pub data Ending : Type 0 where
   Cut : Ending
 
 -- The datagrams are all that the source gave before this ending; `cut` says whether a write failed. A text's end, and
--- the fault Truncated, come at the source's end; the fault Read where a read failed, and there alone.
+-- the fault Truncated, come at the source's end; the fault Read where a read failed, and there alone. Memory is wanted for
+-- the line after them; where a write failed, they are all that was taken.
 abbrev pub EndsBy : Ending → Source → Bool → List Numbered → Type 0
 EndsBy Whole source cut datagrams = ((header : Header) × IsCapture source.read header datagrams) × IsAtEnd source.left × (source.failed ≡ false)
 EndsBy (Faulty (Text line fault)) source cut datagrams = HasFault source.read datagrams line fault × (IsAtTextEnd (Text line fault) → IsAtEnd source.left) × (source.failed ≡ false)
 EndsBy (Faulty (Read line)) source cut datagrams = ((due : Due) × Unfinished source.read datagrams line due) × (source.failed ≡ true)
-EndsBy (Faulty (Memory line)) source cut datagrams = AreFirst source.read datagrams × (source.failed ≡ false)
-EndsBy Cut source cut datagrams = AreFirst source.read datagrams × (source.failed ≡ false) × (cut ≡ true)
+EndsBy (Faulty (Memory line)) source cut datagrams = AreFirst source.read datagrams × (source.failed ≡ false) × WantsAfter source datagrams line
+EndsBy Cut source cut datagrams = AreFirst source.read datagrams × (source.failed ≡ false) × (cut ≡ true) × StopsAfter source datagrams
 
 -- the ending of a text that was read to its end, or to this fault
 abbrev pub ending_of : Option CaptureFault → Ending

@@ -1,5 +1,5 @@
 -- The words of a command line.
-use Rattle.std.specs.Prelude.{◌≡◌, ◌⊎◌, ℕ, List, [], ◌∷◌, codes}
+use Rattle.std.specs.Prelude.{◌≡◌, ℕ, List, [], ◌∷◌, codes}
 use Rattle.clap.specs.Simple.{App, new_app, with_subcommand}
 use Rattle.tftp_commands.specs.declared.words.Action.{Action}
 use Rattle.tftp_commands.specs.declared.words.Action.TheVariants.{Check, Extract, Normal, Show, Count}
@@ -21,11 +21,7 @@ IsCommand action words = (program : List ℕ) × (words ≡ program ∷ name_of 
 abbrev pub IsNoCommand : List (List ℕ) → Type 0
 IsNoCommand words = (action : Action) → IsCommand action words → ⊥
 
--- the word asks for a file or a normal text, beside which nothing is said
-abbrev pub IsQuiet : List ℕ → Type 0
-IsQuiet word = (word ≡ codes "extract") ⊎ (word ≡ codes "normal")
-
--- how it is told that memory ran out for a command's words
+-- how it is told that memory ran out for a command's words: beside a file or a normal text nothing is said
 abbrev pub memory_fault : Action → UsageFault
 memory_fault Check = usage.Memory
 memory_fault Extract = usage.Silent

@@ -1,23 +1,29 @@
 //! Laws of the definitions in `specs/`: output is one. Each is the contract of a function that does nothing but cite a law
-//! below. The source may be a text that was given whole, and then the output is the text's.
+//! below. The source may be a text that was given whole, and then the output is the text's. And for what memory may be
+//! wanted: what was read has the datagram, unless nothing was read.
 
-ghost use Rattle.std.specs.Prelude.{◌≡◌, ◌⊎◌, ℕ, List, Option, Some, false};
+ghost use Rattle.std.specs.Prelude.{◌≡◌, ◌⊎◌, ℕ, List, [], ◌∷◌, Bool, codes, Option, Some, Result, false};
+ghost use Rattle.tftp_capture.specs.{line};
+ghost use Rattle.tftp_capture.specs.declared.fault.CaptureFault.TheVariants.{Memory};
+ghost use Rattle.law_model.specs.Model.{Meaning};
+ghost use Rattle.tftp_judge.specs.{Verdict};
 ghost use Rattle.tftp_commands.specs.Checked.{IsChecked};
 ghost use Rattle.tftp_commands.specs.Counted.{IsCounted};
 ghost use Rattle.tftp_commands.specs.Extracted.{IsExtracted};
 ghost use Rattle.tftp_commands.specs.Normalised.{IsNormalised};
-ghost use Rattle.tftp_commands.specs.One.{IsNoMemoryEnding, SaysNoMemory, TellsOfMemory};
-ghost use Rattle.tftp_commands.specs.Outputs.{IsWritten, Output};
-ghost use Rattle.tftp_commands.specs.Run.{IsOutput};
-ghost use Rattle.tftp_commands.specs.Shown.{IsShown};
-ghost use Rattle.tftp_commands.specs.Sources.{Source};
+ghost use Rattle.tftp_commands.specs.One.{HasDatagram, IsLeft, IsMemoryOutput, IsNoMemoryEnding, IsUnread, SaysNoMemory, TellsOfMemory, empty_text, first_datagram, first_text};
+ghost use Rattle.tftp_commands.specs.Outputs.{IsWritten, Output, memory_line};
+ghost use Rattle.tftp_commands.specs.Run.{IsOutput, IsOutputOf};
+ghost use Rattle.tftp_commands.specs.Shown.{AreTaken, Faulty, IsShown, WantsToShow};
+ghost use Rattle.tftp_commands.specs.Sources.{Source, so_far};
 ghost use Rattle.tftp_commands.specs.declared.status.Status.{Status};
+ghost use Rattle.tftp_commands.specs.declared.words.Action.{Action};
+ghost use Rattle.tftp_commands.specs.Judged.{IsJudged};
 
 use tftp_judge::laws::text_has_one_verdict;
 
 /// On what was read, and on whether a read failed, `check` has at most one right output, bytes and status, that does not
 /// come of being out of memory.
-#[tactic(auto, using(crate::proofs::OneOutput::one_checked))]
 pub fn check_has_one_output()
     ensures { (source : Source) (one other : Output) (first : IsChecked source one) (second : IsChecked source other) → SaysNoMemory first.said → SaysNoMemory second.said
         → one ≡ other }
@@ -26,7 +32,6 @@ pub fn check_has_one_output()
 }
 
 /// `extract` has at most one right output on its source that does not come of being out of memory.
-#[tactic(auto, using(crate::proofs::OneOutput::one_extracted))]
 pub fn extract_has_one_output()
     ensures { (source : Source) (one other : Output) (first : IsExtracted source one) (second : IsExtracted source other) → SaysNoMemory first.said → SaysNoMemory second.said
         → one ≡ other }
@@ -35,7 +40,6 @@ pub fn extract_has_one_output()
 }
 
 /// `normal` has at most one right output on its source that does not come of being out of memory.
-#[tactic(auto, using(crate::proofs::OneOutput::one_normalised))]
 pub fn normal_has_one_output()
     ensures { (source : Source) (one other : Output) (first : IsNormalised source one) (second : IsNormalised source other) → SaysNoMemory first.said → SaysNoMemory second.said
         → one ≡ other }
@@ -44,7 +48,6 @@ pub fn normal_has_one_output()
 }
 
 /// `count` has at most one right output on its source that does not come of being out of memory.
-#[tactic(auto, using(crate::proofs::OneOutput::one_counted))]
 pub fn count_has_one_output()
     ensures { (source : Source) (one other : Output) (first : IsCounted source one) (second : IsCounted source other) → SaysNoMemory first.said → SaysNoMemory second.said
         → one ≡ other }
@@ -75,4 +78,36 @@ pub fn run_has_one_output()
 pub fn output_is_written_in_one_way()
     ensures { (held : List ℕ) (new other : Option (List ℕ)) (output : Output) (status also : Status) → IsWritten (Some held) new false output status
         → IsWritten (Some held) other false output also → (new ≡ other) × (status ≡ also) }
+{}
+
+/// Before any byte is read each command may be out of memory.
+#[tactic(auto, using(crate::proofs::Memory::memory_first))]
+pub fn memory_may_be_wanted_first()
+    ensures { (action : Action) (left : Option (List ℕ)) (cut : Bool) → (output : Output) × IsMemoryOutput action output × IsOutputOf action (so_far [] left false) cut output }
+{}
+
+/// Once a byte was read, being out of memory is never what there is to say of a text that has no datagram, as of one with a
+/// fault in its header, or whose total is 0.
+#[tactic(auto, using(crate::proofs::Memory::memory_of))]
+pub fn memory_is_wanted_for_a_datagram()
+    ensures { (read : List ℕ) (left : Option (List ℕ)) (failed : Bool) (said : Result Meaning Verdict) → IsJudged (so_far read left failed) said → SaysNoMemory said ⊎ (read ≡ []) ⊎ HasDatagram read }
+{}
+
+/// A text of no datagram is never out of memory, once it was read.
+pub fn no_memory_is_wanted_for_an_empty_text()
+    ensures { (left : Option (List ℕ)) (failed : Bool) (said : Result Meaning Verdict) → IsJudged (so_far empty_text left failed) said → SaysNoMemory said }
+{}
+
+/// Memory is wanting for the first datagram of a text, on line 4: `show` says so, and shows nothing. Else it is taken.
+pub fn memory_is_wanted_for_the_first_datagram()
+    ensures wanted { WantsToShow first_text [] 4 }
+    ensures shown { IsShown (so_far first_text (Some (line (codes "total 1"))) false) false (record { bytes = memory_line; status = Status.Fault }) }
+    ensures taken { AreTaken first_text ((4, first_datagram) ∷ []) }
+{}
+
+/// Where `show` ends with being out of memory and no write failed, the next datagram of what was read is left unshown, and
+/// the line is its line: memory is never wanted in place of the text's end or of its fault.
+pub fn memory_is_wanted_for_what_is_left()
+    ensures { (source : Source) (one other : Output) (first : IsShown source false one) (second : IsShown source false other) (line : ℕ) → first.ending ≡ Faulty (Memory line) → IsNoMemoryEnding second.ending
+        → IsUnread source ⊎ IsLeft first.datagrams line second.datagrams }
 {}

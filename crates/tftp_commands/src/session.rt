@@ -3,7 +3,7 @@ ghost use Rattle.std.specs.Io.KnownBytes.{Consumes};
 ghost use Rattle.net_streams.specs.Streams.{IsFresh};
 ghost use Rattle.tftp_commands.specs.Outputs.{Output, Prints};
 ghost use Rattle.tftp_commands.specs.Run.{IsOutput};
-ghost use Rattle.tftp_commands.specs.Sources.{Source, given};
+ghost use Rattle.tftp_commands.specs.Sources.{given, so_far};
 ghost use Rattle.tftp_commands.specs.Words.{IsNoCommand};
 
 use crate::command::run_command;
@@ -27,9 +27,11 @@ pub fn run<S: AsStr, R: Read, W: Write>(
     requires fresh { IsFresh writer.old }
 
     // Whatever the reader, the writer and the memory do: bytes were read, and the output is one that there is of the
-    // words and of these. It was written, and its status is the run's; or, where a write failed, a part of it was.
+    // words and of these. It was written, and its status is the run's; or, where a write failed, a part of it was. Of a
+    // command it is out of memory's only before any byte was read, or for the last datagram on the lines that were taken;
+    // or where `normal` was to write what is accepted.
     ensures said { (read : List ℕ) × (output : Output) × Consumes (R.remaining reader.old.0) (R.remaining reader.new.0) read
-        × IsOutput (map S.text words.now) (record { read = read; left = R.remaining reader.new.0; failed = reader.new.1 }) writer.new.failed output
+        × IsOutput (map S.text words.now) (so_far read (R.remaining reader.new.0) reader.new.1) writer.new.failed output
         × Prints W.contents writer.old writer.new output result }
 
     // Where no read fails, it is the output on exactly the text that the reader had.
@@ -37,7 +39,7 @@ pub fn run<S: AsStr, R: Read, W: Write>(
         → (output : Output) × IsOutput (map S.text words.now) (given text) writer.new.failed output
         × Prints W.contents writer.old writer.new output result }
 
-    // Where the words are no command, nothing is read.
+    // Where the words are no command, nothing is read. Their output is that of a usage fault, whatever the memory does.
     ensures untouched { IsNoCommand (map S.text words.now) → reader.new ≡ reader.old }
 {
     match action_of(alloc, words) {

@@ -1,6 +1,6 @@
-ghost use Rattle.std.specs.Prelude.{◌≡◌, ◌≢◌, length, map, true, IfOk, IfErr, ◌⊎◌};
+ghost use Rattle.std.specs.Prelude.{◌≡◌, ◌≢◌, map, true, Some, IfOk, IfErr, IfSome, ◌⊎◌};
 ghost use Rattle.clap.specs.Words.{kind_of, takes};
-ghost use Rattle.tftp_commands.specs.Words.{audit_app, memory_fault, IsCommand, IsQuiet};
+ghost use Rattle.tftp_commands.specs.Words.{audit_app, memory_fault, IsCommand};
 
 use clap::error::ErrorKind;
 use clap::{ArgMatches, Command, Error};
@@ -45,43 +45,54 @@ fn parsed<'a, S: AsStr>(alloc: Global, words: &'a [S]) -> Result<ArgMatches<'a>,
     command.try_get_matches_from(words)
 }
 
-/// The command that the words name, the first of which is the program's name. Where there are not exactly two
-/// words, nothing is parsed.
+/// The command that the words name, the first of which is the program's name. Words that name none are not parsed: whatever
+/// the memory does, they are a usage fault.
 pub fn action_of<S: AsStr>(alloc: Global, words: &[S]) -> Result<Action, UsageFault>
     ensures ok { IfOk result (λ a. IsCommand a (map S.text words.now)) }
     ensures only { (a : Action) → IsCommand a (map S.text words.now) → (result ≡ Ok a) ⊎ (result ≡ Err (memory_fault a)) }
+    ensures loud { result ≡ Err UsageFault.Memory → (a : Action) × IsCommand a (map S.text words.now) × (memory_fault a ≡ UsageFault.Memory) }
     ensures quiet { result ≡ Err UsageFault.Silent → (a : Action) × IsCommand a (map S.text words.now) × (memory_fault a ≡ UsageFault.Silent) }
-    ensures two { result ≡ Err UsageFault.Memory → length words.now ≡ 2 }
 {
-    if words.len() != 2 {
+    let Some(action) = named(words) else {
         return Err(UsageFault::Usage);
-    }
-    let word = words[1].as_str();
-    if let Err(e) = parsed(alloc, words) {
-        return Err(fault_of(word, e.kind()));
-    }
-    match word {
-        "check" => Ok(Action::Check),
-        "extract" => Ok(Action::Extract),
-        "normal" => Ok(Action::Normal),
-        "show" => Ok(Action::Show),
-        "count" => Ok(Action::Count),
-        _ => Err(UsageFault::Usage),
+    };
+    match parsed(alloc, words) {
+        Ok(_) => Ok(action),
+        Err(e) => Err(fault_of(action, e.kind())),
     }
 }
 
-/// Why the words were not parsed, by the second of them.
-fn fault_of(word: &str, kind: ErrorKind) -> UsageFault
+/// The command that two words name.
+fn named<S: AsStr>(words: &[S]) -> Option<Action>
+    ensures some { IfSome result (λ a. IsCommand a (map S.text words.now)) }
+    ensures only { (a : Action) → IsCommand a (map S.text words.now) → result ≡ Some a }
+{
+    if words.len() != 2 {
+        return None;
+    }
+    let word = words[1].as_str();
+    match word {
+        "check" => Some(Action::Check),
+        "extract" => Some(Action::Extract),
+        "normal" => Some(Action::Normal),
+        "show" => Some(Action::Show),
+        "count" => Some(Action::Count),
+        _ => None,
+    }
+}
+
+/// Why the words of this command were not parsed.
+fn fault_of(action: Action, kind: ErrorKind) -> UsageFault
     ensures usage { kind ≢ ErrorKind.OutOfMemory → result ≡ UsageFault.Usage }
-    ensures silent { kind ≡ ErrorKind.OutOfMemory → IsQuiet word.now → result ≡ UsageFault.Silent }
-    ensures memory { kind ≡ ErrorKind.OutOfMemory → (IsQuiet word.now → ⊥) → result ≡ UsageFault.Memory }
-    ensures quiet { result ≡ UsageFault.Silent → IsQuiet word.now }
+    ensures memory { kind ≡ ErrorKind.OutOfMemory → result ≡ memory_fault action }
 {
     match kind {
-        ErrorKind::OutOfMemory => match word {
-            "extract" => UsageFault::Silent,
-            "normal" => UsageFault::Silent,
-            _ => UsageFault::Memory,
+        ErrorKind::OutOfMemory => match action {
+            Action::Check => UsageFault::Memory,
+            Action::Extract => UsageFault::Silent,
+            Action::Normal => UsageFault::Silent,
+            Action::Show => UsageFault::Memory,
+            Action::Count => UsageFault::Memory,
         },
         _ => UsageFault::Usage,
     }

@@ -1,7 +1,6 @@
 use Rattle.std.proofs.Common.{[], Err, refl, ap, ◌∙◌}
-use Rattle.std.proofs.lemmas.List.{length-map}
 use Rattle.std.proofs.KnownBytes.{Consumes-nil}
-use Rattle.tftp_commands.proofs.Commands.{command_output, memory_output, memory_told, no_command, silent_output, usage_output}
+use Rattle.tftp_commands.proofs.Commands.{command_output, memory_output, no_command, silent_output, usage_output}
 use Rattle.tftp_commands.proofs.Written.{printed_none}
 use Rattle.tftp_commands.proofs.session.run.Goals as goal
 
@@ -30,23 +29,23 @@ returns-in-Err-Usage-clause-whole g c = λ text tells clean.
 
 pub returns-in-Err-Memory-clause-said : goal.returns-in-Err-Memory-clause-said
 returns-in-Err-Memory-clause-said g c =
-    let two = c.action_of.ensures.two (c.in-Err-Memory.is ∙ ap Err c.in-Err-Memory.field-0-is) in
-    ([], _, Consumes-nil _, memory_output _ _ _ (length-map c.args.words.now g.S.AsStr.text ∙ two) (memory_told _ c.action_of.result (c.in-Err-Memory.is ∙ ap Err c.in-Err-Memory.field-0-is) c.action_of.ensures.only) c.requires.reading, c.say-in-Err-Memory.ensures)
+    let (a, is, told) = c.action_of.ensures.loud (c.in-Err-Memory.is ∙ ap Err c.in-Err-Memory.field-0-is) in
+    ([], _, Consumes-nil _, memory_output a _ _ _ is told refl c.requires.reading, c.say-in-Err-Memory.ensures)
 
 pub returns-in-Err-Memory-clause-whole : goal.returns-in-Err-Memory-clause-whole
 returns-in-Err-Memory-clause-whole g c = λ text tells clean.
-    let two = c.action_of.ensures.two (c.in-Err-Memory.is ∙ ap Err c.in-Err-Memory.field-0-is) in
-    (_, memory_output _ _ _ (length-map c.args.words.now g.S.AsStr.text ∙ two) (memory_told _ c.action_of.result (c.in-Err-Memory.is ∙ ap Err c.in-Err-Memory.field-0-is) c.action_of.ensures.only) refl, c.say-in-Err-Memory.ensures)
+    let (a, is, told) = c.action_of.ensures.loud (c.in-Err-Memory.is ∙ ap Err c.in-Err-Memory.field-0-is) in
+    (_, memory_output a _ _ _ is told (text, refl) refl, c.say-in-Err-Memory.ensures)
 
 pub returns-in-Err-Silent-clause-said : goal.returns-in-Err-Silent-clause-said
 returns-in-Err-Silent-clause-said g c =
     let (a, is, told) = c.action_of.ensures.quiet (c.in-Err-Silent.is ∙ ap Err c.in-Err-Silent.field-0-is) in
-    ([], _, Consumes-nil _, silent_output a _ _ _ is told c.requires.reading, printed_none g.W.Write.contents c.args.writer.now c.args.writer.now _ _ c.requires.fresh refl refl)
+    ([], _, Consumes-nil _, silent_output a _ _ _ is told refl c.requires.reading, printed_none g.W.Write.contents c.args.writer.now c.args.writer.now _ _ c.requires.fresh refl refl)
 
 pub returns-in-Err-Silent-clause-whole : goal.returns-in-Err-Silent-clause-whole
 returns-in-Err-Silent-clause-whole g c = λ text tells clean.
     let (a, is, told) = c.action_of.ensures.quiet (c.in-Err-Silent.is ∙ ap Err c.in-Err-Silent.field-0-is) in
-    (_, silent_output a _ _ _ is told refl, printed_none g.W.Write.contents c.args.writer.now c.args.writer.now _ _ c.requires.fresh refl refl)
+    (_, silent_output a _ _ _ is told (text, refl) refl, printed_none g.W.Write.contents c.args.writer.now c.args.writer.now _ _ c.requires.fresh refl refl)
 
 pub returns-in-Err-Silent-clause-untouched : goal.returns-in-Err-Silent-clause-untouched
 returns-in-Err-Silent-clause-untouched g c = λ none. refl

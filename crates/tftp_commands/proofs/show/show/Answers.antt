@@ -22,7 +22,7 @@ returns-in-Err-next_into g c =
     let answered = c.in-Err-next_into.ensures in
     shown_runs g.R.Read.remaining g.W.Write.contents c.args.reader.now c.next_into.new.reader c.args.writer.now c.finish-in-Err-next_into.new.writer c.finish-in-Err-next_into.result
     (shown_fault _ _ _ _ _ _ c.loop-writer.capture c.next_into.new.self c.loop-writer.writer.waits c.loop-writer.number _ _ _ c.in-Err-next_into.fault inv.shown inv.going answered.continues answered.standing
-    (answered.cut inv.going) (answered.drained inv.going) answered.read (λ other. other_side other answered.tally ∙ inv.reading) c.finish-in-Err-next_into.ensures.0) c.finish-in-Err-next_into.ensures.1
+    (answered.near inv.going) (answered.cut inv.going) (answered.drained inv.going) answered.read (λ other. other_side other answered.tally ∙ inv.reading) c.finish-in-Err-next_into.ensures.0) c.finish-in-Err-next_into.ensures.1
 
 pub returns-then-is_err : goal.returns-then-is_err
 returns-then-is_err g c =
@@ -33,7 +33,7 @@ returns-then-is_err g c =
     let told = not_added g.W.Write.contents c.loop-writer.writer c.show_datagram.new.writer c.show_datagram.result _ failed put.2 in
     shown_runs g.R.Read.remaining g.W.Write.contents c.args.reader.now c.next_into.new.reader c.args.writer.now c.show_datagram.new.writer _
     (cut_here _ _ _ _ _ _ c.loop-writer.capture c.next_into.new.self c.loop-writer.writer.waits c.loop-writer.number c.next_into.new.datagram put.0 _ _ inv.shown inv.going answered.continues answered.standing
-    (other_side (λ h. h) answered.tally ∙ inv.reading) told.failed put.1 (told.part inv.writing)) (λ passed. absurd (true≢false (sym told.failed ∙ passed)))
+    (answered.near inv.going) (other_side (λ h. h) answered.tally ∙ inv.reading) told.failed put.1 (told.part inv.writing)) (λ passed. absurd (true≢false (sym told.failed ∙ passed)))
 
 pub loop-writer-preserved : goal.loop-writer-preserved
 loop-writer-preserved g c =
