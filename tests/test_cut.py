@@ -6,7 +6,7 @@ import itertools
 from checks import Check, Checks
 from fuzzing.cut import ENDS, accused
 
-LONGEST = 4
+LONGEST = 5
 
 
 class Cut(Checks):

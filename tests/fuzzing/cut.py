@@ -40,7 +40,7 @@ def requests(writes: bool) -> Iterator[Passed]:
 def talks(writes: bool, server: Endpoint) -> Iterator[Passed]:
     """What the client and the server may say to each other by this port."""
     sends, takes = (CLIENT, server) if writes else (server, CLIENT)
-    for block, length in ((1, 512), (1, 8), (1, 0), (2, 512), (2, 8), (2, 0)):
+    for block, length in ((1, 512), (1, 0), (2, 0)):
         yield Passed(sends, takes, b"\0\3" + block.to_bytes(2, "big") + bytes([block]) * length)
     for block in range(3):
         yield Passed(takes, sends, b"\0\4" + block.to_bytes(2, "big"))
@@ -72,7 +72,7 @@ def lawful_captures(place: Place, writes: bool, longest: int) -> Iterator[Captur
 
 
 def accused(place: Place, writes: bool, longest: int) -> Iterator[str]:
-    """Who is accused at the last datagram of what is left of a capture."""
+    """Who is accused in what is left of a capture."""
     for capture in lawful_captures(place, writes, longest):
         for at in range(1, len(capture) - 1):
             left = capture[at:]
@@ -81,5 +81,5 @@ def accused(place: Place, writes: bool, longest: int) -> Iterator[str]:
             datagrams = [Datagram(number, number * 0.01, *it) for number, it in enumerate(left)]
             for one in attributed(datagrams).transfers:
                 told = told_at(one, place)
-                if told.is_accused() and told.refused and told.refused.number == len(left) - 1:
+                if told.is_accused():
                     yield f"{place}, cut behind {at}: {told.line}: {capture}"
