@@ -2,7 +2,7 @@
 use Rattle.std.proofs.Common.{◌≡◌, ℕ, Bool, false, cond, List, ◌∷◌, sym, ap, ◌∙◌, subst, map, ◌&&◌, ◌||◌, filter}
 use Rattle.audit_flows.specs.Transfers.{is_answered_apart, is_it, some_of, IsDoubtedAfter, is_about}
 use Rattle.audit_flows.specs.{TransferDoubts}
-use Rattle.audit_flows.specs.Lines.{comes_in, follows_strays, follows_unanswered, agrees_late, goes_on_with_first, is_asked_again, is_disordered, is_late, may_be_answer_of, says_unknown_id, Placed, is_of}
+use Rattle.audit_flows.specs.Lines.{comes_in, follows_strays, follows_unanswered, agrees_late, goes_on_with_first, is_asked_again, is_disordered, is_late, may_be_answer_of, says_first_word, says_unknown_id, Placed, is_of}
 use Rattle.audit_flows.proofs.TransfersLemmas.OwnDatagrams.{about_none}
 use Rattle.audit_views.specs.Views.{Naming, captured_at_client, client_header, HasJudged, Client, IsClientAfter}
 
@@ -17,6 +17,7 @@ pub doubts_pass_by : (t : TransferDoubts) (p : Placed) (older : List Placed) →
 doubts_pass_by t p older off apart after = record {
   agrees_late = after.agrees_late ∙ sym (none_of t.number agrees_late p older off);
   says_unknown_id = after.says_unknown_id ∙ sym (none_of t.number (λ q before. says_unknown_id q) p older off);
+  says_first_word = after.says_first_word ∙ sym (none_of t.number says_first_word p older off);
   is_late = after.is_late ∙ sym (none_of t.number is_late p older off);
   is_disordered = after.is_disordered ∙ sym (none_of t.number is_disordered p older off);
   is_asked_again = after.is_asked_again ∙ sym (none_of t.number is_asked_again p older off);
