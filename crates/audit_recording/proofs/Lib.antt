@@ -2,3 +2,5 @@ pub mod BetweenLemmas
 pub mod JudgesLemmas
 pub mod AuditLemmas
 pub mod RowsLemmas
+pub mod ReasonsLemmas
+pub mod LossesLemmas

@@ -2,6 +2,7 @@
 
 mod blame;
 mod doubted;
+pub mod laws;
 mod missing;
 mod passing;
 mod reason;

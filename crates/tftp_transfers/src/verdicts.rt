@@ -192,7 +192,6 @@ impl Judged {
                     matches!(view.point, Point::Server) && blamed.speaks_first,
                     Reason::SpeaksFirst,
                 )?;
-                put_if(reasons, blamed.says_first_word, Reason::FirstWord)?;
                 put_if(
                     reasons,
                     self.comes_of_earlier(told, blamed),

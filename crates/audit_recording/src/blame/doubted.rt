@@ -1,5 +1,10 @@
 //! What makes the refusals of a transfer doubtful.
 
+ghost use Rattle.std.specs.Prelude.{◌≡◌, ◌++◌, List, OnOk, option_map, option_to_list};
+ghost use Rattle.audit_flows.specs.Lines.{Placed};
+ghost use Rattle.audit_flows.specs.Transfers.{IsDoubtedAfter};
+ghost use Rattle.audit_recording.specs.Reasons.Listed.{frame_reasons, is_astray, is_one_way, missing_reasons, reasons_of, up_to, where_so, whole_reasons};
+
 use crate::blame::blame::Blamed;
 use crate::blame::missing::Missing;
 use crate::blame::reason::Reason;
@@ -31,27 +36,26 @@ pub struct Doubted {
 
 impl Doubted {
     /// Adds why a refusal there is doubtful: nothing where it is an accusation.
-    pub fn put_reasons(
-        &self,
-        reasons: &mut Vec<Reason>,
-        blamed: &Blamed,
-    ) -> Result<(), AllocError> {
+    pub fn put_reasons(&self, reasons: &mut Vec<Reason>, blamed: &Blamed) -> Result<(), AllocError>
+        ensures { (placed : List Placed) → IsDoubtedAfter self.now.doubts placed
+            → OnOk result (reasons.new.items ≡ reasons.old.items ++ reasons_of placed self.now blamed.now) }
+    {
         self.put_doubts(reasons)?;
         put_if(reasons, blamed.is_late, Reason::Late)?;
         put_if(reasons, blamed.is_beside, Reason::Beside)?;
         put_if(reasons, self.is_led_astray(blamed), Reason::LedAstray)?;
         put_if(reasons, blamed.tells_strays, Reason::UnknownId)?;
-        put_if(
-            reasons,
-            self.is_one_way && blamed.frame != self.begins,
-            Reason::OneWay,
-        )?;
+        put_if(reasons, blamed.says_first_word, Reason::FirstWord)?;
+        put_if(reasons, self.is_one_way_for(blamed), Reason::OneWay)?;
         put_if(reasons, self.is_twice, Reason::Twice)?;
         self.put_frames(reasons, blamed)
     }
 
     /// Adds the doubts of the whole transfer.
-    fn put_doubts(&self, reasons: &mut Vec<Reason>) -> Result<(), AllocError> {
+    fn put_doubts(&self, reasons: &mut Vec<Reason>) -> Result<(), AllocError>
+        ensures { (placed : List Placed) → IsDoubtedAfter self.now.doubts placed
+            → OnOk result (reasons.new.items ≡ reasons.old.items ++ whole_reasons placed self.now) }
+    {
         let doubts = &self.doubts;
         put_if(reasons, doubts.is_disordered(), Reason::Disordered)?;
         put_some(reasons, self.left_out.map(|frame| Reason::LeftOut(frame)))?;
@@ -66,12 +70,23 @@ impl Doubted {
     }
 
     /// Whether something had come to its client, which never went on with who sent it something first.
-    fn is_led_astray(&self, blamed: &Blamed) -> bool {
+    fn is_led_astray(&self, blamed: &Blamed) -> bool
+        ensures { (placed : List Placed) → IsDoubtedAfter self.now.doubts placed → result ≡ is_astray placed self.now blamed.now }
+    {
         blamed.is_answered && !self.doubts.goes_on_with_first()
     }
 
+    /// Whether nothing came to its client, and it is not the request that is refused.
+    fn is_one_way_for(&self, blamed: &Blamed) -> bool
+        ensures { result ≡ is_one_way self.now blamed.now }
+    {
+        self.is_one_way && blamed.frame != self.begins
+    }
+
     /// Adds the doubts that come with a frame up to the one that is refused.
-    fn put_frames(&self, reasons: &mut Vec<Reason>, blamed: &Blamed) -> Result<(), AllocError> {
+    fn put_frames(&self, reasons: &mut Vec<Reason>, blamed: &Blamed) -> Result<(), AllocError>
+        ensures { OnOk result (reasons.new.items ≡ reasons.old.items ++ frame_reasons self.now blamed.now) }
+    {
         let lost = up_to(self.missing.first, blamed.frame);
         put_some(reasons, lost.map(|frame| Reason::Lost(frame)))?;
         let copied = up_to(self.copied_from, blamed.frame);
@@ -83,7 +98,9 @@ impl Doubted {
     }
 
     /// Adds why a transfer that stops early may have gone on.
-    pub fn put_missing(&self, reasons: &mut Vec<Reason>) -> Result<(), AllocError> {
+    pub fn put_missing(&self, reasons: &mut Vec<Reason>) -> Result<(), AllocError>
+        ensures { OnOk result (reasons.new.items ≡ reasons.old.items ++ missing_reasons self.now) }
+    {
         put_some(reasons, self.left_out.map(|frame| Reason::LeftOut(frame)))?;
         put_some(
             reasons,
@@ -93,7 +110,9 @@ impl Doubted {
 }
 
 /// Adds a reason, if it holds.
-pub fn put_if(reasons: &mut Vec<Reason>, holds: bool, reason: Reason) -> Result<(), AllocError> {
+pub fn put_if(reasons: &mut Vec<Reason>, holds: bool, reason: Reason) -> Result<(), AllocError>
+    ensures { OnOk result (reasons.new.items ≡ reasons.old.items ++ where_so reason holds) }
+{
     if holds {
         reasons.push(reason)?;
     }
@@ -101,7 +120,9 @@ pub fn put_if(reasons: &mut Vec<Reason>, holds: bool, reason: Reason) -> Result<
 }
 
 /// Adds a reason, if there is one.
-fn put_some(reasons: &mut Vec<Reason>, reason: Option<Reason>) -> Result<(), AllocError> {
+fn put_some(reasons: &mut Vec<Reason>, reason: Option<Reason>) -> Result<(), AllocError>
+    ensures { OnOk result (reasons.new.items ≡ reasons.old.items ++ option_to_list reason) }
+{
     if let Some(reason) = reason {
         reasons.push(reason)?;
     }
@@ -109,7 +130,9 @@ fn put_some(reasons: &mut Vec<Reason>, reason: Option<Reason>) -> Result<(), All
 }
 
 /// A frame, unless it comes after that one.
-fn up_to(frame: Option<u64>, last: u64) -> Option<u64> {
+fn up_to(frame: Option<u64>, last: u64) -> Option<u64>
+    ensures { result ≡ up_to last frame }
+{
     match frame {
         Some(frame) if frame <= last => Some(frame),
         _ => None,

@@ -1,5 +1,8 @@
 //! Which datagrams did not come as they were sent.
 
+ghost use Rattle.std.specs.Prelude.{◌≡◌, ◌∷◌, List};
+ghost use Rattle.audit_recording.specs.Reasons.Spoilt.{Checked, checked, first_spoilt};
+
 use crate::blame::passing::Passing;
 use audit_flows::lines::Address;
 
@@ -14,7 +17,10 @@ pub struct Spoilt {
 }
 
 /// The first spoilt datagram, where that one is the first.
-pub fn first_spoilt(spoilt: Option<Spoilt>, passing: &Passing<'_>) -> Option<Spoilt> {
+pub fn first_spoilt(spoilt: Option<Spoilt>, passing: &Passing<'_>) -> Option<Spoilt>
+    ensures { (older : List Checked) → spoilt ≡ first_spoilt older
+        → result ≡ first_spoilt (checked passing.now.frame passing.now.source.address passing.now.is_intact ∷ older) }
+{
     match (spoilt, passing.is_intact) {
         (None, Some(false)) => Some(Spoilt {
             frame: passing.frame,

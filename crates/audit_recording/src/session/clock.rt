@@ -1,5 +1,8 @@
 //! The time of a recording.
 
+ghost use Rattle.std.specs.Prelude.{◌≡◌, ◌∷◌, ℕ, List, [], max, nat_lt, unwrap_or};
+ghost use Rattle.audit_recording.specs.Reasons.Clock.{IsClockAfter, last_of};
+
 /// The times of a recording's datagrams, in nanoseconds since 1970.
 #[derive(Clone, Copy)]
 pub struct Clock {
@@ -11,7 +14,9 @@ pub struct Clock {
 
 impl Clock {
     /// Before any datagram.
-    pub fn new() -> Self {
+    pub fn new() -> Self
+        ensures { IsClockAfter result [] }
+    {
         Clock {
             last: 0,
             reached: 0,
@@ -19,7 +24,10 @@ impl Clock {
     }
 
     /// Notes the time of the next datagram; whether it is older than the one before.
-    pub fn pass(&mut self, time: u64) -> bool {
+    pub fn pass(&mut self, time: u64) -> bool
+        ensures stands { (times : List ℕ) → IsClockAfter self.old times → IsClockAfter self.new (time ∷ times) }
+        ensures back { (times : List ℕ) → IsClockAfter self.old times → result ≡ nat_lt time (last_of times) }
+    {
         let last = self.last;
         self.last = time;
         self.reached = self.reached.max(time.min(last));
@@ -27,12 +35,16 @@ impl Clock {
     }
 
     /// The time of a datagram: that of the one before, where the recording tells none.
-    pub fn time_of(&self, time: Option<u64>) -> u64 {
+    pub fn time_of(&self, time: Option<u64>) -> u64
+        ensures { (times : List ℕ) → IsClockAfter self.now times → result ≡ unwrap_or time (last_of times) }
+    {
         time.unwrap_or(self.last)
     }
 
     /// When a frame passed: at its time, but not before what the clock has reached.
-    pub fn moment_of(&self, time: Option<u64>) -> u64 {
+    pub fn moment_of(&self, time: Option<u64>) -> u64
+        ensures { (times : List ℕ) → IsClockAfter self.now times → result ≡ max (unwrap_or time (last_of times)) self.now.reached }
+    {
         self.time_of(time).max(self.reached)
     }
 }

@@ -1,6 +1,13 @@
 //! Which frames are not there whole, by the hosts between which they went.
 
-use crate::blame::{Missing, Trail};
+ghost use Rattle.std.specs.Prelude.{◌≡◌, ◌∷◌, ◌⊎◌, ℕ, List, [], None, OnOk, Some, option_map};
+ghost use Rattle.audit_flows.specs.Lines.{same_address};
+ghost use Rattle.audit_recording.specs.Losses.Noted.{Event, IsAfterAll, IsAsked, IsFirst, IsMissingOf, IsTold, Since, waiting_at};
+ghost use Rattle.audit_recording.specs.Losses.Noted.Event.{Asks, Finds, GivesUp, Loses, Waits};
+ghost use Rattle.audit_recording.specs.Losses.Kept.{AreLosses, Changes, HasAskedIn, HasLost, HasWaited, LosesMore, StandFor, host_end, kept_of};
+
+use crate::blame::Missing;
+use crate::session::host_losses::{HostLosses, least};
 use audit_flows::lines::{Address, Endpoint};
 use audit_views::parties::address_of;
 use std::alloc::{AllocError, Global};
@@ -37,9 +44,24 @@ struct Waiting {
     time: u64,
 }
 
+/// The stretch of a recording that a transfer takes.
+#[derive(Clone, Copy)]
+pub struct Stretch {
+    /// Its client's host.
+    pub client: Address,
+    /// The frame of its request, from 1.
+    pub first: u64,
+    /// The frame of its last datagram at the client.
+    pub last: u64,
+    /// The greatest time of these, in nanoseconds since 1970.
+    pub last_time: u64,
+}
+
 impl Losses {
     /// Nothing was lost.
-    pub fn new(alloc: Global) -> Self {
+    pub fn new(alloc: Global) -> Self
+        ensures { AreLosses result [] }
+    {
         Losses {
             of_hosts: BTreeMap::new(alloc),
             of_unknown: HostLosses::new(alloc),
@@ -47,12 +69,14 @@ impl Losses {
         }
     }
 
-    /// Notes that a client of this host asked, in that frame: what is lost from then on may be of its transfer.
-    pub fn ask(&mut self, alloc: Global, host: Address, frame: u64) -> Result<(), AllocError> {
-        self.of_unknown.asked = frame;
-        let losses = self.host(alloc, host)?;
-        losses.asked = frame;
-        Ok(())
+    /// Notes that a client of this host asked, in that frame: what is lost from then on may be of its transfer. After an error
+    /// they stand for nothing, here and below.
+    pub fn ask(&mut self, alloc: Global, host: Address, frame: u64) -> Result<(), AllocError>
+        ensures { (history : List Event) → AreLosses self.old history → IsAfterAll frame history
+            → OnOk result (AreLosses self.new (Asks host frame ∷ history)) }
+    {
+        self.of_unknown.ask(frame);
+        ask_at(&mut self.of_hosts, alloc, host, frame)
     }
 
     /// Notes a frame that waits for others of its packet.
@@ -62,10 +86,18 @@ impl Losses {
         frame: u64,
         hosts: Hosts,
         time: u64,
-    ) -> Result<(), AllocError> {
-        if let Some((source, target)) = hosts {
-            self.host(alloc, address_of(source))?.wait(frame, time)?;
-            self.host(alloc, address_of(target))?.wait(frame, time)?;
+    ) -> Result<(), AllocError>
+        ensures { (history : List Event) → AreLosses self.old history
+            → OnOk result (AreLosses self.new (Waits (record { frame = frame; hosts = hosts; time = time }) ∷ history)) }
+    {
+        self.end_wait(frame);
+        match hosts {
+            Some((source, target)) => {
+                let (source, target) = (address_of(source), address_of(target));
+                wait_at(&mut self.of_hosts, alloc, source, frame, time)?;
+                wait_at(&mut self.of_hosts, alloc, target, frame, time)?;
+            }
+            None => self.of_unknown.wait(frame, time)?,
         }
         self.waiting.insert(frame, Waiting { hosts, time })?;
         Ok(())
@@ -73,37 +105,25 @@ impl Losses {
 
     /// Notes a frame whose packet is there whole, or is none that may have been a datagram. Where it has waited too long by
     /// the clock, it stays lost to the transfers of its hosts, which may have been told.
-    pub fn find(&mut self, alloc: Global, frame: u64, clock: u64) -> Result<(), AllocError> {
+    pub fn find(&mut self, alloc: Global, frame: u64, clock: u64) -> Result<(), AllocError>
+        ensures { (history : List Event) → AreLosses self.old history → OnOk result (AreLosses self.new (Finds frame clock ∷ history)) }
+    {
         let Some(found) = self.end_wait(frame) else {
             return Ok(());
         };
         if clock > found.time.saturating_add(WAIT) {
-            return self.lose(alloc, frame, found.hosts, found.time);
+            return self.put(alloc, frame, found.hosts, found.time);
         }
         Ok(())
     }
 
     /// Notes a frame that has waited in vain.
-    pub fn give_up(&mut self, alloc: Global, frame: u64) -> Result<(), AllocError> {
+    pub fn give_up(&mut self, alloc: Global, frame: u64) -> Result<(), AllocError>
+        ensures { (history : List Event) → AreLosses self.old history → OnOk result (AreLosses self.new (GivesUp frame ∷ history)) }
+    {
         match self.end_wait(frame) {
-            Some(lost) => self.lose(alloc, frame, lost.hosts, lost.time),
+            Some(lost) => self.put(alloc, frame, lost.hosts, lost.time),
             None => Ok(()),
-        }
-    }
-
-    /// The frame waits no longer.
-    fn end_wait(&mut self, frame: u64) -> Option<Waiting> {
-        let ended = self.waiting.remove(&frame)?;
-        if let Some((source, target)) = ended.hosts {
-            self.end_wait_of(address_of(source), frame);
-            self.end_wait_of(address_of(target), frame);
-        }
-        Some(ended)
-    }
-
-    fn end_wait_of(&mut self, host: Address, frame: u64) {
-        if let Some(losses) = self.of_hosts.get_mut(&key_of(host)) {
-            losses.waiting.remove(&frame);
         }
     }
 
@@ -114,122 +134,152 @@ impl Losses {
         frame: u64,
         hosts: Hosts,
         time: u64,
-    ) -> Result<(), AllocError> {
+    ) -> Result<(), AllocError>
+        ensures { (history : List Event) → AreLosses self.old history
+            → OnOk result (AreLosses self.new (Loses (record { frame = frame; hosts = hosts; time = time }) ∷ history)) }
+    {
+        self.put(alloc, frame, hosts, time)
+    }
+
+    /// The frame waits no longer.
+    fn end_wait(&mut self, frame: u64) -> Option<Waiting>
+        ensures was { (history : List Event) → AreLosses self.old history → result ≡ option_map kept_of (waiting_at frame history) }
+        ensures stands { (history : List Event) → AreLosses self.old history → StandFor self.new history (GivesUp frame ∷ history) }
+    {
+        let ended = self.waiting.remove(&frame)?;
+        match ended.hosts {
+            Some((source, target)) => {
+                end_wait_at(&mut self.of_hosts, address_of(source), frame);
+                end_wait_at(&mut self.of_hosts, address_of(target), frame);
+            }
+            None => self.of_unknown.end_wait(frame),
+        }
+        Some(ended)
+    }
+
+    /// Puts a frame that is lost where those of its hosts are.
+    fn put(&mut self, alloc: Global, frame: u64, hosts: Hosts, time: u64) -> Result<(), AllocError>
+        ensures { (before after waiting : List Event) → StandFor self.old before waiting
+            → LosesMore (record { frame = frame; hosts = hosts; time = time }) before after → OnOk result (StandFor self.new after waiting) }
+    {
         match hosts {
             Some((source, target)) => {
-                self.host(alloc, address_of(source))?.lose(frame, time)?;
-                self.host(alloc, address_of(target))?.lose(frame, time)
+                lose_at(&mut self.of_hosts, alloc, address_of(source), frame, time)?;
+                lose_at(&mut self.of_hosts, alloc, address_of(target), frame, time)
             }
             None => self.of_unknown.lose(frame, time),
         }
     }
 
-    /// The losses of a host.
-    fn host(&mut self, alloc: Global, host: Address) -> Result<&mut HostLosses, AllocError> {
-        let key = key_of(host);
-        if !self.of_hosts.contains_key(&key) {
-            self.of_hosts.insert(key, HostLosses::new(alloc))?;
-        }
-        self.of_hosts.get_mut(&key).ok_or(AllocError)
-    }
-
     /// Whether a fragment of this host waits.
     pub fn is_waiting(&self, host: Address) -> bool {
         match self.of_hosts.get(&key_of(host)) {
-            Some(losses) => !losses.waiting.is_empty(),
+            Some(losses) => losses.is_waiting(),
             None => false,
         }
     }
 
     /// The frames that may have been of a transfer's client; what still waits may be lost.
-    pub fn of(&self, trail: &Trail) -> Missing {
-        let unknown = self.of_unknown.missing(trail);
-        match self.of_hosts.get(&key_of(trail.transfer.client.address)) {
-            Some(losses) => either(losses.missing(trail), unknown),
-            None => unknown,
+    pub fn of(&self, stretch: &Stretch) -> Missing
+        ensures first { (history : List Event) → AreLosses self.now history → IsFirst (IsMissingOf stretch.now.client history) result.first }
+        ensures within { (history : List Event) → AreLosses self.now history → IsAsked (λ host. same_address host stretch.now.client) stretch.now.first history
+            → IsTold (Since (IsMissingOf stretch.now.client history) stretch.now) stretch.now result.within }
+    {
+        let unknown = &self.of_unknown;
+        match self.of_hosts.get(&key_of(stretch.client)) {
+            Some(losses) => Missing {
+                first: least(losses.first(), unknown.first()),
+                within: least(losses.first_since(stretch), unknown.first_since(stretch)),
+            },
+            None => Missing {
+                first: unknown.first(),
+                within: unknown.first_since(stretch),
+            },
         }
     }
 }
 
 /// A host as an endpoint of port 0, which no datagram has.
-fn key_of(address: Address) -> Endpoint {
+fn key_of(address: Address) -> Endpoint
+    ensures { result ≡ host_end address }
+{
     Endpoint { address, port: 0 }
 }
 
-/// The lost frames of one host, or of unknown ones, and when they passed, in nanoseconds.
-#[derive(Drop)]
-struct HostLosses {
-    /// Of those that are lost the first after each request, at least.
-    lost: BTreeMap<u64, u64>,
-    /// Those that wait.
-    waiting: BTreeMap<u64, u64>,
-    /// The frame of the latest request of a client there; 0 before the first.
-    asked: u64,
-}
-
-impl HostLosses {
-    fn new(alloc: Global) -> Self {
-        HostLosses {
-            lost: BTreeMap::new(alloc),
-            waiting: BTreeMap::new(alloc),
-            asked: 0,
+/// Notes a request of a client at a host.
+fn ask_at(
+    hosts: &mut BTreeMap<Endpoint, HostLosses>,
+    alloc: Global,
+    host: Address,
+    frame: u64,
+) -> Result<(), AllocError>
+    ensures { OnOk result (Changes hosts.old hosts.new host (λ old new. HasAskedIn old new frame)) }
+{
+    let key = key_of(host);
+    match hosts.get_mut(&key) {
+        Some(losses) => {
+            losses.ask(frame);
+            Ok(())
+        }
+        None => {
+            let mut losses = HostLosses::new(alloc);
+            losses.ask(frame);
+            hosts.insert(key, losses)?;
+            Ok(())
         }
     }
+}
 
-    fn wait(&mut self, frame: u64, time: u64) -> Result<(), AllocError> {
-        self.waiting.insert(frame, time)?;
-        Ok(())
-    }
-
-    /// Notes a frame that is lost, unless one is noted that was lost before it and after the latest request.
-    fn lose(&mut self, frame: u64, time: u64) -> Result<(), AllocError> {
-        let is_noted = match self.lost.last_key_value() {
-            Some((last, _)) => self.asked <= *last && *last <= frame,
-            None => false,
-        };
-        if !is_noted {
-            self.lost.insert(frame, time)?;
+/// Notes a frame of a host that waits.
+fn wait_at(
+    hosts: &mut BTreeMap<Endpoint, HostLosses>,
+    alloc: Global,
+    host: Address,
+    frame: u64,
+    time: u64,
+) -> Result<(), AllocError>
+    ensures { OnOk result (Changes hosts.old hosts.new host (λ old new. HasWaited old new frame (Some time))) }
+{
+    let key = key_of(host);
+    match hosts.get_mut(&key) {
+        Some(losses) => losses.wait(frame, time),
+        None => {
+            let mut losses = HostLosses::new(alloc);
+            losses.wait(frame, time)?;
+            hosts.insert(key, losses)?;
+            Ok(())
         }
-        Ok(())
-    }
-
-    fn missing(&self, trail: &Trail) -> Missing {
-        let first = least(first_of(&self.lost), first_of(&self.waiting));
-        let within = least(within(&self.lost, trail), within(&self.waiting, trail));
-        Missing { first, within }
     }
 }
 
-/// The first of some frames.
-fn first_of(frames: &BTreeMap<u64, u64>) -> Option<u64> {
-    match frames.first_key_value() {
-        Some((frame, _)) => Some(*frame),
-        None => None,
+/// Notes that a frame of a host waits no longer.
+fn end_wait_at(hosts: &mut BTreeMap<Endpoint, HostLosses>, host: Address, frame: u64)
+    ensures { Changes hosts.old hosts.new host (λ old new. HasWaited old new frame None) }
+{
+    match hosts.get_mut(&key_of(host)) {
+        Some(losses) => losses.end_wait(frame),
+        None => {}
     }
 }
 
-/// The first of some frames since a transfer's request, if it stands among its datagrams or comes at most 300 s after them.
-fn within(frames: &BTreeMap<u64, u64>, trail: &Trail) -> Option<u64> {
-    let (frame, time) = frames.range(trail.first..).next()?;
-    let is_soon = *time <= trail.last_time.saturating_add(SILENCE);
-    if *frame <= trail.last || is_soon {
-        return Some(*frame);
-    }
-    None
-}
-
-fn either(one: Missing, other: Missing) -> Missing {
-    Missing {
-        first: least(one.first, other.first),
-        within: least(one.within, other.within),
-    }
-}
-
-/// The lesser of two numbers, where there is one.
-fn least(one: Option<u64>, other: Option<u64>) -> Option<u64> {
-    match (one, other) {
-        (Some(one), Some(other)) => Some(one.min(other)),
-        (one, None) => one,
-        (None, other) => other,
+/// Notes a frame of a host that is lost.
+fn lose_at(
+    hosts: &mut BTreeMap<Endpoint, HostLosses>,
+    alloc: Global,
+    host: Address,
+    frame: u64,
+    time: u64,
+) -> Result<(), AllocError>
+    ensures { OnOk result (Changes hosts.old hosts.new host (λ old new. HasLost old new frame time)) }
+{
+    let key = key_of(host);
+    match hosts.get_mut(&key) {
+        Some(losses) => losses.lose(frame, time),
+        None => {
+            let mut losses = HostLosses::new(alloc);
+            losses.lose(frame, time)?;
+            hosts.insert(key, losses)?;
+            Ok(())
+        }
     }
 }

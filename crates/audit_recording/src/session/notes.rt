@@ -3,7 +3,7 @@
 use crate::blame::{Missing, Passing, Reason, Trail};
 use crate::session::clock::Clock;
 use crate::session::intact::IntactHosts;
-use crate::session::losses::{Losses, SILENCE, WAIT};
+use crate::session::losses::{Losses, SILENCE, Stretch, WAIT};
 use crate::session::plain::put_number;
 use net_pcap::PcapFault;
 use net_udp::fragments::Fragments;
@@ -219,7 +219,12 @@ impl Notes {
 
     /// The frames that may have been of a transfer's client, and are not there whole.
     pub(crate) fn missing_of(&self, trail: &Trail) -> Missing {
-        self.losses.of(trail)
+        self.losses.of(&Stretch {
+            client: trail.transfer.client.address,
+            first: trail.first,
+            last: trail.last,
+            last_time: trail.last_time,
+        })
     }
 
     /// Whether datagrams of a transfer's client may be missing.

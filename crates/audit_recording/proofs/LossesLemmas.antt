@@ -1,0 +1,5 @@
+pub mod Changing
+pub mod Keeping
+pub mod Answering
+pub mod Standing
+pub mod Others

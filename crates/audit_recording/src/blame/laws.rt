@@ -1,0 +1,51 @@
+//! Laws of the definitions in `specs/`. Each is the contract of a function that does nothing.
+
+ghost use Rattle.std.specs.Prelude.{◌≡◌, ◌∷◌, ℕ, List, [], None, Some, false, true};
+ghost use Rattle.std.specs.List.{list_any};
+ghost use Rattle.audit_flows.specs.Lines.{Placed};
+ghost use Rattle.audit_flows.specs.Transfers.Doubts.{is_doubtful};
+ghost use Rattle.audit_flows.specs.{V4};
+ghost use Rattle.audit_recording.specs.Reasons.{Blamed, Doubted};
+ghost use Rattle.audit_recording.specs.Reasons.Spoilt.{checked, first_spoilt};
+ghost use Rattle.audit_recording.specs.Reasons.Twice.{are_twice, worked_sent};
+ghost use Rattle.audit_recording.specs.declared.blame.reason.Reason.TheVariants.{Late, Lost, OneWay, Twice};
+ghost use Rattle.audit_recording.specs.Reasons.Listed.{IsBlamedAt, is_of_division, missing_reasons, reasons_of, worked_blamed, worked_doubted};
+
+/// A reason of the division is told of a refused datagram exactly where the division makes the refusal doubtful. So an accusation,
+/// of which no reason is told, is none that the division doubts.
+pub fn each_doubt_of_the_division_is_told()
+    ensures told { (n : ℕ) (placed older : List Placed) (p : Placed) (d : Doubted) (b : Blamed) → d.doubts.number ≡ n → IsBlamedAt b n p older
+        → list_any is_of_division (reasons_of placed d b) ≡ is_doubtful n placed p older }
+    ensures accused { (n : ℕ) (placed older : List Placed) (p : Placed) (d : Doubted) (b : Blamed) → d.doubts.number ≡ n → IsBlamedAt b n p older
+        → reasons_of placed d b ≡ [] → is_doubtful n placed p older ≡ false }
+{}
+
+/// A datagram in frame 5 that its client sent once it had asked again, of a transfer that was recorded twice: frame 4, which is lost,
+/// is a reason too, and frame 6 is none, since what came later changes nothing. Of a transfer of one direction its request is still
+/// refused. And one that stops early may have gone on in frame 9.
+pub fn worked_reasons()
+    ensures early { reasons_of [] (worked_doubted true false (Some 4)) (worked_blamed 5 true) ≡ Late ∷ Twice ∷ Lost 4 ∷ [] }
+    ensures later { reasons_of [] (worked_doubted false false (Some 6)) (worked_blamed 5 false) ≡ [] }
+    ensures answer { reasons_of [] (worked_doubted false true None) (worked_blamed 5 false) ≡ OneWay ∷ [] }
+    ensures request { reasons_of [] (worked_doubted false true None) (worked_blamed 1 false) ≡ [] }
+    ensures missing { missing_reasons (worked_doubted false false None) ≡ Lost 9 ∷ [] }
+{}
+
+/// Each of four datagrams that stand in pairs stands beside its equal, and so does each of five in a pair and a row of three. One that
+/// comes last alone does not, nor does one between two pairs, nor do two that take turns; and of none it is not said.
+pub fn worked_twice()
+    ensures pairs { are_twice (worked_sent 2 ∷ worked_sent 2 ∷ worked_sent 1 ∷ worked_sent 1 ∷ []) ≡ true }
+    ensures row { are_twice (worked_sent 2 ∷ worked_sent 2 ∷ worked_sent 2 ∷ worked_sent 1 ∷ worked_sent 1 ∷ []) ≡ true }
+    ensures last { are_twice (worked_sent 2 ∷ worked_sent 1 ∷ worked_sent 1 ∷ []) ≡ false }
+    ensures between { are_twice (worked_sent 3 ∷ worked_sent 3 ∷ worked_sent 2 ∷ worked_sent 1 ∷ worked_sent 1 ∷ []) ≡ false }
+    ensures turns { are_twice (worked_sent 2 ∷ worked_sent 1 ∷ worked_sent 2 ∷ worked_sent 1 ∷ []) ≡ false }
+    ensures none { are_twice [] ≡ false }
+{}
+
+/// The first of two with a wrong checksum is the one in frame 5; the checksums of frame 3 are not there, and those of frame 2 are right.
+pub fn worked_spoilt()
+    ensures first { first_spoilt (checked 7 (V4 (192 ∷ 0 ∷ 2 ∷ 1 ∷ [])) (Some false) ∷ checked 5 (V4 (192 ∷ 0 ∷ 2 ∷ 2 ∷ [])) (Some false)
+        ∷ checked 3 (V4 (192 ∷ 0 ∷ 2 ∷ 1 ∷ [])) None ∷ checked 2 (V4 (192 ∷ 0 ∷ 2 ∷ 1 ∷ [])) (Some true) ∷ [])
+        ≡ Some (record { frame = 5; host = V4 (192 ∷ 0 ∷ 2 ∷ 2 ∷ []) }) }
+    ensures none { first_spoilt (checked 2 (V4 (192 ∷ 0 ∷ 2 ∷ 1 ∷ [])) (Some true) ∷ []) ≡ None }
+{}

@@ -1,0 +1,55 @@
+//! Laws of the definitions in `specs/`. Each is the contract of a function that does nothing.
+
+ghost use Rattle.std.specs.Prelude.{◌≡◌, ◌||◌, ◌∷◌, ℕ, List, [], None, Some, false, true};
+ghost use Rattle.audit_flows.specs.{Address, V4};
+ghost use Rattle.audit_recording.specs.Losses.Noted.{Event, IsMissingOf, Unread, is_of_host, is_of_none, is_soon, lost_by, unread, waiting_at};
+ghost use Rattle.audit_recording.specs.Losses.Noted.Event.{Asks, Finds, GivesUp, Loses, Waits};
+ghost use Rattle.audit_recording.specs.Reasons.Clock.{HaveReached};
+ghost use Rattle.audit_recording.specs.Reasons.Unplaced.{after, latest_at, newest_of, worked_end};
+ghost use Rattle.audit_recording.specs.Reasons.Unplaced.Event.{Ends, Opens, Passes};
+
+/// A frame of other hosts that is lost, or that waits, makes nothing more missing of a client's host.
+pub fn what_others_lose_is_not_missing()
+    ensures lost { (host : Address) (f : Unread) (history : List Event) (n time : ℕ) → (is_of_host host f || is_of_none f) ≡ false
+        → IsMissingOf host (Loses f ∷ history) n time → IsMissingOf host history n time }
+    ensures waits { (host : Address) (f : Unread) (history : List Event) (n time : ℕ) → (is_of_host host f || is_of_none f) ≡ false
+        → IsMissingOf host (Waits f ∷ history) n time → IsMissingOf host history n time }
+{}
+
+/// Frame 8 waits from second 1 on. Given up it is lost; found up to 30 s later it is not, and later it stays so. Its hosts are unknown, so
+/// that it may be of each.
+pub fn worked_losses()
+    ensures waits { waiting_at 8 (Asks (V4 (192 ∷ 0 ∷ 2 ∷ 1 ∷ [])) 9 ∷ Waits (unread 8 1000000000) ∷ []) ≡ Some (unread 8 1000000000) }
+    ensures ended { waiting_at 8 (GivesUp 8 ∷ Waits (unread 8 1000000000) ∷ []) ≡ None }
+    ensures lost { lost_by (GivesUp 8) (Waits (unread 8 1000000000) ∷ []) ≡ Some (unread 8 1000000000) }
+    ensures other { lost_by (GivesUp 7) (Waits (unread 8 1000000000) ∷ []) ≡ None }
+    ensures found { lost_by (Finds 8 31000000000) (Waits (unread 8 1000000000) ∷ []) ≡ None }
+    ensures late { lost_by (Finds 8 31000000001) (Waits (unread 8 1000000000) ∷ []) ≡ Some (unread 8 1000000000) }
+    ensures unknown { is_of_none (unread 8 1000000000) ≡ true }
+{}
+
+/// Of a transfer in frames 3 to 6, the last at second 10, frame 5 is missing soon enough whenever it passed, and frame 9 up to second 310.
+pub fn worked_stretch()
+    ensures among { is_soon (record { client = V4 (192 ∷ 0 ∷ 2 ∷ 1 ∷ []); first = 3; last = 6; last_time = 10000000000 }) 5 999000000000 ≡ true }
+    ensures soon { is_soon (record { client = V4 (192 ∷ 0 ∷ 2 ∷ 1 ∷ []); first = 3; last = 6; last_time = 10000000000 }) 9 310000000000 ≡ true }
+    ensures later { is_soon (record { client = V4 (192 ∷ 0 ∷ 2 ∷ 1 ∷ []); first = 3; last = 6; last_time = 10000000000 }) 9 310000000001 ≡ false }
+{}
+
+/// Of times 4, 30, 5 and 9, in this order, two in a row have reached 5, but not 6: 30 alone may be wrong.
+pub fn worked_clock()
+    ensures reached { HaveReached (9 ∷ 5 ∷ 30 ∷ 4 ∷ []) 5 }
+    ensures alone { HaveReached (9 ∷ 5 ∷ 30 ∷ 4 ∷ []) 6 → ⊥ }
+{}
+
+/// Of two datagrams of no transfer at a client's endpoint the first is told, which has the later time; one that is no packet is not. A
+/// transfer that opens before that time may have been asked for by then. And the newest transfer of a client is known until it ends.
+pub fn worked_unplaced()
+    ensures latest { latest_at (worked_end 2000) (Passes (worked_end 69) (worked_end 2000) (0 ∷ 4 ∷ 0 ∷ 1 ∷ []) (record { frame = 7; time = 30 })
+        ∷ Passes (worked_end 2000) (worked_end 69) (0 ∷ 3 ∷ 0 ∷ 1 ∷ []) (record { frame = 5; time = 40 }) ∷ []) ≡ Some (record { frame = 5; time = 40 }) }
+    ensures packet { latest_at (worked_end 2000) (Passes (worked_end 69) (worked_end 2000) (0 ∷ 7 ∷ 0 ∷ 1 ∷ []) (record { frame = 7; time = 30 }) ∷ []) ≡ None }
+    ensures elsewhere { latest_at (worked_end 2001) (Passes (worked_end 69) (worked_end 2000) (0 ∷ 4 ∷ 0 ∷ 1 ∷ []) (record { frame = 7; time = 30 }) ∷ []) ≡ None }
+    ensures before { after 30 (Some (record { frame = 5; time = 40 })) ≡ Some 5 }
+    ensures at_once { after 40 (Some (record { frame = 5; time = 40 })) ≡ None }
+    ensures ended { newest_of (worked_end 2000) (Ends (worked_end 2000) 3 ∷ Opens (worked_end 2000) 3 ∷ []) ≡ None }
+    ensures goes_on { newest_of (worked_end 2000) (Ends (worked_end 2000) 3 ∷ Opens (worked_end 2000) 5 ∷ Opens (worked_end 2000) 3 ∷ []) ≡ Some 5 }
+{}
