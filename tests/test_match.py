@@ -15,7 +15,7 @@ from typing import Any
 
 from both import copies_in, counts_of
 from both_ends import READ, Both, ahead, read_of_two_bytes, repeated, strayed, windowed
-from captures import Capture, ack, data, error, oack, read_request, write_request
+from captures import Capture, EndName, ack, data, error, oack, read_request, write_request
 from checks import Checks
 from fuzzing.meanings import Spelling, meaning_of
 from fuzzing.transfers import ENDS, Step, Transfer
@@ -55,6 +55,36 @@ REFUSED: tuple[tuple[str, tuple[str, ...]], ...] = (
 )
 
 
+# What the blocks of one file say, again and again, at the client and at the server; words; the pair that alone goes
+# together.
+TRIED: tuple[tuple[str, str, str, tuple[int | None, int | None]], ...] = (
+    ("abc", "xyb", "", (2, 3)), ("abc", "cyb", "--transfer 2", (2, 3)), ("abc", "cyb", "--server-transfer 1", (3, 1)),
+    ("abc", "b", "", (2, 1)), ("b", "cab", "", (1, 3)), ("abcdefgh", "stuvwxyb", "", (2, 8)),
+)
+# The same of those of which none goes together, or several do, and what is told.
+UNTRIED: tuple[tuple[str, str, str, str], ...] = (
+    ("abc", "cyb", "", "client, server: more than one of the pairs with one request goes together: 2 and 3, 3 and 1"),
+    ("ab", "xy", "", "server: none of the pairs with one request goes together: 1 and 1, 1 and 2, 2 and 1, 2 and 2"),
+    ("abc", "xyz", "--transfer 3", "none of the pairs with one request goes together: 3 and 1, 3 and 2, 3 and 3"),
+    ("abcdefghi", "stuvwxyb", "", "client, server: 72 pairs have one request, and 64 at most are tried"),
+)
+
+
+def asked_often(says: str) -> list[Datagram]:
+    """A client that asks for one file again and again, each time from another port; what each block says."""
+    reads = (read("a", 40_000 + at, 41_000 + at, content=it.encode() * 2) for at, it in enumerate(says))
+    return [datagram for passed in reads for datagram in passed]
+
+
+def text_of(end: EndName, content: bytes) -> bytes:
+    """The text of such a read at one end."""
+    made = Both()
+    made.put("client", read_request("a", "octet"))
+    made.put("server", data(1, content))
+    made.put("client", ack(1))
+    return made.at(end).text()
+
+
 def matched(lost: int = 0, repeated: int = 0) -> str:
     return f"matched lost {lost} repeated {repeated}"
 
@@ -75,6 +105,14 @@ def written(early: bool = False) -> Both:
     if early:
         both.client.lines[1:3] = both.client.lines[2:0:-1]
     both.put("server", ack(1))
+    return both
+
+
+def refused_behind(*ends: EndName) -> Both:
+    """A read whose block says another thing at the client; behind it these ends break a rule."""
+    both = read_of_two_bytes(b"hj")
+    for end in ends:
+        both.at(end).put(end, ack(2) if end == "client" else data(3, b"hi"))
     return both
 
 
@@ -226,11 +264,22 @@ class Matches(Checks):
         self.row("no header", (b"x\n", b"x\n"), [bad, bad], 2)
         refused = "refused datagram 3 rule"
         got = self.texts_of(ahead())
-        holds = got[0][0].startswith(refused) and got[0][1:] == [READ, unmatched(3, "3 unsent")] and got[2] == 1
+        holds = got[0][0].startswith(refused) and got[0][1:] == [READ, unmatched(3, 3)] and got[2] == 1
         self.check("a refused side", holds, got)
         got = self.texts_of(written(early=True))
-        is_refused = got[0][0].startswith("refused datagram 2") and got[0][2] == unmatched(2, "3 unsent")
+        is_refused = got[0][0].startswith("refused datagram 2") and got[0][2] == unmatched(2, 3)
         self.check("a refused write", is_refused, got)
+        shorter = b"".join(client.splitlines(keepends=True)[:-2])
+        lines = ["fault line 6 Truncated", READ, unmatched("-", 3)]
+        self.row("cut before what the other end took", (shorter, server), lines, 2)
+        behind: tuple[tuple[tuple[EndName, ...], str], ...] = (
+            (("client",), unmatched("2 unsent", "3 waits")), (("client", "server"), unmatched(2, "3 waits")),
+        )
+        for ends, third in behind:
+            got = self.texts_of(refused_behind(*ends))
+            said = [line.startswith("refused datagram 4 rule") for line in got[0][:2]]
+            holds = said == ["client" in ends, "server" in ends] and got[0][2] == third and got[2] == 1
+            self.check(f"refused behind what waits at {ends}", holds, got)
 
     def test_recorded(self) -> None:
         """The same as texts and as recordings, from files and from standard input."""
@@ -282,6 +331,53 @@ class Matches(Checks):
             lines, errors, status = self.said_of(words)
             holds = not lines and all(it in errors for it in told) and status == 2
             self.check(words, holds, (lines, errors, status))
+
+    def test_tried(self) -> None:
+        """Of several transfers with the same request the pair is taken that alone goes together."""
+        for client, server, words, numbers in TRIED:
+            (self.folder / "client").write_bytes(file_of(asked_often(client)))
+            (self.folder / "server").write_bytes(file_of(asked_often(server)))
+            got = self.of_json(f"client server {words}")
+            there = got[0].get("client", {}).get("number"), got[0].get("server", {}).get("number")
+            holds = there == numbers and got[0]["together"]["matched"] and got[1:] == ("", 0)
+            self.check(f"{client} {server} {words}", holds, got)
+        for client, server, words, told in UNTRIED:
+            (self.folder / "client").write_bytes(file_of(asked_often(client)))
+            (self.folder / "server").write_bytes(file_of(asked_often(server)))
+            lines, errors, status = self.said_of(f"client server {words}")
+            holds = not lines and told in errors and "name one by --server-transfer" in errors and status == 2
+            self.check(f"{client} {server} {words}", holds, (lines, errors, status))
+
+    def test_tried_beside_a_text(self) -> None:
+        """Of several transfers with the request of a text that is taken which alone goes together with it."""
+        (self.folder / "client").write_bytes(file_of(asked_often("abb")))
+        (self.folder / "server").write_bytes(text_of("server", b"aa"))
+        got = self.of_json("client server")
+        there = got[0]["client"]["number"], got[0]["together"]["matched"], got[2]
+        self.check("the first", there == (1, True, 0), got)
+        none = "client, server: none of the pairs with one request goes together: 1, 2, 3"
+        several = "client, server: more than one of the pairs with one request goes together: 2, 3"
+        for content, told in ((b"xx", none), (b"bb", several)):
+            (self.folder / "server").write_bytes(text_of("server", content))
+            lines, errors, status = self.said_of("client server")
+            named = "client: transfers 1, 2, 3 have the request of server: name one by --transfer"
+            self.check(told, not lines and told in errors and named in errors and status == 2, (lines, errors, status))
+        (self.folder / "server").write_bytes(file_of(asked_often("xab")))
+        (self.folder / "client").write_bytes(text_of("client", b"bb"))
+        got = self.of_json("client server")
+        there = got[0]["server"]["number"], got[0]["together"]["matched"], got[2]
+        self.check("the third", there == (3, True, 0), got)
+
+    def test_full(self) -> None:
+        """Where the output fails, that is told by name, and the status is 2."""
+        for end, text in zip(ENDS, read_of_two_bytes().texts()):
+            (self.folder / end).write_bytes(text)
+        for words in ([], ["--json"], ["--counts"]):
+            with open("/dev/full", "wb") as full:
+                command = [self.program, *words, *(str(self.folder / end) for end in ENDS)]
+                done = subprocess.run(command, stdout=full, stderr=subprocess.PIPE, timeout=60, check=False)
+            told = done.stderr.decode()
+            self.check(f"a full disk {words}", "tftp-match: standard output: " in told and done.returncode == 2, done)
 
     def test_in_json(self) -> None:
         """What is said in lines is said in JSON too."""

@@ -137,7 +137,7 @@ CASES = (
     ), {"f-refused": 1}),
     Case("a refusal on one side", ahead(), (
         refusal(3, Rule.ACK_AHEAD), READ, on(3, 3),
-    ), on(3, "3 unsent"), (
+    ), on(3, 3), (
         "At: the client, its datagram 3.",
         f"Rule: {Rule.ACK_AHEAD}: an ACK says that its block and all before it came.",
         "At: the server, its datagram 3.",

@@ -41,6 +41,38 @@ fn matching(
     Ok(numbers)
 }
 
+/// The numbers of a transfer of the one side and of one of the other that has the same request, in their order.
+pub fn pairs_of(
+    alloc: Global,
+    clients: &[Asked<'_>],
+    servers: &[Asked<'_>],
+) -> Result<Vec<(u64, u64)>, AllocError> {
+    let mut pairs = Vec::new(alloc);
+    for client in clients {
+        add_pairs(alloc, &mut pairs, client, servers)?;
+    }
+    Ok(pairs)
+}
+
+/// Adds the pairs of a transfer.
+fn add_pairs(
+    alloc: Global,
+    pairs: &mut Vec<(u64, u64)>,
+    client: &Asked<'_>,
+    servers: &[Asked<'_>],
+) -> Result<(), AllocError> {
+    let Ok(Packet::Request(view)) = read_packet(client.payload) else {
+        return Ok(());
+    };
+    let request = own_request(alloc, &view)?;
+    for server in servers {
+        if asks(server.payload, &request) {
+            pairs.push((client.number, server.number))?;
+        }
+    }
+    Ok(())
+}
+
 /// Whether what a payload asks is asked by one of these.
 fn is_among(alloc: Global, payload: &[u8], others: &[Asked<'_>]) -> Result<bool, AllocError> {
     let Ok(Packet::Request(view)) = read_packet(payload) else {

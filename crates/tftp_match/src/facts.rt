@@ -1,12 +1,12 @@
-//! What there is to say of two captures.
+//! What there is to say of two captures, by what was found of them.
 
-use crate::copies::{Copies, copies_in};
-use anyhow::{Result, bail};
+ghost use Rattle.std.specs.Prelude.{◌≡◌};
+ghost use Rattle.tftp_commands.specs.{checked};
+ghost use Rattle.tftp_match.specs.Firsts.{client_first as first_at_client, first_of, is_judged_whole as is_whole, is_matched, refused_first, server_first as first_at_server, told_why as why_told};
+ghost use Rattle.tftp_match.specs.Status.{is_fault, status_of as status_for};
+
 use judge_pair::counts::Carried;
-use judge_pair::match_texts::{Apart, Matched, PairSaid, Wait};
-use net_streams::streams::LineWriter;
-use std::alloc::Global;
-use tftp_commands::{Status, say_accepted, say_verdict};
+use judge_pair::match_texts::{PairSaid, Wait};
 use tftp_judge::{Meaning, Refusal, Verdict};
 
 /// The first datagram of a capture that is not matched.
@@ -14,7 +14,8 @@ use tftp_judge::{Meaning, Refusal, Verdict};
 pub struct First {
     /// Counted from 1.
     pub number: u64,
-    /// Why it waits; none where it is refused.
+    /// Why it waits; none where it is refused, and where the other end may have sent it in what is refused there, or behind
+    /// that.
     pub why: Option<Wait>,
 }
 
@@ -29,113 +30,47 @@ impl First {
     }
 }
 
-/// What there is to say of two captures, put into words.
-#[derive(Drop)]
-pub struct Facts {
-    /// The verdicts on each alone.
-    pub client: String,
-    pub server: String,
-    pub is_matched: bool,
-    /// What the network lost and repeated, where they are matched and it was counted.
-    pub carried: Option<Carried>,
-    pub together: Result<Matched, Apart>,
-    /// How often each packet was sent and taken, where that is wanted.
-    pub copies: Option<Vec<Copies>>,
-    /// The first datagram of each that is not matched, if there is one.
-    pub client_first: Option<First>,
-    pub server_first: Option<First>,
-    pub status: u8,
-}
-
-/// A verdict in words.
-#[derive(Drop)]
-struct Line {
-    text: String,
-    status: Status,
-}
-
-impl Facts {
-    /// What there is to say, with how often each packet was sent and taken only where that is wanted.
-    pub fn new(alloc: Global, said: PairSaid, with_counts: bool) -> Result<Self> {
-        let is_matched = said.is_matched();
-        let (client_first, server_first) = firsts(&said);
-        let carried = carried_of(&said);
-        let PairSaid {
-            client,
-            server,
-            together,
-        } = said;
-        let client = Line::of(alloc, client)?;
-        let server = Line::of(alloc, server)?;
-        let is_fault = client.status == Status::Fault || server.status == Status::Fault;
-        let status = match &together {
-            Ok(_) if is_fault => 2,
-            Ok(_) if is_matched => 0,
-            Ok(_) => 1,
-            Err(_) => 2,
-        };
-        let copies = match &together {
-            Ok(matched) if with_counts => Some(copies_in(alloc, matched)?),
-            _ => None,
-        };
-        Ok(Facts {
-            client: client.text,
-            server: server.text,
-            is_matched,
-            carried,
-            together,
-            copies,
-            client_first,
-            server_first,
-            status,
-        })
-    }
-}
-
-impl Line {
-    /// The line of one capture alone.
-    fn of(alloc: Global, said: Result<Meaning, Verdict>) -> Result<Self> {
-        let mut written = LineWriter::new(alloc, Vec::new(alloc));
-        let status = match said {
-            Ok(meaning) => say_accepted(&mut written, &meaning),
-            Err(verdict) => say_verdict(&mut written, verdict),
-        };
-        let text = text_of(alloc, written)?;
-        Ok(Line { text, status })
-    }
-}
-
-/// What was written, without its line's end.
-fn text_of(alloc: Global, written: LineWriter<Vec<u8>>) -> Result<String> {
-    let (line, _) = written.finish();
-    match line.as_slice() {
-        [line @ .., b'\n'] => Ok(String::from_utf8_lossy(alloc, line)?),
-        _ => bail!("out of memory"),
-    }
-}
-
-/// The first datagram of each that is not matched, if there is one.
-fn firsts(said: &PairSaid) -> (Option<First>, Option<First>) {
+/// The first datagram of the client's capture that is not matched, if there is one.
+pub fn client_first(said: &PairSaid) -> Option<First>
+    ensures { result ≡ first_at_client said.now }
+{
     let Ok(matched) = &said.together else {
-        return (None, None);
+        return None;
     };
-    let client_left = matched.client_lawful > matched.client_matched;
-    let server_left = matched.server_lawful > matched.server_matched;
-    let client = if client_left {
-        waiting(matched.client_matched, matched.client_why)
-    } else {
-        refused(&said.client)
+    if matched.client_matched < matched.client_lawful {
+        return Some(First {
+            number: matched.client_matched + 1,
+            why: told_why(&said.server, matched.client_why),
+        });
+    }
+    refused(&said.client)
+}
+
+/// The first datagram of the server's capture that is not matched, if there is one.
+pub fn server_first(said: &PairSaid) -> Option<First>
+    ensures { result ≡ first_at_server said.now }
+{
+    let Ok(matched) = &said.together else {
+        return None;
     };
-    let server = if server_left {
-        waiting(matched.server_matched, matched.server_why)
-    } else {
-        refused(&said.server)
-    };
-    (client, server)
+    if matched.server_matched < matched.server_lawful {
+        return Some(First {
+            number: matched.server_matched + 1,
+            why: told_why(&said.client, matched.server_why),
+        });
+    }
+    refused(&said.server)
+}
+
+/// Whether one run of the two ends has both captures.
+pub fn are_matched(said: &PairSaid) -> bool
+    ensures { result ≡ is_matched said.now }
+{
+    said.is_matched()
 }
 
 /// What the network lost and repeated, where the captures are matched and it was counted.
-fn carried_of(said: &PairSaid) -> Option<Carried> {
+pub fn carried_of(said: &PairSaid) -> Option<Carried> {
     if !said.is_matched() {
         return None;
     }
@@ -145,21 +80,69 @@ fn carried_of(said: &PairSaid) -> Option<Carried> {
     }
 }
 
-/// The lawful datagram behind those that are matched.
-fn waiting(matched: u64, why: Option<Wait>) -> Option<First> {
-    Some(First {
-        number: matched.saturating_add(1),
-        why,
-    })
+/// Why a datagram waits, as it is told beside what is said of the other capture.
+fn told_why(other: &Result<Meaning, Verdict>, why: Option<Wait>) -> Option<Wait>
+    ensures { result ≡ why_told other.now why }
+{
+    match why {
+        Some(Wait::Unsent) => {
+            if is_judged_whole(other) {
+                Some(Wait::Unsent)
+            } else {
+                None
+            }
+        }
+        Some(Wait::SentLater) => Some(Wait::SentLater),
+        None => None,
+    }
+}
+
+/// Whether a text was judged to its end.
+fn is_judged_whole(said: &Result<Meaning, Verdict>) -> bool
+    ensures { result ≡ is_whole said.now }
+{
+    match said {
+        Ok(_) => true,
+        Err(Verdict::Refused(Refusal::Unlawful(..) | Refusal::Memory(_))) => false,
+        Err(Verdict::Refused(_)) => true,
+        Err(Verdict::Capture(_)) => false,
+    }
 }
 
 /// The datagram that is refused, if there is one.
-fn refused(said: &Result<Meaning, Verdict>) -> Option<First> {
+fn refused(said: &Result<Meaning, Verdict>) -> Option<First>
+    ensures { result ≡ refused_first said.now }
+{
     match said {
         Err(Verdict::Refused(Refusal::Unlawful(number, _))) => Some(First {
             number: *number,
             why: None,
         }),
         _ => None,
+    }
+}
+
+/// The status with which the program ends.
+pub fn status_of(said: &PairSaid) -> u8
+    ensures { result ≡ status_for said.now }
+{
+    if is_of_fault(&said.client) || is_of_fault(&said.server) {
+        return 2;
+    }
+    match &said.together {
+        Ok(_) => { if said.is_matched() { 0 } else { 1 } }
+        Err(_) => 2,
+    }
+}
+
+/// Whether a text has a fault, or could not be judged.
+fn is_of_fault(said: &Result<Meaning, Verdict>) -> bool
+    ensures { result ≡ is_fault (checked said.now).status }
+{
+    match said {
+        Ok(_) => false,
+        Err(Verdict::Refused(Refusal::Memory(_))) => true,
+        Err(Verdict::Refused(_)) => false,
+        Err(Verdict::Capture(_)) => true,
     }
 }

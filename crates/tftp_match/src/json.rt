@@ -1,12 +1,16 @@
 //! What there is to say of two captures, in JSON (RFC 8259).
 
 use crate::copies::Copies;
-use crate::facts::{Facts, First};
+use crate::facts::{First, carried_of, client_first, server_first};
+use crate::lines::copies_of;
+use crate::told::printed;
+use crate::verdict::verdict_line;
 use crate::words::Request;
-use anyhow::Result;
-use judge_pair::match_texts::Apart;
+use anyhow::Result as Outcome;
+use judge_pair::match_texts::{Apart, PairSaid};
 use serde::Serialize;
 use std::alloc::{AllocError, Global};
+use tftp_judge::{Meaning, Verdict};
 use tftp_packet::End;
 
 /// What there is to say of both.
@@ -54,30 +58,42 @@ pub fn say_json(
     rt: HostRuntime,
     request: &Request<'_>,
     numbers: (Option<u64>, Option<u64>),
-    facts: &Facts,
-) -> Result<()> {
+    said: &PairSaid,
+) -> Outcome<()> {
+    let client = verdict_in(rt.alloc(), &said.client)?;
+    let server = verdict_in(rt.alloc(), &said.server)?;
     let row = Row {
         client: Side {
             file: request.client,
             number: numbers.0,
-            verdict: facts.client.as_str(),
+            verdict: client.as_str(),
         },
         server: Side {
             file: request.server,
             number: numbers.1,
-            verdict: facts.server.as_str(),
+            verdict: server.as_str(),
         },
-        fault: fault_of(facts),
-        together: together_of(facts),
-        counts: counts_of(rt.alloc(), facts)?,
+        fault: fault_of(said),
+        together: together_of(said),
+        counts: counts_of(rt.alloc(), said, request.counts)?,
     };
     let line = serde_json::to_string(rt.alloc(), &row)?;
-    println!(rt; "{line}")?;
-    Ok(())
+    printed(println!(rt; "{line}"))
 }
 
-fn counts_of(alloc: Global, facts: &Facts) -> Result<Option<Vec<Count>>, AllocError> {
-    match &facts.copies {
+/// The line of one capture, without its LF.
+fn verdict_in(alloc: Global, said: &Result<Meaning, Verdict>) -> Outcome<String> {
+    let line = verdict_line(alloc, said)?;
+    let bytes = line.as_slice();
+    let text = match bytes {
+        [text @ .., b'\n'] => text,
+        text => text,
+    };
+    Ok(String::from_utf8_lossy(alloc, text)?)
+}
+
+fn counts_of(alloc: Global, said: &PairSaid, with_counts: bool) -> Outcome<Option<Vec<Count>>> {
+    match &copies_of(alloc, said, with_counts)? {
         Some(copies) => Ok(Some(counts_in(alloc, copies.as_slice())?)),
         None => Ok(None),
     }
@@ -97,38 +113,39 @@ fn counts_in(alloc: Global, all: &[Copies]) -> Result<Vec<Count>, AllocError> {
     Ok(counts)
 }
 
-fn fault_of(facts: &Facts) -> Option<&'static str> {
-    match facts.together {
+fn fault_of(said: &PairSaid) -> Option<&'static str> {
+    match said.together {
         Err(Apart::WrongEnd(End::Client)) => Some("client WrongEnd"),
         Err(Apart::WrongEnd(End::Server)) => Some("server WrongEnd"),
         _ => None,
     }
 }
 
-fn together_of(facts: &Facts) -> Option<Together> {
-    match facts.together {
+fn together_of(said: &PairSaid) -> Option<Together> {
+    let (client, server) = (client_first(said), server_first(said));
+    match said.together {
         Ok(_) => Some(Together {
-            matched: facts.is_matched,
-            lost: lost_in(facts),
-            repeated: repeated_in(facts),
-            client_datagram: number_of(facts.client_first),
-            server_datagram: number_of(facts.server_first),
-            client_why: word_of(facts.client_first),
-            server_why: word_of(facts.server_first),
+            matched: said.is_matched(),
+            lost: lost_in(said),
+            repeated: repeated_in(said),
+            client_datagram: number_of(client),
+            server_datagram: number_of(server),
+            client_why: word_of(client),
+            server_why: word_of(server),
         }),
         Err(_) => None,
     }
 }
 
-fn lost_in(facts: &Facts) -> Option<u64> {
-    match facts.carried {
+fn lost_in(said: &PairSaid) -> Option<u64> {
+    match carried_of(said) {
         Some(carried) => Some(carried.lost),
         None => None,
     }
 }
 
-fn repeated_in(facts: &Facts) -> Option<u64> {
-    match facts.carried {
+fn repeated_in(said: &PairSaid) -> Option<u64> {
+    match carried_of(said) {
         Some(carried) => Some(carried.repeated),
         None => None,
     }

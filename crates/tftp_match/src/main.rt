@@ -2,19 +2,22 @@
 #![tactic(auto)]
 
 mod candidates;
+mod choice;
 mod copies;
 mod facts;
 mod held;
 mod help;
 mod json;
 mod judging;
+mod laws;
 mod lines;
 mod recorded;
 mod source;
 mod told;
+mod verdict;
 mod words;
 
-use crate::facts::Facts;
+use crate::facts::status_of;
 use crate::json::say_json;
 use crate::judging::{Judged, judge_captures};
 use crate::lines::say;
@@ -39,7 +42,7 @@ fn main(rt: HostRuntime) -> ExitCode {
 fn answer(rt: HostRuntime, words: &[String]) -> Result<u8> {
     match request_of(rt.alloc(), words) {
         Ok(request) => match judge_captures(rt, &request)? {
-            Some(judged) => say_judged(rt, &request, judged),
+            Some(judged) => say_judged(rt, &request, &judged),
             None => Ok(2),
         },
         Err(error) => Ok(tell_fault(rt, PROGRAM, &fault_of(error))?),
@@ -47,17 +50,11 @@ fn answer(rt: HostRuntime, words: &[String]) -> Result<u8> {
 }
 
 /// Says what there is to say, and answers the status.
-fn say_judged(rt: HostRuntime, request: &Request<'_>, judged: Judged) -> Result<u8> {
-    let Judged {
-        said,
-        client,
-        server,
-    } = judged;
-    let facts = Facts::new(rt.alloc(), said, request.counts)?;
+fn say_judged(rt: HostRuntime, request: &Request<'_>, judged: &Judged) -> Result<u8> {
     if request.json {
-        say_json(rt, request, (client, server), &facts)?;
+        say_json(rt, request, (judged.client, judged.server), &judged.said)?;
     } else {
-        say(rt, &facts)?;
+        say(rt, &judged.said, request.counts)?;
     }
-    Ok(facts.status)
+    Ok(status_of(&judged.said))
 }

@@ -1,10 +1,11 @@
 //! The transfers of recordings that are to be judged.
 
 use crate::PROGRAM;
-use crate::candidates::Candidates;
-use crate::held::Held;
+use crate::candidates::{Candidates, pairs_of};
+use crate::choice::{Tried, chosen};
+use crate::held::{Held, said_of};
 use crate::source::Whole;
-use crate::told::{Named, tell_apart, tell_several};
+use crate::told::{Named, tell_apart, tell_many, tell_several, tell_tried};
 use anyhow::{Result, bail};
 use audit_recording::session::{Asked, Session, TextAt, TextFault, requests_of, told};
 use net_streams::streams::{Latched, LineWriter};
@@ -12,6 +13,9 @@ use std::alloc::Global;
 use std::io::Read;
 use tftp_capture::{CaptureReader, Datagram};
 use tftp_packet::End;
+
+/// So many pairs of transfers with the same request are tried at most.
+const MOST_PAIRS: usize = 64;
 
 /// A recording at an end.
 #[derive(Clone, Copy)]
@@ -41,7 +45,8 @@ pub struct BothTaken {
     pub server: Vec<u8>,
 }
 
-/// The transfer of a recording that has the request of a text; none where that is not one, which is told.
+/// The transfer of a recording that has the request of a text, and of several the one that alone goes together with it; none
+/// where that is not one, which is told.
 pub fn take_beside<R: Read + Drop>(
     rt: HostRuntime,
     recorded: &Recorded<'_>,
@@ -75,11 +80,72 @@ pub fn take_beside<R: Read + Drop>(
     let found = Candidates::of(rt.alloc(), asked.as_slice(), &others)?;
     match found.clients.as_slice() {
         [number] => recorded.taken(rt, *number, Held::Bytes(bytes)),
-        numbers => {
-            recorded.tell(rt, file, numbers)?;
-            Ok(None)
+        numbers => take_tried(rt, recorded, file, bytes, numbers),
+    }
+}
+
+/// The transfer of these, which have the request of a text, that alone goes together with it; none where that is not one,
+/// which is told.
+fn take_tried<R: Read + Drop>(
+    rt: HostRuntime,
+    recorded: &Recorded<'_>,
+    file: &str,
+    text: Vec<u8>,
+    numbers: &[u64],
+) -> Result<Option<Taken<R>>> {
+    let files = match recorded.end {
+        End::Client => (recorded.named.file, file),
+        End::Server => (file, recorded.named.file),
+    };
+    if numbers.len() > MOST_PAIRS {
+        tell_many(rt, files, numbers.len(), MOST_PAIRS)?;
+    } else {
+        let Some(tried) = try_beside(rt, recorded, text.as_slice(), numbers)? else {
+            return Ok(None);
+        };
+        if let Some(number) = number_at(recorded.end, chosen(tried.as_slice())) {
+            return recorded.taken(rt, number, Held::Bytes(text));
+        }
+        tell_tried(rt, files, tried.as_slice())?;
+    }
+    recorded.tell(rt, file, numbers)?;
+    Ok(None)
+}
+
+/// The number of a pair's transfer in the recording at this end.
+fn number_at(end: End, pair: Option<Tried>) -> Option<u64> {
+    match (pair, end) {
+        (Some(pair), End::Client) => pair.client,
+        (Some(pair), End::Server) => pair.server,
+        (None, _) => None,
+    }
+}
+
+/// Each of these transfers, judged together with a text; none where one has no text, which is told.
+fn try_beside(
+    rt: HostRuntime,
+    recorded: &Recorded<'_>,
+    text: &[u8],
+    numbers: &[u64],
+) -> Result<Option<Vec<Tried>>> {
+    let mut tried = Vec::new(rt.alloc());
+    for number in numbers {
+        let number = *number;
+        let own = recorded.text(rt.alloc(), number);
+        let Some(own) = told(rt, PROGRAM, recorded.named.file, own)? else {
+            return Ok(None);
+        };
+        let own = own.as_slice();
+        let pair = match recorded.end {
+            End::Client => Tried::of(Some(number), None, &said_of(rt.alloc(), own, text)),
+            End::Server => Tried::of(None, Some(number), &said_of(rt.alloc(), text, own)),
+        };
+        match pair {
+            Some(pair) => tried.push(pair)?,
+            None => bail!("out of memory"),
         }
     }
+    Ok(Some(tried))
 }
 
 /// All that a reader gives.
@@ -101,7 +167,8 @@ fn first_payload(alloc: Global, text: &[u8]) -> Result<Vec<u8>> {
     }
 }
 
-/// The transfers of two recordings that have the same request; none where they are not one of each, which is told.
+/// The transfers of two recordings that have the same request, where there is one of each, or else the pair of them that alone
+/// goes together; none where that is not one, which is told.
 pub fn take_both(
     rt: HostRuntime,
     client: &Recorded<'_>,
@@ -116,14 +183,74 @@ pub fn take_both(
     let found = Candidates::of(rt.alloc(), clients.as_slice(), servers.as_slice())?;
     match (found.clients.as_slice(), found.servers.as_slice()) {
         ([one], [other]) => both_texts(rt, client, *one, server, *other),
-        (clients, servers) => {
-            client.tell(rt, server.named.file, clients)?;
-            if !clients.is_empty() {
-                server.tell(rt, client.named.file, servers)?;
-            }
-            Ok(None)
+        _ => {
+            let pairs = pairs_of(rt.alloc(), clients.as_slice(), servers.as_slice())?;
+            take_pair(rt, client, server, &found, pairs.as_slice())
         }
     }
+}
+
+/// The pair of these, each of which has one request, that alone goes together; none where that is not one, which is told.
+fn take_pair(
+    rt: HostRuntime,
+    client: &Recorded<'_>,
+    server: &Recorded<'_>,
+    found: &Candidates,
+    pairs: &[(u64, u64)],
+) -> Result<Option<BothTaken>> {
+    let files = (client.named.file, server.named.file);
+    if pairs.len() > MOST_PAIRS {
+        tell_many(rt, files, pairs.len(), MOST_PAIRS)?;
+    } else {
+        let Some(tried) = try_pairs(rt, client, server, pairs)? else {
+            return Ok(None);
+        };
+        if let Some((one, other)) = numbers_of(chosen(tried.as_slice())) {
+            return both_texts(rt, client, one, server, other);
+        }
+        tell_tried(rt, files, tried.as_slice())?;
+    }
+    client.tell(rt, server.named.file, found.clients.as_slice())?;
+    if !found.clients.is_empty() {
+        server.tell(rt, client.named.file, found.servers.as_slice())?;
+    }
+    Ok(None)
+}
+
+/// The numbers of a pair's transfers in two recordings.
+fn numbers_of(pair: Option<Tried>) -> Option<(u64, u64)> {
+    match pair {
+        Some(
+            Tried {
+                client: Some(one),
+                server: Some(other),
+                ..
+            },
+        ) => Some((one, other)),
+        _ => None,
+    }
+}
+
+/// Each of these pairs, judged together; none where a transfer has no text, which is told.
+fn try_pairs(
+    rt: HostRuntime,
+    client: &Recorded<'_>,
+    server: &Recorded<'_>,
+    pairs: &[(u64, u64)],
+) -> Result<Option<Vec<Tried>>> {
+    let mut tried = Vec::new(rt.alloc());
+    for pair in pairs {
+        let (one, other) = *pair;
+        let Some(both) = both_texts(rt, client, one, server, other)? else {
+            return Ok(None);
+        };
+        let said = said_of(rt.alloc(), both.client.as_slice(), both.server.as_slice());
+        match Tried::of(Some(one), Some(other), &said) {
+            Some(pair) => tried.push(pair)?,
+            None => bail!("out of memory"),
+        }
+    }
+    Ok(Some(tried))
 }
 
 fn both_texts(
