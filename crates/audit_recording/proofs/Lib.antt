@@ -2,3 +2,4 @@ pub mod BetweenLemmas
 pub mod JudgesLemmas
 pub mod AuditLemmas
 pub mod RowsLemmas
+pub mod BlameLemmas

@@ -2,6 +2,7 @@ pub mod Between
 pub mod Judges
 pub mod Audit
 pub mod Rows
+pub mod Blame
 pub use declared.judges.judging.Judging.{Judging}
 pub use declared.audit.next.AuditFault.{AuditFault}
 pub use declared.audit.next.AuditFault.TheVariants.{Recording}

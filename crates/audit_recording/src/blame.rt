@@ -2,10 +2,14 @@
 
 mod blame;
 mod doubted;
+mod facts;
+pub mod frames;
 mod missing;
+mod passed;
 mod passing;
 mod reason;
 mod spoilt;
+mod told;
 mod trail;
 mod twice;
 
