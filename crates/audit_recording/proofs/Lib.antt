@@ -4,3 +4,4 @@ pub mod AuditLemmas
 pub mod RowsLemmas
 pub mod ReasonsLemmas
 pub mod LossesLemmas
+pub mod BlameLemmas

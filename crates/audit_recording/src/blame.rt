@@ -2,11 +2,15 @@
 
 mod blame;
 mod doubted;
+mod facts;
+pub mod frames;
 pub mod laws;
 mod missing;
+mod passed;
 mod passing;
 mod reason;
 mod spoilt;
+mod told;
 mod trail;
 mod twice;
 

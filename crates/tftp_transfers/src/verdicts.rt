@@ -124,7 +124,12 @@ fn at_client(
     found: &Option<Result<Meaning, Refusal>>,
 ) -> Result<Option<Viewed>, AllocError> {
     match found {
-        Some(found) => Ok(Some(Viewed::at_end(alloc, found, trail.at_client(), Point::Client)?)),
+        Some(found) => Ok(Some(Viewed::at_end(
+            alloc,
+            found,
+            trail.at_client(found),
+            Point::Client,
+        )?)),
         None => Ok(None),
     }
 }

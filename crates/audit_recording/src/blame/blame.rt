@@ -1,11 +1,27 @@
 //! At which frames a transfer was refused, at each point where it is judged.
 
-use crate::blame::passing::Passing;
-use audit_flows::lines::{Endpoint, Place};
+ghost use Rattle.std.specs.Prelude.{◌≡◌, ◌∷◌, [], List, IfSome, Option, OnOk, Some, filter, is_some, map, option_copied, true};
+ghost use Rattle.audit_flows.specs.Lines.{Placed};
+ghost use Rattle.audit_flows.specs.{Transfer};
+ghost use Rattle.audit_flows.specs.Transfers.{AreEndsAfter};
+ghost use Rattle.audit_recording.specs.Blame.Frames.{Framed};
+ghost use Rattle.audit_recording.specs.Blame.Kept.{AreFactsOf, IsBlameBetween, IsBlameOf, IsJudgedIfApart, is_about_it, passed_of};
+ghost use Rattle.audit_recording.specs.Judges.Kept.{BetweenStands, ClientStands, IsWatching, ServerStands};
+ghost use Rattle.audit_recording.specs.declared.judges.judging.Judging.{Judging as JudgingKind};
+ghost use Rattle.audit_recording.specs.declared.rows.row.Point.{Point as PointKind};
+ghost use Rattle.audit_views.specs.Parties.{host_name};
+
+use crate::between::BetweenView;
+use crate::blame::facts::ViewFacts;
+use crate::blame::passed::Passed;
+use crate::blame::told::{told_between, told_by_client, told_by_server};
+use crate::judges::Watched;
+use crate::rows::Point;
+use audit_flows::lines::Endpoint;
 use audit_flows::transfers::TransferEnds;
-use judge_tap::TapRefusal;
+use audit_views::views::{ClientJudge, ServerView};
 use std::alloc::{AllocError, Global};
-use tftp_judge::{Meaning, Refusal};
+use tftp_ends::blocks::RingDelivered;
 
 /// Where a transfer was refused.
 #[derive(Clone, Copy)]
@@ -32,144 +48,110 @@ pub struct Blamed {
     pub source: Endpoint,
 }
 
-/// What has been refused by now: the numbers of the datagrams, where judges have held some back till now.
-#[derive(Clone, Copy)]
-pub struct Refused {
-    /// At the client a datagram was.
-    pub at_client: bool,
-    /// At the server.
-    pub at_server: Option<Refusal>,
-    /// Between them.
-    pub between: Option<TapRefusal>,
-}
-
-/// A datagram that passed before it is known who the server is.
-#[derive(Clone, Copy)]
-struct Passed {
-    blamed: Blamed,
-    place: Place,
-    source: Endpoint,
-    target: Endpoint,
-}
-
-/// Where a transfer was refused, as far as it was read.
+/// The facts of a transfer's datagrams at each point where it is judged, as far as they may be refused there.
 #[derive(Drop)]
 pub struct Blame {
-    at_client: Option<Blamed>,
-    at_server: Option<Blamed>,
-    between: Option<Blamed>,
-    /// What passed while it was not known who the server is.
-    passed: Vec<Passed>,
+    /// Of its client's view.
+    pub at_client: ViewFacts,
+    /// Of its server's view.
+    pub at_server: ViewFacts,
+    /// Of what passed between its ends.
+    pub between: ViewFacts,
 }
 
 impl Blame {
-    /// Before any datagram.
-    pub fn new(alloc: Global) -> Self {
+    /// Before any datagram of the transfer.
+    pub fn new(alloc: Global) -> Self
+        ensures ends { (judging : JudgingKind) (x : Transfer) (whole : List Placed) (frames : List Framed) → filter (is_about_it x.number) frames ≡ []
+            → IsBlameOf result judging x whole frames }
+        ensures between { (judging : JudgingKind) (x : Transfer) (whole : List Placed) (frames : List Framed) → filter (is_about_it x.number) frames ≡ []
+            → IsBlameBetween result judging x whole frames }
+    {
         Blame {
-            at_client: None,
-            at_server: None,
-            between: None,
-            passed: Vec::new(alloc),
+            at_client: ViewFacts::new(alloc),
+            at_server: ViewFacts::new(alloc),
+            between: ViewFacts::new(alloc),
         }
     }
 
-    /// Where the client's view was refused.
-    pub fn at_client(&self) -> Option<Blamed> {
-        self.at_client
-    }
-
-    /// Notes whether the client's view is refused at this datagram.
-    pub fn note_client(&mut self, blamed: Blamed, refused: &Refused) {
-        note(&mut self.at_client, blamed, refused.at_client);
-    }
-
-    /// Keeps a datagram that may turn out to be of the server's view.
-    pub fn keep(
+    /// Takes the next datagram about the transfer, which its judges have been given; these ends are known by then.
+    pub fn take(
         &mut self,
-        blamed: Blamed,
-        place: Place,
-        passing: &Passing<'_>,
-    ) -> Result<(), AllocError> {
-        self.passed.push(Passed {
-            blamed,
-            place,
-            source: passing.source,
-            target: passing.target,
-        })?;
-        Ok(())
-    }
-
-    /// Notes that it is now known who the server is, and what was refused of what was kept.
-    pub fn settle(&mut self, ends: &TransferEnds, refused: &Refused) {
-        self.at_server = self.find_at_server(ends, refused.at_server);
-        self.between = self.find_between(refused.between);
-        self.passed.clear();
-    }
-
-    /// Notes what is refused at this datagram where it is known who the server is.
-    pub fn note_settled(&mut self, blamed: Blamed, refused: &Refused) {
-        note(&mut self.at_server, blamed, refused.at_server.is_some());
-        note(&mut self.between, blamed, refused.between.is_some());
-    }
-
-    /// Where the server's view was refused, once all has passed.
-    pub fn at_server(
-        &self,
         ends: &TransferEnds,
-        verdict: &Result<Meaning, Refusal>,
-    ) -> Option<Blamed> {
-        match verdict {
-            Ok(_) => None,
-            Err(refusal) => self.at_server.or(self.find_at_server(ends, Some(*refusal))),
-        }
-    }
-
-    /// Where what passed between the ends was refused, once all has passed.
-    pub fn between(&self, verdict: &Result<Meaning, TapRefusal>) -> Option<Blamed> {
-        match verdict {
-            Ok(_) => None,
-            Err(refusal) => self.between.or(self.find_between(Some(*refusal))),
-        }
-    }
-
-    /// The datagram that was refused in the server's view, among those that were kept.
-    fn find_at_server(&self, ends: &TransferEnds, refusal: Option<Refusal>) -> Option<Blamed> {
-        let Some(Refusal::Unlawful(number, _)) = refusal else {
-            return None;
-        };
-        let mut left = number;
-        for one in self.passed.iter() {
-            if ends.is_at_server(&one.place, one.source, one.target) {
-                if left <= 1 {
-                    return Some(one.blamed);
-                }
-                left -= 1;
-            }
-        }
-        None
-    }
-
-    /// The datagram that was refused between the ends, among those that were kept.
-    fn find_between(&self, refusal: Option<TapRefusal>) -> Option<Blamed> {
-        let Some(TapRefusal::Unlawful(number, _)) = refusal else {
-            return None;
-        };
-        let mut left = number;
-        for one in self.passed.iter() {
-            if one.place.transfer().is_some() {
-                if left <= 1 {
-                    return Some(one.blamed);
-                }
-                left -= 1;
-            }
-        }
-        None
+        passed: Passed,
+        watched: &Watched<RingDelivered>,
+    ) -> Result<(), AllocError>
+        ensures ends { (judging : JudgingKind) (x : Transfer) (f : Framed) (whole : List Placed) (frames : List Framed) → IsBlameOf self.old judging x whole frames
+            → passed ≡ passed_of x.number f → is_about_it x.number f ≡ true
+            → ends.now.number ≡ x.number → AreEndsAfter ends.now (f.placed ∷ whole) → map (λ g. g.placed) frames ≡ whole
+            → IsWatching watched.now judging x host_name (f.placed ∷ whole)
+            → OnOk result (IsBlameOf self.new judging x (f.placed ∷ whole) (f ∷ frames)) }
+        ensures between { (judging : JudgingKind) (x : Transfer) (f : Framed) (whole : List Placed) (frames : List Framed) → IsBlameBetween self.old judging x whole frames
+            → passed ≡ passed_of x.number f → is_about_it x.number f ≡ true
+            → ends.now.number ≡ x.number → AreEndsAfter ends.now (f.placed ∷ whole) → map (λ g. g.placed) frames ≡ whole
+            → IsWatching watched.now judging x host_name (f.placed ∷ whole) → IfSome watched.now.judges.between IsJudgedIfApart
+            → OnOk result (IsBlameBetween self.new judging x (f.placed ∷ whole) (f ∷ frames)) }
+    {
+        take_client(&mut self.at_client, ends, passed, watched.client())?;
+        take_server(&mut self.at_server, ends, passed, watched.server())?;
+        take_between(&mut self.between, ends, passed, watched.between())?;
+        Ok(())
     }
 }
 
-/// Notes the first datagram at which it is refused.
-fn note(first: &mut Option<Blamed>, blamed: Blamed, is_refused: bool) {
-    if is_refused && first.is_none() {
-        *first = Some(blamed);
+/// Takes a datagram where the transfer is judged at its client.
+fn take_client(
+    facts: &mut ViewFacts,
+    ends: &TransferEnds,
+    passed: Passed,
+    judge: Option<&ClientJudge<RingDelivered>>,
+) -> Result<(), AllocError>
+    ensures { (x : Transfer) (f : Framed) (whole : List Placed) (frames : List Framed) → is_some (option_copied judge.entry) ≡ true → AreFactsOf facts.old PointKind.Client x whole frames
+        → passed ≡ passed_of x.number f → is_about_it x.number f ≡ true
+        → ends.now.number ≡ x.number → AreEndsAfter ends.now (f.placed ∷ whole) → map (λ g. g.placed) frames ≡ whole
+        → ClientStands (option_copied judge.entry) x host_name (f.placed ∷ whole)
+        → OnOk result (AreFactsOf facts.new PointKind.Client x (f.placed ∷ whole) (f ∷ frames)) }
+{
+    match judge {
+        Some(judge) => facts.take(Point::Client, ends, passed, told_by_client(judge)),
+        None => Ok(()),
+    }
+}
+
+/// Takes a datagram where the transfer is judged at its server.
+fn take_server(
+    facts: &mut ViewFacts,
+    ends: &TransferEnds,
+    passed: Passed,
+    judge: Option<&ServerView<RingDelivered>>,
+) -> Result<(), AllocError>
+    ensures { (x : Transfer) (f : Framed) (whole : List Placed) (frames : List Framed) → is_some (option_copied judge.entry) ≡ true → AreFactsOf facts.old PointKind.Server x whole frames
+        → passed ≡ passed_of x.number f → is_about_it x.number f ≡ true
+        → ends.now.number ≡ x.number → AreEndsAfter ends.now (f.placed ∷ whole) → map (λ g. g.placed) frames ≡ whole
+        → ServerStands (option_copied judge.entry) x host_name (f.placed ∷ whole)
+        → OnOk result (AreFactsOf facts.new PointKind.Server x (f.placed ∷ whole) (f ∷ frames)) }
+{
+    match judge {
+        Some(judge) => facts.take(Point::Server, ends, passed, told_by_server(judge, ends)),
+        None => Ok(()),
+    }
+}
+
+/// Takes a datagram where the transfer is judged between its ends.
+fn take_between(
+    facts: &mut ViewFacts,
+    ends: &TransferEnds,
+    passed: Passed,
+    judge: Option<&BetweenView<RingDelivered>>,
+) -> Result<(), AllocError>
+    ensures { (x : Transfer) (f : Framed) (whole : List Placed) (frames : List Framed) → is_some (option_copied judge.entry) ≡ true → AreFactsOf facts.old PointKind.Between x whole frames
+        → passed ≡ passed_of x.number f → is_about_it x.number f ≡ true
+        → ends.now.number ≡ x.number → AreEndsAfter ends.now (f.placed ∷ whole) → map (λ g. g.placed) frames ≡ whole
+        → BetweenStands (option_copied judge.entry) x host_name (f.placed ∷ whole) → IfSome (option_copied judge.entry) IsJudgedIfApart
+        → OnOk result (AreFactsOf facts.new PointKind.Between x (f.placed ∷ whole) (f ∷ frames)) }
+{
+    match judge {
+        Some(judge) => facts.take(Point::Between, ends, passed, told_between(judge, ends)),
+        None => Ok(()),
     }
 }

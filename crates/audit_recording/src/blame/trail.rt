@@ -1,18 +1,42 @@
 //! What is kept of a transfer beside its judges.
 
-use crate::blame::blame::{Blame, Blamed, Refused};
+ghost use Rattle.std.specs.Prelude.{◌≡◌, ◌∷◌, ◌||◌, not, [], ℕ, List, IfSome, IsSome, None, OnOk, filter, true};
+ghost use Rattle.law_model.specs.Rules.{or_this};
+ghost use Rattle.audit_flows.specs.Lines.{Placed, doubts_of, same_endpoint, transfer_of};
+ghost use Rattle.audit_flows.specs.{Transfer};
+ghost use Rattle.audit_flows.specs.Transfers.{IsDoubtedAfter, comes_of_earlier, is_beside, opened_it, server_of, tells_strays};
+ghost use Rattle.audit_recording.specs.Between.{IsBetweenVerdict, between_capture, server_or_asked, sides_of};
+ghost use Rattle.audit_recording.specs.Blame.Facts.{blamed_as, blamed_of, refused_between, refused_in};
+ghost use Rattle.audit_recording.specs.Blame.Frames.{Carried, Framed, framed, framed_after, whole_of};
+ghost use Rattle.audit_recording.specs.Blame.Kept.{IsJudgedIfApart, IsNoted, IsPassing, IsSameBut, IsTrailBetween, IsTrailOf, is_about_it};
+ghost use Rattle.audit_recording.specs.Judges.Kept.{IsWatching};
+ghost use Rattle.audit_recording.specs.Judges.Points.{points_of};
+ghost use Rattle.audit_recording.specs.declared.judges.judging.Judging.{Judging as JudgingKind};
+ghost use Rattle.audit_recording.specs.declared.rows.row.Point.{Point as PointKind};
+ghost use Rattle.audit_views.specs.Parties.{host_name};
+ghost use Rattle.audit_views.specs.Views.{IsJudgedWith, client_capture, client_header, server_capture, server_header};
+ghost use Rattle.law_tap.specs.{AreApart};
+
+use crate::blame::blame::{Blame, Blamed};
 use crate::blame::doubted::Doubted;
 use crate::blame::missing::Missing;
+use crate::blame::passed::Passed;
 use crate::blame::passing::Passing;
 use crate::blame::spoilt::{Spoilt, first_spoilt};
+use crate::blame::told::{refused_between, refused_in};
 use crate::blame::twice::Twice;
 use crate::judges::Watched;
+use crate::rows::Point;
 use audit_flows::lines::{Doubts, Endpoint, Place, Transfer};
 use audit_flows::transfers::{Attributed, TransferDoubts, TransferEnds};
 use judge_tap::TapRefusal;
 use std::alloc::{AllocError, Global};
 use tftp_ends::blocks::RingDelivered;
 use tftp_judge::{Meaning, Refusal};
+use tftp_packet::opcode;
+
+/// How an ERROR 5 begins, "Unknown transfer ID" (RFC 1350, section 5).
+const ERROR_5: [u8; 4] = [0, 5, 0, 5];
 
 /// A transfer, as far as it was read.
 #[derive(Drop)]
@@ -51,7 +75,15 @@ pub struct Trail {
 
 impl Trail {
     /// The transfer that this request opens in this frame, before any datagram.
-    pub fn new(alloc: Global, transfer: Transfer, request: Vec<u8>, frame: u64) -> Self {
+    pub fn new(alloc: Global, transfer: Transfer, request: Vec<u8>, frame: u64) -> Self
+        ensures stands { (judging : JudgingKind) (named : List ℕ) (carried : List Carried) → filter (is_about_it transfer.number) (framed named carried) ≡ []
+            → IsTrailOf result judging transfer named carried }
+        ensures between { (judging : JudgingKind) (named : List ℕ) (carried : List Carried) → filter (is_about_it transfer.number) (framed named carried) ≡ []
+            → IsTrailBetween result judging transfer named carried }
+        ensures first { result.first ≡ frame }
+        ensures request { result.request ≡ request }
+        ensures left_out { result.left_out ≡ None }
+    {
         Trail {
             transfer,
             request,
@@ -72,37 +104,89 @@ impl Trail {
         }
     }
 
-    /// Takes a datagram of the transfer at its client, or beside its server, which its judges have been given.
+    /// Takes a datagram of the transfer at its client, or beside its server, which its judges have been given. What opens the
+    /// transfer came in its first frame.
     pub fn take(
         &mut self,
         found: &Attributed,
         passing: &Passing<'_>,
         watched: &Watched<RingDelivered>,
-    ) -> Result<(), AllocError> {
-        if found.place.transfer().is_some() {
-            self.note_own(passing)?;
+    ) -> Result<(), AllocError>
+        ensures stands { (judging : JudgingKind) (x : Transfer) (named : List ℕ) (c : Carried) (carried : List Carried)
+            → IsTrailOf self.old judging x named carried → IsPassing passing.now c
+            → found.now.place ≡ (framed_after named carried c).placed.place
+            → found.now.doubts ≡ doubts_of (framed_after named carried c).placed (whole_of named carried)
+            → is_about_it x.number (framed_after named carried c) ≡ true
+            → (opened_it x.number (framed_after named carried c).placed ≡ true → c.frame ≡ self.old.first)
+            → IsWatching watched.now judging x host_name (whole_of named (c ∷ carried))
+            → OnOk result (IsTrailOf self.new judging x named (c ∷ carried)) }
+        ensures between { (judging : JudgingKind) (x : Transfer) (named : List ℕ) (c : Carried) (carried : List Carried)
+            → IsTrailOf self.old judging x named carried → IsTrailBetween self.old judging x named carried → IsPassing passing.now c
+            → found.now.place ≡ (framed_after named carried c).placed.place
+            → found.now.doubts ≡ doubts_of (framed_after named carried c).placed (whole_of named carried)
+            → is_about_it x.number (framed_after named carried c) ≡ true
+            → IsWatching watched.now judging x host_name (whole_of named (c ∷ carried)) → IfSome watched.now.judges.between IsJudgedIfApart
+            → OnOk result (IsTrailBetween self.new judging x named (c ∷ carried)) }
+        ensures first { self.new.first ≡ self.old.first }
+        ensures request { self.new.request ≡ self.old.request }
+        ensures left_out { self.new.left_out ≡ self.old.left_out }
+    {
+        self.note_place(&found.place, passing)?;
+        self.copied_from = first(self.copied_from, passing.is_doubtful, passing.frame);
+        self.damaged = first(self.damaged, passing.has_error, passing.frame);
+        self.ends.note(
+            &found.place,
+            passing.source,
+            passing.target,
+            passing.payload,
+        );
+        let passed = Passed {
+            blamed: blamed_by(found, passing, &watched.doubts()),
+            place: found.place,
+            target: passing.target,
+        };
+        self.blame.take(&self.ends, passed, watched)?;
+        Ok(())
+    }
+
+    /// Notes a datagram, if it passed at its client.
+    fn note_place(&mut self, place: &Place, passing: &Passing<'_>) -> Result<(), AllocError>
+        ensures own { IsSome (transfer_of place.now) → IsNoted self.old self.new passing.now }
+        ensures beside { transfer_of place.now ≡ None → self.new ≡ self.old }
+        ensures first { self.new.first ≡ self.old.first }
+        ensures request { self.new.request ≡ self.old.request }
+        ensures left_out { self.new.left_out ≡ self.old.left_out }
+        ensures ends { self.new.ends ≡ self.old.ends }
+        ensures blame { self.new.blame ≡ self.old.blame }
+    {
+        match place.transfer() {
+            Some(_) => self.note_own(passing),
+            None => Ok(()),
         }
-        if passing.is_doubtful && self.copied_from.is_none() {
-            self.copied_from = Some(passing.frame);
-        }
-        if passing.has_error && self.damaged.is_none() {
-            self.damaged = Some(passing.frame);
-        }
-        self.note_blame(found, passing, watched)
     }
 
     /// Notes a datagram at its client.
-    fn note_own(&mut self, passing: &Passing<'_>) -> Result<(), AllocError> {
+    fn note_own(&mut self, passing: &Passing<'_>) -> Result<(), AllocError>
+        ensures { IsNoted self.old self.new passing.now }
+    {
         self.count = self.count.saturating_add(1);
         self.last = passing.frame;
         self.last_time = self.last_time.max(passing.time.unwrap_or(0));
+        self.note_way(passing);
+        self.twice.note(passing)
+    }
+
+    /// Notes whether a datagram came to its client, and the first spoilt one on each way.
+    fn note_way(&mut self, passing: &Passing<'_>)
+        ensures is_answered { self.new.is_answered ≡ (same_endpoint passing.now.target self.old.transfer.client || self.old.is_answered) }
+        ensures others { IsSameBut self.old self.new }
+    {
         if passing.target == self.transfer.client {
             self.is_answered = true;
             self.to_client = first_spoilt(self.to_client, passing);
         } else {
             self.from_client = first_spoilt(self.from_client, passing);
         }
-        self.twice.note(passing)
     }
 
     /// The first spoilt datagram of its client, and the first to its client.
@@ -111,61 +195,48 @@ impl Trail {
     }
 
     /// Notes that its receiver discarded a spoilt datagram: its host's hardware makes no checksums after the recording.
-    pub fn discard(&mut self, spoilt: Spoilt) {
+    pub fn discard(&mut self, spoilt: Spoilt)
+        ensures blame { self.new.blame ≡ self.old.blame }
+        ensures stands { (judging : JudgingKind) (x : Transfer) (named : List ℕ) (carried : List Carried) → IsTrailOf self.old judging x named carried
+            → IsTrailOf self.new judging x named carried }
+        ensures first { self.new.first ≡ self.old.first }
+        ensures request { self.new.request ≡ self.old.request }
+        ensures left_out { self.new.left_out ≡ self.old.left_out }
+    {
         let earlier = self.discarded.unwrap_or(spoilt.frame);
         self.discarded = Some(earlier.min(spoilt.frame));
     }
 
-    /// Notes that a datagram at its client's endpoint was left out, whose time is within the transfer's.
-    pub fn leave_out(&mut self, frame: u64) {
-        if self.left_out.is_none() {
-            self.left_out = Some(frame);
-        }
-    }
-
-    /// Notes at which frame it was refused.
-    fn note_blame(
-        &mut self,
-        found: &Attributed,
-        passing: &Passing<'_>,
-        watched: &Watched<RingDelivered>,
-    ) -> Result<(), AllocError> {
-        let place = found.place;
-        let doubts = watched.doubts();
-        let blamed = Blamed {
-            frame: passing.frame,
-            is_late: doubts.is_late(),
-            is_beside: matches!(place, Place::Beside(_)),
-            is_answered: doubts.comes_in(),
-            speaks_first: found.doubts.speaks_first,
-            says_first_word: doubts.says_first_word(),
-            follows_unknown_id: found.doubts.follows_unknown_id,
-            tells_strays: tells_strays(passing.payload, &doubts),
-            comes_of_earlier: comes_of_earlier(&found.doubts, &doubts),
-            source: passing.source,
-        };
-        let refused = refused_by(watched);
-        self.blame.note_client(blamed, &refused);
-        if self.ends.is_settled() {
-            self.blame.note_settled(blamed, &refused);
-            return Ok(());
-        }
-        self.blame.keep(blamed, place, passing)?;
-        self.ends
-            .note(&place, passing.source, passing.target, passing.payload);
-        if self.ends.is_settled() {
-            self.blame.settle(&self.ends, &refused);
-        }
-        Ok(())
+    /// Notes that a datagram at its client's endpoint was left out, whose time is within the transfer's: the first one is kept.
+    pub fn leave_out(&mut self, frame: u64)
+        ensures left_out { self.new.left_out ≡ or_this self.old.left_out true frame }
+        ensures blame { self.new.blame ≡ self.old.blame }
+        ensures stands { (judging : JudgingKind) (x : Transfer) (named : List ℕ) (carried : List Carried) → IsTrailOf self.old judging x named carried
+            → IsTrailOf self.new judging x named carried }
+        ensures first { self.new.first ≡ self.old.first }
+        ensures request { self.new.request ≡ self.old.request }
+    {
+        self.left_out = first(self.left_out, true, frame);
     }
 
     /// The server: with whom the client went on, or who answered it first, or else whom it asked.
-    pub fn server(&self) -> Endpoint {
+    pub fn server(&self) -> Endpoint
+        ensures { (judging : JudgingKind) (x : Transfer) (named : List ℕ) (carried : List Carried) → IsTrailOf self.now judging x named carried
+            → result ≡ server_or_asked x (server_of x.number (whole_of named carried)) }
+    {
         self.ends.server().unwrap_or(self.transfer.asked)
     }
 
     /// What makes a verdict doubtful, beside its own doubts; of its client's datagrams these may be missing.
-    pub fn doubted(&self, doubts: TransferDoubts, missing: Missing) -> Doubted {
+    pub fn doubted(&self, doubts: TransferDoubts, missing: Missing) -> Doubted
+        ensures doubts { result.doubts ≡ doubts }
+        ensures missing { result.missing ≡ missing }
+        ensures begins { result.begins ≡ self.now.first }
+        ensures is_one_way { result.is_one_way ≡ not self.now.is_answered }
+        ensures copied_from { result.copied_from ≡ self.now.copied_from }
+        ensures damaged { result.damaged ≡ self.now.damaged }
+        ensures left_out { result.left_out ≡ self.now.left_out }
+    {
         Doubted {
             doubts,
             is_twice: self.twice.are_all_twice(),
@@ -179,48 +250,101 @@ impl Trail {
         }
     }
 
-    /// Where the client's view was refused.
-    pub fn at_client(&self) -> Option<Blamed> {
-        self.blame.at_client()
+    /// What the datagram is told by that this verdict on its client's view refuses.
+    pub fn at_client(&self, verdict: &Result<Meaning, Refusal>) -> Option<Blamed>
+        ensures { (judging : JudgingKind) (x : Transfer) (named : List ℕ) (carried : List Carried) → IsTrailOf self.now judging x named carried
+            → (points_of judging x).client ≡ true
+            → IsJudgedWith (client_header x) (client_capture host_name x (whole_of named carried)) verdict.now
+            → result ≡ blamed_as PointKind.Client x.number named carried (refused_in verdict.now) }
+    {
+        match refused_in(verdict) {
+            Some(number) => self.blame.at_client.at(Point::Client, &self.ends, number),
+            None => None,
+        }
     }
 
-    /// Where the server's view was refused.
-    pub fn at_server(&self, verdict: &Result<Meaning, Refusal>) -> Option<Blamed> {
-        self.blame.at_server(&self.ends, verdict)
+    /// What the datagram is told by that this verdict on its server's view refuses.
+    pub fn at_server(&self, verdict: &Result<Meaning, Refusal>) -> Option<Blamed>
+        ensures { (judging : JudgingKind) (x : Transfer) (named : List ℕ) (carried : List Carried) → IsTrailOf self.now judging x named carried
+            → (points_of judging x).server ≡ true
+            → IsJudgedWith (server_header x) (server_capture host_name x (whole_of named carried) (whole_of named carried)) verdict.now
+            → result ≡ blamed_as PointKind.Server x.number named carried (refused_in verdict.now) }
+    {
+        match refused_in(verdict) {
+            Some(number) => self.blame.at_server.at(Point::Server, &self.ends, number),
+            None => None,
+        }
     }
 
-    /// Where what passed between the ends was refused.
-    pub fn between(&self, verdict: &Result<Meaning, TapRefusal>) -> Option<Blamed> {
-        self.blame.between(verdict)
+    /// What the datagram is told by that this verdict on what passed between its ends refuses.
+    pub fn between(&self, verdict: &Result<Meaning, TapRefusal>) -> Option<Blamed>
+        ensures { (judging : JudgingKind) (x : Transfer) (named : List ℕ) (carried : List Carried) → IsTrailOf self.now judging x named carried
+            → IsTrailBetween self.now judging x named carried → (points_of judging x).between ≡ true → AreApart (sides_of x (whole_of named carried))
+            → IsBetweenVerdict (sides_of x (whole_of named carried)) (between_capture x (whole_of named carried)) verdict.now
+            → result ≡ blamed_as PointKind.Between x.number named carried (refused_between verdict.now) }
+    {
+        match refused_between(verdict) {
+            Some(number) => self.blame.between.at(Point::Between, &self.ends, number),
+            None => None,
+        }
     }
 }
 
-/// What the judges of a transfer have refused by now.
-fn refused_by(watched: &Watched<RingDelivered>) -> Refused {
-    let at_client = match watched.client() {
-        Some(client) => client.refused(),
-        None => None,
-    };
-    Refused {
-        at_client: at_client.is_some(),
-        at_server: match watched.server() {
-            Some(server) => server.refused(),
-            None => None,
-        },
-        between: match watched.between() {
-            Some(between) => between.refused(),
-            None => None,
-        },
+/// The frame that is known, or else this one, if it is to be noted.
+fn first(known: Option<u64>, holds: bool, frame: u64) -> Option<u64>
+    ensures { result ≡ or_this known holds frame }
+{
+    match known {
+        Some(earlier) => Some(earlier),
+        None => { if holds { Some(frame) } else { None } }
+    }
+}
+
+/// The facts of a datagram that was found there, by the doubts of its transfer up to it.
+fn blamed_by(found: &Attributed, passing: &Passing<'_>, doubts: &TransferDoubts) -> Blamed
+    ensures { (f : Framed) → IsPassing passing.now f.carried → f.placed.datagram ≡ f.carried.datagram
+        → found.now.place ≡ f.placed.place → found.now.doubts ≡ doubts_of f.placed f.before
+        → IsDoubtedAfter doubts.now (f.placed ∷ f.before) → result ≡ blamed_of doubts.now.number f }
+{
+    Blamed {
+        frame: passing.frame,
+        is_late: doubts.is_late(),
+        is_beside: is_beside(&found.place),
+        is_answered: doubts.comes_in(),
+        speaks_first: found.doubts.speaks_first,
+        says_first_word: doubts.says_first_word(),
+        follows_unknown_id: found.doubts.follows_unknown_id,
+        tells_strays: tells_strays(passing.payload, doubts),
+        comes_of_earlier: comes_of_earlier(&found.doubts, doubts),
+        source: passing.source,
+    }
+}
+
+/// Whether it passed with another than the client.
+fn is_beside(place: &Place) -> bool
+    ensures { (p : Placed) → place.now ≡ p.place → result ≡ is_beside p }
+{
+    match place {
+        Place::Beside(_) => true,
+        _ => false,
     }
 }
 
 /// Whether it is an ERROR 5, or an ERROR after one.
-fn tells_strays(payload: &[u8], doubts: &TransferDoubts) -> bool {
-    matches!(payload, [0, 5, 0, 5, ..])
-        || (matches!(payload, [0, 5, ..]) && doubts.says_unknown_id())
+fn tells_strays(payload: &[u8], doubts: &TransferDoubts) -> bool
+    ensures { (p : Placed) (older : List Placed) → p.datagram.payload ≡ payload.now → IsDoubtedAfter doubts.now (p ∷ older)
+        → result ≡ tells_strays doubts.now.number p older }
+{
+    let (is_error, says) = (opcode(payload) == 5, doubts.says_unknown_id());
+    let is_unknown_id = payload.starts_with(ERROR_5.as_slice());
+    is_unknown_id || (is_error && says)
 }
 
 /// Whether a datagram may be late from an earlier transfer between the same two, or rest on an OACK that may be.
-fn comes_of_earlier(own: &Doubts, doubts: &TransferDoubts) -> bool {
-    own.may_be_earlier || (doubts.agrees_late() && own.rests_on_terms)
+fn comes_of_earlier(own: &Doubts, doubts: &TransferDoubts) -> bool
+    ensures { (p : Placed) (older : List Placed) → own.now ≡ doubts_of p older → IsDoubtedAfter doubts.now (p ∷ older)
+        → result ≡ comes_of_earlier doubts.now.number p older }
+{
+    let agrees_late = doubts.agrees_late();
+    own.may_be_earlier || (agrees_late && own.rests_on_terms)
 }

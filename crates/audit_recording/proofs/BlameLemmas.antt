@@ -1,0 +1,5 @@
+pub mod Refusing
+pub mod Telling
+pub mod Holding
+pub mod Trailing
+pub mod Answering

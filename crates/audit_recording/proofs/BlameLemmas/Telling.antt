@@ -1,0 +1,323 @@
+-- What the judges tell of the datagrams that they were given: what they refuse, and what they refuse no more. Lists have the
+-- newest first.
+use Rattle.std.proofs.Common.{◌≡◌, ◌≤◌, ◌<◌, ◌+◌, ◌||◌, not, arith, ℕ, Bool, true, false, true≢false, List, [], ◌∷◌, ◌++◌, append_assoc, filter, length, map, reverse, Option, Some, None, IfSome, is_some, Result, Err, refl, sym, ap, subst, ◌∙◌}
+use Rattle.std.proofs.lemmas.List.{length-map, length-reverse, map-append, reverse-append, reverse-reverse}
+use Rattle.std.proofs.lemmas.List.Elements.{filter-append}
+use Rattle.tftp_packet.specs.Hosts.{Datagram, Header}
+use Rattle.law_end.specs.{OneEnded, Rule}
+use Rattle.law_model.specs.Model.{Meaning}
+use Rattle.law_tap.specs.{AreApart, BreaksNoTapRule, TapDatagram, TapSides}
+use Rattle.tftp_judge.specs.{IsJudgeAfter, IsVerdict, Judge, Refusal, Unlawful}
+use Rattle.tftp_judge.proofs.ByRuns.{verdict}
+use Rattle.judge_tap.specs.{IsTapJudge, TapJudge, TapRefusal}
+use Rattle.judge_tap.specs.declared.refusal.TapRefusal.TheVariants as tap
+use Rattle.audit_flows.specs.Lines.{Placed, is_of}
+use Rattle.audit_flows.specs.{Transfer}
+use Rattle.audit_flows.specs.Transfers.{client_view, is_at_server, is_settled, server_view}
+use Rattle.audit_views.specs.Parties.{host_name}
+use Rattle.audit_views.specs.Views.{Client, HasJudged, IsClientAfter, IsGoingOn, IsViewAfter, Server, View, ViewedBy, fed_to, captured_at_client, captured_at_server, client_capture, client_header, server_capture, server_header}
+use Rattle.audit_views.specs.Views.Kept.{has_refused}
+use Rattle.audit_views.proofs.ViewsLemmas.Judging.{finished, stands_for}
+use Rattle.audit_views.proofs.ViewsLemmas.Settling.{at_server_stays, capture_stays}
+use Rattle.audit_recording.specs.Between.{Between, BetweenBy, HasTapped, IsBetweenAfter, IsTapRefusedIn, PassedBy, TappedBy, View as Tap, are_apart, between_capture, passed_of, sides_of}
+use Rattle.audit_recording.specs.Between.Kept.{counted_by, given_to, has_refused as has_refused_between, refused_by}
+use Rattle.audit_recording.proofs.BetweenLemmas.Holding.{given_by}
+use Rattle.audit_recording.proofs.BetweenLemmas.Settling.{sides_stay}
+use Rattle.audit_recording.proofs.BetweenLemmas.Sides.{not_apart}
+use Rattle.tftp_packet.specs.Hosts.{same_peer}
+use Rattle.law_end.proofs.Division.RouteTests.{same_is}
+use Rattle.audit_recording.specs.Blame.Facts.{IsRefusedAt}
+use Rattle.audit_recording.specs.Blame.Kept.{Accepts, IsFixed, Refuses}
+use Rattle.audit_recording.specs.declared.rows.row.Point.{Point}
+use Rattle.audit_recording.specs.declared.rows.row.Point.TheVariants as point
+use Rattle.audit_recording.proofs.BlameLemmas.Refusing.{IsFirst, none_of_lawful, one_first}
+
+-- ---- an end
+
+before_ended : (h : Header) (d : Datagram) (earlier : List Datagram) → OneEnded h (d ∷ earlier) → OneEnded h earlier
+before_ended h d earlier lawful = lawful.1
+
+newest_last : (before rest : List Datagram) (d : Datagram) → reverse (before ++ d ∷ rest) ≡ reverse rest ++ d ∷ reverse before
+newest_last before rest d = reverse-append before (d ∷ rest) ∙ ap (λ l. l ++ reverse before) (reverse-append (d ∷ []) rest) ∙ append_assoc (reverse rest) (d ∷ []) (reverse before)
+
+-- the datagram that a verdict refuses is the first that breaks a rule
+first_at_end : (h : Header) (given : List Datagram) (number : ℕ) (rule : Rule) → IsVerdict h (reverse given) (Err (Unlawful number rule)) → IsFirst (OneEnded h) given number
+first_at_end h given number rule said =
+    let at = (verdict h (reverse given) (Err (Unlawful number rule))).0 said in
+    record {
+      later = reverse at.rest;
+      datagram = at.datagram;
+      earlier = reverse at.before;
+      are = sym (reverse-reverse given) ∙ ap reverse at.split ∙ newest_last at.before at.rest at.datagram;
+      number_is = at.index_is ∙ ap (λ n. n + 1) (sym (length-reverse at.before));
+      lawful = at.lawful;
+      unlawful = λ lawful. at.unlawful (subst (OneEnded h) (sym (reverse-append at.before (at.datagram ∷ []))) lawful);
+    }
+
+-- what the judge has refused is the verdict
+refused_at_end : (j : Judge) (h : Header) (given : List Datagram) (number : ℕ) (rule : Rule) → j.refused ≡ Some (Unlawful number rule) → HasJudged j h given
+    → IsVerdict h (reverse given) (Err (Unlawful number rule))
+refused_at_end j h given number rule is judged =
+    finished h given j (Err (Unlawful number rule))
+    (λ after. let both : None ≡ Some (Unlawful number rule) = sym after.goes_on ∙ is in absurd (cc))
+    (λ refusal was. let both : Some (Unlawful number rule) ≡ Some refusal = sym is ∙ was in let same : Unlawful number rule ≡ refusal = cc in ap (λ r. Err r) same)
+    judged tt
+
+-- ---- at the client
+
+client_more : (x : Transfer) (more whole : List Placed) → client_capture host_name x (more ++ whole) ≡ client_capture host_name x more ++ client_capture host_name x whole
+client_more x more whole =
+    ap (map (captured_at_client host_name x)) (filter-append (is_of x.number) more whole)
+    ∙ map-append (captured_at_client host_name x) (client_view x.number more) (client_view x.number whole)
+
+client_first : (x : Transfer) (more whole : List Placed) (number : ℕ) (rule : Rule) → IsRefusedAt point.Client x (more ++ whole) number rule
+    → IsFirst (OneEnded (client_header x)) (client_capture host_name x more ++ client_capture host_name x whole) number
+client_first x more whole number rule said =
+    subst (λ l. IsFirst (OneEnded (client_header x)) l number) (client_more x more whole) (first_at_end (client_header x) (client_capture host_name x (more ++ whole)) number rule said)
+
+client_accepts : (c : Client) (whole : List Placed) → c.end.judge.refused ≡ None → IsClientAfter c host_name whole → Accepts point.Client c.transfer whole c.end.judge.fed
+client_accepts c whole none judged =
+    let h = client_header c.transfer in
+    let after : IsJudgeAfter c.end.judge h (client_capture host_name c.transfer whole) = stands_for c.end.judge h (client_capture host_name c.transfer whole) none judged in
+    record {
+      fixed = λ more p. refl;
+      all = after.fed ∙ length-map (client_view c.transfer.number whole) (captured_at_client host_name c.transfer);
+      none = λ more number rule said.
+          subst (λ n. n < number) (sym after.fed)
+          (none_of_lawful (OneEnded h) (before_ended h) (client_capture host_name c.transfer more) (client_capture host_name c.transfer whole) number after.lawful (client_first c.transfer more whole number rule said));
+    }
+
+client_refuses : (c : Client) (whole : List Placed) (number : ℕ) (rule : Rule) → c.end.judge.refused ≡ Some (Unlawful number rule) → IsClientAfter c host_name whole
+    → Refuses point.Client c.transfer whole number
+client_refuses c whole number rule is judged =
+    let h = client_header c.transfer in
+    let said : IsRefusedAt point.Client c.transfer whole number rule = refused_at_end c.end.judge h (client_capture host_name c.transfer whole) number rule is judged in
+    record {
+      fixed = λ more p. refl;
+      rule = rule;
+      refused = said;
+      only = λ more other by_rule there.
+          one_first (OneEnded h) (before_ended h) (client_capture host_name c.transfer more) (client_capture host_name c.transfer whole) number other
+          (first_at_end h (client_capture host_name c.transfer whole) number rule said) (client_first c.transfer more whole other by_rule there);
+    }
+
+pub accepts_at_client : (c : Client) (x : Transfer) (whole : List Placed) → c.transfer ≡ x → c.end.judge.refused ≡ None → IsClientAfter c host_name whole → Accepts point.Client x whole c.end.judge.fed
+accepts_at_client c x whole own none judged = subst (λ (y : Transfer). Accepts point.Client y whole c.end.judge.fed) own (client_accepts c whole none judged)
+
+pub refuses_at_client : (c : Client) (x : Transfer) (whole : List Placed) (number : ℕ) (rule : Rule) → c.transfer ≡ x → c.end.judge.refused ≡ Some (Unlawful number rule) → IsClientAfter c host_name whole
+    → Refuses point.Client x whole number
+refuses_at_client c x whole number rule own is judged = subst (λ (y : Transfer). Refuses point.Client y whole number) own (client_refuses c whole number rule is judged)
+
+-- ---- at the server
+
+-- its judge was given the server's view
+record IsServing (v : View) (whole : List Placed) : Type 0 where
+  pub server : Server
+  pub is : v.judge ≡ Some server
+  pub going : IsGoingOn server v host_name whole
+
+serving : (v : View) (whole : List Placed) → is_settled v.transfer.number whole ≡ true → IsViewAfter v host_name whole → IsServing v whole
+serving v whole settled = by v.judge refl where
+  by : (o : Option Server) → v.judge ≡ o → ViewedBy o v host_name whole → IsServing v whole
+  by None none waits = absurd (true≢false (sym settled ∙ waits.unsettled))
+  by (Some s) is going = record { server = s; is = is; going = going }
+
+server_more : (x : Transfer) (more whole : List Placed) → is_settled x.number whole ≡ true
+    → server_capture host_name x (more ++ whole) (more ++ whole) ≡ server_capture host_name x (more ++ whole) more ++ server_capture host_name x whole whole
+server_more x more whole settled =
+    let seen = is_at_server x.number (more ++ whole) in
+    let as_captured = captured_at_server host_name x (more ++ whole) in
+    ap (map as_captured) (filter-append seen more whole)
+    ∙ map-append as_captured (filter seen more) (filter seen whole)
+    ∙ ap (λ l. server_capture host_name x (more ++ whole) more ++ l) (sym (capture_stays host_name x more whole settled whole))
+
+server_first : (x : Transfer) (more whole : List Placed) (number : ℕ) (rule : Rule) → is_settled x.number whole ≡ true → IsRefusedAt point.Server x (more ++ whole) number rule
+    → IsFirst (OneEnded (server_header x)) (server_capture host_name x (more ++ whole) more ++ server_capture host_name x whole whole) number
+server_first x more whole number rule settled said =
+    subst (λ l. IsFirst (OneEnded (server_header x)) l number) (server_more x more whole settled) (first_at_end (server_header x) (server_capture host_name x (more ++ whole) (more ++ whole)) number rule said)
+
+module _ (s : Server) (whole : List Placed) (settled : is_settled s.transfer.number whole ≡ true) (judged : HasJudged s.end.judge (server_header s.transfer) (server_capture host_name s.transfer whole whole)) where
+  server_accepts : s.end.judge.refused ≡ None → Accepts point.Server s.transfer whole s.end.judge.fed
+  server_accepts none =
+      let x = s.transfer in
+      let h = server_header x in
+      let after : IsJudgeAfter s.end.judge h (server_capture host_name x whole whole) = stands_for s.end.judge h (server_capture host_name x whole whole) none judged in
+      record {
+        fixed = λ more p. at_server_stays x.number more whole settled p;
+        all = after.fed ∙ length-map (filter (is_at_server x.number whole) whole) (captured_at_server host_name x whole);
+        none = λ more number rule said.
+            subst (λ n. n < number) (sym after.fed)
+            (none_of_lawful (OneEnded h) (before_ended h) (server_capture host_name x (more ++ whole) more) (server_capture host_name x whole whole) number after.lawful (server_first x more whole number rule settled said));
+      }
+
+  server_refuses : (number : ℕ) (rule : Rule) → s.end.judge.refused ≡ Some (Unlawful number rule) → Refuses point.Server s.transfer whole number
+  server_refuses number rule is =
+      let x = s.transfer in
+      let h = server_header x in
+      let said : IsRefusedAt point.Server x whole number rule = refused_at_end s.end.judge h (server_capture host_name x whole whole) number rule is judged in
+      record {
+        fixed = λ more p. at_server_stays x.number more whole settled p;
+        rule = rule;
+        refused = said;
+        only = λ more other by_rule there.
+            one_first (OneEnded h) (before_ended h) (server_capture host_name x (more ++ whole) more) (server_capture host_name x whole whole) number other
+            (first_at_end h (server_capture host_name x whole whole) number rule said) (server_first x more whole other by_rule settled there);
+      }
+
+has_refused_by : (v : View) (s : Server) → v.judge ≡ Some s → has_refused v ≡ s.end.judge.refused
+has_refused_by v s is = rw is refl
+
+fed_by : (v : View) (s : Server) → v.judge ≡ Some s → fed_to v ≡ s.end.judge.fed
+fed_by v s is = rw is refl
+
+module _ (v : View) (x : Transfer) (whole : List Placed) (own : v.transfer ≡ x) (settled : is_settled x.number whole ≡ true) (after : IsViewAfter v host_name whole) where
+  serves : IsServing v whole
+  serves = serving v whole (ap (λ (y : Transfer). is_settled y.number whole) own ∙ settled) after
+
+  its_own : serves.server.transfer ≡ x
+  its_own = serves.going.transfer ∙ own
+
+  its_settled : is_settled serves.server.transfer.number whole ≡ true
+  its_settled = ap (λ (y : Transfer). is_settled y.number whole) its_own ∙ settled
+
+  pub accepts_at_server : has_refused v ≡ None → Accepts point.Server x whole (fed_to v)
+  accepts_at_server none =
+      subst (λ n. Accepts point.Server x whole n) (sym (fed_by v serves.server serves.is))
+      (subst (λ (y : Transfer). Accepts point.Server y whole serves.server.end.judge.fed) its_own
+      (server_accepts serves.server whole its_settled serves.going.after.judged (sym (has_refused_by v serves.server serves.is) ∙ none)))
+
+  pub refuses_at_server : (number : ℕ) (rule : Rule) → has_refused v ≡ Some (Unlawful number rule) → Refuses point.Server x whole number
+  refuses_at_server number rule is =
+      subst (λ (y : Transfer). Refuses point.Server y whole number) its_own
+      (server_refuses serves.server whole its_settled serves.going.after.judged number rule (sym (has_refused_by v serves.server serves.is) ∙ is))
+
+-- ---- between the ends
+
+before_passed : (s : TapSides) (d : TapDatagram) (earlier : List TapDatagram) → BreaksNoTapRule s (d ∷ earlier) → BreaksNoTapRule s earlier
+before_passed s d earlier lawful = lawful.1
+
+first_between : (s : TapSides) (given : List TapDatagram) (number : ℕ) (rule : Rule) → IsTapRefusedIn s given (tap.Unlawful number rule) → IsFirst (BreaksNoTapRule s) given number
+first_between s given number rule at = record {
+  later = at.later;
+  datagram = at.datagram;
+  earlier = at.earlier;
+  are = at.are;
+  number_is = at.refused.0;
+  lawful = at.lawful;
+  unlawful = λ lawful. lawful.0.lawful rule at.refused.1.breaks;
+}
+
+between_more : (x : Transfer) (more whole : List Placed) → between_capture x (more ++ whole) ≡ between_capture x more ++ between_capture x whole
+between_more x more whole =
+    ap (map (λ p. passed_of p.datagram)) (filter-append (is_of x.number) more whole)
+    ∙ map-append (λ p. passed_of p.datagram) (client_view x.number more) (client_view x.number whole)
+
+between_first : (x : Transfer) (more whole : List Placed) (number : ℕ) (rule : Rule) → is_settled x.number whole ≡ true → IsRefusedAt point.Between x (more ++ whole) number rule
+    → IsFirst (BreaksNoTapRule (sides_of x whole)) (between_capture x more ++ between_capture x whole) number
+between_first x more whole number rule settled said =
+    subst (λ (s : TapSides). IsFirst (BreaksNoTapRule s) (between_capture x more ++ between_capture x whole) number) (sides_stay x more whole settled)
+    (subst (λ l. IsFirst (BreaksNoTapRule (sides_of x (more ++ whole))) l number) (between_more x more whole)
+    (first_between (sides_of x (more ++ whole)) (between_capture x (more ++ whole)) number rule said.1))
+
+-- the judge of the sides was given all that passed
+record IsTapping (v : Tap) (x : Transfer) (whole : List Placed) : Type 0 where
+  pub between : Between
+  pub is : v.judge ≡ Some between
+  pub sides : between.sides ≡ sides_of x whole
+  pub passed : PassedBy between.judge between (between_capture x whole)
+
+tapping : (v : Tap) (whole : List Placed) → is_settled v.transfer.number whole ≡ true → IsBetweenAfter v whole → IsTapping v v.transfer whole
+tapping v whole settled = by v.judge refl where
+  by : (o : Option Between) → v.judge ≡ o → BetweenBy o v whole → IsTapping v v.transfer whole
+  by None none waits = absurd (true≢false (sym settled ∙ waits.unsettled))
+  by (Some b) is going = record { between = b; is = is; sides = going.sides; passed = going.passed }
+
+neither : (a b : Bool) → not (a || b) ≡ true → (a ≡ false) × (b ≡ false)
+neither false false e = (refl, refl)
+neither false true e = absurd (true≢false (sym e))
+neither true b e = absurd (true≢false (sym e))
+
+is_apart : (s : TapSides) → are_apart s ≡ true → AreApart s
+is_apart s e =
+    let both = neither (same_peer s.client s.server) (same_peer s.client s.asked) e in
+    record { server = λ same. true≢false (sym (same_is s.client s.server same) ∙ both.0); asked = λ same. true≢false (sym (same_is s.client s.asked same) ∙ both.1) }
+
+module _ (x : Transfer) (whole : List Placed) (settled : is_settled x.number whole ≡ true) (b : Between) (sides : b.sides ≡ sides_of x whole) (one : is_some b.judge ≡ are_apart b.sides) where
+  -- where there is no judge, nothing is said
+  nothing_said : b.judge ≡ None → (more : List Placed) (number : ℕ) (rule : Rule) → IsRefusedAt point.Between x (more ++ whole) number rule → ⊥
+  nothing_said none more number rule said =
+      not_apart b.sides (sym one ∙ ap is_some none) (subst AreApart (sides_stay x more whole settled ∙ sym sides) said.0)
+
+  tap_accepts : PassedBy b.judge b (between_capture x whole) → refused_by b ≡ None → Accepts point.Between x whole (counted_by b)
+  tap_accepts passed clear = by b.judge refl where
+    by : (o : Option TapJudge) → b.judge ≡ o → Accepts point.Between x whole (counted_by b)
+    by None none =
+        let counted : counted_by b ≡ b.counted = rw none refl in
+        let all : b.counted ≡ length (between_capture x whole) = subst (λ o. PassedBy o b (between_capture x whole)) none passed in
+        record {
+          fixed = λ more p. refl;
+          all = counted ∙ all ∙ length-map (client_view x.number whole) (λ p. passed_of p.datagram);
+          none = λ more number rule said. absurd (nothing_said none more number rule said);
+        }
+    by (Some j) is =
+        let counted : counted_by b ≡ j.fed = rw is refl in
+        let refuses : refused_by b ≡ j.refused = rw is refl in
+        let tapped : HasTapped j b.sides (between_capture x whole) = subst (λ o. PassedBy o b (between_capture x whole)) is passed in
+        let after : IsTapJudge j b.sides (between_capture x whole) = subst (λ o. TappedBy o j b.sides (between_capture x whole)) (sym refuses ∙ clear) tapped in
+        record {
+          fixed = λ more p. refl;
+          all = counted ∙ after.fed ∙ length-map (client_view x.number whole) (λ p. passed_of p.datagram);
+          none = λ more number rule said.
+              subst (λ n. n < number) (sym (counted ∙ after.fed))
+              (none_of_lawful (BreaksNoTapRule (sides_of x whole)) (before_passed (sides_of x whole)) (between_capture x more) (between_capture x whole) number
+              (subst (λ (s : TapSides). BreaksNoTapRule s (between_capture x whole)) sides after.lawful) (between_first x more whole number rule settled said));
+        }
+
+  tap_refuses : (number : ℕ) (rule : Rule) → PassedBy b.judge b (between_capture x whole) → refused_by b ≡ Some (tap.Unlawful number rule) → Refuses point.Between x whole number
+  tap_refuses number rule passed refused = by b.judge refl where
+    by : (o : Option TapJudge) → b.judge ≡ o → Refuses point.Between x whole number
+    by None none =
+        let no : refused_by b ≡ None = rw none refl in
+        let both : None ≡ Some (tap.Unlawful number rule) = sym no ∙ refused in absurd (cc)
+    by (Some j) is =
+        let refuses : refused_by b ≡ j.refused = rw is refl in
+        let tapped : HasTapped j b.sides (between_capture x whole) = subst (λ o. PassedBy o b (between_capture x whole)) is passed in
+        let at : IsTapRefusedIn b.sides (between_capture x whole) (tap.Unlawful number rule) = subst (λ o. TappedBy o j b.sides (between_capture x whole)) (sym refuses ∙ refused) tapped in
+        let here : IsTapRefusedIn (sides_of x whole) (between_capture x whole) (tap.Unlawful number rule) = subst (λ (s : TapSides). IsTapRefusedIn s (between_capture x whole) (tap.Unlawful number rule)) sides at in
+        record {
+          fixed = λ more p. refl;
+          rule = rule;
+          refused = (subst AreApart sides (is_apart b.sides (sym one ∙ ap is_some is)), here);
+          only = λ more other by_rule there.
+              one_first (BreaksNoTapRule (sides_of x whole)) (before_passed (sides_of x whole)) (between_capture x more) (between_capture x whole) number other
+              (first_between (sides_of x whole) (between_capture x whole) number rule here) (between_first x more whole other by_rule settled there);
+        }
+
+-- ---- in the view
+
+refuses_by : (v : Tap) (b : Between) → v.judge ≡ Some b → has_refused_between v ≡ refused_by b
+refuses_by v b is = rw is refl
+
+module _ (v : Tap) (x : Transfer) (whole : List Placed) (own : v.transfer ≡ x) (settled : is_settled x.number whole ≡ true) (after : IsBetweenAfter v whole)
+    (one : IfSome v.judge (λ b. is_some b.judge ≡ are_apart b.sides)) where
+  taps : IsTapping v x whole
+  taps = subst (λ (y : Transfer). IsTapping v y whole) own (tapping v whole (ap (λ (y : Transfer). is_settled y.number whole) own ∙ settled) after)
+
+  one_judge : is_some taps.between.judge ≡ are_apart taps.between.sides
+  one_judge = subst (λ o. IfSome o (λ b. is_some b.judge ≡ are_apart b.sides)) taps.is one
+
+  pub accepts_between : has_refused_between v ≡ None → Accepts point.Between x whole (given_to v)
+  accepts_between none =
+      subst (λ n. Accepts point.Between x whole n) (sym (given_by v taps.between taps.is))
+      (tap_accepts x whole settled taps.between taps.sides one_judge taps.passed (sym (refuses_by v taps.between taps.is) ∙ none))
+
+  pub refuses_between : (number : ℕ) (rule : Rule) → has_refused_between v ≡ Some (tap.Unlawful number rule) → Refuses point.Between x whole number
+  refuses_between number rule is =
+      tap_refuses x whole settled taps.between taps.sides one_judge number rule taps.passed (sym (refuses_by v taps.between taps.is) ∙ is)
+
+-- ---- the first datagram is the one with number 1
+
+pub from_1 : (p : Point) (x : Transfer) (whole : List Placed) (number : ℕ) (rule : Rule) → IsRefusedAt p x whole number rule → 0 < number
+from_1 point.Client x whole number rule said = let at = (first_at_end (client_header x) (client_capture host_name x whole) number rule said).number_is in omega (arith, at)
+from_1 point.Server x whole number rule said = let at = (first_at_end (server_header x) (server_capture host_name x whole whole) number rule said).number_is in omega (arith, at)
+from_1 point.Between x whole number rule said = let at = said.1.refused.0 in omega (arith, at)

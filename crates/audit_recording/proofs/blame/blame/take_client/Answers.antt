@@ -1,0 +1,9 @@
+use Rattle.std.proofs.Common.{◌∷◌, option_copied, subst}
+use Rattle.audit_recording.specs.Judges.Kept.{ClientStands}
+use Rattle.audit_views.specs.Parties.{host_name}
+use Rattle.audit_recording.proofs.blame.blame.take_client.Goals as goal
+
+pub returns-in-Some : goal.returns-in-Some
+returns-in-Some c x f whole frames some are is about own ends all stands =
+    let stands_there = subst (λ o. ClientStands (option_copied o) x host_name (f.placed ∷ whole)) c.in-Some.is stands in
+    c.take.ensures x f whole frames are is about own ends all (c.told_by_client.ensures x (f.placed ∷ whole) stands_there.0 stands_there.1)

@@ -1,0 +1,16 @@
+use Rattle.audit_recording.proofs.blame.trail.Trail.leave_out.Goals as goal
+
+pub returns-clause-stands : goal.returns-clause-stands
+returns-clause-stands c judging x named carried was = record {
+  transfer = was.transfer;
+  number = was.number;
+  ends = was.ends;
+  first = was.first;
+  last = was.last;
+  count = was.count;
+  last_time = was.last_time;
+  is_answered = was.is_answered;
+  copied_from = was.copied_from;
+  damaged = was.damaged;
+  blame = was.blame;
+}

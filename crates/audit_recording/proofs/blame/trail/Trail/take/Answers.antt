@@ -1,0 +1,33 @@
+use Rattle.std.proofs.Common.{◌≡◌, ◌∷◌, refl, ap, subst, sym, ◌∙◌}
+use Rattle.audit_flows.specs.{TransferDoubts, TransferEnds}
+use Rattle.audit_flows.specs.Transfers.{AreEndsAfter, IsDoubtedAfter}
+use Rattle.audit_recording.specs.declared.blame.blame.Blame.{Blame}
+use Rattle.audit_recording.specs.Blame.Facts.{blamed_of}
+use Rattle.audit_recording.specs.Blame.Frames.{Framed, framed, framed_after, whole_of}
+use Rattle.audit_recording.specs.Blame.Kept.{IsBlameBetween, IsBlameOf}
+use Rattle.audit_recording.proofs.BlameLemmas.Trailing.{all_placed, passed_same, trail_more}
+use Rattle.audit_recording.proofs.blame.trail.Trail.take.Goals as goal
+
+pub returns-clause-stands : goal.returns-clause-stands
+returns-clause-stands c judging x named d carried was passes at doubts about opens watching =
+    let f : Framed = framed_after named carried d in
+    let whole = whole_of named carried in
+    let number = c.note.ensures.number ∙ ap (λ (e : TransferEnds). e.number) c.note_place.ensures.ends ∙ was.number in
+    let ends = c.note.ensures.stands f.placed whole (subst (λ (e : TransferEnds). AreEndsAfter e whole) (sym c.note_place.ensures.ends) was.ends) at (sym passes.source) (sym passes.target) (sym passes.payload) in
+    let doubted = subst (λ (t : TransferDoubts). IsDoubtedAfter t (f.placed ∷ whole)) (sym c.doubts.ensures) watching.doubts in
+    let blamed = c.blamed_by.ensures f passes refl at doubts doubted ∙ ap (λ (t : TransferDoubts). blamed_of t.number f) c.doubts.ensures ∙ ap (λ k. blamed_of k f) watching.number in
+    let passed = passed_same x.number f (record { blamed = c.blamed_by.result; place = c.args.found.now.place; target = c.args.passing.now.target }) blamed at passes.target in
+    trail_more c.args.self.now c.note_place.new.self _ judging x named d carried c.args.passing.now was passes about c.args.found.now.place at c.note_place.ensures.own c.note_place.ensures.beside
+    refl refl refl refl refl refl c.first-self.ensures c.first-self-2.ensures number ends opens
+    (c.in_ok-take.ensures.ends judging x f whole (framed named carried) (subst (λ (b : Blame). IsBlameOf b judging x whole (framed named carried)) (sym c.note_place.ensures.blame) was.blame) passed about number ends (all_placed named carried) watching)
+
+pub returns-clause-between : goal.returns-clause-between
+returns-clause-between c judging x named d carried was between passes at doubts about watching apart =
+    let f : Framed = framed_after named carried d in
+    let whole = whole_of named carried in
+    let number = c.note.ensures.number ∙ ap (λ (e : TransferEnds). e.number) c.note_place.ensures.ends ∙ was.number in
+    let ends = c.note.ensures.stands f.placed whole (subst (λ (e : TransferEnds). AreEndsAfter e whole) (sym c.note_place.ensures.ends) was.ends) at (sym passes.source) (sym passes.target) (sym passes.payload) in
+    let doubted = subst (λ (t : TransferDoubts). IsDoubtedAfter t (f.placed ∷ whole)) (sym c.doubts.ensures) watching.doubts in
+    let blamed = c.blamed_by.ensures f passes refl at doubts doubted ∙ ap (λ (t : TransferDoubts). blamed_of t.number f) c.doubts.ensures ∙ ap (λ k. blamed_of k f) watching.number in
+    let passed = passed_same x.number f (record { blamed = c.blamed_by.result; place = c.args.found.now.place; target = c.args.passing.now.target }) blamed at passes.target in
+    c.in_ok-take.ensures.between judging x f whole (framed named carried) (subst (λ (b : Blame). IsBlameBetween b judging x whole (framed named carried)) (sym c.note_place.ensures.blame) between) passed about number ends (all_placed named carried) watching apart

@@ -1,0 +1,198 @@
+-- What is kept of a transfer beside its judges, and of which datagrams. Lists have the newest first; `whole` are the datagrams of
+-- a recording with their places, `frames` the same in their frames.
+use Rattle.std.specs.Prelude.{◌≡◌, ◌⊎◌, ◌<◌, ◌+◌, ◌^◌, ◌-◌, ◌&&◌, ◌||◌, ◌++◌, ℕ, Bool, true, List, [], ◌∷◌, filter, length, map, max, min, reverse, unwrap_or, is_some, IfSome, Option, Some, None, option_map}
+use Rattle.std.specs.List.{list_any}
+use Rattle.law_end.specs.{Rule}
+use Rattle.law_model.specs.Rules.{first_of}
+use Rattle.audit_flows.specs.Lines.{Placed, Recorded, same_endpoint}
+use Rattle.audit_flows.specs.{Transfer}
+use Rattle.audit_flows.specs.Transfers.{AreEndsAfter, is_about, opened_it}
+use Rattle.audit_recording.specs.declared.blame.blame.Blame.{Blame}
+use Rattle.audit_recording.specs.declared.blame.blame.Blamed.{Blamed}
+use Rattle.audit_recording.specs.declared.blame.facts.Found.{Found}
+use Rattle.audit_recording.specs.declared.blame.facts.ViewFacts.{ViewFacts}
+use Rattle.audit_recording.specs.declared.blame.passed.Passed.{Passed}
+use Rattle.audit_recording.specs.declared.blame.passing.Passing.{Passing}
+use Rattle.audit_recording.specs.declared.blame.told.Told.{Told}
+use Rattle.audit_recording.specs.declared.blame.told.Told.TheVariants.{Accepted, Nothing, Refused}
+use Rattle.audit_recording.specs.declared.blame.trail.Trail.{Trail}
+use Rattle.audit_recording.specs.declared.judges.judging.Judging.{Judging}
+use Rattle.audit_recording.specs.declared.rows.row.Point.{Point}
+use Rattle.audit_recording.specs.declared.rows.row.Point.TheVariants.{Client, Server, Between}
+use Rattle.audit_recording.specs.Between.{View, are_apart}
+use Rattle.audit_recording.specs.Judges.{points_of}
+use Rattle.audit_recording.specs.Blame.Frames.{Carried, Framed, framed, is_seen, numbered, seen_of, view_of, whole_of}
+use Rattle.audit_recording.specs.Blame.Facts.{IsRefusedAt, blamed_of}
+
+-- ---- what a judge tells
+
+-- what is seen there stays, whatever comes
+abbrev pub IsFixed : Point → ℕ → List Placed → Type 0
+IsFixed point n whole = (more : List Placed) (p : Placed) → is_seen point n (more ++ whole) p ≡ is_seen point n whole p
+
+-- The judge at the point has accepted so many: all that was seen there, of which none is refused, whatever comes.
+pub record Accepts (point : Point) (x : Transfer) (whole : List Placed) (count : ℕ) : Type 0 where
+  pub fixed : IsFixed point x.number whole
+  pub all : count ≡ length (filter (is_seen point x.number whole) whole)
+  pub none : (more : List Placed) (number : ℕ) (rule : Rule) → IsRefusedAt point x (more ++ whole) number rule → count < number
+
+-- It has refused the one of that number, and refuses no other, whatever comes.
+pub record Refuses (point : Point) (x : Transfer) (whole : List Placed) (number : ℕ) : Type 0 where
+  pub fixed : IsFixed point x.number whole
+  pub rule : Rule
+  pub refused : IsRefusedAt point x whole number rule
+  pub only : (more : List Placed) (other : ℕ) (by_rule : Rule) → IsRefusedAt point x (more ++ whole) other by_rule → other ≡ number
+
+abbrev pub IsTold : Point → Transfer → List Placed → Told → Type 0
+IsTold point x whole Nothing = Unit {0}
+IsTold point x whole (Accepted count) = Accepts point x whole count
+IsTold point x whole (Refused number) = Refuses point x whole number
+
+-- ---- the facts of one view
+
+-- a datagram about this transfer, as it is held
+abbrev pub passed_of : ℕ → Framed → Passed
+passed_of n f = record { blamed = blamed_of n f; place = f.placed.place; target = f.placed.datagram.target }
+
+-- a datagram with its place and its ends, as it is held
+abbrev pub placed_by : Passed → Placed
+placed_by q = record {
+  datagram = record { time = 0; source = q.blamed.source; target = q.target; payload = []; is_spelled = true };
+  moment = 0;
+  place = q.place;
+}
+
+abbrev pub is_about_it : ℕ → Framed → Bool
+is_about_it n f = is_about n f.placed
+
+-- the facts of the datagram of that number that was seen there
+abbrev pub blamed_in : Point → ℕ → List Placed → List Framed → ℕ → Option Blamed
+blamed_in point n whole frames number = option_map (blamed_of n) (numbered (seen_of point n whole frames) number)
+
+-- All is held but for the early ones, of which so many were seen there.
+pub record IsOpen (forgotten : ℕ) (held : List Passed) (point : Point) (n : ℕ) (whole : List Placed) (frames : List Framed) : Type 0 where
+  pub late : List Framed
+  pub early : List Framed
+  pub split : frames ≡ late ++ early
+  pub kept : held ≡ map (passed_of n) (reverse (filter (is_about_it n) late))
+  pub counted : forgotten ≡ length (seen_of point n whole early)
+  pub stays : (early ≡ []) ⊎ IsFixed point n whole
+
+-- The refused one is kept.
+pub record IsFound (found : Found) (point : Point) (n : ℕ) (whole : List Placed) (frames : List Framed) : Type 0 where
+  pub is : blamed_in point n whole frames found.number ≡ Some found.blamed
+  pub stays : IsFixed point n whole
+
+abbrev pub HoldsBy : Option Found → ViewFacts → Point → ℕ → List Placed → List Framed → Type 0
+HoldsBy None facts point n whole frames = IsOpen facts.forgotten facts.held.items point n whole frames
+HoldsBy (Some found) facts point n whole frames = IsFound found point n whole frames
+
+-- the datagram of that number is held
+abbrev pub IsHeldBy : Option Found → ℕ → ℕ → Type 0
+IsHeldBy None forgotten number = forgotten < number
+IsHeldBy (Some found) forgotten number = number ≡ found.number
+
+abbrev pub IsHeld : ViewFacts → ℕ → Type 0
+IsHeld facts number = IsHeldBy facts.refused facts.forgotten number
+
+-- They are the facts of what was seen there, and of each that can be refused there, whatever comes.
+pub record AreFactsOf (facts : ViewFacts) (point : Point) (x : Transfer) (whole : List Placed) (frames : List Framed) : Type 0 where
+  pub holds : HoldsBy facts.refused facts point x.number whole frames
+  pub enough : (more : List Placed) (number : ℕ) (rule : Rule) → IsRefusedAt point x (more ++ whole) number rule → IsHeld facts number
+
+-- the facts of each end's view where the transfer is judged
+pub record IsBlameOf (b : Blame) (judging : Judging) (x : Transfer) (whole : List Placed) (frames : List Framed) : Type 0 where
+  pub client : (points_of judging x).client ≡ true → AreFactsOf b.at_client Client x whole frames
+  pub server : (points_of judging x).server ≡ true → AreFactsOf b.at_server Server x whole frames
+
+-- the facts of what passed between the ends, where the transfer is judged there
+abbrev pub IsBlameBetween : Blame → Judging → Transfer → List Placed → List Framed → Type 0
+IsBlameBetween b judging x whole frames = (points_of judging x).between ≡ true → AreFactsOf b.between Between x whole frames
+
+-- there is a judge of the sides, once they are known, just if the client is none of the other two
+abbrev pub IsJudgedIfApart : View → Type 0
+IsJudgedIfApart v = IfSome v.judge (λ b. is_some b.judge ≡ are_apart b.sides)
+
+-- ---- a transfer, as far as it was read
+
+-- the datagram in its frame
+pub record IsPassing (passing : Passing) (c : Carried) : Type 0 where
+  pub frame : passing.frame ≡ c.frame
+  pub time : passing.time ≡ c.time
+  pub is_doubtful : passing.is_doubtful ≡ c.is_doubtful
+  pub has_error : passing.has_error ≡ c.has_error
+  pub source : passing.source ≡ c.datagram.source
+  pub target : passing.target ≡ c.datagram.target
+  pub payload : passing.payload.now ≡ c.datagram.payload
+
+-- the frame of the oldest that passes the test
+abbrev pub first_frame : (Framed → Bool) → List Framed → Option ℕ
+first_frame test frames = option_map (λ f. f.carried.frame) (first_of test frames)
+
+-- the frame of the newest, and else this
+abbrev pub last_frame : ℕ → List Framed → ℕ
+last_frame otherwise [] = otherwise
+last_frame otherwise (f ∷ older) = f.carried.frame
+
+-- the greatest time that their frames tell; 0 where none does
+abbrev pub last_time_in : List Framed → ℕ
+last_time_in [] = 0
+last_time_in (f ∷ older) = max (last_time_in older) (unwrap_or f.carried.time 0)
+
+abbrev pub comes_to : Transfer → Framed → Bool
+comes_to x f = same_endpoint f.placed.datagram.target x.client
+
+-- about the transfer, and its frame may be a copy
+abbrev pub is_copied : ℕ → Framed → Bool
+is_copied n f = is_about n f.placed && f.carried.is_doubtful
+
+-- about the transfer, and received with an error
+abbrev pub is_damaged : ℕ → Framed → Bool
+is_damaged n f = is_about n f.placed && f.carried.has_error
+
+-- all but who was answered and what is spoilt is as before
+pub record IsSameBut (old new : Trail) : Type 0 where
+  pub transfer : new.transfer ≡ old.transfer
+  pub request : new.request ≡ old.request
+  pub first : new.first ≡ old.first
+  pub last : new.last ≡ old.last
+  pub count : new.count ≡ old.count
+  pub last_time : new.last_time ≡ old.last_time
+  pub ends : new.ends ≡ old.ends
+  pub left_out : new.left_out ≡ old.left_out
+  pub copied_from : new.copied_from ≡ old.copied_from
+  pub damaged : new.damaged ≡ old.damaged
+  pub blame : new.blame ≡ old.blame
+
+-- a datagram at its client was noted
+pub record IsNoted (old new : Trail) (passing : Passing) : Type 0 where
+  pub count : new.count ≡ min (old.count + 1) (2 ^ 64 - 1)
+  pub last : new.last ≡ passing.frame
+  pub last_time : new.last_time ≡ max old.last_time (unwrap_or passing.time 0)
+  pub is_answered : new.is_answered ≡ (same_endpoint passing.target old.transfer.client || old.is_answered)
+  pub transfer : new.transfer ≡ old.transfer
+  pub request : new.request ≡ old.request
+  pub first : new.first ≡ old.first
+  pub ends : new.ends ≡ old.ends
+  pub left_out : new.left_out ≡ old.left_out
+  pub copied_from : new.copied_from ≡ old.copied_from
+  pub damaged : new.damaged ≡ old.damaged
+  pub blame : new.blame ≡ old.blame
+
+-- It is what is to be kept of this transfer by these datagrams, judged at the points where it is to be.
+pub record IsTrailOf (t : Trail) (judging : Judging) (x : Transfer) (named : List ℕ) (carried : List Carried) : Type 0 where
+  pub transfer : t.transfer ≡ x
+  pub number : t.ends.number ≡ x.number
+  pub ends : AreEndsAfter t.ends (whole_of named carried)
+  pub first : IfSome (first_frame (λ f. opened_it x.number f.placed) (framed named carried)) (λ frame. frame ≡ t.first)
+  pub last : t.last ≡ last_frame t.first (view_of Client x.number named carried)
+  pub count : t.count ≡ min (length (view_of Client x.number named carried)) (2 ^ 64 - 1)
+  pub last_time : t.last_time ≡ last_time_in (view_of Client x.number named carried)
+  pub is_answered : t.is_answered ≡ list_any (comes_to x) (view_of Client x.number named carried)
+  pub copied_from : t.copied_from ≡ first_frame (is_copied x.number) (framed named carried)
+  pub damaged : t.damaged ≡ first_frame (is_damaged x.number) (framed named carried)
+  pub blame : IsBlameOf t.blame judging x (whole_of named carried) (framed named carried)
+
+-- The same of what passed between its ends.
+abbrev pub IsTrailBetween : Trail → Judging → Transfer → List ℕ → List Carried → Type 0
+IsTrailBetween t judging x named carried = IsBlameBetween t.blame judging x (whole_of named carried) (framed named carried)

@@ -1,0 +1,49 @@
+//! Laws on the frames of what was seen at a point. Each is the contract of a function that does nothing.
+
+ghost use Rattle.std.specs.Prelude.{◌≡◌, ◌∷◌, [], ℕ, List, None, Some, false, option_map, true};
+ghost use Rattle.audit_flows.specs.{Transfer};
+ghost use Rattle.audit_flows.specs.Transfers.{asked_twice, client};
+ghost use Rattle.audit_flows.specs.Transfers.Worked.{acked_late, errors, stranger};
+ghost use Rattle.audit_recording.specs.Blame.Facts.{blamed_of};
+ghost use Rattle.audit_recording.specs.Blame.Frames.{Carried, framed_after, seen_as};
+ghost use Rattle.audit_recording.specs.Blame.Kept.{IsTrailBetween, IsTrailOf, is_about_it};
+ghost use Rattle.audit_recording.specs.Blame.Worked.{frame_of, in_even_frames};
+ghost use Rattle.audit_recording.specs.declared.blame.trail.Trail.{Trail};
+ghost use Rattle.audit_recording.specs.declared.judges.judging.Judging.{Judging};
+ghost use Rattle.audit_recording.specs.declared.rows.row.Point.{Point};
+
+/// A datagram that is not about a transfer tells nothing of it: what is kept of the transfer stands for the datagrams with that one
+/// too.
+pub fn what_is_not_about_a_transfer_changes_nothing()
+    ensures ends { (t : Trail) (judging : Judging) (x : Transfer) (named : List ℕ) (c : Carried) (carried : List Carried) → is_about_it x.number (framed_after named carried c) ≡ false
+        → IsTrailOf t judging x named carried → IsTrailOf t judging x named (c ∷ carried) }
+    ensures between { (t : Trail) (judging : Judging) (x : Transfer) (named : List ℕ) (c : Carried) (carried : List Carried) → is_about_it x.number (framed_after named carried c) ≡ false
+        → IsTrailBetween t judging x named carried → IsTrailBetween t judging x named (c ∷ carried) }
+{}
+
+/// Worked example: a read of one byte whose client asks twice, and which a stranger sends a block, in frames 2, 4, 6, 8 and 10.
+/// The client's third datagram came in frame 6; its fourth, the stranger's, in frame 8, of which the server saw nothing: its
+/// fourth came in frame 10, and it has no fifth.
+pub fn worked_frames()
+    ensures client { frame_of (seen_as Point.Client 0 [] (in_even_frames asked_twice) 3) ≡ Some 6 }
+    ensures stray { frame_of (seen_as Point.Client 0 [] (in_even_frames asked_twice) 4) ≡ Some 8 }
+    ensures server { frame_of (seen_as Point.Server 0 [] (in_even_frames asked_twice) 4) ≡ Some 10 }
+    ensures none { frame_of (seen_as Point.Server 0 [] (in_even_frames asked_twice) 5) ≡ None }
+    ensures between { frame_of (seen_as Point.Between 0 [] (in_even_frames asked_twice) 5) ≡ Some 10 }
+{}
+
+/// Worked example: the stranger's block, in frame 8, comes to a client that has been answered, from elsewhere; and its request
+/// came before any answer. Where a client acknowledges a block of its first file once it has asked for a second one, that ACK is
+/// late. An ERROR tells of strays after an ERROR 5, and not before it.
+pub fn worked_blame()
+    ensures stray { option_map (blamed_of 0) (seen_as Point.Client 0 [] (in_even_frames asked_twice) 4)
+        ≡ Some (record { frame = 8; is_late = false; is_beside = false; is_answered = true; speaks_first = false; says_first_word = false; follows_unknown_id = false; tells_strays = false; comes_of_earlier = false; source = stranger }) }
+    ensures request { option_map (blamed_of 0) (seen_as Point.Server 0 [] (in_even_frames asked_twice) 1)
+        ≡ Some (record { frame = 2; is_late = false; is_beside = false; is_answered = false; speaks_first = false; says_first_word = false; follows_unknown_id = false; tells_strays = false; comes_of_earlier = false; source = client }) }
+    ensures late { option_map (blamed_of 0) (seen_as Point.Client 0 [] (in_even_frames acked_late) 3)
+        ≡ Some (record { frame = 10; is_late = true; is_beside = false; is_answered = true; speaks_first = false; says_first_word = false; follows_unknown_id = false; tells_strays = false; comes_of_earlier = false; source = client }) }
+    ensures early_error { option_map (blamed_of 0) (seen_as Point.Between 0 [] (in_even_frames errors) 4)
+        ≡ Some (record { frame = 8; is_late = false; is_beside = false; is_answered = true; speaks_first = false; says_first_word = false; follows_unknown_id = false; tells_strays = false; comes_of_earlier = false; source = client }) }
+    ensures late_error { option_map (blamed_of 0) (seen_as Point.Between 0 [] (in_even_frames errors) 6)
+        ≡ Some (record { frame = 12; is_late = false; is_beside = false; is_answered = true; speaks_first = false; says_first_word = false; follows_unknown_id = true; tells_strays = true; comes_of_earlier = false; source = client }) }
+{}
