@@ -372,7 +372,8 @@ class Matches(Checks):
         """Where the output fails, that is told by name, and the status is 2."""
         for end, text in zip(ENDS, read_of_two_bytes().texts()):
             (self.folder / end).write_bytes(text)
-        for words in ([], ["--json"], ["--counts"]):
+        words: tuple[str, ...]
+        for words in ((), ("--json",), ("--counts",)):
             with open("/dev/full", "wb") as full:
                 command = [self.program, *words, *(str(self.folder / end) for end in ENDS)]
                 done = subprocess.run(command, stdout=full, stderr=subprocess.PIPE, timeout=60, check=False)
