@@ -39,6 +39,7 @@ LISTED = """number client server kind mode file options datagrams frames
 SOUND = "accepted get octet blocks 1 bytes 2"
 WHOLE = Row(1, "between", None, SOUND)
 ONE_WAY = "nothing that came to its client is there: one direction only"
+FIRST_WORD = "its client spoke before anything came to it: the recording began later, it may be"
 UNANSWERED = "nobody had answered for sure what its client asked for before: what comes may be the late answer"
 LED_ASTRAY = "its client did not go on with who sent it something first"
 UNPLACED = "it may have been recorded between its two ends: name the place with --end"
@@ -312,7 +313,8 @@ class Rows(Checks):
                 self.check(f"fragments from {block.source}, {len(order)}", got == ([sound], "", 0), got)
             # Without block 1 the client acknowledges at a port from which nothing came.
             got = checked(self.program, file_of_packets([first, *pieces[:2], last]), *AT_CLIENT)
-            wanted = Row(1, "client", 4, refusal(2, Rule.WRONG_PORT), (ONE_WAY, "frame 2 is not there whole"))
+            doubts = FIRST_WORD, ONE_WAY, "frame 2 is not there whole"
+            wanted = Row(1, "client", 4, refusal(2, Rule.WRONG_PORT), doubts)
             holds = (got[0], got[2]) == ([wanted], 2) and "2 datagrams not there whole" in got[1]
             self.check(f"a lost fragment from {block.source}", holds, got)
         passed = read("a", 40_000, 41_000)
@@ -328,7 +330,8 @@ class Rows(Checks):
         for it in frames:
             it.original, it.content = len(it.content), it.content[:96]
         got = checked(self.program, recorded.pcap(frames, is_nano=True, snaplen=96), *AT_CLIENT)
-        wanted = Row(1, "client", 3, refusal(2, Rule.WRONG_PORT), (ONE_WAY, "frame 2 is not there whole"))
+        doubts = FIRST_WORD, ONE_WAY, "frame 2 is not there whole"
+        wanted = Row(1, "client", 3, refusal(2, Rule.WRONG_PORT), doubts)
         self.check("a recording with a small snaplen", (got[0], got[2]) == ([wanted], 2) and "(frame 2)" in got[1], got)
         given = recorded.pcap(frames, is_nano=True)
         output, told, status = said(self.program, ["text", "1", "client", "-"], given)
