@@ -17,6 +17,12 @@ on_ok (Err e) make is = tt
 pub more : (old middle new some others : List Reason) → new ≡ middle ++ others → middle ≡ old ++ some → new ≡ old ++ (some ++ others)
 more old middle new some others last first = last ∙ ap (λ m. m ++ others) first ∙ append_assoc old some others
 
+pub begun : (old new some given : List Reason) → new ≡ old ++ given → given ≡ some → new ≡ old ++ some
+begun old new some given last same = last ∙ ap (λ g. old ++ g) same
+
+pub more_of : (old middle new some others given : List Reason) → new ≡ middle ++ given → given ≡ others → middle ≡ old ++ some → new ≡ old ++ (some ++ others)
+more_of old middle new some others given last same first = more old middle new some others (begun middle new others given last same) first
+
 -- ---- which of them are the division's
 
 -- one of these is the division's, if that is so
