@@ -26,7 +26,7 @@ from fuzzing.command import parser_of, runnable, seed_of
 from fuzzing.framed import drawn_frame_kinds, framed
 from fuzzing.innocents import accusations, rows_of, shrunk
 from fuzzing.price import FORMS, Price
-from fuzzing.worlds import DRAWN, KINDS, Drawn, Recording, world_of
+from fuzzing.worlds import KINDS, Drawn, Recording, world_of
 from judged import checked
 
 AT_ONCE = 25
@@ -99,7 +99,7 @@ def try_some(work: Work) -> Tried:
 
 def works(first: int, words: Words) -> Iterator[Work]:
     """Pieces of work without end; every so many has files, as often as is asked for."""
-    kinds = tuple(words.kinds.split(",")) if words.kinds else DRAWN
+    kinds = tuple(words.kinds.split(",")) if words.kinds else tuple(KINDS)
     place, owed = first, 1.0
     while True:
         owed += words.files / max(1, words.recordings)

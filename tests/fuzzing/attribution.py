@@ -223,7 +223,7 @@ class Transfer:
         """Why a refusal at this datagram is no accusation there."""
         it = next(it for it in self.all_seen() if it.number == number)
         told = [doubt.why for doubt in self.doubts if doubt.since <= number]
-        is_own = place != "between" and (it.source == self.client) == (place == "client")
+        is_own = place == "client" and it.source == self.client
         if it in self.seen and not is_own and self.comes_of_earlier(it):
             told.append("it may come of an earlier transfer between the same two ports")
         if not self.is_followed and any(it.target == self.client and it.number <= number for it in self.talked()):
@@ -270,8 +270,9 @@ class Line:
     only_asked: bool = True
     # with whom something else passed than requests, ERROR 0 and ERROR 5
     spoken: set[Endpoint] = field(default_factory=set)
-    # whether the latest request was answered for sure
+    # whether the latest request was answered for sure, and whether one was left before it was
     is_answered: bool = False
+    left_unanswered: bool = False
     talks: dict[Endpoint, Talk] = field(default_factory=dict)
     said: list[tuple[Datagram, Transfer]] = field(default_factory=list)
 
@@ -370,8 +371,9 @@ class Attribution:
         if line is None:
             self.lines[it.source] = Line(one, self.clock, it)
             return one
-        if line.latest.answered is None or not line.is_answered:
-            why = "what its client asked before was not answered for sure: who it asked may still answer"
+        line.left_unanswered |= line.latest.answered is None or not line.is_answered
+        if line.left_unanswered:
+            why = "what its client had asked was not answered for sure: who it asked may still answer"
             one.doubts.append(Doubt(0, "unanswered", why))
         if line.only_asked and asks_alike(line.request, it):
             why = "its client had asked the same and sent nothing else since: the transfer before goes on"

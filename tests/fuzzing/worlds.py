@@ -55,9 +55,6 @@ KINDS: dict[str, str] = {
     "clock_ahead": "a foreign frame is ahead of the clock",
     "clock_back": "the recorder's clock is set back",
 }
-# What the definition does not carry yet: drawn only where it is named.
-OPEN = frozenset(("reused_for_same",))
-DRAWN = tuple(kind for kind in KINDS if kind not in OPEN)
 STRANGER, FOREIGN = "10.3.0.9", "10.4.0.1"
 LONGEST = 70
 JUNK = (b"", b"?", b"\0", b"\0\4", b"\0\3\0", b"\0\0\0\0", b"\0\7", b"\0\5\0\1", b"\xff" * 9)
@@ -341,7 +338,7 @@ ALWAYS = frozenset(("loss",))
 APART = (("new_ports", "own_again"), ("one", "service", "reused"), ("shared_host", "hairpin"))
 
 
-def drawn_kinds(seed: int, allowed: Iterable[str] = DRAWN) -> frozenset[str]:
+def drawn_kinds(seed: int, allowed: Iterable[str] = KINDS) -> frozenset[str]:
     """Some of the kinds, of those that are allowed."""
     drawn, names = random.Random(seed ^ 0x5EED), sorted(allowed)
     chance = drawn.choice((0.1, 0.25, 0.5))
@@ -353,5 +350,5 @@ def drawn_kinds(seed: int, allowed: Iterable[str] = DRAWN) -> frozenset[str]:
     return frozenset(found)
 
 
-def world_of(seed: int, allowed: Iterable[str] = DRAWN) -> Drawn:
+def world_of(seed: int, allowed: Iterable[str] = KINDS) -> Drawn:
     return Drawn(seed, drawn_kinds(seed, allowed)).run()

@@ -21,7 +21,7 @@ use Rattle.audit_cleared.specs.Worked.{asked_at_learned, before_going_on, learne
 
 -- ---- the run
 
-abbrev read_five : Meaning
+abbrev pub read_five : Meaning
 read_five = record { side = Get; name = codes "f"; mode = Octet; requested = no_options; agreed = no_options; file = 5 ∷ [] }
 
 abbrev steps : List Step
@@ -40,13 +40,13 @@ view = Sent (Ack 1) ∷ Took (Data 1) ∷ Sent Req ∷ Sent Req ∷ []
 one_block : block_count (blksize_of read_five) read_five.file ≡ 1
 one_block = ap (λ b. block_count b read_five.file) (default_blksize read_five refl)
 
-is_plan : IsPlan read_five read_five.file one_block_plan
+pub is_plan : IsPlan read_five read_five.file one_block_plan
 is_plan = record { something = λ e. absurd (true≢false (sym e)); nothing = λ _. refl; windowsize = default_windowsize read_five refl; blocks = one_block }
 
 is_view : IsView read_five read_five.file Client view
 is_view = (steps, run_is read_five read_five.file one_block_plan steps is_plan refl, refl)
 
-fits : Fits read_five read_five.file
+pub fits : Fits read_five read_five.file
 fits = record {
   may_agree = nothing_may_be_agreed_by (request_of read_five);
   reads = refl;
@@ -67,7 +67,7 @@ string_is (x ∷ s) e =
     let low = ltb-true 0 x parts.0 in
     (λ is. omega arith, string_is s parts.1)
 
-asks : Spells (read_of (codes "f")) (Message.Request (request_of read_five))
+pub asks : Spells (read_of (codes "f")) (Message.Request (request_of read_five))
 asks = (
   bytes_are (read_of (codes "f")) refl,
   record {
@@ -83,7 +83,7 @@ asks = (
   },
 )
 
-brings : Spells (data_of 1) (Message.Data 1 (block (blksize_of read_five) read_five.file 1))
+pub brings : Spells (data_of 1) (Message.Data 1 (block (blksize_of read_five) read_five.file 1))
 brings = subst (λ size. Spells (data_of 1) (Message.Data 1 (block size read_five.file 1))) (sym (default_blksize read_five refl))
     (bytes_are (data_of 1) refl, (0, 1, (omega arith, omega arith, omega arith), refl))
 

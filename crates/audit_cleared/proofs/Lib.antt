@@ -12,3 +12,5 @@ mod Seated
 mod Besides
 mod Hosts
 mod Learned
+mod Staying
+mod Accusing

@@ -1,3 +1,5 @@
+pub mod Accused
 pub mod Cleared
 pub mod Worked
+pub use Accused.{IsAccusation, is_doubtful_there}
 pub use Cleared.{BothSaw, HasAddresses, IsOpenedIn, IsSentThere, IsServedIn, IsTransferIn, IsWith}

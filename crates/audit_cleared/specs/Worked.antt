@@ -64,3 +64,14 @@ to_the_other = passes 2 client server (ack_of 1)
 -- The block comes from the server, and the ACK goes to a stranger.
 abbrev pub to_a_stranger : Recorded
 to_a_stranger = passes 2 client stranger (ack_of 1)
+
+-- ---- accusations
+
+-- A client asks for a file, and for another before anybody has answered; it gets a block of that, and asks again where this came from.
+abbrev pub asked_before : List Recorded
+asked_before =
+    requests 3 client server (codes "f")
+    ∷ passes 2 server client (data_of 1)
+    ∷ requests 1 client service (codes "f")
+    ∷ requests 0 client service (codes "g")
+    ∷ []

@@ -18,7 +18,7 @@ pub fn check(rt: HostRuntime, asked: &CheckRequest<'_>) -> Result<u8> {
             teller.status = 2;
         }
     }
-    Ok(teller.status)
+    Ok(teller.verdict_status())
 }
 
 /// Where transfers are judged, where the recordings were made there, if that is said.
@@ -72,5 +72,5 @@ pub fn tell_session(
     if teller.told == 0 {
         tell_asked(rt, PROGRAM, file, &session.notes)?;
     }
-    Ok(())
+    teller.tell_none(rt, PROGRAM)
 }

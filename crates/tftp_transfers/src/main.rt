@@ -21,7 +21,7 @@ use tftp_words::{Request, own_words, request_of, tell_fault};
 /// The name with which all begins that is told on standard error.
 const PROGRAM: &str = "tftp-transfers";
 
-/// Ends with status 0, 1 where a transfer is not accepted, or 2 after a fault.
+/// Ends with status 0, 1 where a transfer is not accepted, 2 after a fault, or 3 where there is none to judge.
 fn main(rt: HostRuntime) -> ExitCode {
     let Some(words) = own_words(rt) else {
         return ExitCode::from(2);

@@ -54,6 +54,8 @@ pub struct Teller<'a> {
     pub told: u64,
     /// 0 where all were accepted, else 1, or 2 after a fault.
     pub status: u8,
+    /// Some file had no transfer.
+    has_none: bool,
     is_headed: bool,
     /// From the first refusal on, while the recorder may still tell that it lost packets.
     held: Vec<VerdictRow<'a>>,
@@ -72,6 +74,7 @@ impl<'a> Teller<'a> {
             file: "",
             told: 0,
             status: 0,
+            has_none: false,
             is_headed: false,
             held: Vec::new(alloc),
             may_lose: false,
@@ -115,6 +118,24 @@ impl<'a> Teller<'a> {
             self.tell_oldest(rt, session)?;
         }
         Ok(())
+    }
+
+    /// Tells that the file has no transfer, where none was told.
+    pub fn tell_none(&mut self, rt: HostRuntime, program: &str) -> Result<()> {
+        if self.told == 0 {
+            self.has_none = true;
+            let file = self.file;
+            eprintln!(rt; "{program}: {file}: no request passed, so there is no transfer")?;
+        }
+        Ok(())
+    }
+
+    /// The status of all verdicts; it is 3 where nothing else is to be told by it, and a file had no transfer to judge.
+    pub fn verdict_status(&self) -> u8 {
+        if self.status == 0 && self.has_none {
+            return 3;
+        }
+        self.status
     }
 
     /// Tells the oldest transfer, if there is one. It stays a call, since the room of a transfer that is handed out would be

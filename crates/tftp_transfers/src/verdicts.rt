@@ -210,17 +210,13 @@ impl Judged {
         }
     }
 
-    /// Whether it may come of an earlier transfer between the same two: what an end sends itself is not late there, if it was
+    /// Whether it may come of an earlier transfer between the same two: what a client sends itself is not late there, if it was
     /// recorded there.
     fn comes_of_earlier(&self, told: &Told<'_>, blamed: &Blamed) -> bool {
-        let is_sent_by_client = blamed.source == self.transfer.client;
-        let is_known = told.telling.between.is_none();
-        let comes_in = match told.view.point {
-            Point::Client => !(is_known && is_sent_by_client),
-            Point::Server => !is_known || is_sent_by_client,
-            Point::Between => true,
-        };
-        comes_in && blamed.comes_of_earlier
+        let is_at_client =
+            matches!(told.view.point, Point::Client) && told.telling.between.is_none();
+        let is_own = is_at_client && blamed.source == self.transfer.client;
+        !is_own && blamed.comes_of_earlier
     }
 
     /// Whether neither end sent the datagram, which passed at the client.

@@ -5,7 +5,7 @@ use Rattle.std.specs.Str.{bytes_eq}
 use Rattle.std.specs.BTreeMap.{get, BTreeMap}
 use Rattle.std.specs.Ordering.{is_eq, nat_cmp}
 use Rattle.law_model.specs.Rules.{or_this}
-use Rattle.audit_flows.specs.Lines.{Recorded, same_endpoint, endpoint_cmp, is_between, Placed, opens, is_request, newest_of, latest_in, reach, answers, answered_in, talked_of, talk_in, place_asked, IsLineOf, seen_of, asked_by, history_of, opened_by, place_of_talk, comes_to, surely_after, talk_after, ends_after, went_on_after, AreTimed, is_past, is_unknown_talk, is_word, spoken_after, spoken_of, unknown_after, unknown_of, answers_surely, asked_part, says_more, is_alike_in, is_later}
+use Rattle.audit_flows.specs.Lines.{Recorded, same_endpoint, endpoint_cmp, is_between, Placed, opens, is_request, newest_of, latest_in, reach, answers, answered_in, talked_of, talk_in, place_asked, IsLineOf, seen_of, asked_by, history_of, opened_by, place_of_talk, comes_to, surely_after, talk_after, ends_after, went_on_after, AreTimed, is_past, is_unknown_talk, is_word, spoken_after, spoken_of, unknown_after, unknown_of, answers_surely, asked_part, is_unanswered, leaves_unanswered, says_more, is_alike_in, is_later}
 use Rattle.audit_flows.specs.declared.lines.endpoint.Endpoint.{Endpoint}
 use Rattle.audit_flows.specs.declared.lines.place.Place.TheVariants.{Repeats}
 use Rattle.audit_flows.specs.declared.lines.place.Transfer.{Transfer}
@@ -71,6 +71,7 @@ pub record IsNoted (old new : Line) (o : Endpoint) (talked : Option Transfer) (d
       ≡ cond (is_eq (endpoint_cmp o q)) (spoken_after (seen_of d) (spoken_of (get endpoint_cmp old.talks o))) (spoken_of (get endpoint_cmp old.talks q))
   pub went_on : new.went_on ≡ went_on_after talked (seen_of d) old.went_on
   pub surely : new.is_answered ≡ surely_after old.latest.number talked (seen_of d) old.is_answered
+  pub left : new.left_unanswered ≡ old.left_unanswered
   pub newest : AreTimed old.newest new.newest talked d.time
 
 says_after : (c : Endpoint) (talked : Option Transfer) (d : Recorded) (now : ℕ) (before : Bool) → (says_more (talk_placed c d now talked) || before) ≡ went_on_after talked (seen_of d) before
@@ -214,5 +215,6 @@ note_stands old new o talked d now line noted between stands =
           ∙ ap (λ b. list_any (answers_surely old.latest.number) (if b then [] else p ∷ reach line)) shut
           ∙ answers_after old.latest.client old.latest.number talked d now (list_any (answers_surely old.latest.number) (reach line))
           ∙ ap (surely_after old.latest.number talked (seen_of d)) stands.surely ∙ sym noted.surely;
+      left = ap (λ b. (b && is_unanswered line (latest_in line)) || leaves_unanswered line) shut ∙ stands.left ∙ sym noted.left;
       newest = λ n at. times_after old.newest new.newest old.latest.client talked d now n at line noted.newest (stands.newest n at);
     }

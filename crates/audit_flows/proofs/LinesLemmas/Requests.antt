@@ -67,6 +67,7 @@ repeated_stands old new times line d number x time now stands from is after time
       spoken = stands.spoken;
       went_on = stands.went_on;
       surely = stands.surely;
+      left = stands.left;
       newest = λ n at. (λ i. (((sym known.1 i).number == n) && nat_lt at (passed i)) || stands.newest n at i) ∙ sym (timed n at);
     })
 

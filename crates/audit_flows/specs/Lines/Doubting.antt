@@ -9,7 +9,7 @@ use Rattle.audit_flows.specs.declared.lines.place.Place.TheVariants.{Opens, Repe
 use Rattle.audit_flows.specs.declared.lines.place.Transfer.{Transfer}
 use Rattle.audit_flows.specs.declared.lines.doubts.Doubts.{Doubts}
 use Rattle.audit_flows.specs.Lines.Recording.{Recorded, same_endpoint, is_between, other_of, begins_error, begins_oack, begins_packet, begins_unknown_id, is_ack, is_ack_0, is_block, is_data_1, number_of, passes_in, asks_alike, refuses, same_address}
-use Rattle.audit_flows.specs.Lines.Places.{Placed, is_request, is_of, newest_of, live, line, silence, transfer_of, latest_in, reach, talk_in, answered_in, may_answer}
+use Rattle.audit_flows.specs.Lines.Places.{Placed, is_request, opens, is_of, newest_of, live, line, silence, transfer_of, latest_in, reach, talk_in, answered_in, may_answer}
 
 -- the client's line as the datagram came
 abbrev pub line_before : Endpoint → Placed → List Placed → List Placed
@@ -171,11 +171,16 @@ abbrev pub is_unanswered : List Placed → Option Transfer → Bool
 is_unanswered line None = false
 is_unanswered line (Some latest) = not (is_some (answered_in latest line)) || not (list_any (answers_surely latest.number) (reach line))
 
--- its client had asked for another before, which nobody had answered for sure: what comes may be the late answer to that
+-- the client of the line asked for another once, before anybody had answered for sure what it had asked last
+abbrev pub leaves_unanswered : List Placed → Bool
+leaves_unanswered [] = false
+leaves_unanswered (q ∷ line) = (opens q && is_unanswered line (latest_in line)) || leaves_unanswered line
+
+-- Its client had left a request by then, which nobody had answered for sure: what comes may be the late answer to that.
 abbrev pub follows_unanswered : Placed → List Placed → Bool
 follows_unanswered p older = by p.place where
   by : Place → Bool
-  by (Opens x) = is_unanswered (line_before x.client p older) (latest_in (line_before x.client p older))
+  by (Opens x) = leaves_unanswered (p ∷ line_before x.client p older)
   by _ = false
 
 -- ---- and in another

@@ -17,7 +17,7 @@ use Rattle.audit_flows.specs.declared.lines.history.History.{History}
 use Rattle.audit_flows.specs.declared.lines.history.Progress.{Progress}
 use Rattle.audit_flows.specs.Lines.Recording.{Recorded, same_endpoint, endpoint_cmp, asked_part, begins_request, begins_error, begins_oack, begins_packet, begins_unknown_id, refuses, same_address, is_ack, is_ack_0, is_block, is_data_1, is_answer, number_of, passes_in}
 use Rattle.audit_flows.specs.Lines.Places.{Placed, is_request, newest_of, clock, live, line, reach, latest_in, answered_in, opened_by, talk_in, place_asked}
-use Rattle.audit_flows.specs.Lines.Doubting.{acked_0_in, answers_surely, before_talk, is_talk, is_unknown_talk, is_word, may_follow, says_more, is_alike_in, is_later}
+use Rattle.audit_flows.specs.Lines.Doubting.{acked_0_in, answers_surely, before_talk, is_talk, is_unknown_talk, is_word, leaves_unanswered, may_follow, says_more, is_alike_in, is_later}
 
 -- what is looked at of a payload
 abbrev pub kind_of : List ℕ → Kind
@@ -153,6 +153,7 @@ pub record IsLineOf (l : Line) (line : List Placed) : Type 0 where
   pub spoken : (o : Endpoint) → list_any (is_word l.latest.client o) line ≡ spoken_of (get endpoint_cmp l.talks o)
   pub went_on : list_any says_more (reach line) ≡ l.went_on
   pub surely : list_any (answers_surely l.latest.number) (reach line) ≡ l.is_answered
+  pub left : leaves_unanswered line ≡ l.left_unanswered
   pub newest : (n time : ℕ) → list_any (is_later n time) line ≡ is_past time (get nat_cmp l.newest n)
 
 -- ---- one datagram more, which is no request

@@ -62,10 +62,11 @@ is_doubtful n placed p older = is_doubtful_in_whole n placed p older || some_of 
 abbrev pub is_doubtful_at_client : ℕ → List Placed → Placed → List Placed → Bool
 is_doubtful_at_client n placed p older = is_doubtful n placed p older || (not (is_sent_by_client p) && comes_of_earlier n p older)
 
--- At its server, by what its client sent, too where nothing had passed between the two.
+-- At its server, whoever sent it, since a request may come late there; and where its client sent it and nothing had passed between
+-- the two.
 abbrev pub is_doubtful_at_server : ℕ → List Placed → Placed → List Placed → Bool
 is_doubtful_at_server n placed p older =
-    is_doubtful n placed p older || speaks_first p older || (is_sent_by_client p && comes_of_earlier n p older)
+    is_doubtful n placed p older || speaks_first p older || comes_of_earlier n p older
 
 -- Between its ends, where a request may not have passed too.
 abbrev pub is_doubtful_between : ℕ → List Placed → Placed → List Placed → Bool

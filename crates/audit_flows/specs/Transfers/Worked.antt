@@ -193,6 +193,14 @@ acked_late =
     ∷ passes 5 next_server client (data_of 1)
     ∷ asks_behind server (data_of 1)
 
+-- It goes on with the second file instead, once this came from where the first was asked, and asks for a third.
+abbrev pub asks_on : List ℕ → List Recorded
+asks_on payload =
+    requests 7 client service (codes "h")
+    ∷ passes 6 client next_server (ack_of 1)
+    ∷ passes 5 next_server client (data_of 1)
+    ∷ asks_behind server payload
+
 -- Nothing came to the client, which sends an ACK all the same.
 abbrev pub acked_unheard : List Recorded
 acked_unheard =

@@ -50,7 +50,7 @@ pub struct Doubts {
     /// It opens the transfer where, in the last 300 s, something passed at its client's endpoint that is of no line, though it
     /// begins as a packet of TFTP does or went to port 69.
     pub follows_strays: bool,
-    /// It opens the transfer, and nobody had answered for sure what its client had asked for before: the client had not gone on,
+    /// It opens the transfer, and its client had left a request before that nobody had answered for sure: the client had not gone on,
     /// and the host that it asked had not refused it.
     pub follows_unanswered: bool,
 }
@@ -136,7 +136,7 @@ impl Line {
     {
         Doubts {
             is_asked_again: self.is_asked_again(seen.target, payload),
-            follows_unanswered: self.answered.is_none() || !self.is_answered,
+            follows_unanswered: self.leaves_unanswered(),
             ..Doubts::of_first(seen.time < now, is_after_strays)
         }
     }

@@ -3,9 +3,9 @@
 ghost use Rattle.std.specs.Prelude.{◌≡◌, ◌≤◌, ◌+◌, [], ◌∷◌, ℕ, List, true, false, nat_le, Some, None, Ok, IfOk, OnOk, OnErr, is_some, option_map, bytes_eq, ◌&&◌, ◌||◌, not, if◌then◌else◌};
 ghost use Rattle.std.specs.BTreeMap.{get, IsUnchanged};
 ghost use Rattle.audit_flows.specs.Lines.Recording.{Recorded, same_endpoint, is_between, endpoint_cmp};
-ghost use Rattle.audit_flows.specs.Lines.Places.{Placed, live, place_at, place_talked, place_asked, is_known_host, may_answer, silence};
+ghost use Rattle.audit_flows.specs.Lines.Places.{Placed, latest_in, live, place_at, place_talked, place_asked, is_known_host, may_answer, silence};
 ghost use Rattle.audit_flows.specs.Lines.Kept.{IsLineOf, IsRequestOf, IsHistoryAfter, history_of, seen_of, spoken_after, spoken_of, place_of_talk, comes_to, refuses_to, surely_after, unknown_after, unknown_of, talk_after, ends_after, went_on_after, writes_in, IsTimed, AreTimed};
-ghost use Rattle.audit_flows.specs.Lines.Doubting.{acked_0_in};
+ghost use Rattle.audit_flows.specs.Lines.Doubting.{acked_0_in, is_unanswered, leaves_unanswered};
 ghost use Rattle.law_model.specs.Rules.{or_this};
 ghost use Rattle.audit_flows.specs.declared.lines.place.Place.{Place};
 ghost use Rattle.audit_flows.specs.declared.lines.place.Transfer.{Transfer};
@@ -66,6 +66,8 @@ pub struct Line {
     pub went_on: bool,
     /// The latest transfer is answered for sure: its client went on, or the host that it asked refused it.
     pub is_answered: bool,
+    /// Its client asked for another once, before anybody had answered for sure what it had asked last.
+    pub left_unanswered: bool,
     /// The greatest time of each transfer's datagrams, by its number.
     pub newest: BTreeMap<u64, u64>,
     /// With whom the client talks.
@@ -205,6 +207,7 @@ impl Line {
             ends_in_request: true,
             went_on: false,
             is_answered: false,
+            left_unanswered: false,
             newest,
             talks: BTreeMap::new(alloc),
         })
@@ -225,6 +228,7 @@ impl Line {
         ensures latest { OnOk result (self.new.latest ≡ transfer) }
         ensures err { OnErr result ((self.new ≡ record self.old { newest = self.new.newest }) × IsUnchanged self.old.newest self.new.newest) }
     {
+        let left_unanswered = self.leaves_unanswered();
         let request = Vec::from_slice(alloc, payload)?;
         note_time(&mut self.newest, transfer.number, time)?;
         self.latest = transfer;
@@ -234,7 +238,15 @@ impl Line {
         self.ends_in_request = true;
         self.went_on = false;
         self.is_answered = false;
+        self.left_unanswered = left_unanswered;
         Ok(())
+    }
+
+    /// Whether its client leaves a request that nobody has answered for sure, if it asks for another now.
+    pub(crate) fn leaves_unanswered(&self) -> bool
+        ensures { (line : List Placed) → IsLineOf self.now line → result ≡ (is_unanswered line (latest_in line) || leaves_unanswered line) }
+    {
+        self.answered.is_none() || !self.is_answered || self.left_unanswered
     }
 
     /// Notes a request that repeats the one before it.

@@ -15,6 +15,7 @@ ghost use Rattle.audit_flows.specs.Transfers.Worked.{
   asked_twice,
   asked_after_answer,
   asks_behind,
+  asks_on,
   acked_late,
   acked_unheard,
   one_port,
@@ -121,14 +122,15 @@ pub fn doubts_are_where_transfers_meet()
 {}
 
 /// Where one port serves twice, what it sends may be late from the first transfer as far as that had come, and one block
-/// more: a block of the second that is further on is not. It is a doubt at the end that it came to, and between the two.
-pub fn what_may_be_late_is_a_doubt_at_its_target()
+/// more: a block of the second that is further on is not. At the client that is a doubt of what came to it; at the server, where a
+/// request may come late, and between the two of all.
+pub fn what_may_be_late_is_doubtful()
     ensures earlier { earlier_words (placed [] one_port_on)
         ≡ false ∷ false ∷ false ∷ true ∷ true ∷ true ∷ false ∷ false ∷ false ∷ false ∷ [] }
     ensures at_client { doubtful_in is_doubtful_at_client 3 one_port_on
         ≡ false ∷ false ∷ false ∷ true ∷ false ∷ true ∷ false ∷ false ∷ false ∷ false ∷ [] }
     ensures at_server { doubtful_in is_doubtful_at_server 3 one_port_on
-        ≡ false ∷ false ∷ false ∷ false ∷ true ∷ false ∷ false ∷ false ∷ false ∷ false ∷ [] }
+        ≡ false ∷ false ∷ false ∷ true ∷ true ∷ true ∷ false ∷ false ∷ false ∷ false ∷ [] }
     ensures between { doubtful_in is_doubtful_between 3 one_port_on
         ≡ false ∷ false ∷ false ∷ true ∷ true ∷ true ∷ false ∷ false ∷ false ∷ false ∷ [] }
     ensures either_side { earlier_words (placed [] strayed_write)
@@ -191,7 +193,8 @@ pub fn doubts_are_where_answers_may_be_late()
 {}
 
 /// A request is answered for sure once something comes and its client goes on in that transfer, or the host that it asked refuses
-/// it: not by what comes alone, nor by a stranger's ERROR, nor by ERROR 0 or ERROR 5.
+/// it: not by what comes alone, nor by a stranger's ERROR, nor by ERROR 0 or ERROR 5. Each request behind one that was left is
+/// doubtful.
 pub fn what_follows_no_sure_answer_is_doubtful()
     ensures block { follows_unanswered_in 2 (asks_behind server (data_of 1)) ≡ true }
     ensures refused { follows_unanswered_in 2 (asks_behind server (error_of 1)) ≡ false }
@@ -201,6 +204,8 @@ pub fn what_follows_no_sure_answer_is_doubtful()
     ensures error_5 { follows_unanswered_in 2 (asks_behind server (error_of 5)) ≡ true }
     ensures gone_on_before { follows_unanswered_in 5 acked_late ≡ true }
     ensures unheard { follows_unanswered_in 2 acked_unheard ≡ true }
+    ensures left_once { follows_unanswered_in 5 (asks_on (data_of 1)) ≡ true }
+    ensures left_nothing { follows_unanswered_in 5 (asks_on (error_of 1)) ≡ false }
 {}
 
 /// The server sees what its client sends to the port that it had asked.

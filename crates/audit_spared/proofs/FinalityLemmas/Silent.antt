@@ -184,7 +184,7 @@ module _ (n : ℕ) (named : List ℕ) (recorded more : List Recorded) (apart : A
     some = apart.some;
     answered = apart.answered;
     at_client = λ p older. ap (λ b. b || (not (is_sent_by_client p) && comes_of_earlier n p older)) (same_doubtful p older);
-    at_server = λ p older. ap (λ b. b || speaks_first p older || (is_sent_by_client p && comes_of_earlier n p older)) (same_doubtful p older);
+    at_server = λ p older. ap (λ b. b || speaks_first p older || comes_of_earlier n p older) (same_doubtful p older);
     between = λ p older. ap (λ b. b || comes_of_earlier n p older || follows_unknown_id p older) (same_doubtful p older);
   }
 
@@ -208,3 +208,12 @@ silent_is_final named recorded more n x is silent = by (newest_of (opened_it n) 
   by (Some p) found =
       let of : transfer_of p.place ≡ Some x = rw found at is in
       final_from n named recorded more (apart_from_then named recorded more n p x found of silent)
+
+-- a transfer that was opened has its number
+pub opened_has_number : (n : ℕ) (ps : List Placed) (x : Transfer) → opened n ps ≡ Some x → x.number ≡ n
+opened_has_number n ps x is = by (newest_of (opened_it n) ps) refl where
+  by : (found : Option Placed) → newest_of (opened_it n) ps ≡ found → x.number ≡ n
+  by None none = let both : None ≡ Some x = rw none at is in absurd (cc)
+  by (Some p) found =
+      let of : transfer_of p.place ≡ Some x = rw found at is in
+      opened_number n p.datagram p.moment p.place x (passes (opened_it n) ps p found) of

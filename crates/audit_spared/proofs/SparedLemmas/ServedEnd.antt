@@ -418,7 +418,7 @@ module _ (Late : Type 0) (write : Address → List ℕ) (write_one : (a b : Addr
 
 -- each of the four is a doubt at a server
 pub doubtful_there : (n : ℕ) (placed : List Placed) (p : Placed) (older : List Placed) → (needs_doubt n placed p older || is_beside p) ≡ true → is_doubtful_at_server n placed p older ≡ true
-doubtful_there n placed p older is = or_left (is_doubtful n placed p older || speaks_first p older) (is_sent_by_client p && comes_of_earlier n p older)
+doubtful_there n placed p older is = or_left (is_doubtful n placed p older || speaks_first p older) (comes_of_earlier n p older)
     (or_left (is_doubtful n placed p older) (speaks_first p older) (elim (or_cases (needs_doubt n placed p older) (is_beside p) is) [
       | inl doubt ↦ doubtful_is n placed p older doubt
       | inr beside ↦

@@ -207,10 +207,11 @@ pub fn requests_must_not_come_late()
     ensures shared { is_shared (newest ack_again asked_late) (placed [] asked_late) ≡ true }
 {}
 
-/// The program's own doubts are not enough there: a request to write comes late, and the server's ACK of the block before is refused
-/// in the transfer that this opens, without a doubt.
-pub fn late_requests_are_no_doubt_of_the_program()
+/// A request to write comes late, and the server's ACK of the block before is refused in the transfer that this opens: it is
+/// doubtful there, since it may be of the transfer before.
+pub fn late_requests_are_doubtful()
     ensures meets { AreServed (IsServedCapture own_name) own_name service.address one_client (block_acked_again ∷ written_late) }
-    ensures accused { IsAccusedAtServer own_name is_doubtful_at_server block_acked_again written_late }
+    ensures refused { IsAccusedAtServer own_name is_doubtful block_acked_again written_late }
     ensures shared { is_shared (newest block_acked_again written_late) (placed [] written_late) ≡ true }
+    ensures doubted { is_doubtful_at_server 4 (placed [] (block_acked_again ∷ written_late)) (newest block_acked_again written_late) (placed [] written_late) ≡ true }
 {}

@@ -44,5 +44,6 @@ returns-clause-stands c line d stands seen between =
           (c.talked_after-all.ensures.spoken ∙ (λ i. spoken_after (seen i) (spoken_of (before i))));
       went_on = c.went_on_after-self.ensures ∙ ap (λ s. went_on_after c.args.talked s c.args.self.now.went_on) seen;
       surely = c.surely_after-self.ensures ∙ ap (λ s. surely_after c.args.self.now.latest.number c.args.talked s c.args.self.now.is_answered) seen;
+      left = refl;
       newest = subst (λ s. AreTimed c.args.self.now.newest c.note_talk.new.newest c.args.talked s.time) seen c.in_ok-note_talk.ensures;
     }) between stands

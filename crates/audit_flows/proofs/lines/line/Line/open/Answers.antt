@@ -24,5 +24,6 @@ returns-clause-stands c line d stands is same = record {
   spoken = λ o. subst (λ e. list_any (is_word e o) line ≡ spoken_of (get endpoint_cmp c.args.self.now.talks o)) (sym same) (stands.spoken o);
   went_on = search rules;
   surely = search rules;
+  left = sym (c.leaves_unanswered-left_unanswered.ensures line stands);
   newest = search rules;
 }

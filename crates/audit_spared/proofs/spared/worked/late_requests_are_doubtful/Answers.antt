@@ -7,7 +7,7 @@ use Rattle.audit_spared.specs.Spared.{IsServedCapture, FollowOneAnother}
 use Rattle.audit_spared.specs.Spared.Worked.{block_acked_again, one_client, own_name, written_late}
 use Rattle.audit_spared.proofs.SparedLemmas.WorkedPremises.{at_one, follow_one, late_by, here_by, order_by, others_by, own_names}
 use Rattle.audit_spared.proofs.SparedLemmas.WorkedWrites.{acked_again_refused, all_lawful}
-use Rattle.audit_spared.proofs.spared.worked.late_requests_are_no_doubt_of_the_program.Goals as goal
+use Rattle.audit_spared.proofs.spared.worked.late_requests_are_doubtful.Goals as goal
 
 pub returns-clause-meets : goal.returns-clause-meets
 returns-clause-meets x = record {
@@ -19,8 +19,8 @@ returns-clause-meets x = record {
   order = order_by (block_acked_again ∷ written_late) refl;
 }
 
-pub returns-clause-accused : goal.returns-clause-accused
-returns-clause-accused x = record {
+pub returns-clause-refused : goal.returns-clause-refused
+returns-clause-refused x = record {
   transfer = record { number = 4; client = client; asked = service; writes = true; has_window = false };
   at = refl;
   rule = Rule.Block EndRule.AckAhead;
