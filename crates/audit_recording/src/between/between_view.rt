@@ -4,7 +4,7 @@ ghost use Rattle.std.specs.Prelude.{◌≡◌, ◌+◌, ◌^◌, ◌<◌, ◌≤
 ghost use Rattle.std.specs.VecDeque.{deque_len};
 ghost use Rattle.audit_recording.specs.Between.Captured.{between_capture, is_to_itself, sides_of};
 ghost use Rattle.audit_recording.specs.Between.Judged.{IsBetweenVerdict};
-ghost use Rattle.audit_recording.specs.Between.Kept.{AreHeld, HasPassed, IsBetweenAfter, IsJudgedIfApart, counted_by, given_to, has_refused};
+ghost use Rattle.audit_recording.specs.Between.Kept.{AreHeld, HasPassed, IsBetweenAfter, IsJudgedIfApart, WantsBetween, counted_by, given_to, has_refused};
 ghost use Rattle.audit_views.specs.Parties.{host_name};
 ghost use Rattle.law_tap.specs.{AreApart, TapDatagram as Passing};
 ghost use Rattle.judge_tap.specs.{TapDatagram as Owned, TapRefusal as RefusalKind};
@@ -72,7 +72,8 @@ impl<D: Delivered + Drop> BetweenView<D> {
     }
 
     /// Takes the next datagram of the recording, of this transfer or of another, which belongs there. Where there is no
-    /// memory for it, it was not taken. A refusal is kept, and after it no datagram takes memory.
+    /// memory for it, it was not taken: it was to be held, or was for a judge that had refused none. A refusal is kept, and
+    /// after it no datagram takes memory.
     pub fn feed(&mut self, alloc: Global, fed: &Fed<'_>) -> Result<(), AllocError>
         requires few { given_to self.old < 2 ^ 40 }
         requires short { length fed.now.payload.now ≤ 65527 }
@@ -81,6 +82,8 @@ impl<D: Delivered + Drop> BetweenView<D> {
         ensures others { (p : Placed) → fed.now.place.now ≡ p.place → is_of self.old.transfer.number p ≡ false
             → (result ≡ Ok tt) × (self.new ≡ self.old) }
         ensures same { OnErr result (self.new ≡ self.old) }
+        ensures memory { (p : Placed) (older : List Placed) → IsBetweenAfter self.old older → fed.now.place.now ≡ p.place
+            → OnErr result (WantsBetween self.old.transfer older p) }
         ensures counts { given_to self.new ≤ given_to self.old + 1 }
         ensures transfer { self.new.transfer ≡ self.old.transfer }
         ensures apart { IfSome self.new.judge IsJudgedIfApart }

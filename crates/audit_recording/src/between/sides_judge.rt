@@ -3,7 +3,7 @@
 ghost use Rattle.std.specs.Prelude.{◌≡◌, ◌+◌, ◌^◌, ◌<◌, ◌≤◌, ◌∷◌, ℕ, List, [], length, OnOk, OnErr, Ok, Err, None, Some, false};
 ghost use Rattle.audit_recording.specs.Between.Captured.{are_apart};
 ghost use Rattle.audit_recording.specs.Between.Judged.{HasTapped, IsBetweenVerdict};
-ghost use Rattle.audit_recording.specs.Between.Kept.{HasPassed, IsJudgedIfApart, counted_by, passed_as, refused_by};
+ghost use Rattle.audit_recording.specs.Between.Kept.{HasPassed, IsJudgedIfApart, IsJudging, counted_by, passed_as, refused_by};
 ghost use Rattle.law_tap.specs.{AreApart, TapDatagram as Passing, TapSides};
 ghost use Rattle.judge_tap.specs.{passing_of, TapRefusal as RefusalKind};
 ghost use Rattle.audit_views.specs.Views.{held_of};
@@ -63,13 +63,15 @@ impl<D: Delivered + Drop> SidesJudge<D> {
         }
     }
 
-    /// Gives it the next datagram, which is copied only where it goes to a judge that has refused none.
+    /// Gives it the next datagram, which is copied only where it goes to a judge that has refused none: there alone memory may
+    /// be wanting.
     pub fn put(&mut self, alloc: Global, fed: &Fed<'_>) -> Result<(), AllocError>
         requires few { counted_by self.old < 2 ^ 40 }
         requires short { length fed.now.payload.now ≤ 65527 }
         ensures passed { (given : List Passing) → HasPassed self.old given
             → OnOk result (HasPassed self.new (passed_as (held_of fed.now) ∷ given)) }
         ensures same { OnErr result (self.new ≡ self.old) }
+        ensures memory { OnErr result (IsJudging self.old) }
         ensures counts { counted_by self.new ≤ counted_by self.old + 1 }
         ensures sides { self.new.sides ≡ self.old.sides }
         ensures apart { IsJudgedIfApart self.new }
