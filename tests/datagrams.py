@@ -123,6 +123,17 @@ TWICE = (
 )
 
 
+# Fragments of 40 bytes by where each begins and ends, and whether they are put together in IPv6 too.
+OVERLAPS = {
+    "a fragment that begins in another": (False, ((0, 16), (8, 32), (32, 40))),
+    "a fragment that ends in another": (False, ((8, 32), (0, 16), (32, 40))),
+    "a fragment in another": (False, ((32, 40), (0, 32), (8, 16))),
+    "a fragment round another": (False, ((8, 16), (32, 40), (0, 32))),
+    "a fragment that comes again": (True, ((0, 16), (16, 32), (0, 16), (32, 40))),
+    "the last fragment comes again": (True, ((32, 40), (0, 16), (32, 40), (16, 32))),
+}
+
+
 def row(number: int, frame: Frame, it: Datagram) -> str:
     """The line of a datagram whose last part is this frame."""
     time = str(frame.time) if frame.is_timed else "-"
@@ -440,6 +451,26 @@ class Lists:
                 got = self.run(recorded.pcap(frames))
                 yield Check(f"fragments of IPv6 that name {kinds}", got == (rows, left, "", 0), (got, rows, left))
 
+    def try_overlaps(self) -> Iterator[Check]:
+        """Fragments that overlap with the same bytes: in IPv4 they are put together; in IPv6 none of them is, nor one that
+        comes later, and what comes again is let pass (RFC 8200, section 4.5). Of each tshark tells the overlap."""
+        for source, target in ("192.0.2.7", "192.0.2.1"), ("2001:db8::7", "2001:db8::1"):
+            it = Datagram(source, 40_000, target, 69, bytes(range(32)))
+            content = recorded.udp(it)
+            for name, (is_whole, cuts) in OVERLAPS.items():
+                parts = [(Fragment(7, start, end < len(content)), content[start:end]) for start, end in cuts]
+                made = recorded.ipv4 if it.version == 4 else recorded.ipv6
+                packets = [made(it, bytes_of, recorded.UDP, part) for part, bytes_of in parts]
+                frames = [Frame(recorded.RAW, packet, recorded.FIRST_TIME) for packet in packets]
+                file, is_told = recorded.pcap(frames), is_whole or it.version == 4
+                rows = [row(len(frames), frames[-1], it)] if is_told else []
+                left = [] if is_told else [(at, "FragmentsApart") for at in range(1, len(frames) + 1)]
+                got = self.run(file)
+                yield Check(f"{name}, IPv{it.version}", got == (rows, left, "", 0), (got, rows, left))
+                if self.tshark and not is_whole:
+                    told = fields_of(file, f"{'ip' if it.version == 4 else 'ipv6'}.fragment.overlap")
+                    yield Check(f"{name}, IPv{it.version}, as tshark has it", any(told), told)
+
     def compare(self, name: str, file: bytes, rows: list[str], gone: Collection[int] = ()) -> Iterator[Check]:
         """The program's list beside the fields of tshark, but for the frames of what was discarded."""
         with tempfile.NamedTemporaryFile(suffix=".pcap") as path:
@@ -455,6 +486,17 @@ class Lists:
         wanted = [told for told in (as_tshark(it) for it in kept) if told]
         got = [" ".join(words[:2] + words[4:]) for words in (line.split() for line in rows)]
         yield Check(f"{name}, as tshark has it", got == wanted, difference(got, wanted))
+
+
+def fields_of(file: bytes, field: str) -> list[str]:
+    """A field of tshark's of each frame, where fragments are put together."""
+    with tempfile.NamedTemporaryFile(suffix=".pcap") as path:
+        path.write(file)
+        path.flush()
+        words = ["tshark", "-n", "-r", path.name, "-o", "ip.defragment:TRUE", "-o", "ipv6.defragment:TRUE"]
+        words += ["-T", "fields", "-e", field]
+        done = subprocess.run(words, capture_output=True, text=True, check=False)
+    return done.stdout.splitlines()
 
 
 def as_tshark(it: dict[str, str]) -> str:
@@ -506,6 +548,7 @@ def tried(words: argparse.Namespace) -> Iterator[Check]:
     yield from listed_files(lists)
     yield from lists.try_copies()
     yield from lists.try_protocols()
+    yield from lists.try_overlaps()
     for seed in range(words.seed, words.seed + words.cases):
         chance = random.Random(seed)
         make = chance.choice((made_pcap, made_pcapng))

@@ -426,8 +426,8 @@ def udp_of(protocol: int, content: bytes) -> Udp:
 
 @dataclasses.dataclass
 class Waiting:
-    """The fragments of a packet that came: when the first did, their frames, their bytes by place, where it ends, and
-    what the one at place 0 names."""
+    """The fragments of a packet that came: when the first did, their frames, their bytes by place, where it ends, what
+    the one at place 0 names, and where each begins and ends and what it names."""
 
     began: Optional[int]
     frames: list[int] = dataclasses.field(default_factory=list)
@@ -436,6 +436,7 @@ class Waiting:
     end: Optional[int] = None
     protocol: Optional[int] = None
     is_spoiled: bool = False
+    extents: list[tuple[int, int, int]] = dataclasses.field(default_factory=list)
 
     def room(self) -> int:
         return 0 if self.is_spoiled else 2 * self.reach
@@ -443,9 +444,15 @@ class Waiting:
     def is_old(self, time: Optional[int]) -> bool:
         return self.began is not None and time is not None and abs(self.began - time) > PATIENCE
 
-    def take(self, part: Part, protocol: int, content: bytes) -> bool:
+    def overlaps(self, extent: tuple[int, int, int]) -> bool:
+        """Whether it overlaps with another one that it does not repeat (RFC 8200, section 4.5)."""
+        return any(it[0] < extent[1] and extent[0] < it[1] and it != extent for it in self.extents)
+
+    def take(self, version: int, part: Part, protocol: int, content: bytes) -> bool:
         """Whether it can be of one packet with the others."""
         end = part.place + len(content)
+        if version == IPV6 and self.overlaps((part.place, end, protocol)):
+            return False
         if part.place == 0 and self.protocol not in (None, protocol):
             return False
         if self.end is not None and (end > self.end or (end == self.end) == part.more):
@@ -455,6 +462,7 @@ class Waiting:
         if any(self.cells.get(part.place + k, byte) != byte for k, byte in enumerate(content)):
             return False
         self.cells.update((part.place + k, byte) for k, byte in enumerate(content))
+        self.extents.append((part.place, end, protocol))
         self.reach = max(self.reach, end)
         self.end = self.end if part.more else end
         self.protocol = self.protocol if part.place else protocol
@@ -522,7 +530,7 @@ class Reader:
         if part.place + len(packet.content) + part.more > LONGEST_PACKET:
             raise Fault("FragmentTooLong")
         it = self.waiting.setdefault(key, Waiting(frame.time))
-        if it.is_spoiled or not it.take(part, packet.protocol, packet.content):
+        if it.is_spoiled or not it.take(packet.version, part, packet.protocol, packet.content):
             self.leave(it.frames + [at], "FragmentsApart")
             it.frames, it.is_spoiled = [], True
             return

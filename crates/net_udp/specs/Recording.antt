@@ -10,7 +10,7 @@ pub mod Contents
 pub mod OneWay
 pub mod Worked
 pub use Rattle.net_udp.specs.Recording.Alike.{Comes, IsLike, WantsToHold, interface_of, is_copy, likeness_by, recorded}
-pub use Rattle.net_udp.specs.Recording.Brought.{BroughtState, DoesNothing, IsNoPart, IsPart, LetsGoOld, MakesRoom, Takes, TakesPart, Wants, WantsPart, arrival_of, key_of, key_protocol, nothing_brought}
+pub use Rattle.net_udp.specs.Recording.Brought.{BroughtState, DoesNothing, IsNoPart, IsPart, LetsGoOld, MakesRoom, Takes, TakesPart, Wants, WantsPart, arrival_of, key_of, key_protocol, may_overlap, nothing_brought}
 pub use Rattle.net_udp.specs.Recording.Fates.{HasFault, IsDatagram, IsFate, IsFateBy, IsFateOf, Says, content_of, direction_of, sharers}
 pub use Rattle.net_udp.specs.Recording.Checked.{HasDatagram, IsChecksum, IsSent, IsSentBy, IsSentOf, checksum_told}
 pub use Rattle.net_udp.specs.Recording.Discards.{HasSent, IsDiscarded}

@@ -1,6 +1,7 @@
 //! Fragments of IP packets, put together in whatever order they come.
 
 mod content;
+mod extent;
 mod fragments;
 mod key;
 mod laws;

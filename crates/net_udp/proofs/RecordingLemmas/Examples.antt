@@ -3,7 +3,7 @@ use Rattle.std.proofs.Common.{◌≡◌, ℕ, zero, suc, ◌+◌, Bool, true, fa
 use Rattle.std.proofs.lemmas.List.{get_or-append-add, get_or-map, get_or_append_left, get_or_past, length-map}
 use Rattle.std.proofs.lemmas.Bool.{cases_Bool}
 use Rattle.net_udp.specs.Copies.{Packet as Recorded, IsCopy}
-use Rattle.net_udp.specs.Fragments.{Agrees, AreLaid, Held, IsHeld, content_of as put_together, nothing_held, same_key, Arrival, IsSetOf, SetState, parts_of, IsKeptOf, PutEnds, Sets, is_long, room_under, set_at, Give}
+use Rattle.net_udp.specs.Fragments.{Agrees, AreLaid, Held, IsHeld, content_of as put_together, nothing_held, same_key, Arrival, IsSetOf, SetState, parts_of, IsKeptOf, PutEnds, Sets, is_long, room_under, set_at, Give, PutTogether}
 use Rattle.net_udp.specs.declared.fragments.outcome.Outcome.{Outcome}
 use Rattle.net_udp.specs.declared.fragments.outcome.Outcome.TheVariants.{Waits}
 use Rattle.net_udp.specs.Fragments.Whole.{Content, Part}
@@ -167,7 +167,7 @@ laid old bytes =
     }
 
 abbrev part_in : Packet → ℕ → Bool → Part
-part_in p place more = record { protocol = p.protocol; place = place; more = more; content = p.content }
+part_in p place more = record { protocol = p.protocol; place = place; more = more; content = p.content; may_overlap = true }
 
 abbrev all_held : Held
 all_held = record { cells = first_set.held.cells ++ map (λ b. Some b) last_part.content; ended = true; protocol = Some 17 }
@@ -238,6 +238,8 @@ first_set_is : IsSetOf first_set (first_arrival ∷ [])
 first_set_is = record {
   held = λ e. stands_more nothing_held (part_in first_part 0 true) first_set.held (nothing_agrees (part_in first_part 0 true) (omega arith)) first_added [] ((empty_set worked_time).held refl);
   frames = λ e. refl;
+  extents = λ e x. (λ one. one, λ one. one);
+  distinct = λ e two. elim two [ inl one ↦ one.1 | inr none ↦ none ];
   apart = λ e. absurd (not_both false e refl);
   nothing = λ e. absurd (not_both false e refl);
 }
@@ -284,9 +286,11 @@ first_history = (
 
 -- ---- the last gives the content
 
-last_gives : (content : Content) → content ≡ worked_content → (arrivals : List Arrival) → IsKeptOf (Some first_set) arrivals → Give (parts_of (last_arrival ∷ arrivals)) content
-last_gives content e arrivals kept =
-    whole_given all_held (parts_of (last_arrival ∷ arrivals)) content (stands_more first_set.held (part_in last_part 8 false) all_held last_agrees last_added (parts_of arrivals) (kept.2.held refl)) refl (subst (IsHeld all_held) (sym e) (refl, refl))
+last_gives : (content : Content) → content ≡ worked_content → (arrivals : List Arrival) → IsKeptOf (Some first_set) arrivals → PutTogether (parts_of (last_arrival ∷ arrivals)) content
+last_gives content e arrivals kept = (
+  whole_given all_held (parts_of (last_arrival ∷ arrivals)) content (stands_more first_set.held (part_in last_part 8 false) all_held last_agrees last_added (parts_of arrivals) (kept.2.held refl)) refl (subst (IsHeld all_held) (sym e) (refl, refl)),
+  λ two. elim two [ inl one ↦ not_both true refl one.0 | inr before ↦ kept.2.distinct refl before ],
+)
 
 not_full_whole : (content : Made) (frames : Vec ℕ Global) → Whole content frames ≡ Outcome.Full → ⊥
 not_full_whole content frames e = cc

@@ -51,7 +51,7 @@ worked_key = record { source = host 7; target = host 1; protocol = Some 17; id =
 
 -- what waits after the first fragment
 abbrev pub first_set : SetState
-first_set = record { held = record { cells = map (λ b. Some b) first_part.content; ended = false; protocol = Some 17 }; frames = 1 ∷ []; began = worked_time; spoiled = false }
+first_set = record { held = record { cells = map (λ b. Some b) first_part.content; ended = false; protocol = Some 17 }; frames = 1 ∷ []; extents = record { place = 0; end = 8; protocol = 17 } ∷ []; began = worked_time; spoiled = false }
 
 abbrev pub recorded_first : Recorded
 recorded_first = record { interface = first_of 0; time = worked_time; bytes = first_bytes }

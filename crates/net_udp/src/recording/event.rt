@@ -160,7 +160,7 @@ impl Event {
     }
 
     /// The frames that waited until now and share its fate: those of the parts of a packet that it made whole, its own the
-    /// last, or those of the fragments that it cannot be of one packet with.
+    /// last, or those of the fragments of which and it no packet is put together.
     #[inline]
     pub fn sharers(&self) -> &[u64]
         ensures { result.now ≡ sharers self.now.brought.outcome }

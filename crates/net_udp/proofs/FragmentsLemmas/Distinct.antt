@@ -1,0 +1,42 @@
+-- The parts that a content was cut into do not overlap, in whatever order they come and however often.
+use Rattle.std.proofs.Common.{◌≡◌, ◌⊎◌, ℕ, ◌+◌, ◌≤◌, inl, inr, List, [], ◌∷◌, length, refl, sym, ap, ◌∙◌, subst, arith}
+use Rattle.net_udp.specs.Fragments.Whole.{Part}
+use Rattle.net_udp.specs.Fragments.{Among, InRow, Overlap, TwoOverlap, end_of, extent_of}
+use Rattle.net_udp.proofs.FragmentsLemmas.Members.{member}
+
+-- no part of a row begins before it
+row_from : (place : ℕ) (parts : List Part) (bytes : List ℕ) (p : Part) → InRow place parts bytes → Among (λ q. q ≡ p) parts → place ≤ p.place
+row_from place [] bytes p r a = absurd r
+row_from place (q ∷ []) bytes p r (inl e) = omega (arith, r.0, ap (λ (x : Part). x.place) e)
+row_from place (q ∷ []) bytes p r (inr a) = absurd a
+row_from place (q ∷ s ∷ ps) bytes p r (inl e) = omega (arith, r.1, ap (λ (x : Part). x.place) e)
+row_from place (q ∷ s ∷ ps) bytes p r (inr a) = omega (arith, row_from (place + length q.content) (s ∷ ps) r.0 p r.6 a)
+
+-- the two are the same, or one ends before the other begins
+abbrev Stand : Part → Part → Type 0
+Stand p q = (p ≡ q) ⊎ ((end_of p ≤ q.place) ⊎ (end_of q ≤ p.place))
+
+ends_before : (place : ℕ) (x p q : Part) → x ≡ p → x.place ≡ place → place + length x.content ≤ q.place → end_of p ≤ q.place
+ends_before place x p q e at low = subst (λ (z : Part). end_of z ≤ q.place) e (omega (arith, low, at))
+
+row_stands : (place : ℕ) (parts : List Part) (bytes : List ℕ) (p q : Part) → InRow place parts bytes → Among (λ x. x ≡ p) parts → Among (λ x. x ≡ q) parts → Stand p q
+row_stands place [] bytes p q r a b = absurd r
+row_stands place (x ∷ []) bytes p q r (inl e) (inl f) = inl (sym e ∙ f)
+row_stands place (x ∷ []) bytes p q r (inl e) (inr b) = absurd b
+row_stands place (x ∷ []) bytes p q r (inr a) b = absurd a
+row_stands place (x ∷ y ∷ ps) bytes p q r (inl e) (inl f) = inl (sym e ∙ f)
+row_stands place (x ∷ y ∷ ps) bytes p q r (inl e) (inr b) = inr (inl (ends_before place x p q e r.1 (row_from (place + length x.content) (y ∷ ps) r.0 q r.6 b)))
+row_stands place (x ∷ y ∷ ps) bytes p q r (inr a) (inl f) = inr (inr (ends_before place x q p f r.1 (row_from (place + length x.content) (y ∷ ps) r.0 p r.6 a)))
+row_stands place (x ∷ y ∷ ps) bytes p q r (inr a) (inr b) = row_stands (place + length x.content) (y ∷ ps) r.0 p q r.6 a b
+
+no_overlap : (p q : Part) → Stand p q → Overlap (extent_of p) (extent_of q) → ⊥
+no_overlap p q (inl e) o = o.2 (ap extent_of e)
+no_overlap p q (inr (inl before)) o = absurd (omega (arith, before, o.1))
+no_overlap p q (inr (inr behind)) o = absurd (omega (arith, behind, o.0))
+
+pub row_distinct : (place : ℕ) (parts others : List Part) (bytes : List ℕ) → InRow place parts bytes → ((p : Part) → Among (λ q. q ≡ p) others → Among (λ q. q ≡ p) parts) → TwoOverlap others → ⊥
+row_distinct place parts [] bytes r back two = two
+row_distinct place parts (p ∷ ps) bytes r back (inl one) =
+    let m = member (λ q. Overlap (extent_of p) (extent_of q)) ps one.1 in
+    no_overlap p m.0 (row_stands place parts bytes p m.0 r (back p (inl refl)) (back m.0 (inr m.2))) m.1
+row_distinct place parts (p ∷ ps) bytes r back (inr two) = row_distinct place parts ps bytes r (λ q a. back q (inr a)) two
