@@ -123,11 +123,21 @@ TWICE = (
 )
 
 
+# Headers of IPv6 by their number and what follows their first byte, and whether what is behind them is read.
+AUTHENTICATION, MOBILITY = 51, 135
+HOME = bytes.fromhex("20010db8000000000000000000000009")
+HEADERS = {
+    "a routing header with no segment left": (True, recorded.ROUTING, bytes([2, 2, 0, 0, 0, 0, 0]) + HOME),
+    "a routing header with a segment left": (False, recorded.ROUTING, bytes([2, 2, 1, 0, 0, 0, 0]) + HOME),
+    "an authentication header": (False, AUTHENTICATION, bytes([4, 0, 0, 0, 0, 1, 0, 0, 0, 0, 1]) + bytes(12)),
+    "a mobility header": (False, MOBILITY, bytes([0, 0, 0, 0, 0, 0, 0])),
+}
+
 # Fragments of 40 bytes by where each begins and ends, and whether they are put together in IPv6 too.
 OVERLAPS = {
     "a fragment that begins in another": (False, ((0, 16), (8, 32), (32, 40))),
     "a fragment that ends in another": (False, ((8, 32), (0, 16), (32, 40))),
-    "a fragment in another": (False, ((32, 40), (0, 32), (8, 16))),
+    "a fragment in another": (False, ((0, 32), (8, 16), (32, 40))),
     "a fragment round another": (False, ((8, 16), (32, 40), (0, 32))),
     "a fragment that comes again": (True, ((0, 16), (16, 32), (0, 16), (32, 40))),
     "the last fragment comes again": (True, ((32, 40), (0, 16), (32, 40), (16, 32))),
@@ -471,6 +481,23 @@ class Lists:
                     told = fields_of(file, f"{'ip' if it.version == 4 else 'ipv6'}.fragment.overlap")
                     yield Check(f"{name}, IPv{it.version}, as tshark has it", any(told), told)
 
+    def try_headers(self) -> Iterator[Check]:
+        """Headers of IPv6 before a datagram. With segments left its target is not the host to which it goes, and tshark
+        names another one (RFC 8200, section 4.4); behind other headers nothing is read."""
+        it = Datagram("2001:db8::7", 40_000, "2001:db8::1", 69, b"\0\4\0\1")
+        for name, (is_read, kind, rest) in HEADERS.items():
+            body = bytes([recorded.UDP]) + rest + recorded.udp(it)
+            packet = recorded.ipv6(it, body, kind)
+            file = recorded.pcap([Frame(recorded.RAW, packet, recorded.FIRST_TIME)])
+            rows = [row(1, Frame(recorded.RAW, packet, recorded.FIRST_TIME), it)] if is_read else []
+            got = self.run(file)
+            yield Check(name, got == (rows, [] if is_read else [(1, "Extension")], "", 0), got)
+            if self.tshark:
+                told = fields_of(file, "udp.dstport"), fields_of(file, "ipv6.routing.segleft")
+                left = [str(rest[2])] if kind == recorded.ROUTING else [""]
+                behind = ["69"] if kind in (recorded.ROUTING, AUTHENTICATION) else [""]
+                yield Check(f"{name}, as tshark has it", told == (behind, left), told)
+
     def compare(self, name: str, file: bytes, rows: list[str], gone: Collection[int] = ()) -> Iterator[Check]:
         """The program's list beside the fields of tshark, but for the frames of what was discarded."""
         with tempfile.NamedTemporaryFile(suffix=".pcap") as path:
@@ -549,6 +576,7 @@ def tried(words: argparse.Namespace) -> Iterator[Check]:
     yield from lists.try_copies()
     yield from lists.try_protocols()
     yield from lists.try_overlaps()
+    yield from lists.try_headers()
     for seed in range(words.seed, words.seed + words.cases):
         chance = random.Random(seed)
         make = chance.choice((made_pcap, made_pcapng))

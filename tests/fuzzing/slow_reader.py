@@ -16,7 +16,9 @@ NEXT, NEAR = 16, 1_000_000
 ROOM, LONGEST_PACKET = 1 << 26, 65_535
 IPV4, IPV6 = 4, 6
 UDP = 17
-EXTENSIONS, FRAGMENT_HEADER = (0, 43, 60), 44
+EXTENSIONS, ROUTING, FRAGMENT_HEADER = (0, 43, 60), 43, 44
+# Authentication, mobility, host identity and shim6 are not read.
+UNREAD = (51, 135, 139, 140)
 TAGS = (0x8100, 0x88A8, 0x9100)
 TYPES = {0x0800: IPV4, 0x86DD: IPV6}
 FAMILIES = {2: IPV4, 24: IPV6, 28: IPV6, 30: IPV6}
@@ -360,7 +362,8 @@ def ipv6(way: str, it: bytes) -> Packet:
 
 
 def over_headers(kind: int, content: bytes) -> Optional[tuple[int, Optional[Part], bytes]]:
-    """What stands after all headers that are skipped; nothing where one runs beyond the bytes."""
+    """What stands after all headers that are skipped; nothing where one runs beyond the bytes or is not read, as a routing
+    header with segments left (RFC 8200, section 4.4)."""
     while kind in EXTENSIONS or kind == FRAGMENT_HEADER:
         if len(content) < 8:
             return None
@@ -368,10 +371,10 @@ def over_headers(kind: int, content: bytes) -> Optional[tuple[int, Optional[Part
             part = Part(number(content, 4, 4), number(content, 2) & 0xFFF8, bool(content[3] & 1))
             return content[0], part, content[8:]
         size = 8 if kind == FRAGMENT_HEADER else 8 * (content[1] + 1)
-        if len(content) < size:
+        if len(content) < size or (kind == ROUTING and content[3]):
             return None
         kind, content = content[0], content[size:]
-    return kind, None, content
+    return None if kind in UNREAD else (kind, None, content)
 
 
 class Udp(NamedTuple):

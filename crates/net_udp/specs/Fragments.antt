@@ -13,4 +13,4 @@ pub use Rattle.net_udp.specs.Fragments.Set.{AreApart, AreNone, Arrival, IsSetOf,
 pub use Rattle.net_udp.specs.Fragments.Whole.{Among, AreSame, Covers, EndsRightly, FirstNames, Give, HasPart, InRow, IsCutInto, end_of}
 pub use Rattle.net_udp.specs.Fragments.Overlaps.{OneOf, Overlap, OverlapsOne, PutTogether, TwoOverlap, extent_of}
 pub use Rattle.net_udp.specs.Fragments.Store.{Comes, CountsAt, HasRoom, IsCounted, IsFull, IsKeptOf, IsTried, JoinEnds, MayBePut, PutEnds, Sets, WantsMemory, began_of, frames_of, is_long, least_behind, most_room, room_of_all, room_under, set_at}
-pub use Rattle.net_udp.specs.Fragments.Worked.{first_of_udp, last_of_icmp, worked_content}
+pub use Rattle.net_udp.specs.Fragments.Worked.{across_of_udp, first_of_udp, in_ipv4, last_of_icmp, worked_content}

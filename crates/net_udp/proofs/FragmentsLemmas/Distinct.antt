@@ -1,7 +1,9 @@
 -- The parts that a content was cut into do not overlap, in whatever order they come and however often.
-use Rattle.std.proofs.Common.{◌≡◌, ◌⊎◌, ℕ, ◌+◌, ◌≤◌, inl, inr, List, [], ◌∷◌, length, refl, sym, ap, ◌∙◌, subst, arith}
-use Rattle.net_udp.specs.Fragments.Whole.{Part}
-use Rattle.net_udp.specs.Fragments.{Among, InRow, Overlap, TwoOverlap, end_of, extent_of}
+use Rattle.std.proofs.Common.{◌≡◌, ◌≢◌, ◌⊎◌, ℕ, ◌+◌, ◌≤◌, inl, inr, List, [], ◌∷◌, length, refl, sym, ap, ◌∙◌, subst, arith}
+use Rattle.std.proofs.lemmas.Bool.{cases_lt}
+use Rattle.net_udp.specs.Fragments.Whole.{Content, Part}
+use Rattle.net_udp.specs.Fragments.{Among, AreSame, Covers, InRow, IsCutInto, Overlap, PutTogether, TwoOverlap, end_of, extent_of}
+use Rattle.net_udp.proofs.FragmentsLemmas.Contents.{in_any_order}
 use Rattle.net_udp.proofs.FragmentsLemmas.Members.{member}
 
 -- no part of a row begins before it
@@ -40,3 +42,17 @@ row_distinct place parts (p ∷ ps) bytes r back (inl one) =
     let m = member (λ q. Overlap (extent_of p) (extent_of q)) ps one.1 in
     no_overlap p m.0 (row_stands place parts bytes p m.0 r (back p (inl refl)) (back m.0 (inr m.2))) m.1
 row_distinct place parts (p ∷ ps) bytes r back (inr two) = row_distinct place parts ps bytes r (λ q a. back q (inr a)) two
+
+pub made_in_any_order : (parts others : List Part) (whole : Content) → IsCutInto whole parts → AreSame parts others → PutTogether others whole
+made_in_any_order parts others whole row same = (in_any_order parts others whole row same, row_distinct 0 parts others whole.bytes row.0 same.back)
+
+-- ---- overlaps and the places of bytes
+
+pub meet_at : (p q : Part) → 1 ≤ length p.content → 1 ≤ length q.content → Overlap (extent_of p) (extent_of q) → (k : ℕ) × Covers k p × Covers k q
+meet_at p q some more o = elim (cases_lt p.place q.place) [
+  | inl low ↦ (q.place, (omega (arith, low), o.1), (omega arith, omega (arith, more)))
+  | inr high ↦ (p.place, (omega arith, omega (arith, some)), (high, o.0))
+]
+
+pub meets : (p q : Part) (k : ℕ) → Covers k p → Covers k q → extent_of p ≢ extent_of q → Overlap (extent_of p) (extent_of q)
+meets p q k c d other = (omega (arith, c, d), omega (arith, c, d), other)

@@ -1,16 +1,31 @@
 -- The headers of IPv6 that are skipped, one after another.
-use Rattle.std.proofs.Common.{◌≡◌, ◌≢◌, ◌↔◌, inl, inr, ℕ, zero, suc, ◌<◌, ◌≤◌, Bool, true, false, List, length, drop, refl, sym, ap, ◌∙◌, subst, arith, Some}
-use Rattle.std.proofs.lemmas.Bool.{false≢true}
-use Rattle.net_udp.specs.Frames.{at, Reached, is_extension, is_atomic, fragment_header, fragment_of, skipped_size, IsSkipped, Stops, StopsAfter, ReachesOver}
+use Rattle.std.proofs.Common.{◌≡◌, ◌≢◌, ◌↔◌, inl, inr, ℕ, zero, suc, ◌<◌, ◌≤◌, ◌==◌, ◌&&◌, ◌||◌, Bool, true, false, List, length, drop, refl, sym, ap, ◌∙◌, subst, arith, Some}
+use Rattle.std.proofs.lemmas.Bool.{false≢true, or_cases}
+use Rattle.std.proofs.lemmas.Bool.Decides.{Decides-eqb}
+use Rattle.net_udp.specs.Frames.{at, Reached, is_extension, is_atomic, fragment_header, fragment_of, is_skippable, skipped_size, IsSkipped, Stops, StopsAfter, ReachesOver}
 use Rattle.net_udp.specs.declared.frames.packet.Fragment.{Fragment}
 
 -- the number of a fragment header is none of the others
 no_extension : (next : ℕ) → next ≡ fragment_header → is_extension next ≡ true → ⊥
 no_extension next is test = false≢true (ap is_extension (sym is) ∙ test)
 
+-- what is skipped is an extension header
+both_hold : (a b : Bool) → (a && b) ≡ true → a ≡ true
+both_hold true b e = refl
+both_hold false b e = cc
+
+named : (next n : ℕ) → is_extension n ≡ true → (next == n) ≡ true → is_extension next ≡ true
+named next n known e = ap is_extension ((Decides-eqb next n).0 e) ∙ known
+
+is_named : (next : ℕ) (bytes : List ℕ) → is_skippable next bytes ≡ true → is_extension next ≡ true
+is_named next bytes e = elim (or_cases (next == 0 || next == 60) ((next == 43) && (at bytes 3 == 0)) e) [
+  | inl options ↦ elim (or_cases (next == 0) (next == 60) options) [ inl hops ↦ named next 0 refl hops | inr target ↦ named next 60 refl target ]
+  | inr route ↦ named next 43 refl (both_hold (next == 43) (at bytes 3 == 0) route)
+]
+
 skipped_does_not_stop : (next : ℕ) (bytes : List ℕ) (r : Reached) → IsSkipped next bytes → Stops next bytes r → ⊥
-skipped_does_not_stop next bytes r (long, fits, inl test) (inl (plain, other, is)) = false≢true (sym plain ∙ test)
-skipped_does_not_stop next bytes r (long, fits, inl test) (inr (is_part, room, part, is)) = no_extension next is_part test
+skipped_does_not_stop next bytes r (long, fits, inl test) (inl (plain, other, is)) = false≢true (sym plain ∙ is_named next bytes test)
+skipped_does_not_stop next bytes r (long, fits, inl test) (inr (is_part, room, part, is)) = no_extension next is_part (is_named next bytes test)
 skipped_does_not_stop next bytes r (long, fits, inr (is_whole, whole)) (inl (plain, other, is)) = other is_whole
 skipped_does_not_stop next bytes r (long, fits, inr (is_whole, whole)) (inr (is_part, room, part, is)) = false≢true (sym part ∙ whole)
 
@@ -33,6 +48,10 @@ cut_header next bytes r not_skipped not_there s = none s.0 s.1
 pub no_stop_in_extension : (next : ℕ) (bytes : List ℕ) (r : Reached) → next ≢ fragment_header → is_extension next ≡ true → Stops next bytes r → ⊥
 no_stop_in_extension next bytes r other test (inl (plain, _, is)) = false≢true (sym plain ∙ test)
 no_stop_in_extension next bytes r other test (inr (is_part, room, part, is)) = other is_part
+
+-- nothing is reached over a header that is not read
+pub unread : (next : ℕ) (bytes : List ℕ) (r : Reached) → next ≢ fragment_header → is_extension next ≡ true → is_skippable next bytes ≡ false → ReachesOver next bytes r → ⊥
+unread next bytes r other test kept = cut_header next bytes r (λ skipped. elim skipped.2 [ inl skip ↦ false≢true (sym kept ∙ skip) | inr part ↦ other part.0 ]) (no_stop_in_extension next bytes r other test)
 
 pub no_stop_in_fragment : (next : ℕ) (bytes : List ℕ) (r : Reached) → next ≡ fragment_header → length bytes < 8 → Stops next bytes r → ⊥
 no_stop_in_fragment next bytes r is_fragment short (inl (plain, other, is)) = other is_fragment

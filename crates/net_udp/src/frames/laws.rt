@@ -10,7 +10,7 @@ ghost use Rattle.net_udp.specs.Frames.Checksums.{checksum_of, in_ones_complement
 ghost use Rattle.net_udp.specs.declared.frames.checksum.Checksum.{Checksum};
 ghost use Rattle.net_udp.specs.Frames.Faults.{Holds, FirstFault};
 ghost use Rattle.net_udp.specs.Frames.UdpDatagrams.{Udp, SpellsUdp, HoldsUdp};
-ghost use Rattle.net_udp.specs.Frames.Worked.{udp_bytes, ipv4_bytes, ipv4_with_options, ipv4_fragment, ipv6_with_extensions, ipv6_fragment, ipv6_fragment_of_icmp, two_tags, udp_bytes_of_ipv6, udp_left, udp_left_of_ipv6, udp_of_three, cooked_head, cooked_two_head, null_head, ipv4_packet, ipv4_part, ipv6_packet, ipv6_part, acknowledgement, host, host_of_ipv6};
+ghost use Rattle.net_udp.specs.Frames.Worked.{udp_bytes, ipv4_bytes, ipv4_with_options, ipv4_fragment, ipv6_with_extensions, ipv6_authenticated, ipv6_fragment, ipv6_fragment_of_icmp, ipv6_routed, two_tags, udp_bytes_of_ipv6, udp_left, udp_left_of_ipv6, udp_of_three, cooked_head, cooked_two_head, null_head, ipv4_packet, ipv4_part, ipv6_packet, ipv6_part, acknowledgement, host, host_of_ipv6};
 ghost use Rattle.net_udp.specs.declared.frames.fault.FrameFault.{FrameFault};
 ghost use Rattle.net_udp.specs.declared.frames.fault.UdpFault.{UdpFault};
 ghost use Rattle.net_udp.specs.declared.frames.packet.Direction.{Direction};
@@ -53,7 +53,8 @@ pub fn worked_addresses()
 {}
 
 /// Worked examples: a packet in Ethernet with two tags and two bytes of padding, in Linux cooked, with options, and a
-/// fragment; and the same of IPv6, also of a fragment that names ICMP (58) and is not the first.
+/// fragment; and the same of IPv6, also with a routing header that has led to its last host, and of a fragment that names ICMP
+/// (58) and is not the first.
 pub fn worked_frames()
     ensures tags { SpellsFrame 1 (two_tags ++ ipv4_bytes ++ 0 ∷ 0 ∷ []) (ipv4_packet Direction.Unknown ipv4_bytes) }
     ensures cooked { SpellsFrame 113 (cooked_head ++ ipv4_bytes) (ipv4_packet Direction.Out ipv4_bytes) }
@@ -62,16 +63,20 @@ pub fn worked_frames()
     ensures part { SpellsFrame 228 ipv4_fragment ipv4_part }
     ensures extensions { SpellsFrame 229 ipv6_with_extensions ipv6_packet }
     ensures ipv6_part { SpellsFrame 0 (null_head ++ ipv6_fragment) ipv6_part }
+    ensures routed { SpellsFrame 229 (ipv6_routed 0) (record ipv6_packet { packet = ipv6_routed 0 }) }
     ensures another { SpellsFrame 229 ipv6_fragment_of_icmp (record ipv6_part { protocol = 58; packet = ipv6_fragment_of_icmp }) }
 {}
 
 /// Worked examples: the first fault of a packet whose last byte was not recorded, of one of TCP (protocol 6), of ARP
-/// (0x0806) in Ethernet, and of a frame that ends in its first tag.
+/// (0x0806) in Ethernet, and of a frame that ends in its first tag; and of a packet of IPv6 with a routing header that leads on
+/// to another host (RFC 8200, section 4.4), and with an authentication header (RFC 4302), which are not read.
 pub fn worked_faults()
     ensures cut { FirstFault 101 (take 31 ipv4_bytes) FrameFault.Cut }
     ensures tcp { FirstFault 101 (take 9 ipv4_bytes ++ 6 ∷ drop 10 ipv4_bytes) FrameFault.Protocol }
     ensures arp { FirstFault 1 (take 12 two_tags ++ 8 ∷ 6 ∷ []) FrameFault.Network }
     ensures tag { FirstFault 1 (take 16 two_tags) FrameFault.Frame }
+    ensures routed { FirstFault 229 (ipv6_routed 1) FrameFault.Extension }
+    ensures authenticated { FirstFault 229 ipv6_authenticated FrameFault.Extension }
 {}
 
 /// Worked examples: the acknowledgement, with what follows it in the packet left out (RFC 768), and behind a header of
