@@ -130,6 +130,7 @@ HEADERS = {
     "a routing header with no segment left": (True, recorded.ROUTING, bytes([2, 2, 0, 0, 0, 0, 0]) + HOME),
     "a routing header with a segment left": (False, recorded.ROUTING, bytes([2, 2, 1, 0, 0, 0, 0]) + HOME),
     "an authentication header": (False, AUTHENTICATION, bytes([4, 0, 0, 0, 0, 1, 0, 0, 0, 0, 1]) + bytes(12)),
+    "a fragment of twelve bytes that more follow": (False, recorded.FRAGMENT, bytes([0, 0, 1, 0, 0, 0, 7])),
     "a mobility header": (False, MOBILITY, bytes([0, 0, 0, 0, 0, 0, 0])),
 }
 
@@ -482,8 +483,8 @@ class Lists:
                     yield Check(f"{name}, IPv{it.version}, as tshark has it", any(told), told)
 
     def try_headers(self) -> Iterator[Check]:
-        """Headers of IPv6 before a datagram. With segments left its target is not the host to which it goes, and tshark
-        names another one (RFC 8200, section 4.4); behind other headers nothing is read."""
+        """Headers of IPv6 before a datagram: where a routing header has segments left, its target is another host on its
+        way (RFC 8200, section 4.4), and behind others nothing is read."""
         it = Datagram("2001:db8::7", 40_000, "2001:db8::1", 69, b"\0\4\0\1")
         for name, (is_read, kind, rest) in HEADERS.items():
             body = bytes([recorded.UDP]) + rest + recorded.udp(it)

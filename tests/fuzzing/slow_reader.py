@@ -363,13 +363,14 @@ def ipv6(way: str, it: bytes) -> Packet:
 
 def over_headers(kind: int, content: bytes) -> Optional[tuple[int, Optional[Part], bytes]]:
     """What stands after all headers that are skipped; nothing where one runs beyond the bytes or is not read, as a routing
-    header with segments left (RFC 8200, section 4.4)."""
+    header with segments left, or is one of a fragment that more follow and of no whole units of eight (RFC 8200, sections
+    4.4 and 4.5)."""
     while kind in EXTENSIONS or kind == FRAGMENT_HEADER:
         if len(content) < 8:
             return None
         if kind == FRAGMENT_HEADER and number(content, 2) & 0xFFF9:
             part = Part(number(content, 4, 4), number(content, 2) & 0xFFF8, bool(content[3] & 1))
-            return content[0], part, content[8:]
+            return None if part.more and len(content) % 8 else (content[0], part, content[8:])
         size = 8 if kind == FRAGMENT_HEADER else 8 * (content[1] + 1)
         if len(content) < size or (kind == ROUTING and content[3]):
             return None

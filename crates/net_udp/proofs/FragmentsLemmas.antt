@@ -9,3 +9,4 @@ pub mod Members
 pub mod Puts
 pub mod Rooms
 pub mod Sets
+pub mod Times

@@ -83,9 +83,9 @@ module _ (old new : SetState) (arrivals : List Arrival) (p : Part) (is : IsSetOf
   -- the set is that of the fragments and this one, whose part it is
   pub joined_with : (frame : ℕ) → MayJoin old p → new.spoiled ≡ false → (StandsFor old.held (parts_of arrivals) → StandsFor new.held (p ∷ parts_of arrivals)) → new.frames ≡ old.frames ++ frame ∷ []
       → new.extents ≡ old.extents ++ extent_of p ∷ [] → (a : Arrival) → p ≡ a.part → frame ≡ a.frame → IsSetOf new (a ∷ arrivals)
-  joined_with frame join kept stands frames more a same_part same_frame = record {
+  joined_with frame join kept stands told_frames more a same_part same_frame = record {
     held = λ e. subst (λ (q : Part). StandsFor new.held (q ∷ parts_of arrivals)) same_part (stands (is.held sound));
-    frames = λ e. frames ∙ ap (λ (l : List ℕ). l ++ frame ∷ []) (is.frames sound) ∙ ap (λ (n : ℕ). reverse (map (λ (x : Arrival). x.frame) arrivals) ++ n ∷ []) same_frame
+    frames = λ e. told_frames ∙ ap (λ (l : List ℕ). l ++ frame ∷ []) (is.frames sound) ∙ ap (λ (n : ℕ). reverse (map (λ (x : Arrival). x.frame) arrivals) ++ n ∷ []) same_frame
         ∙ sym (reverse-append (a.frame ∷ []) (map (λ (x : Arrival). x.frame) arrivals));
     extents = λ e x. subst (λ (q : Part). OneOf (Overlap x) new.extents ↔ Among (λ r. Overlap x (extent_of r)) (q ∷ parts_of arrivals)) same_part (tells more x, told more x);
     distinct = λ e two. elim two [

@@ -107,7 +107,7 @@ right_stays before h = let x : Right ≡ Wrong = h.0 in cc
 
 -- ---- copies
 
-none_before : (p : Recorded) → IsCopy [] p → ⊥
+pub none_before : (p : Recorded) → IsCopy [] p → ⊥
 none_before p copy = search rules
 
 is_whole : (link : ℕ) (bytes : List ℕ) (p : Packet) → SpellsFrame link bytes p → p.fragment ≡ None → (q : Packet) → SpellsFrame link bytes q → q.fragment ≡ None
@@ -154,7 +154,7 @@ here_history = (
 
 -- ---- what is held of the fragments
 
-laid : (old : List (Option ℕ)) (bytes : List ℕ) → AreLaid old (length old) bytes (old ++ map (λ (b : ℕ). Some b) bytes)
+pub laid : (old : List (Option ℕ)) (bytes : List ℕ) → AreLaid old (length old) bytes (old ++ map (λ (b : ℕ). Some b) bytes)
 laid old bytes =
     let size : length (old ++ map (λ (b : ℕ). Some b) bytes) ≡ length old + length bytes = length-append old (map (λ (b : ℕ). Some b) bytes) ∙ ap (λ n. length old + n) (length-map bytes (λ (b : ℕ). Some b)) in
     record {
@@ -193,7 +193,7 @@ last_arrival = arrival_of (raw_frame last_bytes) 2 last_part (record { id = 7; p
 
 -- ---- what waits under the key
 
-at_key : (key : Key) (s : SetState) → set_at key ((key, s) ∷ []) ≡ Some s
+pub at_key : (key : Key) (s : SetState) → set_at key ((key, s) ∷ []) ≡ Some s
 at_key key s = ap (λ b. cond b (Some s) None) (same_itself key)
 
 other_way : (key other : Key) → same_key key other ≡ false → same_key other key ≡ false
@@ -202,7 +202,7 @@ other_way key other e = elim (cases_Bool (same_key other key)) [
   | inr differs ↦ differs
 ]
 
-at_other : (key other : Key) (s : SetState) → same_key key other ≡ false → set_at other ((key, s) ∷ []) ≡ None
+pub at_other : (key other : Key) (s : SetState) → same_key key other ≡ false → set_at other ((key, s) ∷ []) ≡ None
 at_other key other s e = ap (λ b. cond b (Some s) None) (other_way key other e)
 
 nothing_goes : LetsGoOld worked_key worked_time [] [] []
@@ -257,7 +257,7 @@ first_ends = (
   refl,
 )
 
-not_full_waits : Waits ≡ Outcome.Full → ⊥
+pub not_full_waits : Waits ≡ Outcome.Full → ⊥
 not_full_waits e = cc
 
 first_takes : TakesPart worked_key first_arrival [] waits_first first_step.brought
@@ -342,7 +342,7 @@ icmp_spells = (
   (RawIpv6, refl, (omega arith, refl, (refl, refl))),
   refl,
   spells_ip Unknown Ipv6 last_of_icmp (record { protocol = 58; fragment = Some last_named; content = part_of_icmp.content }) (omega arith, refl) (omega arith, omega arith)
-      (0, inr (refl, omega arith, refl, refl)) refl,
+      (0, inr (refl, omega arith, refl, refl, refl)) refl,
 )
 
 pub udp_fate : (content : Made) (frames : Vec ℕ Global) (d : Given) → put_together content ≡ worked_content → IsDatagram icmp_frame part_of_icmp acknowledgement d → IsFateOf icmp_frame New (Some (Whole content frames)) false (Datagram d)

@@ -32,6 +32,10 @@ fragment_of header = record { id = four header 4; place = 8 * (pair header 2 / 8
 abbrev pub is_atomic : List ℕ → Bool
 is_atomic header = (pair header 2 / 8 == 0) && (pair header 2 % 2 == 0)
 
+-- A fragment that more follow is of whole units of 8 bytes, as its header is; any other one is discarded (RFC 8200, section 4.5).
+abbrev pub is_of_units : List ℕ → Bool
+is_of_units bytes = (pair bytes 2 % 2 == 0) || (length bytes % 8 == 0)
+
 -- the length of a header: the second byte counts units of 8 bytes after the first 8; a fragment header has 8
 abbrev pub skipped_size : ℕ → List ℕ → ℕ
 skipped_size next bytes = if next == 44 then 8 else 8 * (at bytes 1 + 1)
@@ -40,11 +44,11 @@ skipped_size next bytes = if next == 44 then 8 else 8 * (at bytes 1 + 1)
 abbrev pub IsSkipped : ℕ → List ℕ → Type 0
 IsSkipped next bytes = (8 ≤ length bytes) × (skipped_size next bytes ≤ length bytes) × ((is_skippable next bytes ≡ true) ⊎ ((next ≡ fragment_header) × (is_atomic bytes ≡ true)))
 
--- the bytes begin with no header that is skipped, nor with one that is cut or not read
+-- the bytes begin with no header that is skipped, nor with one that is cut, not read, or of no whole units
 abbrev pub Stops : ℕ → List ℕ → Reached → Type 0
 Stops next bytes r =
     ((is_extension next ≡ false) × (next ≢ fragment_header) × (r ≡ record { protocol = next; fragment = None; content = bytes }))
-    ⊎ ((next ≡ fragment_header) × (8 ≤ length bytes) × (is_atomic bytes ≡ false) × (r ≡ record { protocol = at bytes 0; fragment = Some (fragment_of bytes); content = drop 8 bytes }))
+    ⊎ ((next ≡ fragment_header) × (8 ≤ length bytes) × (is_atomic bytes ≡ false) × (is_of_units bytes ≡ true) × (r ≡ record { protocol = at bytes 0; fragment = Some (fragment_of bytes); content = drop 8 bytes }))
 
 -- over so many headers, each of which says with its first byte what follows it
 abbrev pub StopsAfter : ℕ → ℕ → List ℕ → Reached → Type 0

@@ -1,11 +1,11 @@
-ghost use Rattle.std.specs.Prelude.{◌≡◌, ◌≢◌, ◌≤◌, ◌∷◌, [], List, Option, ℕ, length, true};
+ghost use Rattle.std.specs.Prelude.{◌≡◌, ◌≢◌, ◌+◌, ◌≤◌, ◌∷◌, [], List, Option, Some, None, ℕ, length, true, false};
 ghost use Rattle.std.specs.Global.{Vec};
 ghost use Rattle.net_udp.specs.declared.fragments.content.Content.{Content as Given};
 ghost use Rattle.net_udp.specs.Fragments.Pieces.{content_of};
 ghost use Rattle.net_udp.specs.Fragments.Whole.{Content, Part, Covers, Give, IsCutInto, AreSame};
 ghost use Rattle.net_udp.specs.Fragments.Overlaps.{Overlap, PutTogether, TwoOverlap, extent_of};
 ghost use Rattle.net_udp.specs.Fragments.Set.{AreApart, Arrival, SetState, parts_of};
-ghost use Rattle.net_udp.specs.Fragments.Store.{IsKeptOf, PutEnds};
+ghost use Rattle.net_udp.specs.Fragments.Store.{IsKeptOf, PutEnds, is_long};
 ghost use Rattle.net_udp.specs.Fragments.Worked.{across_of_udp, first_of_icmp, first_of_udp, in_ipv4, last_of_icmp, worked_content};
 
 use crate::fragments::outcome::Outcome;
@@ -39,6 +39,21 @@ pub fn last_fragment_gives_the_content()
     ensures { (old new : Option SetState) (all : ℕ) (arrivals : List Arrival) (a : Arrival) (parts : List Part) (whole : Content) (outcome : Outcome)
         → IsCutInto whole parts → AreSame parts (parts_of (a ∷ arrivals)) → length whole.bytes ≤ 65535 → a.part.content ≢ [] → IsKeptOf old arrivals → PutEnds old new all a outcome → outcome ≢ Outcome.Full
         → (content : Given) × (frames : Vec ℕ) × (outcome ≡ Outcome.Whole content frames) × (content_of content ≡ whole) }
+{}
+
+/// What waits together came within a minute. A host waits no less for the parts of a packet (RFC 1122, section 3.3.2; RFC 8200,
+/// section 4.5), so that none has let go by then what is put together.
+pub fn fragments_come_within_a_minute()
+    ensures { (began time : ℕ) → is_long (Some began) (Some time) ≡ false → (time ≤ began + 60000000000) × (began ≤ time + 60000000000) }
+{}
+
+/// Worked examples: after 30 s to the nanosecond a part comes to the others, and not one nanosecond later, nor where it came so
+/// long before them; where the recording tells no time nothing is too old.
+pub fn worked_times()
+    ensures young { is_long (Some 1000000000) (Some 31000000000) ≡ false }
+    ensures long { is_long (Some 1000000000) (Some 31000000001) ≡ true }
+    ensures before { is_long (Some 31000000001) (Some 1000000000) ≡ true }
+    ensures untimed { is_long (Some 1000000000) None ≡ false }
 {}
 
 /// Worked examples: of two parts the first names UDP (17) and the last ICMP (58), and the content is of UDP, in either order

@@ -1,5 +1,5 @@
 ghost use Rattle.std.specs.Prelude.{◌≡◌, ◌≤◌, length, ◌↔◌, IsTrue, MatchOption};
-ghost use Rattle.net_udp.specs.Frames.Extension.{Reached, ReachesOver, is_extension, is_skippable, is_atomic, IsSkipped, skipped_size, fragment_of};
+ghost use Rattle.net_udp.specs.Frames.Extension.{Reached, ReachesOver, is_extension, is_of_units, is_skippable, is_atomic, IsSkipped, skipped_size, fragment_of};
 ghost use Rattle.net_udp.specs.Frames.Parts.{reached};
 
 use crate::frames::number::{four_at, pair_at};
@@ -57,6 +57,15 @@ fn is_whole(header: &[u8]) -> bool
     field / 8 == 0 && field % 2 == 0
 }
 
+/// Whether a fragment, from its header on, is one that none follows, or is of whole units of 8 bytes (RFC 8200, section 4.5).
+#[inline]
+fn is_of_units(bytes: &[u8]) -> bool
+    requires { 8 ≤ length bytes.now }
+    ensures { result ≡ is_of_units bytes.now }
+{
+    pair_at(bytes, 2) % 2 == 0 || bytes.len() % 8 == 0
+}
+
 /// The length of the header that is skipped; none where none is, or not all its bytes are there.
 #[inline]
 fn skipped_length(next: u8, bytes: &[u8]) -> Option<usize>
@@ -76,7 +85,8 @@ fn skipped_length(next: u8, bytes: &[u8]) -> Option<usize>
     }
 }
 
-/// What stands after the headers of IPv6 that are skipped, where no header is cut, and none that is not read stands there.
+/// What stands after the headers of IPv6 that are skipped, where no header is cut, and none stands there that is not
+/// read, nor one of a fragment of no whole units.
 #[inline]
 pub fn skip_extensions(next: u8, bytes: &[u8]) -> Option<Upper<'_>>
     ensures { MatchOption result
@@ -101,6 +111,9 @@ pub fn skip_extensions(next: u8, bytes: &[u8]) -> Option<Upper<'_>>
         };
     }
     if rest.len() < 8 {
+        return None;
+    }
+    if !is_of_units(rest) {
         return None;
     }
     Some(Upper {

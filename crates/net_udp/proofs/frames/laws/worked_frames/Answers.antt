@@ -68,7 +68,7 @@ returns-clause-ipv6_part c = (
   (Null, refl, (omega arith, refl, (refl, refl))),
   refl,
   spells_ip Unknown Ipv6 ipv6_fragment (record { protocol = 17; fragment = ipv6_part.fragment; content = ipv6_part.content }) (omega arith, refl) (omega arith, omega arith)
-      (0, inr (refl, omega arith, refl, refl)) refl,
+      (0, inr (refl, omega arith, refl, refl, refl)) refl,
 )
 
 pub returns-clause-another : goal.returns-clause-another
@@ -78,7 +78,7 @@ returns-clause-another c = (
   (RawIpv6, refl, (omega arith, refl, (refl, refl))),
   refl,
   spells_ip Unknown Ipv6 ipv6_fragment_of_icmp (record { protocol = 58; fragment = ipv6_part.fragment; content = ipv6_part.content }) (omega arith, refl) (omega arith, omega arith)
-      (0, inr (refl, omega arith, refl, refl)) refl,
+      (0, inr (refl, omega arith, refl, refl, refl)) refl,
 )
 
 pub returns-clause-routed : goal.returns-clause-routed
@@ -89,4 +89,13 @@ returns-clause-routed c = (
   refl,
   spells_ip Unknown Ipv6 (ipv6_routed 0) (record { protocol = 17; fragment = None; content = udp_bytes_of_ipv6 }) (omega arith, refl) (omega arith, omega arith)
       (1, ((omega arith, omega arith, inl refl), inl (refl, (λ e. omega arith), refl))) refl,
+)
+
+pub returns-clause-old_tags : goal.returns-clause-old_tags
+returns-clause-old_tags c = (
+  record { direction = Unknown; network = Some Ipv4; content = ipv4_bytes },
+  Ipv4,
+  (Ethernet, refl, (omega arith, refl, (2048, (2, (refl, omega arith, (refl, omega arith, (refl, refl, refl)))), refl))),
+  refl,
+  spells_ip Unknown Ipv4 ipv4_bytes _ (omega arith, refl, omega arith, omega arith) (omega arith, omega arith) refl refl,
 )
