@@ -463,15 +463,14 @@ class Lists:
                 yield Check(f"fragments of IPv6 that name {kinds}", got == (rows, left, "", 0), (got, rows, left))
 
     def try_overlaps(self) -> Iterator[Check]:
-        """Fragments that overlap with the same bytes: in IPv4 they are put together; in IPv6 none of them is, nor one that
-        comes later, and what comes again is let pass (RFC 8200, section 4.5). Of each tshark tells the overlap."""
+        """Fragments that overlap with the same bytes: in IPv4 they are put together; in IPv6 none of them is, nor one
+        that comes later, and what comes again is let pass (RFC 8200, section 4.5). Of each tshark tells the overlap."""
         for source, target in ("192.0.2.7", "192.0.2.1"), ("2001:db8::7", "2001:db8::1"):
             it = Datagram(source, 40_000, target, 69, bytes(range(32)))
             content = recorded.udp(it)
             for name, (is_whole, cuts) in OVERLAPS.items():
                 parts = [(Fragment(7, start, end < len(content)), content[start:end]) for start, end in cuts]
-                made = recorded.ipv4 if it.version == 4 else recorded.ipv6
-                packets = [made(it, bytes_of, recorded.UDP, part) for part, bytes_of in parts]
+                packets = [packet_of(it, bytes_of, part) for part, bytes_of in parts]
                 frames = [Frame(recorded.RAW, packet, recorded.FIRST_TIME) for packet in packets]
                 file, is_told = recorded.pcap(frames), is_whole or it.version == 4
                 rows = [row(len(frames), frames[-1], it)] if is_told else []
@@ -483,8 +482,8 @@ class Lists:
                     yield Check(f"{name}, IPv{it.version}, as tshark has it", any(told), told)
 
     def try_headers(self) -> Iterator[Check]:
-        """Headers of IPv6 before a datagram: where a routing header has segments left, its target is another host on its
-        way (RFC 8200, section 4.4), and behind others nothing is read."""
+        """Headers of IPv6 before a datagram: where a routing header has segments left, its target is another host on
+        its way (RFC 8200, section 4.4), and behind others nothing is read."""
         it = Datagram("2001:db8::7", 40_000, "2001:db8::1", 69, b"\0\4\0\1")
         for name, (is_read, kind, rest) in HEADERS.items():
             body = bytes([recorded.UDP]) + rest + recorded.udp(it)
@@ -514,6 +513,13 @@ class Lists:
         wanted = [told for told in (as_tshark(it) for it in kept) if told]
         got = [" ".join(words[:2] + words[4:]) for words in (line.split() for line in rows)]
         yield Check(f"{name}, as tshark has it", got == wanted, difference(got, wanted))
+
+
+def packet_of(it: Datagram, content: bytes, part: Fragment) -> bytes:
+    """A fragment of a datagram, in a packet without options."""
+    if it.version == 4:
+        return recorded.ipv4(it, content, recorded.UDP, part)
+    return recorded.ipv6(it, content, recorded.UDP, part)
 
 
 def fields_of(file: bytes, field: str) -> list[str]:

@@ -362,9 +362,9 @@ def ipv6(way: str, it: bytes) -> Packet:
 
 
 def over_headers(kind: int, content: bytes) -> Optional[tuple[int, Optional[Part], bytes]]:
-    """What stands after all headers that are skipped; nothing where one runs beyond the bytes or is not read, as a routing
-    header with segments left, or is one of a fragment that more follow and of no whole units of eight (RFC 8200, sections
-    4.4 and 4.5)."""
+    """What stands after all headers that are skipped; nothing where one runs beyond the bytes or is not read, as a
+    routing header with segments left, or is one of a fragment that more follow and of no whole units of eight (RFC
+    8200, sections 4.4 and 4.5)."""
     while kind in EXTENSIONS or kind == FRAGMENT_HEADER:
         if len(content) < 8:
             return None

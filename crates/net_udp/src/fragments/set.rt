@@ -1,6 +1,6 @@
 ghost use Rattle.std.specs.Prelude.{◌≡◌, ◌+◌, ◌*◌, ◌^◌, ◌<◌, ◌≤◌, ◌∷◌, [], ℕ, List, Option, Some, None, length, true, false, IfOk, OnErr, IsTrue, ◌↔◌};
 ghost use Rattle.net_udp.specs.Fragments.Whole.{end_of};
-ghost use Rattle.net_udp.specs.Fragments.Overlaps.{OneOf, Overlap, extent_of};
+ghost use Rattle.net_udp.specs.Fragments.Overlaps.{OneOf, Overlap};
 ghost use Rattle.net_udp.specs.Fragments.Pieces.{content_of, part_of, nothing_held, IsComplete, IsHeld};
 ghost use Rattle.net_udp.specs.Fragments.Set.{Arrival, IsSetOf, MayJoin, Spoils, TakeEnds, room_of};
 
