@@ -13,7 +13,7 @@ pub use Rattle.net_udp.specs.Frames.Number.{at, pair}
 pub use Rattle.net_udp.specs.Frames.Tag.{LeadsOver, LeadsTo, is_tag_type}
 pub use Rattle.net_udp.specs.Frames.Link.{Carries, CarriesTyped, Linked, SpellsLink, direction_said, index_of, least, link_named, packet_direction, type_network}
 pub use Rattle.net_udp.specs.Frames.Extension.{IsSkipped, Reached, ReachesOver, Stops, StopsAfter, fragment_header, fragment_of, is_atomic, is_extension, is_of_units, is_skippable, skipped_size}
-pub use Rattle.net_udp.specs.Frames.Ip.{HasHeader, Packet, Reaches, SpellsIp, held_of, is_identified, may_be_udp, packet_of, size_of, source_of, target_of, total_of}
+pub use Rattle.net_udp.specs.Frames.Ip.{HasHeader, Packet, Reaches, SpellsIp, TellsHosts, held_of, is_identified, may_be_udp, packet_of, size_of, source_of, target_of, total_of}
 pub use Rattle.net_udp.specs.Frames.Frame.{IsBetween, IsLinked, SpellsFrame}
 pub use Rattle.net_udp.specs.Frames.UdpDatagrams.{HasUdp, HoldsUdp, IsSized, IsSound, JudgesUdp, SpellsUdp, Udp, datagram}
 pub use Rattle.net_udp.specs.Frames.Checksums.{address_bytes, checksum_of, headed_wrong, in_ones_complement, is_headed_right, is_left, is_right, is_unsummed, none_made, pseudo_sum, udp_checksum, udp_sum, verdict, word_sum}
