@@ -123,6 +123,28 @@ TWICE = (
 )
 
 
+# Headers of IPv6 by their number and what follows their first byte, and whether what is behind them is read.
+AUTHENTICATION, MOBILITY = 51, 135
+HOME = bytes.fromhex("20010db8000000000000000000000009")
+HEADERS = {
+    "a routing header with no segment left": (True, recorded.ROUTING, bytes([2, 2, 0, 0, 0, 0, 0]) + HOME),
+    "a routing header with a segment left": (False, recorded.ROUTING, bytes([2, 2, 1, 0, 0, 0, 0]) + HOME),
+    "an authentication header": (False, AUTHENTICATION, bytes([4, 0, 0, 0, 0, 1, 0, 0, 0, 0, 1]) + bytes(12)),
+    "a fragment of twelve bytes that more follow": (False, recorded.FRAGMENT, bytes([0, 0, 1, 0, 0, 0, 7])),
+    "a mobility header": (False, MOBILITY, bytes([0, 0, 0, 0, 0, 0, 0])),
+}
+
+# Fragments of 40 bytes by where each begins and ends, and whether they are put together in IPv6 too.
+OVERLAPS = {
+    "a fragment that begins in another": (False, ((0, 16), (8, 32), (32, 40))),
+    "a fragment that ends in another": (False, ((8, 32), (0, 16), (32, 40))),
+    "a fragment in another": (False, ((0, 32), (8, 16), (32, 40))),
+    "a fragment round another": (False, ((8, 16), (32, 40), (0, 32))),
+    "a fragment that comes again": (True, ((0, 16), (16, 32), (0, 16), (32, 40))),
+    "the last fragment comes again": (True, ((32, 40), (0, 16), (32, 40), (16, 32))),
+}
+
+
 def row(number: int, frame: Frame, it: Datagram) -> str:
     """The line of a datagram whose last part is this frame."""
     time = str(frame.time) if frame.is_timed else "-"
@@ -440,6 +462,42 @@ class Lists:
                 got = self.run(recorded.pcap(frames))
                 yield Check(f"fragments of IPv6 that name {kinds}", got == (rows, left, "", 0), (got, rows, left))
 
+    def try_overlaps(self) -> Iterator[Check]:
+        """Fragments that overlap with the same bytes: in IPv4 they are put together; in IPv6 none of them is, nor one
+        that comes later, and what comes again is let pass (RFC 8200, section 4.5). Of each tshark tells the overlap."""
+        for source, target in ("192.0.2.7", "192.0.2.1"), ("2001:db8::7", "2001:db8::1"):
+            it = Datagram(source, 40_000, target, 69, bytes(range(32)))
+            content = recorded.udp(it)
+            for name, (is_whole, cuts) in OVERLAPS.items():
+                parts = [(Fragment(7, start, end < len(content)), content[start:end]) for start, end in cuts]
+                packets = [packet_of(it, bytes_of, part) for part, bytes_of in parts]
+                frames = [Frame(recorded.RAW, packet, recorded.FIRST_TIME) for packet in packets]
+                file, is_told = recorded.pcap(frames), is_whole or it.version == 4
+                rows = [row(len(frames), frames[-1], it)] if is_told else []
+                left = [] if is_told else [(at, "FragmentsApart") for at in range(1, len(frames) + 1)]
+                got = self.run(file)
+                yield Check(f"{name}, IPv{it.version}", got == (rows, left, "", 0), (got, rows, left))
+                if self.tshark and not is_whole:
+                    told = fields_of(file, f"{'ip' if it.version == 4 else 'ipv6'}.fragment.overlap")
+                    yield Check(f"{name}, IPv{it.version}, as tshark has it", any(told), told)
+
+    def try_headers(self) -> Iterator[Check]:
+        """Headers of IPv6 before a datagram: where a routing header has segments left, its target is another host on
+        its way (RFC 8200, section 4.4), and behind others nothing is read."""
+        it = Datagram("2001:db8::7", 40_000, "2001:db8::1", 69, b"\0\4\0\1")
+        for name, (is_read, kind, rest) in HEADERS.items():
+            body = bytes([recorded.UDP]) + rest + recorded.udp(it)
+            packet = recorded.ipv6(it, body, kind)
+            file = recorded.pcap([Frame(recorded.RAW, packet, recorded.FIRST_TIME)])
+            rows = [row(1, Frame(recorded.RAW, packet, recorded.FIRST_TIME), it)] if is_read else []
+            got = self.run(file)
+            yield Check(name, got == (rows, [] if is_read else [(1, "Extension")], "", 0), got)
+            if self.tshark:
+                told = fields_of(file, "udp.dstport"), fields_of(file, "ipv6.routing.segleft")
+                left = [str(rest[2])] if kind == recorded.ROUTING else [""]
+                behind = ["69"] if kind in (recorded.ROUTING, AUTHENTICATION) else [""]
+                yield Check(f"{name}, as tshark has it", told == (behind, left), told)
+
     def compare(self, name: str, file: bytes, rows: list[str], gone: Collection[int] = ()) -> Iterator[Check]:
         """The program's list beside the fields of tshark, but for the frames of what was discarded."""
         with tempfile.NamedTemporaryFile(suffix=".pcap") as path:
@@ -455,6 +513,24 @@ class Lists:
         wanted = [told for told in (as_tshark(it) for it in kept) if told]
         got = [" ".join(words[:2] + words[4:]) for words in (line.split() for line in rows)]
         yield Check(f"{name}, as tshark has it", got == wanted, difference(got, wanted))
+
+
+def packet_of(it: Datagram, content: bytes, part: Fragment) -> bytes:
+    """A fragment of a datagram, in a packet without options."""
+    if it.version == 4:
+        return recorded.ipv4(it, content, recorded.UDP, part)
+    return recorded.ipv6(it, content, recorded.UDP, part)
+
+
+def fields_of(file: bytes, field: str) -> list[str]:
+    """A field of tshark's of each frame, where fragments are put together."""
+    with tempfile.NamedTemporaryFile(suffix=".pcap") as path:
+        path.write(file)
+        path.flush()
+        words = ["tshark", "-n", "-r", path.name, "-o", "ip.defragment:TRUE", "-o", "ipv6.defragment:TRUE"]
+        words += ["-T", "fields", "-e", field]
+        done = subprocess.run(words, capture_output=True, text=True, check=False)
+    return done.stdout.splitlines()
 
 
 def as_tshark(it: dict[str, str]) -> str:
@@ -506,6 +582,8 @@ def tried(words: argparse.Namespace) -> Iterator[Check]:
     yield from listed_files(lists)
     yield from lists.try_copies()
     yield from lists.try_protocols()
+    yield from lists.try_overlaps()
+    yield from lists.try_headers()
     for seed in range(words.seed, words.seed + words.cases):
         chance = random.Random(seed)
         make = chance.choice((made_pcap, made_pcapng))

@@ -16,7 +16,9 @@ NEXT, NEAR = 16, 1_000_000
 ROOM, LONGEST_PACKET = 1 << 26, 65_535
 IPV4, IPV6 = 4, 6
 UDP = 17
-EXTENSIONS, FRAGMENT_HEADER = (0, 43, 60), 44
+EXTENSIONS, ROUTING, FRAGMENT_HEADER = (0, 43, 60), 43, 44
+# Authentication, mobility, host identity and shim6 are not read.
+UNREAD = (51, 135, 139, 140)
 TAGS = (0x8100, 0x88A8, 0x9100)
 TYPES = {0x0800: IPV4, 0x86DD: IPV6}
 FAMILIES = {2: IPV4, 24: IPV6, 28: IPV6, 30: IPV6}
@@ -360,18 +362,20 @@ def ipv6(way: str, it: bytes) -> Packet:
 
 
 def over_headers(kind: int, content: bytes) -> Optional[tuple[int, Optional[Part], bytes]]:
-    """What stands after all headers that are skipped; nothing where one runs beyond the bytes."""
+    """What stands after all headers that are skipped; nothing where one runs beyond the bytes or is not read, as a
+    routing header with segments left, or is one of a fragment that more follow and of no whole units of eight (RFC
+    8200, sections 4.4 and 4.5)."""
     while kind in EXTENSIONS or kind == FRAGMENT_HEADER:
         if len(content) < 8:
             return None
         if kind == FRAGMENT_HEADER and number(content, 2) & 0xFFF9:
             part = Part(number(content, 4, 4), number(content, 2) & 0xFFF8, bool(content[3] & 1))
-            return content[0], part, content[8:]
+            return None if part.more and len(content) % 8 else (content[0], part, content[8:])
         size = 8 if kind == FRAGMENT_HEADER else 8 * (content[1] + 1)
-        if len(content) < size:
+        if len(content) < size or (kind == ROUTING and content[3]):
             return None
         kind, content = content[0], content[size:]
-    return kind, None, content
+    return None if kind in UNREAD else (kind, None, content)
 
 
 class Udp(NamedTuple):
@@ -426,8 +430,8 @@ def udp_of(protocol: int, content: bytes) -> Udp:
 
 @dataclasses.dataclass
 class Waiting:
-    """The fragments of a packet that came: when the first did, their frames, their bytes by place, where it ends, and
-    what the one at place 0 names."""
+    """The fragments of a packet that came: when the first did, their frames, their bytes by place, where it ends, what
+    the one at place 0 names, and where each begins and ends and what it names."""
 
     began: Optional[int]
     frames: list[int] = dataclasses.field(default_factory=list)
@@ -436,6 +440,7 @@ class Waiting:
     end: Optional[int] = None
     protocol: Optional[int] = None
     is_spoiled: bool = False
+    extents: list[tuple[int, int, int]] = dataclasses.field(default_factory=list)
 
     def room(self) -> int:
         return 0 if self.is_spoiled else 2 * self.reach
@@ -443,9 +448,15 @@ class Waiting:
     def is_old(self, time: Optional[int]) -> bool:
         return self.began is not None and time is not None and abs(self.began - time) > PATIENCE
 
-    def take(self, part: Part, protocol: int, content: bytes) -> bool:
+    def overlaps(self, extent: tuple[int, int, int]) -> bool:
+        """Whether it overlaps with another one that it does not repeat (RFC 8200, section 4.5)."""
+        return any(it[0] < extent[1] and extent[0] < it[1] and it != extent for it in self.extents)
+
+    def take(self, version: int, part: Part, protocol: int, content: bytes) -> bool:
         """Whether it can be of one packet with the others."""
         end = part.place + len(content)
+        if version == IPV6 and self.overlaps((part.place, end, protocol)):
+            return False
         if part.place == 0 and self.protocol not in (None, protocol):
             return False
         if self.end is not None and (end > self.end or (end == self.end) == part.more):
@@ -455,6 +466,7 @@ class Waiting:
         if any(self.cells.get(part.place + k, byte) != byte for k, byte in enumerate(content)):
             return False
         self.cells.update((part.place + k, byte) for k, byte in enumerate(content))
+        self.extents.append((part.place, end, protocol))
         self.reach = max(self.reach, end)
         self.end = self.end if part.more else end
         self.protocol = self.protocol if part.place else protocol
@@ -522,7 +534,7 @@ class Reader:
         if part.place + len(packet.content) + part.more > LONGEST_PACKET:
             raise Fault("FragmentTooLong")
         it = self.waiting.setdefault(key, Waiting(frame.time))
-        if it.is_spoiled or not it.take(part, packet.protocol, packet.content):
+        if it.is_spoiled or not it.take(packet.version, part, packet.protocol, packet.content):
             self.leave(it.frames + [at], "FragmentsApart")
             it.frames, it.is_spoiled = [], True
             return

@@ -1,5 +1,7 @@
 pub mod Contents
+pub mod Distinct
 pub mod Examples
+pub mod Extents
 pub mod Fragmented
 pub mod Holding
 pub mod Keeping
@@ -7,3 +9,4 @@ pub mod Members
 pub mod Puts
 pub mod Rooms
 pub mod Sets
+pub mod Times

@@ -8,4 +8,5 @@ pub mod Liking
 pub mod KeptOnce
 pub mod OneFate
 pub mod OneWay
+pub mod Overlapping
 pub mod Examples

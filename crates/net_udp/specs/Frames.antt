@@ -12,11 +12,11 @@ pub mod Worked
 pub use Rattle.net_udp.specs.Frames.Number.{at, pair}
 pub use Rattle.net_udp.specs.Frames.Tag.{LeadsOver, LeadsTo, is_tag_type}
 pub use Rattle.net_udp.specs.Frames.Link.{Carries, CarriesTyped, Linked, SpellsLink, direction_said, index_of, least, link_named, packet_direction, type_network}
-pub use Rattle.net_udp.specs.Frames.Extension.{IsSkipped, Reached, ReachesOver, Stops, StopsAfter, fragment_header, fragment_of, is_atomic, is_extension, skipped_size}
-pub use Rattle.net_udp.specs.Frames.Ip.{HasHeader, Packet, Reaches, SpellsIp, held_of, is_identified, may_be_udp, packet_of, size_of, source_of, target_of, total_of}
+pub use Rattle.net_udp.specs.Frames.Extension.{IsSkipped, Reached, ReachesOver, Stops, StopsAfter, fragment_header, fragment_of, is_atomic, is_extension, is_of_units, is_skippable, skipped_size}
+pub use Rattle.net_udp.specs.Frames.Ip.{HasHeader, Packet, Reaches, SpellsIp, TellsHosts, held_of, is_identified, may_be_udp, packet_of, size_of, source_of, target_of, total_of}
 pub use Rattle.net_udp.specs.Frames.Frame.{IsBetween, IsLinked, SpellsFrame}
 pub use Rattle.net_udp.specs.Frames.UdpDatagrams.{HasUdp, HoldsUdp, IsSized, IsSound, JudgesUdp, SpellsUdp, Udp, datagram}
 pub use Rattle.net_udp.specs.Frames.Checksums.{address_bytes, checksum_of, headed_wrong, in_ones_complement, is_headed_right, is_left, is_right, is_unsummed, none_made, pseudo_sum, udp_checksum, udp_sum, verdict, word_sum}
 pub use Rattle.net_udp.specs.Frames.Parts.{linked, reached, shown}
 pub use Rattle.net_udp.specs.Frames.Faults.{FirstFault, FirstIpFault, Holds, HoldsIp, IsNotWhole, Judges, JudgesIp, place}
-pub use Rattle.net_udp.specs.Frames.Worked.{acknowledgement, cooked_head, host, ipv4_bytes, ipv4_fragment, ipv4_packet, ipv4_with_options, ipv6_fragment, ipv6_fragment_of_icmp, ipv6_part, ipv6_with_extensions, two_tags, udp_bytes, udp_bytes_of_ipv6, udp_left, udp_left_of_ipv6, udp_of_three}
+pub use Rattle.net_udp.specs.Frames.Worked.{acknowledgement, cooked_head, host, ipv4_bytes, ipv4_fragment, ipv4_packet, ipv4_with_options, ipv6_authenticated, ipv6_fragment, ipv6_fragment_of_icmp, ipv6_of_no_units, ipv6_part, ipv6_routed, ipv6_with_extensions, two_old_tags, two_tags, udp_bytes, udp_bytes_of_ipv6, udp_left, udp_left_of_ipv6, udp_of_three}

@@ -18,6 +18,7 @@ pub use declared.frames.packet.Direction.TheVariants.{In, Out, Unknown}
 pub use declared.frames.packet.Fragment.{Fragment}
 pub use declared.frames.packet.IpPacket.{IpPacket}
 pub use declared.frames.packet.UdpDatagram.{UdpDatagram}
+pub use declared.fragments.extent.Extent.{Extent}
 pub use declared.fragments.outcome.Outcome.{Outcome}
 pub use declared.copies.interface.Interface.{Interface}
 pub use declared.recording.fate.Fate.{Fate}

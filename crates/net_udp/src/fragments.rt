@@ -1,6 +1,7 @@
 //! Fragments of IP packets, put together in whatever order they come.
 
 mod content;
+mod extent;
 mod fragments;
 mod key;
 mod laws;
@@ -13,8 +14,9 @@ pub use content::Content;
 pub use fragments::Fragments;
 pub use key::Key;
 pub use laws::{
-    last_fragment_gives_the_content, parts_give_one_content, parts_in_any_order_give_their_content,
-    worked_protocols,
+    fragments_come_within_a_minute, last_fragment_gives_the_content, parts_give_one_content,
+    parts_in_any_order_are_put_together, parts_in_any_order_give_their_content,
+    parts_overlap_at_a_place, worked_overlaps, worked_protocols, worked_times,
 };
 pub use outcome::Outcome;
 pub use part::Part;

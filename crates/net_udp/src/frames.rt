@@ -20,7 +20,8 @@ pub use frame::{read_frame, read_hosts};
 pub use laws::{
     addresses_are_one_if_written_the_same, content_is_one_datagram, first_fault_is_one,
     frame_spells_one_packet, spelled_frame_has_no_fault, worked_addresses, worked_checksums,
-    worked_datagrams, worked_faults, worked_frames, worked_identifications, worked_indexes,
+    worked_datagrams, worked_families, worked_faults, worked_frames, worked_identifications,
+    worked_indexes,
 };
 pub use link::interface_index;
 pub use packet::{Direction, Fragment, IpPacket, UdpDatagram};

@@ -22,6 +22,31 @@ fn key(target: u8, id: u32) -> Key {
     }
 }
 
+/// The same of IPv6 (RFC 3849).
+fn key_of_ipv6(target: u8) -> Key {
+    Key {
+        source: IpAddr::V6(Ipv6Addr::new(0x2001, 0xdb8, 0, 0, 0, 0, 0, 1)),
+        target: IpAddr::V6(Ipv6Addr::new(0x2001, 0xdb8, 0, 0, 0, 0, 0, u16::from(target))),
+        protocol: None,
+        id: 7,
+    }
+}
+
+/// A version of IP.
+#[derive(Clone, Copy)]
+enum Version {
+    Four,
+    Six,
+}
+
+/// The key of a packet to a target.
+fn key_in(version: Version, target: u8) -> Key {
+    match version {
+        Version::Four => key(target, 7),
+        Version::Six => key_of_ipv6(target),
+    }
+}
+
 /// A part: the protocol that it names, its place, whether others follow it, and its bytes.
 type Named = (u8, u32, bool, &'static [u8]);
 
@@ -66,6 +91,7 @@ fn put(
         place,
         more,
         content,
+        may_overlap: matches!(key.source, IpAddr::V4(_)),
     };
     let _old = fragments.let_go_old(key, Some(time));
     fragments.put(rt.alloc(), key, &part, Some(time), frame)
@@ -105,11 +131,18 @@ type Row = (u8, Named, u64, Told);
 fn all_answer(
     rt: &HostRuntime,
     fragments: &mut Fragments,
-    name: &'static str,
+    (name, version): (&'static str, Version),
     rows: &[Row],
 ) -> Result<(), Fail> {
     for (target, part, frame, told) in rows {
-        if !answers(rt, fragments, key(*target, 7), *part, (5, *frame), *told)? {
+        if !answers(
+            rt,
+            fragments,
+            key_in(version, *target),
+            *part,
+            (5, *frame),
+            *told,
+        )? {
             return Err(Fail::from((name, *frame)));
         }
     }
@@ -244,6 +277,50 @@ const TWO_FIRST: &[Row] = &[
     (2, (58, 0, true, b"0123456789abcdef"), 2, Told::Apart(&[1])),
 ];
 
+/// In IPv6 what overlaps is never put together, though the bytes are the same, nor what comes later (RFC 8200, section 4.5).
+const BEGINS_IN_ANOTHER: &[Row] = &[
+    (2, LAST, 1, Told::Waits),
+    (
+        2,
+        (17, 8, true, b"89abcdefghijklmnopqrstuv"),
+        2,
+        Told::Waits,
+    ),
+    (2, FIRST, 3, Told::Apart(&[1, 2])),
+    (2, FIRST, 4, Told::Apart(&[])),
+];
+
+const IN_ANOTHER: &[Row] = &[
+    (2, FIRST, 1, Told::Waits),
+    (2, (17, 8, true, b"89abcdef"), 2, Told::Apart(&[1])),
+    (2, MIDDLE, 3, Told::Apart(&[])),
+];
+
+/// What comes again is let pass, unless it names another protocol.
+const COMES_AGAIN: &[Row] = &[
+    (2, LAST, 1, Told::Waits),
+    (2, FIRST, 2, Told::Waits),
+    (2, LAST, 3, Told::Waits),
+    (2, FIRST, 4, Told::Waits),
+    (2, MIDDLE, 5, Told::Whole),
+];
+
+const NAMES_ANOTHER: &[Row] = &[
+    (2, LAST, 1, Told::Waits),
+    (2, ANOTHER, 2, Told::Apart(&[1])),
+];
+
+/// What comes in turn in IPv6 where nothing waits before.
+const CASES_OF_IPV6: &[(&str, &[Row])] = &[
+    ("a part that begins in another", BEGINS_IN_ANOTHER),
+    ("a part in another", IN_ANOTHER),
+    ("what comes again", COMES_AGAIN),
+    ("what comes again, of another name", NAMES_ANOTHER),
+    ("other bytes", OTHER_BYTES),
+    ("the first part names the protocol", FIRST_NAMES),
+    ("it does so where it comes last", FIRST_NAMES_AT_LAST),
+];
+
 /// What comes in turn where nothing waits before.
 const CASES: &[(&str, &[Row])] = &[
     ("the same bytes may come twice", THE_SAME_BYTES),
@@ -260,15 +337,23 @@ const CASES: &[(&str, &[Row])] = &[
 ];
 
 /// Fails unless that becomes of the parts of a case.
-fn holds(rt: &HostRuntime, name: &'static str, rows: &[Row]) -> Result<(), Fail> {
+fn holds(rt: &HostRuntime, named: (&'static str, Version), rows: &[Row]) -> Result<(), Fail> {
     let mut fragments = Fragments::new(rt.alloc());
-    all_answer(rt, &mut fragments, name, rows)
+    all_answer(rt, &mut fragments, named, rows)
 }
 
 #[test]
 fn parts_and_what_becomes_of_them(rt: HostRuntime) -> Result<(), Fail> {
     for (name, rows) in CASES {
-        holds(&rt, *name, *rows)?;
+        holds(&rt, (*name, Version::Four), *rows)?;
+    }
+    Ok(())
+}
+
+#[test]
+fn parts_of_ipv6_and_what_becomes_of_them(rt: HostRuntime) -> Result<(), Fail> {
+    for (name, rows) in CASES_OF_IPV6 {
+        holds(&rt, (*name, Version::Six), *rows)?;
     }
     Ok(())
 }
@@ -337,7 +422,7 @@ fn goes_next(fragments: &mut Fragments, id: u64) -> bool {
     }
 }
 
-/// Each set of a part at the furthest end is counted for 131,334 bytes, and 64 MB hold 510 of them.
+/// Each set of a part at the furthest end is counted for 131,346 bytes, and 64 MB hold 510 of them.
 #[test]
 fn no_more_than_64_mb_wait(rt: HostRuntime) -> Result<(), Fail> {
     let mut fragments = Fragments::new(rt.alloc());

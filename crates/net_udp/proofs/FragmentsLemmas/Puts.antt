@@ -1,7 +1,7 @@
 -- A fragment that came, and what is known then.
 use Rattle.std.proofs.Common.{◌≡◌, ◌≢◌, ℕ, ◌≤◌, false, List, [], ◌∷◌, Option, Some, None, Vec, Global, length, refl, sym, ◌∙◌, subst, arith}
 use Rattle.net_udp.specs.Fragments.Whole.{Content, Part}
-use Rattle.net_udp.specs.Fragments.{Give, Agrees, IsComplete, IsHeld, StandsFor, nothing_held, Arrival, IsSetOf, SetState, TakeEnds, parts_of, Comes, IsKeptOf, began_of}
+use Rattle.net_udp.specs.Fragments.{Give, Agrees, IsComplete, IsHeld, StandsFor, nothing_held, Arrival, IsSetOf, MayJoin, PutTogether, SetState, TakeEnds, parts_of, Comes, IsKeptOf, began_of}
 use Rattle.net_udp.proofs.FragmentsLemmas.Holding.{complete, not_both, whole_given}
 
 no_byte_held : (k b : ℕ) → None ≡ Some b → ⊥
@@ -23,10 +23,18 @@ nothing_agrees p some = record {
   names = λ n at e. absurd (no_byte_held 0 n e);
 }
 
-pub empty_set : (began : Option ℕ) → IsSetOf (record { held = nothing_held; frames = []; began = began; spoiled = false }) []
+abbrev pub nothing_kept : Option ℕ → SetState
+nothing_kept began = record { held = nothing_held; frames = []; extents = []; began = began; spoiled = false }
+
+pub nothing_joins : (p : Part) (began : Option ℕ) → 1 ≤ length p.content → MayJoin (nothing_kept began) p
+nothing_joins p began some = record { agrees = nothing_agrees p some; distinct = λ e one. one }
+
+pub empty_set : (began : Option ℕ) → IsSetOf (nothing_kept began) []
 empty_set began = record {
   held = λ e. nothing_stands;
   frames = λ e. refl;
+  extents = λ e x. (λ one. one, λ one. one);
+  distinct = λ e two. two;
   apart = λ e. absurd (not_both false e refl);
   nothing = λ e. absurd (not_both false e refl);
 }
@@ -52,8 +60,8 @@ came_first s t a e is h arrivals none =
 pub not_given : (t : SetState) (arrivals : List Arrival) (whole : Content) → t.spoiled ≡ false → IsSetOf t arrivals → (IsComplete t.held → ⊥) → Give (parts_of arrivals) whole → ⊥
 not_given t arrivals whole e is not_all g = not_all (complete t.held (parts_of arrivals) whole (is.held e) g)
 
-pub given : (t : SetState) (arrivals : List Arrival) (content : Content) → t.spoiled ≡ false → IsSetOf t arrivals → IsComplete t.held → IsHeld t.held content → Give (parts_of arrivals) content
-given t arrivals content e is all are = whole_given t.held (parts_of arrivals) content (is.held e) all.last are
+pub given : (t : SetState) (arrivals : List Arrival) (content : Content) → t.spoiled ≡ false → IsSetOf t arrivals → IsComplete t.held → IsHeld t.held content → PutTogether (parts_of arrivals) content
+given t arrivals content e is all are = (whole_given t.held (parts_of arrivals) content (is.held e) all.last are, is.distinct e)
 
 -- ---- the same under a key
 

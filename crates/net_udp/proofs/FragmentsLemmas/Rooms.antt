@@ -21,7 +21,7 @@ found_room key sets s e = omega (arith, removed_room key sets s e)
 pub changed_room : (key : Key) (sets : Sets) (s t : SetState) → set_at key sets ≡ Some s → room_of_all (set_value (same_key key) sets t) + room_of s ≡ room_of_all sets + room_of t
 changed_room key sets s t e = sum_by-set_value room_of (same_key key) sets s t e
 
-pub take_room : (old new : SetState) (part : Part) (frame : ℕ) (o : Option (Vec ℕ Global)) → TakeEnds old new part frame o → room_of new ≤ room_of old + (2 * end_of part + 8)
+pub take_room : (old new : SetState) (part : Part) (frame : ℕ) (o : Option (Vec ℕ Global)) → TakeEnds old new part frame o → room_of new ≤ room_of old + (2 * end_of part + 20)
 take_room old new part frame None h = h.1
 take_room old new part frame (Some frames) h = omega (arith, h.1)
 

@@ -1,18 +1,33 @@
 -- The headers of IPv6 that are skipped, one after another.
-use Rattle.std.proofs.Common.{◌≡◌, ◌≢◌, ◌↔◌, inl, inr, ℕ, zero, suc, ◌<◌, ◌≤◌, Bool, true, false, List, length, drop, refl, sym, ap, ◌∙◌, subst, arith, Some}
-use Rattle.std.proofs.lemmas.Bool.{false≢true}
-use Rattle.net_udp.specs.Frames.{at, Reached, is_extension, is_atomic, fragment_header, fragment_of, skipped_size, IsSkipped, Stops, StopsAfter, ReachesOver}
+use Rattle.std.proofs.Common.{◌≡◌, ◌≢◌, ◌↔◌, inl, inr, ℕ, zero, suc, ◌<◌, ◌≤◌, ◌==◌, ◌&&◌, ◌||◌, Bool, true, false, List, length, drop, refl, sym, ap, ◌∙◌, subst, arith, Some}
+use Rattle.std.proofs.lemmas.Bool.{false≢true, or_cases}
+use Rattle.std.proofs.lemmas.Bool.Decides.{Decides-eqb}
+use Rattle.net_udp.specs.Frames.{at, Reached, is_extension, is_atomic, fragment_header, fragment_of, is_of_units, is_skippable, skipped_size, IsSkipped, Stops, StopsAfter, ReachesOver}
 use Rattle.net_udp.specs.declared.frames.packet.Fragment.{Fragment}
 
 -- the number of a fragment header is none of the others
 no_extension : (next : ℕ) → next ≡ fragment_header → is_extension next ≡ true → ⊥
 no_extension next is test = false≢true (ap is_extension (sym is) ∙ test)
 
+-- what is skipped is an extension header
+both_hold : (a b : Bool) → (a && b) ≡ true → a ≡ true
+both_hold true b e = refl
+both_hold false b e = cc
+
+named : (next n : ℕ) → is_extension n ≡ true → (next == n) ≡ true → is_extension next ≡ true
+named next n known e = ap is_extension ((Decides-eqb next n).0 e) ∙ known
+
+is_named : (next : ℕ) (bytes : List ℕ) → is_skippable next bytes ≡ true → is_extension next ≡ true
+is_named next bytes e = elim (or_cases (next == 0 || next == 60) ((next == 43) && (at bytes 3 == 0)) e) [
+  | inl options ↦ elim (or_cases (next == 0) (next == 60) options) [ inl hops ↦ named next 0 refl hops | inr target ↦ named next 60 refl target ]
+  | inr route ↦ named next 43 refl (both_hold (next == 43) (at bytes 3 == 0) route)
+]
+
 skipped_does_not_stop : (next : ℕ) (bytes : List ℕ) (r : Reached) → IsSkipped next bytes → Stops next bytes r → ⊥
-skipped_does_not_stop next bytes r (long, fits, inl test) (inl (plain, other, is)) = false≢true (sym plain ∙ test)
-skipped_does_not_stop next bytes r (long, fits, inl test) (inr (is_part, room, part, is)) = no_extension next is_part test
+skipped_does_not_stop next bytes r (long, fits, inl test) (inl (plain, other, is)) = false≢true (sym plain ∙ is_named next bytes test)
+skipped_does_not_stop next bytes r (long, fits, inl test) (inr (is_part, room, part, units, is)) = no_extension next is_part (is_named next bytes test)
 skipped_does_not_stop next bytes r (long, fits, inr (is_whole, whole)) (inl (plain, other, is)) = other is_whole
-skipped_does_not_stop next bytes r (long, fits, inr (is_whole, whole)) (inr (is_part, room, part, is)) = false≢true (sym part ∙ whole)
+skipped_does_not_stop next bytes r (long, fits, inr (is_whole, whole)) (inr (is_part, room, part, units, is)) = false≢true (sym part ∙ whole)
 
 -- a header that is skipped, and what follows it
 pub step : (next : ℕ) (bytes : List ℕ) (r : Reached) → IsSkipped next bytes → ReachesOver next bytes r ↔ ReachesOver (at bytes 0) (drop (skipped_size next bytes) bytes) r
@@ -32,17 +47,30 @@ cut_header next bytes r not_skipped not_there s = none s.0 s.1
 
 pub no_stop_in_extension : (next : ℕ) (bytes : List ℕ) (r : Reached) → next ≢ fragment_header → is_extension next ≡ true → Stops next bytes r → ⊥
 no_stop_in_extension next bytes r other test (inl (plain, _, is)) = false≢true (sym plain ∙ test)
-no_stop_in_extension next bytes r other test (inr (is_part, room, part, is)) = other is_part
+no_stop_in_extension next bytes r other test (inr (is_part, room, part, units, is)) = other is_part
+
+-- nothing is reached over a header that is not read
+pub unread : (next : ℕ) (bytes : List ℕ) (r : Reached) → next ≢ fragment_header → is_extension next ≡ true → is_skippable next bytes ≡ false → ReachesOver next bytes r → ⊥
+unread next bytes r other test kept = cut_header next bytes r (λ skipped. elim skipped.2 [ inl skip ↦ false≢true (sym kept ∙ skip) | inr part ↦ other part.0 ]) (no_stop_in_extension next bytes r other test)
 
 pub no_stop_in_fragment : (next : ℕ) (bytes : List ℕ) (r : Reached) → next ≡ fragment_header → length bytes < 8 → Stops next bytes r → ⊥
 no_stop_in_fragment next bytes r is_fragment short (inl (plain, other, is)) = other is_fragment
-no_stop_in_fragment next bytes r is_fragment short (inr (is_part, room, part, is)) = omega (arith, room)
+no_stop_in_fragment next bytes r is_fragment short (inr (is_part, room, part, units, is)) = omega (arith, room)
+
+-- nor in a fragment of no whole units
+pub no_stop_of_no_units : (next : ℕ) (bytes : List ℕ) (r : Reached) → next ≡ fragment_header → is_of_units bytes ≡ false → Stops next bytes r → ⊥
+no_stop_of_no_units next bytes r is_fragment odd (inl (plain, other, is)) = other is_fragment
+no_stop_of_no_units next bytes r is_fragment odd (inr (is_part, room, part, units, is)) = false≢true (sym odd ∙ units)
+
+pub part_of_no_units : (bytes : List ℕ) (r : Reached) → is_atomic bytes ≡ false → is_of_units bytes ≡ false → ReachesOver fragment_header bytes r → ⊥
+part_of_no_units bytes r part odd =
+    cut_header fragment_header bytes r (λ skipped. elim skipped.2 [ inl skip ↦ false≢true skip | inr whole ↦ false≢true (sym part ∙ whole.1) ]) (no_stop_of_no_units fragment_header bytes r refl odd)
 
 -- a fragment header that is not skipped is one of a part
-pub stops_at_part : (next : ℕ) (bytes : List ℕ) (part : Fragment) (content : List ℕ) → next ≡ fragment_header → 8 ≤ length bytes → (IsSkipped next bytes → ⊥) → part ≡ fragment_of bytes → content ≡ drop 8 bytes
+pub stops_at_part : (next : ℕ) (bytes : List ℕ) (part : Fragment) (content : List ℕ) → next ≡ fragment_header → 8 ≤ length bytes → (IsSkipped next bytes → ⊥) → is_of_units bytes ≡ true → part ≡ fragment_of bytes → content ≡ drop 8 bytes
     → Stops next bytes (record { protocol = at bytes 0; fragment = Some part; content = content })
-stops_at_part next bytes part content is_fragment long not_skipped part_is content_is =
-    inr (is_fragment, long, atom (is_atomic bytes) refl, λ i. record { protocol = at bytes 0; fragment = Some (part_is i); content = content_is i })
+stops_at_part next bytes part content is_fragment long not_skipped units part_is content_is =
+    inr (is_fragment, long, atom (is_atomic bytes) refl, units, λ i. record { protocol = at bytes 0; fragment = Some (part_is i); content = content_is i })
   where
     eight : skipped_size next bytes ≡ 8
     eight = ap (λ n. skipped_size n bytes) is_fragment
@@ -53,9 +81,9 @@ stops_at_part next bytes part content is_fragment long not_skipped part_is conte
 
 stops_one : (next : ℕ) (bytes : List ℕ) (r s : Reached) → Stops next bytes r → Stops next bytes s → r ≡ s
 stops_one next bytes r s (inl (_, _, is)) (inl (_, _, as_well)) = is ∙ sym as_well
-stops_one next bytes r s (inl (_, other, is)) (inr (is_part, _, _, as_well)) = absurd (other is_part)
-stops_one next bytes r s (inr (is_part, _, _, is)) (inl (_, other, as_well)) = absurd (other is_part)
-stops_one next bytes r s (inr (_, _, _, is)) (inr (_, _, _, as_well)) = is ∙ sym as_well
+stops_one next bytes r s (inl (_, other, is)) (inr (is_part, _, _, _, as_well)) = absurd (other is_part)
+stops_one next bytes r s (inr (is_part, _, _, _, is)) (inl (_, other, as_well)) = absurd (other is_part)
+stops_one next bytes r s (inr (_, _, _, _, is)) (inr (_, _, _, _, as_well)) = is ∙ sym as_well
 
 one : (headers others next : ℕ) (bytes : List ℕ) (r s : Reached) → StopsAfter headers next bytes r → StopsAfter others next bytes s → r ≡ s
 one zero zero next bytes r s p q = stops_one next bytes r s p q

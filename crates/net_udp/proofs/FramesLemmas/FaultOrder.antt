@@ -1,5 +1,5 @@
 -- The faults stand in one order, and a packet has none.
-use Rattle.std.proofs.Common.{◌≡◌, ◌↔◌, inl, inr, ℕ, ◌<◌, ◌≤◌, true, false, List, refl, sym, ap, subst, ◌∙◌, arith, None, Some, Result, Ok, Err, IsOkAnd}
+use Rattle.std.proofs.Common.{◌≡◌, ◌↔◌, inl, inr, ℕ, ◌<◌, ◌≤◌, true, false, List, length, refl, sym, ap, subst, ◌∙◌, arith, None, Some, Result, Ok, Err, IsOkAnd}
 use Rattle.std.proofs.lemmas.Bool.{cases_lt, false≢true}
 use Rattle.net_udp.specs.Frames.{at, Linked, SpellsLink, link_named, Reached, Packet, HasHeader, size_of, total_of, Reaches, held_of, may_be_udp, packet_of, SpellsIp, IsLinked, SpellsFrame, Holds, HoldsIp, place, FirstFault, FirstIpFault, IsNotWhole, Judges, JudgesIp, shown}
 use Rattle.net_udp.specs.declared.frames.link.LinkType.{LinkType}
@@ -151,6 +151,19 @@ length_first network bytes upper fault header reaches udp wrong = first fault wr
     first Length short = ((header, short), below_length)
     first Cut (long, cut) = ((header, cut), below_cut long)
     first _ k = absurd k
+
+-- ---- a whole packet in which nothing is reached
+
+pub extension_first : (network : Network) (bytes : List ℕ) → HasHeader network bytes → size_of network bytes ≤ total_of network bytes → total_of network bytes ≤ length bytes → ((r : Reached) → Reaches network bytes r → ⊥) → FirstIpFault network bytes Extension
+extension_first network bytes header long whole none = ((header, none), earlier)
+  where
+    earlier : (f : FrameFault) → place f < 8 → HoldsIp f network bytes → ⊥
+    earlier Header below h = h header
+    earlier Protocol below h = none h.1.0 h.1.1
+    earlier Length below h = omega (arith, h.1, long)
+    earlier Cut below h = omega (arith, h.1, whole)
+    earlier Extension below h = omega arith
+    earlier _ below h = h
 
 -- ---- the faults of a frame that carries no packet
 

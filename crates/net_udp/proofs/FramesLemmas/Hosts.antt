@@ -1,23 +1,23 @@
--- A frame with a whole header of IP names two hosts.
+-- A frame that tells hosts names two.
 use Rattle.std.proofs.Common.{◌≡◌, ℕ, List, ◌∙◌, ap, sym, subst, Option, Some, None, MatchOption}
 use Rattle.std.specs.declared.net.ip_addr.IpAddr.{IpAddr}
-use Rattle.net_udp.specs.Frames.{Linked, HasHeader, source_of, target_of, IsBetween, IsLinked}
+use Rattle.net_udp.specs.Frames.{Linked, TellsHosts, source_of, target_of, IsBetween, IsLinked}
 use Rattle.net_udp.specs.declared.frames.link.Network.{Network}
 use Rattle.net_udp.proofs.FramesLemmas.Links.{linked_one}
 
 is_some : (n m : Network) → Some n ≡ Some m → n ≡ m
 is_some n m e = cc
 
--- what is linked and has no whole header names none
+-- what is linked and tells none names none
 pub none_between : (number : ℕ) (frame : List ℕ) (c : Linked) (network : Network) → IsLinked number frame c → c.network ≡ Some network
-    → (HasHeader network c.content → ⊥) → (source target : IpAddr) → IsBetween number frame source target → ⊥
+    → (TellsHosts network c.content → ⊥) → (source target : IpAddr) → IsBetween number frame source target → ⊥
 none_between number frame c network linked is bare source target b =
     let one = linked_one number frame b.linked c b.carries linked in
     let same = is_some b.network network (sym b.of_ip ∙ ap (λ (l : Linked). l.network) one ∙ is) in
-    bare (subst (λ n. HasHeader n c.content) same (subst (λ (l : Linked). HasHeader b.network l.content) one b.header))
+    bare (subst (λ n. TellsHosts n c.content) same (subst (λ (l : Linked). TellsHosts b.network l.content) one b.tells))
 
 pub hosts_found : (number : ℕ) (frame : List ℕ) (c : Linked) (network : Network) → IsLinked number frame c → c.network ≡ Some network → (found : Option (IpAddr × IpAddr))
-    → MatchOption found (HasHeader network c.content → ⊥) (λ hosts. HasHeader network c.content × (hosts ≡ (source_of network c.content, target_of network c.content)))
+    → MatchOption found (TellsHosts network c.content → ⊥) (λ hosts. TellsHosts network c.content × (hosts ≡ (source_of network c.content, target_of network c.content)))
     → MatchOption found ((source target : IpAddr) → IsBetween number frame source target → ⊥) (λ hosts. IsBetween number frame hosts.0 hosts.1)
 hosts_found number frame c network linked is None bare = none_between number frame c network linked is bare
 hosts_found number frame c network linked is (Some hosts) (has, are) = record {
@@ -25,7 +25,7 @@ hosts_found number frame c network linked is (Some hosts) (has, are) = record {
   network = network;
   carries = linked;
   of_ip = is;
-  header = has;
+  tells = has;
   from = ap (λ h. h.0) are;
   to = ap (λ h. h.1) are;
 }

@@ -3,7 +3,7 @@ use Rattle.std.proofs.Common.{◌≡◌, ℕ, zero, suc, ◌+◌, Bool, true, fa
 use Rattle.std.proofs.lemmas.List.{get_or-append-add, get_or-map, get_or_append_left, get_or_past, length-map}
 use Rattle.std.proofs.lemmas.Bool.{cases_Bool}
 use Rattle.net_udp.specs.Copies.{Packet as Recorded, IsCopy}
-use Rattle.net_udp.specs.Fragments.{Agrees, AreLaid, Held, IsHeld, content_of as put_together, nothing_held, same_key, Arrival, IsSetOf, SetState, parts_of, IsKeptOf, PutEnds, Sets, is_long, room_under, set_at, Give}
+use Rattle.net_udp.specs.Fragments.{Agrees, AreLaid, Held, IsHeld, content_of as put_together, nothing_held, same_key, Arrival, IsSetOf, SetState, parts_of, IsKeptOf, PutEnds, Sets, is_long, room_under, set_at, Give, PutTogether}
 use Rattle.net_udp.specs.declared.fragments.outcome.Outcome.{Outcome}
 use Rattle.net_udp.specs.declared.fragments.outcome.Outcome.TheVariants.{Waits}
 use Rattle.net_udp.specs.Fragments.Whole.{Content, Part}
@@ -107,7 +107,7 @@ right_stays before h = let x : Right ≡ Wrong = h.0 in cc
 
 -- ---- copies
 
-none_before : (p : Recorded) → IsCopy [] p → ⊥
+pub none_before : (p : Recorded) → IsCopy [] p → ⊥
 none_before p copy = search rules
 
 is_whole : (link : ℕ) (bytes : List ℕ) (p : Packet) → SpellsFrame link bytes p → p.fragment ≡ None → (q : Packet) → SpellsFrame link bytes q → q.fragment ≡ None
@@ -154,7 +154,7 @@ here_history = (
 
 -- ---- what is held of the fragments
 
-laid : (old : List (Option ℕ)) (bytes : List ℕ) → AreLaid old (length old) bytes (old ++ map (λ (b : ℕ). Some b) bytes)
+pub laid : (old : List (Option ℕ)) (bytes : List ℕ) → AreLaid old (length old) bytes (old ++ map (λ (b : ℕ). Some b) bytes)
 laid old bytes =
     let size : length (old ++ map (λ (b : ℕ). Some b) bytes) ≡ length old + length bytes = length-append old (map (λ (b : ℕ). Some b) bytes) ∙ ap (λ n. length old + n) (length-map bytes (λ (b : ℕ). Some b)) in
     record {
@@ -167,7 +167,7 @@ laid old bytes =
     }
 
 abbrev part_in : Packet → ℕ → Bool → Part
-part_in p place more = record { protocol = p.protocol; place = place; more = more; content = p.content }
+part_in p place more = record { protocol = p.protocol; place = place; more = more; content = p.content; may_overlap = true }
 
 abbrev all_held : Held
 all_held = record { cells = first_set.held.cells ++ map (λ b. Some b) last_part.content; ended = true; protocol = Some 17 }
@@ -193,7 +193,7 @@ last_arrival = arrival_of (raw_frame last_bytes) 2 last_part (record { id = 7; p
 
 -- ---- what waits under the key
 
-at_key : (key : Key) (s : SetState) → set_at key ((key, s) ∷ []) ≡ Some s
+pub at_key : (key : Key) (s : SetState) → set_at key ((key, s) ∷ []) ≡ Some s
 at_key key s = ap (λ b. cond b (Some s) None) (same_itself key)
 
 other_way : (key other : Key) → same_key key other ≡ false → same_key other key ≡ false
@@ -202,7 +202,7 @@ other_way key other e = elim (cases_Bool (same_key other key)) [
   | inr differs ↦ differs
 ]
 
-at_other : (key other : Key) (s : SetState) → same_key key other ≡ false → set_at other ((key, s) ∷ []) ≡ None
+pub at_other : (key other : Key) (s : SetState) → same_key key other ≡ false → set_at other ((key, s) ∷ []) ≡ None
 at_other key other s e = ap (λ b. cond b (Some s) None) (other_way key other e)
 
 nothing_goes : LetsGoOld worked_key worked_time [] [] []
@@ -238,6 +238,8 @@ first_set_is : IsSetOf first_set (first_arrival ∷ [])
 first_set_is = record {
   held = λ e. stands_more nothing_held (part_in first_part 0 true) first_set.held (nothing_agrees (part_in first_part 0 true) (omega arith)) first_added [] ((empty_set worked_time).held refl);
   frames = λ e. refl;
+  extents = λ e x. (λ one. one, λ one. one);
+  distinct = λ e two. elim two [ inl one ↦ one.1 | inr none ↦ none ];
   apart = λ e. absurd (not_both false e refl);
   nothing = λ e. absurd (not_both false e refl);
 }
@@ -255,7 +257,7 @@ first_ends = (
   refl,
 )
 
-not_full_waits : Waits ≡ Outcome.Full → ⊥
+pub not_full_waits : Waits ≡ Outcome.Full → ⊥
 not_full_waits e = cc
 
 first_takes : TakesPart worked_key first_arrival [] waits_first first_step.brought
@@ -284,9 +286,11 @@ first_history = (
 
 -- ---- the last gives the content
 
-last_gives : (content : Content) → content ≡ worked_content → (arrivals : List Arrival) → IsKeptOf (Some first_set) arrivals → Give (parts_of (last_arrival ∷ arrivals)) content
-last_gives content e arrivals kept =
-    whole_given all_held (parts_of (last_arrival ∷ arrivals)) content (stands_more first_set.held (part_in last_part 8 false) all_held last_agrees last_added (parts_of arrivals) (kept.2.held refl)) refl (subst (IsHeld all_held) (sym e) (refl, refl))
+last_gives : (content : Content) → content ≡ worked_content → (arrivals : List Arrival) → IsKeptOf (Some first_set) arrivals → PutTogether (parts_of (last_arrival ∷ arrivals)) content
+last_gives content e arrivals kept = (
+  whole_given all_held (parts_of (last_arrival ∷ arrivals)) content (stands_more first_set.held (part_in last_part 8 false) all_held last_agrees last_added (parts_of arrivals) (kept.2.held refl)) refl (subst (IsHeld all_held) (sym e) (refl, refl)),
+  λ two. elim two [ inl one ↦ not_both true refl one.0 | inr before ↦ kept.2.distinct refl before ],
+)
 
 not_full_whole : (content : Made) (frames : Vec ℕ Global) → Whole content frames ≡ Outcome.Full → ⊥
 not_full_whole content frames e = cc
@@ -338,7 +342,7 @@ icmp_spells = (
   (RawIpv6, refl, (omega arith, refl, (refl, refl))),
   refl,
   spells_ip Unknown Ipv6 last_of_icmp (record { protocol = 58; fragment = Some last_named; content = part_of_icmp.content }) (omega arith, refl) (omega arith, omega arith)
-      (0, inr (refl, omega arith, refl, refl)) refl,
+      (0, inr (refl, omega arith, refl, refl, refl)) refl,
 )
 
 pub udp_fate : (content : Made) (frames : Vec ℕ Global) (d : Given) → put_together content ≡ worked_content → IsDatagram icmp_frame part_of_icmp acknowledgement d → IsFateOf icmp_frame New (Some (Whole content frames)) false (Datagram d)

@@ -5,7 +5,7 @@ use Rattle.std.proofs.lemmas.List.{reverse-append}
 use Rattle.std.proofs.lemmas.Bool.{cases_Bool}
 use Rattle.net_udp.specs.Frames.{Packet}
 use Rattle.net_udp.specs.declared.frames.packet.Fragment.{Fragment}
-use Rattle.net_udp.specs.Fragments.{same_key, Arrival, SetState, parts_of, IsKeptOf, PutEnds, Sets, frames_of, set_at, Give, content_of}
+use Rattle.net_udp.specs.Fragments.{same_key, Arrival, SetState, parts_of, IsKeptOf, PutEnds, Sets, frames_of, set_at, PutTogether, content_of}
 use Rattle.net_udp.specs.declared.fragments.outcome.Outcome.{Outcome}
 use Rattle.net_udp.specs.declared.fragments.outcome.Outcome.TheVariants.{Waits, Apart}
 use Rattle.net_udp.specs.Fragments.Whole.{Content, Part}
@@ -14,6 +14,7 @@ use Rattle.net_udp.specs.declared.fragments.key.Key.{Key}
 use Rattle.net_udp.specs.declared.fragments.outcome.Outcome.TheVariants.{Whole}
 use Rattle.net_udp.specs.Recording.{BroughtState, IsPart, LetsGoOld, MakesRoom, TakesPart, arrival_of, key_of, IsBrought, IsPutTogether, IsHistory, Step, waiting}
 use Rattle.net_udp.proofs.RecordingLemmas.Accounting.{none_waits, old_at, some_is}
+use Rattle.net_udp.proofs.FragmentsLemmas.Sets.{none_made, none_more}
 use Rattle.net_udp.proofs.RecordingLemmas.Keys.{same_back, same_itself, same_set_at}
 
 -- what waits under the key is that of fragments which the frames brought
@@ -81,10 +82,10 @@ all_kept (step ∷ before) h k = elim h.0 [
 
 -- ---- a content that was put together
 
-frames_kept : (o : Option SetState) (arrivals : List Arrival) (a : Arrival) (content : Content) → IsKeptOf o arrivals → Give (parts_of (a ∷ arrivals)) content → frames_of o ≡ reverse (map (λ (x : Arrival). x.frame) arrivals)
+frames_kept : (o : Option SetState) (arrivals : List Arrival) (a : Arrival) (content : Content) → IsKeptOf o arrivals → PutTogether (parts_of (a ∷ arrivals)) content → frames_of o ≡ reverse (map (λ (x : Arrival). x.frame) arrivals)
 frames_kept None arrivals a content kept give = ap (λ (l : List Arrival). reverse (map (λ (x : Arrival). x.frame) l)) (sym kept)
 frames_kept (Some s) arrivals a content kept give = elim (cases_Bool s.spoiled) [
-  | inl apart ↦ absurd ((kept.2.apart apart).1 content give.each.1)
+  | inl apart ↦ absurd (none_made (parts_of (a ∷ arrivals)) content (none_more a.part (parts_of arrivals) (kept.2.apart apart).1) give)
   | inr sound ↦ kept.2.frames sound
 ]
 

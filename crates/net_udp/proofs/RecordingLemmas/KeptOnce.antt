@@ -2,7 +2,7 @@
 use Rattle.std.proofs.Common.{◌≡◌, ◌≢◌, ◌↔◌, ℕ, ◌+◌, ◌<◌, ◌≤◌, Bool, true, false, inl, inr, List, [], ◌∷◌, ◌++◌, length, length-append, map, Option, Some, None, Vec, Global, refl, sym, ap, ◌∙◌, subst, arith}
 use Rattle.std.proofs.lemmas.Bool.{cases_lt, cases_Bool}
 use Rattle.std.proofs.lemmas.List.{get_or-map, get_or_append_left, length-map}
-use Rattle.net_udp.specs.Fragments.{Held, HoldsPart, StandsFor, content_of, same_key, AreApart, Arrival, IsSetOf, SetState, parts_of, CountsAt, IsFull, IsKeptOf, IsTried, MayBePut, PutEnds, Sets, frames_of, is_long, least_behind, room_of_all, room_under, set_at, EndsRightly, HasPart, end_of}
+use Rattle.net_udp.specs.Fragments.{Held, HoldsPart, StandsFor, content_of, same_key, AreApart, AreNone, Arrival, IsSetOf, SetState, parts_of, CountsAt, IsFull, IsKeptOf, IsTried, MayBePut, PutEnds, Sets, frames_of, is_long, least_behind, room_of_all, room_under, set_at, EndsRightly, HasPart, end_of}
 use Rattle.net_udp.specs.declared.fragments.outcome.Outcome.{Outcome}
 use Rattle.net_udp.specs.declared.fragments.outcome.Outcome.TheVariants.{Waits, Apart, Empty, TooLong, Full}
 use Rattle.net_udp.specs.Fragments.Whole.{Content, Part}
@@ -12,6 +12,7 @@ use Rattle.net_udp.specs.declared.fragments.outcome.Outcome.TheVariants.{Whole}
 use Rattle.net_udp.proofs.FragmentsLemmas.Contents.{one_content}
 use Rattle.net_udp.proofs.FragmentsLemmas.Members.{all_at, all_weaker, member}
 use Rattle.net_udp.proofs.FragmentsLemmas.Holding.{not_both, by_end}
+use Rattle.net_udp.proofs.FragmentsLemmas.Sets.{none_made}
 use Rattle.net_udp.specs.Recording.{BroughtState, LetsGoOld, MakesRoom, TakesPart, frames_at}
 use Rattle.net_udp.proofs.RecordingLemmas.Keys.{same_set_at}
 
@@ -50,16 +51,20 @@ filled_has h p held = record {
 held_not_apart : (h : Held) (parts : List Part) → StandsFor h parts → AreApart parts → ⊥
 held_not_apart h parts s apart = apart (filled_content h) (all_weaker (HoldsPart h) (HasPart (filled_content h)) (filled_has h) parts s.each)
 
+set_not_none : (s : SetState) (arrivals : List Arrival) → s.spoiled ≡ false → IsSetOf s arrivals → AreNone (parts_of arrivals) → ⊥
+set_not_none s arrivals sound is (inl apart) = held_not_apart s.held (parts_of arrivals) (is.held sound) apart
+set_not_none s arrivals sound is (inr two) = is.distinct sound two
+
 -- ---- what is kept of the same fragments
 
 set_frames : (s t : SetState) (arrivals : List Arrival) → IsSetOf s arrivals → IsSetOf t arrivals → s.frames ≡ t.frames
 set_frames s t arrivals g h = elim (cases_Bool s.spoiled) [
   | inl a ↦ elim (cases_Bool t.spoiled) [
     | inl b ↦ (g.apart a).0 ∙ sym (h.apart b).0
-    | inr b ↦ absurd (held_not_apart t.held (parts_of arrivals) (h.held b) (g.apart a).1)
+    | inr b ↦ absurd (set_not_none t arrivals b h (g.apart a).1)
   ]
   | inr a ↦ elim (cases_Bool t.spoiled) [
-    | inl b ↦ absurd (held_not_apart s.held (parts_of arrivals) (g.held a) (h.apart b).1)
+    | inl b ↦ absurd (set_not_none s arrivals a g (h.apart b).1)
     | inr b ↦ g.frames a ∙ sym (h.frames b)
   ]
 ]
@@ -87,10 +92,10 @@ set_size : (s t : SetState) (arrivals : List Arrival) → IsSetOf s arrivals →
 set_size s t arrivals g h = elim (cases_Bool s.spoiled) [
   | inl a ↦ elim (cases_Bool t.spoiled) [
     | inl b ↦ ap (λ (x : Held). length x.cells) (g.nothing a ∙ sym (h.nothing b))
-    | inr b ↦ absurd (held_not_apart t.held (parts_of arrivals) (h.held b) (g.apart a).1)
+    | inr b ↦ absurd (set_not_none t arrivals b h (g.apart a).1)
   ]
   | inr a ↦ elim (cases_Bool t.spoiled) [
-    | inl b ↦ absurd (held_not_apart s.held (parts_of arrivals) (g.held a) (h.apart b).1)
+    | inl b ↦ absurd (set_not_none s arrivals a g (h.apart b).1)
     | inr b ↦ held_size s.held t.held (parts_of arrivals) (g.held a) (h.held b)
   ]
 ]
@@ -105,11 +110,11 @@ no_snoc : (frames : List ℕ) (n : ℕ) → [] ≡ frames ++ n ∷ [] → ⊥
 no_snoc [] n e = cc
 no_snoc (x ∷ xs) n e = cc
 
-waits_not_apart : (o : Option SetState) (arrivals : List Arrival) (frames : List ℕ) (n : ℕ) → IsKeptOf o arrivals → frames_of o ≡ frames ++ n ∷ [] → AreApart (parts_of arrivals) → ⊥
+waits_not_apart : (o : Option SetState) (arrivals : List Arrival) (frames : List ℕ) (n : ℕ) → IsKeptOf o arrivals → frames_of o ≡ frames ++ n ∷ [] → AreNone (parts_of arrivals) → ⊥
 waits_not_apart None arrivals frames n kept e apart = no_snoc frames n e
 waits_not_apart (Some s) arrivals frames n kept e apart = elim (cases_Bool s.spoiled) [
   | inl a ↦ no_snoc frames n (sym (kept.2.apart a).0 ∙ e)
-  | inr a ↦ held_not_apart s.held (parts_of arrivals) (kept.2.held a) apart
+  | inr a ↦ set_not_none s arrivals a kept.2 apart
 ]
 
 -- what is kept in two readings is that of the same fragments
@@ -169,24 +174,24 @@ module _ (o x m y : Option SetState) (all most : ℕ) (a : Arrival) (l : List Ar
 
   when_waits : (v : Outcome) → PutEnds o x all a Waits → PutEnds m y most a v → MayBePut a.part → IsTried most a.part v → v ≢ Full → Same x y × IsSame Waits v
   when_waits Waits e f t u n = (record { arrivals = a ∷ l; one = e.0 l g; other = f.0 l h }, refl)
-  when_waits (Whole content frames) e f t u n = absurd (e.1 l (content_of content) g (f.1 l h))
+  when_waits (Whole content frames) e f t u n = absurd (e.1 l (content_of content) g (f.1 l h).0)
   when_waits (Apart frames) e f t u n = absurd (waits_not_apart x (a ∷ l) (frames_of o) a.frame (e.0 l g) e.2 (f.2 l h))
   when_waits Empty e f t u n = absurd (put_not_empty a.part t u)
   when_waits TooLong e f t u n = absurd (put_not_long a.part t u.1)
   when_waits Full e f t u n = absurd (n refl)
 
   when_whole : (content : Given) (frames : Vec ℕ Global) (v : Outcome) → PutEnds o x all a (Whole content frames) → PutEnds m y most a v → MayBePut a.part → IsTried most a.part v → v ≢ Full → Same x y × IsSame (Whole content frames) v
-  when_whole content frames Waits e f t u n = absurd (f.1 l (content_of content) h (e.1 l g))
+  when_whole content frames Waits e f t u n = absurd (f.1 l (content_of content) h (e.1 l g).0)
   when_whole content frames (Whole others shares) e f t u n =
-      (both_gone e.0 f.0, (others, shares, refl, one_content (parts_of (a ∷ l)) (content_of content) (content_of others) (e.1 l g) (f.1 l h), e.2 ∙ frames_more ∙ sym f.2))
-  when_whole content frames (Apart others) e f t u n = absurd (f.2 l h (content_of content) (e.1 l g).each)
+      (both_gone e.0 f.0, (others, shares, refl, one_content (parts_of (a ∷ l)) (content_of content) (content_of others) (e.1 l g).0 (f.1 l h).0, e.2 ∙ frames_more ∙ sym f.2))
+  when_whole content frames (Apart others) e f t u n = absurd (none_made (parts_of (a ∷ l)) (content_of content) (f.2 l h) (e.1 l g))
   when_whole content frames Empty e f t u n = absurd (put_not_empty a.part t u)
   when_whole content frames TooLong e f t u n = absurd (put_not_long a.part t u.1)
   when_whole content frames Full e f t u n = absurd (n refl)
 
   when_apart : (frames : Vec ℕ Global) (v : Outcome) → PutEnds o x all a (Apart frames) → PutEnds m y most a v → MayBePut a.part → IsTried most a.part v → v ≢ Full → Same x y × IsSame (Apart frames) v
   when_apart frames Waits e f t u n = absurd (waits_not_apart y (a ∷ l) (frames_of m) a.frame (f.0 l h) f.2 (e.2 l g))
-  when_apart frames (Whole content others) e f t u n = absurd (e.2 l g (content_of content) (f.1 l h).each)
+  when_apart frames (Whole content others) e f t u n = absurd (none_made (parts_of (a ∷ l)) (content_of content) (e.2 l g) (f.1 l h))
   when_apart frames (Apart others) e f t u n = (record { arrivals = a ∷ l; one = e.0 l g; other = f.0 l h }, (others, refl, e.1 ∙ kept_frames o m l g h ∙ sym f.1))
   when_apart frames Empty e f t u n = absurd (put_not_empty a.part t u)
   when_apart frames TooLong e f t u n = absurd (put_not_long a.part t u.1)

@@ -7,7 +7,7 @@ use Rattle.net_udp.specs.Frames.{Packet, is_identified, SpellsFrame}
 use Rattle.net_udp.specs.declared.frames.packet.Fragment.{Fragment}
 use Rattle.net_udp.specs.Fragments.{Sets}
 use Rattle.net_pcap.specs.{FrameParts}
-use Rattle.net_udp.specs.Recording.{DoesNothing, IsNoPart, Wants, WantsPart, key_of, key_protocol, Comes, IsLike, interface_of, likeness_by, recorded}
+use Rattle.net_udp.specs.Recording.{DoesNothing, IsNoPart, Wants, WantsPart, key_of, key_protocol, may_overlap, Comes, IsLike, interface_of, likeness_by, recorded}
 use Rattle.net_udp.specs.declared.recording.likeness.Likeness.{Likeness}
 
 -- a packet that was recorded where and when a frame was
@@ -32,12 +32,14 @@ pub does_nothing : (b : Bool) (frame : FrameParts) → IsNoPart frame → DoesNo
 does_nothing true frame h = tt
 does_nothing false frame h = h
 
-pub wants_part : (frame : FrameParts) (number at : ℕ) (named time : Option ℕ) (p : Packet) (f : Fragment) (old : Sets) → named ≡ key_protocol p.source p.protocol → SpellsFrame frame.link frame.bytes p → p.fragment ≡ Some f → time ≡ frame.time → at ≡ number
-    → WantsPart (record { source = p.source; target = p.target; protocol = named; id = f.id }) (record { part = record { protocol = p.protocol; place = f.place; more = f.more; content = p.content }; time = time; frame = at }) old → Wants old frame number
-wants_part frame number at named time p f old k spells is e n wants = (
+pub wants_part : (frame : FrameParts) (number at : ℕ) (named time : Option ℕ) (overlap : Bool) (p : Packet) (f : Fragment) (old : Sets) → named ≡ key_protocol p.source p.protocol → overlap ≡ may_overlap p.source → SpellsFrame frame.link frame.bytes p → p.fragment ≡ Some f → time ≡ frame.time → at ≡ number
+    → WantsPart (record { source = p.source; target = p.target; protocol = named; id = f.id }) (record { part = record { protocol = p.protocol; place = f.place; more = f.more; content = p.content; may_overlap = overlap }; time = time; frame = at }) old → Wants old frame number
+wants_part frame number at named time overlap p f old k v spells is e n wants = (
   p,
   f,
   (spells, is),
-  subst (λ (m : ℕ). WantsPart (key_of p f) (record { part = record { protocol = p.protocol; place = f.place; more = f.more; content = p.content }; time = frame.time; frame = m }) old) n
-      (subst (λ (t : Option ℕ). WantsPart (key_of p f) (record { part = record { protocol = p.protocol; place = f.place; more = f.more; content = p.content }; time = t; frame = at }) old) e (subst (λ (o : Option ℕ). WantsPart (record { source = p.source; target = p.target; protocol = o; id = f.id }) (record { part = record { protocol = p.protocol; place = f.place; more = f.more; content = p.content }; time = time; frame = at }) old) k wants)),
+  subst (λ (m : ℕ). WantsPart (key_of p f) (record { part = record { protocol = p.protocol; place = f.place; more = f.more; content = p.content; may_overlap = may_overlap p.source }; time = frame.time; frame = m }) old) n
+      (subst (λ (t : Option ℕ). WantsPart (key_of p f) (record { part = record { protocol = p.protocol; place = f.place; more = f.more; content = p.content; may_overlap = may_overlap p.source }; time = t; frame = at }) old) e
+      (subst (λ (b : Bool). WantsPart (key_of p f) (record { part = record { protocol = p.protocol; place = f.place; more = f.more; content = p.content; may_overlap = b }; time = time; frame = at }) old) v
+      (subst (λ (o : Option ℕ). WantsPart (record { source = p.source; target = p.target; protocol = o; id = f.id }) (record { part = record { protocol = p.protocol; place = f.place; more = f.more; content = p.content; may_overlap = overlap }; time = time; frame = at }) old) k wants))),
 )

@@ -7,7 +7,7 @@ use Rattle.net_udp.specs.Fragments.Whole.{Content, Part, end_of, EndsRightly, Am
 
 -- the part that a value in memory is
 abbrev pub part_of : Brought → Part
-part_of p = record { protocol = p.protocol; place = p.place; more = p.more; content = p.content.now }
+part_of p = record { protocol = p.protocol; place = p.place; more = p.more; content = p.content.now; may_overlap = p.may_overlap }
 
 -- the content that a value in memory is
 abbrev pub content_of : Given → Content

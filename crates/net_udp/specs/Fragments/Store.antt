@@ -8,9 +8,10 @@ use Rattle.net_udp.specs.declared.fragments.outcome.Outcome.TheVariants.{Waits, 
 use Rattle.net_udp.specs.declared.fragments.fragments.Joined.{Joined}
 use Rattle.net_udp.specs.declared.fragments.fragments.Joined.TheVariants as joined
 use Rattle.net_udp.specs.Fragments.Whole.{Content, Give, HasPart, Part, end_of}
-use Rattle.net_udp.specs.Fragments.Pieces.{Agrees, IsComplete, content_of}
+use Rattle.net_udp.specs.Fragments.Overlaps.{PutTogether}
+use Rattle.net_udp.specs.Fragments.Pieces.{IsComplete, content_of}
 use Rattle.net_udp.specs.Fragments.Key.{same_key}
-use Rattle.net_udp.specs.Fragments.Set.{Arrival, AreApart, IsSetOf, SetState, TakeEnds, parts_of, room_of}
+use Rattle.net_udp.specs.Fragments.Set.{Arrival, AreNone, IsSetOf, MayJoin, SetState, TakeEnds, parts_of, room_of}
 
 -- what waits, by its keys
 abbrev pub Sets : Type 0
@@ -36,13 +37,13 @@ room_under (Some s) = room_of s
 abbrev pub CountsAt : Key → Sets → Sets → Type 0
 CountsAt key old new = room_of_all new + room_under (set_at key old) ≡ room_of_all old + room_under (set_at key new)
 
--- where so many bytes wait there is room for the part: it is counted for at most 264 more than two for each byte
+-- where so many bytes wait there is room for the part: it is counted for at most 276 more than two for each byte
 abbrev pub HasRoom : ℕ → Part → Type 0
-HasRoom all p = all + (2 * end_of p + 264) ≤ most_room
+HasRoom all p = all + (2 * end_of p + 276) ≤ most_room
 
 -- there is none
 abbrev pub IsFull : ℕ → Part → Type 0
-IsFull all p = most_room < all + (2 * end_of p + 264)
+IsFull all p = most_room < all + (2 * end_of p + 276)
 
 -- how many bytes wait is counted, and they are not too many
 pub record IsCounted (sets : Sets) (counted : ℕ) : Type 0 where
@@ -78,8 +79,8 @@ Comes old new a = (arrivals : List Arrival) → IsKeptOf old arrivals → IsKept
 -- what becomes of a fragment, and of what waits under its key; so many bytes waited under all keys
 abbrev pub PutEnds : Option SetState → Option SetState → ℕ → Arrival → Outcome → Type 0
 PutEnds old new all a Waits = Comes old new a × ((arrivals : List Arrival) (whole : Content) → IsKeptOf old arrivals → Give (parts_of (a ∷ arrivals)) whole → ⊥) × (frames_of new ≡ frames_of old ++ a.frame ∷ [])
-PutEnds old new all a (Whole content frames) = (new ≡ None) × ((arrivals : List Arrival) → IsKeptOf old arrivals → Give (parts_of (a ∷ arrivals)) (content_of content)) × (frames.items ≡ frames_of old ++ a.frame ∷ [])
-PutEnds old new all a (Apart frames) = Comes old new a × (frames.items ≡ frames_of old) × ((arrivals : List Arrival) → IsKeptOf old arrivals → AreApart (parts_of (a ∷ arrivals))) × (frames_of new ≡ [])
+PutEnds old new all a (Whole content frames) = (new ≡ None) × ((arrivals : List Arrival) → IsKeptOf old arrivals → PutTogether (parts_of (a ∷ arrivals)) (content_of content)) × (frames.items ≡ frames_of old ++ a.frame ∷ [])
+PutEnds old new all a (Apart frames) = Comes old new a × (frames.items ≡ frames_of old) × ((arrivals : List Arrival) → IsKeptOf old arrivals → AreNone (parts_of (a ∷ arrivals))) × (frames_of new ≡ [])
 PutEnds old new all a Empty = (new ≡ old) × (a.part.content ≡ [])
 PutEnds old new all a TooLong = (new ≡ old) × ((whole : Content) → HasPart whole a.part → 65535 < length whole.bytes)
 PutEnds old new all a Full = (new ≡ old) × IsFull all a.part × (end_of a.part ≤ 65535)
@@ -104,12 +105,12 @@ IsTried all p TooLong = (1 ≤ length p.content) × (65535 < end_of p + least_be
 IsTried all p Full = MayBePut p × IsFull all p
 
 -- memory is wanted only for a fragment that is taken: it brings bytes, its packet may be as long, there is room for it, and
--- it may be of one packet with those that wait
+-- it may come to those that wait
 pub record WantsMemory (old : Option SetState) (all : ℕ) (p : Part) : Type 0 where
   pub some : 1 ≤ length p.content
   pub short : end_of p ≤ 65535
   pub room : HasRoom all p
-  pub agrees : (s : SetState) → old ≡ Some s → (s.spoiled ≡ false) × Agrees s.held p
+  pub agrees : (s : SetState) → old ≡ Some s → (s.spoiled ≡ false) × MayJoin s p
 
 -- the same of a fragment that comes to a set that waits, or to none
 abbrev pub JoinEnds : Option SetState → Option SetState → Part → ℕ → Joined → Type 0

@@ -2,12 +2,14 @@
 use Rattle.std.specs.Prelude.{◌≡◌, ◌≢◌, ℕ, ◌+◌, ◌<◌, ◌≤◌, Bool, true, false, ◌⊎◌, List, [], ◌∷◌, ◌++◌, length, slice_index}
 use Rattle.std.specs.List.{AllByRecursion}
 
--- a part: the protocol that its fragment names, where it begins in the content, whether parts follow it, and its bytes
+-- a part: the protocol that its fragment names, where it begins in the content, whether parts follow it, its bytes, and whether
+-- it may overlap with others of its packet
 pub record Part : Type 0 where
   pub protocol : ℕ
   pub place : ℕ
   pub more : Bool
   pub content : List ℕ
+  pub may_overlap : Bool
 
 -- what a packet carries: the protocol with which it begins, and its bytes
 pub record Content : Type 0 where

@@ -9,9 +9,15 @@ pub record Reached : Type 0 where
   pub fragment : Option Fragment
   pub content : List ℕ
 
--- hop-by-hop options, routing and destination options, in any order and number
+-- hop-by-hop options, routing, destination options, authentication (RFC 4302), mobility (RFC 6275), host identity (RFC 7401)
+-- and shim6 (RFC 5533), in any order and number
 abbrev pub is_extension : ℕ → Bool
-is_extension next = next == 0 || next == 43 || next == 60
+is_extension next = next == 0 || next == 43 || next == 60 || next == 51 || next == 135 || next == 139 || next == 140
+
+-- Of these, options and a routing header that leads to no other host are skipped: its fourth byte counts the segments that are
+-- left, and where some are, the packet's target is a host on its way (RFC 8200, section 4.4).
+abbrev pub is_skippable : ℕ → List ℕ → Bool
+is_skippable next bytes = (next == 0 || next == 60) || ((next == 43) && (at bytes 3 == 0))
 
 -- the number of a fragment header
 abbrev pub fragment_header : ℕ
@@ -26,19 +32,23 @@ fragment_of header = record { id = four header 4; place = 8 * (pair header 2 / 8
 abbrev pub is_atomic : List ℕ → Bool
 is_atomic header = (pair header 2 / 8 == 0) && (pair header 2 % 2 == 0)
 
+-- A fragment that more follow is of whole units of 8 bytes, as its header is; any other one is discarded (RFC 8200, section 4.5).
+abbrev pub is_of_units : List ℕ → Bool
+is_of_units bytes = (pair bytes 2 % 2 == 0) || (length bytes % 8 == 0)
+
 -- the length of a header: the second byte counts units of 8 bytes after the first 8; a fragment header has 8
 abbrev pub skipped_size : ℕ → List ℕ → ℕ
 skipped_size next bytes = if next == 44 then 8 else 8 * (at bytes 1 + 1)
 
 -- the bytes begin with a header that is skipped
 abbrev pub IsSkipped : ℕ → List ℕ → Type 0
-IsSkipped next bytes = (8 ≤ length bytes) × (skipped_size next bytes ≤ length bytes) × ((is_extension next ≡ true) ⊎ ((next ≡ fragment_header) × (is_atomic bytes ≡ true)))
+IsSkipped next bytes = (8 ≤ length bytes) × (skipped_size next bytes ≤ length bytes) × ((is_skippable next bytes ≡ true) ⊎ ((next ≡ fragment_header) × (is_atomic bytes ≡ true)))
 
--- the bytes begin with no header that is skipped, nor with one that is cut
+-- the bytes begin with no header that is skipped, nor with one that is cut, not read, or of no whole units
 abbrev pub Stops : ℕ → List ℕ → Reached → Type 0
 Stops next bytes r =
     ((is_extension next ≡ false) × (next ≢ fragment_header) × (r ≡ record { protocol = next; fragment = None; content = bytes }))
-    ⊎ ((next ≡ fragment_header) × (8 ≤ length bytes) × (is_atomic bytes ≡ false) × (r ≡ record { protocol = at bytes 0; fragment = Some (fragment_of bytes); content = drop 8 bytes }))
+    ⊎ ((next ≡ fragment_header) × (8 ≤ length bytes) × (is_atomic bytes ≡ false) × (is_of_units bytes ≡ true) × (r ≡ record { protocol = at bytes 0; fragment = Some (fragment_of bytes); content = drop 8 bytes }))
 
 -- over so many headers, each of which says with its first byte what follows it
 abbrev pub StopsAfter : ℕ → ℕ → List ℕ → Reached → Type 0

@@ -2,7 +2,7 @@
 use Rattle.std.specs.Prelude.{◌≡◌, ℕ, List, Some}
 use Rattle.net_udp.specs.Frames.Link.{link_named, Linked, SpellsLink}
 use Rattle.std.specs.declared.net.ip_addr.IpAddr.{IpAddr}
-use Rattle.net_udp.specs.Frames.Ip.{Packet, HasHeader, SpellsIp, source_of, target_of}
+use Rattle.net_udp.specs.Frames.Ip.{Packet, SpellsIp, TellsHosts, source_of, target_of}
 use Rattle.net_udp.specs.declared.frames.link.LinkType.{LinkType}
 use Rattle.net_udp.specs.declared.frames.link.Network.{Network}
 
@@ -15,12 +15,12 @@ abbrev pub SpellsFrame : ℕ → List ℕ → Packet → Type 0
 SpellsFrame number frame p =
     (c : Linked) × (network : Network) × IsLinked number frame c × (c.network ≡ Some network) × SpellsIp c.direction network c.content p
 
--- the frame has a whole header of IP, which names these hosts, however much is there of what follows it
+-- the frame has a whole header of IP, which names these hosts, and its extension headers, however much is there of what follows
 pub record IsBetween (number : ℕ) (frame : List ℕ) (source target : IpAddr) : Type 0 where
   pub linked : Linked
   pub network : Network
   pub carries : IsLinked number frame linked
   pub of_ip : linked.network ≡ Some network
-  pub header : HasHeader network linked.content
+  pub tells : TellsHosts network linked.content
   pub from : source ≡ source_of network linked.content
   pub to : target ≡ target_of network linked.content

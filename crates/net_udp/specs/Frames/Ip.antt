@@ -61,6 +61,11 @@ abbrev pub Reaches : Network → List ℕ → Reached → Type 0
 Reaches Ipv4 bytes r = r ≡ record { protocol = at bytes 9; fragment = part_of bytes; content = held_of Ipv4 bytes }
 Reaches Ipv6 bytes r = ReachesOver (at bytes 6) (held_of Ipv6 bytes) r
 
+-- The packet tells the host to which it goes: its header is there, and what stands over its extension headers is reached, none
+-- of which leads on to another host.
+abbrev pub TellsHosts : Network → List ℕ → Type 0
+TellsHosts network bytes = HasHeader network bytes × ((r : Reached) × Reaches network bytes r)
+
 abbrev pub is_part : Option Fragment → Bool
 is_part None = false
 is_part (Some part) = true

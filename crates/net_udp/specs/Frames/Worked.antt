@@ -61,9 +61,26 @@ ipv6_fragment = 96 ∷ 0 ∷ 0 ∷ 0 ∷ 0 ∷ 16 ∷ 44 ∷ 64 ∷ 32 ∷ 1 ∷
 abbrev pub ipv6_fragment_of_icmp : List ℕ
 ipv6_fragment_of_icmp = take 40 ipv6_fragment ++ 58 ∷ drop 41 ipv6_fragment
 
+-- the fragment of IPv6 without its last byte, of seven bytes
+abbrev pub ipv6_of_no_units : List ℕ
+ipv6_of_no_units = take 5 ipv6_fragment ++ 15 ∷ take 49 (drop 6 ipv6_fragment)
+
+-- The acknowledgement of IPv6 behind a routing header of type 2 (RFC 6275, section 6.4), with so many segments left, of which
+-- 2001:db8::9 is the only one.
+abbrev pub ipv6_routed : ℕ → List ℕ
+ipv6_routed left = take 4 ipv6_fragment ++ 0 ∷ 36 ∷ 43 ∷ 64 ∷ take 32 (drop 8 ipv6_fragment) ++ 17 ∷ 2 ∷ 2 ∷ left ∷ 0 ∷ 0 ∷ 0 ∷ 0 ∷ 32 ∷ 1 ∷ 13 ∷ 184 ∷ 0 ∷ 0 ∷ 0 ∷ 0 ∷ 0 ∷ 0 ∷ 0 ∷ 0 ∷ 0 ∷ 0 ∷ 0 ∷ 9 ∷ udp_bytes_of_ipv6
+
+-- the same behind an authentication header (RFC 4302, section 2)
+abbrev pub ipv6_authenticated : List ℕ
+ipv6_authenticated = take 4 ipv6_fragment ++ 0 ∷ 36 ∷ 51 ∷ 64 ∷ take 32 (drop 8 ipv6_fragment) ++ 17 ∷ 4 ∷ 0 ∷ 0 ∷ 0 ∷ 0 ∷ 1 ∷ 0 ∷ 0 ∷ 0 ∷ 0 ∷ 1 ∷ 1 ∷ 2 ∷ 3 ∷ 4 ∷ 5 ∷ 6 ∷ 7 ∷ 8 ∷ 9 ∷ 10 ∷ 11 ∷ 12 ∷ udp_bytes_of_ipv6
+
 -- the head of an Ethernet frame with two tags (IEEE 802.1ad and 802.1Q)
 abbrev pub two_tags : List ℕ
 two_tags = 2 ∷ 0 ∷ 0 ∷ 0 ∷ 0 ∷ 2 ∷ 2 ∷ 0 ∷ 0 ∷ 0 ∷ 0 ∷ 1 ∷ 136 ∷ 168 ∷ 0 ∷ 9 ∷ 129 ∷ 0 ∷ 0 ∷ 5 ∷ 8 ∷ 0 ∷ []
+
+-- the same, with 0x9100 in place of the type of 802.1ad
+abbrev pub two_old_tags : List ℕ
+two_old_tags = take 12 two_tags ++ 145 ∷ 0 ∷ drop 14 two_tags
 
 -- the head of Linux cooked, version 1: sent by the host that recorded
 abbrev pub cooked_head : List ℕ

@@ -30,9 +30,14 @@ key_protocol (V6 host) protocol = None
 abbrev pub key_of : Packet → Fragment → Key
 key_of p f = record { source = p.source; target = p.target; protocol = key_protocol p.source p.protocol; id = f.id }
 
+-- fragments may overlap in IPv4 (RFC 791, section 3.2), and not in IPv6 (RFC 8200, section 4.5)
+abbrev pub may_overlap : IpAddr → Bool
+may_overlap (V4 host) = true
+may_overlap (V6 host) = false
+
 -- the part that a fragment brings, with the time and the number of its frame
 abbrev pub arrival_of : FrameParts → ℕ → Packet → Fragment → Arrival
-arrival_of frame number p f = record { part = record { protocol = p.protocol; place = f.place; more = f.more; content = p.content }; time = frame.time; frame = number }
+arrival_of frame number p f = record { part = record { protocol = p.protocol; place = f.place; more = f.more; content = p.content; may_overlap = may_overlap p.source }; time = frame.time; frame = number }
 
 -- what waits under every other key stays
 abbrev pub OthersStay : Key → Sets → Sets → Type 0

@@ -3,7 +3,7 @@ use Rattle.std.specs.Prelude.{◌≡◌, ◌⊎◌, ◌+◌, ℕ, true, List, []
 use Rattle.std.specs.List.{AllByRecursion}
 use Rattle.net_udp.specs.Frames.{Packet}
 use Rattle.net_udp.specs.declared.frames.packet.Fragment.{Fragment}
-use Rattle.net_udp.specs.Fragments.{same_key, Arrival, parts_of, Give}
+use Rattle.net_udp.specs.Fragments.{same_key, Arrival, parts_of, PutTogether}
 use Rattle.net_udp.specs.Fragments.Whole.{Content}
 use Rattle.net_udp.specs.declared.fragments.key.Key.{Key}
 use Rattle.net_udp.specs.Recording.Brought.{IsPart, arrival_of, key_of}
@@ -16,11 +16,11 @@ IsBrought (step ∷ before) key a =
     ((p : Packet) × (f : Fragment) × IsPart step.frame p f × (same_key key (key_of p f) ≡ true) × (a ≡ arrival_of step.frame (length before + 1) p f))
     ⊎ IsBrought before key a
 
--- the content is that of a packet: fragments of one key give it, each of which one of the frames brought, and these are
--- the frames
+-- the content is that of a packet: it is put together of fragments of one key, each of which one of the frames brought, and
+-- these are the frames
 pub record IsPutTogether (history : List Step) (content : Content) (frames : List ℕ) : Type 0 where
   pub key : Key
   pub arrivals : List Arrival
   pub brought : AllByRecursion (IsBrought history key) arrivals
-  pub give : Give (parts_of arrivals) content
+  pub give : PutTogether (parts_of arrivals) content
   pub frames_are : frames ≡ reverse (map (λ a. a.frame) arrivals)

@@ -1,10 +1,10 @@
 -- Frames for worked examples: the acknowledgement of `Frames.Worked`, in two fragments, and recorded twice.
-use Rattle.std.specs.Prelude.{ℕ, Bool, List, [], ◌∷◌, ◌++◌, length, map, Option, Some, None, true, false}
+use Rattle.std.specs.Prelude.{ℕ, Bool, List, [], ◌∷◌, ◌++◌, length, map, take, drop, Option, Some, None, true, false}
 use Rattle.std.specs.Global.{Vec}
 use Rattle.net_udp.specs.Copies.{Packet as Recorded}
 use Rattle.net_udp.specs.declared.copies.interface.Interface.{Interface}
-use Rattle.net_udp.specs.Fragments.{SetState}
-use Rattle.net_udp.specs.declared.fragments.outcome.Outcome.TheVariants.{Waits}
+use Rattle.net_udp.specs.Fragments.{SetState, nothing_held}
+use Rattle.net_udp.specs.declared.fragments.outcome.Outcome.TheVariants.{Apart, Waits}
 use Rattle.net_udp.specs.Fragments.Whole.{Content}
 use Rattle.net_udp.specs.declared.fragments.content.Content.{Content as Given}
 use Rattle.net_udp.specs.declared.fragments.key.Key.{Key}
@@ -51,7 +51,7 @@ worked_key = record { source = host 7; target = host 1; protocol = Some 17; id =
 
 -- what waits after the first fragment
 abbrev pub first_set : SetState
-first_set = record { held = record { cells = map (λ b. Some b) first_part.content; ended = false; protocol = Some 17 }; frames = 1 ∷ []; began = worked_time; spoiled = false }
+first_set = record { held = record { cells = map (λ b. Some b) first_part.content; ended = false; protocol = Some 17 }; frames = 1 ∷ []; extents = record { place = 0; end = 8; protocol = 17 } ∷ []; began = worked_time; spoiled = false }
 
 abbrev pub recorded_first : Recorded
 recorded_first = record { interface = first_of 0; time = worked_time; bytes = first_bytes }
@@ -93,6 +93,55 @@ icmp_frame = record { section = 0; interface = 0; link = 229; time = worked_time
 -- the content that is put together, where the first fragment names ICMP
 abbrev pub icmp_content : Content
 icmp_content = record { protocol = 58; bytes = udp_bytes }
+
+-- ---- a block of data in IPv6, of which a fragment begins in the one before and has the same bytes there, of the link type of
+-- raw IPv6; tshark tells that they overlap
+
+abbrev pub data_of_ipv6 : List ℕ
+data_of_ipv6 = 156 ∷ 64 ∷ 0 ∷ 69 ∷ 0 ∷ 24 ∷ 199 ∷ 110 ∷ 0 ∷ 3 ∷ 0 ∷ 1 ∷ 104 ∷ 101 ∷ 108 ∷ 108 ∷ 111 ∷ 44 ∷ 32 ∷ 119 ∷ 111 ∷ 114 ∷ 108 ∷ 100 ∷ []
+
+abbrev pub begun_bytes : List ℕ
+begun_bytes = 96 ∷ 0 ∷ 0 ∷ 0 ∷ 0 ∷ 24 ∷ 44 ∷ 64 ∷ 32 ∷ 1 ∷ 13 ∷ 184 ∷ 0 ∷ 0 ∷ 0 ∷ 0 ∷ 0 ∷ 0 ∷ 0 ∷ 0 ∷ 0 ∷ 0 ∷ 0 ∷ 7 ∷ 32 ∷ 1 ∷ 13 ∷ 184 ∷ 0 ∷ 0 ∷ 0 ∷ 0 ∷ 0 ∷ 0 ∷ 0 ∷ 0 ∷ 0 ∷ 0 ∷ 0 ∷ 1 ∷ 17 ∷ 0 ∷ 0 ∷ 1 ∷ 0 ∷ 0 ∷ 0 ∷ 7 ∷ take 16 data_of_ipv6
+
+abbrev pub across_bytes : List ℕ
+across_bytes = 96 ∷ 0 ∷ 0 ∷ 0 ∷ 0 ∷ 24 ∷ 44 ∷ 64 ∷ 32 ∷ 1 ∷ 13 ∷ 184 ∷ 0 ∷ 0 ∷ 0 ∷ 0 ∷ 0 ∷ 0 ∷ 0 ∷ 0 ∷ 0 ∷ 0 ∷ 0 ∷ 7 ∷ 32 ∷ 1 ∷ 13 ∷ 184 ∷ 0 ∷ 0 ∷ 0 ∷ 0 ∷ 0 ∷ 0 ∷ 0 ∷ 0 ∷ 0 ∷ 0 ∷ 0 ∷ 1 ∷ 17 ∷ 0 ∷ 0 ∷ 8 ∷ 0 ∷ 0 ∷ 0 ∷ 7 ∷ drop 8 data_of_ipv6
+
+abbrev pub begun_named : Fragment
+begun_named = record { id = 7; place = 0; more = true }
+
+abbrev pub begun_part : Packet
+begun_part = record ipv6_part { fragment = Some begun_named; content = take 16 data_of_ipv6; packet = begun_bytes }
+
+abbrev pub across_part : Packet
+across_part = record ipv6_part { fragment = Some last_named; content = drop 8 data_of_ipv6; packet = across_bytes }
+
+abbrev pub data_key : Key
+data_key = record { source = ipv6_part.source; target = ipv6_part.target; protocol = None; id = 7 }
+
+-- what waits after the first of them, and what is known after the second
+abbrev pub begun_set : SetState
+begun_set = record { held = record { cells = map (λ b. Some b) begun_part.content; ended = false; protocol = Some 17 }; frames = 1 ∷ []; extents = record { place = 0; end = 16; protocol = 17 } ∷ []; began = worked_time; spoiled = false }
+
+abbrev pub torn_set : SetState
+torn_set = record { held = nothing_held; frames = []; extents = []; began = worked_time; spoiled = true }
+
+abbrev pub frame_of_ipv6 : List ℕ → FrameParts
+frame_of_ipv6 bytes = record icmp_frame { original = length bytes; bytes = bytes }
+
+abbrev pub begun_step : Step
+begun_step = record { frame = frame_of_ipv6 begun_bytes; likeness = New; brought = record nothing_brought { outcome = Some Waits }; waits = (data_key, begun_set) ∷ []; came = record recorded_first { bytes = begun_bytes } ∷ []; sent = None; is_discarded = false }
+
+-- the second is left out, with these frames
+abbrev pub across_step : Vec ℕ → Step
+across_step frames = record {
+  frame = frame_of_ipv6 across_bytes;
+  likeness = New;
+  brought = record nothing_brought { outcome = Some (Apart frames) };
+  waits = (data_key, torn_set) ∷ [];
+  came = record recorded_first { bytes = across_bytes } ∷ record recorded_first { bytes = begun_bytes } ∷ [];
+  sent = None;
+  is_discarded = false;
+}
 
 -- ---- recorded at the first interface of a section, of Ethernet, and then at the second, of Linux cooked
 

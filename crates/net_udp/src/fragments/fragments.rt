@@ -1,8 +1,8 @@
 ghost use Rattle.std.specs.Prelude.{◌≡◌, ◌≢◌, ◌+◌, ◌*◌, ◌^◌, ◌<◌, ◌≤◌, ◌⊎◌, ◌∷◌, [], ℕ, List, Option, Some, None, length, true, false, Ok, IfOk, OnOk, OnErr, IsTrue, ◌↔◌, IsSomeAnd, MatchOption};
 ghost use Rattle.net_udp.specs.Fragments.Whole.{end_of};
-ghost use Rattle.net_udp.specs.Fragments.Pieces.{content_of, part_of, Agrees, IsComplete, IsHeld};
+ghost use Rattle.net_udp.specs.Fragments.Pieces.{content_of, part_of, IsComplete, IsHeld};
 ghost use Rattle.net_udp.specs.Fragments.Key.{same_key};
-ghost use Rattle.net_udp.specs.Fragments.Set.{SetState};
+ghost use Rattle.net_udp.specs.Fragments.Set.{MayJoin, SetState};
 ghost use Rattle.net_udp.specs.Fragments.Store.{set_at, room_of_all, most_room, is_long, frames_of, Comes, CountsAt, HasRoom, PutEnds, MayBePut, IsTried, JoinEnds, WantsMemory};
 
 use crate::fragments::content::Content;
@@ -18,7 +18,7 @@ use std::marker::Model;
 const ROOM: usize = 1 << 26;
 
 /// How many bytes more than two for each of its own a fragment may be counted for.
-const SPARE: usize = 264;
+const SPARE: usize = 276;
 
 /// The most bytes of a packet's content.
 const LONGEST: usize = 65535;
@@ -52,7 +52,7 @@ enum Joined {
     Waits,
     /// None is missing.
     Whole,
-    /// It cannot be of one packet with them, whose frames these are.
+    /// No packet is put together of it and them, whose frames these are.
     Apart(Vec<u64>),
 }
 
@@ -237,7 +237,7 @@ impl Fragments {
         ensures other { (other : Key) → same_key key other ≡ false → set_at other self.new ≡ set_at other self.old }
         ensures room { CountsAt key self.old self.new }
         ensures none { IfOk result (λ joined. joined ≡ Joined.NoSet → self.new ≡ self.old) }
-        ensures wants { OnErr result ((s : SetState) → set_at key self.old ≡ Some s → (s.spoiled ≡ false) × Agrees s.held (part_of part.now)) }
+        ensures wants { OnErr result ((s : SetState) → set_at key self.old ≡ Some s → (s.spoiled ≡ false) × MayJoin s (part_of part.now)) }
         ensures ends { IfOk result (JoinEnds (set_at key self.old) (set_at key self.new) (part_of part.now) frame) }
         ensures err { OnErr result (self.new ≡ self.old) }
     {

@@ -12,8 +12,9 @@ pub enum Outcome {
         /// The frames that brought its parts, in the order in which they came, the fragment's own the last.
         frames: Vec<u64>,
     },
-    /// It cannot be of one packet with others that came: bytes differ, or ends do, or two first ones name another protocol.
-    /// The frames are those that waited until now; its own is not among them.
+    /// No packet is put together of it and others that came: bytes differ, or ends do, or two first ones name another protocol;
+    /// or it may not overlap with them, and does (RFC 8200, section 4.5). The frames are those that waited until now; its own is
+    /// not among them.
     Apart(Vec<u64>),
     /// It brings no byte.
     Empty,

@@ -9,4 +9,7 @@ pub struct Part<'a> {
     pub more: bool,
     /// Its bytes.
     pub content: &'a [u8],
+    /// Whether it may overlap with others of its packet: in IPv4 it may, and in IPv6 of what overlaps nothing is put together
+    /// (RFC 791, section 3.2; RFC 8200, section 4.5).
+    pub may_overlap: bool,
 }

@@ -1,9 +1,11 @@
-ghost use Rattle.std.specs.Prelude.{◌≡◌, ◌+◌, ◌*◌, ◌^◌, ◌<◌, ◌≤◌, ◌∷◌, [], ℕ, List, Option, Some, None, length, false, IfOk, OnErr, IsTrue, ◌↔◌};
+ghost use Rattle.std.specs.Prelude.{◌≡◌, ◌+◌, ◌*◌, ◌^◌, ◌<◌, ◌≤◌, ◌∷◌, [], ℕ, List, Option, Some, None, length, true, false, IfOk, OnErr, IsTrue, ◌↔◌};
 ghost use Rattle.net_udp.specs.Fragments.Whole.{end_of};
-ghost use Rattle.net_udp.specs.Fragments.Pieces.{content_of, part_of, nothing_held, Agrees, IsComplete, IsHeld};
-ghost use Rattle.net_udp.specs.Fragments.Set.{Arrival, IsSetOf, TakeEnds, room_of};
+ghost use Rattle.net_udp.specs.Fragments.Overlaps.{OneOf, Overlap};
+ghost use Rattle.net_udp.specs.Fragments.Pieces.{content_of, part_of, nothing_held, IsComplete, IsHeld};
+ghost use Rattle.net_udp.specs.Fragments.Set.{Arrival, IsSetOf, MayJoin, Spoils, TakeEnds, room_of};
 
 use crate::fragments::content::Content;
+use crate::fragments::extent::Extent;
 use crate::fragments::part::Part;
 use crate::fragments::parts::Parts;
 use std::alloc::{AllocError, Global};
@@ -13,12 +15,16 @@ use std::mem;
 /// How many bytes a set is counted for beside its parts and their frames.
 const SET_ROOM: usize = 256;
 
-/// The fragments of one packet: their parts, and the frames that brought them. Once two have come that cannot be of one
-/// packet, none of them is kept.
+/// How many bytes a frame is counted for, with the extent of its part.
+const FRAME_ROOM: usize = 20;
+
+/// The fragments of one packet: their parts, and the frames that brought them. Once two have come of which no packet is put
+/// together, none of them is kept.
 #[derive(Drop)]
 pub(crate) struct Set {
     parts: Parts,
     frames: Vec<u64>,
+    extents: Vec<Extent>,
     began: Option<u64>,
     spoiled: bool,
 }
@@ -30,19 +36,20 @@ impl Model for Set {
 
     ghost use Rattle.net_udp.specs.Fragments.Set.{IsSound};
 
-    ghost view = { λ s. record { held = s.parts; frames = s.frames.items; began = s.began; spoiled = s.spoiled } };
+    ghost view = { λ s. record { held = s.parts; frames = s.frames.items; extents = s.extents.items; began = s.began; spoiled = s.spoiled } };
 
-    ghost invariant = { λ s. IsSound s.parts s.frames.items s.spoiled };
+    ghost invariant = { λ s. IsSound s.parts s.frames.items s.extents.items s.spoiled };
 }
 
 impl Set {
     /// No fragment. Takes no memory.
     pub(crate) fn new(alloc: Global, began: Option<u64>) -> Self
-        ensures { result ≡ record { held = nothing_held; frames = []; began = began; spoiled = false } }
+        ensures { result ≡ record { held = nothing_held; frames = []; extents = []; began = began; spoiled = false } }
     {
         Set {
             parts: Parts::new(alloc),
             frames: Vec::new(alloc),
+            extents: Vec::new(alloc),
             began,
             spoiled: false,
         }
@@ -59,7 +66,7 @@ impl Set {
     pub(crate) fn room(&self) -> usize
         ensures { result ≡ room_of self.now }
     {
-        2 * self.parts.reach() + 8 * self.frames.len() + SET_ROOM
+        2 * self.parts.reach() + FRAME_ROOM * self.frames.len() + SET_ROOM
     }
 
     /// Whether all of the packet's content has come.
@@ -69,7 +76,26 @@ impl Set {
         !self.spoiled && self.parts.are_whole()
     }
 
-    /// Takes a fragment. Where it cannot be of one packet with those before, the answer is their frames, which are not kept.
+    /// Whether a part may come to those before: it may be of one packet with them, and overlaps with none where it may not.
+    fn may_join(&self, part: &Part) -> bool
+        requires room { end_of (part_of part.now) ≤ 65535 }
+        ensures joins { result ≡ true → MayJoin self.now (part_of part.now) }
+        ensures spoils { result ≡ false → Spoils self.now (part_of part.now) }
+    {
+        if part.may_overlap {
+            return self.parts.agree(part);
+        }
+        self.parts.agree(part) && !self.has_one_under(Extent::of(part))
+    }
+
+    /// Whether a part of that extent overlaps with one that has come.
+    fn has_one_under(&self, extent: Extent) -> bool
+        ensures { IsTrue result ↔ OneOf (Overlap extent) self.now.extents }
+    {
+        self.extents.iter().any(|before| before.overlaps(extent))
+    }
+
+    /// Takes a fragment. Where no packet is put together of it and those before, the answer is their frames, which are not kept.
     pub(crate) fn take(
         &mut self,
         alloc: Global,
@@ -80,22 +106,25 @@ impl Set {
         requires room { end_of (part_of part.now) ≤ 65535 }
         requires few { length self.old.frames < 2 ^ 40 }
         ensures ends { IfOk result (TakeEnds self.old self.new (part_of part.now) frame) }
-        ensures agrees { self.old.spoiled ≡ false → Agrees self.old.held (part_of part.now) → IfOk result (λ frames. frames ≡ None) }
-        ensures wants { OnErr result ((self.old.spoiled ≡ false) × Agrees self.old.held (part_of part.now)) }
+        ensures agrees { self.old.spoiled ≡ false → MayJoin self.old (part_of part.now) → IfOk result (λ frames. frames ≡ None) }
+        ensures wants { OnErr result ((self.old.spoiled ≡ false) × MayJoin self.old (part_of part.now)) }
         ensures began { self.new.began ≡ self.old.began }
         ensures err { OnErr result (self.new ≡ self.old) }
     {
         if self.spoiled {
             return Ok(Some(Vec::new(alloc)));
         }
-        if !self.parts.agree(part) {
+        if !self.may_join(part) {
             self.spoiled = true;
             self.parts = Parts::new(alloc);
+            self.extents = Vec::new(alloc);
             return Ok(Some(mem::replace(&mut self.frames, Vec::new(alloc))));
         }
         self.frames.reserve(1)?;
+        self.extents.reserve(1)?;
         self.parts.add(part)?;
         self.frames.push(frame)?;
+        self.extents.push(Extent::of(part))?;
         Ok(None)
     }
 

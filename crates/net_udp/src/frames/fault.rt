@@ -24,8 +24,10 @@ pub enum FrameFault {
     /// The recording has not all bytes of the packet.
     #[error("cut")]
     Cut,
-    /// The extension headers of IPv6 run beyond the packet (RFC 8200, section 4).
-    #[error("an extension header that runs beyond the packet")]
+    /// The extension headers of IPv6 run beyond the packet, or one of them is not read: authentication (RFC 4302), mobility (RFC
+    /// 6275) and the like, and a routing header with segments left, whose packet is not where it goes (RFC 8200, section 4); or
+    /// it is a fragment that more follow, and of no whole units of 8 bytes (RFC 8200, section 4.5).
+    #[error("an extension header that runs beyond the packet, or is not read")]
     Extension,
 }
 

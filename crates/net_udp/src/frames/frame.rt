@@ -23,7 +23,8 @@ pub fn read_frame(link_number: u32, frame: &[u8]) -> Result<IpPacket<'_>, FrameF
 }
 
 /// The hosts between which a frame's IP packet went: who sent it, and to whom. The rest of the packet may be cut, wrong or of
-/// any protocol; none where the frame has no whole IP header.
+/// any protocol; none where the frame has no whole IP header, nor where an extension header of IPv6 is cut or not read: one of
+/// routing may lead on to another host (RFC 8200, section 4.4).
 pub fn read_hosts(link_number: u32, frame: &[u8]) -> Option<(IpAddr, IpAddr)>
     ensures { MatchOption result
         ((source target : Host) → IsBetween link_number frame.now source target → ⊥)

@@ -1,6 +1,6 @@
 ghost use Rattle.std.specs.Prelude.{◌≡◌, ◌+◌, ◌≤◌, length, ◌↔◌, IsTrue, MatchOption, MatchResult};
 ghost use Rattle.net_udp.specs.Frames.Extension.{Reached};
-ghost use Rattle.net_udp.specs.Frames.Ip.{HasHeader, size_of, total_of, source_of, target_of, identification_of, ipv4_address, ipv6_address, part_of, held_of, Reaches, may_be_udp, IsWhole};
+ghost use Rattle.net_udp.specs.Frames.Ip.{HasHeader, size_of, total_of, source_of, target_of, identification_of, ipv4_address, ipv6_address, part_of, held_of, Reaches, TellsHosts, may_be_udp, IsWhole};
 ghost use Rattle.net_udp.specs.Frames.Faults.{JudgesIp, IsNotWhole};
 ghost use Rattle.net_udp.specs.Frames.Parts.{reached};
 
@@ -98,15 +98,18 @@ fn hosts(network: Network, bytes: &[u8]) -> (IpAddr, IpAddr)
     }
 }
 
-/// The hosts that the header with which bytes begin names, if it is whole.
+/// The hosts that the header with which bytes begin names, if it is whole, and what stands over its extension headers is reached.
 pub fn hosts_of(network: Network, bytes: &[u8]) -> Option<(IpAddr, IpAddr)>
     ensures { MatchOption result
-        (HasHeader network bytes.now → ⊥)
-        (λ hosts. HasHeader network bytes.now × (hosts ≡ (source_of network bytes.now, target_of network bytes.now))) }
+        (TellsHosts network bytes.now → ⊥)
+        (λ hosts. TellsHosts network bytes.now × (hosts ≡ (source_of network bytes.now, target_of network bytes.now))) }
 {
     if !has_header(network, bytes) {
         return None;
     }
+    let Some(_) = reach(network, bytes) else {
+        return None;
+    };
     Some(hosts(network, bytes))
 }
 

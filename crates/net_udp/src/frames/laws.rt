@@ -1,18 +1,19 @@
-ghost use Rattle.std.specs.Prelude.{◌≡◌, ◌↔◌, ◌∷◌, ◌++◌, [], ℕ, List, codes, take, drop, Some, true, false};
+ghost use Rattle.std.specs.Prelude.{◌≡◌, ◌↔◌, ◌∷◌, ◌++◌, [], ℕ, List, codes, take, drop, Some, None, true, false};
 ghost use Rattle.std.specs.Net.Addr.{IsIpv4Addr, IsIpv6Addr, MatchIp};
 ghost use Rattle.std.specs.Net.Text.{ip_text};
 ghost use Rattle.std.specs.declared.net.ip_addr.IpAddr.{IpAddr};
 ghost use Rattle.std.specs.declared.net.ip_addr.IpAddr.TheVariants.{V4, V6};
-ghost use Rattle.net_udp.specs.Frames.Link.{index_of};
+ghost use Rattle.net_udp.specs.Frames.Link.{index_of, null_network};
 ghost use Rattle.net_udp.specs.Frames.Ip.{Packet, is_identified};
 ghost use Rattle.net_udp.specs.Frames.Frame.{SpellsFrame};
 ghost use Rattle.net_udp.specs.Frames.Checksums.{checksum_of, in_ones_complement, word_sum};
 ghost use Rattle.net_udp.specs.declared.frames.checksum.Checksum.{Checksum};
 ghost use Rattle.net_udp.specs.Frames.Faults.{Holds, FirstFault};
 ghost use Rattle.net_udp.specs.Frames.UdpDatagrams.{Udp, SpellsUdp, HoldsUdp};
-ghost use Rattle.net_udp.specs.Frames.Worked.{udp_bytes, ipv4_bytes, ipv4_with_options, ipv4_fragment, ipv6_with_extensions, ipv6_fragment, ipv6_fragment_of_icmp, two_tags, udp_bytes_of_ipv6, udp_left, udp_left_of_ipv6, udp_of_three, cooked_head, cooked_two_head, null_head, ipv4_packet, ipv4_part, ipv6_packet, ipv6_part, acknowledgement, host, host_of_ipv6};
+ghost use Rattle.net_udp.specs.Frames.Worked.{udp_bytes, ipv4_bytes, ipv4_with_options, ipv4_fragment, ipv6_with_extensions, ipv6_authenticated, ipv6_fragment, ipv6_fragment_of_icmp, ipv6_of_no_units, ipv6_routed, two_old_tags, two_tags, udp_bytes_of_ipv6, udp_left, udp_left_of_ipv6, udp_of_three, cooked_head, cooked_two_head, null_head, ipv4_packet, ipv4_part, ipv6_packet, ipv6_part, acknowledgement, host, host_of_ipv6};
 ghost use Rattle.net_udp.specs.declared.frames.fault.FrameFault.{FrameFault};
 ghost use Rattle.net_udp.specs.declared.frames.fault.UdpFault.{UdpFault};
+ghost use Rattle.net_udp.specs.declared.frames.link.Network.{Network};
 ghost use Rattle.net_udp.specs.declared.frames.packet.Direction.{Direction};
 
 /// A frame is one packet at most.
@@ -52,26 +53,34 @@ pub fn worked_addresses()
     ensures mapped { ip_text (V6 (record { segments = 0 ∷ 0 ∷ 0 ∷ 0 ∷ 0 ∷ 65535 ∷ 49152 ∷ 513 ∷ [] })) ≡ codes "::ffff:192.0.2.1" }
 {}
 
-/// Worked examples: a packet in Ethernet with two tags and two bytes of padding, in Linux cooked, with options, and a
-/// fragment; and the same of IPv6, also of a fragment that names ICMP (58) and is not the first.
+/// Worked examples: a packet in Ethernet with two tags and two bytes of padding, with an old tag, in Linux cooked, with options, and a
+/// fragment; and the same of IPv6, also with a routing header that has led to its last host, and of a fragment that names ICMP
+/// (58) and is not the first.
 pub fn worked_frames()
     ensures tags { SpellsFrame 1 (two_tags ++ ipv4_bytes ++ 0 ∷ 0 ∷ []) (ipv4_packet Direction.Unknown ipv4_bytes) }
+    ensures old_tags { SpellsFrame 1 (two_old_tags ++ ipv4_bytes) (ipv4_packet Direction.Unknown ipv4_bytes) }
     ensures cooked { SpellsFrame 113 (cooked_head ++ ipv4_bytes) (ipv4_packet Direction.Out ipv4_bytes) }
     ensures cooked_two { SpellsFrame 276 (cooked_two_head ++ ipv4_bytes) (ipv4_packet Direction.In ipv4_bytes) }
     ensures options { SpellsFrame 101 ipv4_with_options (ipv4_packet Direction.Unknown ipv4_with_options) }
     ensures part { SpellsFrame 228 ipv4_fragment ipv4_part }
     ensures extensions { SpellsFrame 229 ipv6_with_extensions ipv6_packet }
     ensures ipv6_part { SpellsFrame 0 (null_head ++ ipv6_fragment) ipv6_part }
+    ensures routed { SpellsFrame 229 (ipv6_routed 0) (record ipv6_packet { packet = ipv6_routed 0 }) }
     ensures another { SpellsFrame 229 ipv6_fragment_of_icmp (record ipv6_part { protocol = 58; packet = ipv6_fragment_of_icmp }) }
 {}
 
 /// Worked examples: the first fault of a packet whose last byte was not recorded, of one of TCP (protocol 6), of ARP
-/// (0x0806) in Ethernet, and of a frame that ends in its first tag.
+/// (0x0806) in Ethernet, and of a frame that ends in its first tag; and of a packet of IPv6 with a routing header that leads on
+/// to another host (RFC 8200, section 4.4), and with an authentication header (RFC 4302), which are not read; and of a fragment
+/// of seven bytes that more follow (RFC 8200, section 4.5).
 pub fn worked_faults()
     ensures cut { FirstFault 101 (take 31 ipv4_bytes) FrameFault.Cut }
     ensures tcp { FirstFault 101 (take 9 ipv4_bytes ++ 6 ∷ drop 10 ipv4_bytes) FrameFault.Protocol }
     ensures arp { FirstFault 1 (take 12 two_tags ++ 8 ∷ 6 ∷ []) FrameFault.Network }
     ensures tag { FirstFault 1 (take 16 two_tags) FrameFault.Frame }
+    ensures routed { FirstFault 229 (ipv6_routed 1) FrameFault.Extension }
+    ensures authenticated { FirstFault 229 ipv6_authenticated FrameFault.Extension }
+    ensures units { FirstFault 229 ipv6_of_no_units FrameFault.Extension }
 {}
 
 /// Worked examples: the acknowledgement, with what follows it in the packet left out (RFC 768), and behind a header of
@@ -89,6 +98,20 @@ pub fn worked_indexes()
     ensures cut { index_of 276 (take 19 cooked_two_head) ≡ 0 }
     ensures cooked { index_of 113 (cooked_head ++ ipv4_bytes) ≡ 0 }
     ensures ethernet { index_of 1 (two_tags ++ ipv4_bytes) ≡ 0 }
+{}
+
+/// Worked examples: the families that stand in a header of BSD NULL (tcpdump.org/linktypes.html): 2 is IPv4, in either order;
+/// IPv6 is 24 in NetBSD and OpenBSD, 28 in FreeBSD and 30 in macOS; 10 is that of Linux, which writes no such header, and 23 is
+/// that of IPX.
+pub fn worked_families()
+    ensures ipv4 { null_network (2 ∷ 0 ∷ 0 ∷ 0 ∷ []) ≡ Some Network.Ipv4 }
+    ensures ipv4_turned { null_network (0 ∷ 0 ∷ 0 ∷ 2 ∷ []) ≡ Some Network.Ipv4 }
+    ensures netbsd { null_network (24 ∷ 0 ∷ 0 ∷ 0 ∷ []) ≡ Some Network.Ipv6 }
+    ensures freebsd { null_network (28 ∷ 0 ∷ 0 ∷ 0 ∷ []) ≡ Some Network.Ipv6 }
+    ensures macos { null_network (30 ∷ 0 ∷ 0 ∷ 0 ∷ []) ≡ Some Network.Ipv6 }
+    ensures macos_turned { null_network (0 ∷ 0 ∷ 0 ∷ 30 ∷ []) ≡ Some Network.Ipv6 }
+    ensures linux { null_network (10 ∷ 0 ∷ 0 ∷ 0 ∷ []) ≡ None }
+    ensures ipx { null_network (23 ∷ 0 ∷ 0 ∷ 0 ∷ []) ≡ None }
 {}
 
 /// Worked examples: a packet of IPv4, the same with identification 0, and a whole one and a fragment of IPv6.

@@ -1,6 +1,6 @@
 ghost use Rattle.std.specs.Prelude.{◌≡◌, List, [], IfOk, OnErr, Some, None, false};
 ghost use Rattle.net_udp.specs.Fragments.{part_of, SetState, is_long, set_at};
-ghost use Rattle.net_udp.specs.Recording.Brought.{key_protocol, nothing_brought, LetsGoOld, Takes, TakesPart, WantsPart};
+ghost use Rattle.net_udp.specs.Recording.Brought.{key_protocol, may_overlap, nothing_brought, LetsGoOld, Takes, TakesPart, WantsPart};
 ghost use Rattle.net_udp.specs.Recording.History.{WantsNext};
 ghost use Rattle.net_udp.specs.Recording.Alike.{Comes, is_copy};
 ghost use Rattle.net_udp.specs.Copies.{Packet as Recorded, StandsFor};
@@ -89,6 +89,7 @@ pub(crate) fn take_frame(
         place: fragment.place,
         more: fragment.more,
         content: packet.content,
+        may_overlap: may_overlap(packet.source),
     };
     let brought = take_part(alloc, waiting, key, &part, frame.time(), frame.number())?;
     Ok((likeness, brought))
@@ -102,6 +103,17 @@ fn key_protocol(source: IpAddr, protocol: u8) -> Option<u8>
     match source {
         IpAddr::V4(_) => Some(protocol),
         IpAddr::V6(_) => None,
+    }
+}
+
+/// Whether fragments of packets from that host may overlap.
+#[inline]
+fn may_overlap(source: IpAddr) -> bool
+    ensures { result ≡ may_overlap source }
+{
+    match source {
+        IpAddr::V4(_) => true,
+        IpAddr::V6(_) => false,
     }
 }
 

@@ -139,7 +139,8 @@ impl Event {
     }
 
     /// The hosts between which the frame's IP packet went, its sender first, also where the frame is left out or is a fragment
-    /// alone; none where it has no whole IP header (RFC 791, section 3.1; RFC 8200, section 3).
+    /// alone; none where it has no whole IP header (RFC 791, section 3.1; RFC 8200, section 3), nor where an extension header is cut
+    /// or not read, since one of routing may lead on to another host (RFC 8200, section 4.4).
     #[inline]
     pub fn hosts(&self) -> Option<(IpAddr, IpAddr)>
         ensures { MatchOption result
@@ -160,7 +161,7 @@ impl Event {
     }
 
     /// The frames that waited until now and share its fate: those of the parts of a packet that it made whole, its own the
-    /// last, or those of the fragments that it cannot be of one packet with.
+    /// last, or those of the fragments of which and it no packet is put together.
     #[inline]
     pub fn sharers(&self) -> &[u64]
         ensures { result.now ≡ sharers self.now.brought.outcome }

@@ -26,7 +26,8 @@ pub enum LeftOut {
     Frame(FrameFault),
     /// The content of the packet, which is whole and of UDP, is no datagram; never Protocol.
     Udp(UdpFault),
-    /// It is a fragment that cannot be of one packet with others that came.
+    /// It is a fragment of which and others that came no packet is put together: they differ, or overlap in IPv6 (RFC 8200,
+    /// section 4.5).
     Apart,
     /// It is a fragment that brings no byte.
     Empty,

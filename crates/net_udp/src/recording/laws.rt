@@ -11,7 +11,7 @@ ghost use Rattle.net_udp.specs.Recording.Contents.{IsPutTogether};
 ghost use Rattle.net_udp.specs.Recording.History.{IsHistory, Step, waiting};
 ghost use Rattle.net_udp.specs.Recording.Fates.{IsDatagram, IsFateOf};
 ghost use Rattle.net_udp.specs.Recording.OneWay.{AreToldAlike, IsRead, IsReadTo};
-ghost use Rattle.net_udp.specs.Recording.Worked.{cooked_step, ethernet_step, first_step, icmp_content, icmp_frame, last_named, last_part, last_step, left_bytes, part_of_icmp, part_of_udp, raw_frame, raw_step, recorded_raw, spoilt_acknowledgement, spoilt_bytes, spoilt_packet, worked_content};
+ghost use Rattle.net_udp.specs.Recording.Worked.{across_step, begun_step, cooked_step, ethernet_step, first_step, icmp_content, icmp_frame, last_named, last_part, last_step, left_bytes, part_of_icmp, part_of_udp, raw_frame, raw_step, recorded_raw, spoilt_acknowledgement, spoilt_bytes, spoilt_packet, worked_content};
 ghost use Rattle.net_udp.specs.declared.recording.fate.Datagram.{Datagram};
 ghost use Rattle.net_udp.specs.declared.recording.fate.Fate.{Fate};
 ghost use Rattle.net_udp.specs.declared.recording.fate.LeftOut.{LeftOut};
@@ -65,6 +65,13 @@ pub fn worked_protocols()
         → IsFateOf icmp_frame Likeness.New (Some (Outcome.Whole content frames)) false (Fate.Datagram d) }
     ensures icmp { (content : Content) (frames : Vec ℕ) → content_of content ≡ icmp_content
         → IsFateOf icmp_frame Likeness.New (Some (Outcome.Whole content frames)) false (Fate.Left (LeftOut.Frame FrameFault.Protocol)) }
+{}
+
+/// Worked example: a block of data in two fragments of IPv6, of which the second begins in the first. The bytes are the same
+/// there, and yet no packet is put together of them (RFC 8200, section 4.5): both frames are left out, with the second.
+pub fn worked_overlap()
+    ensures history { (frames : Vec ℕ) → frames.items ≡ 1 ∷ [] → IsHistory (across_step frames ∷ begun_step ∷ []) }
+    ensures left { (frames : Vec ℕ) → IsFateOf (across_step frames).frame Likeness.New (across_step frames).brought.outcome false (Fate.Left LeftOut.Apart) }
 {}
 
 /// Worked examples: a packet that is recorded in Ethernet, and 1 ms later at another interface, is a copy; at the same one, and

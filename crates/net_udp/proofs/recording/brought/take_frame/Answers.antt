@@ -28,4 +28,4 @@ returns-in_err-brought-clause-wants c =
     let spells = spells_here _ _ _ _ (shown c.in-Ok.packet) (sym c.link.ensures) (sym c.bytes.ensures) c.in-Ok.ensures.found in
     on_err c.from_residual-in_err-brought.result _ (λ before stands.
     let held = coming _ _ c.args.frame.now.parts (shown c.in-Ok.packet) c.in_ok-likeness.likeness spells c.in_ok-likeness.ensures.like c.in_ok-likeness.ensures.held before stands in
-    inr (c.in_ok-likeness.likeness, held.0, held.1, sym c.is_copy.ensures ∙ c.if-is_copy.false, wants_part c.args.frame.now.parts c.args.frame.now.number _ _ _ (shown c.in-Ok.packet) c.in-Some.fragment _ c.key_protocol.ensures spells c.in-Some.is c.time.ensures c.number.ensures c.in_err-brought.ensures.wants))
+    inr (c.in_ok-likeness.likeness, held.0, held.1, sym c.is_copy.ensures ∙ c.if-is_copy.false, wants_part c.args.frame.now.parts c.args.frame.now.number _ _ _ _ (shown c.in-Ok.packet) c.in-Some.fragment _ c.key_protocol.ensures c.may_overlap.ensures spells c.in-Some.is c.time.ensures c.number.ensures c.in_err-brought.ensures.wants))

@@ -1,5 +1,5 @@
 use Rattle.std.proofs.Common.{◌≡◌, ◌+◌, ◌*◌, Some, IfOk, IsSome, false, refl, sym, ap, ◌∙◌, arith, subst}
-use Rattle.net_udp.specs.Fragments.{end_of, Agrees, part_of, SetState, TakeEnds, IsCounted, JoinEnds, Sets, room_of_all, set_at}
+use Rattle.net_udp.specs.Fragments.{end_of, MayJoin, part_of, SetState, TakeEnds, IsCounted, JoinEnds, Sets, room_of_all, set_at}
 use Rattle.net_udp.proofs.FragmentsLemmas.Holding.{not_both}
 use Rattle.net_udp.proofs.FragmentsLemmas.Rooms.{counted_changed, counts_changed, counts_same, on_err, same_set, same_sets, take_room}
 use Rattle.net_udp.proofs.fragments.fragments.Fragments.join.Goals as goal
@@ -24,7 +24,7 @@ pub invariant_of-self-2 : goal.invariant_of-self-2
 invariant_of-self-2 c =
     let grown = take_room c.in-Some.set.now c.take.new.self (part_of c.args.part.now) c.args.frame c.in_ok-taken.taken c.in_ok-taken.ensures.ends in
     let all : room_of_all c.self.inside.sets.entries ≡ room_of_all c.args.self.now = ap room_of_all c.self.view_is in
-    counted_changed c.args.key c.self.inside.sets.entries (c.get_mut.follows.lender c.take.new.self).entries c.self.inside.waiting c.room-before.result c.room-after.result (2 * end_of (part_of c.args.part.now) + 8) c.in-Some.set.now c.take.new.self
+    counted_changed c.args.key c.self.inside.sets.entries (c.get_mut.follows.lender c.take.new.self).entries c.self.inside.waiting c.room-before.result c.room-after.result (2 * end_of (part_of c.args.part.now) + 20) c.in-Some.set.now c.take.new.self
     c.self.invariant (sym c.in-Some.ensures.value) (c.get_mut.follows.holds c.take.new.self).0 c.room-before.ensures c.room-after.ensures (omega (arith, grown, c.room-before.ensures, c.room-after.ensures)) (omega (arith, c.self.invariant.counts, all, c.requires.room))
 
 pub returns-clause-other : goal.returns-clause-other
@@ -51,7 +51,7 @@ pub returns-in_err-taken-clause-wants : goal.returns-in_err-taken-clause-wants
 returns-in_err-taken-clause-wants c =
     on_err c.from_residual.result _ (λ s e.
     let found = c.in-Some.ensures.value ∙ ap (λ (sets : Sets). set_at c.args.key sets) c.self.view_is ∙ e in
-    subst (λ (t : SetState). (t.spoiled ≡ false) × Agrees t.held (part_of c.args.part.now)) (same_set _ s found) c.in_err-taken.ensures.wants)
+    subst (λ (t : SetState). (t.spoiled ≡ false) × MayJoin t (part_of c.args.part.now)) (same_set _ s found) c.in_err-taken.ensures.wants)
 
 pub returns-in_err-taken-clause-room : goal.returns-in_err-taken-clause-room
 returns-in_err-taken-clause-room c =

@@ -1,5 +1,5 @@
 use Rattle.std.proofs.Common.{◌≡◌, inl, ◌∷◌, [], ◌++◌, Option, refl, sym, ap, ◌∙◌, subst, arith, rules, false, IfOk}
-use Rattle.net_udp.specs.Fragments.{Agrees, content_of, part_of, Arrival, SetState, JoinEnds, PutEnds, Sets, frames_of, room_of_all, set_at}
+use Rattle.net_udp.specs.Fragments.{MayJoin, content_of, part_of, Arrival, SetState, JoinEnds, PutEnds, Sets, frames_of, room_of_all, set_at}
 use Rattle.net_udp.proofs.FragmentsLemmas.Puts.{came, came_apart, comes_at, given, kept_at, not_given}
 use Rattle.net_udp.proofs.FragmentsLemmas.Rooms.{on_err, on_err_more, same_set}
 use Rattle.net_udp.proofs.fragments.fragments.Fragments.put.Goals as goal
@@ -59,5 +59,5 @@ returns-in_err-content-in-Whole-clause-wants c =
       room = omega (arith, all);
       agrees = λ s e.
           let found : ends.0 ≡ s = same_set ends.0 s (sym ends.2 ∙ e) in
-          subst (λ (t : SetState). (t.spoiled ≡ false) × Agrees t.held a.part) found (ends.5.3, ends.5.4);
+          subst (λ (t : SetState). (t.spoiled ≡ false) × MayJoin t a.part) found (ends.5.3, ends.5.4);
     })

@@ -1,14 +1,14 @@
 use Rattle.std.proofs.Common.{◌≡◌, [], true, false, refl, sym, ap, subst, ◌∙◌, arith, rules}
 use Rattle.net_udp.specs.Fragments.{Agrees, Held, part_of, SetState}
 use Rattle.net_udp.proofs.FragmentsLemmas.Holding.{not_both}
-use Rattle.net_udp.proofs.FragmentsLemmas.Sets.{now_apart, small_room, still_apart}
+use Rattle.net_udp.proofs.FragmentsLemmas.Sets.{now_none, small_room, still_none}
 use Rattle.net_udp.proofs.fragments.set.Set.take.Goals as goal
 
 pub returns-then-self-clause-ends : goal.returns-then-self-clause-ends
 returns-then-self-clause-ends c =
     let spoiled : c.args.self.now.spoiled ≡ true = sym (ap (λ (s : SetState). s.spoiled) c.self.view_is) ∙ c.if-self.true in
     let frames : c.args.self.now.frames ≡ [] = sym (ap (λ (s : SetState). s.frames) c.self.view_is) ∙ c.self.invariant.none c.if-self.true in
-    (spoiled, omega arith, c.new.ensures.items ∙ sym frames, λ arrivals a e is. still_apart c.args.self.now arrivals a spoiled is, frames)
+    (spoiled, omega arith, c.new.ensures.items ∙ sym frames, λ arrivals a e is. still_none c.args.self.now arrivals a spoiled is, frames)
 
 pub returns-then-not-agree-clause-ends : goal.returns-then-not-agree-clause-ends
 returns-then-not-agree-clause-ends c =
