@@ -387,13 +387,14 @@ class Rows(Checks):
         head = bytes((8, 0, 0, 0, 0, 0, 5, 0)) + b"\2\0\0\0\0\1\2\0\0\0\0\2\x08\0"
         wrapped = [dataclasses.replace(router, payload=head + packet) for packet in packets_of(passed)]
         of_none = "tftp-transfers: -: 3 datagrams of UDP of no transfer (frames 1, 2, 3)\n"
+        nothing = "tftp-transfers: -: no request passed, so there is no transfer\n"
         for name, packets, told in (
             ("IP in IP", [recorded.ipv4(router, packet, 4) for packet in packets_of(passed)], ""),
             ("GRE", [recorded.ipv4(router, b"\0\0\x08\0" + packet, 47) for packet in packets_of(passed)], ""),
             ("VXLAN", packets_of(wrapped), of_none),
         ):
             got = checked(self.program, file_of_packets(packets))
-            self.check(f"in {name}", got == ([], told, 0), got)
+            self.check(f"in {name}", got == ([], told + nothing, 3), got)
 
     def test_sessions(self) -> None:
         """Many transfers in one recording, each with its row."""
