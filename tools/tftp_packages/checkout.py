@@ -9,6 +9,8 @@ import struct
 import subprocess
 from pathlib import Path
 
+from tftp_tools.words import version
+
 TOP = Path(__file__).resolve().parent.parent.parent
 # Where the launchers keep what rt said of the last gate and of the builds after it, each in NAME.log.
 LOGS = TOP / "out"
@@ -110,7 +112,4 @@ def libc_needed() -> str:
 
 def version_of(commit: Commit) -> str:
     """The version that the programs tell, with the commit's day, time and name: a later commit's sorts after it."""
-    found = re.search(r"(?m)^version=(\S+)$", (TOP / "tools" / "commands.sh").read_text())
-    if not found:
-        raise Refused("tools/commands.sh has no version")
-    return f"{found[1]}+{commit.time:%Y%m%d.%H%M%S}.{commit.name[:8]}"
+    return f"{version()}+{commit.time:%Y%m%d.%H%M%S}.{commit.name[:8]}"
