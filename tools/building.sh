@@ -75,9 +75,9 @@ is_best() {
     is_ready && [ "$built_for" = "$(processor)" ]
 }
 
-# Does what builds the programs of these crates for such a processor, and records what they were built of and for. An
-# edit meanwhile, even one that was taken back, may stand in a program: nothing is recorded then, and it is built again
-# at the next call.
+# Does what builds the programs of these crates for such a processor, and records what they were built of and for, and
+# their SHA-256, without which none is packed. An edit meanwhile, even one that was taken back, may stand in a program:
+# nothing is recorded then, and it is built again at the next call.
 build_by() {
     built_for=$1
     crates=$2
@@ -85,13 +85,16 @@ build_by() {
     state=$(states)
     before=$(checksums)
     for it in $crates; do
-        rm -f "$(program_of "$it").sources" "$(program_of "$it").processor" "$(program_of "$it").states"
+        built=$(program_of "$it")
+        rm -f "$built.sources" "$built.processor" "$built.states" "$built.sha256"
     done
     "$@" || return
     [ "$(states)" = "$state" ] || return 0
     for it in $crates; do
-        echo "$built_for" >"$(program_of "$it").processor"
-        printf '%s\n' "$before" "$(cksum <"$(program_of "$it")")" >"$(program_of "$it").sources"
+        built=$(program_of "$it")
+        echo "$built_for" >"$built.processor"
+        sha256sum <"$built" >"$built.sha256"
+        printf '%s\n' "$before" "$(cksum <"$built")" >"$built.sources"
     done
 }
 
