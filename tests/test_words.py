@@ -21,7 +21,9 @@ from tftp_tools.words import version
 Word = Union[str, pathlib.Path]
 EXAMPLE = TOP / "examples" / "one-block.capture"
 # In the place of tftp-audit: it accepts what it is given.
-ACCEPTS = "#!/bin/sh\ncat >/dev/null\necho accepted get octet blocks 1 bytes 2\n"
+ACCEPTS = "#!/bin/sh\necho accepted get octet blocks 1 bytes $(wc -c)\n"
+# In the place of tftp-transfers: it refuses what it is given, with its words.
+REFUSES = "#!/bin/sh\necho tftp-transfers: $*: $(wc -c) >&2\nexit 2\n"
 # In the place of tftp-transfers: what it tells beside a row names a file with a sign of control.
 TELLS = r"""#!/bin/sh
 printf 'tftp-transfers: a\033[31m: cut\n' >&2
@@ -52,9 +54,9 @@ def ran(command: Sequence[Word]) -> tuple[str, str, int]:
 class Words(Checks):
     """The words of the three scripts."""
 
-    def program(self, text: str) -> pathlib.Path:
+    def program(self, text: str, name: str = "a program") -> pathlib.Path:
         """A program of this text."""
-        made = self.folder / "a program"
+        made = self.folder / name
         made.write_text(text)
         made.chmod(0o755)
         return made
@@ -136,6 +138,22 @@ class Words(Checks):
                     wanted = f"{name}: standard output cannot be written: {why}\n"
                     holds = (told, status) in ((wanted, 2), (f"{wanted}status 2\n", 0))
                     self.check(f"{name} {words[0]}, {failure}", holds, (told, status))
+
+    def test_pipes(self) -> None:
+        """What is named and can be read once is read once, and whole."""
+        recording = TOP / "examples" / "loopback-session.pcap"
+        sizes = [path.stat().st_size for path in (EXAMPLE, recording)]
+        piped: list[Word] = ["sh", "-c", 'given=$1; shift; cat "$given" | "$@" /dev/fd/0', "sh"]
+        accepts, refuses = self.program(ACCEPTS), self.program(REFUSES, "another program")
+        for name in SCRIPTS:
+            words: list[Word] = [script(name), "--program", accepts, "--transfers", refuses]
+            got = ran([*piped, recording, *words])
+            wanted = f"{name}: check --json -- -: {sizes[1]}\n"
+            self.check(f"a recording, piped to {name}", got == ("", wanted, 2), got)
+            if name != "tftp-report":
+                alone, got = ran([*words, EXAMPLE]), ran([*piped, EXAMPLE, *words])
+                is_whole = name == "tftp-ladder" or f"bytes {sizes[0]}\n" in got[0]
+                self.check(f"a text, piped to {name}", is_whole and got == alone and got[1:] == ("", 0), got)
 
     def test_ends(self) -> None:
         """A script that fails says so, and never by status 1, which is that of a transfer that is not accepted."""
