@@ -96,7 +96,7 @@ uninstall:
 # from the same commit and the same programs. Packages are for any processor, and their programs have no symbols. A program
 # that was changed since it was built with its proofs is refused, before one is built and after.
 dist deb:
-	@python3 tools/package none
+	@python3 tools/package check
 	@$(MAKE) --no-print-directory build-for-any doc
 	@python3 tools/package $(KIND_$@)
 

@@ -101,8 +101,8 @@ class Launchers(Checks):
         for word in ("--frobnicate", "-x", "--jso", "--json x", "--frob=1", f"--{ODD}"):
             name = word.partition("=")[0].replace(ODD, PLAIN_ODD)
             got = self.scratch.run("check", word)
-            self.refuses(f"check {word} before a build", got, f"there is no option '{name}'{help_says}")
-            self.check(f"check {word}, one line", got[1].count("\n") == 1, got)
+            self.refuses(f"check {word!r} before a build", got, f"there is no option '{name}'{help_says}")
+            self.check(f"check {word!r}, one line", got[1].count("\n") == 1, got)
         self.failing_output("--help")
         self.failing_output("--version")
 
@@ -253,8 +253,8 @@ class Launchers(Checks):
         ):
             got = self.scratch.run("check", word, script=script, given="other")
             name = word.replace(ODD, PLAIN_ODD)
-            self.refuses(f"{script.name} check '{word}'", got, f"tftp-audit: cannot read the file '{name}': {why}\n")
-            self.check(f"{script.name} check '{word}', one line", got[1].count("\n") == 1, got)
+            self.refuses(f"{script.name} check {word!r}", got, f"tftp-audit: cannot read the file '{name}': {why}\n")
+            self.check(f"{script.name} check {word!r}, one line", got[1].count("\n") == 1, got)
         if os.access(locked, os.R_OK):
             self.leave("a locked file", "who runs this may read each file")
         else:

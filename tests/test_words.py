@@ -64,7 +64,7 @@ class Words(Checks):
     def refuses(self, name: str, words: Sequence[Word], message: str) -> None:
         """The script prints nothing, says this in a line, and ends with status 2."""
         got = ran([script(name), *words])
-        self.check(f"{name} {words}", got == ("", f"{name}: {message}\n", 2), got)
+        self.check(f"{name} {list(map(str, words))}", got == ("", f"{name}: {message}\n", 2), got)
 
     def test_help(self) -> None:
         for name in SCRIPTS:
