@@ -93,10 +93,13 @@ uninstall:
 	@sh tools/install.sh uninstall "$(DESTDIR)$(PREFIX)"
 
 # dist/tftp-audit-VERSION.tar.gz, with all that install puts, the sum of each file, and a file PROVED; the same bytes
-# from the same commit and the same programs. Packages are for any processor.
-dist: build-for-any doc
-	@python3 tools/package tar
+# from the same commit and the same programs. Packages are for any processor, and their programs have no symbols. A program
+# that was changed since it was built with its proofs is refused, before one is built and after.
+dist deb:
+	@python3 tools/package check
+	@$(MAKE) --no-print-directory build-for-any doc
+	@python3 tools/package $(KIND_$@)
 
-# A package of Debian of the same.
-deb: build-for-any doc
-	@python3 tools/package deb
+# A tar for any Linux, and a package of Debian of the same.
+KIND_dist = tar
+KIND_deb = deb

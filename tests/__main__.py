@@ -24,7 +24,7 @@ from repository import TOP
 # Those that take longest begin first.
 LONGEST = (
     "failures", "rows", "growths", "match", "pairs", "packages", "audit_launcher", "transfers_launcher",
-    "match_launcher", "loopback", "legs", "sources",
+    "match_launcher", "words", "loopback", "legs", "sources",
 )
 COUNTED = re.compile(r"(?m)^(\d+) tests, (\d+) cases$")
 SKIPPED = re.compile(r"(?m)^skipped (.*)$")

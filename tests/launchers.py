@@ -18,6 +18,16 @@ from scratch import AUDIT, LAUNCHERS, MATCH, NEEDED, SCRIPTS, TRANSFERS, V3, Lau
 
 # As the program tftp-transfers tells its own.
 VERSION = re.findall(r'VERSION: &str = "(.*)"', (TOP / "crates" / "tftp_words" / "src" / "help.rt").read_text())[0]
+# What tftp-audit says of words that begin with no command.
+HINT = f"tftp-audit: call it as tftp-audit {'|'.join(COMMANDS)} [FILE]; tftp-audit --help says more\n"
+# Signs of control and of the way of writing, in the name of a file that is not there, and how they are printed.
+ODD, PLAIN_ODD = "a\x1b[31m\n\x7f\u202e\u00e9", r"a\x1b[31m\x0a\x7f\xe2\x80\xae\xc3\xa9"
+MISSING = "No such file or directory"
+# How standard output fails, and the system's reason.
+FAILING = (
+    ("a full disk", '"$@" >/dev/full', "No space left on device"), ("closed output", '"$@" >&-', "Bad file descriptor"),
+    ("a closed pipe", '{ sleep 0.2; "$@"; echo "status $?" >&2; } | true', "Broken pipe"),
+)
 
 
 def at_hand() -> str:
@@ -50,8 +60,8 @@ class Launchers(Checks):
     def try_launcher(self, launcher: Launcher, *further: Callable[[], None]) -> None:
         self.launcher, self.scratch = launcher, Scratch(self.folder, launcher)
         for step in (
-            self.building, self.libraries, self.edits_meanwhile, self.failing, self.gates, self.links, *further,
-            self.states, self.processors, self.gates_here,
+            self.unbuilt, self.building, self.libraries, self.edits_meanwhile, self.failing, self.gates, self.links,
+            *further, self.states, self.processors, self.gates_here,
         ):
             step()
 
@@ -77,6 +87,33 @@ class Launchers(Checks):
         """Nothing ran, and the last that is told is the message."""
         output, errors, status, calls = got
         self.check(name, output == "" and errors.endswith(message) and status == 2 and calls == builds, got)
+
+    def unbuilt(self) -> None:
+        """Help, the version and what is no option are told without a build, by a launcher of the same version."""
+        for words in (["--help"], ["-h"], ["check", "--help"]):
+            output, *others = self.scratch.run(*words)
+            is_told = f"Usage: {self.launcher.name} " in output and output.endswith("\n")
+            self.check(f"{words} before a build", is_told and others == ["", 0, 0], (output, *others))
+        for word in ("--version", "-V"):
+            got = self.scratch.run(word)
+            self.check(f"{word} before a build", got == (f"{self.launcher.name} {VERSION}\n", "", 0, 0), got)
+        help_says = f"; {self.launcher.name} --help says more\n"
+        for word in ("--frobnicate", "-x", "--jso", "--json x", "--frob=1", f"--{ODD}"):
+            name = word.partition("=")[0].replace(ODD, PLAIN_ODD)
+            got = self.scratch.run("check", word)
+            self.refuses(f"check {word!r} before a build", got, f"there is no option '{name}'{help_says}")
+            self.check(f"check {word!r}, one line", got[1].count("\n") == 1, got)
+        self.failing_output("--help")
+        self.failing_output("--version")
+
+    def failing_output(self, word: str) -> None:
+        """Where standard output fails, that is told with the system's reason, and the status is 2."""
+        launcher = self.scratch.top / self.launcher.name
+        for name, command, why in FAILING:
+            _, told, status, _ = self.scratch.run("-c", command, "sh", launcher, word, script="sh")
+            wanted = self.launcher.said(f"standard output cannot be written: {why}\n")
+            holds = (told, status) in ((wanted, 2), (f"{wanted}status 2\n", 0))
+            self.check(f"{word}, {name}", holds, (told, status))
 
     def building(self) -> None:
         self.runs("the first call", self.scratch.call("text"), "one", 1, given="text")
@@ -193,11 +230,11 @@ class Launchers(Checks):
             got = self.scratch.run("check", word, script=script, folder=folder, given="other")
             holds = got == (f"{text}: 1 words check: its text\n", "", 0, 0)
             self.check(f"installed, {script.name} check {word}", holds, got)
-        given = (("check",), "1 words check"), (("check", "-"), "1 words check"), (("x", "y"), "2 words x y")
-        for its, said in given:
+        for its in (("check",), ("check", "-"), ("check", "--")):
             got = self.scratch.run(*its, script=launcher, given="given")
-            status = 0 if its[0] == "check" else 2
-            self.check(f"installed, {its}", got == (f"{text}: {said}: given\n", "", status, 0), got)
+            self.check(f"installed, {its}", got == (f"{text}: 1 words check: given\n", "", 0, 0), got)
+        got = self.scratch.run("x", "y", script=launcher, given="given")
+        self.check("installed, x y", got == (f"{text}: 2 words x y: given\n", HINT, 2, 0), got)
         got = self.scratch.run("check", capture, script=AUDIT.name, folder=folder, on_path=launcher.parent)
         self.check("installed, found on PATH", got == (f"{text}: 1 words check: its text\n", "", 0, 0), got)
         self.refusals(launcher)
@@ -205,9 +242,30 @@ class Launchers(Checks):
     def refusals(self, script: pathlib.Path) -> None:
         """What tftp-audit refuses by itself, and its two options, in a checkout and installed."""
         folder, example = self.scratch.top.parent, self.scratch.top / "examples" / "one-block.capture"
-        for word in ("missing", "", str(folder), "--json"):
+        circle, locked = folder / "a circle", folder / "a locked file"
+        if not locked.exists():
+            circle.symlink_to(circle)
+            locked.write_text("its text")
+            locked.chmod(0)
+        for word, why in (
+            ("missing", MISSING), ("", MISSING), (ODD, MISSING), (str(folder), "Is a directory"),
+            (f"{example}/x", "Not a directory"), (str(circle), "Too many levels of symbolic links"),
+        ):
             got = self.scratch.run("check", word, script=script, given="other")
-            self.refuses(f"{script.name} check '{word}'", got, f"tftp-audit: cannot read the file '{word}'\n")
+            name = word.replace(ODD, PLAIN_ODD)
+            self.refuses(f"{script.name} check {word!r}", got, f"tftp-audit: cannot read the file '{name}': {why}\n")
+            self.check(f"{script.name} check {word!r}, one line", got[1].count("\n") == 1, got)
+        if os.access(locked, os.R_OK):
+            self.leave("a locked file", "who runs this may read each file")
+        else:
+            got = self.scratch.run("check", locked, script=script)
+            self.refuses("a locked file", got, f"tftp-audit: cannot read the file '{locked}': Permission denied\n")
+        for word in ("--json", "-x", "--build"):
+            got = self.scratch.run("check", word, script=script)
+            message = f"tftp-audit: there is no option '{word}'; tftp-audit --help says more\n"
+            self.refuses(f"{script.name} check '{word}'", got, message)
+        got = self.scratch.run("check", "--", "-x", script=script)
+        self.refuses("check -- -x", got, f"tftp-audit: cannot read the file '-x': {MISSING}\n")
         for count in (2, 3):
             got = self.scratch.run("show", *[example] * count, script=script, given="other")
             self.refuses(f"{count} files", got, f"tftp-audit: 'show' takes one file, not {count}\n")

@@ -91,12 +91,12 @@ class Launcher:
         return self.said(f"proving and building the program: {self.takes} from nothing")
 
 
-AUDIT = Launcher("tftp-audit", "tftp_audit", "about a quarter of an hour", ("check",), (("show",), ("extrac",)))
+AUDIT = Launcher("tftp-audit", "tftp_audit", "about a quarter of an hour", ("check",), (("show",), ("count",)))
 TRANSFERS = Launcher(
-    "tftp-transfers", "tftp_transfers", "half an hour or so", ("check", "-"), (("-",), ("chec", "-"), ("--help",)),
+    "tftp-transfers", "tftp_transfers", "half an hour or so", ("check", "-"), (("-",), ("check", "-", "x")),
 )
 MATCH = Launcher(
-    "tftp-match", "tftp_match", "half an hour or so", ("./client.capture", "-"), (("-",), ("-", "x"), ("--help",)),
+    "tftp-match", "tftp_match", "half an hour or so", ("./client.capture", "-"), (("-",), ("-", "x")),
 )
 LAUNCHERS = (AUDIT, TRANSFERS, MATCH)
 
@@ -143,8 +143,8 @@ class Scratch:
         environment |= {"MEANWHILE": meanwhile, "TRIED": self.launcher.crate, "BROKEN": broken, "HOME": str(self.home)}
         done = subprocess.run(
             [script or self.top / self.launcher.name, *words],
-            input=given, cwd=folder or self.top, env=environment, text=True, stdout=subprocess.PIPE, stderr=errors,
-            timeout=60,
+            input=given, cwd=folder or self.top, env=environment, stdout=subprocess.PIPE, stderr=errors, timeout=60,
+            encoding="utf-8", errors="surrogateescape",
         )
         return done.stdout, done.stderr, done.returncode, self.calls.read_text().count("rt: run ")
 

@@ -8,14 +8,16 @@ import pathlib
 import pty
 
 from commands import COMMANDS
-from launchers import Launchers, give_flags, text_for
+from launchers import HINT, MISSING, ODD, PLAIN_ODD, Launchers, give_flags, text_for
 from scratch import AUDIT, NEEDED, V3, Ran, Scratch, Word, said_of
 
 WRONG_WORDS: tuple[list[str], ...] = (
     [], [""], ["help"], ["-x"], ["Check"], ["extrac", "x"], ["--help", "check"], ["--version", "x"], ["--build", "x"],
     ["--ready", "x"],
 )
-HINT = f"tftp-audit: call it as tftp-audit {'|'.join(COMMANDS)} [FILE]; tftp-audit --help says more"
+# The first four bytes of a recording, and others.
+RECORDINGS = b"\xa1\xb2\xc3\xd4", b"\xa1\xb2\x3c\x4d", b"\xd4\xc3\xb2\xa1", b"\x4d\x3c\xb2\xa1", b"\x0a\x0d\x0d\x0a"
+OTHERS = b"", b"\xa1\xb2\xc3", b"\xa1\xb2\xc3\xd5", b"tftp-capture 1", b"x\xa1\xb2\xc3\xd4"
 
 
 def on_terminal(scratch: Scratch, *words: Word, meanwhile: str = "") -> Ran:
@@ -61,16 +63,41 @@ class AuditLauncher(Launchers):
             got = self.scratch.run(command, folder / "the capture")
             self.runs(f"{command} and a file", got, "mended", 0, words=f"1 words {command}", given="its text", status=2)
         self.runs("check -", self.scratch.run("check", "-", given="given"), "mended", 0, given="given")
+        (folder / "-x").write_text("its text")
+        got = self.scratch.run("check", "--", "-x", folder=folder)
+        self.runs("check -- -x", got, "mended", 0, given="its text")
+        self.recordings(folder)
         self.scratch.source.write_text("seven")
         self.refusals(self.scratch.top / AUDIT.name)
-        self.refuses(
-            "a missing file before a build", self.scratch.run("check", "missing"), "cannot read the file 'missing'\n"
-        )
+        got = self.scratch.run("check", "missing")
+        self.refuses("a missing file before a build", got, f"cannot read the file 'missing': {MISSING}\n")
+        for words in WRONG_WORDS:
+            self.refuses(f"wrong words {words} before a build", self.scratch.run(*words), HINT)
         got = self.scratch.run("check", folder / "the capture")
         self.runs("a file after an edit", got, "seven", 1, given="its text")
         self.scratch.source.write_text("3")
         self.refuses("a trial run that ends with status 3", self.scratch.call(), self.not_built(), 1)
         self.scratch.source.write_text("seven")
+        self.scratch.run("--build")
+
+    def recordings(self, folder: pathlib.Path) -> None:
+        """Of a recording it is told which program reads it, whether a file is named or is standard input."""
+        for begins in (*RECORDINGS, *OTHERS):
+            recording = folder / f"a {ODD}"
+            recording.write_bytes(begins)
+            named = f"tftp-audit: '{folder}/a {PLAIN_ODD}' is a recording: tftp-transfers check judges it\n"
+            given = "tftp-audit: standard input is a recording: tftp-transfers check - judges it\n"
+            command = '"$0" check <"$1"', self.scratch.top / AUDIT.name, recording
+            for name, got, told in (
+                ("named", self.scratch.run("check", recording), named),
+                ("given", self.scratch.run("-c", *command, script="sh"), given),
+            ):
+                holds = got[1:] == (told if begins in RECORDINGS else "", 0, 0) and got[0].startswith("mended: 1 words")
+                self.check(f"what begins with {begins!r}, {name}", holds, got)
+        self.scratch.source.write_text("not built")
+        recording.write_bytes(RECORDINGS[0])
+        self.refuses("a recording before a build", self.scratch.run("check", recording), named)
+        self.scratch.source.write_text("mended")
         self.scratch.run("--build")
 
     def wrong_words(self) -> None:
@@ -79,12 +106,13 @@ class AuditLauncher(Launchers):
             said = said_of(words)
             # the stand-in's program looks at its first word alone
             status = 0 if words[:1] == ["check"] else 2
-            self.runs(f"wrong words {words}", self.scratch.run(*words), "seven", 0, words=said, status=status)
+            got = self.scratch.run(*words)
+            self.check(f"wrong words {words}", got == (f"seven: {said}: \n", HINT, status, 0), got)
             if not is_tried:
                 continue
             output, told, ended, builds = on_terminal(self.scratch, *words)
             holds = output == f"seven: {said}: \n" and ended == status
-            holds = holds and told.startswith(HINT) and told.count("\n") == 1
+            holds = holds and told == HINT.replace("\n", "\r\n")
             self.check(f"wrong words {words} on a terminal", holds, (output, told, ended, builds))
         right: tuple[list[Word], ...] = (["check"], ["show"], ["check", self.scratch.top / "crates.txt"], ["--build"])
         for its in right if is_tried else ():

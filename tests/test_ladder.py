@@ -202,6 +202,7 @@ class Ladder(Checks):
         told = "tftp-ladder: there is no datagram to draw: fault line 2 Truncated\n"
         self.check("nothing to draw", got == ("", told, 2), got)
         got = run(["--rows", "1", "--program", self.program], cut)
-        self.check("too few rows", got[0] == "" and "usage: tftp-ladder" in got[1] and got[2] == 2, got)
+        told = "tftp-ladder: argument --rows: '1' is no number of 40 or more; tftp-ladder --help says more\n"
+        self.check("too few rows", got == ("", told, 2), got)
         output, _, status = run(["--help"], b"")
         self.check("tftp-ladder --help", status == 0 and output.startswith("usage: tftp-ladder"), output)

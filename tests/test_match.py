@@ -21,6 +21,7 @@ from fuzzing.meanings import Spelling, meaning_of
 from fuzzing.transfers import ENDS, Step, Transfer
 from fuzzing.views import View
 from made import C, S, file_of, framed, packets_of, read
+from launchers import VERSION
 from programs import MATCH, refusing
 from recorded import Datagram, pcap
 
@@ -441,7 +442,7 @@ class Matches(Checks):
 
     def test_words(self) -> None:
         self.tells("help", ["--help"], "<CLIENT> <SERVER>", 0)
-        self.tells("version", ["--version"], "tftp-match 0.2.0", 0)
+        self.tells("version", ["--version"], f"tftp-match {VERSION}", 0)
         self.tells("one word", ["x"], "Usage:", 2)
         self.tells("both of standard input", ["-", "-"], "standard input", 2)
         self.tells("no file", [str(self.folder / "none"), "-"], "none: ", 2)

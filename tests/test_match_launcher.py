@@ -1,7 +1,7 @@
 """The launcher tftp-match: what it passes to the program, beside what is tried of each launcher."""
 from __future__ import annotations
 
-from launchers import Launchers
+from launchers import MISSING, Launchers
 from scratch import MATCH, Word, said_of
 
 
@@ -32,7 +32,7 @@ class MatchLauncher(Launchers):
         unread: tuple[list[Word], ...] = (["missing"], ["gone", "missing"], ["--transfer", "2", "missing"])
         for words in unread:
             got = self.scratch.run(*words, given="other")
-            self.refuses(f"{words} before a build", got, "tftp-match: cannot read the file 'missing'\n")
+            self.refuses(f"{words} before a build", got, f"tftp-match: cannot read the file 'missing': {MISSING}\n")
         got = self.scratch.run(capture, "-", given="other")
         self.runs("a file after an edit", got, "seven", 1, words=said_of([capture, "-"]), given="other")
         self.scratch.source.write_text("3")

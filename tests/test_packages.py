@@ -15,7 +15,7 @@ import subprocess
 import sys
 import tarfile
 import tempfile
-from typing import Optional
+from typing import Optional, Union
 
 from checks import Checks
 from repository import TOP
@@ -66,11 +66,19 @@ tftp-transfers:
     logic: libraries=1 sum=5a
     tftp_transfers: logic=proved functions=7 sum=5a
 """
+# Makes the sums that a launcher goes by those of a changed program.
+COPIED = r"""{ sed '$d' "$1.sources"; cksum <"$1"; } >"$1.new"
+mv "$1.new" "$1.sources"
+rm -f "$1.states"
+"""
+APACHE = "/usr/share/common-licenses/Apache-2.0"
 TIME = 1_700_000_000
 GIT = {f"GIT_{who}_{what}": said for who in ("AUTHOR", "COMMITTER") for what, said in (
     ("NAME", "A Maintainer"), ("EMAIL", "one@example.org"), ("DATE", f"{TIME} +0200"),
 )}
-TOOLS = ("git", "readelf", "true")
+TOOLS = ("git", "readelf", "strip", "true")
+# The places of the programs in what is installed.
+PLACES = {AUDIT: "lib/tftp-audit/tftp-audit", TRANSFERS: "bin/tftp-transfers", MATCH: "bin/tftp-match"}
 
 
 class Checkout(Scratch):
@@ -113,6 +121,12 @@ def needs(program: str) -> str:
     return f"{major}.{minor}"
 
 
+def has_symbols(program: Union[str, pathlib.Path]) -> bool:
+    """Whether a program has a table of symbols, beside that of those which it shares."""
+    told = subprocess.run(["readelf", "--section-headers", "--wide", program], capture_output=True, text=True, check=True)
+    return " SYMTAB " in told.stdout
+
+
 def sums_hold(folder: pathlib.Path, listed: pathlib.Path, unlisted: set[str]) -> bool:
     """Whether the list has the sum of each file below the folder but for some."""
     lines: dict[str, str] = {}
@@ -131,8 +145,23 @@ class Packages(Checks):
         super().setUp()
         if missing := [name for name in TOOLS if not shutil.which(name)]:
             self.skipTest(f"{', '.join(missing)} is not installed, so no packages are tried")
-        self.program = str(shutil.which("true"))
+        self.program = self.stand_in()
         self.checkout = Checkout(self.folder, self.program)
+
+    def stand_in(self) -> str:
+        """A program that does nothing, with symbols where there is a compiler."""
+        if not shutil.which("cc"):
+            return str(shutil.which("true"))
+        made = self.folder / "stand-in"
+        subprocess.run(["cc", "-x", "c", "-o", made, "-"], input=b"int main(void) { return 0; }", check=True)
+        return str(made)
+
+    def try_programs(self, prefix: pathlib.Path) -> None:
+        """The programs below a folder have no symbols, though those that were built have."""
+        if not has_symbols(self.program):
+            self.leave("no symbols", "no C compiler is installed, so no program that is packed has had symbols")
+        for launcher, place in PLACES.items():
+            self.check(f"{launcher.name} has no symbols", not has_symbols(prefix / place))
 
     def test_tar(self) -> None:
         made = self.checkout.made("dist")
@@ -174,17 +203,20 @@ class Packages(Checks):
             "share/fish/vendor_completions.d/tftp-audit.fish", *(f"bin/{name}" for name in SCRIPTS),
         )
         self.check("the tar's files", all((folder / name).is_file() for name in wanted), names)
-        self.try_proved((folder / "PROVED").read_text())
+        self.try_proved((folder / "PROVED").read_text(), folder)
+        self.try_programs(folder)
         for words in (
             ["bin/tftp-audit", "--help"], ["bin/tftp-audit", "check", "PROVED"], ["bin/tftp-explain", "--help"]
         ):
             done = subprocess.run(words, cwd=folder, capture_output=True, text=True)
             self.check(f"{words} of the tar", done.returncode == 0, done)
 
-    def try_proved(self, proved: str) -> None:
+    def try_proved(self, proved: str, folder: pathlib.Path) -> None:
         """What the tar says of its commit, its programs and the gate."""
         digest = hashlib.sha256(pathlib.Path(self.program).read_bytes()).hexdigest()
+        stripped = {it.name: hashlib.sha256((folder / place).read_bytes()).hexdigest() for it, place in PLACES.items()}
         for said in (
+            *(f"{name}, stripped: sha256 {its}\n" for name, its in stripped.items()),
             f"commit {self.checkout.commit()} of 2023-11-14 22:13:20 UTC\n",
             "proved and built by rattle-kit-0 logic 5a\n",
             f"needs glibc {needs(self.program)} or later", f"tftp-audit: sha256 {digest}\n",
@@ -198,7 +230,7 @@ class Packages(Checks):
         self.checkout.does("dpkg-deb", "--raw-extract", str(made), str(root))
         control = (root / "DEBIAN" / "control").read_text()
         for field in (
-            "Package: tftp-audit\n", f"Depends: libc6 (>= {needs(self.program)})\n", "Recommends: python3 (>= 3.9)\n",
+            "Package: tftp-audit\n", f"Depends: libc6 (>= {needs(self.program)}), python3 (>= 3.9)\n",
             "Maintainer: A Maintainer <one@example.org>\n",
         ):
             self.check(f"the package says {field!r}", field in control, control)
@@ -217,12 +249,87 @@ class Packages(Checks):
         changes = gzip.decompress((pages / "changelog.gz").read_bytes()).decode()
         signed = " -- A Maintainer <one@example.org>  Tue, 14 Nov 2023 22:13:20 +0000\n"
         self.check("the package's changes", changes.endswith(signed), changes)
-        licences = [(self.checkout.top / name).read_text() for name in ("LICENSE", "LICENSE-APACHE", "LICENSE-MIT")]
-        self.check("the licences are those of the checkout", (pages / "copyright").read_text() == "\n".join(licences))
+        self.try_copyright((pages / "copyright").read_text())
+        self.try_plugin(usr, control)
+        self.try_programs(usr)
+        self.try_lintian(made)
         done = subprocess.run([usr / "bin" / "tftp-audit", "--version"], capture_output=True, text=True)
         self.check("the launcher of the package", done.returncode == 0 and done.stdout.startswith("tftp-audit "), done)
         told = self.checkout.does("dpkg-deb", "--contents", str(made)).stdout
         self.check("the package's owners", {line.split()[1] for line in told.splitlines()} == {"root/root"}, told)
+
+    def try_copyright(self, told: str) -> None:
+        """The package's copyright file has the text of the MIT licence, and names Debian's file of the Apache licence."""
+        holder, _, text = (self.checkout.top / "LICENSE-MIT").read_text().partition("Copyright (c) ")[2].partition("\n\n")
+        plain = "".join(f" {line or '.'}\n" for line in text.rstrip("\n").split("\n"))
+        self.check("the MIT licence", f"\nLicense: MIT\n{plain}\n" in told and "WARRANTY" in plain, told)
+        self.check("the holder", f"\nFiles: *\nCopyright: {holder}\nLicense: MIT or Apache-2.0\n" in told, told)
+        self.check("the Apache licence", "\nLicense: Apache-2.0\n" in told and f" {APACHE}.\n" in told, told)
+        if pathlib.Path("/usr/share/common-licenses").is_dir():
+            self.check("Debian's file of it", pathlib.Path(APACHE).is_file())
+
+    def try_plugin(self, usr: pathlib.Path, control: str) -> None:
+        """The plugin is where tshark looks for those that all users have."""
+        plugin = (self.checkout.top / "share" / "wireshark" / "tftp-audit.lua").read_bytes()
+        places = [path for path in (usr / "lib").glob("*/wireshark/plugins/*") if path.read_bytes() == plugin]
+        self.check("the plugin's place", [path.name for path in places] == ["tftp-audit.lua"], places)
+        within = all(usr in path.resolve().parents for path in places)
+        self.check("the plugin is of the package", within, places)
+        if not shutil.which("tshark") or "Architecture: amd64\n" not in control:
+            self.leave("where tshark looks", "there is no tshark for the package's processor")
+            return
+        told = subprocess.run(["tshark", "-G", "folders"], capture_output=True, text=True).stdout
+        looked = re.findall(r"(?m)^Global (?:Lua )?Plugins:\s+(.*)$", told)
+        found = any(f"/usr/{path.parent.relative_to(usr)}" in looked for path in places)
+        self.check("where tshark looks", found, (looked, places))
+
+    def try_lintian(self, made: pathlib.Path) -> None:
+        """Debian's own check of packages finds no error and no warning."""
+        if not shutil.which("lintian"):
+            self.leave("lintian", "lintian is not installed, so the package is not checked with it")
+            return
+        words = ["lintian", "--no-cfg", "--allow-root", "--fail-on", "error,warning", str(made)]
+        done = subprocess.run(words, capture_output=True, text=True)
+        self.check("lintian", (done.returncode, done.stdout) == (0, ""), done)
+
+    def test_sums(self) -> None:
+        """A program is packed only where its SHA-256 is the one that was recorded when it was built."""
+        made = self.checkout.made("dist")
+        first = made.read_bytes()
+        made.unlink()
+        for launcher in LAUNCHERS:
+            program = self.checkout.program_of(launcher)
+            right, record = program.read_bytes(), program.with_name(f"{program.name}.sha256")
+            recorded = hashlib.sha256(right).hexdigest()
+            program.write_bytes(right + b"\n")
+            changed = hashlib.sha256(right + b"\n").hexdigest()
+            self.refuses_sum(f"a changed {launcher.name}", program, changed, recorded)
+            # the launcher's own sum is that of the changed one, so that it builds no other
+            self.checkout.does("sh", "-c", COPIED, "sh", str(program))
+            self.refuses_sum(f"a changed {launcher.name} that its launcher takes", program, changed, recorded)
+            program.write_bytes(right)
+            record.unlink()
+            done = self.checkout.does("tools/package", "tar")
+            holds = done.returncode == 2 and f"its SHA-256 is {recorded}, and none was recorded" in done.stderr
+            self.check(f"{launcher.name} of which no sum is known", holds and not made.exists(), done)
+            record.write_text(f"{recorded}  -\n")
+            program.unlink()
+            done = self.checkout.does("tools/package", "tar")
+            holds = done.returncode == 2 and done.stderr == f"package: the program '{program}' is not built\n"
+            self.check(f"{launcher.name} that is not there", holds, done)
+            program.write_bytes(right)
+            program.chmod(0o755)
+            self.checkout.does("sh", "-c", COPIED, "sh", str(program))
+        self.check("all once more", self.checkout.made("dist").read_bytes() == first)
+
+    def refuses_sum(self, name: str, program: pathlib.Path, now: str, recorded: str) -> None:
+        """No package is made, and what the program is is told."""
+        told = f"package: '{program}' is not the program that was built with its proofs: its SHA-256 is {now}, and"
+        for words in (["make", "dist"], ["make", "deb"], ["tools/package", "tar"], ["tools/package", "deb"]):
+            done = self.checkout.does(*words)
+            holds = done.returncode == 2 and f"{told} {recorded} was recorded" in done.stderr
+            self.check(f"{' '.join(words)} of {name}", holds, done)
+        self.check(f"no package of {name}", not list((self.checkout.top / "dist").iterdir()))
 
     def try_again(self, target: str, made: pathlib.Path) -> None:
         """The same bytes once more, and from another folder under another mask; none of what is not committed."""
@@ -270,7 +377,7 @@ class Packages(Checks):
         self.checkout.does("make", "build-for-any")
         folder = self.checkout.top.parent / "few tools"
         folder.mkdir()
-        for name in ("python3", "git", "readelf", "sh", "install", "ln", "rm", "cat", "sed", "sort", "rmdir", "env"):
+        for name in ("python3", "git", "readelf", "strip", "sh", "install", "ln", "rm", "cat", "sed", "sort", "rmdir", "env"):
             (folder / name).symlink_to(str(shutil.which(name)))
         (folder / "rt").symlink_to(self.checkout.bin / "rt")
         done = self.checkout.does(sys.executable, "tools/package", "deb", path=str(folder))

@@ -3,7 +3,7 @@ from __future__ import annotations
 
 import pathlib
 
-from launchers import Launchers
+from launchers import MISSING, Launchers
 from scratch import TRANSFERS, Word, said_of
 
 
@@ -44,10 +44,16 @@ class TransfersLauncher(Launchers):
         )
         for words in unread:
             got = self.scratch.run(*words, given="other")
-            self.refuses(f"{words} before a build", got, "tftp-transfers: cannot read the file 'missing'\n")
+            message = f"tftp-transfers: cannot read the file 'missing': {MISSING}\n"
+            self.refuses(f"{words} before a build", got, message)
+        mistyped: tuple[list[Word], ...] = (["chec", recording], ["gone", "-"])
+        for words in mistyped:
+            got = self.scratch.run(*words, given="other")
+            message = f"'{words[0]}' is no command (list, text, texts, check), and no file that can be read"
+            self.refuses(f"{words}", got, f"tftp-transfers: {message}; tftp-transfers --help says more\n")
         folder = recording.parent
         got = self.scratch.run("check", folder)
-        self.refuses("a folder", got, f"tftp-transfers: cannot read the file '{folder}'\n")
+        self.refuses("a folder", got, f"tftp-transfers: cannot read the file '{folder}': Is a directory\n")
         got = self.scratch.run("check", recording, given="other")
         self.runs("a file after an edit", got, "seven", 1, words=said_of(["check", recording]), given="other")
         self.scratch.source.write_text("eight")

@@ -1,7 +1,8 @@
 # What ./tftp-audit, ./tftp-transfers and ./tftp-match share: a program is proved and built where its sources are not those that it
 # was built of, or where it was built for another processor. Before it reads this a launcher reads commands.sh, and sets
-# `top`, where the repository is; `name` and `crate`, those of its program; `takes`, how long a build takes; and
-# trial_run, which builds the program, with the words for rt that it is given, and tries it. tests/here.sh reads it too.
+# `top`, where the repository is; `name` and `crate`, those of its program; `takes`, how long a build takes; `usage`, how
+# the program is called, where that is told before it is built; and trial_run, which builds the program, with the words for
+# rt that it is given, and tries it. tests/here.sh reads it too.
 #   NAME --build   only builds the program, for the processor at hand
 #   NAME --ready   only builds it where a call would
 #   NAME --gate    proves all from nothing with rt ci, which builds all of them too, for any; its status is rt's
@@ -74,9 +75,9 @@ is_best() {
     is_ready && [ "$built_for" = "$(processor)" ]
 }
 
-# Does what builds the programs of these crates for such a processor, and records what they were built of and for. An
-# edit meanwhile, even one that was taken back, may stand in a program: nothing is recorded then, and it is built again
-# at the next call.
+# Does what builds the programs of these crates for such a processor, and records what they were built of and for, and
+# their SHA-256, without which none is packed. An edit meanwhile, even one that was taken back, may stand in a program:
+# nothing is recorded then, and it is built again at the next call.
 build_by() {
     built_for=$1
     crates=$2
@@ -84,13 +85,16 @@ build_by() {
     state=$(states)
     before=$(checksums)
     for it in $crates; do
-        rm -f "$(program_of "$it").sources" "$(program_of "$it").processor" "$(program_of "$it").states"
+        built=$(program_of "$it")
+        rm -f "$built.sources" "$built.processor" "$built.states" "$built.sha256"
     done
     "$@" || return
     [ "$(states)" = "$state" ] || return 0
     for it in $crates; do
-        echo "$built_for" >"$(program_of "$it").processor"
-        printf '%s\n' "$before" "$(cksum <"$(program_of "$it")")" >"$(program_of "$it").sources"
+        built=$(program_of "$it")
+        echo "$built_for" >"$built.processor"
+        sha256sum <"$built" >"$built.sha256"
+        printf '%s\n' "$before" "$(cksum <"$built")" >"$built.sources"
     done
 }
 
@@ -222,9 +226,48 @@ has_file() {
     return 1
 }
 
+# Whether the program has an option, by its usage, and whether a value stands behind that.
+has_option() {
+    case $usage in *"[${1}]"* | *"[${1} "* | *"|${1} "*) ;; *) false ;; esac
+}
+
+takes_value() {
+    case $usage in *"[${1} "*) ;; *) false ;; esac
+}
+
+help_unbuilt() {
+    cat <<END_OF_HELP
+Usage: $usage
+
+The program is not built here, or not of these sources. Any call with other words proves and builds it first, which takes
+$takes from nothing; then its own help says more. Its manual page is docs/man/$name.1 of the sources.
+
+  --build  Only build it, for the processor at hand
+  --ready  Only build it where a call would
+  --gate   Prove all from nothing, which builds all three programs
+END_OF_HELP
+}
+
+# Answers what needs no program, and refuses an option that it has not, so that nobody waits for a build to be told.
+answer_unbuilt() {
+    while [ "$#" -gt 0 ]; do
+        case $1 in
+            --) return ;;
+            -h | --help) write_out "$(help_unbuilt)" && exit ;;
+            -V | --version) write_out "$name $version" && exit ;;
+            -?*) has_option "${1%%=*}" || refuse_option "${1%%=*}" ;;
+        esac
+        ! takes_value "$1" || [ "$#" -eq 1 ] || shift
+        shift
+    done
+}
+
 # Builds the program where that is due, and becomes it. Its own help calls it by the name under which it was started.
 become_program() {
-    is_ready || build
+    if ! is_ready; then
+        answer_unbuilt "$@"
+        build
+    fi
     link=$(dirname "$program")/$name
     [ -h "$link" ] || ln -s "$crate" "$link" 2>/dev/null || link=$program
     ask_for_large_pages

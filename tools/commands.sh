@@ -3,8 +3,19 @@
 # own, and before `run_command` `program`, the proved program's place.
 version=0.2.0
 
+# Words in one line, as they can be printed: what is no plain sign of ASCII is escaped byte by byte, as the programs do.
+shown() (
+    LC_ALL=C
+    case $1 in
+        *[!\ -~]*) ;;
+        *) printf '%s' "$1" && return ;;
+    esac
+    printf '%s' "$1" | od -An -v -tu1 |
+        awk '{ for (at = 1; at <= NF; at++) printf($at < 32 || $at > 126 ? "\\x%02x" : "%c", $at) }'
+)
+
 say() {
-    printf '%s: %s\n' "$name" "$1" >&2
+    printf '%s: %s\n' "$name" "$(shown "$1")" >&2
 }
 
 refuse() {
@@ -12,12 +23,25 @@ refuse() {
     exit 2
 }
 
+refuse_option() {
+    refuse "there is no option '$1'; $name --help says more"
+}
+
 is_readable() {
     [ -r "$1" ] && [ ! -d "$1" ]
 }
 
+# The last part of what cat says is the system's reason.
 refuse_file() {
-    refuse "cannot read the file '$1'"
+    why=$(LC_ALL=C cat -- "$1" 2>&1 >/dev/null) || :
+    refuse "cannot read the file '$1': ${why##*: }"
+}
+
+# Standard output takes these lines, or the call is refused.
+write_out() {
+    why='Bad file descriptor'
+    { why=$(trap '' PIPE && printf '%s\n' "$1" | LC_ALL=C cat 2>&1 >&3); } 2>/dev/null 3>&1 ||
+        refuse "standard output cannot be written: ${why##*: }"
 }
 
 help() {
@@ -52,25 +76,51 @@ is_command() {
     esac
 }
 
-# Answers an option and ends; refuses a file that cannot be read. What else is wrong with the words is the program's to
-# tell, and where someone looks on they are told how it is called.
+# Whether a file that can be read again begins as a recording does, of pcap or of pcapng.
+is_recording() {
+    [ -f "$1" ] || return
+    case $(od -An -N4 -tx1 <"$1") in
+        *a1\ b2\ c3\ d4* | *a1\ b2\ 3c\ 4d* | *d4\ c3\ b2\ a1* | *4d\ 3c\ b2\ a1* | *0a\ 0d\ 0d\ 0a*) ;;
+        *) false ;;
+    esac
+}
+
+# What the program will tell too, but not how it is mended.
+warn() {
+    say "$1"
+    is_wrong=yes
+}
+
+# Says what reads a recording. Linux opens standard input anew by its name, so that nothing of it is taken.
+warn_of_recording() {
+    case $1 in
+        -) ! is_recording /proc/self/fd/0 || warn "standard input is a recording: tftp-transfers check - judges it" ;;
+        *) ! is_recording "$1" || warn "'$1' is a recording: tftp-transfers check judges it" ;;
+    esac
+}
+
+# Answers an option and ends; refuses a file that cannot be read, and an option of a command. What else is wrong with the
+# words is the program's to tell, and here it is told how it is called. Behind the word -- a file may begin with a -.
 take_words() {
+    is_wrong=no
     case $#:${1-}:${2-} in
-        1:-h: | 1:--help: | 2:*:-h | 2:*:--help)
-            help
-            exit
-            ;;
-        1:-V: | 1:--version:)
-            printf 'tftp-audit %s\n' "$version"
-            exit
-            ;;
+        1:-h: | 1:--help: | 2:*:-h | 2:*:--help) write_out "$(help)" && exit ;;
+        1:-V: | 1:--version:) write_out "$name $version" && exit ;;
     esac
     if ! is_command "$@"; then
-        [ ! -t 2 ] || say "call it as tftp-audit check|extract|normal|show|count [FILE]; tftp-audit --help says more"
+        warn "call it as tftp-audit check|extract|normal|show|count [FILE]; tftp-audit --help says more"
         return
     fi
-    [ "$#" -le 2 ] || refuse "'$1' takes one file, not $(($# - 1))"
-    [ "$#" -eq 1 ] || [ "$2" = - ] || is_readable "$2" || refuse_file "$2"
+    command=$1
+    shift
+    case ${1-} in
+        --) shift ;;
+        -?*) refuse_option "${1%%=*}" ;;
+    esac
+    [ "$#" -le 1 ] || refuse "'$command' takes one file, not $#"
+    file=${1--}
+    [ "$file" = - ] || is_readable "$file" || refuse_file "$file"
+    warn_of_recording "$file"
 }
 
 # Asks the system to lay what a program keeps of a large capture in large pages, which spares up to a fifth of the time
@@ -82,10 +132,7 @@ ask_for_large_pages() {
 # Becomes the program.
 run_command() {
     ask_for_large_pages
-    if ! is_command "$@" || [ "$#" -ne 2 ]; then
-        exec "$program" "$@"
-    elif [ "$2" = - ]; then
-        exec "$program" "$1"
-    fi
-    exec "$program" "$1" <"$2"
+    is_command "$@" || exec "$program" "$@"
+    [ "$file" = - ] || exec "$program" "$command" <"$file"
+    exec "$program" "$command"
 }

@@ -3,11 +3,14 @@ from __future__ import annotations
 
 import dataclasses
 import datetime
+import hashlib
 import re
 import shutil
 import struct
 import subprocess
 from pathlib import Path
+
+from tftp_tools.words import version
 
 TOP = Path(__file__).resolve().parent.parent.parent
 # Where the launchers keep what rt said of the last gate and of the builds after it, each in NAME.log.
@@ -19,6 +22,10 @@ NEEDED = re.compile(r"\bName: GLIBC_(\d+(?:\.\d+)+)")
 
 class Refused(Exception):
     """Why no package is made."""
+
+
+def digest(path: Path) -> str:
+    return hashlib.sha256(path.read_bytes()).hexdigest()
 
 
 def answer(*words: str) -> str:
@@ -55,10 +62,11 @@ class Commit:
 
 @dataclasses.dataclass(frozen=True)
 class Program:
-    """A program that was built, in the crate of this name, and its name once it is installed."""
+    """A program that was built, in the crate of this name, and its name and its place once it is installed."""
 
     crate: str
     name: str
+    place: str
 
     def path(self) -> Path:
         return TOP / "crates" / self.crate / "out" / self.crate
@@ -69,6 +77,22 @@ class Program:
             return self.path().with_name(f"{self.crate}.processor").read_text().strip()
         except OSError:
             raise Refused(f"it is not known for which processors '{self.path()}' was built") from None
+
+    def proved_sum(self) -> str:
+        """The SHA-256 that the launcher wrote down when it had built the program with its proofs, or nothing."""
+        record = self.path().with_name(f"{self.crate}.sha256")
+        return record.read_text().split(" ")[0].strip() if record.exists() else ""
+
+    def check_sum(self) -> None:
+        """Refuses another program in its place."""
+        if not self.path().is_file():
+            raise Refused(f"the program '{self.path()}' is not built")
+        now = digest(self.path())
+        if now != self.proved_sum():
+            raise Refused(
+                f"'{self.path()}' is not the program that was built with its proofs: its SHA-256 is {now}, and"
+                f" {self.proved_sum() or 'none'} was recorded; remove it, and it is built again"
+            )
 
     def architecture(self) -> str:
         """Debian's name of the machine that it runs on."""
@@ -91,9 +115,24 @@ class Program:
 
 
 PROGRAMS = (
-    Program("tftp_audit", "tftp-audit"), Program("tftp_transfers", "tftp-transfers"),
-    Program("tftp_match", "tftp-match"),
+    Program("tftp_audit", "tftp-audit", "lib/tftp-audit/tftp-audit"),
+    Program("tftp_transfers", "tftp-transfers", "bin/tftp-transfers"),
+    Program("tftp_match", "tftp-match", "bin/tftp-match"),
 )
+
+
+def check_changed() -> None:
+    """Refuses a program that was changed since it was built; one that is not there, or of which no sum was recorded, is
+    built before a package is made."""
+    for program in PROGRAMS:
+        if program.path().exists() and program.proved_sum():
+            program.check_sum()
+
+
+def check_sums() -> None:
+    """Refuses a program that is not the one that was built with its proofs."""
+    for program in PROGRAMS:
+        program.check_sum()
 
 
 def check_processors() -> None:
@@ -110,7 +149,4 @@ def libc_needed() -> str:
 
 def version_of(commit: Commit) -> str:
     """The version that the programs tell, with the commit's day, time and name: a later commit's sorts after it."""
-    found = re.search(r"(?m)^version=(\S+)$", (TOP / "tools" / "commands.sh").read_text())
-    if not found:
-        raise Refused("tools/commands.sh has no version")
-    return f"{found[1]}+{commit.time:%Y%m%d.%H%M%S}.{commit.name[:8]}"
+    return f"{version()}+{commit.time:%Y%m%d.%H%M%S}.{commit.name[:8]}"

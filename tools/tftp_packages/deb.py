@@ -4,7 +4,9 @@ from __future__ import annotations
 import gzip
 import hashlib
 import os
+import re
 import subprocess
+import textwrap
 from email.utils import format_datetime
 from pathlib import Path
 
@@ -19,6 +21,33 @@ Description: auditor of recorded TFTP transfers
  tftp-audit says it of a text capture of one transfer. Scripts explain a
  verdict, draw the exchange, and write a report.
 """
+# By the architecture, the folder of /usr/lib in which Wireshark has its plugins.
+LIBRARIES = {"amd64": "x86_64-linux-gnu", "arm64": "aarch64-linux-gnu"}
+# Debian's form of a copyright file; the text of the Apache licence is in the folder that it names.
+COPYRIGHT = """\
+Format: https://www.debian.org/doc/packaging-manuals/copyright-format/1.0/
+Upstream-Name: tftp-audit
+
+Files: *
+Copyright: {holders}
+License: MIT or Apache-2.0
+
+License: MIT
+{mit}
+License: Apache-2.0
+ Licensed under the Apache License, Version 2.0 (the "License"); you may not use
+ this file except in compliance with the License.
+ .
+ Unless required by applicable law or agreed to in writing, software
+ distributed under the License is distributed on an "AS IS" BASIS, WITHOUT
+ WARRANTIES OR CONDITIONS OF ANY KIND, either express or implied. See the License
+ for the specific language governing permissions and limitations under the
+ License.
+ .
+ On Debian systems the whole text of the Apache License, Version 2.0, is in
+ /usr/share/common-licenses/Apache-2.0.
+"""
+HOLDERS = re.compile(r"(?m)^Copyright \(c\) (.*)\n+")
 # What Python made of the modules is of no package, and would stay.
 BEFORE_REMOVAL = """\
 #!/bin/sh
@@ -49,8 +78,7 @@ def control(commit: Commit, root: Path) -> str:
         "Architecture": PROGRAMS[0].architecture(),
         "Maintainer": commit.by,
         "Installed-Size": str(sum((size + 1023) // 1024 for size in sizes)),
-        "Depends": f"libc6 (>= {libc_needed()})",
-        "Recommends": "python3 (>= 3.9)",
+        "Depends": f"libc6 (>= {libc_needed()}), python3 (>= 3.9)",
         "Suggests": "wireshark | tshark",
         "Section": "net",
         "Priority": "optional",
@@ -66,6 +94,23 @@ def sums(root: Path) -> str:
     )
 
 
+def copyright_told() -> str:
+    """Debian's copyright file, of the licences of the checkout."""
+    text = (TOP / "LICENSE-MIT").read_text()
+    found = HOLDERS.search(text)
+    if not found:
+        raise Refused("LICENSE-MIT names no holder of the copyright")
+    lines = (line or "." for line in text[found.end() :].rstrip("\n").split("\n"))
+    return COPYRIGHT.format(holders=found[1], mit=textwrap.indent("\n".join(lines) + "\n", " "))
+
+
+def link_plugin(folder: Path) -> None:
+    """Puts the plugin where Wireshark and tshark look for those that all users have."""
+    place = folder / "lib" / LIBRARIES[PROGRAMS[0].architecture()] / "wireshark" / "plugins"
+    place.mkdir(parents=True)
+    (place / f"{NAME}.lua").symlink_to(f"../../../../share/{NAME}/wireshark/{NAME}.lua")
+
+
 def fill(folder: Path, commit: Commit) -> None:
     """Debian's places and papers, in a folder that has what is installed."""
     share = folder / "share"
@@ -74,9 +119,8 @@ def fill(folder: Path, commit: Commit) -> None:
     (pages / "changelog").write_text(changes(commit))
     for path in (*(share / "man" / "man1").glob("*.1"), pages / "changelog"):
         compress(path)
-    licences = sorted((*TOP.glob("LICEN[CS]E*"), *TOP.glob("COPYING*")))
-    if licences:
-        (pages / "copyright").write_text("\n".join(path.read_text() for path in licences))
+    (pages / "copyright").write_text(copyright_told())
+    link_plugin(folder)
     add_papers(folder, pages, commit)
 
 

@@ -7,18 +7,20 @@ import tempfile
 from collections.abc import Iterator
 from pathlib import Path
 
-from tftp_packages.checkout import Commit, answer
+from tftp_packages.checkout import PROGRAMS, Commit, answer
 from tftp_packages.proved import sums_of, told_of
 
 
 @contextlib.contextmanager
 def staged(prefix: str) -> Iterator[tuple[Path, Path]]:
-    """A scratch folder, and below it the prefix with all that is installed there."""
+    """A scratch folder, and below it the prefix with all that is installed there, the programs without symbols."""
     with tempfile.TemporaryDirectory(prefix="tftp-audit-") as name:
         root = Path(name) / "root"
         folder = root / prefix
         folder.mkdir(parents=True)
         answer("sh", "tools/install.sh", "install", str(folder))
+        for program in PROGRAMS:
+            answer("strip", "--strip-all", str(folder / program.place))
         # who unpacks a package has a list of his own
         (folder / "lib" / "tftp-audit" / "installed").unlink()
         yield root, folder
@@ -26,7 +28,7 @@ def staged(prefix: str) -> Iterator[tuple[Path, Path]]:
 
 def add_papers(folder: Path, place: Path, commit: Commit) -> None:
     """PROVED and SHA256SUMS in a place; the sums are of what is below a folder."""
-    (place / "PROVED").write_text(told_of(commit))
+    (place / "PROVED").write_text(told_of(commit, folder))
     (place / "SHA256SUMS").write_text(sums_of(folder))
 
 

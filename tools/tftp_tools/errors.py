@@ -4,6 +4,7 @@ from __future__ import annotations
 import contextlib
 import os
 import sys
+import traceback
 from collections.abc import Callable, Iterator
 
 
@@ -20,10 +21,16 @@ def told(what: str) -> Iterator[None]:
         raise Refused(f"{what}: {why.strerror or why}") from None
 
 
+def shown(words: str) -> str:
+    """Words in one line, as they can be printed: signs of control, and those that turn the way of writing, are
+    escaped, as they may stand in the name of a file."""
+    return "".join(it if it.isprintable() else it.encode("unicode_escape").decode() for it in words)
+
+
 def tell(script: str, message: str) -> None:
     """A line on standard error; where that is closed there is nobody to tell."""
     with contextlib.suppress(OSError):
-        os.write(2, f"{script}: {message}\n".encode(errors="backslashreplace"))
+        os.write(2, f"{script}: {shown(message)}\n".encode(errors="backslashreplace"))
 
 
 def write_out(text: str) -> None:
@@ -44,11 +51,17 @@ def read_file(path: str) -> bytes:
 
 
 def run_script(script: str, main: Callable[[], int]) -> None:
-    """Ends with the status of `main`, or tells why not and ends with status 2."""
+    """Ends with the status of `main`, or tells why not and ends with status 2: status 1 says that a transfer is not
+    accepted, so no fault of a script ends with it."""
     try:
         sys.exit(main())
     except Refused as refusal:
         tell(script, str(refusal))
-        sys.exit(2)
+    except MemoryError:
+        tell(script, "there is not enough memory")
     except KeyboardInterrupt:
+        tell(script, "interrupted")
         sys.exit(130)
+    except Exception:
+        traceback.print_exc()
+    sys.exit(2)

@@ -6,6 +6,7 @@ import re
 import subprocess
 import tempfile
 from dataclasses import dataclass
+from pathlib import Path
 from typing import Any, Optional
 
 from .capture import Capture, read_capture
@@ -87,10 +88,15 @@ def numbers_in(it: dict[str, Any]) -> dict[EndName, Optional[int]]:
 class Sources:
     """The files of a pair, and which transfers of those that are recordings are matched."""
 
-    def __init__(self, program: str, asked: argparse.Namespace) -> None:
-        self.program, self.asked = program, asked
+    def __init__(self, asked: argparse.Namespace) -> None:
+        self.asked = asked
         self.paths: dict[EndName, str] = dict(zip(ENDS, asked.pair))
         self.given = read_file("-") if "-" in asked.pair else None
+        # what cannot be read is told before a program is built; what can be read once is left for that
+        for path in self.paths.values():
+            if not Path(path).is_fifo():
+                self.begins(path)
+        self.program = find_program(MATCH, asked.match)
 
     def has_recordings(self) -> bool:
         return any(is_recording(self.begins(path)) for path in self.paths.values())
@@ -153,5 +159,5 @@ def asked_pair(asked: argparse.Namespace) -> Pair:
         raise Refused("--pair takes the place of FILE: name the client's capture and the server's alone")
     if asked.pair == ["-", "-"]:
         raise Refused("one of the two captures may come on standard input, and not both")
-    program = find_program(MATCH, asked.match)
-    return pair_of(program, Sources(program, asked).texts())
+    sources = Sources(asked)
+    return pair_of(sources.program, sources.texts())

@@ -8,7 +8,7 @@ from dataclasses import dataclass, field, replace
 from typing import Any, Literal, Optional, TypeVar
 
 from .capture import Capture, read_capture
-from .errors import Refused, read_file, tell
+from .errors import Refused, read_file, shown, tell
 from .frames import without_frames
 from .pieces import MAGICS
 from .program import Verdict, ask, check
@@ -167,7 +167,7 @@ class Recording:
         for line in beside[: None if written else -1]:
             tell(script, line)
             if notes is not None:
-                notes.append(line)
+                notes.append(shown(line))
         rows = objects(written, row_of)
         if rows:
             return rows

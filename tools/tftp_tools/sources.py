@@ -4,6 +4,7 @@ from __future__ import annotations
 
 import argparse
 from collections.abc import Iterator
+from pathlib import Path
 from typing import Optional, Union
 
 from .errors import Refused, read_file, told
@@ -36,8 +37,10 @@ def opened(asked: argparse.Namespace) -> Union[bytes, Recording]:
     """The text that stands in the file that is named or comes on standard input, or the recording."""
     path = str(asked.capture)
     given: Optional[bytes] = None
-    if path == "-":
+    if path == "-" or Path(path).is_fifo():
+        # it can be read once
         given = read_file(path)
+        path = "-"
         is_text = not is_recording(given)
     else:
         with told(f"cannot read the file {path!r}"), open(path, "rb") as file:

@@ -1,5 +1,6 @@
 # What fish completes after tftp-explain: its options and files.
 complete -c tftp-explain -s h -l help -d 'How it is called'
+complete -c tftp-explain -s V -l version -d 'The version'
 complete -c tftp-explain -l service -x -d 'A port to which requests go, beside 69'
 complete -c tftp-explain -l program -r -d 'The program tftp-audit'
 complete -c tftp-explain -l transfers -r -d 'The program tftp-transfers'

@@ -1,5 +1,6 @@
 # What fish completes after tftp-ladder: its options and files.
 complete -c tftp-ladder -s h -l help -d 'How it is called'
+complete -c tftp-ladder -s V -l version -d 'The version'
 complete -c tftp-ladder -l service -x -d 'A port to which requests go, beside 69'
 complete -c tftp-ladder -l program -r -d 'The program tftp-audit'
 complete -c tftp-ladder -l transfers -r -d 'The program tftp-transfers'
