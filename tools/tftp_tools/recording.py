@@ -175,6 +175,15 @@ class Recording:
             raise Refused(f"{self.transfers!r} gave no rows for {self.path!r}, and ended with status {status}")
         raise Refused(beside[-1] if beside else f"{self.path}: there is no transfer in the recording")
 
+    def rows_if_any(self, place: PlaceName) -> tuple[list[Row], list[str]]:
+        """The verdicts at a place, none where there is no transfer, and what is told beside them."""
+        written, beside, status = self.ask("check", "--json", "--end", place)
+        rows = objects(written, row_of)
+        if status not in (0, 1) or written and not rows:
+            why = beside[-1] if beside else f"{self.transfers!r} ended with status {status}"
+            raise Refused(f"{self.path!r} was not judged: {why}")
+        return rows, beside
+
     def without(self, gone: Collection[int]) -> Recording:
         """The same without these frames."""
         recording = read_file(self.path) if self.given is None else self.given
