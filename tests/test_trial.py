@@ -331,6 +331,22 @@ class Wires(Checks):
         counted = {fate: relay.tally[fate] for fate in FATES}
         self.check("what was disturbed", counted == {"lost": 1, "repeated": 2, "delayed": 0, "reordered": 0}, counted)
 
+    def test_order_at_ports(self) -> None:
+        """What an end sends to several ports of the relay is written down in the order in which it sent it."""
+        with self.between(fates()) as (relay, client, server), socket_at() as second:
+            client.sendto(b"a request", relay.listens)
+            _, from_client = server.recvfrom(2_000)
+            second.sendto(b"from elsewhere", from_client)
+            _, at_second = client.recvfrom(2_000)
+            payloads = [b"%d" % number for number in range(2_000)]
+            for number, payload in enumerate(payloads):
+                client.sendto(payload, at_second if number % 3 else relay.listens)
+                time.sleep(0.001 if number % 50 == 0 else 0)
+            relay.wait_until_quiet(0.3, 10)
+        passed = [it.datagram.payload for it in relay.legs["client"]][2:]
+        wrong = next((pair for pair in zip(passed, payloads) if pair[0] != pair[1]), len(passed))
+        self.check("in the order of its sender", passed == payloads, wrong)
+
     def test_order(self) -> None:
         """What is reordered comes behind the next of its sender, or a little later where none comes; what is delayed
         comes when its time is over."""

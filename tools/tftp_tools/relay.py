@@ -2,16 +2,22 @@
 changes none, and writes down what passed on each of its two legs.
 
 Like a router that translates addresses it has a port for each client towards the server, and one for each of the
-server's ports towards the clients, so that transfer ids stay apart (RFC 1350, section 4). One thread does all: what an
-end sent is written down before it is sent on, and so before anything that answers it."""
+server's ports towards the clients, so that transfer ids stay apart (RFC 1350, section 4).
+
+Nobody is to be accused of an order that was the relay's. One thread does all: what an end sent is written down before it
+is sent on, and so before anything that answers it. What an end sent to several ports is put into the order in which the
+kernel took it."""
 from __future__ import annotations
 
 import contextlib
 import dataclasses
 import ipaddress
+import os
 import random
 import selectors
 import socket
+import struct
+import sys
 import threading
 import time
 from collections import Counter
@@ -27,6 +33,8 @@ FATES: tuple[Fate, ...] = ("lost", "repeated", "delayed", "reordered")
 # Says what becomes of a datagram, by its sender and its place among the datagrams of that sender, from 1.
 Fates = Callable[[EndName, int], Fate]
 LONGEST = 65_535
+# Linux's option by which a datagram has the time at which the kernel took it, in seconds and nanoseconds.
+TIMES, TIME = 35, struct.Struct("@ll")
 # So many seconds a datagram waits at most for the next one of its sender, before which it came.
 BRIEFLY = 0.2
 
@@ -88,6 +96,16 @@ class Parcel(NamedTuple):
     payload: bytes
 
 
+class Came(NamedTuple):
+    """A datagram that came to a socket: when the kernel took it, 0 where that is not told, from where, and the
+    payload."""
+
+    time: int
+    side: Side
+    sender: Endpoint
+    payload: bytes
+
+
 class Held(NamedTuple):
     """What is sent on later: when, or behind the next datagram of its sender."""
 
@@ -100,6 +118,8 @@ class Held(NamedTuple):
 def opened(at: Endpoint) -> socket.socket:
     """A socket of UDP there, at a free port for port 0."""
     made = socket.socket(at.family(), socket.SOCK_DGRAM)
+    if sys.platform == "linux":
+        made.setsockopt(socket.SOL_SOCKET, TIMES, 1)
     try:
         made.bind(at)
     except OSError:
@@ -107,6 +127,21 @@ def opened(at: Endpoint) -> socket.socket:
         raise
     made.setblocking(False)
     return made
+
+
+def received(side: Side) -> Came:
+    """The next datagram of a socket."""
+    payload, told, _, address = side.socket.recvmsg(LONGEST, socket.CMSG_SPACE(TIME.size))
+    times = [TIME.unpack(it) for _, kind, it in told if kind == TIMES and len(it) == TIME.size]
+    seconds, rest = times[0] if times else (0, 0)
+    return Came(seconds * 1_000_000_000 + rest, side, Endpoint(*address[:2]), payload)
+
+
+def stay_on_one_processor(number: int) -> None:
+    """What this thread sends comes in its order then, also from several sockets to one."""
+    if sys.platform == "linux":
+        processors = sorted(os.sched_getaffinity(0))
+        os.sched_setaffinity(0, {processors[number % len(processors)]})
 
 
 class Relay:
@@ -160,6 +195,7 @@ class Relay:
     def run(self) -> None:
         """Sends on what comes, until it is told to stop; what the system refuses is kept."""
         try:
+            stay_on_one_processor(self.listens.port)
             while self.step():
                 pass
         except OSError as why:
@@ -168,18 +204,24 @@ class Relay:
     def step(self) -> bool:
         """Waits for what comes or is due; whether it goes on."""
         due = min((it.due for it in self.held), default=None)
-        for key, _ in self.selector.select(max(0.0, due - time.monotonic()) if due is not None else None):
-            if key.data is None:
-                return False
-            with contextlib.suppress(BlockingIOError, ConnectionError):
-                self.take(key.data)
+        ready = self.selector.select(max(0.0, due - time.monotonic()) if due is not None else None)
+        for it in sorted(self.come(), key=lambda it: it.time):
+            self.take(it)
         self.send_held(lambda it: it.due <= time.monotonic())
-        return True
+        return all(key.data is not None for key, _ in ready)
 
-    def take(self, side: Side) -> None:
-        """Takes a datagram that came to a socket, and does with it what its fate is."""
-        payload, address = side.socket.recvfrom(LONGEST)
-        came, sender = Endpoint(*address[:2]), side.faces
+    def come(self) -> list[Came]:
+        """All that has come: once nothing more is there, what comes then came later than all of it."""
+        found = list[Came]()
+        while ready := [key.data for key, _ in self.selector.select(0) if key.data is not None]:
+            for side in ready:
+                with contextlib.suppress(BlockingIOError, ConnectionError):
+                    found.append(received(side))
+        return found
+
+    def take(self, it: Came) -> None:
+        """Writes down a datagram that came, and does with it what its fate is."""
+        side, came, payload, sender = it.side, it.sender, it.payload, it.side.faces
         self.note(sender, Datagram(*came, *side.at, payload))
         self.count[sender] += 1
         fate = self.fates(sender, self.count[sender])

@@ -4,6 +4,8 @@ from __future__ import annotations
 
 import contextlib
 import subprocess
+import threading
+import time
 from collections import Counter
 from dataclasses import dataclass
 from pathlib import Path
@@ -12,7 +14,7 @@ from typing import Optional
 from .errors import Refused, told
 from .recording import ENDS, EndName
 from .relay import FATES, Endpoint, Fate, Odds, Relay, fates_by
-from .started import filled, free_port, started, wait_until_listening
+from .started import STEP, filled, free_port, started, wait_until_listening
 from .written import pcapng
 
 # When the client has ended, the relay goes on until nothing has passed for so many seconds, and so many at most.
@@ -75,16 +77,17 @@ def make_folders(plan: Plan, folder: Path) -> tuple[Path, Path]:
     return client, served
 
 
-def outcome(client: subprocess.Popen[bytes], timeout: float) -> str:
-    """How the client ended; it is ended after a time."""
-    try:
-        status = client.wait(timeout)
-    except subprocess.TimeoutExpired:
+def outcome(client: subprocess.Popen[bytes], timeout: float, stop: threading.Event) -> str:
+    """How the client ended; it is ended after a time, and where all is to stop."""
+    until = time.monotonic() + timeout
+    while (status := client.poll()) is None and time.monotonic() < until and not stop.is_set():
+        time.sleep(STEP)
+    if status is None:
         return f"the client was ended after {timeout:g} s"
     return f"the client ended with status {status}" if status >= 0 else f"the client ended by signal {-status}"
 
 
-def run(plan: Plan, seed: int, folder: Path) -> Run:
+def run(plan: Plan, seed: int, folder: Path, stop: threading.Event) -> Run:
     """Runs the client under a seed, in a new folder."""
     client, served = make_folders(plan, folder)
     server = plan.server or free_port(plan.listen.host)
@@ -97,7 +100,7 @@ def run(plan: Plan, seed: int, folder: Path) -> Run:
             relay = stack.enter_context(Relay(plan.listen, server, fates_by(seed, plan.odds), plan.hold))
         asked = {"host": relay.listens.host, "port": relay.listens.port, "file": plan.file, "upload": UPLOAD}
         with started(filled(plan.client, {**asked, "seed": seed}), client, folder / "client.log") as process:
-            ended = outcome(process, plan.timeout)
+            ended = outcome(process, plan.timeout, stop)
         relay.wait_until_quiet(QUIET, LINGER)
     if relay.failed:
         raise Refused(f"the relay could not go on: {relay.failed.strerror or relay.failed}")
