@@ -4,9 +4,9 @@ changes none, and writes down what passed on each of its two legs.
 Like a router that translates addresses it has a port for each client towards the server, and one for each of the
 server's ports towards the clients, so that transfer ids stay apart (RFC 1350, section 4).
 
-Nobody is to be accused of an order that was the relay's. One thread does all: what an end sent is written down before it
-is sent on, and so before anything that answers it. What an end sent to several ports is put into the order in which the
-kernel took it."""
+Nobody is to be accused of an order that was the relay's. One thread does all: what an end sent is written down before
+it is sent on, and so before anything that answers it. What an end sent to several ports is put into the order in which
+the kernel took it."""
 from __future__ import annotations
 
 import contextlib
