@@ -145,7 +145,8 @@ class Ends(Checks):
         holds = told.status == 3 and told.states() == ["nothing judged"] * 2 and time.monotonic() - begun < 20
         self.check("a client that hangs", holds and "the client was ended after 1 s" in told.output, told)
         told = Told("--serve", SERVER, "--seed", 1, "--", "true", "{port}")
-        line = "no transfer passed; lost 0, repeated 0, delayed 0, reordered 0; the client ended with status 0"
+        line = "there is no transfer in 0 datagrams; lost 0, repeated 0, delayed 0, reordered 0; "
+        line += "the client ended with status 0"
         holds = (told.status, told.lines()) == (3, {1: ("nothing judged", line)})
         self.check("a client that says nothing", holds, told)
         for name, server, client, says in (

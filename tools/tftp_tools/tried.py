@@ -25,12 +25,11 @@ class State(enum.Enum):
 
 @dataclass(frozen=True)
 class Leg:
-    """A leg, judged at its end, and what was told of it beside."""
+    """A leg, judged at its end."""
 
     end: EndName
     recording: Recording
     rows: tuple[Row, ...]
-    told: tuple[str, ...]
 
 
 def state_of(row: Row) -> State:
@@ -77,7 +76,7 @@ class Tried:
         if state is State.REFUSED:
             return "; ".join(self.accusation(*it) for it in self.accused())
         if state is State.NOTHING:
-            return next((line for leg in self.legs for line in leg.told), "no transfer passed")
+            return f"there is no transfer in {count(sum(self.run.tally.values()), 'datagram')}"
         odd = [f"at the {leg.end} {row.verdict}" for leg, row in self.rows() if state_of(row) is state]
         return ", ".join(odd)
 
@@ -96,8 +95,7 @@ def judged(run: Run, transfers: str, audit: str) -> Tried:
     legs = []
     for end in ENDS:
         recording = Recording(str(run.recordings[end]), None, (str(run.asked[end].port),), transfers, audit)
-        rows, told = recording.rows_if_any(end)
-        legs.append(Leg(end, recording, tuple(rows), tuple(told)))
+        legs.append(Leg(end, recording, tuple(recording.rows_if_any(end))))
     return Tried(run, tuple(legs))
 
 
