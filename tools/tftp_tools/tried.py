@@ -77,8 +77,11 @@ class Tried:
             return "; ".join(self.accusation(*it) for it in self.accused())
         if state is State.NOTHING:
             return f"there is no transfer in {count(sum(self.run.tally.values()), 'datagram')}"
-        odd = [f"at the {leg.end} {row.verdict}" for leg, row in self.rows() if state_of(row) is state]
-        return ", ".join(odd)
+        ends: dict[str, list[str]] = {}
+        for leg, row in self.rows():
+            if state_of(row) is state:
+                ends.setdefault(row.verdict.removeprefix("accepted "), []).append(f"the {leg.end}")
+        return ", ".join(f"{verdict} at {' and '.join(dict.fromkeys(at))}" for verdict, at in ends.items())
 
     def accusation(self, leg: Leg, row: Row, accused: Accused) -> str:
         rule = row.verdict.partition(" rule ")[2]
