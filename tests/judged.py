@@ -10,17 +10,9 @@ import recorded
 import repository  # noqa: F401
 from recorded import Frame
 from fuzzing.attribution import Datagram
+from tftp_tools.written import packet_of as packet_of
 
-# Of the identifications of IPv4, 0 says nothing (RFC 6864, section 4.1).
-IDENTIFICATIONS = 65_535
 CAN_TAKE = 120
-
-
-def packet_of(it: recorded.Datagram, number: int) -> bytes:
-    """A datagram in a packet of IP; no two neighbours have one identification."""
-    if it.version == 6:
-        return recorded.ipv6(it, recorded.udp(it))
-    return recorded.ipv4(it, recorded.udp(it), id=1 + number % IDENTIFICATIONS)
 
 
 def recording(datagrams: Sequence[Datagram]) -> bytes:

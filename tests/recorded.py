@@ -4,15 +4,24 @@ the formats pcap and pcapng. What they hold is known before anything has read th
 from __future__ import annotations
 
 import dataclasses
-import ipaddress
 import random
 import struct
 from typing import Literal, Optional, Union
 
-ETHERNET, NULL, RAW, LOOP, COOKED, COOKED_2 = 1, 0, 101, 108, 113, 276
+import repository  # noqa: F401
+from tftp_tools import written
+from tftp_tools.written import DO_NOT_FRAGMENT, section_header
+from tftp_tools.written import RAW as RAW
+from tftp_tools.written import UDP as UDP
+from tftp_tools.written import Datagram as Datagram
+from tftp_tools.written import block as block
+from tftp_tools.written import options as options
+from tftp_tools.written import sum_of as sum_of
+
+ETHERNET, NULL, LOOP, COOKED, COOKED_2 = 1, 0, 108, 113, 276
 LINKS = (ETHERNET, NULL, RAW, LOOP, COOKED, COOKED_2)
 IPV4, IPV6, ARP = 0x0800, 0x86DD, 0x0806
-UDP, TCP, ICMP = 17, 6, 1
+TCP, ICMP = 6, 1
 HOP_BY_HOP, ROUTING, FRAGMENT, DESTINATION = 0, 43, 44, 60
 # Tags of IEEE 802.1Q and 802.1ad, and what was used before: none, one, two, three.
 TAGGED = ((), (0x8100,), (0x88A8, 0x8100), (0x9100, 0x88A8, 0x8100))
@@ -26,24 +35,6 @@ FIRST_TIME = 1_700_000_000_000_000_000
 MILLISECOND = 1_000_000
 # What each fragment but the last carries is a multiple of this (RFC 791, section 3.2; RFC 8200, section 4.5).
 EIGHT = 8
-
-
-@dataclasses.dataclass(frozen=True)
-class Datagram:
-    """A UDP datagram, as it was sent."""
-
-    source: str
-    source_port: int
-    target: str
-    target_port: int
-    payload: bytes
-
-    @property
-    def version(self) -> int:
-        return ipaddress.ip_address(self.source).version
-
-    def packed(self) -> tuple[bytes, bytes]:
-        return ipaddress.ip_address(self.source).packed, ipaddress.ip_address(self.target).packed
 
 
 @dataclasses.dataclass(frozen=True)
@@ -74,24 +65,13 @@ class Frame:
     others: list[Frame] = dataclasses.field(default_factory=list)
 
 
-def sum_of(content: bytes) -> int:
-    """The ones' complement of the ones' complement sum of words of 16 bits (RFC 1071, section 4.1)."""
-    content += bytes(len(content) % 2)
-    total = sum(int.from_bytes(content[at : at + 2], "big") for at in range(0, len(content), 2))
-    while total >> 16:
-        total = (total & 0xFFFF) + (total >> 16)
-    return ~total & 0xFFFF
-
-
 def udp(it: Datagram, length: Optional[int] = None, surplus: bytes = b"", kind: Sum = "right") -> bytes:
     """The header, the payload, and what stands behind it in IP (RFC 768), with a checksum of that kind: a partial one
     is the sum of the pseudo header, as a sender leaves it to its network card."""
-    size = 8 + len(it.payload) if length is None else length
-    front, addresses = struct.pack("!HHH", it.source_port, it.target_port, size), b"".join(it.packed())
-    pseudo = addresses + struct.pack("!HH", UDP, size)
-    made = sum_of(pseudo + front + bytes(2) + it.payload) or 0xFFFF
-    checksum = {"right": made, "absent": 0, "partial": sum_of(pseudo) ^ 0xFFFF, "wrong": made ^ 0x1234}[kind]
-    return front + struct.pack("!H", checksum) + it.payload + surplus
+    whole, size = written.udp(it, length), 8 + len(it.payload) if length is None else length
+    made, partial = int.from_bytes(whole[6:8], "big"), sum_of(written.pseudo_header(it, size)) ^ 0xFFFF
+    checksum = {"right": made, "absent": 0, "partial": partial, "wrong": made ^ 0x1234}[kind]
+    return whole[:6] + struct.pack("!H", checksum) + whole[8:] + surplus
 
 
 def ipv4(
@@ -100,14 +80,9 @@ def ipv4(
 ) -> bytes:
     """A packet of IPv4, of whole words of options (RFC 791, section 3.1); a part has its own identification. Its
     checksum is the right one, unless another is given."""
-    head, place = 5 + len(options) // 4, 0x4000
-    if part:
-        place = part.place // EIGHT | (0x2000 if part.more else 0)
-    size = 4 * head + len(content)
-    first = struct.pack("!BBHHHBB", 0x40 | head, 0, size, part.id if part else id, place, 64, protocol)
-    rest = b"".join(it.packed()) + options
-    checksum = sum_of(first + bytes(2) + rest) if header_sum is None else header_sum
-    return first + struct.pack("!H", checksum) + rest + content
+    place = part.place // EIGHT | (0x2000 if part.more else 0) if part else DO_NOT_FRAGMENT
+    packet = written.ipv4(it, content, protocol, place, options, part.id if part else id)
+    return packet if header_sum is None else packet[:10] + struct.pack("!H", header_sum) + packet[12:]
 
 
 def ipv6(
@@ -120,7 +95,7 @@ def ipv6(
         body += struct.pack("!BB", chain[place + 1], (len(rest) - 6) // EIGHT) + rest
     if part:
         body += struct.pack("!BBHI", protocol, 0, part.place | part.more, part.id)
-    return struct.pack("!IHBB", 6 << 28, len(body + content), chain[0], 64) + b"".join(it.packed()) + body + content
+    return written.ipv6(it, body + content, chain[0])
 
 
 def carried(
@@ -168,20 +143,6 @@ def record(it: Frame, order: str = "<", is_nano: bool = False) -> bytes:
     seconds, fraction = divmod(it.time, 1_000_000_000)
     head = seconds, fraction // (1 if is_nano else 1000), len(it.content), it.original or len(it.content)
     return struct.pack(f"{order}IIII", *head) + it.content
-
-
-def block(order: str, kind: int, body: bytes) -> bytes:
-    """A block of pcapng: its type, its length, its body to a whole word, its length again."""
-    body += bytes(-len(body) % 4)
-    size = struct.pack(f"{order}I", 12 + len(body))
-    return struct.pack(f"{order}I", kind) + size + body + size
-
-
-def options(order: str, *pairs: tuple[int, bytes], is_ended: bool = True) -> bytes:
-    """Options, each to a whole word, and their end; none where there is none."""
-    padded = ((code, len(value), value + bytes(-len(value) % 4)) for code, value in pairs)
-    told = b"".join(struct.pack(f"{order}HH", code, length) + value for code, length, value in padded)
-    return told + bytes(4) if pairs and is_ended else told
 
 
 def other_block(order: str, chance: random.Random) -> bytes:
@@ -236,8 +197,7 @@ def statistics(order: str, place: int, *counts: tuple[int, int], is_ended: bool 
 
 def section(order: str, interfaces: list[Interface], blocks: list[tuple[int, Block]], chance: random.Random) -> bytes:
     """A section of pcapng: its interfaces, and blocks: a frame of an interface, or another block's bytes."""
-    head = struct.pack(f"{order}IHHq", 0x1A2B3C4D, 1, 0, -1) + options(order, (4, b"a recorder"))
-    file = block(order, 0x0A0D0D0A, head)
+    file = section_header(order, b"a recorder")
     file += b"".join(block(order, 1, it.body(order)) for it in interfaces)
     for place, it in blocks:
         file += it if isinstance(it, bytes) else packet_block(order, place, interfaces[place], it, chance)
@@ -258,4 +218,5 @@ def packet_block(order: str, place: int, interface: Interface, it: Frame, chance
     told = [(2, struct.pack(f"{order}I", flags))] if it.flags != "unknown" else []
     told += [(4, struct.pack(f"{order}Q", it.missed))] if it.missed else []
     told += [(1, b"seen")] if chance.random() < 0.2 else []
-    return block(order, 6, struct.pack(f"{order}IIIII", place, *sizes) + content + options(order, *told))
+    body = written.packet_body(order, place, interface.ticks(it.time), it.content, original)
+    return block(order, 6, body + options(order, *told))

@@ -1,10 +1,11 @@
 """The pages of tools/tftp-report: what stands in them of each transfer, that they load nothing, and that a browser
-shows them where one is installed.
+shows them where one is installed. And its reports for other programs, JUnit's and SARIF's.
 """
 from __future__ import annotations
 
 import dataclasses
 import hashlib
+import json
 import pathlib
 import re
 import shutil
@@ -12,6 +13,8 @@ import subprocess
 import time
 from collections.abc import Sequence
 from html.parser import HTMLParser
+from typing import Any
+from xml.etree import ElementTree as Xml
 
 import made
 from captures import ack, data, error, oack, read_request
@@ -210,6 +213,114 @@ class Report(Checks):
         self.check("a text", output == "" and "is no recording" in errors and status == 2, errors)
         output, errors, status = run([*self.programs, "-"], b"\x1f\x8b" + bytes(40))
         self.check("gzip", output == "" and "is no recording" in errors and status == 2, errors)
+
+    def junit(self, *words: object, given: bytes = b"") -> tuple[Xml.Element, int]:
+        """The one suite of a report, which is sound, and the status."""
+        output, errors, status = run([*self.programs, "--format", "junit", *words], given)
+        self.check(f"JUnit of {words}, it begins", output.startswith("<?xml version=") and errors == "", errors)
+        whole = Xml.fromstring(output)
+        [suite] = whole
+        self.check(f"JUnit of {words}, its parts", (whole.tag, suite.tag) == ("testsuites", "testsuite"))
+        for part in (whole, suite):
+            cases = list(part.iter("testcase"))
+            failures, skipped = ([*part.iter(kind)] for kind in ("failure", "skipped"))
+            counted = {"tests": len(cases), "errors": 0, "failures": len(failures), "skipped": len(skipped)}
+            told = {name: int(part.attrib[name]) for name in counted}
+            self.check(f"JUnit of {words}, what {part.tag} counts", told == counted, (told, counted))
+        names = [(it.attrib["classname"], it.attrib["name"]) for it in suite.iter("testcase")]
+        self.check(f"JUnit of {words}, each name is one case's", len(names) == len(set(names)), names)
+        self.check(f"JUnit of {words}, the times", all(float(it.attrib["time"]) >= 0 for it in suite.iter("testcase")))
+        return suite, status
+
+    def test_junit(self) -> None:
+        """A case for each row: what is refused fails, and what accuses nobody is skipped, with the reason."""
+        session = EXAMPLES / "loopback-session.pcap"
+        suite, status = self.junit(session)
+        cases = suite.findall("testcase")
+        self.check("JUnit, the session", (len(cases), status) == (5, 1), len(cases))
+        wanted = 'transfer 3, both: get "missing.cfg", client 192.0.2.1:34056, server 192.0.2.1:42245'
+        self.check("JUnit, the third case", cases[2].attrib["name"] == wanted, cases[2].attrib)
+        self.check("JUnit, its file", {it.attrib["classname"] for it in cases} == {str(session)})
+        parts = [[it.tag for it in case] for case in cases]
+        self.check("JUnit, the parts of cases", parts == [[], [], ["failure"], [], []], parts)
+        [failure] = cases[2]
+        refused = f"refused datagram 3 rule {Rule.ACK_AHEAD}"
+        self.check("JUnit, the failure", failure.attrib == {"message": refused, "type": str(Rule.ACK_AHEAD)})
+        for told in (f"{refused}\n\nWhere:    line 10 of the text, frame 17 of the recording",
+                     "\nAccused:  the client at 192.0.2.1:34056, which sent the datagram.\n"):
+            self.check(f"JUnit, {told}", told in (failure.text or ""), failure.text)
+        suite, _ = self.junit("-", given=session.read_bytes())
+        self.check("JUnit of what comes in", len(suite.findall("testcase")) == 5)
+        path = self.folder / "a <b> & \u00e9 \x07.pcap"
+        for name, passed, words, says in (
+            ("a doubt", made.asked_again(), (), ("doubtful: refused datagram 2 rule ", "its client had asked the")),
+            ("no end", made.read("a", 40_000, 41_000)[:2], ("--end", "client"), ("incomplete after 2",)),
+        ):
+            path.write_bytes(made.file_of(passed))
+            suite, status = self.junit(*words, path)
+            skipped = [it.attrib["message"] for it in suite.iter("skipped")]
+            holds = any(all(word in message for word in says) for message in skipped) and status == 1
+            self.check(f"JUnit, {name}", holds and not [*suite.iter("failure")], skipped)
+            self.check(f"JUnit, the name of {name}", "a <b> & " in suite.attrib["name"], suite.attrib)
+        path.write_bytes(made.file_of(made.read("a", 40_000, 41_000)))
+        suite, status = self.junit("--end", "client", path)
+        self.check("JUnit, an accepted one", (suite.attrib["tests"], suite.attrib["failures"], status) == ("1", "0", 0))
+        output, errors, status = run([*self.programs, "--format", "junit", EXAMPLES / "one-block.capture"])
+        self.check("JUnit of a text", output == "" and "is no recording" in errors and status == 2, errors)
+
+    def sarif(self, *words: object) -> tuple[Any, int]:
+        """The one run of a report, which has what SARIF 2.1.0 requires, and the status."""
+        output, errors, status = run([*self.programs, "--format", "sarif", *words])
+        whole = json.loads(output)
+        self.check(f"SARIF of {words}, its version", whole["version"] == "2.1.0" and errors == "", errors)
+        [it] = whole["runs"]
+        driver = it["tool"]["driver"]
+        self.check(f"SARIF of {words}, its tool", driver["name"] == "tftp-report", driver)
+        rules = driver["rules"]
+        self.check(f"SARIF of {words}, each rule once", len({rule["id"] for rule in rules}) == len(rules), rules)
+        for result in it["results"]:
+            holds = bool(result["message"]["text"]) and rules[result["ruleIndex"]]["id"] == result["ruleId"]
+            # section 3.27.10: a level beside none is that of a result that fails
+            holds = holds and (result["kind"], result["level"]) in (("fail", "error"), ("review", "none"))
+            self.check(f"SARIF of {words}, a result", holds, result)
+            [location] = result["locations"]
+            artifact = location["physicalLocation"]["artifactLocation"]
+            is_there = it["artifacts"][artifact["index"]]["location"]["uri"] == artifact["uri"]
+            self.check(f"SARIF of {words}, its file", is_there, location)
+        self.check(f"SARIF of {words}, it was run", it["invocations"][0]["executionSuccessful"] is True)
+        return it, status
+
+    def test_sarif(self) -> None:
+        """A result for each refusal, at its file and frame; what is doubtful is no error."""
+        session = EXAMPLES / "loopback-session.pcap"
+        it, status = self.sarif(session)
+        [result], [rule] = it["results"], it["tool"]["driver"]["rules"]
+        self.check("SARIF, the session", status == 1)
+        self.check("SARIF, the rule", (rule["id"], rule["name"]) == ("26", Rule.ACK_AHEAD.printed), rule)
+        says = {"text": "An ACK says that its block and all before it came."}
+        self.check("SARIF, its words", rule["shortDescription"] == says, rule)
+        self.check("SARIF, the result", (result["ruleId"], result["kind"], result["level"]) == ("26", "fail", "error"))
+        told, refused = result["message"]["text"], f"refused datagram 3 rule {Rule.ACK_AHEAD}"
+        self.check("SARIF, the message", told.startswith(f"{refused}\n\nWhere: "), told)
+        accused = {"role": "client", "host": "192.0.2.1", "port": 34056}
+        wanted = {"transfer": 3, "place": "both", "frame": 17, "verdict": refused, "accused": accused, "doubts": []}
+        self.check("SARIF, the properties", result["properties"] == wanted, result["properties"])
+        [location] = result["locations"]
+        self.check("SARIF, the frame", location["properties"] == {"frame": 17}, location)
+        self.check("SARIF, the file", location["physicalLocation"]["artifactLocation"]["uri"] == session.as_uri())
+        path = self.folder / "a <b> & \u00e9.pcap"
+        path.write_bytes(made.file_of(made.asked_again()))
+        it, status = self.sarif(path)
+        kinds = {(result["kind"], result["level"]) for result in it["results"]}
+        doubts = [doubt for result in it["results"] for doubt in result["properties"]["doubts"]]
+        told = "its client had asked the same and sent nothing else since"
+        holds = kinds == {("review", "none")} and any(doubt.startswith(told) for doubt in doubts) and status == 1
+        self.check("SARIF, a doubt", holds, it["results"])
+        files = [{"location": {"uri": path.as_uri()}}]
+        self.check("SARIF, a name with signs", it["artifacts"] == files, it["artifacts"])
+        path.write_bytes(made.file_of(made.read("a", 40_000, 41_000)))
+        it, status = self.sarif("--end", "client", path)
+        self.check("SARIF, an accepted one", (it["results"], it["tool"]["driver"]["rules"], status) == ([], [], 0), it)
 
     def try_many(self) -> pathlib.Path:
         """A thousand transfers; how long that takes is told."""

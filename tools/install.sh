@@ -9,7 +9,7 @@ set -eu
 action=$1
 prefix=$2
 list=lib/tftp-audit/installed
-scripts='tftp-explain tftp-ladder tftp-report'
+scripts='tftp-explain tftp-ladder tftp-report tftp-trial'
 
 record() {
     printf '%s %s\n' "$1" "$2" >>"$prefix/$list"

@@ -63,7 +63,21 @@ class Entry:
         """The colour of its verdict."""
         if self.judged.verdict.status == 0:
             return "sound"
-        return "refused" if self.judged.verdict.refused() and not self.judged.doubts else "odd"
+        return "refused" if self.is_failure() else "odd"
+
+    def is_failure(self) -> bool:
+        """Whether it is refused without a doubt."""
+        return self.judged.verdict.refused() is not None and not self.judged.doubts
+
+    def rule_number(self) -> int:
+        """The number of the rule that a refusal names, and 0 where nothing is refused."""
+        found = self.judged.verdict.refused()
+        return found[1] if found else 0
+
+    def rule(self) -> str:
+        """That rule by its number and name."""
+        found = self.judged.verdict.refused()
+        return f"{found[1]} {found[2]}" if found else ""
 
     def place(self) -> str:
         """Where it was recorded, and as who saw it it is judged."""
@@ -75,6 +89,11 @@ class Entry:
 
     def size(self) -> str:
         return f"{self.file.size:,}" if self.file else f"({self.facts.bytes:,})"
+
+
+def name_of(path: str) -> str:
+    """A file's name as a person may read it."""
+    return words_of(path.encode(errors="surrogateescape"))[1:-1]
 
 
 def page_style() -> str:
@@ -217,7 +236,7 @@ def drawn_ones(entries: list[Entry], most: int) -> set[int]:
 
 def page(path: str, entries: list[Entry], told: Iterable[str], most: int) -> str:
     """The report; what was told of the recording beside its rows is in it."""
-    name = escape(words_of(path.encode(errors="surrogateescape"))[1:-1])
+    name = escape(name_of(path))
     drawn = drawn_ones(entries, most)
     beside = [*told]
     if len(drawn) < len(entries):
