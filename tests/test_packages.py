@@ -279,9 +279,18 @@ class Packages(Checks):
             self.leave("where tshark looks", "there is no tshark for the package's processor")
             return
         told = subprocess.run(["tshark", "-G", "folders"], capture_output=True, text=True).stdout
-        looked = re.findall(r"(?m)^Global (?:Lua )?Plugins:\s+(.*)$", told)
+        looked = re.findall(r"(?m)^Global Lua Plugins:\s+(.*)$", told)
+        if not looked:
+            self.leave("where tshark looks", "tshark is built without Lua")
+            return
         found = any(f"/usr/{path.parent.relative_to(usr)}" in looked for path in places)
         self.check("where tshark looks", found, (looked, places))
+        if os.geteuid() == 0:
+            self.leave("tshark with the plugin", "tshark takes no other folder of plugins from root")
+            return
+        setting = {**os.environ, "WIRESHARK_PLUGIN_DIR": str(places[0].parent)}
+        told = subprocess.run(["tshark", "-G", "protocols"], capture_output=True, text=True, env=setting).stdout
+        self.check("tshark with the plugin", "\ttftp_audit\n" in told, told[-200:])
 
     def try_lintian(self, made: pathlib.Path) -> None:
         """Debian's own check of packages finds no error and no warning."""

@@ -151,6 +151,9 @@ class Words(Checks):
             wanted = f"{name}: check --json -- -: {sizes[1]}\n"
             self.check(f"a recording, piped to {name}", got == ("", wanted, 2), got)
             if name != "tftp-report":
+                twice = "'/dev/fd/0' can be read once, and is read twice: it may come on standard input, as -"
+                got = ran([*piped, EXAMPLE, *words, "--pair", EXAMPLE])
+                self.check(f"a pair, piped to {name}", got == ("", f"{name}: {twice}\n", 2), got)
                 alone, got = ran([*words, EXAMPLE]), ran([*piped, EXAMPLE, *words])
                 is_whole = name == "tftp-ladder" or f"bytes {sizes[0]}\n" in got[0]
                 self.check(f"a text, piped to {name}", is_whole and got == alone and got[1:] == ("", 0), got)

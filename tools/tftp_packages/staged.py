@@ -20,7 +20,7 @@ def staged(prefix: str) -> Iterator[tuple[Path, Path]]:
         folder.mkdir(parents=True)
         answer("sh", "tools/install.sh", "install", str(folder))
         for program in PROGRAMS:
-            answer("strip", "--strip-all", str(folder / program.place))
+            answer("strip", "--strip-all", "--remove-section=.comment", str(folder / program.place))
         # who unpacks a package has a list of his own
         (folder / "lib" / "tftp-audit" / "installed").unlink()
         yield root, folder

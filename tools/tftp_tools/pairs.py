@@ -92,10 +92,11 @@ class Sources:
         self.asked = asked
         self.paths: dict[EndName, str] = dict(zip(ENDS, asked.pair))
         self.given = read_file("-") if "-" in asked.pair else None
-        # what cannot be read is told before a program is built; what can be read once is left for that
+        # what cannot be read, or not twice, is told before a program is built
         for path in self.paths.values():
-            if not Path(path).is_fifo():
-                self.begins(path)
+            if Path(path).is_fifo():
+                raise Refused(f"{path!r} can be read once, and is read twice: it may come on standard input, as -")
+            self.begins(path)
         self.program = find_program(MATCH, asked.match)
 
     def has_recordings(self) -> bool:
