@@ -20,6 +20,9 @@ from tftp_tools.words import version
 
 Word = Union[str, pathlib.Path]
 EXAMPLE = TOP / "examples" / "one-block.capture"
+# The scripts that read a file; the other one runs a client.
+TRIAL = "tftp-trial"
+READERS = tuple(name for name in SCRIPTS if name != TRIAL)
 # In the place of tftp-audit: it accepts what it is given.
 ACCEPTS = "#!/bin/sh\necho accepted get octet blocks 1 bytes $(wc -c)\n"
 # In the place of tftp-transfers: it refuses what it is given, with its words.
@@ -52,7 +55,7 @@ def ran(command: Sequence[Word]) -> tuple[str, str, int]:
 
 
 class Words(Checks):
-    """The words of the three scripts."""
+    """The words of the scripts."""
 
     def program(self, text: str, name: str = "a program") -> pathlib.Path:
         """A program of this text."""
@@ -79,7 +82,7 @@ class Words(Checks):
 
     def test_unknown(self) -> None:
         """A word for which there is no use is told, and which option is like it."""
-        for name in SCRIPTS:
+        for name in READERS:
             ends = f"; {name} --help says more"
             for word, like in (("--frobnicate", ""), ("-x", ""), ("--servise=69", "service"), ("--progam", "program")):
                 also = like and f", but there is --{like}"
@@ -90,17 +93,22 @@ class Words(Checks):
         self.refuses("tftp-explain", [EXAMPLE, "--jso=1"], "argument --json: ignored explicit argument '1'; tftp-explain"
                      " --help says more")
         self.refuses("tftp-report", [EXAMPLE, "2"], "'2' is a word too many; tftp-report --help says more")
-        for name in SCRIPTS[:2]:
+        for name in READERS[:2]:
             message = f"'{shown(ODD)}' is a word too many; {name} --help says more"
             self.refuses(name, [EXAMPLE, "1", "client", ODD], message)
             _, errors, status = ran([script(name), EXAMPLE, "1", "clent"])
             is_told = all(word in errors for word in ("'clent'", "client", "server", "between", "--help says more"))
             self.check(f"{name}, an end that is none", is_told and errors.count("\n") == 1 and status == 2, errors)
 
+    def test_unknown_to_trial(self) -> None:
+        for word, also in (("--frobnicate", ""), ("--sed", ", but there is --seed"), (f"--{ODD}", "")):
+            told = f"there is no option '{shown(word)}'{also}; {TRIAL} --help says more"
+            self.refuses(TRIAL, [word, "--", "true"], told)
+
     def test_places(self) -> None:
         """Options may stand between the other words."""
         words: list[Word] = ["--program", self.program(ACCEPTS), EXAMPLE, "1", "--service", "6969", "client"]
-        for name in SCRIPTS[:2]:
+        for name in READERS[:2]:
             self.refuses(name, words, f"{str(EXAMPLE)!r} is no recording, so it has no transfer 1")
 
     def test_files(self) -> None:
@@ -114,7 +122,7 @@ class Words(Checks):
             (EXAMPLE / "x", "Not a directory"), (circle, "Too many levels of symbolic links"),
             (locked, "Permission denied"),
         )
-        for name in SCRIPTS:
+        for name in READERS:
             for file, reason in why:
                 if file == locked and os.access(locked, os.R_OK):
                     self.leave(f"{name} of a locked file", "who runs this may read each file")
@@ -128,7 +136,7 @@ class Words(Checks):
     def test_outputs(self) -> None:
         """Where standard output fails, that is told with the system's reason, and is no fault of what is read."""
         accepts = self.program(ACCEPTS)
-        for name in SCRIPTS:
+        for name in READERS:
             calls: list[list[Word]] = [["--help"], ["--version"]]
             if name != "tftp-report":
                 calls.append(["--program", accepts, EXAMPLE])
@@ -145,7 +153,7 @@ class Words(Checks):
         sizes = [path.stat().st_size for path in (EXAMPLE, recording)]
         piped: list[Word] = ["sh", "-c", 'given=$1; shift; cat "$given" | "$@" /dev/fd/0', "sh"]
         accepts, refuses = self.program(ACCEPTS), self.program(REFUSES, "another program")
-        for name in SCRIPTS:
+        for name in READERS:
             words: list[Word] = [script(name), "--program", accepts, "--transfers", refuses]
             got = ran([*piped, recording, *words])
             wanted = f"{name}: check --json -- -: {sizes[1]}\n"

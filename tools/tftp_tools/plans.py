@@ -13,6 +13,7 @@ from .errors import Refused
 from .program import AUDIT, OPTIONS, TRANSFERS
 from .relay import FATES, Endpoint, Odds
 from .trial import Plan
+from .words import Parser
 
 LISTEN, FILE, SEEDS, SIZE, TIMEOUT = Endpoint("127.0.0.1", 0), "trial.bin", 10, 9_000, 60.0
 # How likely each fate is where nothing is said, and by which words that is said.
@@ -100,8 +101,9 @@ def add_network(parser: argparse.ArgumentParser) -> None:
                         " the relay or a server that is started has a port that is named)")
 
 
-def parser_of(name: str) -> argparse.ArgumentParser:
-    parser = argparse.ArgumentParser(prog=name, usage=USAGE, description=TELLS, epilog=STATUS)
+def parser_of(name: str) -> Parser:
+    parser = Parser(name, description=TELLS, epilog=STATUS)
+    parser.usage = USAGE
     add_network(parser)
     add_ends(parser)
     parser.add_argument("--folder", type=Path, metavar="DIR", help="keeps the recordings and what both said, in a new"
