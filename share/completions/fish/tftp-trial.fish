@@ -1,5 +1,6 @@
 # What fish completes after tftp-trial: its options, files, and programs as the client.
 complete -c tftp-trial -s h -l help -d 'How it is called'
+complete -c tftp-trial -s V -l version -d 'The version'
 complete -c tftp-trial -l seeds -x -d 'The seeds 1 to N'
 complete -c tftp-trial -l seed -x -d 'This seed alone'
 complete -c tftp-trial -l serve -x -d 'A server that is started for each seed'
