@@ -3,4 +3,3 @@ pub mod Sides
 pub mod Settling
 pub mod Feeding
 pub mod Holding
-pub mod Wanting

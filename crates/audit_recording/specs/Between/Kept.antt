@@ -1,13 +1,13 @@
 -- What the judge between the ends keeps, and for which datagrams of a recording it stands.
-use Rattle.std.specs.Prelude.{◌≡◌, ◌⊎◌, ℕ, true, false, List, [], length, map, reverse, is_some, Option, Some, None}
-use Rattle.law_tap.specs.{AreApart, BreaksNoTapRule, PeerId, TapDatagram, TapSides}
+use Rattle.std.specs.Prelude.{◌≡◌, ℕ, true, false, List, [], length, map, reverse, Option, Some, None}
+use Rattle.law_tap.specs.{PeerId, TapDatagram, TapSides}
 use Rattle.judge_tap.specs.{TapJudge, passing_of, TapDatagram as Owned, TapRefusal}
-use Rattle.audit_flows.specs.Lines.{Placed, is_of}
+use Rattle.audit_flows.specs.Lines.{Placed}
 use Rattle.audit_flows.specs.{Transfer}
 use Rattle.audit_flows.specs.Transfers.{AreEndsAfter, is_settled}
 use Rattle.audit_flows.specs.{TransferEnds}
 use Rattle.audit_views.specs.{Held, Party}
-use Rattle.audit_recording.specs.Between.Captured.{are_apart, between_capture, sides_of}
+use Rattle.audit_recording.specs.Between.Captured.{between_capture, sides_of}
 use Rattle.audit_recording.specs.Between.Judged.{HasTapped}
 
 -- ---- what is fed
@@ -26,10 +26,6 @@ pub record Between : Type 0 where
   pub sides : TapSides
   pub judge : Option TapJudge
   pub counted : ℕ
-
--- there is a judge just where the client is none of the other two
-abbrev pub IsJudgedIfApart : Between → Type 0
-IsJudgedIfApart b = is_some b.judge ≡ are_apart b.sides
 
 abbrev pub PassedBy : Option TapJudge → Between → List TapDatagram → Type 0
 PassedBy None b given = b.counted ≡ length given
@@ -100,19 +96,3 @@ has_refused v = by v.judge where
   by : Option Between → Option TapRefusal
   by None = None
   by (Some b) = refused_by b
-
--- ---- being out of memory
-
--- there is a judge, and it has refused none
-abbrev pub JudgingBy : Option TapJudge → Type 0
-JudgingBy None = ⊥
-JudgingBy (Some j) = j.refused ≡ None
-
-abbrev pub IsJudging : Between → Type 0
-IsJudging b = JudgingBy b.judge
-
--- Memory may be wanting for this datagram, after these: it is of the transfer at its client, and is held, since it is not known
--- who the server is; or it goes to the judge of two sides that are apart, and those that have passed break no rule.
-pub record WantsBetween (x : Transfer) (placed : List Placed) (p : Placed) : Type 0 where
-  pub own : is_of x.number p ≡ true
-  pub keeps : (is_settled x.number placed ≡ false) ⊎ (AreApart (sides_of x placed) × BreaksNoTapRule (sides_of x placed) (between_capture x placed))

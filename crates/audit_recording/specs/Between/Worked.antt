@@ -1,24 +1,12 @@
 -- What passes between the ends of the worked recordings.
-use Rattle.std.specs.Prelude.{List, [], ◌∷◌, None, codes, false}
+use Rattle.std.specs.Prelude.{List, [], ◌∷◌, codes, false}
 use Rattle.law_tap.specs.{PeerId, TapDatagram, TapSides}
 use Rattle.audit_flows.specs.{Transfer}
-use Rattle.audit_flows.specs.Lines.{Placed}
-use Rattle.audit_flows.specs.{Place}
 use Rattle.audit_flows.specs.Transfers.{client, service, ack_of, data_of, read_of}
-use Rattle.audit_flows.specs.Transfers.Worked.{requests}
-use Rattle.audit_recording.specs.Between.Kept.{Between}
 
 -- the transfer that datagram 0 opened
 abbrev pub first_transfer : Transfer
 first_transfer = record { number = 0; client = client; asked = service; writes = false; has_window = false }
-
--- a later one, of the same client
-abbrev pub next_transfer : Transfer
-next_transfer = record { number = 3; client = client; asked = service; writes = false; has_window = false }
-
--- the request that opened the first
-abbrev pub first_request : Placed
-first_request = record { datagram = requests 0 client service (codes "f"); moment = 0; place = Place.Opens first_transfer }
 
 abbrev pub at_client : PeerId
 at_client = record { host = codes "192.0.2.7"; port = 40000 }
@@ -45,10 +33,3 @@ asked_twice_between =
 -- the server is who went on with it, and no side is the client's
 abbrev pub asked_twice_sides : TapSides
 asked_twice_sides = record { client = at_client; asked = at_service; server = at_server }
-
--- a judge of these sides that only counts, and one of a client that is the server
-abbrev pub asked_twice_counted : Between
-asked_twice_counted = record { sides = asked_twice_sides; judge = None; counted = 5 }
-
-abbrev pub serves_itself_counted : Between
-serves_itself_counted = record { sides = record { client = at_server; asked = at_service; server = at_server }; judge = None; counted = 5 }

@@ -1,10 +1,10 @@
 //! A transfer as it is seen between its two ends, judged in one pass over a recording.
 
-ghost use Rattle.std.specs.Prelude.{◌≡◌, ◌+◌, ◌^◌, ◌<◌, ◌≤◌, ◌∷◌, ℕ, List, [], All, length, map, reverse, IfSome, OnOk, OnErr, Ok, Err, None, Some, true, false};
+ghost use Rattle.std.specs.Prelude.{◌≡◌, ◌+◌, ◌^◌, ◌<◌, ◌≤◌, ◌∷◌, ℕ, List, [], All, length, map, reverse, OnOk, OnErr, Ok, Err, None, Some, true, false};
 ghost use Rattle.std.specs.VecDeque.{deque_len};
 ghost use Rattle.audit_recording.specs.Between.Captured.{between_capture, is_to_itself, sides_of};
 ghost use Rattle.audit_recording.specs.Between.Judged.{IsBetweenVerdict};
-ghost use Rattle.audit_recording.specs.Between.Kept.{AreHeld, HasPassed, IsBetweenAfter, IsJudgedIfApart, WantsBetween, counted_by, given_to, has_refused};
+ghost use Rattle.audit_recording.specs.Between.Kept.{AreHeld, HasPassed, IsBetweenAfter, counted_by, given_to, has_refused};
 ghost use Rattle.audit_views.specs.Parties.{host_name};
 ghost use Rattle.law_tap.specs.{AreApart, TapDatagram as Passing};
 ghost use Rattle.judge_tap.specs.{TapDatagram as Owned, TapRefusal as RefusalKind};
@@ -39,9 +39,9 @@ pub struct BetweenView<D: Delivered + Drop> {
 
 impl<D: Delivered + Drop> Model for BetweenView<D> {
     ghost use Rattle.std.specs.Coded.{codes};
-    ghost use Rattle.std.specs.Prelude.{◌≡◌, ◌^◌, ◌≤◌, All, IfSome, length};
+    ghost use Rattle.std.specs.Prelude.{◌≡◌, ◌^◌, ◌≤◌, All, length};
     ghost use Rattle.std.specs.VecDeque.{deque_len};
-    ghost use Rattle.audit_recording.specs.Between.Kept.{IsJudgedIfApart, View};
+    ghost use Rattle.audit_recording.specs.Between.Kept.{View};
     ghost use Rattle.tftp_ends.specs.StatesKept.{sender_code, receiver_code};
     ghost use Rattle.tftp_packet.specs.Owned.{options_code, parts_code};
     ghost use Rattle.judge_tap.specs.declared.datagram.TapDatagram.{TapDatagram as Owned};
@@ -52,7 +52,7 @@ impl<D: Delivered + Drop> Model for BetweenView<D> {
 
     ghost view = { λ v. record { transfer = v.transfer; ends = v.ends; held = v.held.items; judge = v.judge } };
 
-    ghost invariant = { λ v. (v.ends.number ≡ v.transfer.number) × (deque_len v.held ≤ 2 ^ 40) × All (λ (d : Owned). length d.payload ≤ 65527) v.held.items × IfSome v.judge IsJudgedIfApart };
+    ghost invariant = { λ v. (v.ends.number ≡ v.transfer.number) × (deque_len v.held ≤ 2 ^ 40) × All (λ (d : Owned). length d.payload ≤ 65527) v.held.items };
 }
 
 impl<D: Delivered + Drop> BetweenView<D> {
@@ -60,7 +60,6 @@ impl<D: Delivered + Drop> BetweenView<D> {
     pub fn new(alloc: Global, transfer: Transfer) -> Self
         ensures after { IsBetweenAfter result [] }
         ensures transfer { result.transfer ≡ transfer }
-        ensures apart { IfSome result.judge IsJudgedIfApart }
         ensures none { given_to result ≡ 0 }
     {
         BetweenView {
@@ -72,8 +71,7 @@ impl<D: Delivered + Drop> BetweenView<D> {
     }
 
     /// Takes the next datagram of the recording, of this transfer or of another, which belongs there. Where there is no
-    /// memory for it, it was not taken: it was to be held, or was for a judge that had refused none. A refusal is kept, and
-    /// after it no datagram takes memory.
+    /// memory for it, it was not taken. A refusal is kept, and after it no datagram takes memory.
     pub fn feed(&mut self, alloc: Global, fed: &Fed<'_>) -> Result<(), AllocError>
         requires few { given_to self.old < 2 ^ 40 }
         requires short { length fed.now.payload.now ≤ 65527 }
@@ -82,11 +80,8 @@ impl<D: Delivered + Drop> BetweenView<D> {
         ensures others { (p : Placed) → fed.now.place.now ≡ p.place → is_of self.old.transfer.number p ≡ false
             → (result ≡ Ok tt) × (self.new ≡ self.old) }
         ensures same { OnErr result (self.new ≡ self.old) }
-        ensures memory { (p : Placed) (older : List Placed) → IsBetweenAfter self.old older → fed.now.place.now ≡ p.place
-            → OnErr result (WantsBetween self.old.transfer older p) }
         ensures counts { given_to self.new ≤ given_to self.old + 1 }
         ensures transfer { self.new.transfer ≡ self.old.transfer }
-        ensures apart { IfSome self.new.judge IsJudgedIfApart }
         ensures for_good { (refusal : RefusalKind) → has_refused self.old ≡ Some refusal → has_refused self.new ≡ Some refusal }
         ensures rests { (refusal : RefusalKind) → has_refused self.old ≡ Some refusal → (result ≡ Ok tt) × (self.new ≡ self.old) }
     {
@@ -110,7 +105,6 @@ impl<D: Delivered + Drop> BetweenView<D> {
         ensures same { OnErr result (self.new ≡ self.old) }
         ensures counts { given_to self.new ≤ given_to self.old + 1 }
         ensures transfer { self.new.transfer ≡ self.old.transfer }
-        ensures apart { IfSome self.new.judge IsJudgedIfApart }
     {
         self.held.push_back(passed(alloc, fed)?)?;
         self.ends
@@ -147,8 +141,7 @@ impl<D: Delivered + Drop> BetweenView<D> {
     /// What a datagram was refused for, or that memory ran out for one, where it is known by now: what `finish` will
     /// answer. It is none where the client is the server too.
     pub fn refused(&self) -> Option<TapRefusal>
-        ensures refused { result ≡ has_refused self.now }
-        ensures apart { IfSome self.now.judge IsJudgedIfApart }
+        ensures { result ≡ has_refused self.now }
     {
         match &self.judge {
             Some(judge) => judge.refused(),
@@ -198,7 +191,6 @@ fn judge_of<D: Delivered + Drop>(
     ensures passed { (given : List Passing) → AreHeld held.items given → HasPassed result given }
     ensures counts { counted_by result ≤ deque_len held }
     ensures sides { result.sides ≡ sides }
-    ensures apart { IsJudgedIfApart result }
 {
     let mut judge = SidesJudge::new(alloc, sides);
     while let Some(next) = held.pop_front() {

@@ -2,8 +2,8 @@
 
 ghost use Rattle.std.specs.Prelude.{◌≡◌, [], ◌++◌, ◌∷◌, List, false, true};
 ghost use Rattle.audit_recording.specs.Between.Captured.{between_capture, is_to_itself, server_or_asked, sides_of};
-ghost use Rattle.audit_recording.specs.Between.Kept.{IsBetweenAfter, IsJudgedIfApart, View, WantsBetween};
-ghost use Rattle.audit_recording.specs.Between.Worked.{asked_twice_between, asked_twice_counted, asked_twice_sides, first_request, first_transfer, next_transfer, serves_itself_counted};
+ghost use Rattle.audit_recording.specs.Between.Kept.{IsBetweenAfter, View};
+ghost use Rattle.audit_recording.specs.Between.Worked.{asked_twice_between, asked_twice_sides, first_transfer};
 ghost use Rattle.audit_views.specs.Parties.{IsAddress};
 ghost use Rattle.law_tap.specs.{AreApart};
 ghost use Rattle.audit_flows.specs.Lines.{Placed, is_of};
@@ -15,12 +15,6 @@ pub fn worked_between()
     ensures capture { between_capture first_transfer (placed [] asked_twice) ≡ asked_twice_between }
     ensures sides { sides_of first_transfer (placed [] asked_twice) ≡ asked_twice_sides }
     ensures apart { is_to_itself first_transfer (placed [] asked_twice) ≡ false }
-{}
-
-/// Between sides that are apart it is not enough to count; where the client is the server it is.
-pub fn worked_judges()
-    ensures apart { IsJudgedIfApart asked_twice_counted → ⊥ }
-    ensures to_itself { IsJudgedIfApart serves_itself_counted }
 {}
 
 /// Once it is known whom a client asked, who answered and with whom it went on, the sides stay, whatever comes.
@@ -42,16 +36,4 @@ pub fn sides_are_apart()
     ensures apart { (x : Transfer) (whole : List Placed) → IsAddress x.client.address → IsAddress x.asked.address
         → IsAddress (server_or_asked x (server_of x.number whole)).address → is_to_itself x whole ≡ false → AreApart (sides_of x whole) }
     ensures only { (x : Transfer) (whole : List Placed) → AreApart (sides_of x whole) → is_to_itself x whole ≡ false }
-{}
-
-/// Memory may be wanted for a transfer's request, since it is not known who the server is; and for another's never.
-pub fn worked_want_between()
-    ensures held { WantsBetween first_transfer [] first_request }
-    ensures others { (placed : List Placed) → WantsBetween next_transfer placed first_request → ⊥ }
-{}
-
-/// Once it is known that a client asked itself, or is the server, no memory is wanted for its datagrams.
-pub fn none_is_kept_of_a_client_that_asked_itself()
-    ensures { (x : Transfer) (older : List Placed) (p : Placed) → is_settled x.number older ≡ true → is_to_itself x older ≡ true
-        → WantsBetween x older p → ⊥ }
 {}

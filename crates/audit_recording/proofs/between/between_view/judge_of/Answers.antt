@@ -11,7 +11,6 @@ loop-next-init g c = record {
   counted = let none = c.new-judge.ensures.none in omega arith;
   short = c.requires.short;
   sides = c.new-judge.ensures.sides;
-  apart = c.new-judge.ensures.apart;
 }
 
 pub loop-next-preserved : goal.loop-next-preserved
@@ -22,7 +21,6 @@ loop-next-preserved g c =
       counted = let counts = c.take.ensures.counts in let popped = c.in-Some.ensures.cases in let before = all.counted in omega arith;
       short = subst (λ (l : List Owned). All (λ (d : Owned). length d.payload ≤ 65527) l) (sym c.in-Some.ensures.rest) (All-drop (λ (d : Owned). length d.payload ≤ 65527) 1 c.loop-next.held.items all.short);
       sides = c.take.ensures.sides ∙ all.sides;
-      apart = c.take.ensures.apart;
     }
 
 pub returns-clause-passed : goal.returns-clause-passed

@@ -2,7 +2,7 @@ use Rattle.std.proofs.Common.{◌≡◌, ◌+◌, ◌≤◌, List, All, length}
 use Rattle.std.specs.VecDeque.{deque_len}
 use Rattle.law_tap.specs.{TapDatagram}
 use Rattle.judge_tap.specs.{TapDatagram as Owned}
-use Rattle.audit_recording.specs.Between.{AreHeld, IsJudgedIfApart, counted_by}
+use Rattle.audit_recording.specs.Between.{AreHeld, counted_by}
 use Rattle.audit_recording.proofs.BetweenLemmas.Holding.{IsGivenSoFar}
 use Rattle.audit_recording.proofs.between.between_view.judge_of.Given as goal
 
@@ -13,7 +13,6 @@ invariant-loop-next g l = record {
   counted : counted_by l.judge + deque_len l.held ≤ deque_len l.fn.held;
   short : All (λ (d : Owned). length d.payload ≤ 65527) l.held.items;
   sides : l.judge.sides ≡ l.fn.sides;
-  apart : IsJudgedIfApart l.judge;
 }
 
 abbrev pub decreases-loop-next : goal.decreases-loop-next

@@ -1,10 +1,9 @@
-use Rattle.std.proofs.Common.{◌≡◌, ◌∷◌, OnErr, Some, false, true, refl, sym, ap, ◌∙◌, subst}
+use Rattle.std.proofs.Common.{◌≡◌, ◌∷◌, Some, false, true, refl, sym, ap, ◌∙◌, subst}
 use Rattle.law_tap.specs.{TapDatagram}
 use Rattle.audit_flows.specs.Lines.{is_of}
-use Rattle.audit_recording.specs.Between.{between_capture, HasPassed, IsBetweenAfter, IsGoingOn, View, WantsBetween}
+use Rattle.audit_recording.specs.Between.{between_capture, HasPassed, IsBetweenAfter, IsGoingOn, View}
 use Rattle.audit_recording.proofs.BetweenLemmas.Feeding.{passed_fed}
-use Rattle.audit_recording.proofs.BetweenLemmas.Holding.{goes_on_too, is_going_on, is_waiting, passes_by}
-use Rattle.audit_recording.proofs.BetweenLemmas.Wanting.{on_err, wants_given, wants_held}
+use Rattle.audit_recording.proofs.BetweenLemmas.Holding.{goes_on_too, is_going_on, passes_by}
 use Rattle.audit_views.specs.Views.{held_of}
 use Rattle.audit_views.proofs.ViewsLemmas.Holding.{on_ok}
 use Rattle.audit_recording.proofs.between.between_view.BetweenView.feed.Goals as goal
@@ -26,11 +25,3 @@ returns-in-Some-clause-after g c p older after fed =
     (λ passed. goes_on_too c.in-Some.judge c.put.new.self v w p older refl refl c.put.ensures.sides of_it goes
     (subst (λ (t : TapDatagram). HasPassed c.put.new.self (t ∷ between_capture v.transfer older)) (sym (passed_fed p (held_of c.args.fed.now) fed)) passed))
     (c.put.ensures.passed (between_capture v.transfer older) goes.passed)
-
-pub returns-in-Some-clause-memory : goal.returns-in-Some-clause-memory
-returns-in-Some-clause-memory g c p older after belongs =
-    let v : View = record { transfer = c.self.inside.transfer; ends = c.self.inside.ends; held = c.self.inside.held.items; judge = c.self.inside.judge } in
-    let of_it : is_of v.transfer.number p ≡ true = ap (λ k. is_of k p) (sym c.self.invariant.0) ∙ sym (c.is_at_client.ensures p belongs) ∙ c.if-not-is_at_client.false in
-    let goes : IsGoingOn c.in-Some.judge v older = is_going_on v c.in-Some.judge older c.in-Some.is (subst (λ (v : View). IsBetweenAfter v older) (sym c.self.view_is) after) in
-    subst (λ (v : View). OnErr c.put.result (WantsBetween v.transfer older p)) c.self.view_is
-    (on_err c.put.result (wants_given v c.in-Some.judge p older goes of_it) c.put.ensures.memory)

@@ -27,7 +27,7 @@ invariant_of-self-else-is_settled g c =
     let own = c.self.inside.held.ok.0 in
     let all : All (λ (d : Owned). length d.payload ≤ 65527) c.push_back.new.self.items = subst (λ (l : List Owned). All (λ (d : Owned). length d.payload ≤ 65527) l) (sym c.in_ok-push_back.ensures.items)
     (held_short (λ (d : Owned). d.payload) c.self.inside.held.items c.in_ok-passed.field-0 c.self.invariant.2 (omega arith)) in
-    (c.note.ensures.number ∙ c.self.invariant.0, omega arith, all, c.self.invariant.3)
+    (c.note.ensures.number ∙ c.self.invariant.0, omega arith, all)
 
 pub returns-else-is_settled-clause-after : goal.returns-else-is_settled-clause-after
 returns-else-is_settled-clause-after g c p older after fed is =
