@@ -19,7 +19,7 @@ use Rattle.audit_views.specs.Views.{Client, HasJudged, IsClientAfter, IsGoingOn,
 use Rattle.audit_views.specs.Views.Kept.{has_refused}
 use Rattle.audit_views.proofs.ViewsLemmas.Judging.{finished, stands_for}
 use Rattle.audit_views.proofs.ViewsLemmas.Settling.{at_server_stays, capture_stays}
-use Rattle.audit_recording.specs.Between.{Between, BetweenBy, HasTapped, IsBetweenAfter, IsTapRefusedIn, PassedBy, TappedBy, View as Tap, are_apart, between_capture, passed_of, sides_of}
+use Rattle.audit_recording.specs.Between.{Between, BetweenBy, HasTapped, IsBetweenAfter, IsJudgedIfApart, IsTapRefusedIn, PassedBy, TappedBy, View as Tap, are_apart, between_capture, passed_of, sides_of}
 use Rattle.audit_recording.specs.Between.Kept.{counted_by, given_to, has_refused as has_refused_between, refused_by}
 use Rattle.audit_recording.proofs.BetweenLemmas.Holding.{given_by}
 use Rattle.audit_recording.proofs.BetweenLemmas.Settling.{sides_stay}
@@ -242,7 +242,7 @@ is_apart s e =
     let both = neither (same_peer s.client s.server) (same_peer s.client s.asked) e in
     record { server = λ same. true≢false (sym (same_is s.client s.server same) ∙ both.0); asked = λ same. true≢false (sym (same_is s.client s.asked same) ∙ both.1) }
 
-module _ (x : Transfer) (whole : List Placed) (settled : is_settled x.number whole ≡ true) (b : Between) (sides : b.sides ≡ sides_of x whole) (one : is_some b.judge ≡ are_apart b.sides) where
+module _ (x : Transfer) (whole : List Placed) (settled : is_settled x.number whole ≡ true) (b : Between) (sides : b.sides ≡ sides_of x whole) (one : IsJudgedIfApart b) where
   -- where there is no judge, nothing is said
   nothing_said : b.judge ≡ None → (more : List Placed) (number : ℕ) (rule : Rule) → IsRefusedAt point.Between x (more ++ whole) number rule → ⊥
   nothing_said none more number rule said =
@@ -299,12 +299,12 @@ refuses_by : (v : Tap) (b : Between) → v.judge ≡ Some b → has_refused_betw
 refuses_by v b is = rw is refl
 
 module _ (v : Tap) (x : Transfer) (whole : List Placed) (own : v.transfer ≡ x) (settled : is_settled x.number whole ≡ true) (after : IsBetweenAfter v whole)
-    (one : IfSome v.judge (λ b. is_some b.judge ≡ are_apart b.sides)) where
+    (one : IfSome v.judge IsJudgedIfApart) where
   taps : IsTapping v x whole
   taps = subst (λ (y : Transfer). IsTapping v y whole) own (tapping v whole (ap (λ (y : Transfer). is_settled y.number whole) own ∙ settled) after)
 
-  one_judge : is_some taps.between.judge ≡ are_apart taps.between.sides
-  one_judge = subst (λ o. IfSome o (λ b. is_some b.judge ≡ are_apart b.sides)) taps.is one
+  one_judge : IsJudgedIfApart taps.between
+  one_judge = subst (λ o. IfSome o IsJudgedIfApart) taps.is one
 
   pub accepts_between : has_refused_between v ≡ None → Accepts point.Between x whole (given_to v)
   accepts_between none =

@@ -1,5 +1,5 @@
 -- What the judge between the ends keeps, and for which datagrams of a recording it stands.
-use Rattle.std.specs.Prelude.{◌≡◌, ℕ, true, false, List, [], length, map, reverse, Option, Some, None}
+use Rattle.std.specs.Prelude.{◌≡◌, ℕ, true, false, List, [], length, map, reverse, is_some, Option, Some, None}
 use Rattle.law_tap.specs.{PeerId, TapDatagram, TapSides}
 use Rattle.judge_tap.specs.{TapJudge, passing_of, TapDatagram as Owned, TapRefusal}
 use Rattle.audit_flows.specs.Lines.{Placed}
@@ -7,7 +7,7 @@ use Rattle.audit_flows.specs.{Transfer}
 use Rattle.audit_flows.specs.Transfers.{AreEndsAfter, is_settled}
 use Rattle.audit_flows.specs.{TransferEnds}
 use Rattle.audit_views.specs.{Held, Party}
-use Rattle.audit_recording.specs.Between.Captured.{between_capture, sides_of}
+use Rattle.audit_recording.specs.Between.Captured.{are_apart, between_capture, sides_of}
 use Rattle.audit_recording.specs.Between.Judged.{HasTapped}
 
 -- ---- what is fed
@@ -26,6 +26,10 @@ pub record Between : Type 0 where
   pub sides : TapSides
   pub judge : Option TapJudge
   pub counted : ℕ
+
+-- there is a judge just where the client is none of the other two
+abbrev pub IsJudgedIfApart : Between → Type 0
+IsJudgedIfApart b = is_some b.judge ≡ are_apart b.sides
 
 abbrev pub PassedBy : Option TapJudge → Between → List TapDatagram → Type 0
 PassedBy None b given = b.counted ≡ length given

@@ -1,6 +1,6 @@
 -- What is kept of a transfer beside its judges, and of which datagrams. Lists have the newest first; `whole` are the datagrams of
 -- a recording with their places, `frames` the same in their frames.
-use Rattle.std.specs.Prelude.{◌≡◌, ◌⊎◌, ◌<◌, ◌+◌, ◌^◌, ◌-◌, ◌&&◌, ◌||◌, ◌++◌, ℕ, Bool, true, List, [], ◌∷◌, filter, length, map, max, min, reverse, unwrap_or, is_some, IfSome, Option, Some, None, option_map}
+use Rattle.std.specs.Prelude.{◌≡◌, ◌⊎◌, ◌<◌, ◌+◌, ◌^◌, ◌-◌, ◌&&◌, ◌||◌, ◌++◌, ℕ, Bool, true, List, [], ◌∷◌, filter, length, map, max, min, reverse, unwrap_or, IfSome, Option, Some, None, option_map}
 use Rattle.std.specs.List.{list_any}
 use Rattle.law_end.specs.{Rule}
 use Rattle.law_model.specs.Rules.{first_of}
@@ -19,7 +19,6 @@ use Rattle.audit_recording.specs.declared.blame.trail.Trail.{Trail}
 use Rattle.audit_recording.specs.declared.judges.judging.Judging.{Judging}
 use Rattle.audit_recording.specs.declared.rows.row.Point.{Point}
 use Rattle.audit_recording.specs.declared.rows.row.Point.TheVariants.{Client, Server, Between}
-use Rattle.audit_recording.specs.Between.{View, are_apart}
 use Rattle.audit_recording.specs.Judges.{points_of}
 use Rattle.audit_recording.specs.Blame.Frames.{Carried, Framed, framed, is_seen, numbered, seen_of, view_of, whole_of}
 use Rattle.audit_recording.specs.Blame.Facts.{IsRefusedAt, blamed_of}
@@ -108,10 +107,6 @@ pub record IsBlameOf (b : Blame) (judging : Judging) (x : Transfer) (whole : Lis
 -- the facts of what passed between the ends, where the transfer is judged there
 abbrev pub IsBlameBetween : Blame → Judging → Transfer → List Placed → List Framed → Type 0
 IsBlameBetween b judging x whole frames = (points_of judging x).between ≡ true → AreFactsOf b.between Between x whole frames
-
--- there is a judge of the sides, once they are known, just if the client is none of the other two
-abbrev pub IsJudgedIfApart : View → Type 0
-IsJudgedIfApart v = IfSome v.judge (λ b. is_some b.judge ≡ are_apart b.sides)
 
 -- ---- a transfer, as far as it was read
 

@@ -1,10 +1,10 @@
 //! A transfer as it is seen between its two ends, judged in one pass over a recording.
 
-ghost use Rattle.std.specs.Prelude.{◌≡◌, ◌+◌, ◌^◌, ◌<◌, ◌≤◌, ◌∷◌, ℕ, List, [], All, length, map, reverse, OnOk, OnErr, Ok, Err, None, Some, true, false};
+ghost use Rattle.std.specs.Prelude.{◌≡◌, ◌+◌, ◌^◌, ◌<◌, ◌≤◌, ◌∷◌, ℕ, List, [], All, length, map, reverse, IfSome, OnOk, OnErr, Ok, Err, None, Some, true, false};
 ghost use Rattle.std.specs.VecDeque.{deque_len};
 ghost use Rattle.audit_recording.specs.Between.Captured.{between_capture, is_to_itself, sides_of};
 ghost use Rattle.audit_recording.specs.Between.Judged.{IsBetweenVerdict};
-ghost use Rattle.audit_recording.specs.Between.Kept.{AreHeld, HasPassed, IsBetweenAfter, counted_by, given_to, has_refused};
+ghost use Rattle.audit_recording.specs.Between.Kept.{AreHeld, HasPassed, IsBetweenAfter, IsJudgedIfApart, counted_by, given_to, has_refused};
 ghost use Rattle.audit_views.specs.Parties.{host_name};
 ghost use Rattle.law_tap.specs.{AreApart, TapDatagram as Passing};
 ghost use Rattle.judge_tap.specs.{TapDatagram as Owned, TapRefusal as RefusalKind};
@@ -141,7 +141,8 @@ impl<D: Delivered + Drop> BetweenView<D> {
     /// What a datagram was refused for, or that memory ran out for one, where it is known by now: what `finish` will
     /// answer. It is none where the client is the server too.
     pub fn refused(&self) -> Option<TapRefusal>
-        ensures { result ≡ has_refused self.now }
+        ensures refused { result ≡ has_refused self.now }
+        ensures apart { IfSome self.now.judge IsJudgedIfApart }
     {
         match &self.judge {
             Some(judge) => judge.refused(),

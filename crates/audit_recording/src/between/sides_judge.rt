@@ -3,7 +3,7 @@
 ghost use Rattle.std.specs.Prelude.{◌≡◌, ◌+◌, ◌^◌, ◌<◌, ◌≤◌, ◌∷◌, ℕ, List, [], length, OnOk, OnErr, Ok, Err, None, Some, false};
 ghost use Rattle.audit_recording.specs.Between.Captured.{are_apart};
 ghost use Rattle.audit_recording.specs.Between.Judged.{HasTapped, IsBetweenVerdict};
-ghost use Rattle.audit_recording.specs.Between.Kept.{HasPassed, counted_by, passed_as, refused_by};
+ghost use Rattle.audit_recording.specs.Between.Kept.{HasPassed, IsJudgedIfApart, counted_by, passed_as, refused_by};
 ghost use Rattle.law_tap.specs.{AreApart, TapDatagram as Passing, TapSides};
 ghost use Rattle.judge_tap.specs.{passing_of, TapRefusal as RefusalKind};
 ghost use Rattle.audit_views.specs.Views.{held_of};
@@ -48,6 +48,7 @@ impl<D: Delivered + Drop> SidesJudge<D> {
     pub fn new(alloc: Global, sides: Sides) -> Self
         ensures passed { HasPassed result [] }
         ensures sides { result.sides ≡ sides }
+        ensures apart { IsJudgedIfApart result }
         ensures none { counted_by result ≡ 0 }
     {
         let is_one = sides.client == sides.server || sides.client == sides.asked;
@@ -71,6 +72,7 @@ impl<D: Delivered + Drop> SidesJudge<D> {
         ensures same { OnErr result (self.new ≡ self.old) }
         ensures counts { counted_by self.new ≤ counted_by self.old + 1 }
         ensures sides { self.new.sides ≡ self.old.sides }
+        ensures apart { IsJudgedIfApart self.new }
         ensures rests { (refusal : RefusalKind) → refused_by self.old ≡ Some refusal → (result ≡ Ok tt) × (self.new ≡ self.old) }
     {
         match &mut self.judge {
@@ -90,6 +92,7 @@ impl<D: Delivered + Drop> SidesJudge<D> {
         ensures passed { (given : List Passing) → HasPassed self.old given → HasPassed self.new (passing_of datagram ∷ given) }
         ensures counts { counted_by self.new ≤ counted_by self.old + 1 }
         ensures sides { self.new.sides ≡ self.old.sides }
+        ensures apart { IsJudgedIfApart self.new }
     {
         match &mut self.judge {
             None => self.counted += 1,
@@ -109,7 +112,8 @@ impl<D: Delivered + Drop> SidesJudge<D> {
 
     /// What the judge refused a datagram for, or that memory ran out for one.
     pub fn refused(&self) -> Option<TapRefusal>
-        ensures { result ≡ refused_by self.now }
+        ensures refused { result ≡ refused_by self.now }
+        ensures apart { IsJudgedIfApart self.now }
     {
         match &self.judge {
             Some(judge) => judge.refused(),

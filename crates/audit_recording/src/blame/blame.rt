@@ -1,11 +1,11 @@
 //! At which frames a transfer was refused, at each point where it is judged.
 
-ghost use Rattle.std.specs.Prelude.{◌≡◌, ◌∷◌, [], List, IfSome, Option, OnOk, Some, filter, is_some, map, option_copied, true};
+ghost use Rattle.std.specs.Prelude.{◌≡◌, ◌∷◌, [], List, Option, OnOk, Some, filter, is_some, map, option_copied, true};
 ghost use Rattle.audit_flows.specs.Lines.{Placed};
 ghost use Rattle.audit_flows.specs.{Transfer};
 ghost use Rattle.audit_flows.specs.Transfers.{AreEndsAfter};
 ghost use Rattle.audit_recording.specs.Blame.Frames.{Framed};
-ghost use Rattle.audit_recording.specs.Blame.Kept.{AreFactsOf, IsBlameBetween, IsBlameOf, IsJudgedIfApart, is_about_it, passed_of};
+ghost use Rattle.audit_recording.specs.Blame.Kept.{AreFactsOf, IsBlameBetween, IsBlameOf, is_about_it, passed_of};
 ghost use Rattle.audit_recording.specs.Judges.Kept.{BetweenStands, ClientStands, IsWatching, ServerStands};
 ghost use Rattle.audit_recording.specs.declared.judges.judging.Judging.{Judging as JudgingKind};
 ghost use Rattle.audit_recording.specs.declared.rows.row.Point.{Point as PointKind};
@@ -89,7 +89,7 @@ impl Blame {
         ensures between { (judging : JudgingKind) (x : Transfer) (f : Framed) (whole : List Placed) (frames : List Framed) → IsBlameBetween self.old judging x whole frames
             → passed ≡ passed_of x.number f → is_about_it x.number f ≡ true
             → ends.now.number ≡ x.number → AreEndsAfter ends.now (f.placed ∷ whole) → map (λ g. g.placed) frames ≡ whole
-            → IsWatching watched.now judging x host_name (f.placed ∷ whole) → IfSome watched.now.judges.between IsJudgedIfApart
+            → IsWatching watched.now judging x host_name (f.placed ∷ whole)
             → OnOk result (IsBlameBetween self.new judging x (f.placed ∷ whole) (f ∷ frames)) }
     {
         take_client(&mut self.at_client, ends, passed, watched.client())?;
@@ -147,7 +147,7 @@ fn take_between(
     ensures { (x : Transfer) (f : Framed) (whole : List Placed) (frames : List Framed) → is_some (option_copied judge.entry) ≡ true → AreFactsOf facts.old PointKind.Between x whole frames
         → passed ≡ passed_of x.number f → is_about_it x.number f ≡ true
         → ends.now.number ≡ x.number → AreEndsAfter ends.now (f.placed ∷ whole) → map (λ g. g.placed) frames ≡ whole
-        → BetweenStands (option_copied judge.entry) x host_name (f.placed ∷ whole) → IfSome (option_copied judge.entry) IsJudgedIfApart
+        → BetweenStands (option_copied judge.entry) x host_name (f.placed ∷ whole)
         → OnOk result (AreFactsOf facts.new PointKind.Between x (f.placed ∷ whole) (f ∷ frames)) }
 {
     match judge {

@@ -6,7 +6,7 @@ ghost use Rattle.audit_flows.specs.{Transfer};
 ghost use Rattle.audit_flows.specs.Transfers.{AreEndsAfter};
 ghost use Rattle.audit_recording.specs.Between.{IsBetweenAfter};
 ghost use Rattle.audit_recording.specs.Blame.Facts.{refused_between, refused_in};
-ghost use Rattle.audit_recording.specs.Blame.Kept.{IsJudgedIfApart, IsTold};
+ghost use Rattle.audit_recording.specs.Blame.Kept.{IsTold};
 ghost use Rattle.audit_recording.specs.declared.rows.row.Point.{Point};
 ghost use Rattle.audit_views.specs.Parties.{host_name};
 ghost use Rattle.audit_views.specs.Views.{IsClientAfter, IsViewAfter};
@@ -59,7 +59,7 @@ pub fn told_by_server(judge: &ServerView<RingDelivered>, ends: &TransferEnds) ->
 /// What the judge between the ends tells; these are known by now.
 pub fn told_between(judge: &BetweenView<RingDelivered>, ends: &TransferEnds) -> Told
     ensures { (x : Transfer) (whole : List Placed) → judge.now.transfer ≡ x → ends.now.number ≡ x.number → AreEndsAfter ends.now whole
-        → IsBetweenAfter judge.now whole → IsJudgedIfApart judge.now → IsTold Point.Between x whole result }
+        → IsBetweenAfter judge.now whole → IsTold Point.Between x whole result }
 {
     if !ends.is_settled() {
         return Told::Nothing;

@@ -1,6 +1,6 @@
 //! What is kept of a transfer beside its judges.
 
-ghost use Rattle.std.specs.Prelude.{◌≡◌, ◌∷◌, ◌||◌, not, [], ℕ, List, IfSome, IsSome, None, OnOk, filter, true};
+ghost use Rattle.std.specs.Prelude.{◌≡◌, ◌∷◌, ◌||◌, not, [], ℕ, List, IsSome, None, OnOk, filter, true};
 ghost use Rattle.law_model.specs.Rules.{or_this};
 ghost use Rattle.audit_flows.specs.Lines.{Placed, doubts_of, same_endpoint, transfer_of};
 ghost use Rattle.audit_flows.specs.{Transfer};
@@ -8,7 +8,7 @@ ghost use Rattle.audit_flows.specs.Transfers.{IsDoubtedAfter, comes_of_earlier, 
 ghost use Rattle.audit_recording.specs.Between.{IsBetweenVerdict, between_capture, server_or_asked, sides_of};
 ghost use Rattle.audit_recording.specs.Blame.Facts.{blamed_as, blamed_of, refused_between, refused_in};
 ghost use Rattle.audit_recording.specs.Blame.Frames.{Carried, Framed, framed, framed_after, whole_of};
-ghost use Rattle.audit_recording.specs.Blame.Kept.{IsJudgedIfApart, IsNoted, IsPassing, IsSameBut, IsTrailBetween, IsTrailOf, is_about_it};
+ghost use Rattle.audit_recording.specs.Blame.Kept.{IsNoted, IsPassing, IsSameBut, IsTrailBetween, IsTrailOf, is_about_it};
 ghost use Rattle.audit_recording.specs.Judges.Kept.{IsWatching};
 ghost use Rattle.audit_recording.specs.Judges.Points.{points_of};
 ghost use Rattle.audit_recording.specs.declared.judges.judging.Judging.{Judging as JudgingKind};
@@ -125,7 +125,7 @@ impl Trail {
             → found.now.place ≡ (framed_after named carried c).placed.place
             → found.now.doubts ≡ doubts_of (framed_after named carried c).placed (whole_of named carried)
             → is_about_it x.number (framed_after named carried c) ≡ true
-            → IsWatching watched.now judging x host_name (whole_of named (c ∷ carried)) → IfSome watched.now.judges.between IsJudgedIfApart
+            → IsWatching watched.now judging x host_name (whole_of named (c ∷ carried))
             → OnOk result (IsTrailBetween self.new judging x named (c ∷ carried)) }
         ensures first { self.new.first ≡ self.old.first }
         ensures request { self.new.request ≡ self.old.request }

@@ -1,6 +1,5 @@
-use Rattle.std.proofs.Common.{◌≡◌, ◌∷◌, IfSome, ap, is_some, subst, sym, ◌∙◌}
+use Rattle.std.proofs.Common.{◌≡◌, ◌∷◌, ap, is_some, subst, sym, ◌∙◌}
 use Rattle.audit_recording.specs.Judges.Kept.{BetweenStands, ClientStands, ServerStands}
-use Rattle.audit_recording.specs.Blame.Kept.{IsJudgedIfApart}
 use Rattle.audit_views.specs.Parties.{host_name}
 use Rattle.audit_recording.proofs.blame.blame.Blame.take.Goals as goal
 
@@ -13,7 +12,6 @@ returns-clause-ends c judging x f whole frames are is about own ends all watchin
 }
 
 pub returns-clause-between : goal.returns-clause-between
-returns-clause-between c judging x f whole frames are is about own ends all watching apart there =
+returns-clause-between c judging x f whole frames are is about own ends all watching there =
     c.in_ok-take_between.ensures x f whole frames (ap is_some c.between.ensures ∙ watching.points.between ∙ there) (are there) is about own ends all
     (subst (λ j. BetweenStands j x host_name (f.placed ∷ whole)) (sym c.between.ensures) watching.judges.between)
-    (subst (λ j. IfSome j IsJudgedIfApart) (sym c.between.ensures) apart)

@@ -22,7 +22,7 @@ returns-clause-stands c judging x named d carried was passes at doubts about ope
     (c.in_ok-take.ensures.ends judging x f whole (framed named carried) (subst (λ (b : Blame). IsBlameOf b judging x whole (framed named carried)) (sym c.note_place.ensures.blame) was.blame) passed about number ends (all_placed named carried) watching)
 
 pub returns-clause-between : goal.returns-clause-between
-returns-clause-between c judging x named d carried was between passes at doubts about watching apart =
+returns-clause-between c judging x named d carried was between passes at doubts about watching =
     let f : Framed = framed_after named carried d in
     let whole = whole_of named carried in
     let number = c.note.ensures.number ∙ ap (λ (e : TransferEnds). e.number) c.note_place.ensures.ends ∙ was.number in
@@ -30,4 +30,4 @@ returns-clause-between c judging x named d carried was between passes at doubts 
     let doubted = subst (λ (t : TransferDoubts). IsDoubtedAfter t (f.placed ∷ whole)) (sym c.doubts.ensures) watching.doubts in
     let blamed = c.blamed_by.ensures f passes refl at doubts doubted ∙ ap (λ (t : TransferDoubts). blamed_of t.number f) c.doubts.ensures ∙ ap (λ k. blamed_of k f) watching.number in
     let passed = passed_same x.number f (record { blamed = c.blamed_by.result; place = c.args.found.now.place; target = c.args.passing.now.target }) blamed at passes.target in
-    c.in_ok-take.ensures.between judging x f whole (framed named carried) (subst (λ (b : Blame). IsBlameBetween b judging x whole (framed named carried)) (sym c.note_place.ensures.blame) between) passed about number ends (all_placed named carried) watching apart
+    c.in_ok-take.ensures.between judging x f whole (framed named carried) (subst (λ (b : Blame). IsBlameBetween b judging x whole (framed named carried)) (sym c.note_place.ensures.blame) between) passed about number ends (all_placed named carried) watching
