@@ -1,0 +1,70 @@
+-- Small recordings that miss datagrams: of a read of a file "a" of two bytes, without options. Those at an end have the oldest
+-- first, what passed between the ends the newest.
+use Rattle.std.specs.Prelude.{ℕ, List, [], ◌∷◌, codes}
+use Rattle.tftp_packet.specs.{Client, Server, In, Out}
+use Rattle.tftp_packet.specs.Hosts.{Datagram, Header}
+use Rattle.law_model.specs.Model.{Req, Oack, Data, Ack}
+use Rattle.law_tap.specs.Tap.{Pass}
+use Rattle.law_tap.specs.WorkedTap.{request_passes, hi_passes, ack_passes}
+use Rattle.law_tap.specs.TapCapture.{TapDatagram}
+
+-- ---- at the client
+
+abbrev pub at_client : Header
+at_client = record { named = Client; service = 69 }
+
+-- RRQ "a" in mode "octet"
+abbrev pub request_out : Datagram
+request_out = record { dir = Out; local = 40000; host = codes "10.0.0.1"; remote = 69; payload = request_passes.payload }
+
+-- DATA 1, "hi"
+abbrev pub hi_in : Datagram
+hi_in = record { dir = In; local = 40000; host = codes "10.0.0.1"; remote = 41000; payload = hi_passes.payload }
+
+-- ACK 1
+abbrev pub ack_out : Datagram
+ack_out = record { dir = Out; local = 40000; host = codes "10.0.0.1"; remote = 41000; payload = ack_passes.payload }
+
+abbrev pub whole_read : List Datagram
+whole_read = request_out ∷ hi_in ∷ ack_out ∷ []
+
+-- the recorder missed the block
+abbrev pub read_without_block : List Datagram
+read_without_block = request_out ∷ ack_out ∷ []
+
+-- ---- at the server
+
+abbrev pub at_server : Header
+at_server = record { named = Server; service = 69 }
+
+abbrev pub request_in : Datagram
+request_in = record { dir = In; local = 69; host = codes "10.0.0.2"; remote = 40000; payload = request_passes.payload }
+
+abbrev pub hi_out : Datagram
+hi_out = record { dir = Out; local = 41000; host = codes "10.0.0.2"; remote = 40000; payload = hi_passes.payload }
+
+-- DATA 1, "ho"
+abbrev pub ho_out : Datagram
+ho_out = record { dir = Out; local = 41000; host = codes "10.0.0.2"; remote = 40000; payload = 0 ∷ 3 ∷ 0 ∷ 1 ∷ 104 ∷ 111 ∷ [] }
+
+-- the server changes block 1
+abbrev pub changed_block : List Datagram
+changed_block = request_in ∷ hi_out ∷ ho_out ∷ []
+
+-- ---- between the ends
+
+-- the recorder missed the block
+abbrev pub ack_between : List TapDatagram
+ack_between = ack_passes ∷ request_passes ∷ []
+
+-- the ACK passed before the block
+abbrev pub ack_before_block : List Pass
+ack_before_block =
+    record { from = Server; packet = Data 1 }
+    ∷ record { from = Client; packet = Ack 1 }
+    ∷ record { from = Client; packet = Req }
+    ∷ []
+
+-- an OACK where nothing is agreed
+abbrev pub oack_of_nothing : List Pass
+oack_of_nothing = record { from = Server; packet = Oack } ∷ []
