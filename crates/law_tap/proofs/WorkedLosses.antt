@@ -2,33 +2,103 @@
 use Rattle.std.proofs.Common.{◌≡◌, ℕ, ◌<◌, ◌≤◌, List, [], ◌∷◌, Contains, codes, inl, inr, refl, sym, subst, arith}
 use Rattle.tftp_packet.specs.{Message, Spells, IsPair, Client, Server}
 use Rattle.tftp_packet.specs.Hosts.{Datagram}
-use Rattle.law_model.specs.Model.{request_of, blksize_of, block, Sent, Took, Req, Data, Ack, IsView, two_bytes, two_bytes_view, two_bytes_server_view}
+use Rattle.law_model.specs.Model.{request_of, blksize_of, block, Deed, Sent, Took, Req, Oack, Data, Ack, History, IsView, two_bytes, two_bytes_view, two_bytes_written, two_bytes_written_view, ten_bytes, ten_bytes_view, six_blocks, six_blocks_server_view}
 use Rattle.law_model.proofs.ModelLemmas.Members.{contains_cases, contains_none}
 use Rattle.law_model.proofs.ModelLemmas.Moments.{earlier_view}
 use Rattle.law_model.proofs.ModelLemmas.OneSided.{view_one_sided}
 use Rattle.law_model.proofs.ModelLemmas.Defaults.{default_blksize}
-use Rattle.law_model.proofs.ModelLemmas.Worked.{two_bytes_is_view, two_bytes_is_server_view}
+use Rattle.law_model.proofs.ModelLemmas.Worked.{two_bytes_is_view, two_bytes_is_server_view, written_is_view, ten_bytes_is_view, one_at_a_time, six_server_view}
 use Rattle.law_end.specs.{Main, Labelled, Division, TransferIds, HaveLabels, IsLawful, IsSeen, from_server}
 use Rattle.law_end.proofs.Whole.NothingAgreed.{two_bytes_fit}
 use Rattle.law_end.proofs.Division.Divided.{any_first}
 use Rattle.law_tap.specs.Losses.{nothing, kept, lost, IsSeenOf, IsLawfulWithLosses, IsCertain, IsFirstCertain}
 use Rattle.law_tap.specs.WorkedTap.{request_passes, hi_passes, ack_passes}
-use Rattle.law_tap.specs.WorkedLosses.{at_client, request_out, hi_in, ack_out, whole_read, read_without_block, at_server, request_in, hi_out, ho_out, changed_block}
+use Rattle.law_tap.specs.WorkedLosses.{at_client, request_out, hi_in, ack_out, whole_read, read_without_block, at_server, request_in, hi_out, ho_out, changed_block, ack_of_unseen, block_of_unseen_start, block_of_unseen_ack, block_of_unseen_other, zero_of_unseen_oack}
 use Rattle.law_tap.proofs.Certain.{lawful_lossy, none_certain}
 use Rattle.law_tap.proofs.ChangedBlock.{sent_block_stays}
 
--- ---- what the client did
+-- ---- what was seen of what an end did
 
-pub ack_alone : IsView two_bytes two_bytes.file Client (Sent (Ack 1) ∷ Sent Req ∷ []) → ⊥
+not_there : (d x : Deed) (h : History) → (d ≡ x → ⊥) → (Contains h x → ⊥) → Contains (d ∷ h) x → ⊥
+not_there d x h other none at = elim (contains_cases d h x at) [ inl now ↦ other now | inr before ↦ none before ]
+
+pub ack_alone : IsView two_bytes two_bytes.file Client ack_of_unseen → ⊥
 ack_alone view =
-    let own = view_one_sided two_bytes two_bytes.file Client (Sent (Ack 1) ∷ Sent Req ∷ []) view in
-    elim (contains_cases (Sent Req) [] (Took (Data 1)) (own.0.taken 1 (omega arith) (omega arith))) [ inl now ↦ absurd (cc) | inr none ↦ contains_none (Took (Data 1)) none ]
+    let own = view_one_sided two_bytes two_bytes.file Client ack_of_unseen view in
+    not_there (Sent Req) (Took (Data 1)) [] (λ e. absurd (cc)) (contains_none (Took (Data 1))) (own.0.taken 1 (omega arith) (omega arith))
 
-pub ack_unseen : IsSeenOf two_bytes two_bytes.file Client (Sent (Ack 1) ∷ Sent Req ∷ [])
+pub ack_unseen : IsSeenOf two_bytes two_bytes.file Client ack_of_unseen
 ack_unseen = record {
   all = two_bytes_view;
   view = two_bytes_is_view;
   left = kept (Sent (Ack 1)) _ _ (lost (Took (Data 1)) _ _ (kept (Sent Req) _ _ nothing));
+}
+
+pub start_alone : IsView two_bytes_written two_bytes_written.file Client block_of_unseen_start → ⊥
+start_alone view =
+    let own = view_one_sided two_bytes_written two_bytes_written.file Client block_of_unseen_start view in
+    elim own.0.started [
+      | inl plain ↦ not_there (Sent Req) (Took (Ack 0)) [] (λ e. absurd (cc)) (contains_none (Took (Ack 0))) plain.1
+      | inr offer ↦ offer.0 refl
+    ]
+
+pub start_unseen : IsSeenOf two_bytes_written two_bytes_written.file Client block_of_unseen_start
+start_unseen = record {
+  all = two_bytes_written_view;
+  view = written_is_view;
+  left = lost (Took (Ack 1)) _ _ (kept (Sent (Data 1)) _ _ (lost (Took (Ack 0)) _ _ (kept (Sent Req) _ _ nothing)));
+}
+
+only_zero : (a : ℕ) → Contains (Sent (Ack 0) ∷ Took Oack ∷ Sent Req ∷ []) (Sent (Ack a)) → a ≡ 0
+only_zero a at = elim (contains_cases (Sent (Ack 0)) (Took Oack ∷ Sent Req ∷ []) (Sent (Ack a)) at) [
+  | inl now ↦ let same : 0 ≡ a = cc in sym same
+  | inr before ↦ absurd (not_there (Took Oack) (Sent (Ack a)) (Sent Req ∷ []) (λ e. absurd (cc)) (not_there (Sent Req) (Sent (Ack a)) [] (λ e. absurd (cc)) (contains_none (Sent (Ack a)))) before)
+]
+
+pub window_alone : IsView ten_bytes ten_bytes.file Client block_of_unseen_ack → ⊥
+window_alone view =
+    let own = view_one_sided ten_bytes ten_bytes.file Client block_of_unseen_ack view in
+    let (a, allowed, low) = own.0.in_window in
+    let zero : a ≡ 0 = elim allowed [ inl first ↦ first | inr sent ↦ only_zero a sent ] in
+    absurd (omega (arith, zero, low, one_at_a_time))
+
+pub window_unseen : IsSeenOf ten_bytes ten_bytes.file Client block_of_unseen_ack
+window_unseen = record {
+  all = ten_bytes_view;
+  view = ten_bytes_is_view;
+  left = lost (Sent (Ack 2)) _ _
+      (kept (Took (Data 2)) _ _ (lost (Sent (Ack 1)) _ _ (lost (Took (Data 1)) _ _ (kept (Sent (Ack 0)) _ _ (kept (Took Oack) _ _ (kept (Sent Req) _ _ nothing))))));
+}
+
+pub other_alone : IsView six_blocks six_blocks.file Server block_of_unseen_other → ⊥
+other_alone view =
+    let own = view_one_sided six_blocks six_blocks.file Server block_of_unseen_other view in
+    elim own.0.in_order [
+      | inl first ↦ absurd (omega (arith, first))
+      | inr sent ↦ not_there (Took (Ack 0)) (Sent (Data 1)) (Sent Oack ∷ Took Req ∷ []) (λ e. absurd (cc))
+          (not_there (Sent Oack) (Sent (Data 1)) (Took Req ∷ []) (λ e. absurd (cc)) (not_there (Took Req) (Sent (Data 1)) [] (λ e. absurd (cc)) (contains_none (Sent (Data 1)))))
+          sent
+    ]
+
+pub other_unseen : IsSeenOf six_blocks six_blocks.file Server block_of_unseen_other
+other_unseen = record {
+  all = six_blocks_server_view;
+  view = six_server_view;
+  left = lost (Took (Ack 6)) _ _ (lost (Sent (Data 6)) _ _ (lost (Sent (Data 5)) _ _ (lost (Took (Ack 2)) _ _ (lost (Sent (Data 4)) _ _ (lost (Sent (Data 3)) _ _
+      (kept (Sent (Data 2)) _ _ (lost (Sent (Data 1)) _ _ (kept (Took (Ack 0)) _ _ (kept (Sent Oack) _ _ (kept (Took Req) _ _ nothing))))))))));
+}
+
+pub zero_alone : IsView ten_bytes ten_bytes.file Client zero_of_unseen_oack → ⊥
+zero_alone view =
+    let own = view_one_sided ten_bytes ten_bytes.file Client zero_of_unseen_oack view in
+    not_there (Sent Req) (Took Oack) [] (λ e. absurd (cc)) (contains_none (Took Oack)) (own.0.zero refl).1
+
+pub zero_unseen : IsSeenOf ten_bytes ten_bytes.file Client zero_of_unseen_oack
+zero_unseen = record {
+  all = ten_bytes_view;
+  view = ten_bytes_is_view;
+  left = lost (Sent (Ack 2)) _ _
+      (lost (Took (Data 2)) _ _ (lost (Sent (Ack 1)) _ _ (lost (Took (Data 1)) _ _ (kept (Sent (Ack 0)) _ _ (lost (Took Oack) _ _ (kept (Sent Req) _ _ nothing))))));
 }
 
 -- ---- payloads

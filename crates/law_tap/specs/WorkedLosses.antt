@@ -1,14 +1,14 @@
--- Small recordings that miss datagrams: of a read of a file "a" of two bytes, without options. Those at an end have the oldest
--- first, what passed between the ends the newest.
+-- Small recordings that miss datagrams. Datagrams at an end have the oldest first, what an end did and what passed between the
+-- ends the newest.
 use Rattle.std.specs.Prelude.{ℕ, List, [], ◌∷◌, codes}
 use Rattle.tftp_packet.specs.{Client, Server, In, Out}
 use Rattle.tftp_packet.specs.Hosts.{Datagram, Header}
-use Rattle.law_model.specs.Model.{Req, Oack, Data, Ack}
+use Rattle.law_model.specs.Model.{Sent, Took, Req, Oack, Data, Ack, History}
 use Rattle.law_tap.specs.Tap.{Pass}
 use Rattle.law_tap.specs.WorkedTap.{request_passes, hi_passes, ack_passes}
 use Rattle.law_tap.specs.TapCapture.{TapDatagram}
 
--- ---- at the client
+-- ---- a read of two bytes, at the client
 
 abbrev pub at_client : Header
 at_client = record { named = Client; service = 69 }
@@ -32,7 +32,7 @@ whole_read = request_out ∷ hi_in ∷ ack_out ∷ []
 abbrev pub read_without_block : List Datagram
 read_without_block = request_out ∷ ack_out ∷ []
 
--- ---- at the server
+-- ---- and at the server
 
 abbrev pub at_server : Header
 at_server = record { named = Server; service = 69 }
@@ -50,6 +50,28 @@ ho_out = record { dir = Out; local = 41000; host = codes "10.0.0.2"; remote = 40
 -- the server changes block 1
 abbrev pub changed_block : List Datagram
 changed_block = request_in ∷ hi_out ∷ ho_out ∷ []
+
+-- ---- what was seen of what an end did
+
+-- the client of a read acknowledges block 1, which was not seen
+abbrev pub ack_of_unseen : History
+ack_of_unseen = Sent (Ack 1) ∷ Sent Req ∷ []
+
+-- the client of a write sends block 1, and no ACK 0 was seen
+abbrev pub block_of_unseen_start : History
+block_of_unseen_start = Sent (Data 1) ∷ Sent Req ∷ []
+
+-- block 2 comes to the client of a read in lock step, and no ACK of block 1 was seen
+abbrev pub block_of_unseen_ack : History
+block_of_unseen_ack = Took (Data 2) ∷ Sent (Ack 0) ∷ Took Oack ∷ Sent Req ∷ []
+
+-- the server of a read in a window of four sends block 2, and block 1 was not seen
+abbrev pub block_of_unseen_other : History
+block_of_unseen_other = Sent (Data 2) ∷ Took (Ack 0) ∷ Sent Oack ∷ Took Req ∷ []
+
+-- the client of a read with options takes the OACK, which was not seen
+abbrev pub zero_of_unseen_oack : History
+zero_of_unseen_oack = Sent (Ack 0) ∷ Sent Req ∷ []
 
 -- ---- between the ends
 
