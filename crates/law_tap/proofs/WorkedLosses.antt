@@ -103,7 +103,7 @@ zero_unseen = record {
 
 -- ---- payloads
 
-one_pair : IsPair 0 1 1
+pub one_pair : IsPair 0 1 1
 one_pair = (omega arith, omega arith, omega arith)
 
 request_says : Spells request_passes.payload (Message.Request (request_of two_bytes))
@@ -125,13 +125,13 @@ request_says = (
 first_block_says : (one other : ℕ) → one < 256 → other < 256 → Spells (0 ∷ 3 ∷ 0 ∷ 1 ∷ one ∷ other ∷ []) (Message.Data 1 (one ∷ other ∷ []))
 first_block_says one other byte also = ((omega arith, (omega arith, (omega arith, (omega arith, (byte, (also, tt)))))), (0, 1, one_pair, refl))
 
-hi_says : Spells hi_passes.payload (Message.Data 1 (block 512 two_bytes.file 1))
+pub hi_says : Spells hi_passes.payload (Message.Data 1 (block 512 two_bytes.file 1))
 hi_says = first_block_says 104 105 (omega arith) (omega arith)
 
 hi_is_block : Spells hi_passes.payload (Message.Data 1 (block (blksize_of two_bytes) two_bytes.file 1))
 hi_is_block = subst (λ b. Spells hi_passes.payload (Message.Data 1 (block b two_bytes.file 1))) (sym (default_blksize two_bytes refl)) hi_says
 
-ack_says : Spells ack_passes.payload (Message.Ack 1)
+pub ack_says : Spells ack_passes.payload (Message.Ack 1)
 ack_says = ((omega arith, (omega arith, (omega arith, (omega arith, tt)))), (0, 1, one_pair, refl))
 
 -- ---- at the client

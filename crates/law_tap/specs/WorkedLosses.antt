@@ -51,6 +51,28 @@ ho_out = record { dir = Out; local = 41000; host = codes "10.0.0.2"; remote = 40
 abbrev pub changed_block : List Datagram
 changed_block = request_in ∷ hi_out ∷ ho_out ∷ []
 
+-- ---- a write of two bytes, at the server
+
+-- WRQ "a" in mode "octet", ACK 0, DATA 1 and ACK 1
+abbrev pub write_in : Datagram
+write_in = record { dir = In; local = 69; host = codes "10.0.0.2"; remote = 40000; payload = 0 ∷ 2 ∷ 97 ∷ 0 ∷ 111 ∷ 99 ∷ 116 ∷ 101 ∷ 116 ∷ 0 ∷ [] }
+
+abbrev pub zero_out : Datagram
+zero_out = record { dir = Out; local = 41000; host = codes "10.0.0.2"; remote = 40000; payload = 0 ∷ 4 ∷ 0 ∷ 0 ∷ [] }
+
+abbrev pub block_in : Datagram
+block_in = record { dir = In; local = 41000; host = codes "10.0.0.2"; remote = 40000; payload = hi_passes.payload }
+
+abbrev pub one_out : Datagram
+one_out = record { dir = Out; local = 41000; host = codes "10.0.0.2"; remote = 40000; payload = ack_passes.payload }
+
+abbrev pub whole_write : List Datagram
+whole_write = write_in ∷ zero_out ∷ block_in ∷ one_out ∷ []
+
+-- the recorder missed the block
+abbrev pub write_without_block : List Datagram
+write_without_block = write_in ∷ zero_out ∷ one_out ∷ []
+
 -- ---- what was seen of what an end did
 
 -- the client of a read acknowledges block 1, which was not seen

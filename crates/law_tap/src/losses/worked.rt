@@ -1,13 +1,21 @@
 //! Worked cases of recordings at an end that miss datagrams. Each is the contract of a function that does nothing.
 
-ghost use Rattle.std.specs.Prelude.{ℕ};
+ghost use Rattle.std.specs.Prelude.{ℕ, [], ◌∷◌};
 ghost use Rattle.tftp_packet.specs.{Client, Server};
 ghost use Rattle.law_model.specs.Model.{IsView, two_bytes, two_bytes_written, ten_bytes, six_blocks};
+ghost use Rattle.law_model.specs.{EndRule, PortRule};
+ghost use Rattle.law_end.specs.{Broken, Rule};
 ghost use Rattle.law_tap.specs.Losses.{IsSeenOf, IsLawfulWithLosses, IsCertain, IsFirstCertain};
 ghost use Rattle.law_tap.specs.WorkedLosses.{
   at_client,
   at_server,
+  request_out,
+  ack_out,
   read_without_block,
+  write_in,
+  zero_out,
+  one_out,
+  write_without_block,
   changed_block,
   ack_of_unseen,
   block_of_unseen_start,
@@ -16,12 +24,20 @@ ghost use Rattle.law_tap.specs.WorkedLosses.{
   zero_of_unseen_oack,
 };
 
-/// An ACK of a block that was never seen is not certain: what comes in may have been missed.
+/// An ACK of a block that was never seen is not certain: what comes in may have been missed. Without losses the datagram is
+/// refused by rule 2, since nothing came from where it goes.
 pub fn an_ack_ahead_is_not_certain()
     ensures unlawful { IsView two_bytes two_bytes.file Client ack_of_unseen → ⊥ }
     ensures seen { IsSeenOf two_bytes two_bytes.file Client ack_of_unseen }
+    ensures broken { Broken at_client (request_out ∷ []) ack_out (Rule.Port PortRule.Wrong) }
     ensures lawful { IsLawfulWithLosses at_client read_without_block }
     ensures certain { (i : ℕ) → IsCertain at_client read_without_block i → ⊥ }
+{}
+
+/// So it is at the server of a write, where such an ACK breaks rule 26.
+pub fn an_ack_ahead_of_a_write_is_not_certain()
+    ensures broken { Broken at_server (zero_out ∷ write_in ∷ []) one_out (Rule.Block EndRule.AckAhead) }
+    ensures lawful { IsLawfulWithLosses at_server write_without_block }
 {}
 
 /// A server that sends block 1 with other bytes is refused at that datagram, whatever is missing.
