@@ -1,0 +1,114 @@
+-- Small recordings that miss datagrams. Datagrams at an end have the oldest first, what an end did and what passed between the
+-- ends the newest.
+use Rattle.std.specs.Prelude.{ℕ, List, [], ◌∷◌, codes}
+use Rattle.tftp_packet.specs.{Client, Server, In, Out}
+use Rattle.tftp_packet.specs.Hosts.{Datagram, Header}
+use Rattle.law_model.specs.Model.{Sent, Took, Req, Oack, Data, Ack, History}
+use Rattle.law_tap.specs.Tap.{Pass}
+use Rattle.law_tap.specs.WorkedTap.{request_passes, hi_passes, ack_passes}
+use Rattle.law_tap.specs.TapCapture.{TapDatagram}
+
+-- ---- a read of two bytes, at the client
+
+abbrev pub at_client : Header
+at_client = record { named = Client; service = 69 }
+
+-- RRQ "a" in mode "octet"
+abbrev pub request_out : Datagram
+request_out = record { dir = Out; local = 40000; host = codes "10.0.0.1"; remote = 69; payload = request_passes.payload }
+
+-- DATA 1, "hi"
+abbrev pub hi_in : Datagram
+hi_in = record { dir = In; local = 40000; host = codes "10.0.0.1"; remote = 41000; payload = hi_passes.payload }
+
+-- ACK 1
+abbrev pub ack_out : Datagram
+ack_out = record { dir = Out; local = 40000; host = codes "10.0.0.1"; remote = 41000; payload = ack_passes.payload }
+
+abbrev pub whole_read : List Datagram
+whole_read = request_out ∷ hi_in ∷ ack_out ∷ []
+
+-- the recorder missed the block
+abbrev pub read_without_block : List Datagram
+read_without_block = request_out ∷ ack_out ∷ []
+
+-- ---- and at the server
+
+abbrev pub at_server : Header
+at_server = record { named = Server; service = 69 }
+
+abbrev pub request_in : Datagram
+request_in = record { dir = In; local = 69; host = codes "10.0.0.2"; remote = 40000; payload = request_passes.payload }
+
+abbrev pub hi_out : Datagram
+hi_out = record { dir = Out; local = 41000; host = codes "10.0.0.2"; remote = 40000; payload = hi_passes.payload }
+
+-- DATA 1, "ho"
+abbrev pub ho_out : Datagram
+ho_out = record { dir = Out; local = 41000; host = codes "10.0.0.2"; remote = 40000; payload = 0 ∷ 3 ∷ 0 ∷ 1 ∷ 104 ∷ 111 ∷ [] }
+
+-- the server changes block 1
+abbrev pub changed_block : List Datagram
+changed_block = request_in ∷ hi_out ∷ ho_out ∷ []
+
+-- ---- a write of two bytes, at the server
+
+-- WRQ "a" in mode "octet", ACK 0, DATA 1 and ACK 1
+abbrev pub write_in : Datagram
+write_in = record { dir = In; local = 69; host = codes "10.0.0.2"; remote = 40000; payload = 0 ∷ 2 ∷ 97 ∷ 0 ∷ 111 ∷ 99 ∷ 116 ∷ 101 ∷ 116 ∷ 0 ∷ [] }
+
+abbrev pub zero_out : Datagram
+zero_out = record { dir = Out; local = 41000; host = codes "10.0.0.2"; remote = 40000; payload = 0 ∷ 4 ∷ 0 ∷ 0 ∷ [] }
+
+abbrev pub block_in : Datagram
+block_in = record { dir = In; local = 41000; host = codes "10.0.0.2"; remote = 40000; payload = hi_passes.payload }
+
+abbrev pub one_out : Datagram
+one_out = record { dir = Out; local = 41000; host = codes "10.0.0.2"; remote = 40000; payload = ack_passes.payload }
+
+abbrev pub whole_write : List Datagram
+whole_write = write_in ∷ zero_out ∷ block_in ∷ one_out ∷ []
+
+-- the recorder missed the block
+abbrev pub write_without_block : List Datagram
+write_without_block = write_in ∷ zero_out ∷ one_out ∷ []
+
+-- ---- what was seen of what an end did
+
+-- the client of a read acknowledges block 1, which was not seen
+abbrev pub ack_of_unseen : History
+ack_of_unseen = Sent (Ack 1) ∷ Sent Req ∷ []
+
+-- the client of a write sends block 1, and no ACK 0 was seen
+abbrev pub block_of_unseen_start : History
+block_of_unseen_start = Sent (Data 1) ∷ Sent Req ∷ []
+
+-- block 2 comes to the client of a read in lock step, and no ACK of block 1 was seen
+abbrev pub block_of_unseen_ack : History
+block_of_unseen_ack = Took (Data 2) ∷ Sent (Ack 0) ∷ Took Oack ∷ Sent Req ∷ []
+
+-- the server of a read in a window of four sends block 2, and block 1 was not seen
+abbrev pub block_of_unseen_other : History
+block_of_unseen_other = Sent (Data 2) ∷ Took (Ack 0) ∷ Sent Oack ∷ Took Req ∷ []
+
+-- the client of a read with options takes the OACK, which was not seen
+abbrev pub zero_of_unseen_oack : History
+zero_of_unseen_oack = Sent (Ack 0) ∷ Sent Req ∷ []
+
+-- ---- between the ends
+
+-- the recorder missed the block
+abbrev pub ack_between : List TapDatagram
+ack_between = ack_passes ∷ request_passes ∷ []
+
+-- the ACK passed before the block
+abbrev pub ack_before_block : List Pass
+ack_before_block =
+    record { from = Server; packet = Data 1 }
+    ∷ record { from = Client; packet = Ack 1 }
+    ∷ record { from = Client; packet = Req }
+    ∷ []
+
+-- an OACK where nothing is agreed
+abbrev pub oack_of_nothing : List Pass
+oack_of_nothing = record { from = Server; packet = Oack } ∷ []

@@ -1,0 +1,101 @@
+//! Laws of the definitions in `specs/Losses.antt`. Each is the contract of a function that does nothing.
+
+ghost use Rattle.std.specs.Prelude.{◌≡◌, ℕ, ◌+◌, ◌<◌, ◌≤◌, List, [], ◌∷◌, Contains, length, take};
+ghost use Rattle.tftp_packet.specs.{End, Message, Out, Spells};
+ghost use Rattle.tftp_packet.specs.Hosts.{Datagram, Header};
+ghost use Rattle.law_model.specs.Model.{
+  Meaning,
+  MachinePacket,
+  Deed,
+  History,
+  HasSent,
+  MaySend,
+  windowsize_of,
+  IsView,
+};
+ghost use Rattle.law_end.specs.{IsLawful, IsLawfulUpTo};
+ghost use Rattle.law_tap.specs.Losses.{
+  Loses,
+  IsSeenOf,
+  Noted,
+  IsNotedOf,
+  IsLawfulWithLosses,
+  IsCertain,
+  IsFirstCertain,
+};
+
+/// What is lawful is lawful with losses, and what is left of what is lawful with losses is so too.
+pub fn less_is_lawful_with_losses()
+    ensures lawful { (header : Header) (datagrams : List Datagram) → IsLawful header datagrams → IsLawfulWithLosses header datagrams }
+    ensures less { (header : Header) (datagrams rest : List Datagram) → Loses Datagram datagrams rest
+        → IsLawfulWithLosses header datagrams → IsLawfulWithLosses header rest }
+{}
+
+/// A datagram that is certain stays so, by whatever number, however many missing ones are found and put in before it or after
+/// it; and each later one is certain too.
+pub fn what_is_certain_stays_certain()
+    ensures found { (header : Header) (all datagrams : List Datagram) (i j : ℕ) → IsCertain header datagrams i → j < length all
+        → Loses Datagram (take (j + 1) all) (take (i + 1) datagrams) → IsCertain header all j }
+    ensures later { (header : Header) (datagrams : List Datagram) (i j : ℕ) → IsCertain header datagrams i → i ≤ j
+        → j < length datagrams → IsCertain header datagrams j }
+{}
+
+/// A list that is lawful with losses has no certain datagram. Another one has one first certain datagram: it has not two, and
+/// that it has none cannot be.
+pub fn there_is_one_first_certain_datagram()
+    ensures none { (header : Header) (datagrams : List Datagram) (i : ℕ) → IsLawfulWithLosses header datagrams
+        → IsCertain header datagrams i → ⊥ }
+    ensures one { (header : Header) (datagrams : List Datagram) (i j : ℕ) → IsFirstCertain header datagrams i
+        → IsFirstCertain header datagrams j → i ≡ j }
+    ensures some { (header : Header) (datagrams : List Datagram) → (IsLawfulWithLosses header datagrams → ⊥)
+        → ((i : ℕ) → IsFirstCertain header datagrams i → ⊥) → ⊥ }
+{}
+
+/// What is certain is refused without losses too, there or before.
+pub fn what_is_certain_is_unlawful()
+    ensures { (header : Header) (datagrams : List Datagram) (i j : ℕ) → IsCertain header datagrams i
+        → IsLawfulUpTo header datagrams j → j ≤ i }
+{}
+
+/// The newest deed that was seen stands in a view of that end behind all that was seen before it.
+pub fn what_was_seen_was_done()
+    ensures { (m : Meaning) (wire : List ℕ) (e : End) (d : Deed) (seen : History) → IsSeenOf m wire e (d ∷ seen)
+        → (before : History) × IsView m wire e (d ∷ before) × Loses Deed before seen }
+{}
+
+/// So what it sent was allowed by all that it had done by then, seen or not, and each rule that forbids an end to send a packet
+/// after another one stands, whatever is missing.
+pub fn what_was_seen_sent_was_allowed()
+    ensures { (m : Meaning) (wire : List ℕ) (e : End) (p : MachinePacket) (seen : History)
+        → IsSeenOf m wire e (Deed.Sent p ∷ seen)
+        → (before : History) × IsView m wire e before × Loses Deed before seen × MaySend m wire e before p }
+{}
+
+/// An end that was seen to send an ERROR sends nothing else, whatever is missing.
+pub fn nothing_follows_an_error_with_losses()
+    ensures { (m : Meaning) (wire : List ℕ) (e : End) (p : MachinePacket) (seen : History) (code : ℕ) (text : List ℕ)
+        → IsSeenOf m wire e (Deed.Sent p ∷ seen) → HasSent seen (MachinePacket.Error code text) → p ≡ MachinePacket.Error code text }
+{}
+
+/// In lock step no block is sent after a higher one, whatever is missing.
+pub fn lock_step_goes_on_with_losses()
+    ensures { (m : Meaning) (wire : List ℕ) (e : End) (k higher : ℕ) (seen : History) → windowsize_of m ≡ 1
+        → IsSeenOf m wire e (Deed.Sent (MachinePacket.Data k) ∷ seen) → HasSent seen (MachinePacket.Data higher) → higher ≤ k }
+{}
+
+/// A client that was seen to send a block or an ACK sends no request after it, whatever is missing.
+pub fn the_request_comes_first_with_losses()
+    ensures { (m : Meaning) (wire : List ℕ) (e : End) (seen : History) → IsSeenOf m wire e (Deed.Sent MachinePacket.Req ∷ seen)
+        → ((k : ℕ) → HasSent seen (MachinePacket.Data k) → ⊥) × ((j : ℕ) → HasSent seen (MachinePacket.Ack j) → ⊥) }
+{}
+
+/// A changed block is certain: two payloads of one end that spell one block have the same bytes, whatever is missing. So have
+/// two datagrams that its end sent.
+pub fn a_changed_block_is_certain()
+    ensures noted { (m : Meaning) (wire : List ℕ) (e : End) (noted : List Noted) (one other : Noted) (k : ℕ) (bytes changed : List ℕ)
+        → IsNotedOf m wire e noted → Contains noted one → Contains noted other
+        → Spells one.payload (Message.Data k bytes) → Spells other.payload (Message.Data k changed) → bytes ≡ changed }
+    ensures sent { (header : Header) (datagrams : List Datagram) (one other : Datagram) (k : ℕ) (bytes changed : List ℕ)
+        → IsLawfulWithLosses header datagrams → Contains datagrams one → Contains datagrams other → one.dir ≡ Out → other.dir ≡ Out
+        → Spells one.payload (Message.Data k bytes) → Spells other.payload (Message.Data k changed) → bytes ≡ changed }
+{}

@@ -1,0 +1,71 @@
+//! Worked cases of recordings at an end that miss datagrams. Each is the contract of a function that does nothing.
+
+ghost use Rattle.std.specs.Prelude.{ℕ, [], ◌∷◌};
+ghost use Rattle.tftp_packet.specs.{Client, Server};
+ghost use Rattle.law_model.specs.Model.{IsView, two_bytes, two_bytes_written, ten_bytes, six_blocks};
+ghost use Rattle.law_model.specs.{EndRule, PortRule};
+ghost use Rattle.law_end.specs.{Broken, Rule};
+ghost use Rattle.law_tap.specs.Losses.{IsSeenOf, IsLawfulWithLosses, IsCertain, IsFirstCertain};
+ghost use Rattle.law_tap.specs.WorkedLosses.{
+  at_client,
+  at_server,
+  request_out,
+  ack_out,
+  read_without_block,
+  write_in,
+  zero_out,
+  one_out,
+  write_without_block,
+  changed_block,
+  ack_of_unseen,
+  block_of_unseen_start,
+  block_of_unseen_ack,
+  block_of_unseen_other,
+  zero_of_unseen_oack,
+};
+
+/// An ACK of a block that was never seen is not certain: what comes in may have been missed. Without losses the datagram is
+/// refused by rule 2, since nothing came from where it goes.
+pub fn an_ack_ahead_is_not_certain()
+    ensures unlawful { IsView two_bytes two_bytes.file Client ack_of_unseen → ⊥ }
+    ensures seen { IsSeenOf two_bytes two_bytes.file Client ack_of_unseen }
+    ensures broken { Broken at_client (request_out ∷ []) ack_out (Rule.Port PortRule.Wrong) }
+    ensures lawful { IsLawfulWithLosses at_client read_without_block }
+    ensures certain { (i : ℕ) → IsCertain at_client read_without_block i → ⊥ }
+{}
+
+/// So it is at the server of a write, where such an ACK breaks rule 26.
+pub fn an_ack_ahead_of_a_write_is_not_certain()
+    ensures broken { Broken at_server (zero_out ∷ write_in ∷ []) one_out (Rule.Block EndRule.AckAhead) }
+    ensures lawful { IsLawfulWithLosses at_server write_without_block }
+{}
+
+/// A server that sends block 1 with other bytes is refused at that datagram, whatever is missing.
+pub fn a_server_that_changes_a_block_is_certain()
+    ensures { IsFirstCertain at_server changed_block 2 }
+{}
+
+/// A block that a client sends before an answer was seen (rule 18) is not certain: the answer may have been missed.
+pub fn a_block_before_its_start_is_not_certain()
+    ensures unlawful { IsView two_bytes_written two_bytes_written.file Client block_of_unseen_start → ⊥ }
+    ensures seen { IsSeenOf two_bytes_written two_bytes_written.file Client block_of_unseen_start }
+{}
+
+/// A block that comes beyond the window (rule 22) is not certain: the ACK that allows it may have been missed.
+pub fn a_block_beyond_the_window_is_not_certain()
+    ensures unlawful { IsView ten_bytes ten_bytes.file Client block_of_unseen_ack → ⊥ }
+    ensures seen { IsSeenOf ten_bytes ten_bytes.file Client block_of_unseen_ack }
+{}
+
+/// A block that a server sends before the one below it (rule 23) is not certain: that one may have been missed. The window
+/// allows both.
+pub fn a_block_that_skips_one_is_not_certain()
+    ensures unlawful { IsView six_blocks six_blocks.file Server block_of_unseen_other → ⊥ }
+    ensures seen { IsSeenOf six_blocks six_blocks.file Server block_of_unseen_other }
+{}
+
+/// An ACK 0 of a read before its OACK was seen (rule 27) is not certain: the OACK may have been missed.
+pub fn an_ack_zero_before_its_oack_is_not_certain()
+    ensures unlawful { IsView ten_bytes ten_bytes.file Client zero_of_unseen_oack → ⊥ }
+    ensures seen { IsSeenOf ten_bytes ten_bytes.file Client zero_of_unseen_oack }
+{}
