@@ -285,6 +285,10 @@ class States(Checks):
         got = tried([], [other]).says()
         self.check("by the other leg", got == f"{words}, by the server's leg", got)
         server = Row(2, "client", refused, (), 7, Accused("server", LOOPBACK, 1))
+        its_own = Row(2, "server", refused, (), 5, Accused("server", LOOPBACK, 69))
+        got = tried([server], [its_own]).says()
+        told = f"rule {Rule.ACK_AHEAD}, accused the server at {LOOPBACK}:69"
+        self.check("the server, by both legs", got == told, got)
         got = tried([own, server], [other]).says()
         told = f"{words}; rule {Rule.ACK_AHEAD}, accused the server at {LOOPBACK}:69, by the client's leg"
         self.check("both ends", got == told, got)
