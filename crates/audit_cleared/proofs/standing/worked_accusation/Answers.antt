@@ -1,4 +1,4 @@
-use Rattle.std.proofs.Common.{◌≡◌, ℕ, true, false, Some, refl, sym, subst, ◌∙◌, ap}
+use Rattle.std.proofs.Common.{◌≡◌, ℕ, true, false, [], Some, refl, sym, subst, ◌∙◌, ap}
 use Rattle.audit_views.specs.Views.Worked.{first_transfer}
 use Rattle.audit_recording.specs.Blame.Frames.{Framed, seen_as, whole_of}
 use Rattle.audit_recording.specs.Blame.Worked.{in_even_frames}
