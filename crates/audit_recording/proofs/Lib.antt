@@ -4,4 +4,5 @@ pub mod AuditLemmas
 pub mod RowsLemmas
 pub mod ReasonsLemmas
 pub mod LossesLemmas
+pub mod SessionLemmas
 pub mod BlameLemmas

@@ -4,6 +4,7 @@ pub mod Audit
 pub mod Rows
 pub mod Reasons
 pub mod Losses
+pub mod Session
 pub mod Blame
 pub use declared.judges.judging.Judging.{Judging}
 pub use declared.audit.next.AuditFault.{AuditFault}

@@ -1,6 +1,6 @@
 //! What is kept of a transfer beside its judges.
 
-ghost use Rattle.std.specs.Prelude.{◌≡◌, ◌∷◌, ◌||◌, not, [], ℕ, List, IsSome, None, OnOk, filter, true};
+ghost use Rattle.std.specs.Prelude.{◌≡◌, ◌∷◌, ◌||◌, not, [], ℕ, List, IsSome, None, OnOk, Some, filter, true};
 ghost use Rattle.law_model.specs.Rules.{or_this};
 ghost use Rattle.audit_flows.specs.Lines.{Placed, doubts_of, same_endpoint, transfer_of};
 ghost use Rattle.audit_flows.specs.{Transfer};
@@ -13,6 +13,7 @@ ghost use Rattle.audit_recording.specs.Judges.Kept.{IsWatching};
 ghost use Rattle.audit_recording.specs.Judges.Points.{points_of};
 ghost use Rattle.audit_recording.specs.declared.judges.judging.Judging.{Judging as JudgingKind};
 ghost use Rattle.audit_recording.specs.declared.rows.row.Point.{Point as PointKind};
+ghost use Rattle.audit_recording.specs.Session.Intact.{discarding};
 ghost use Rattle.audit_views.specs.Parties.{host_name};
 ghost use Rattle.audit_views.specs.Views.{IsJudgedWith, client_capture, client_header, server_capture, server_header};
 ghost use Rattle.law_tap.specs.{AreApart};
@@ -190,12 +191,16 @@ impl Trail {
     }
 
     /// The first spoilt datagram of its client, and the first to its client.
-    pub fn spoilt(&self) -> [Option<Spoilt>; 2] {
-        [self.from_client, self.to_client]
+    pub fn spoilt(&self) -> (Option<Spoilt>, Option<Spoilt>)
+        ensures from { result.0 ≡ self.now.from_client }
+        ensures to { result.1 ≡ self.now.to_client }
+    {
+        (self.from_client, self.to_client)
     }
 
     /// Notes that its receiver discarded a spoilt datagram: its host's hardware makes no checksums after the recording.
     pub fn discard(&mut self, spoilt: Spoilt)
+        ensures is { self.new ≡ discarding (Some spoilt.frame) self.old }
         ensures blame { self.new.blame ≡ self.old.blame }
         ensures stands { (judging : JudgingKind) (x : Transfer) (named : List ℕ) (carried : List Carried) → IsTrailOf self.old judging x named carried
             → IsTrailOf self.new judging x named carried }
@@ -203,8 +208,10 @@ impl Trail {
         ensures request { self.new.request ≡ self.old.request }
         ensures left_out { self.new.left_out ≡ self.old.left_out }
     {
-        let earlier = self.discarded.unwrap_or(spoilt.frame);
-        self.discarded = Some(earlier.min(spoilt.frame));
+        self.discarded = match self.discarded {
+            Some(earlier) => Some(earlier.min(spoilt.frame)),
+            None => Some(spoilt.frame),
+        };
     }
 
     /// Notes that a datagram at its client's endpoint was left out, whose time is within the transfer's: the first one is kept.

@@ -7,6 +7,7 @@ ghost use Rattle.audit_recording.specs.Losses.Noted.Event.{Asks, Finds, GivesUp,
 ghost use Rattle.audit_recording.specs.Reasons.Clock.{HaveReached};
 ghost use Rattle.audit_recording.specs.Reasons.Unplaced.{after, latest_at, newest_of, worked_end};
 ghost use Rattle.audit_recording.specs.Reasons.Unplaced.Event.{Ends, Opens, Passes};
+ghost use Rattle.audit_recording.specs.Session.Intact.{before_opening, discarded_of, makes_checksums, newest_at, worked_gone, worked_host, worked_seen};
 
 /// A frame of other hosts that is lost, or that waits, makes nothing more missing of a client's host.
 pub fn what_others_lose_is_not_missing()
@@ -52,4 +53,23 @@ pub fn worked_unplaced()
     ensures at_once { after 40 (Some (record { frame = 5; time = 40 })) ≡ None }
     ensures ended { newest_of (worked_end 2000) (Ends (worked_end 2000) 3 ∷ Opens (worked_end 2000) 3 ∷ []) ≡ None }
     ensures goes_on { newest_of (worked_end 2000) (Ends (worked_end 2000) 3 ∷ Opens (worked_end 2000) 5 ∷ Opens (worked_end 2000) 3 ∷ []) ≡ Some 5 }
+{}
+
+/// Host 1 has sent a datagram with right checksums, so that its wrong one in frame 5 was discarded. Host 2 has not, and its wrong ones
+/// count for nothing; nor does one without checksums tell anything.
+pub fn worked_intact()
+    ensures right { makes_checksums worked_seen (worked_host 1) ≡ true }
+    ensures wrong { makes_checksums worked_seen (worked_host 2) ≡ false }
+    ensures absent { makes_checksums worked_seen (worked_host 3) ≡ false }
+    ensures discarded { discarded_of worked_seen (Some (record { frame = 5; host = worked_host 1 })) ≡ Some 5 }
+    ensures sent { discarded_of worked_seen (Some (record { frame = 3; host = worked_host 2 })) ≡ None }
+{}
+
+/// What was discarded in frame 7 at second 10 may have been of a transfer that is opened up to second 310, and of none later.
+pub fn worked_discarded()
+    ensures source { newest_at worked_gone.source (worked_gone ∷ []) ≡ Some worked_gone }
+    ensures target { newest_at worked_gone.target (worked_gone ∷ []) ≡ Some worked_gone }
+    ensures elsewhere { newest_at (worked_end 2001) (worked_gone ∷ []) ≡ None }
+    ensures soon { before_opening 310000000000 (Some worked_gone) ≡ Some 7 }
+    ensures later { before_opening 310000000001 (Some worked_gone) ≡ None }
 {}

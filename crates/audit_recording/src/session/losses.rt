@@ -200,7 +200,7 @@ impl Losses {
 }
 
 /// A host as an endpoint of port 0, which no datagram has.
-fn key_of(address: Address) -> Endpoint
+pub(crate) fn key_of(address: Address) -> Endpoint
     ensures { result ≡ host_end address }
 {
     Endpoint { address, port: 0 }

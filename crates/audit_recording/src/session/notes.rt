@@ -118,9 +118,7 @@ impl Notes {
 
     /// Notes a datagram's time and checksum.
     pub(crate) fn pass(&mut self, passing: &Passing<'_>) -> Result<(), AllocError> {
-        if passing.is_intact == Some(true) {
-            self.intact.note(passing.source.address)?;
-        }
+        self.intact.note(passing)?;
         match passing.time {
             Some(time) if self.clock.pass(time) => self.backwards.add(passing.frame),
             _ => Ok(()),

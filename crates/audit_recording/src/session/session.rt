@@ -113,19 +113,25 @@ impl Session {
         let source = party_of(datagram.source, datagram.source_port).end;
         let target = party_of(datagram.target, datagram.target_port).end;
         let time = self.notes.clock.time_of(event.time());
-        for end in [source, target] {
-            let spoilt = Spoilt {
-                frame: event.number(),
-                host: source.address,
-            };
-            self.notes.intact.discard(end, spoilt, time)?;
-            if let Some(number) = self.unplaced.newest(end) {
-                if let Some(trail) = self.trails.get_mut(&number) {
-                    trail.discard(spoilt);
-                }
-            }
-        }
+        let frame = event.number();
+        self.notes.intact.discard(source, target, frame, time)?;
+        let spoilt = Spoilt {
+            frame,
+            host: source.address,
+        };
+        self.discard_at(source, spoilt);
+        self.discard_at(target, spoilt);
         Ok(())
+    }
+
+    /// Notes it at the newest transfer of a client with this endpoint.
+    fn discard_at(&mut self, end: Endpoint, spoilt: Spoilt) {
+        let Some(number) = self.unplaced.newest(end) else {
+            return;
+        };
+        if let Some(trail) = self.trails.get_mut(&number) {
+            trail.discard(spoilt);
+        }
     }
 
     /// Notes a datagram that has its place.

@@ -1,0 +1,12 @@
+use Rattle.std.proofs.Common.{None, ap, sym, ◌∙◌, option_map}
+use Rattle.audit_recording.specs.declared.blame.spoilt.Spoilt.{Spoilt}
+use Rattle.audit_recording.specs.Session.Intact.{before_opening, newest_at}
+use Rattle.audit_recording.proofs.SessionLemmas.Intact.{discarding_it, discarding_none}
+use Rattle.audit_recording.proofs.session.intact.IntactHosts.open.Goals as goal
+
+pub returns-in-Some : goal.returns-in-Some
+returns-in-Some c = λ seen gone stands.
+    discarding_it c.args.trail.now c.discard.new.self (before_opening c.args.time (newest_at c.args.trail.now.transfer.client gone)) c.in-Some.spoilt (c.in-Some.ensures seen gone stands) c.discard.ensures.is
+
+pub returns-in-None : goal.returns-in-None
+returns-in-None c = λ seen gone stands. discarding_none c.args.trail.now (before_opening c.args.time (newest_at c.args.trail.now.transfer.client gone)) (sym (c.in-None.ensures seen gone stands))
