@@ -71,18 +71,37 @@ one_in P (x ∷ es) e (inl p) = inr (one_in P es e (inl p))
 one_in P (x ∷ es) e (inr (inl p)) = inl p
 one_in P (x ∷ es) e (inr (inr one)) = inr (one_in P es e (inr one))
 
+-- an extent that is there is noted
+one_same : (P : Extent → Type 0) (es : List Extent) (x : Extent) → OneOf (λ e. e ≡ x) es → P x → OneOf P es
+one_same P [] x none p = absurd none
+one_same P (e ∷ es) x (inl same) p = inl (subst P (sym same) p)
+one_same P (e ∷ es) x (inr there) p = inr (one_same P es x there p)
+
+-- with one more extent, which is there already or comes behind the others
+abbrev pub Noted : List Extent → Extent → List Extent → Type 0
+Noted old x new = (new ≡ old ++ x ∷ []) ⊎ ((new ≡ old) × OneOf (λ e. e ≡ x) old)
+
+noted_out : (P : Extent → Type 0) (old new : List Extent) (x : Extent) → Noted old x new → OneOf P new → P x ⊎ OneOf P old
+noted_out P old new x (inl more) one = one_out P old x (subst (OneOf P) more one)
+noted_out P old new x (inr same) one = inr (subst (OneOf P) same.0 one)
+
+noted_in : (P : Extent → Type 0) (old new : List Extent) (x : Extent) → Noted old x new → P x ⊎ OneOf P old → OneOf P new
+noted_in P old new x (inl more) one = subst (OneOf P) (sym more) (one_in P old x one)
+noted_in P old new x (inr same) (inl p) = subst (OneOf P) (sym same.0) (one_same P old x same.1 p)
+noted_in P old new x (inr same) (inr one) = subst (OneOf P) (sym same.0) one
+
 module _ (old new : SetState) (arrivals : List Arrival) (p : Part) (is : IsSetOf old arrivals) (sound : old.spoiled ≡ false) where
   -- the extents tell of the part too
-  tells : new.extents ≡ old.extents ++ extent_of p ∷ [] → (e : Extent) → OneOf (Overlap e) new.extents → Overlap e (extent_of p) ⊎ Among (λ q. Overlap e (extent_of q)) (parts_of arrivals)
-  tells more e one = elim (one_out (Overlap e) old.extents (extent_of p) (subst (OneOf (Overlap e)) more one)) [ inl here ↦ inl here | inr before ↦ inr ((is.extents sound e).0 before) ]
+  tells : Noted old.extents (extent_of p) new.extents → (e : Extent) → OneOf (Overlap e) new.extents → Overlap e (extent_of p) ⊎ Among (λ q. Overlap e (extent_of q)) (parts_of arrivals)
+  tells more e one = elim (noted_out (Overlap e) old.extents new.extents (extent_of p) more one) [ inl here ↦ inl here | inr before ↦ inr ((is.extents sound e).0 before) ]
 
-  told : new.extents ≡ old.extents ++ extent_of p ∷ [] → (e : Extent) → Overlap e (extent_of p) ⊎ Among (λ q. Overlap e (extent_of q)) (parts_of arrivals) → OneOf (Overlap e) new.extents
-  told more e (inl here) = subst (OneOf (Overlap e)) (sym more) (one_in (Overlap e) old.extents (extent_of p) (inl here))
-  told more e (inr before) = subst (OneOf (Overlap e)) (sym more) (one_in (Overlap e) old.extents (extent_of p) (inr ((is.extents sound e).1 before)))
+  told : Noted old.extents (extent_of p) new.extents → (e : Extent) → Overlap e (extent_of p) ⊎ Among (λ q. Overlap e (extent_of q)) (parts_of arrivals) → OneOf (Overlap e) new.extents
+  told more e (inl here) = noted_in (Overlap e) old.extents new.extents (extent_of p) more (inl here)
+  told more e (inr before) = noted_in (Overlap e) old.extents new.extents (extent_of p) more (inr ((is.extents sound e).1 before))
 
   -- the set is that of the fragments and this one, whose part it is
   pub joined_with : (frame : ℕ) → MayJoin old p → new.spoiled ≡ false → (StandsFor old.held (parts_of arrivals) → StandsFor new.held (p ∷ parts_of arrivals)) → new.frames ≡ old.frames ++ frame ∷ []
-      → new.extents ≡ old.extents ++ extent_of p ∷ [] → (a : Arrival) → p ≡ a.part → frame ≡ a.frame → IsSetOf new (a ∷ arrivals)
+      → Noted old.extents (extent_of p) new.extents → (a : Arrival) → p ≡ a.part → frame ≡ a.frame → IsSetOf new (a ∷ arrivals)
   joined_with frame join kept stands told_frames more a same_part same_frame = record {
     held = λ e. subst (λ (q : Part). StandsFor new.held (q ∷ parts_of arrivals)) same_part (stands (is.held sound));
     frames = λ e. told_frames ∙ ap (λ (l : List ℕ). l ++ frame ∷ []) (is.frames sound) ∙ ap (λ (n : ℕ). reverse (map (λ (x : Arrival). x.frame) arrivals) ++ n ∷ []) same_frame

@@ -51,7 +51,7 @@ Spoils s p = (Agrees s.held p → ⊥) ⊎ ((p.may_overlap ≡ false) × OneOf (
 -- nothing is kept of a spoiled set
 pub record IsSound (held : Held) (frames : List ℕ) (extents : List Extent) (spoiled : Bool) : Type 0 where
   pub few : length frames ≤ 2 ^ 40
-  pub each : length extents ≡ length frames
+  pub each : length extents ≤ length frames
   pub none : spoiled ≡ true → frames ≡ []
   pub nothing : spoiled ≡ true → held ≡ nothing_held
 

@@ -95,6 +95,13 @@ impl Set {
         self.extents.iter().any(|before| before.overlaps(extent))
     }
 
+    /// Whether a part of just that extent has come.
+    fn has_one_of(&self, extent: Extent) -> bool
+        ensures { IsTrue result ↔ OneOf (λ e. e ≡ extent) self.now.extents }
+    {
+        self.extents.iter().any(|before| *before == extent)
+    }
+
     /// Takes a fragment. Where no packet is put together of it and those before, the answer is their frames, which are not kept.
     pub(crate) fn take(
         &mut self,
@@ -120,11 +127,16 @@ impl Set {
             self.extents = Vec::new(alloc);
             return Ok(Some(mem::replace(&mut self.frames, Vec::new(alloc))));
         }
+        let extent = Extent::of(part);
+        let is_noted = self.has_one_of(extent);
         self.frames.reserve(1)?;
         self.extents.reserve(1)?;
         self.parts.add(part)?;
         self.frames.push(frame)?;
-        self.extents.push(Extent::of(part))?;
+        if is_noted {
+            return Ok(None);
+        }
+        self.extents.push(extent)?;
         Ok(None)
     }
 
