@@ -1,5 +1,4 @@
-use Rattle.std.proofs.Common.{None, ap, sym, ◌∙◌, option_map}
-use Rattle.audit_recording.specs.declared.blame.spoilt.Spoilt.{Spoilt}
+use Rattle.std.proofs.Common.{sym}
 use Rattle.audit_recording.specs.Session.Intact.{before_opening, newest_at}
 use Rattle.audit_recording.proofs.SessionLemmas.Intact.{discarding_it, discarding_none}
 use Rattle.audit_recording.proofs.session.intact.IntactHosts.open.Goals as goal
