@@ -1,8 +1,8 @@
 -- The worked recordings at an end that miss datagrams.
 use Rattle.std.proofs.Common.{◌≡◌, ℕ, ◌<◌, ◌≤◌, List, [], ◌∷◌, Contains, codes, inl, inr, refl, sym, subst, arith}
-use Rattle.tftp_packet.specs.{Message, Spells, IsPair, Client, Server}
+use Rattle.tftp_packet.specs.{Message, Spells, IsPair, End, Client, Server, Out}
 use Rattle.tftp_packet.specs.Hosts.{Datagram}
-use Rattle.law_model.specs.Model.{request_of, blksize_of, block, Deed, Sent, Took, Req, Oack, Data, Ack, History, IsView, two_bytes, two_bytes_view, two_bytes_written, two_bytes_written_view, ten_bytes, ten_bytes_view, six_blocks, six_blocks_server_view}
+use Rattle.law_model.specs.Model.{Meaning, request_of, blksize_of, block, Deed, Sent, Took, Req, Oack, Data, Ack, History, IsView, two_bytes, two_bytes_view, two_bytes_written, two_bytes_written_view, ten_bytes, ten_bytes_view, six_blocks, six_blocks_server_view}
 use Rattle.law_model.proofs.ModelLemmas.Members.{contains_cases, contains_none}
 use Rattle.law_model.proofs.ModelLemmas.Moments.{earlier_view}
 use Rattle.law_model.proofs.ModelLemmas.OneSided.{view_one_sided}
@@ -11,11 +11,11 @@ use Rattle.law_model.proofs.ModelLemmas.Worked.{two_bytes_is_view, two_bytes_is_
 use Rattle.law_end.specs.{Main, Labelled, Division, TransferIds, HaveLabels, IsLawful, IsSeen, from_server}
 use Rattle.law_end.proofs.Whole.NothingAgreed.{two_bytes_fit}
 use Rattle.law_end.proofs.Division.Divided.{any_first}
-use Rattle.law_tap.specs.Losses.{nothing, kept, lost, IsSeenOf, IsLawfulWithLosses, IsCertain, IsFirstCertain}
+use Rattle.law_tap.specs.Losses.{nothing, kept, lost, IsSeenOf, IsNotedOf, IsLawfulWithLosses, IsCertain, IsFirstCertain}
 use Rattle.law_tap.specs.WorkedTap.{request_passes, hi_passes, ack_passes}
-use Rattle.law_tap.specs.WorkedLosses.{at_client, request_out, hi_in, ack_out, whole_read, read_without_block, at_server, request_in, hi_out, ho_out, changed_block, ack_of_unseen, block_of_unseen_start, block_of_unseen_ack, block_of_unseen_other, zero_of_unseen_oack}
+use Rattle.law_tap.specs.WorkedLosses.{at_client, request_out, hi_in, ack_out, whole_read, read_without_block, at_server, request_in, hi_out, ho_out, changed_block, changed_notes, ack_of_unseen, block_of_unseen_start, block_of_unseen_ack, block_of_unseen_other, zero_of_unseen_oack}
 use Rattle.law_tap.proofs.Certain.{lawful_lossy, none_certain}
-use Rattle.law_tap.proofs.ChangedBlock.{sent_block_stays}
+use Rattle.law_tap.proofs.ChangedBlock.{block_stays, sent_block_stays}
 
 -- ---- what was seen of what an end did
 
@@ -221,3 +221,8 @@ change_certain = record {
   certain = record { within = omega arith; unlawful = change_unlawful };
   lawful = lawful_lossy at_server (request_in ∷ hi_out ∷ []) begun_lawful;
 }
+
+pub change_unnoted : (m : Meaning) (wire : List ℕ) (e : End) → IsNotedOf m wire e changed_notes → ⊥
+change_unnoted m wire e noted =
+    apart (block_stays m wire e changed_notes (record { dir = Out; payload = hi_out.payload }) (record { dir = Out; payload = ho_out.payload }) 1 (104 ∷ 105 ∷ []) (104 ∷ 111 ∷ []) noted (1, omega arith, refl) (0, omega arith, refl)
+    (first_block_says 104 105 (omega arith) (omega arith)) (first_block_says 104 111 (omega arith) (omega arith)))

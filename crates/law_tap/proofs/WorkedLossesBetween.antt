@@ -6,7 +6,7 @@ use Rattle.law_model.proofs.ModelLemmas.Worked.{two_bytes_run}
 use Rattle.law_tap.specs.WorkedTap.{worked_sides, read_between, ack_of_nothing, request_passes, hi_passes, stray_passes, answer_passes, ack_passes}
 use Rattle.law_tap.specs.Losses.{nothing, kept, lost}
 use Rattle.law_tap.specs.LossesBetween.{IsTapViewWithLosses, IsLawfulBetweenWithLosses}
-use Rattle.law_tap.specs.WorkedLosses.{ack_between, ack_before_block, oack_of_nothing}
+use Rattle.law_tap.specs.WorkedLosses.{ack_between, read_backwards, oack_of_nothing}
 use Rattle.law_tap.proofs.Left.{one_left, was_allowed}
 use Rattle.law_tap.proofs.OneRun.{sent_in_one, passes_late}
 use Rattle.law_tap.proofs.WorkedTap.{read_shown}
@@ -21,8 +21,8 @@ read_between_lossy = record {
   left = kept ack_passes _ _ (lost answer_passes _ _ (lost stray_passes _ _ (lost hi_passes _ _ (kept request_passes _ _ nothing))));
 }
 
-pub block_behind : IsTapViewWithLosses two_bytes two_bytes.file ack_before_block
-block_behind = passes_late two_bytes two_bytes.file ack_before_block (two_bytes_steps, two_bytes_run, ((1, omega arith, refl), ((0, omega arith, refl), ((2, omega arith, refl), tt))))
+pub read_turned : IsTapViewWithLosses two_bytes two_bytes.file read_backwards
+read_turned = passes_late two_bytes two_bytes.file read_backwards (two_bytes_steps, two_bytes_run, ((2, omega arith, refl), ((1, omega arith, refl), ((0, omega arith, refl), tt))))
 
 never_sent : (steps : List Step) → IsRun two_bytes two_bytes.file steps → HasSent (view_of Server steps) Oack → ⊥
 never_sent steps run at =

@@ -7,6 +7,7 @@ use Rattle.law_model.specs.Model.{Sent, Took, Req, Oack, Data, Ack, History}
 use Rattle.law_tap.specs.Tap.{Pass}
 use Rattle.law_tap.specs.WorkedTap.{request_passes, hi_passes, ack_passes}
 use Rattle.law_tap.specs.TapCapture.{TapDatagram}
+use Rattle.law_tap.specs.Losses.{Noted}
 
 -- ---- a read of two bytes, at the client
 
@@ -50,6 +51,10 @@ ho_out = record { dir = Out; local = 41000; host = codes "10.0.0.2"; remote = 40
 -- the server changes block 1
 abbrev pub changed_block : List Datagram
 changed_block = request_in ∷ hi_out ∷ ho_out ∷ []
+
+-- the same two blocks, as noted
+abbrev pub changed_notes : List Noted
+changed_notes = record { dir = Out; payload = ho_out.payload } ∷ record { dir = Out; payload = hi_out.payload } ∷ []
 
 -- ---- a write of two bytes, at the server
 
@@ -101,12 +106,12 @@ zero_of_unseen_oack = Sent (Ack 0) ∷ Sent Req ∷ []
 abbrev pub ack_between : List TapDatagram
 ack_between = ack_passes ∷ request_passes ∷ []
 
--- the ACK passed before the block
-abbrev pub ack_before_block : List Pass
-ack_before_block =
-    record { from = Server; packet = Data 1 }
+-- what a read of two bytes sends, the other way round: the ACK passed first, and the request last
+abbrev pub read_backwards : List Pass
+read_backwards =
+    record { from = Client; packet = Req }
+    ∷ record { from = Server; packet = Data 1 }
     ∷ record { from = Client; packet = Ack 1 }
-    ∷ record { from = Client; packet = Req }
     ∷ []
 
 -- an OACK where nothing is agreed

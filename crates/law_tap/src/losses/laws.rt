@@ -25,6 +25,7 @@ ghost use Rattle.law_tap.specs.Losses.{
 };
 
 /// What is lawful is lawful with losses, and what is left of what is lawful with losses is so too.
+#[tactic(auto, using(crate::proofs::Certain::lawful_lossy, crate::proofs::Certain::less_lossy))]
 pub fn less_is_lawful_with_losses()
     ensures lawful { (header : Header) (datagrams : List Datagram) → IsLawful header datagrams → IsLawfulWithLosses header datagrams }
     ensures less { (header : Header) (datagrams rest : List Datagram) → Loses Datagram datagrams rest
@@ -42,6 +43,7 @@ pub fn what_is_certain_stays_certain()
 
 /// A list that is lawful with losses has no certain datagram. Another one has one first certain datagram: it has not two, and
 /// that it has none cannot be.
+#[tactic(auto, using(crate::proofs::Certain::none_certain, crate::proofs::Certain::one_first, crate::proofs::Certain::some_first))]
 pub fn there_is_one_first_certain_datagram()
     ensures none { (header : Header) (datagrams : List Datagram) (i : ℕ) → IsLawfulWithLosses header datagrams
         → IsCertain header datagrams i → ⊥ }
@@ -58,6 +60,7 @@ pub fn what_is_certain_is_unlawful()
 {}
 
 /// The newest deed that was seen stands in a view of that end behind all that was seen before it.
+#[tactic(auto, using(crate::proofs::Left::last_seen))]
 pub fn what_was_seen_was_done()
     ensures { (m : Meaning) (wire : List ℕ) (e : End) (d : Deed) (seen : History) → IsSeenOf m wire e (d ∷ seen)
         → (before : History) × IsView m wire e (d ∷ before) × Loses Deed before seen }

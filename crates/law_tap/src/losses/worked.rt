@@ -1,11 +1,11 @@
 //! Worked cases of recordings at an end that miss datagrams. Each is the contract of a function that does nothing.
 
-ghost use Rattle.std.specs.Prelude.{ℕ, [], ◌∷◌};
-ghost use Rattle.tftp_packet.specs.{Client, Server};
-ghost use Rattle.law_model.specs.Model.{IsView, two_bytes, two_bytes_written, ten_bytes, six_blocks};
+ghost use Rattle.std.specs.Prelude.{ℕ, List, [], ◌∷◌};
+ghost use Rattle.tftp_packet.specs.{End, Client, Server};
+ghost use Rattle.law_model.specs.Model.{Meaning, IsView, two_bytes, two_bytes_written, ten_bytes, six_blocks};
 ghost use Rattle.law_model.specs.{EndRule, PortRule};
 ghost use Rattle.law_end.specs.{Broken, Rule};
-ghost use Rattle.law_tap.specs.Losses.{IsSeenOf, IsLawfulWithLosses, IsCertain, IsFirstCertain};
+ghost use Rattle.law_tap.specs.Losses.{IsSeenOf, IsNotedOf, IsLawfulWithLosses, IsCertain, IsFirstCertain};
 ghost use Rattle.law_tap.specs.WorkedLosses.{
   at_client,
   at_server,
@@ -17,6 +17,7 @@ ghost use Rattle.law_tap.specs.WorkedLosses.{
   one_out,
   write_without_block,
   changed_block,
+  changed_notes,
   ack_of_unseen,
   block_of_unseen_start,
   block_of_unseen_ack,
@@ -41,8 +42,14 @@ pub fn an_ack_ahead_of_a_write_is_not_certain()
 {}
 
 /// A server that sends block 1 with other bytes is refused at that datagram, whatever is missing.
+#[tactic(auto, using(crate::proofs::WorkedLosses::change_certain))]
 pub fn a_server_that_changes_a_block_is_certain()
     ensures { IsFirstCertain at_server changed_block 2 }
+{}
+
+/// In no run does an end note both.
+pub fn a_block_and_a_changed_one_are_not_noted()
+    ensures { (m : Meaning) (wire : List ℕ) (e : End) → IsNotedOf m wire e changed_notes → ⊥ }
 {}
 
 /// A block that a client sends before an answer was seen (rule 18) is not certain: the answer may have been missed.

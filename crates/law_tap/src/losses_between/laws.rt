@@ -10,11 +10,13 @@ ghost use Rattle.law_tap.specs.LossesBetween.{IsTapViewWithLosses, IsSentInOneRu
 
 /// Between the ends a list is what was seen of what passed exactly if one run sends all of it: the order in which it passed says
 /// nothing.
+#[tactic(auto, using(crate::proofs::OneRun::sent_in_one, crate::proofs::OneRun::passes_late))]
 pub fn order_says_nothing_between_with_losses()
     ensures { (m : Meaning) (wire : List ℕ) (seen : List Pass) → IsTapViewWithLosses m wire seen ↔ IsSentInOneRun m wire seen }
 {}
 
 /// So two of it may have passed the other way round.
+#[tactic(auto, using(crate::proofs::OneRun::change_places))]
 pub fn neighbours_may_change_places_between()
     ensures { (m : Meaning) (wire : List ℕ) (x y : Pass) (seen : List Pass) → IsTapViewWithLosses m wire (x ∷ y ∷ seen)
         → IsTapViewWithLosses m wire (y ∷ x ∷ seen) }

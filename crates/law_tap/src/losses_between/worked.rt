@@ -4,7 +4,7 @@ ghost use Rattle.law_model.specs.Model.{two_bytes};
 ghost use Rattle.law_tap.specs.Tap.{IsTapView};
 ghost use Rattle.law_tap.specs.LossesBetween.{IsTapViewWithLosses, IsLawfulBetweenWithLosses};
 ghost use Rattle.law_tap.specs.WorkedTap.{worked_sides, ack_of_nothing};
-ghost use Rattle.law_tap.specs.WorkedLosses.{ack_between, ack_before_block, oack_of_nothing};
+ghost use Rattle.law_tap.specs.WorkedLosses.{ack_between, read_backwards, oack_of_nothing};
 
 /// An ACK of a block that was not seen passed: the block may have been missed.
 pub fn an_ack_ahead_is_not_certain_between()
@@ -13,9 +13,10 @@ pub fn an_ack_ahead_is_not_certain_between()
     ensures lawful { IsLawfulBetweenWithLosses worked_sides ack_between }
 {}
 
-/// An ACK passed before its block did: it answers the same block, which passed before it and was missed.
-pub fn a_block_behind_its_ack_is_not_certain_between()
-    ensures { IsTapViewWithLosses two_bytes two_bytes.file ack_before_block }
+/// A read passed the other way round: the ACK, the block, and then the request. Each had passed before and was missed, and then
+/// passed once more.
+pub fn a_read_that_passes_backwards_is_not_certain()
+    ensures { IsTapViewWithLosses two_bytes two_bytes.file read_backwards }
 {}
 
 /// Where nothing is agreed an OACK is no packet of the server, whatever is missing.
