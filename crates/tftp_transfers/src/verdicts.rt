@@ -213,8 +213,8 @@ impl Judged {
     /// Whether it may come of an earlier transfer between the same two: what a client sends itself is not late there, if it was
     /// recorded there.
     fn comes_of_earlier(&self, told: &Told<'_>, blamed: &Blamed) -> bool {
-        let is_at_client =
-            matches!(told.view.point, Point::Client) && told.telling.between.is_none();
+        let is_at_client = matches!(told.view.point, Point::Client)
+            && told.telling.between.is_none();
         let is_own = is_at_client && blamed.source == self.transfer.client;
         !is_own && blamed.comes_of_earlier
     }

@@ -32,8 +32,8 @@ pub fn less_is_lawful_with_losses()
         → IsLawfulWithLosses header datagrams → IsLawfulWithLosses header rest }
 {}
 
-/// A datagram that is certain stays so, by whatever number, however many missing ones are found and put in before it or after
-/// it; and each later one is certain too.
+/// What is certain stays so where missing datagrams are found: a datagram of the fuller list is certain if the list up to it has
+/// all of the list up to a certain one. So is each later datagram.
 pub fn what_is_certain_stays_certain()
     ensures found { (header : Header) (all datagrams : List Datagram) (i j : ℕ) → IsCertain header datagrams i → j < length all
         → Loses Datagram (take (j + 1) all) (take (i + 1) datagrams) → IsCertain header all j }
