@@ -334,15 +334,14 @@ class Report(Checks):
         it, status = self.sarif(session)
         [result], [rule] = it["results"], it["tool"]["driver"]["rules"]
         self.check("SARIF, the session", status == 1)
-        self.check("SARIF, the rule", (rule["id"], rule["name"]) == ("26", "AckAhead"), rule)
+        self.check("SARIF, the rule", (rule["id"], rule["name"]) == ("26", Rule.ACK_AHEAD.printed), rule)
         says = {"text": "An ACK says that its block and all before it came."}
         self.check("SARIF, its words", rule["shortDescription"] == says, rule)
         self.check("SARIF, the result", (result["ruleId"], result["kind"], result["level"]) == ("26", "fail", "error"))
-        told = result["message"]["text"]
-        self.check("SARIF, the message", told.startswith("refused datagram 3 rule 26 AckAhead\n\nWhere: "), told)
+        told, refused = result["message"]["text"], f"refused datagram 3 rule {Rule.ACK_AHEAD}"
+        self.check("SARIF, the message", told.startswith(f"{refused}\n\nWhere: "), told)
         accused = {"role": "client", "host": "192.0.2.1", "port": 34056}
-        wanted = {"transfer": 3, "place": "both", "frame": 17, "verdict": "refused datagram 3 rule 26 AckAhead",
-                  "accused": accused, "doubts": []}
+        wanted = {"transfer": 3, "place": "both", "frame": 17, "verdict": refused, "accused": accused, "doubts": []}
         self.check("SARIF, the properties", result["properties"] == wanted, result["properties"])
         [location] = result["locations"]
         self.check("SARIF, the frame", location["properties"] == {"frame": 17}, location)
