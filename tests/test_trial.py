@@ -37,7 +37,7 @@ HOLD = 0.4
 LONGEST = 300
 LINE = re.compile(r"seed (\d+) (refused|doubtful|not whole|accepted|nothing judged): (.*)")
 HPA = "in.tftpd -L -c -u root -a {host}:{port} -s {folder}"
-CURL = "curl", "-s", "-S", "--max-time", "20"
+CURL = "curl", "-s", "-S", "--max-time", "10"
 
 
 class Told:
@@ -98,9 +98,8 @@ class Ends(Checks):
         """Without trouble the file comes over, and the recordings are kept."""
         folder = self.folder / "kept"
         told = trial(CLIENT, SERVER, "--seed", 7, "--size", 1_300, "--folder", folder, odds=NONE)
-        file = "accepted get octet blocks 3 bytes 1300"
-        wanted = f"at the client {file}, at the server {file}; lost 0, repeated 0, delayed 0, reordered 0; "
-        wanted += "the client ended with status 0"
+        wanted = "get octet blocks 3 bytes 1300 at the client and the server; "
+        wanted += "lost 0, repeated 0, delayed 0, reordered 0; the client ended with status 0"
         self.check("undisturbed, its line", told.lines() == {7: ("accepted", wanted)}, told)
         self.check("undisturbed, the sum", told.output.splitlines()[1:] == ["1 seed: 1 accepted"], told)
         both = [(folder / "seed-7" / place / "trial.bin").read_bytes() for place in ("client", "served")]
@@ -126,6 +125,15 @@ class Ends(Checks):
             self.check(f"{name}, once", told.output.count("\nAccused:  ") == 2, told)
             self.check(f"{name}, the sum", told.output.splitlines()[-1] == "2 seeds: 2 refused", told)
 
+    def test_paths(self) -> None:
+        """A client that is named by its path from where the call is made."""
+        (self.folder / "client").write_text(f"#!/bin/sh\nexec {sys.executable} {ENDS} client \"$@\"\n")
+        (self.folder / "client").chmod(0o755)
+        words = [sys.executable, str(SCRIPT), *PROGRAMS, "--serve", SERVER, "--seed", "1", *disturbance(NONE), "--"]
+        client = ["./client", "{host}", "{port}", "{file}"]
+        done = subprocess.run([*words, *client], cwd=self.folder, capture_output=True, text=True, timeout=LONGEST)
+        self.check("a client by its path", done.returncode == 0 and "seed 1 accepted: " in done.stdout, done)
+
     def test_disturbed(self) -> None:
         """A fault that shows only where a block comes twice: undisturbed nothing is refused."""
         client = f"{CLIENT} repeats"
@@ -145,7 +153,8 @@ class Ends(Checks):
         holds = told.status == 3 and told.states() == ["nothing judged"] * 2 and time.monotonic() - begun < 20
         self.check("a client that hangs", holds and "the client was ended after 1 s" in told.output, told)
         told = Told("--serve", SERVER, "--seed", 1, "--", "true", "{port}")
-        line = "no transfer passed; lost 0, repeated 0, delayed 0, reordered 0; the client ended with status 0"
+        line = "there is no transfer in 0 datagrams; lost 0, repeated 0, delayed 0, reordered 0; "
+        line += "the client ended with status 0"
         holds = (told.status, told.lines()) == (3, {1: ("nothing judged", line)})
         self.check("a client that says nothing", holds, told)
         for name, server, client, says in (
@@ -159,8 +168,8 @@ class Ends(Checks):
     def test_real(self) -> None:
         """Real ends, as far as they are installed."""
         for name, wanted, seeds, client in (
-            ("curl", "curl", 6, [*CURL, "-o", "got", "tftp://{host}:{port}/{file}"]),
-            ("tftp", "tftp", 6, ["tftp", "-4", "-m", "octet", "{host}", "{port}", "-c", "get", "{file}"]),
+            ("curl", "curl", 4, [*CURL, "-o", "got", "tftp://{host}:{port}/{file}"]),
+            ("tftp", "tftp", 4, ["tftp", "-4", "-m", "octet", "{host}", "{port}", "-c", "get", "{file}"]),
         ):
             if lacking := [it for it in (wanted, "in.tftpd") if not named(it)]:
                 self.leave(f"{name} and tftpd-hpa", f"not installed: {', '.join(lacking)}")

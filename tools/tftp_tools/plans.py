@@ -4,8 +4,9 @@ from __future__ import annotations
 import argparse
 import contextlib
 import ipaddress
+import os
 import shlex
-from collections.abc import Callable
+from collections.abc import Callable, Sequence
 from pathlib import Path
 
 from .errors import Refused
@@ -138,6 +139,12 @@ def refuse_wrong(asked: argparse.Namespace, odds: Odds) -> None:
         raise Refused(why)
 
 
+def found_from_here(words: Sequence[str]) -> tuple[str, ...]:
+    """The words of a program that is run in another folder: one that is named by its path is found from this one."""
+    first, *rest = words
+    return (os.path.abspath(first) if "/" in first else first, *rest)
+
+
 def served_by(asked: argparse.Namespace) -> tuple[str, ...]:
     """The words of the server, none where it runs already."""
     if asked.serve is None:
@@ -148,13 +155,13 @@ def served_by(asked: argparse.Namespace) -> tuple[str, ...]:
         raise Refused(f"--serve cannot be split into words: {why}") from None
     if not words:
         raise Refused("--serve has no words")
-    return words
+    return found_from_here(words)
 
 
 def plan_of(asked: argparse.Namespace) -> Plan:
     odds = Odds(*(getattr(asked, fate) for fate in FATES))
     refuse_wrong(asked, odds)
-    file, client = asked.file or FILE, tuple(map(str, asked.client))
+    file, client = asked.file or FILE, found_from_here(asked.client)
     jobs = asked.jobs or (1 if has_named_port(asked) else JOBS)
     at = asked.server, asked.listen
     return Plan(client, served_by(asked), *at, odds, asked.hold, asked.timeout, file, asked.size, jobs)

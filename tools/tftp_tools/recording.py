@@ -20,6 +20,8 @@ PLACES: tuple[PlaceName, ...] = ("client", "server", "between")
 # How a capture text begins, and the comment in it that names its transfer.
 BEGINS = re.compile(rb"^tftp-capture ", re.MULTILINE)
 OF = re.compile(rb"^# transfer ([0-9]+) of ", re.MULTILINE)
+# The statuses of a recording that was read: all is accepted, something is not, there is nothing to judge.
+JUDGED = (0, 1, 3)
 T = TypeVar("T")
 # The fields of a listed transfer.
 WORDS = ("client", "server", "kind", "mode", "file", "options")
@@ -175,14 +177,14 @@ class Recording:
             raise Refused(f"{self.transfers!r} gave no rows for {self.path!r}, and ended with status {status}")
         raise Refused(beside[-1] if beside else f"{self.path}: there is no transfer in the recording")
 
-    def rows_if_any(self, place: PlaceName) -> tuple[list[Row], list[str]]:
-        """The verdicts at a place, none where there is no transfer, and what is told beside them."""
+    def rows_if_any(self, place: PlaceName) -> list[Row]:
+        """The verdicts at a place, none where there is no transfer."""
         written, beside, status = self.ask("check", "--json", "--end", place)
         rows = objects(written, row_of)
-        if status not in (0, 1) or written and not rows:
+        if status not in JUDGED or written and not rows:
             why = beside[-1] if beside else f"{self.transfers!r} ended with status {status}"
             raise Refused(f"{self.path!r} was not judged: {why}")
-        return rows, beside
+        return rows
 
     def without(self, gone: Collection[int]) -> Recording:
         """The same without these frames."""

@@ -4,10 +4,12 @@ from __future__ import annotations
 
 import contextlib
 import os
+import random
 import signal
 import socket
 import struct
 import subprocess
+import threading
 import time
 from collections.abc import Iterator, Mapping, Sequence
 from pathlib import Path
@@ -22,6 +24,11 @@ ANY = ("0.0.0.0", "::")
 # So many seconds a server may take until it listens, and a program that is asked to end.
 READY, ENDING = 5.0, 1.0
 STEP = 0.02
+# Ports below those that a kernel gives out by itself, each once, in no order.
+PORTS = range(20_000, 32_000)
+FREE = iter(random.sample(PORTS, len(PORTS)))
+# A program that is being started has each socket for a moment: a port that is tried meanwhile is not free at once.
+STARTING = threading.Lock()
 
 
 def filled(words: Sequence[str], values: Mapping[str, object]) -> list[str]:
@@ -45,7 +52,7 @@ def end(process: subprocess.Popen[bytes]) -> None:
 def started(words: Sequence[str], folder: Path, log: Path) -> Iterator[subprocess.Popen[bytes]]:
     """A program that runs meanwhile in a folder; what it says goes to a file."""
     with told(f"cannot write {str(log)!r}"), open(log, "wb") as file:
-        with told(f"cannot run {words[0]!r}"):
+        with told(f"cannot run {words[0]!r}"), STARTING:
             process = subprocess.Popen(
                 words, cwd=folder, stdin=subprocess.DEVNULL, stdout=file, stderr=subprocess.STDOUT,
                 start_new_session=True,
@@ -96,6 +103,8 @@ def wait_until_listening(process: subprocess.Popen[bytes], at: Endpoint, log: Pa
 
 
 def free_port(host: str) -> Endpoint:
-    """An endpoint of this host at which nothing listens."""
-    with told(f"no port of {host} can be had"), contextlib.closing(opened(Endpoint(host, 0))) as made:
-        return Endpoint(*made.getsockname()[:2])
+    """An endpoint of this host at which nothing listens, and which the kernel gives to nobody who asks for any port."""
+    for port in FREE:
+        with contextlib.suppress(OSError), STARTING, contextlib.closing(opened(Endpoint(host, port))):
+            return Endpoint(host, port)
+    raise Refused(f"no port of {host} can be had")

@@ -25,12 +25,11 @@ class State(enum.Enum):
 
 @dataclass(frozen=True)
 class Leg:
-    """A leg, judged at its end, and what was told of it beside."""
+    """A leg, judged at its end."""
 
     end: EndName
     recording: Recording
     rows: tuple[Row, ...]
-    told: tuple[str, ...]
 
 
 def state_of(row: Row) -> State:
@@ -77,9 +76,12 @@ class Tried:
         if state is State.REFUSED:
             return "; ".join(self.accusation(*it) for it in self.accused())
         if state is State.NOTHING:
-            return next((line for leg in self.legs for line in leg.told), "no transfer passed")
-        odd = [f"at the {leg.end} {row.verdict}" for leg, row in self.rows() if state_of(row) is state]
-        return ", ".join(odd)
+            return f"there is no transfer in {count(sum(self.run.tally.values()), 'datagram')}"
+        ends: dict[str, list[str]] = {}
+        for leg, row in self.rows():
+            if state_of(row) is state:
+                ends.setdefault(row.verdict.removeprefix("accepted "), []).append(f"the {leg.end}")
+        return ", ".join(f"{verdict} at {' and '.join(dict.fromkeys(at))}" for verdict, at in ends.items())
 
     def accusation(self, leg: Leg, row: Row, accused: Accused) -> str:
         rule = row.verdict.partition(" rule ")[2]
@@ -96,8 +98,7 @@ def judged(run: Run, transfers: str, audit: str) -> Tried:
     legs = []
     for end in ENDS:
         recording = Recording(str(run.recordings[end]), None, (str(run.asked[end].port),), transfers, audit)
-        rows, told = recording.rows_if_any(end)
-        legs.append(Leg(end, recording, tuple(rows), tuple(told)))
+        legs.append(Leg(end, recording, tuple(recording.rows_if_any(end))))
     return Tried(run, tuple(legs))
 
 
