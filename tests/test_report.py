@@ -23,6 +23,7 @@ from programs import AUDIT, TRANSFERS
 from recorded import Datagram
 from refusals import Rule
 from repository import TOP
+from tftp_tools.junit import spoken
 
 SCRIPT, EXAMPLES = TOP / "tools" / "tftp-report", TOP / "examples"
 BROWSERS = ("chromium", "chromium-browser", "google-chrome")
@@ -102,6 +103,17 @@ def many() -> list[Datagram]:
             read[2] = dataclasses.replace(read[2], payload=ack(2)[0])
         passed += read
     return passed
+
+
+class Spoken(Checks):
+    """What XML cannot have."""
+
+    def test_spoken(self) -> None:
+        """Control characters, halves of pairs and what is no character (XML 1.0, section 2.2) are escaped."""
+        text = "a\0b\x0b\x1b\ud800\uffff \t\n\r\u00e9\U0001f600"
+        wanted = "a\\x00b\\x0b\\x1b\\xd800\\xffff \t\n\r\u00e9\U0001f600"
+        self.check("what XML cannot have", spoken(text) == wanted, ascii(spoken(text)))
+        self.check("what is read of it", Xml.fromstring(f"<a>{spoken(text)}</a>").text is not None)
 
 
 class Report(Checks):

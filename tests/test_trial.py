@@ -21,7 +21,10 @@ from programs import AUDIT, TRANSFERS
 from recorded import FIRST_TIME, Datagram
 from refusals import Rule
 from repository import TOP
+from tftp_tools.recording import Accused, Recording, Row
 from tftp_tools.relay import FATES, Endpoint, Fate, Fates, Odds, Relay, fates_by
+from tftp_tools.trial import Run
+from tftp_tools.tried import Leg, State, Tried, status_of, summed
 from tftp_tools.written import Timed, pcapng
 
 SCRIPT, ENDS = TOP / "tools" / "tftp-trial", TOP / "tests" / "small_ends.py"
@@ -240,6 +243,65 @@ class Words(Checks):
         ):
             told = Told(*words, programs=("--program", "/nowhere", "--transfers", "/nowhere"))
             self.check(f"{words}", told.status == 2 and says in told.errors and told.output == "", told)
+
+
+def tried(client: Sequence[Row], server: Sequence[Row]) -> Tried:
+    """A seed whose legs have these rows; the relay's ports are 1 towards the client and 2 towards the server."""
+    behind = {Endpoint(LOOPBACK, 1): Endpoint(LOOPBACK, 69), Endpoint(LOOPBACK, 2): Endpoint(LOOPBACK, 40_000)}
+    recording = Recording("-", b"", (), "", "")
+    legs = Leg("client", recording, tuple(client)), Leg("server", recording, tuple(server))
+    return Tried(Run(1, {}, {}, "the client ended with status 0", Counter(), behind), legs)
+
+
+class States(Checks):
+    """What is said of rows, whatever program they are of."""
+
+    def test_states(self) -> None:
+        """The worst of all transfers on both legs; a doubt accuses nobody."""
+        refused = f"refused datagram 3 rule {Rule.ACK_AHEAD}"
+        accepted = Row(1, "client", "accepted get octet blocks 1 bytes 2", ())
+        late = Row(2, "client", "incomplete after 1", ())
+        doubtful = Row(3, "client", refused, ("a reason",), 7)
+        accusing = Row(4, "client", refused, (), 7, Accused("client", LOOPBACK, 40_000))
+        cases: tuple[tuple[State, list[Row], list[Row]], ...] = (
+            (State.NOTHING, [], []), (State.ACCEPTED, [accepted], [accepted]), (State.ACCEPTED, [], [accepted]),
+            (State.UNFINISHED, [accepted, late], [accepted]), (State.UNFINISHED, [accepted], [late]),
+            (State.DOUBTFUL, [accepted], [late, doubtful]), (State.REFUSED, [doubtful, accusing], [accepted]),
+        )
+        for state, client, server in cases:
+            got = tried(client, server)
+            self.check(f"{state.value}, {len(client)} and {len(server)}", got.state() is state, got.line())
+            self.check(f"{state.value}, its line", got.line().startswith(f"seed 1 {state.value}: "), got.line())
+        self.check("a doubt accuses nobody", tried([doubtful], []).accused() == [])
+        self.check("a doubt is told", [row for _, row in tried([doubtful], [accepted]).explained()] == [doubtful])
+
+    def test_accused(self) -> None:
+        """An end is accused once, by its own leg where that does it, and is named as it is behind the relay."""
+        refused = f"refused datagram 3 rule {Rule.ACK_AHEAD}"
+        own = Row(1, "client", refused, (), 7, Accused("client", LOOPBACK, 40_000))
+        other = Row(1, "server", refused, (), 5, Accused("client", LOOPBACK, 2))
+        words = f"rule {Rule.ACK_AHEAD}, accused the client at {LOOPBACK}:40000"
+        self.check("by both legs", tried([own], [other]).says() == words, tried([own], [other]).says())
+        got = tried([], [other]).says()
+        self.check("by the other leg", got == f"{words}, by the server's leg", got)
+        server = Row(2, "client", refused, (), 7, Accused("server", LOOPBACK, 1))
+        its_own = Row(2, "server", refused, (), 5, Accused("server", LOOPBACK, 69))
+        got = tried([server], [its_own]).says()
+        told = f"rule {Rule.ACK_AHEAD}, accused the server at {LOOPBACK}:69"
+        self.check("the server, by both legs", got == told, got)
+        got = tried([own, server], [other]).says()
+        told = f"{words}; rule {Rule.ACK_AHEAD}, accused the server at {LOOPBACK}:69, by the client's leg"
+        self.check("both ends", got == told, got)
+
+    def test_status(self) -> None:
+        for status, states in (
+            (0, [State.ACCEPTED]), (0, [State.ACCEPTED, State.UNFINISHED, State.DOUBTFUL]),
+            (1, [State.ACCEPTED, State.REFUSED]), (1, [State.NOTHING, State.REFUSED]),
+            (3, [State.ACCEPTED, State.NOTHING]), (3, [State.NOTHING]),
+        ):
+            self.check(f"status of {states}", status_of(states) == status)
+        got = summed([State.ACCEPTED, State.REFUSED, State.ACCEPTED])
+        self.check("the sum", got == "3 seeds: 2 accepted, 1 refused", got)
 
 
 class Decisions(Checks):

@@ -56,7 +56,7 @@ class Tried:
     def accused(self) -> list[tuple[Leg, Row, Accused]]:
         """Each end that is accused, once: by its own leg, where that accuses it too."""
         found = [(leg, row, row.accused) for leg, row in self.rows() if row.accused is not None]
-        found.sort(key=lambda it: it[0].end != it[2].role)
+        found.sort(key=lambda it: it[1].place != it[2].role)
         first = {accused.role: row for _, row, accused in reversed(found)}
         return [it for it in found if first[it[2].role] is it[1]]
 
@@ -74,18 +74,18 @@ class Tried:
         """The verdicts in some words."""
         state = self.state()
         if state is State.REFUSED:
-            return "; ".join(self.accusation(*it) for it in self.accused())
+            return "; ".join(self.accusation(row, accused) for _, row, accused in self.accused())
         if state is State.NOTHING:
             return f"there is no transfer in {count(sum(self.run.tally.values()), 'datagram')}"
         ends: dict[str, list[str]] = {}
-        for leg, row in self.rows():
+        for _, row in self.rows():
             if state_of(row) is state:
-                ends.setdefault(row.verdict.removeprefix("accepted "), []).append(f"the {leg.end}")
+                ends.setdefault(row.verdict.removeprefix("accepted "), []).append(f"the {row.place}")
         return ", ".join(f"{verdict} at {' and '.join(dict.fromkeys(at))}" for verdict, at in ends.items())
 
-    def accusation(self, leg: Leg, row: Row, accused: Accused) -> str:
+    def accusation(self, row: Row, accused: Accused) -> str:
         rule = row.verdict.partition(" rule ")[2]
-        where = "" if accused.role == leg.end else f", by the {leg.end}'s leg"
+        where = "" if accused.role == row.place else f", by the {row.place}'s leg"
         return f"rule {rule}, accused the {accused.role} at {self.place_of(accused).told()}{where}"
 
     def line(self) -> str:
@@ -108,7 +108,7 @@ def reasons(tried: Tried) -> str:
     for leg, row in tried.explained():
         it = leg.recording.judged(row)
         told = laid_out([*explain(it.verdict, it.text, it.capture()), *it.told()])
-        parts.append(f"\nseed {tried.run.seed}, at the {leg.end}, transfer {row.number}: {row.verdict}\n\n{told}")
+        parts.append(f"\nseed {tried.run.seed}, at the {row.place}, transfer {row.number}: {row.verdict}\n\n{told}")
     return "".join([*parts, "\n" * bool(parts)])
 
 
