@@ -11,11 +11,14 @@ from typing import Literal, Optional, Union
 import repository  # noqa: F401
 from tftp_tools import written
 from tftp_tools.written import DO_NOT_FRAGMENT, section_header
+from tftp_tools.written import IF_DROP as IF_DROP
+from tftp_tools.written import OS_DROP as OS_DROP
 from tftp_tools.written import RAW as RAW
 from tftp_tools.written import UDP as UDP
 from tftp_tools.written import Datagram as Datagram
 from tftp_tools.written import block as block
 from tftp_tools.written import options as options
+from tftp_tools.written import statistics as statistics
 from tftp_tools.written import sum_of as sum_of
 
 ETHERNET, NULL, LOOP, COOKED, COOKED_2 = 1, 0, 108, 113, 276
@@ -182,17 +185,8 @@ class Interface:
 Block = Union[Frame, bytes]
 # The flag of a packet that was received with a wrong checksum of Ethernet (draft-ietf-opsawg-pcapng, section 4.3.1).
 CRC_ERROR = 1 << 24
-# The options of what an interface dropped, and the operating system (section 4.6).
-IF_DROP, OS_DROP = 5, 7
 # In an obsolete packet block the count of what was lost, where nobody counted.
 NO_COUNT = 0xFFFF
-
-
-def statistics(order: str, place: int, *counts: tuple[int, int], is_ended: bool = True) -> bytes:
-    """A statistics block of an interface, with counts by the codes of their options, and perhaps no end of these: what
-    the interface or the operating system dropped since the capture began (section 4.6)."""
-    told = options(order, *((code, struct.pack(f"{order}Q", count)) for code, count in counts), is_ended=is_ended)
-    return block(order, 5, struct.pack(f"{order}III", place, 0, 0) + told)
 
 
 def section(order: str, interfaces: list[Interface], blocks: list[tuple[int, Block]], chance: random.Random) -> bytes:

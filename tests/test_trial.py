@@ -412,11 +412,28 @@ class Wires(Checks):
             payloads = [b"%d" % number for number in range(2_000)]
             for number, payload in enumerate(payloads):
                 client.sendto(payload, at_second if number % 3 else relay.listens)
-                time.sleep(0.001 if number % 50 == 0 else 0)
+                while number > relay.count["client"] + 50:
+                    time.sleep(0.001)
             relay.wait_until_quiet(0.3, 10)
         passed = [it.datagram.payload for it in relay.legs["client"]][2:]
         wrong = next((pair for pair in zip(passed, payloads) if pair[0] != pair[1]), len(passed))
         self.check("in the order of its sender", passed == payloads, wrong)
+
+    def test_missed(self) -> None:
+        """What the relay had no room for is counted, and stands in the recording as lost by the recorder."""
+        def slow_at_first(_: EndName, place: int) -> Fate:
+            time.sleep(0.5 if place == 1 else 0)
+            return "lost"
+
+        with self.between(slow_at_first) as (relay, client, _):
+            for _ in range(20_000):
+                client.sendto(bytes(1_000), relay.listens)
+            relay.wait_until_quiet(1, 10)
+            count = relay.count["client"]
+        self.check("what is missing is counted", relay.missed["client"] == 20_000 - count > 0, (relay.missed, count))
+        self.check("nothing is missing of the server", relay.missed["server"] == 0, relay.missed)
+        listed = slow_reader.listing(pcapng(relay.legs["client"], b"a test", relay.missed["client"]))
+        self.check("the recording tells it", listed.lost == relay.missed["client"], listed.lost)
 
     def test_order(self) -> None:
         """What is reordered comes behind the next of its sender, or a little later where none comes; what is delayed

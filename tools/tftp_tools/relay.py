@@ -6,7 +6,7 @@ server's ports towards the clients, so that transfer ids stay apart (RFC 1350, s
 
 Nobody is to be accused of an order that was the relay's. One thread does all: what an end sent is written down before
 it is sent on, and so before anything that answers it. What an end sent to several ports is put into the order in which
-the kernel took it."""
+the kernel took it. And it is counted what an end sent that a socket had no room for: a leg is not whole then."""
 from __future__ import annotations
 
 import contextlib
@@ -35,6 +35,9 @@ Fates = Callable[[EndName, int], Fate]
 LONGEST = 65_535
 # Linux's option by which a datagram has the time at which the kernel took it, in seconds and nanoseconds.
 TIMES, TIME = 35, struct.Struct("@ll")
+# Linux's option that tells of a socket's memory; the ninth number is how many datagrams it had no room for.
+MEMORY, NUMBERS = 55, struct.Struct("@9I")
+ROOM = 1 << 22
 # So many seconds a datagram waits at most for the next one of its sender, before which it came.
 BRIEFLY = 0.2
 
@@ -120,6 +123,7 @@ def opened(at: Endpoint) -> socket.socket:
     made = socket.socket(at.family(), socket.SOCK_DGRAM)
     if sys.platform == "linux":
         made.setsockopt(socket.SOL_SOCKET, TIMES, 1)
+    made.setsockopt(socket.SOL_SOCKET, socket.SO_RCVBUF, ROOM)
     try:
         made.bind(at)
     except OSError:
@@ -137,6 +141,13 @@ def received(side: Side) -> Came:
     return Came(seconds * 1_000_000_000 + rest, side, Endpoint(*address[:2]), payload)
 
 
+def missed_by(side: Side) -> int:
+    """How many datagrams a socket had no room for, as far as the kernel tells it."""
+    if sys.platform != "linux":
+        return 0
+    return int(NUMBERS.unpack(side.socket.getsockopt(socket.SOL_SOCKET, MEMORY, NUMBERS.size))[-1])
+
+
 def stay_on_one_processor(number: int) -> None:
     """What this thread sends comes in its order then, also from several sockets to one."""
     if sys.platform == "linux":
@@ -152,6 +163,7 @@ class Relay:
         self.legs: dict[EndName, list[Timed]] = {"client": [], "server": []}
         self.count: dict[EndName, int] = {"client": 0, "server": 0}
         self.tally: Counter[Fate] = Counter()
+        self.missed: Counter[EndName] = Counter()
         self.held: list[Held] = []
         self.sides: dict[tuple[EndName, Endpoint], Side] = {}
         self.failed: Optional[OSError] = None
@@ -188,6 +200,8 @@ class Relay:
         self.close()
 
     def close(self) -> None:
+        for side in self.sides.values():
+            self.missed[side.faces] += missed_by(side)
         for each in (*(side.socket for side in self.sides.values()), self.stops, self.told):
             each.close()
         self.selector.close()

@@ -112,7 +112,7 @@ def recorded(relay: Relay, seed: int, folder: Path, server: Endpoint, ended: str
     recordings = {end: folder / f"{end}.pcapng" for end in ENDS}
     for end, place in recordings.items():
         with told(f"cannot write {str(place)!r}"):
-            place.write_bytes(pcapng(relay.legs[end], b"tftp-trial"))
+            place.write_bytes(pcapng(relay.legs[end], b"tftp-trial", relay.missed[end]))
     behind = {side.at: side.stands_for for side in relay.sides.values()}
     asked: dict[EndName, Endpoint] = {"client": relay.listens, "server": server}
     return Run(seed, recordings, asked, ended, relay.tally, behind)

@@ -11,8 +11,10 @@ from typing import NamedTuple, Optional
 # Packets of IP without a link, and UDP among what IP carries.
 RAW, UDP = 101, 17
 # The types of blocks, and the options of a section and of an interface: who wrote it, and its unit of time.
-SECTION, INTERFACE, PACKET = 0x0A0D0D0A, 1, 6
+SECTION, INTERFACE, STATISTICS, PACKET = 0x0A0D0D0A, 1, 5, 6
 WRITER, UNIT, NANOSECONDS = 4, 9, 9
+# The options of what an interface dropped, and the operating system (section 4.6).
+IF_DROP, OS_DROP = 5, 7
 DO_NOT_FRAGMENT = 0x4000
 # Of the identifications of IPv4, 0 says nothing (RFC 6864, section 4.1).
 IDENTIFICATIONS = 65_535
@@ -111,11 +113,20 @@ def packet_body(order: str, interface: int, ticks: int, content: bytes, original
     return struct.pack(f"{order}IIIII", interface, high, low, *sizes) + content + bytes(-len(content) % 4)
 
 
-def pcapng(passed: Iterable[Timed], writer: bytes) -> bytes:
-    """A recording of packets of IP at one interface, in nanoseconds."""
+def statistics(order: str, place: int, *counts: tuple[int, int], is_ended: bool = True) -> bytes:
+    """A statistics block of an interface, with counts by the codes of their options, and perhaps no end of these: what
+    the interface or the operating system dropped since the capture began (section 4.6)."""
+    told = options(order, *((code, struct.pack(f"{order}Q", count)) for code, count in counts), is_ended=is_ended)
+    return block(order, STATISTICS, struct.pack(f"{order}III", place, 0, 0) + told)
+
+
+def pcapng(passed: Iterable[Timed], writer: bytes, missed: int = 0) -> bytes:
+    """A recording of packets of IP at one interface, in nanoseconds; so many are missing in it."""
     interface = struct.pack("<HHI", RAW, 0, 0) + options("<", (UNIT, bytes([NANOSECONDS])))
     parts = [section_header("<", writer), block("<", INTERFACE, interface)]
     for number, it in enumerate(passed):
         packet = packet_of(it.datagram, number)
         parts.append(block("<", PACKET, packet_body("<", 0, it.time, packet, len(packet))))
+    if missed:
+        parts.append(statistics("<", 0, (OS_DROP, missed)))
     return b"".join(parts)
