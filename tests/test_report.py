@@ -28,7 +28,7 @@ from tftp_tools.junit import spoken
 SCRIPT, EXAMPLES = TOP / "tools" / "tftp-report", TOP / "examples"
 BROWSERS = ("chromium", "chromium-browser", "google-chrome")
 # HTML's elements without an end.
-VOID = ("meta", "br")
+VOID = ("meta", "br", "input")
 LOADING = ("link", "script", "img", "iframe", "object", "embed", "video", "audio", "base", "form")
 MANY, LONGEST = 1_000, 300.0
 
@@ -78,7 +78,7 @@ def run(words: Sequence[object], given: bytes = b"") -> tuple[str, str, int]:
 
 def lines_of_page(output: str) -> list[str]:
     """The cells of each row of the table, as text."""
-    rows = re.findall(r"<tr>(.*?)</tr>", output)
+    rows = re.findall(r"<tr\b[^>]*>(.*?)</tr>", output)
     return [" | ".join(re.sub(r"<[^>]*>", "", cell) for cell in re.findall(r"<t[hd].*?</t[hd]>", row)) for row in rows]
 
 
@@ -148,14 +148,15 @@ class Report(Checks):
         self.check("a session, status", (errors, status) == ("", 1), (errors, status))
         rows = lines_of_page(output)
         self.check("a session, a row each", len(rows) == 6, rows)
-        first = '1 | 192.0.2.1:34056 | 192.0.2.1:51973 | get &quot;boot.cfg&quot; | 1,300 | - | '
+        first = "1 | accepted get octet blocks 3 bytes 1300 | 192.0.2.1:34056 | 192.0.2.1:51973 | "
+        first += "get &quot;boot.cfg&quot; | 1,300 | - | "
         self.check("a session, the first", rows[1].startswith(first), rows[1])
-        self.check("a session, its verdict", rows[1].endswith(" | accepted get octet blocks 3 bytes 1300"), rows[1])
-        self.check("a session, the third", rows[3].endswith(f" | refused datagram 3 rule {Rule.ACK_AHEAD}"), rows[3])
+        third = f"3 | refused datagram 3 rule {Rule.ACK_AHEAD} | "
+        self.check("a session, the third", rows[3].startswith(third), rows[3])
         boot = b"".join(b"boot.cfg line %05d\n" % number for number in range(82))[:1300]
         words = page.text()
         for told in (
-            "5 transfers, 1 of them not accepted.", f"1,300 bytes, SHA-256 {hashlib.sha256(boot).hexdigest()}.",
+            "5 transfers: 1 refused, 4 accepted.", f"1,300 bytes, SHA-256 {hashlib.sha256(boot).hexdigest()}.",
             "It follows the ERROR in datagram 2 (line 8, frame 16), which is not acknowledged; this does no harm.",
             "Refused: datagram 3 (line 10, frame 17)", "00000 00 04 00 01",
             "Compared with: datagram 2 (line 8, frame 16)",
@@ -166,6 +167,42 @@ class Report(Checks):
             self.check(f"a session, {told}", told in words, words[:3000])
         heads = [it for it in page.named("th") if it.get("scope") == "col"]
         self.check("a session, headings", len(heads) == 10 and page.named("html")[0].get("lang") == "en", heads)
+
+    def test_choices(self) -> None:
+        """What can be shown alone and in which order, by the page's style: each choice names rows, and gives places."""
+        output, _, _ = run([*self.programs, EXAMPLES / "loopback-session.pcap"])
+        page = Page(output)
+        inputs = [it for it in page.named("input") if it["type"] == "radio"]
+        ids = [it["id"] or "" for it in inputs]
+        shown = ["show-all", "show-is-refused", "show-is-accepted"]
+        orders = ["by-number", "by-verdict", "by-size", "by-seconds", "by-repeated"]
+        self.check("the choices", ids == shown + orders, ids)
+        self.check("each has its words", [it["for"] for it in page.named("label")] == ids)
+        first = [it["id"] for it in inputs if "checked" in it]
+        self.check("what is chosen first", first == ["show-all", "by-number"], first)
+        for word in ("all 5", "1 refused", "4 accepted", "the worst first"):
+            self.check(f"the choice {word}", word in page.text())
+        rows = [it for it in page.named("tr") if "style" in it]
+        kinds = [(it["class"] or "").split() for it in rows]
+        wanted = ["is-accepted", "is-accepted", "is-refused", "is-accepted", "is-accepted"]
+        self.check("each row is of its kind", kinds == [["of", kind] for kind in wanted], kinds)
+        sections = [(it.get("class") or "").split() for it in page.named("section")]
+        self.check("so is each section", sections == kinds, sections)
+        places = {name: [int(re.findall(rf"--{name}:(\d+);", it["style"] or "")[0]) for it in rows] for name in
+                  ("number", "verdict", "size")}
+        # sizes 1300, 1300, none, 1024, 1536
+        right = {"number": [1, 2, 3, 4, 5], "verdict": [2, 3, 1, 4, 5], "size": [2, 3, 5, 4, 1]}
+        self.check("the places of the rows", places == right, places)
+        for kind in ("is-refused", "is-accepted"):
+            rule = f"main:has(#show-{kind}:checked) :is(tr,section).of:not(.{kind}){{display:none}}"
+            self.check(f"what hides the others of {kind}", rule in output)
+        rule = "main:has(#by-size:checked) tbody>tr{--at:var(--size)}"
+        self.check("what orders the rows", rule in output and "tbody>tr>*{order:var(--at)}" in output)
+        self.check("the columns", [it.get("role") for it in page.named("th")][:2] == ["columnheader"] * 2)
+        alone = self.folder / "alone.pcap"
+        alone.write_bytes(made.file_of(made.read("a", 40_000, 41_000)))
+        output, _, _ = run([*self.programs, "--end", "client", alone])
+        self.check("one transfer, no choice", Page(output).named("input") == [] and "1 transfer: 1 accepted." in output)
 
     def test_pictures(self) -> None:
         """What the pictures say in words: repeats, a pause, what is missing; and what a reader of the table is told."""
@@ -182,7 +219,8 @@ class Report(Checks):
         ):
             self.check(f"a window, {told}", told in words, words)
         row = lines_of_page(output)[1]
-        holds = "| 32 | blksize=8 windowsize=4 | 1.120 | 29 B/s | 2, 0 | accepted get octet blocks 5 bytes 32" in row
+        holds = row.startswith("1 | accepted get octet blocks 5 bytes 32 | ")
+        holds = holds and row.endswith(" | 32 | blksize=8 windowsize=4 | 1.120 | 29 B/s | 2, 0")
         self.check("a window, its row", holds, row)
         self.check("a window, repeats are hollow", output.count('class="hollow s-error"') >= 2)
         path.write_bytes(made.file_of(passed[:6], times[:6]))
@@ -346,7 +384,7 @@ class Report(Checks):
         told = "100 transfers of 1,000 have pictures: those not accepted come first." in page.text()
         holds = (sections, pictures, status) == (MANY, 200, 1) and told
         self.check("many, sections and pictures", holds, (sections, pictures, errors))
-        self.check("many, those not accepted", "1,000 transfers, 100 of them not accepted." in page.text())
+        self.check("many, those not accepted", "1,000 transfers: 100 refused, 900 accepted." in page.text())
         written.write_text(output)
         return written
 
@@ -361,6 +399,7 @@ class Report(Checks):
         call = [browser, "--headless", "--no-sandbox", "--disable-gpu", f"--user-data-dir={self.folder / 'profile'}"]
         for name, page, words in (
             ("light", small, ("--window-size=1280,1600",)), ("many", large, ("--window-size=1280,1600",)),
+            ("narrow", large, ("--window-size=390,1600",)),
             ("dark", small, ("--window-size=1280,1600", "--blink-settings=preferredColorScheme=0")),
         ):
             shot = self.folder / f"{name}.png"

@@ -1,8 +1,9 @@
-"""A report on a recording as a page of HTML, which loads nothing and runs nothing: the transfers in a table, and of
-each what is to be said of it."""
+"""A report on a recording as a page of HTML, which loads nothing and runs nothing: the transfers in a table, which its
+style alone can filter and put in other orders, and of each what is to be said of it."""
 from __future__ import annotations
 
-from collections.abc import Iterable
+from collections import Counter
+from collections.abc import Callable, Iterable
 from dataclasses import dataclass
 from html import escape
 from itertools import groupby
@@ -20,15 +21,27 @@ from .recording import Judged, Listed
 from .remarks import NO_VERDICT, CameOver, Remarks, named
 
 ROWS = 60
-HEADINGS = ("No.", "Client", "Server", "File", "Size", "Options agreed", "Seconds", "Throughput", "Repeated", "Verdict")
+HEADINGS = ("No.", "Verdict", "Client", "Server", "File", "Size", "Options agreed", "Seconds", "Throughput", "Repeated")
+# What a verdict says in a word, the worst first, and by what it begins.
+KINDS = {
+    "refused": "refused ", "doubtful": "doubtful: ", "aborted": "aborted ", "incomplete": "incomplete ",
+    "too long": "too long ", "accepted": "accepted ",
+}
+# The columns of numbers.
+NUMBERS = ("Size", "Seconds", "Throughput", "Repeated")
+# Where a page is narrow, each row of the table is a card with the headings in it.
 STYLE = """
 :root{color-scheme:light dark}
 body{font:16px/1.5 'DejaVu Sans',Verdana,Arial,sans-serif;margin:1.5rem auto;max-width:75rem;padding:0 1rem}
 .wide{overflow-x:auto}
-table{border-collapse:collapse;font-size:.85rem}
+table{font-size:.85rem;display:grid;grid-template-columns:repeat(10,auto)}
+thead,tbody,tr{display:contents}
+thead th{order:-1}tbody>tr>*{order:var(--at)}
+fieldset{border:1px solid;display:inline-block;margin:0 .6rem .6rem 0}
+fieldset span{display:inline-block;margin-right:.8rem}
 th,td{text-align:left;vertical-align:top;padding:.3rem .6rem;border-bottom:1px solid}
 td.number{text-align:right;font-variant-numeric:tabular-nums;white-space:nowrap}
-caption{text-align:left;font-weight:bold;padding-bottom:.4rem}
+caption{text-align:left;font-weight:bold;padding-bottom:.4rem;grid-column:1/-1;order:-2}
 section{border-top:2px solid;margin-top:2.5rem}
 dl{display:grid;grid-template-columns:max-content 1fr;gap:.2rem 1rem}
 dt{font-weight:bold;grid-column:1}dd{margin:0;grid-column:2;overflow-wrap:anywhere}
@@ -36,7 +49,15 @@ pre{font-size:.75rem;overflow-x:auto;padding:.6rem;margin:0}
 h4{margin:.6rem 0}figure{margin:0}
 .beside{display:flex;flex-wrap:wrap;gap:1rem}
 svg{max-width:100%;height:auto}
-@media print{body{max-width:none;margin:0}section,figure,.beside div{break-inside:avoid}a{text-decoration:none}}
+@media (max-width:48rem){
+body{margin:.8rem auto}table{display:flex;flex-direction:column}thead{display:none}
+tbody>tr{display:block;order:var(--at);border-bottom:2px solid;padding:.5rem 0}
+tbody>tr>*{display:grid;grid-template-columns:8.5rem 1fr;border:0;padding:.1rem 0;overflow-wrap:anywhere}
+tbody>tr>*::before{content:attr(data-heading);font-weight:bold}
+td.number{text-align:left;white-space:normal}dl{grid-template-columns:1fr}dd{grid-column:1}
+}
+@media print{fieldset{display:none}body{max-width:none;margin:0}a{text-decoration:none}
+section,figure,.beside div{break-inside:avoid}}
 """
 
 
@@ -58,6 +79,10 @@ class Entry:
     def says(self) -> str:
         """The verdict, as it is told of a recording."""
         return f"{'doubtful: ' if self.judged.doubts else ''}{self.judged.verdict.line}"
+
+    def kind(self) -> str:
+        """The verdict in a word."""
+        return next(kind for kind, begins in KINDS.items() if self.says().startswith(begins))
 
     def state(self) -> str:
         """The colour of its verdict."""
@@ -105,13 +130,13 @@ def page_style() -> str:
             (".refused", f"color:{colours['refused']}"), (".odd", f"color:{colours['error']}"),
             ("mark", f"background:{colours['refused']};color:{colours['ground']}"),
             (".muted", f"color:{colours['muted']}"),
-            ("th,td,section", f"border-color:{colours['edge']}"),
+            ("th,td,tr,section,fieldset", f"border-color:{colours['edge']}"),
         )
         return "".join(f"{name}{{{rule}}}" for name, rule in rules)
 
     dark = f"@media screen and (prefers-color-scheme:dark){{{of(DARK)}{lines_of(DARK)}}}"
     pictures = picture_style().partition("@media")[0]
-    return f"{STYLE}{of(LIGHT)}{pictures}{dark}"
+    return f"{STYLE}{choosing_style()}{of(LIGHT)}{pictures}{dark}"
 
 
 def rate(facts: Facts) -> str:
@@ -125,26 +150,87 @@ def rate(facts: Facts) -> str:
     return f"{per_second:,.0f} B/s"
 
 
-def table_row(it: Entry) -> str:
+def word_of(kind: str) -> str:
+    """A kind as a name in the page."""
+    return f"is-{kind.replace(' ', '-')}"
+
+
+# The orders in which the rows may stand, by their names and what comes first.
+ORDERS: dict[str, tuple[str, Callable[[Entry], float]]] = {
+    "number": ("by number", lambda it: it.number()),
+    "verdict": ("the worst first", lambda it: list(KINDS).index(it.kind())),
+    "size": ("the largest first", lambda it: -(it.file.size if it.file else it.facts.bytes)),
+    "seconds": ("the longest first", lambda it: -(it.facts.seconds or 0)),
+    "repeated": ("the most repeated first", lambda it: -(it.facts.repeated_blocks + it.facts.repeated_acks)),
+}
+
+
+def places_of(entries: list[Entry]) -> dict[int, dict[str, int]]:
+    """Of each transfer the place that it has in each order."""
+    places: dict[int, dict[str, int]] = {it.number(): {} for it in entries}
+    for name, (_, key) in ORDERS.items():
+        for place, it in enumerate(sorted(entries, key=key), 1):
+            places[it.number()][name] = place
+    return places
+
+
+def choice(group: str, name: str, words: str, is_first: bool) -> str:
+    one = f"{group}-{name}"
+    checked = " checked" if is_first else ""
+    box = f'<input type="radio" name="{group}" id="{one}"{checked}>'
+    return f'<span>{box}<label for="{one}">{escape(words)}</label></span>\n'
+
+
+def choices(entries: list[Entry]) -> str:
+    """What of the transfers is shown, and in which order; nothing where there is only one."""
+    if len(entries) < 2:
+        return ""
+    kinds = Counter(it.kind() for it in entries)
+    shown = choice("show", "all", f"all {len(entries):,}", True)
+    shown += "".join(choice("show", word_of(it), f"{kinds[it]:,} {it}", False) for it in KINDS if kinds[it])
+    orders = "".join(choice("by", name, words, name == "number") for name, (words, _) in ORDERS.items())
+    fields = (("Show", shown), ("Order of the table", orders))
+    return "".join(f"<fieldset><legend>{legend}</legend>\n{inputs}</fieldset>\n" for legend, inputs in fields)
+
+
+def choosing_style() -> str:
+    """What a choice does: it hides what is of another kind, and gives each row its place."""
+    words = map(word_of, KINDS)
+    hidden = (f"main:has(#show-{it}:checked) :is(tr,section).of:not(.{it}){{display:none}}" for it in words)
+    placed = (f"main:has(#by-{name}:checked) tbody>tr{{--at:var(--{name})}}" for name in ORDERS)
+    return "".join((*hidden, *placed))
+
+
+def table_row(it: Entry, places: dict[str, int]) -> str:
     listed, facts = it.listed, it.facts
     agreed = " ".join(f"{name}={value}" for name, value in facts.agreed) or "-"
     seconds = f"{facts.seconds:.3f}" if facts.seconds is not None else "-"
     again = f"{facts.repeated_blocks:,}, {facts.repeated_acks:,}"
-    cells = [f'<th scope="row"><a href="#t{it.number()}">{it.number()}</a></th>']
-    cells += [f"<td>{escape(words)}</td>" for words in (listed.client, listed.server, f"{listed.kind} {listed.file}")]
-    cells.append(f'<td class="number">{it.size()}</td><td>{escape(agreed)}</td>')
-    cells += [f'<td class="number">{escape(words)}</td>' for words in (seconds, rate(facts), again)]
-    return f'<tr>{"".join(cells)}<td class="{it.state()}">{escape(it.says())}</td></tr>'
+    number = f'<a href="#t{it.number()}">{it.number()}</a>'
+    words = (it.says(), listed.client, listed.server, f"{listed.kind} {listed.file}", it.size(), agreed)
+    cells = [number, *(escape(word) for word in (*words, seconds, rate(facts), again))]
+    at = "".join(f"--{name}:{place};" for name, place in places.items())
+    parts = [cell_of(heading, content, it.state()) for heading, content in zip(HEADINGS, cells)]
+    return f'<tr class="of {word_of(it.kind())}" role="row" style="{at}">{"".join(parts)}</tr>'
+
+
+def cell_of(heading: str, content: str, state: str) -> str:
+    """A cell of a row, which has its heading with it, where the table is narrow."""
+    kind = {"Verdict": f' class="{state}"', **dict.fromkeys(NUMBERS, ' class="number"')}.get(heading, "")
+    if heading == HEADINGS[0]:
+        return f'<th scope="row" role="rowheader" data-heading="{heading}"><span>{content}</span></th>'
+    return f'<td role="cell" data-heading="{heading}"{kind}><span>{content}</span></td>'
 
 
 def table(entries: list[Entry]) -> str:
-    heads = "".join(f'<th scope="col">{escape(words)}</th>' for words in HEADINGS)
-    rows = "\n".join(table_row(it) for it in entries)
+    heads = "".join(f'<th scope="col" role="columnheader">{escape(words)}</th>' for words in HEADINGS)
+    places = places_of(entries)
+    rows = "\n".join(table_row(it, places[it.number()]) for it in entries)
     told = "Size in bytes, in brackets what passed of a file that is not accepted. Repeated: blocks, ACKs."
     return (
         '<div class="wide" role="region" aria-label="The transfers" tabindex="0">\n'
-        f"<table>\n<caption>The transfers</caption>\n<thead><tr>{heads}</tr></thead>\n"
-        f'<tbody>\n{rows}\n</tbody></table></div>\n<p class="muted">{told}</p>\n'
+        f'<table role="table">\n<caption>The transfers</caption>\n<thead role="rowgroup"><tr role="row">{heads}</tr>'
+        f'</thead>\n<tbody role="rowgroup">\n{rows}\n</tbody></table></div>\n<p class="muted">{told}</p>\n'
     )
 
 
@@ -209,12 +295,12 @@ def section(it: Entry, is_drawn: bool) -> str:
     told = [*explain(it.judged.verdict, it.judged.text, it.capture), *it.judged.told()]
     if it.file:
         told.append(("File", f"{it.file.told()}."))
-    name = f"t{it.number()}"
+    name, kind = f"t{it.number()}", word_of(it.kind())
     asked, listed = f"{it.listed.kind} {it.listed.file}", it.listed
     frames = f"frames {listed.first_frame:,} to {listed.last_frame:,}"
     seen = f"{listed.client} and {listed.server}, {frames}; {it.place()}"
     return (
-        f'<section aria-labelledby="{name}">\n<h2 id="{name}">{it.number()}. {escape(asked)}</h2>'
+        f'<section class="of {kind}" aria-labelledby="{name}">\n<h2 id="{name}">{it.number()}. {escape(asked)}</h2>'
         f'\n<p class="{it.state()}"><strong>{escape(it.says())}</strong></p>\n'
         f'<p class="muted">{escape(seen)}</p>\n'
         f"{reasons(told)}{bytes_of(it)}{what_if(it)}{pictures(it) if is_drawn else ''}</section>\n"
@@ -222,10 +308,10 @@ def section(it: Entry, is_drawn: bool) -> str:
 
 
 def summed(entries: list[Entry]) -> str:
-    odd = sum(it.judged.verdict.status != 0 for it in entries)
-    if len(entries) == 1:
-        return f"1 transfer, {'not ' if odd else ''}accepted"
-    return f"{len(entries):,} transfers, {f'{odd:,} of them not' if odd else 'each'} accepted"
+    """How many transfers have which kind of verdict, the worst first."""
+    kinds = Counter(it.kind() for it in entries)
+    told = ", ".join(f"{kinds[kind]:,} {kind}" for kind in KINDS if kinds[kind])
+    return f"{count(len(entries), 'transfer')}: {told}"
 
 
 def drawn_ones(entries: list[Entry], most: int) -> set[int]:
@@ -251,5 +337,5 @@ def page(path: str, entries: list[Entry], told: Iterable[str], most: int) -> str
         f'<meta http-equiv="Content-Security-Policy" content="{policy}">\n'
         f'<meta name="viewport" content="width=device-width, initial-scale=1">\n<title>TFTP in {name}</title>\n'
         f"<style>{page_style()}</style>\n</head>\n<body>\n<main>\n<h1>TFTP in {name}</h1>\n<p>{summed(entries)}.</p>\n"
-        f"{notes}{table(entries)}{sections}</main>\n</body>\n</html>\n"
+        f"{notes}{choices(entries)}{table(entries)}{sections}</main>\n</body>\n</html>\n"
     )
