@@ -1,5 +1,13 @@
 //! What is to be told of a recording as a whole.
 
+ghost use Rattle.std.specs.Prelude.{◌≡◌, ◌≤◌, ◌<◌, ◌∷◌, [], ℕ, List, Option, OnOk, false, true};
+ghost use Rattle.std.specs.declared.net.ip_addr.IpAddr.{IpAddr as Host};
+ghost use Rattle.audit_flows.specs.Lines.{same_address};
+ghost use Rattle.audit_recording.specs.Losses.Noted.{IsAsked, IsFirst, IsMissingOf, IsTold, Since};
+ghost use Rattle.audit_recording.specs.Losses.Noted.Event.{Asks, Waits};
+ghost use Rattle.audit_recording.specs.Reasons.Clock.{IsClockAfter};
+ghost use Rattle.audit_recording.specs.Session.Noted.{AreHostsOf, AreNotesOf, Noticed, finding, frames_in, giving_up, leaving, losing, may_be_datagram, nothing_noticed, noting, others, passing_by, sharers_of, stretch_of, unread_in};
+
 use crate::blame::{Missing, Passing, Reason, Trail};
 use crate::session::clock::Clock;
 use crate::session::intact::IntactHosts;
@@ -98,7 +106,9 @@ pub struct Notes {
 
 impl Notes {
     /// Nothing was read.
-    pub(crate) fn new(alloc: Global) -> Self {
+    pub(crate) fn new(alloc: Global) -> Self
+        ensures { AreNotesOf result nothing_noticed }
+    {
         Notes {
             lost: Frames::new(alloc),
             losses: Losses::new(alloc),
@@ -116,29 +126,52 @@ impl Notes {
         }
     }
 
-    /// Notes a datagram's time and checksum.
-    pub(crate) fn pass(&mut self, passing: &Passing<'_>) -> Result<(), AllocError> {
+    /// Notes a datagram's time and checksum. After an error they stand for nothing, here and below.
+    pub(crate) fn pass(&mut self, passing: &Passing<'_>) -> Result<(), AllocError>
+        ensures { (s : Noticed) → AreNotesOf self.old s → OnOk result (AreNotesOf self.new (passing_by passing.now s)) }
+    {
         self.intact.note(passing)?;
         match passing.time {
-            Some(time) if self.clock.pass(time) => self.backwards.add(passing.frame),
-            _ => Ok(()),
+            Some(time) => self.pass_at(passing.frame, time),
+            None => Ok(()),
         }
     }
 
+    /// Notes a datagram's time.
+    fn pass_at(&mut self, frame: u64, time: u64) -> Result<(), AllocError>
+        ensures clock { (times : List ℕ) → IsClockAfter self.old.clock times → IsClockAfter self.new.clock (time ∷ times) }
+        ensures losses { self.new.losses ≡ self.old.losses }
+        ensures intact { self.new.intact ≡ self.old.intact }
+    {
+        if self.clock.pass(time) {
+            self.backwards.add(frame)?;
+        }
+        Ok(())
+    }
+
     /// Notes a client's request, in that frame, which opens a transfer.
-    pub(crate) fn ask(&mut self, alloc: Global, trail: &Trail) -> Result<(), AllocError> {
+    pub(crate) fn ask(&mut self, alloc: Global, trail: &Trail) -> Result<(), AllocError>
+        ensures { (s : Noticed) → AreNotesOf self.old s → s.last < trail.now.first
+            → OnOk result (AreNotesOf self.new (noting (Asks trail.now.transfer.client.address trail.now.first) trail.now.first s)) }
+    {
         let host = trail.transfer.client.address;
         self.losses.ask(alloc, host, trail.first)
     }
 
     /// Notes a frame that waits for others of its packet.
-    pub(crate) fn wait(&mut self, alloc: Global, event: &Event) -> Result<(), AllocError> {
+    pub(crate) fn wait(&mut self, alloc: Global, event: &Event) -> Result<(), AllocError>
+        ensures { (s : Noticed) → AreNotesOf self.old s → s.last ≤ event.now.frame.number
+            → OnOk result ((hosts : Option (Host × Host)) × AreHostsOf event.now hosts
+            × AreNotesOf self.new (noting (Waits (unread_in self.old.clock.reached event.now hosts s.times)) event.now.frame.number s)) }
+    {
         let time = self.clock.moment_of(event.time());
         self.losses.wait(alloc, event.number(), event.hosts(), time)
     }
 
     /// Notes frames for which no others are missing any more.
-    pub(crate) fn find(&mut self, alloc: Global, frames: &[u64]) -> Result<(), AllocError> {
+    pub(crate) fn find(&mut self, alloc: Global, frames: &[u64]) -> Result<(), AllocError>
+        ensures { (s : Noticed) → AreNotesOf self.old s → OnOk result (AreNotesOf self.new (finding self.old.clock.reached frames.now s)) }
+    {
         for frame in frames {
             self.losses.find(alloc, *frame, self.clock.reached)?;
         }
@@ -146,7 +179,10 @@ impl Notes {
     }
 
     /// Notes frames that waited for others in vain.
-    pub(crate) fn lose(&mut self, alloc: Global, frames: &[u64]) -> Result<(), AllocError> {
+    pub(crate) fn lose(&mut self, alloc: Global, frames: &[u64]) -> Result<(), AllocError>
+        ensures stands { (s : Noticed) → AreNotesOf self.old s → OnOk result (AreNotesOf self.new (giving_up frames.now s)) }
+        ensures clock { self.new.clock ≡ self.old.clock }
+    {
         for frame in frames {
             self.lost.add(*frame)?;
             self.losses.give_up(alloc, *frame)?;
@@ -155,15 +191,38 @@ impl Notes {
     }
 
     /// Notes a frame that can't be read, and those that share its fate, of which it may be one.
-    fn lose_with(&mut self, alloc: Global, event: &Event) -> Result<(), AllocError> {
-        let (frame, time) = (event.number(), self.clock.moment_of(event.time()));
-        for sharer in event.sharers() {
-            if *sharer != frame {
-                self.lose(alloc, &[*sharer])?;
-            }
-        }
+    fn lose_with(&mut self, alloc: Global, event: &Event) -> Result<(), AllocError>
+        ensures { (s : Noticed) → AreNotesOf self.old s → s.last ≤ event.now.frame.number
+            → OnOk result ((hosts : Option (Host × Host)) × AreHostsOf event.now hosts
+            × AreNotesOf self.new (losing self.old.clock.reached event.now hosts s)) }
+    {
+        let frame = event.number();
+        self.lose_others(alloc, event.sharers(), frame)?;
         self.lost.add(frame)?;
+        let time = self.clock.moment_of(event.time());
         self.losses.lose(alloc, frame, event.hosts(), time)
+    }
+
+    /// Notes frames that waited in vain, but for this one.
+    fn lose_others(&mut self, alloc: Global, frames: &[u64], frame: u64) -> Result<(), AllocError>
+        ensures stands { (s : Noticed) → AreNotesOf self.old s → OnOk result (AreNotesOf self.new (giving_up (others frame frames.now) s)) }
+        ensures clock { self.new.clock ≡ self.old.clock }
+    {
+        for other in frames {
+            self.lose_other(alloc, *other, frame)?;
+        }
+        Ok(())
+    }
+
+    /// Notes a frame that waited in vain, unless it is this one.
+    fn lose_other(&mut self, alloc: Global, other: u64, frame: u64) -> Result<(), AllocError>
+        ensures stands { (s : Noticed) → AreNotesOf self.old s → OnOk result (AreNotesOf self.new (giving_up (others frame (other ∷ [])) s)) }
+        ensures clock { self.new.clock ≡ self.old.clock }
+    {
+        if other == frame {
+            return Ok(());
+        }
+        self.lose(alloc, &[other])
     }
 
     /// Notes fragments that were let go.
@@ -171,11 +230,10 @@ impl Notes {
         &mut self,
         alloc: Global,
         mut fragments: Fragments,
-    ) -> Result<(), AllocError> {
-        for _ in 0..u64::MAX {
-            let Some((_, frames)) = fragments.let_go_any() else {
-                return Ok(());
-            };
+    ) -> Result<(), AllocError>
+        ensures { (s : Noticed) → AreNotesOf self.old s → OnOk result (AreNotesOf self.new (giving_up (frames_in fragments) s)) }
+    {
+        while let Some((_, frames)) = fragments.let_go_any() {
             self.lose(alloc, frames.as_slice())?;
         }
         Ok(())
@@ -187,7 +245,13 @@ impl Notes {
         alloc: Global,
         why: LeftOut,
         event: &Event,
-    ) -> Result<(), AllocError> {
+    ) -> Result<(), AllocError>
+        ensures none { (s : Noticed) → AreNotesOf self.old s → may_be_datagram why ≡ false
+            → OnOk result (AreNotesOf self.new (leaving self.old.clock.reached why event.now s)) }
+        ensures lost { (s : Noticed) → AreNotesOf self.old s → may_be_datagram why ≡ true → s.last ≤ event.now.frame.number
+            → OnOk result ((hosts : Option (Host × Host)) × AreHostsOf event.now hosts
+            × AreNotesOf self.new (losing self.old.clock.reached event.now hosts s)) }
+    {
         match why {
             LeftOut::Copy => self.copies.add(event.number()),
             LeftOut::Frame(FrameFault::Link) => self.other_links.add(event.number()),
@@ -200,13 +264,17 @@ impl Notes {
     }
 
     /// Notes a datagram that its host discarded, and is left out.
-    pub(crate) fn discard(&mut self, alloc: Global, event: &Event) -> Result<(), AllocError> {
+    pub(crate) fn discard(&mut self, alloc: Global, event: &Event) -> Result<(), AllocError>
+        ensures { (s : Noticed) → AreNotesOf self.old s → OnOk result (AreNotesOf self.new (finding self.old.clock.reached (sharers_of event.now) s)) }
+    {
         self.find(alloc, event.sharers())?;
         self.discarded.add(event.number())
     }
 
     /// Notes a datagram of no transfer.
-    pub(crate) fn leave_out(&mut self, passing: &Passing<'_>) -> Result<(), AllocError> {
+    pub(crate) fn leave_out(&mut self, passing: &Passing<'_>) -> Result<(), AllocError>
+        ensures { (s : Noticed) → AreNotesOf self.old s → AreNotesOf self.new s }
+    {
         let port = u64::from(passing.target.port);
         let is_request = matches!(passing.payload, [0, 1 | 2, _, ..]);
         if is_request && self.asked.len() < NAMED && !self.asked.contains(&port) {
@@ -216,7 +284,11 @@ impl Notes {
     }
 
     /// The frames that may have been of a transfer's client, and are not there whole.
-    pub(crate) fn missing_of(&self, trail: &Trail) -> Missing {
+    pub(crate) fn missing_of(&self, trail: &Trail) -> Missing
+        ensures first { (s : Noticed) → AreNotesOf self.now s → IsFirst (IsMissingOf trail.now.transfer.client.address s.events) result.first }
+        ensures within { (s : Noticed) → AreNotesOf self.now s → IsAsked (λ host. same_address host trail.now.transfer.client.address) trail.now.first s.events
+            → IsTold (Since (IsMissingOf trail.now.transfer.client.address s.events) (stretch_of trail.now)) (stretch_of trail.now) result.within }
+    {
         self.losses.of(&Stretch {
             client: trail.transfer.client.address,
             first: trail.first,
