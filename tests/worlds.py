@@ -22,12 +22,13 @@ from collections.abc import Iterator
 from typing import NamedTuple, Optional
 
 import repository  # noqa: F401
+from fuzzing.attribution import Endpoint
 from fuzzing.command import parser_of, runnable, seed_of
 from fuzzing.framed import drawn_frame_kinds, framed
 from fuzzing.innocents import accusations, rows_of, shrunk
 from fuzzing.price import FORMS, Price
 from fuzzing.worlds import KINDS, Drawn, Recording, world_of
-from judged import checked
+from judged import Row, checked
 
 AT_ONCE = 25
 
@@ -68,6 +69,12 @@ def accused(world: Drawn, recording: Recording) -> Iterator[str]:
         yield f"seed {world.seed}, {it.words()}\n{rows_of(shrunk(world, it, recording).datagrams)}"
 
 
+def is_elsewhere(recording: Recording, row: Row, sender: Endpoint) -> bool:
+    """Whether a recording of a server's host is told of a transfer whose client is there: its server is elsewhere."""
+    is_server = row.accused.startswith("server ")
+    return recording.place == "server" and is_server != (sender.host == recording.host)
+
+
 def accused_in_file(transfers: str, world: Drawn, recording: Recording) -> Iterator[str]:
     """Who is accused by the program, where the place is named and where none is."""
     kinds = drawn_frame_kinds(world.seed)
@@ -75,7 +82,8 @@ def accused_in_file(transfers: str, world: Drawn, recording: Recording) -> Itera
     named = [word for port in world.named() for word in ("--service", str(port))]
     for place in ((), ("--end", recording.place)) if file.sources else ():
         for row in checked(transfers, file.file, *place, *named)[0]:
-            if row.is_accused() and file.sender(row.frame) not in world.strangers:
+            sender = file.sender(row.frame) if row.is_accused() else None
+            if sender and sender not in world.strangers and not is_elsewhere(recording, row, sender):
                 told = f"{recording.place} {recording.host}, as a file, {sorted(kinds)}, {place}"
                 yield f"seed {world.seed}, {told}: {row}"
 
