@@ -674,7 +674,7 @@ class Explained(Checks):
             ("an empty file", b"", (), f"{path}: no recording: the file is empty"),
             ("a file of gzip", b"\x1f\x8b\x08\0" + bytes(40), (), f"{path}: no recording: it is compressed by gzip:"),
             ("zeros", bytes(64), (2, "client"), f"{path}: no recording\n"),
-            ("a recording of nothing", made.file_of([]), (), f"{path}: there is no transfer in the recording"),
+            ("a recording of nothing", made.file_of([]), (), f"{path}: no request passed, so there is no transfer"),
             ("a recording that is cut", cut, (1, "client"), "nothing is written, since the recording is not whole"),
             ("a program without a word", cut, ("--transfers", "/bin/false"), "'/bin/false' gave no rows for"),
             ("a program with other words", cut, ("--transfers", "/bin/echo"), "'/bin/echo' gave no rows for"),
