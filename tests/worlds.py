@@ -70,7 +70,7 @@ def accused(world: Drawn, recording: Recording) -> Iterator[str]:
 
 
 def is_elsewhere(recording: Recording, row: Row, sender: Endpoint) -> bool:
-    """Whether a recording of a server's host is told of a transfer whose client is there: its server is elsewhere."""
+    """Whether a recording of a server's host is told of a transfer whose client is there: that place is not its server's."""
     is_server = row.accused.startswith("server ")
     return recording.place == "server" and is_server != (sender.host == recording.host)
 
@@ -83,9 +83,10 @@ def accused_in_file(transfers: str, world: Drawn, recording: Recording) -> Itera
     for place in ((), ("--end", recording.place)) if file.sources else ():
         for row in checked(transfers, file.file, *place, *named)[0]:
             sender = file.sender(row.frame) if row.is_accused() else None
-            if sender and sender not in world.strangers and not is_elsewhere(recording, row, sender):
-                told = f"{recording.place} {recording.host}, as a file, {sorted(kinds)}, {place}"
-                yield f"seed {world.seed}, {told}: {row}"
+            if not sender or sender in world.strangers or place and is_elsewhere(recording, row, sender):
+                continue
+            told = f"{recording.place} {recording.host}, as a file, {sorted(kinds)}, {place}"
+            yield f"seed {world.seed}, {told}: {row}"
 
 
 def try_some(work: Work) -> Tried:
