@@ -2,6 +2,7 @@ pub mod Basics
 pub mod Lists
 pub mod Stands
 pub mod Places
+pub mod Terms
 pub mod Talks
 pub mod Requests
 pub mod Recordings
@@ -31,6 +32,15 @@ pub mod ServedLaw
 pub mod ServedViews
 pub mod ServedTalks
 pub mod ServedStrays
+pub mod NearParts
+pub mod NextRuns
+pub mod LockStep
+pub mod AskedWindows
+pub mod SaidPayloads
+pub mod FarOff
+pub mod SecondBlocks
+pub mod WideWindows
+pub mod Earlier
 pub mod ServedEnd
 pub mod WorkedReads
 pub mod WorkedPremises

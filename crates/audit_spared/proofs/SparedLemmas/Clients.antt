@@ -233,7 +233,10 @@ state_other c k older kp rest x p off (taken a) = taken (record {
   ends = a.ends;
   asked = asked_other older kp x.number p off a.asked;
   came = or_right (comes x.number p) (list_any (comes x.number) older) a.came;
-  apart = a.apart;
+  there = a.there;
+  asks_it = a.asks_it;
+  went = a.went;
+  opened = a.opened;
 })
 state_other c k older kp rest x p off (mixed a) = mixed a
 
@@ -250,5 +253,6 @@ has_other c k older kp rest x p away off has = record {
   more = has.more;
   pure = has.pure;
   alike = has.alike;
+  terms = has.terms;
   state = state_other c k older kp rest x p off has.state;
 }

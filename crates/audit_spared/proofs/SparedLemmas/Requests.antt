@@ -12,8 +12,9 @@ use Rattle.audit_spared.proofs.FairLemmas.Thinned.{filter_kept, filter_dropped, 
 use Rattle.audit_spared.specs.Spared.{Follows, asks_from, comes_at, goes_from, goes_on_from}
 use Rattle.audit_spared.proofs.SparedLemmas.Basics.{doubted_more, doubted_again, all_and, all_first}
 use Rattle.law_model.proofs.ModelLemmas.Members.{contains_first, contains_later}
-use Rattle.audit_spared.proofs.SparedLemmas.Stands.{new, ends_in_request, IsPlain, asks, talks, Same, OthersOf, Asking, State, doubted, asking, waiting, misled, answered, reopened, taken, mixed, Has}
+use Rattle.audit_spared.proofs.SparedLemmas.Stands.{new, ends_in_request, IsPlain, asks, talks, Same, OthersOf, Asking, State, doubted, asking, waiting, misled, answered, reopened, taken, mixed, Terms, Has}
 use Rattle.audit_spared.proofs.SparedLemmas.Talks.{asked_more, filter_told}
+use Rattle.audit_spared.proofs.SparedLemmas.Terms.{terms_first, terms_open, terms_repeat, terms_repeat_first}
 
 -- ---- a request repeats what stands before it, or it opens a transfer
 
@@ -76,9 +77,10 @@ same_itself_all d = record { payload = refl; source = refl; target = refl }
 
 -- it is that of before
 repeat_has : (c : Endpoint) (k : List Recorded) (older kp rest : List Placed) (x : Transfer) (d : Recorded) (now : ℕ) → Has c k older kp rest x → ends_in_request kp ≡ true → asks_from c d ≡ true
-    → is_between c (other_of c d) d ≡ true → live now (line c older) ≡ line c older → State c (d ∷ k) (new d now (Repeats x) ∷ older) (new d now (Repeats x) ∷ kp) rest x
+    → is_between c (other_of c d) d ≡ true → live now (line c older) ≡ line c older → Terms c (d ∷ k) (new d now (Repeats x) ∷ kp) rest x
+    → State c (d ∷ k) (new d now (Repeats x) ∷ older) (new d now (Repeats x) ∷ kp) rest x
     → Has c (d ∷ k) (new d now (Repeats x) ∷ older) (new d now (Repeats x) ∷ kp) rest x
-repeat_has c k older kp rest x d now has request is here lived state = record {
+repeat_has c k older kp rest x d now has request is here lived terms state = record {
   whole = line_here c (new d now (Repeats x)) older (ap (λ e. same_endpoint e c) has.client ∙ same_itself c) ∙ ap (λ l. new d now (Repeats x) ∷ l) (lived ∙ has.whole);
   some = λ none. absurd (cc);
   are = ap (λ l. d ∷ l) has.are;
@@ -90,6 +92,7 @@ repeat_has c k older kp rest x d now has request is here lived state = record {
   more = λ any. or_right (goes_on_from c d) (list_any (goes_on_from c) k) (has.more any);
   pure = λ top. has.pure request;
   alike = λ e all. all.0 is;
+  terms = terms;
   state = state;
 }
 
@@ -130,10 +133,10 @@ again_is c k older kp rest x d now has follows is none lived =
 
 -- whatever its state
 open_has : (c : Endpoint) (k : List Recorded) (older kp rest : List Placed) (x : Transfer) (d : Recorded) (now : ℕ) → Has c k older kp rest x → Follows c k d → asks_from c d ≡ true
-    → live now (line c older) ≡ line c older
+    → live now (line c older) ≡ line c older → AllByRecursion (λ q. is_of (length older) q ≡ false) (kp ++ rest)
     → State c (d ∷ k) (new d now (Opens (opening (length older) d)) ∷ older) (new d now (Opens (opening (length older) d)) ∷ kp) rest (opening (length older) d)
     → Has c (d ∷ k) (new d now (Opens (opening (length older) d)) ∷ older) (new d now (Opens (opening (length older) d)) ∷ kp) rest (opening (length older) d)
-open_has c k older kp rest x d now has follows is lived state =
+open_has c k older kp rest x d now has follows is lived fresh state =
     let client : d.source ≡ c = is_same d.source c (asks_goes c d is) in record {
       whole = line_here c (new d now (Opens (opening (length older) d))) older (ap (λ e. same_endpoint e c) client ∙ same_itself c) ∙ ap (λ l. new d now (Opens (opening (length older) d)) ∷ l) (lived ∙ has.whole);
       some = λ none. absurd (cc);
@@ -146,6 +149,7 @@ open_has c k older kp rest x d now has follows is lived state =
       more = λ any. absurd (false≢true any);
       pure = λ top. refl;
       alike = λ e all. all.0 is;
+      terms = terms_open c k kp rest x d now (length older) is fresh has.terms;
       state = state;
     }
 
@@ -203,12 +207,16 @@ request_step c k older (q ∷ ps) rest x d now has follows is lived fresh line_f
       (λ none. again_state c k older (q ∷ ps) rest x d now has follows is none lived)
 
   by : IsAsked q (length older) d (place_asked (length older) d (q ∷ ps ++ rest)) → Result (place_asked (length older) d (line c older))
-  by (opened place) = subst Result (sym place ∙ here) (opening (length older) d, open_has c k older (q ∷ ps) rest x d now has follows is lived state)
+  by (opened place) = subst Result (sym place ∙ here) (
+    opening (length older) d,
+    open_has c k older (q ∷ ps) rest x d now has follows is lived
+        (subst (AllByRecursion (λ p. is_of (length older) p ≡ false)) has.whole line_fresh) state,
+  )
   by (repeated y request of again place) =
       let both : Some x ≡ Some y = sym (has.top request) ∙ of in
       let same : x ≡ y = cc in
       subst Result (ap Repeats same ∙ sym place ∙ here)
-      (x, repeat_has c k older (q ∷ ps) rest x d now has request is follows.here lived (repeat_state c k older q ps rest x d now request again is has.state))
+      (x, repeat_has c k older (q ∷ ps) rest x d now has request is follows.here lived (terms_repeat c k q ps rest x d now request again is has.terms) (repeat_state c k older q ps rest x d now request again is has.state))
 
 -- ---- the first of the next capture
 
@@ -249,6 +257,7 @@ open_first c older rest d now follows is lived plain fresh rest_fresh =
       more = λ any. absurd (false≢true any);
       pure = λ top. refl;
       alike = λ e all. all.0 is;
+      terms = terms_first c rest d now (length older) is rest_fresh;
       state = asking (fresh_asking c older rest d now is fresh rest_fresh);
     }
 
@@ -276,6 +285,7 @@ repeat_first c k older q ps rest x d now has follows request again lived =
       more = λ any. absurd (false≢true (sym (has.pure request) ∙ any));
       pure = λ top. has.pure request;
       alike = λ e all. all.0 is;
+      terms = terms_repeat_first c k q ps rest x d now request again is has.terms;
       state = by has.state;
     }
   where

@@ -8,14 +8,15 @@ use Rattle.law_model.specs.Rules.{asks, first_of, or_this}
 use Rattle.law_end.specs.{OneEnded, IsLawful, IsRefused, Passes, Rule}
 use Rattle.law_end.proofs.Division.RouteTests.{same_is as peers_same, is_same as same_peers}
 use Rattle.law_end.proofs.Whole.TwoEnds.{lawful}
-use Rattle.audit_flows.specs.Lines.{Recorded, Placed, same_address, same_endpoint, other_of, is_of, is_request, transfer_of, begins_error, begins_request, is_late, is_sent_by_client, says_first_word, speaks_first}
+use Rattle.audit_flows.specs.Lines.{Recorded, Placed, same_address, same_endpoint, other_of, is_of, is_request, transfer_of, agrees_late, begins_error, begins_request, is_late, may_be_earlier, rests_on_terms, says_first_word, speaks_first}
+use Rattle.audit_flows.specs.Lines.Doubting.{before_talk, is_other_talk, line_before, may_follow}
 use Rattle.audit_flows.specs.{Address, Endpoint, Place, Opens, Repeats, Talks, Apart, Beside, Nowhere, Transfer}
 use Rattle.audit_flows.proofs.LinesLemmas.Endpoints.{is_same, same_itself}
 use Rattle.audit_flows.proofs.LinesLemmas.Lines.{by_test}
 use Rattle.audit_flows.specs.Transfers.{asked_of as asked_by, client_view, placed, place_of, comes, goes_on, answered_by, went_on_with, server_of, is_server, is_at_server, has_host, has_port, goes_to_asked, is_beside, is_doubted, is_doubtful, is_doubtful_at_server, is_led_astray, some_of, comes_of_earlier, tells_strays}
 use Rattle.audit_spared.proofs.FairLemmas.Thinned.{filter_kept, filter_dropped, kept_or_not}
 use Rattle.audit_spared.specs.Spared.Seen.{HasNoSilence, is_with}
-use Rattle.audit_spared.specs.Spared.{AreCaptures, AsksInTime, as_served, at_server_of, captured_there, goes_from, is_doubted_there, is_shared, needs_doubt, seen_at_server, server_saw, transfer_beside, went_out}
+use Rattle.audit_spared.specs.Spared.{AreCaptures, AsksInTime, as_served, at_server_of, captured_there, goes_from, is_doubted_there, is_shared, is_talk_of_another, needs_doubt, seen_at_server, server_saw, transfer_beside, went_out}
 use Rattle.audit_spared.proofs.SparedLemmas.Basics.{all_last, all_map, doubtful_is, or_more}
 use Rattle.audit_spared.proofs.SparedLemmas.Lists.{all_flat, all_from, filter_all, filter_with, map_reversed}
 use Rattle.audit_spared.proofs.SparedLemmas.Requests.{all_second as all_each}
@@ -23,12 +24,13 @@ use Rattle.audit_spared.proofs.SparedLemmas.Stands.{new, Has}
 use Rattle.audit_spared.proofs.SparedLemmas.Places.{of_talk, no_request_talks}
 use Rattle.audit_spared.proofs.SparedLemmas.Talks.{first_some}
 use Rattle.audit_spared.proofs.SparedLemmas.Captured.{captures_at}
-use Rattle.audit_spared.proofs.SparedLemmas.Spared.{doubted_or, of_transfer}
+use Rattle.audit_spared.proofs.SparedLemmas.Earlier.{taken_or}
+use Rattle.audit_spared.proofs.SparedLemmas.Spared.{TakenAt, doubted_or, of_transfer}
 use Rattle.audit_spared.proofs.SparedLemmas.Whole.{AreAll, IsApart, all_apart, asked_of, kept_whole}
 use Rattle.audit_spared.proofs.SparedLemmas.ServedLaw.{IsServed, follows_served, served_before, name, peer_seen}
 use Rattle.audit_spared.proofs.SparedLemmas.ServedViews.{IsFair, seen, stated}
 use Rattle.audit_spared.proofs.SparedLemmas.ServedTalks.{TalksWith, Told, doubtful, still, told, told_more, told_none, told_one}
-use Rattle.audit_spared.proofs.SparedLemmas.ServedStrays.{AreStrays, keeps, passes_with}
+use Rattle.audit_spared.proofs.SparedLemmas.ServedStrays.{AreStrays, keeps, lawful_kept, passes_with}
 
 -- ---- who the server is
 
@@ -380,12 +382,41 @@ module _ (Late : Type 0) (write : Address → List ℕ) (write_one : (a b : Addr
           (subst (λ l. Passes (at_server_of 69) l (seen_at_server write x (placed [] recorded) p)) (sym same)
           (subst (λ d. Passes (at_server_of 69) (map (seen write host x.client) (client_view x.number older)) d) (sym alike) now))
 
+      -- where strays are left out the view is the client's, and lawful too
+      fair_before : OneEnded (at_server_of 69) (server_saw write x (placed [] recorded) older) → IsFair write host x.client (client_view x.number older)
+      fair_before before = subst (OneEnded (at_server_of 69))
+          (filtered (keeps 69 (name write host x.client x.client)) (is_at_server x.number (placed [] recorded)) (is_of x.number) (seen_at_server write x (placed [] recorded)) (seen write host x.client) older here.1)
+          (lawful_kept 69 (name write host x.client x.client) (server_saw write x (placed [] recorded) older) before strays)
+
+      pub taken_there : TakenAt (IsServed Late write host x.client) x.client x.number p older
+          → OneEnded (at_server_of 69) (server_saw write x (placed [] recorded) older) → (may_be_earlier p older ≡ true) ⊎ IsFair write host x.client (client_view x.number (p ∷ older))
+      taken_there t before = taken_or write host x.client x.number p older
+          (record { k = t.k; kp = t.kp; rest = t.rest; x = t.x; has = t.has; good = t.good.passes; taken = t.taken; one = t.one; with = t.with; number = t.number }) of
+          (fair_before before)
+
+    -- where a late request opened the transfer, it may be of an earlier one
+    pub late_spared : (rule : Rule) → IsRefused (at_server_of 69) (server_saw write x (placed [] recorded) older) (seen_at_server write x (placed [] recorded) p) rule
+        → (needs_doubt x.number (placed [] recorded) p older ≡ true) ⊎ (may_be_earlier p older ≡ true)
+    late_spared rule refused = elim (doubted_or (IsServed Late write host) clients recorded g x.client (IsFair write host x.client) Late tt (stated write host x.client Late) is_client newer older p are x at refl) [
+      | inl doubt ↦ inl doubt
+      | inr other ↦ elim talks_or [
+        | inl doubt ↦ inl (or_left (is_doubted_there x.number (placed [] recorded)) (some_of x.number is_late (p ∷ older)) doubt)
+        | inr talks ↦ elim other [
+          | inl taken ↦ elim (taken_there talks taken.1 refused.lawful) [
+            | inl earlier ↦ inr earlier
+            | inr fair ↦ absurd ((passes_there talks fair refused.lawful).lawful rule refused.broken.0)
+          ]
+          | inr fair ↦ absurd ((passes_there talks fair refused.lawful).lawful rule refused.broken.0)
+        ]
+      ]
+    ]
+
     pub own_spared : (rule : Rule) → IsRefused (at_server_of 69) (server_saw write x (placed [] recorded) older) (seen_at_server write x (placed [] recorded) p) rule
-        → (needs_doubt x.number (placed [] recorded) p older ≡ true) ⊎ (Late × (is_shared p older ≡ true))
+        → (needs_doubt x.number (placed [] recorded) p older ≡ true) ⊎ Late
     own_spared rule refused = elim (doubted_or (IsServed Late write host) clients recorded g x.client (IsFair write host x.client) Late tt (stated write host x.client Late) is_client newer older p are x at refl) [
       | inl doubt ↦ inl doubt
       | inr other ↦ elim other [
-        | inl shared ↦ inr shared
+        | inl taken ↦ inr taken.0
         | inr fair ↦ elim talks_or [
           | inl doubt ↦ inl (or_left (is_doubted_there x.number (placed [] recorded)) (some_of x.number is_late (p ∷ older)) doubt)
           | inr talks ↦ absurd ((passes_there talks fair refused.lawful).lawful rule refused.broken.0)
@@ -396,23 +427,45 @@ module _ (Late : Type 0) (write : Address → List ℕ) (write_one : (a b : Addr
   -- at each datagram that the server saw
   pub server_is_spared : (newer older : List Placed) (p : Placed) → placed [] recorded ≡ newer ++ p ∷ older → (x : Transfer) → transfer_beside p.place ≡ Some x → Contains clients x.client
       → (rule : Rule) → IsRefused (at_server_of x.asked.port) (server_saw write x (placed [] recorded) older) (seen_at_server write x (placed [] recorded) p) rule
-      → ((needs_doubt x.number (placed [] recorded) p older || is_beside p) ≡ true) ⊎ (Late × (is_shared p older ≡ true))
+      → ((needs_doubt x.number (placed [] recorded) p older || is_beside p) ≡ true) ⊎ Late
   server_is_spared newer older p are x at is_client rule refused = by p.place refl where
     at_69 : transfer_of p.place ≡ Some x → IsRefused (at_server_of 69) (server_saw write x (placed [] recorded) older) (seen_at_server write x (placed [] recorded) p) rule
     at_69 there = subst (λ port. IsRefused (at_server_of port) (server_saw write x (placed [] recorded) older) (seen_at_server write x (placed [] recorded) p) rule)
         (asked_of (IsServed Late write host) clients recorded g newer older p are x there is_client) refused
 
-    mine : transfer_of p.place ≡ Some x → ((needs_doubt x.number (placed [] recorded) p older || is_beside p) ≡ true) ⊎ (Late × (is_shared p older ≡ true))
+    mine : transfer_of p.place ≡ Some x → ((needs_doubt x.number (placed [] recorded) p older || is_beside p) ≡ true) ⊎ Late
     mine there = elim (own_spared newer older p are x there is_client rule (at_69 there)) [
       | inl doubt ↦ inl (or_left (needs_doubt x.number (placed [] recorded) p older) (is_beside p) doubt)
-      | inr shared ↦ inr shared
+      | inr late ↦ inr late
     ]
 
-    by : (place : Place) → p.place ≡ place → ((needs_doubt x.number (placed [] recorded) p older || is_beside p) ≡ true) ⊎ (Late × (is_shared p older ≡ true))
+    by : (place : Place) → p.place ≡ place → ((needs_doubt x.number (placed [] recorded) p older || is_beside p) ≡ true) ⊎ Late
     by (Opens y) is = mine (ap transfer_of is ∙ sym (ap transfer_beside is) ∙ at)
     by (Repeats y) is = mine (ap transfer_of is ∙ sym (ap transfer_beside is) ∙ at)
     by (Talks y) is = mine (ap transfer_of is ∙ sym (ap transfer_beside is) ∙ at)
     by (Beside y) is = inl (or_right (needs_doubt x.number (placed [] recorded) p older) (is_beside p) (subst (λ place. is_beside (new p.datagram p.moment place) ≡ true) (sym is) refl))
+    by (Apart e) is = let none : None ≡ Some x = sym (ap transfer_beside is) ∙ at in absurd (cc)
+    by Nowhere is = let none : None ≡ Some x = sym (ap transfer_beside is) ∙ at in absurd (cc)
+
+  pub late_server_is_spared : (newer older : List Placed) (p : Placed) → placed [] recorded ≡ newer ++ p ∷ older → (x : Transfer) → transfer_beside p.place ≡ Some x → Contains clients x.client
+      → (rule : Rule) → IsRefused (at_server_of x.asked.port) (server_saw write x (placed [] recorded) older) (seen_at_server write x (placed [] recorded) p) rule
+      → (needs_doubt x.number (placed [] recorded) p older || is_beside p || may_be_earlier p older) ≡ true
+  late_server_is_spared newer older p are x at is_client rule refused = by p.place refl where
+    result : (needs_doubt x.number (placed [] recorded) p older ≡ true) ⊎ (may_be_earlier p older ≡ true) → (needs_doubt x.number (placed [] recorded) p older || is_beside p || may_be_earlier p older) ≡ true
+    result (inl doubt) = or_left (needs_doubt x.number (placed [] recorded) p older || is_beside p) (may_be_earlier p older) (or_left (needs_doubt x.number (placed [] recorded) p older) (is_beside p) doubt)
+    result (inr earlier) = or_right (needs_doubt x.number (placed [] recorded) p older || is_beside p) (may_be_earlier p older) earlier
+
+    mine : transfer_of p.place ≡ Some x → (needs_doubt x.number (placed [] recorded) p older || is_beside p || may_be_earlier p older) ≡ true
+    mine there = result (late_spared newer older p are x there is_client rule
+        (subst (λ port. IsRefused (at_server_of port) (server_saw write x (placed [] recorded) older) (seen_at_server write x (placed [] recorded) p) rule)
+        (asked_of (IsServed Late write host) clients recorded g newer older p are x there is_client) refused))
+
+    by : (place : Place) → p.place ≡ place → (needs_doubt x.number (placed [] recorded) p older || is_beside p || may_be_earlier p older) ≡ true
+    by (Opens y) is = mine (ap transfer_of is ∙ sym (ap transfer_beside is) ∙ at)
+    by (Repeats y) is = mine (ap transfer_of is ∙ sym (ap transfer_beside is) ∙ at)
+    by (Talks y) is = mine (ap transfer_of is ∙ sym (ap transfer_beside is) ∙ at)
+    by (Beside y) is = or_left (needs_doubt x.number (placed [] recorded) p older || is_beside p) (may_be_earlier p older)
+        (or_right (needs_doubt x.number (placed [] recorded) p older) (is_beside p) (subst (λ place. is_beside (new p.datagram p.moment place) ≡ true) (sym is) refl))
     by (Apart e) is = let none : None ≡ Some x = sym (ap transfer_beside is) ∙ at in absurd (cc)
     by Nowhere is = let none : None ≡ Some x = sym (ap transfer_beside is) ∙ at in absurd (cc)
 
@@ -425,3 +478,41 @@ doubtful_there n placed p older is = or_left (is_doubtful n placed p older || sp
           or_more (is_doubted n placed || is_led_astray n placed p older || some_of n is_late (p ∷ older) || is_beside p) (tells_strays n p older) (some_of n says_first_word (p ∷ older))
           (or_right (is_doubted n placed || is_led_astray n placed p older || some_of n is_late (p ∷ older)) (is_beside p) beside)
     ]))
+
+-- that it may be of an earlier transfer is one too
+pub doubtful_if_earlier : (n : ℕ) (placed : List Placed) (p : Placed) (older : List Placed) → (needs_doubt n placed p older || is_beside p || may_be_earlier p older) ≡ true → is_doubtful_at_server n placed p older ≡ true
+doubtful_if_earlier n placed p older is = elim (or_cases (needs_doubt n placed p older || is_beside p) (may_be_earlier p older) is) [
+  | inl doubt ↦ doubtful_there n placed p older doubt
+  | inr earlier ↦ or_right (is_doubtful n placed p older || speaks_first p older) (comes_of_earlier n p older) (or_left (may_be_earlier p older) (some_of n agrees_late (p ∷ older) && rests_on_terms p) earlier)
+]
+
+-- ---- what may be of an earlier transfer passed where another was talked of
+
+other_talk : (x : Transfer) (o : Endpoint) (q : Placed) → is_other_talk x.client o x.number q ≡ true → is_talk_of_another x o q ≡ true
+other_talk x o q is = by q.place refl where
+  by : (place : Place) → q.place ≡ place → is_talk_of_another x o q ≡ true
+  by (Talks y) at = subst (λ p. is_talk_of_another x o (new q.datagram q.moment p) ≡ true) (sym at) (subst (λ p. is_other_talk x.client o x.number (new q.datagram q.moment p) ≡ true) at is)
+  by (Opens y) at = absurd (false≢true (subst (λ p. is_other_talk x.client o x.number (new q.datagram q.moment p) ≡ true) at is))
+  by (Repeats y) at = absurd (false≢true (subst (λ p. is_other_talk x.client o x.number (new q.datagram q.moment p) ≡ true) at is))
+  by (Apart e) at = absurd (false≢true (subst (λ p. is_other_talk x.client o x.number (new q.datagram q.moment p) ≡ true) at is))
+  by (Beside y) at = absurd (false≢true (subst (λ p. is_other_talk x.client o x.number (new q.datagram q.moment p) ≡ true) at is))
+  by Nowhere at = absurd (false≢true (subst (λ p. is_other_talk x.client o x.number (new q.datagram q.moment p) ≡ true) at is))
+
+talked_before : (x : Transfer) (o : Endpoint) (f : Placed → Bool) (ps : List Placed) → list_any f (before_talk x.client o x.number ps) ≡ true → list_any (is_talk_of_another x o) ps ≡ true
+talked_before x o f [] any = any
+talked_before x o f (q ∷ ps) any = by_test (is_other_talk x.client o x.number q)
+    (λ is. or_left (is_talk_of_another x o q) (list_any (is_talk_of_another x o) ps) (other_talk x o q is))
+    (λ off. or_right (is_talk_of_another x o q) (list_any (is_talk_of_another x o) ps)
+    (talked_before x o f ps (sym (ap (λ b. list_any f (if b then q ∷ ps else before_talk x.client o x.number ps)) off) ∙ any)))
+
+pub earlier_shared : (p : Placed) (older : List Placed) → may_be_earlier p older ≡ true → is_shared p older ≡ true
+earlier_shared p older is = by p.place refl where
+  by : (place : Place) → p.place ≡ place → is_shared p older ≡ true
+  by (Talks x) at = subst (λ place. is_shared (new p.datagram p.moment place) older ≡ true) (sym at)
+      (talked_before x (other_of x.client p.datagram) (may_follow x.client (other_of x.client p.datagram) (same_endpoint p.datagram.source x.client) p.datagram.payload) (line_before x.client (new p.datagram p.moment (Talks x)) older)
+      (subst (λ place. may_be_earlier (new p.datagram p.moment place) older ≡ true) at is))
+  by (Opens y) at = absurd (false≢true (subst (λ place. may_be_earlier (new p.datagram p.moment place) older ≡ true) at is))
+  by (Repeats y) at = absurd (false≢true (subst (λ place. may_be_earlier (new p.datagram p.moment place) older ≡ true) at is))
+  by (Apart e) at = absurd (false≢true (subst (λ place. may_be_earlier (new p.datagram p.moment place) older ≡ true) at is))
+  by (Beside y) at = absurd (false≢true (subst (λ place. may_be_earlier (new p.datagram p.moment place) older ≡ true) at is))
+  by Nowhere at = absurd (false≢true (subst (λ place. may_be_earlier (new p.datagram p.moment place) older ≡ true) at is))

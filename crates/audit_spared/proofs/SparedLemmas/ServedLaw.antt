@@ -52,7 +52,7 @@ module _ (write : Address → List ℕ) (host : Address) (c : Endpoint) where
       (λ is. ap (λ b. (captured_there write (not b) d).payload) is)
       (λ off. ap (λ b. (captured_there write (not b) d).payload) off)
 
-  local_seen : (d : Recorded) → (see d).local ≡ (other_of c d).port
+  pub local_seen : (d : Recorded) → (see d).local ≡ (other_of c d).port
   local_seen d = by_test (goes_from c d)
       (λ is. ap (λ b. (captured_there write (not b) d).local) is ∙ sym (ap (λ (b : Bool). (if b then d.target else d.source).port) is))
       (λ off. ap (λ b. (captured_there write (not b) d).local) off ∙ sym (ap (λ (b : Bool). (if b then d.target else d.source).port) off))
@@ -68,7 +68,7 @@ module _ (write : Address → List ℕ) (host : Address) (c : Endpoint) where
         | inr to ↦ to
       ])))
 
-  peers : (k : List Recorded) → AllByRecursion (λ d. is_with c d ≡ true) k → AllByRecursion (λ e. peer_of e ≡ name c) (map see k)
+  pub peers : (k : List Recorded) → AllByRecursion (λ d. is_with c d ≡ true) k → AllByRecursion (λ e. peer_of e ≡ name c) (map see k)
   peers [] all = tt
   peers (d ∷ k) all = (peer_seen d all.0, peers k all.1)
 

@@ -47,7 +47,7 @@ module _ (m : Meaning) (wire : List ℕ) (ids : TransferIds) where
     | inr before ↦ no_stray peer earlier mains.1 before
   ]
 
-  all_main : (peer : PeerId) (division : Division) → Labels division → AreFrom peer division → AllByRecursion (λ p. IsMain p.label) division
+  pub all_main : (peer : PeerId) (division : Division) → Labels division → AreFrom peer division → AllByRecursion (λ p. IsMain p.label) division
   all_main peer [] labels from = tt
   all_main peer (p ∷ earlier) labels from = let before = all_main peer earlier labels.1 from.1 in (by before p.label refl labels.0, before) where
     by : AllByRecursion (λ q. IsMain q.label) earlier → (label : Label) → p.label ≡ label → HasLabel at m wire ids earlier p.datagram label → IsMain p.label
@@ -98,7 +98,7 @@ module _ (m : Meaning) (wire : List ℕ) (ids : TransferIds) where
   part earlier d (Sent (Error code text)) has not_back = sent_other d (Error code text) has.dir (λ e. absurd (cc)) has.spells has.server.0
 
   -- what stands on top of the others
-  main_now : (earlier : Division) (d : Datagram) (label : Label) (deed : Deed) → label ≡ Main deed → HasLabel at m wire ids earlier d label → HasLabel at m wire ids earlier d (Main deed)
+  pub main_now : (earlier : Division) (d : Datagram) (label : Label) (deed : Deed) → label ≡ Main deed → HasLabel at m wire ids earlier d label → HasLabel at m wire ids earlier d (Main deed)
   main_now earlier d label deed is has = subst (λ x. HasLabel at m wire ids earlier d x) is has
 
   no_back : (earlier : Division) (d : Datagram) (label : Label) (deed : Deed) → label ≡ Main deed → Starts Server (view_in (one d label earlier)) → deed ≡ Sent Req → ⊥
@@ -187,7 +187,7 @@ pub record IsRun (d : Datagram) (ds : List Datagram) : Type 0 where
   pub heard : comes_in d ≡ true → begins_request d ≡ false → list_any goes_out ds ≡ true
   pub answers : goes_out d ≡ true → list_any goes_out ds ≡ false → is_answer d.payload ≡ true
 
-peers_of : (peer : PeerId) (division : Division) (ds : List Datagram) → datagrams_of division ≡ ds → AllByRecursion (λ d. peer_of d ≡ peer) ds → AreFrom peer division
+pub peers_of : (peer : PeerId) (division : Division) (ds : List Datagram) → datagrams_of division ≡ ds → AllByRecursion (λ d. peer_of d ≡ peer) ds → AreFrom peer division
 peers_of peer [] ds are all = tt
 peers_of peer (p ∷ division) [] are all = absurd (cc)
 peers_of peer (p ∷ division) (d ∷ ds) are all =

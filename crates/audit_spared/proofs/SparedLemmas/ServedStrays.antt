@@ -197,3 +197,42 @@ module _ (service : ℕ) (client : PeerId) where
       read = subst (λ r. IsRead r d) route passes.read;
       lawful = λ rule broken. passes.lawful rule (broken_kept rule broken);
     }
+
+    -- ---- and what passes with the strays passes without them
+
+    message_there : (rule : Rule) → MessageBroken at (filter keeps ds) d rule → MessageBroken at ds d rule
+    message_there rule broken = record {
+      message = broken.message;
+      says = record { routed = ap is_of_transfer (sym route) ∙ broken.says.routed; spells = broken.says.spells };
+      asked = broken.asked;
+      first = (broken.first.0, sym (first_same ds strays) ∙ broken.first.1, broken.first.2);
+      breaks = subst (λ l. MessageBreaks at broken.asked l d.dir broken.message rule) (transfer_same ds lawful strays) broken.breaks;
+    }
+
+    broken_there : (rule : Rule) → Broken at (filter keeps ds) d rule → Broken at ds d rule
+    broken_there (Rule.Port PortRule.Foreign) broken = sym route ∙ broken
+    broken_there (Rule.Port PortRule.Wrong) broken = sym route ∙ broken
+    broken_there (Rule.Port PortRule.BadAnswer) broken = elim broken [ inl none ↦ inl (sym route ∙ none) | inr other ↦ inr (sym route ∙ other.0, other.1) ]
+    broken_there Rule.NoRequest broken = (sym (first_same ds strays) ∙ broken.0, sym route ∙ broken.1)
+    broken_there (Rule.Malformed fault) broken = (ap is_of_transfer (sym route) ∙ broken.0, broken.1)
+    broken_there (Rule.Agreement rule) broken = message_there (Rule.Agreement rule) broken
+    broken_there (Rule.Block rule) broken = message_there (Rule.Block rule) broken
+    broken_there Rule.WrongKind broken = message_there Rule.WrongKind broken
+    broken_there Rule.AfterError broken = message_there Rule.AfterError broken
+    broken_there Rule.RequestChanged broken = message_there Rule.RequestChanged broken
+    broken_there Rule.RequestAfterStart broken = message_there Rule.RequestAfterStart broken
+    broken_there Rule.ReplyChanged broken = message_there Rule.ReplyChanged broken
+    broken_there Rule.OackChanged broken = message_there Rule.OackChanged broken
+    broken_there Rule.OackAfterStart broken = message_there Rule.OackAfterStart broken
+
+    passes_without : Passes at ds d → Passes at (filter keeps ds) d
+    passes_without passes = record {
+      read = subst (λ r. IsRead r d) (sym route) passes.read;
+      lawful = λ rule broken. passes.lawful rule (broken_there rule broken);
+    }
+
+  pub lawful_kept : (ds : List Datagram) → OneEnded at ds → AreStrays ds → OneEnded at (filter keeps ds)
+  lawful_kept [] lawful strays = tt
+  lawful_kept (d ∷ ds) lawful strays = kept_or_not keeps d
+      (λ is. subst (OneEnded at) (sym (filter_kept keeps d ds is)) (passes_without ds lawful.1 strays.1 d is lawful.0, lawful_kept ds lawful.1 strays.1))
+      (λ off. subst (OneEnded at) (sym (filter_dropped keeps d ds off)) (lawful_kept ds lawful.1 strays.1))

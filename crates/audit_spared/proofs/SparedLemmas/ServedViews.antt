@@ -61,7 +61,7 @@ module _ (write : Address → List ℕ) (host : Address) (c : Endpoint) where
   abbrev pub seen : Placed → Datagram
   seen q = as_served write c q.datagram
 
-  same_seen : (d e : Recorded) → Same d e → as_served write c d ≡ as_served write c e
+  pub same_seen : (d e : Recorded) → Same d e → as_served write c d ≡ as_served write c e
   same_seen d e is =
       let source : same_endpoint d.source c ≡ same_endpoint e.source c = ap (λ s. same_endpoint s c) is.source in
       by_test (same_endpoint e.source c)

@@ -1,8 +1,7 @@
 -- A transfer of a client's whose captures follow one another is doubtful, or its view is such as it should be.
-use Rattle.std.proofs.Common.{◌≡◌, ◌⊎◌, ℕ, true, false, List, [], ◌∷◌, ◌++◌, Contains, Some, inl, inr, refl, sym, ap, subst, ◌∙◌, ◌==◌, ◌&&◌, ◌||◌, not}
-use Rattle.std.specs.List.{AllByRecursion, list_any}
-use Rattle.std.proofs.lemmas.Bool.{false≢true, or_cases, or_left, or_right, and_from, and_parts, eq-eqb, eqb-true}
-use Rattle.audit_flows.specs.Lines.{Recorded, Placed, same_endpoint, is_between, other_of, is_request, is_of, is_late, is_another, live, line, latest_in, transfer_of}
+use Rattle.std.proofs.Common.{◌≡◌, ◌⊎◌, ℕ, true, false, List, [], ◌∷◌, ◌++◌, Contains, Some, inl, inr, refl, sym, ap, subst, ◌∙◌, ◌==◌, not}
+use Rattle.std.proofs.lemmas.Bool.{false≢true, or_left, or_right, and_from, eq-eqb, eqb-true}
+use Rattle.audit_flows.specs.Lines.{Recorded, Placed, same_endpoint, is_of, is_late, is_another, live, line, latest_in, transfer_of}
 use Rattle.audit_flows.specs.{Endpoint, Place, Opens, Repeats, Talks, Transfer}
 use Rattle.audit_flows.specs.Transfers.{client_view, place_of, placed, some_of}
 use Rattle.audit_spared.specs.Spared.Seen.{is_with}
@@ -10,9 +9,9 @@ use Rattle.audit_flows.proofs.LinesLemmas.Endpoints.{same_itself}
 use Rattle.audit_flows.proofs.LinesLemmas.Lines.{by_test}
 use Rattle.audit_flows.proofs.TransfersLemmas.AllLines.{line_here}
 use Rattle.audit_spared.proofs.FairLemmas.Thinned.{filter_dropped}
-use Rattle.audit_spared.specs.Spared.{is_doubted_there, is_shared, is_talk_of_another, needs_doubt}
-use Rattle.audit_spared.proofs.SparedLemmas.Basics.{any_append, doubted_more}
-use Rattle.audit_spared.proofs.SparedLemmas.Stands.{new, IsPlain, talks, State, doubted, asking, waiting, misled, answered, reopened, taken, mixed, Asking, Waiting, Misled, Answered, Reopened, Taken, Mixed, AreWith, IsKnown, talks_apart, Has}
+use Rattle.audit_spared.specs.Spared.{is_doubted_there, needs_doubt}
+use Rattle.audit_spared.proofs.SparedLemmas.Basics.{doubted_more}
+use Rattle.audit_spared.proofs.SparedLemmas.Stands.{new, IsPlain, talks, State, doubted, asking, waiting, misled, answered, reopened, taken, mixed, Asking, Waiting, Misled, Answered, Reopened, Taken, Mixed, AreWith, Has}
 use Rattle.audit_spared.proofs.SparedLemmas.Stands.IsPlain.{asks as asked}
 use Rattle.audit_spared.proofs.SparedLemmas.Whole.{AreAll, kept_of}
 
@@ -36,38 +35,26 @@ late_is c k older kp rest x z d now has client other =
     ∙ ap (is_another z) has.latest
     ∙ ap not other
 
--- ---- a talk with whom another transfer was talked of
+-- ---- a transfer that a late request opened
 
-talks_shared : (c o : Endpoint) (x z : Transfer) (kp : List Placed) → AllByRecursion (IsKnown c) kp → AreWith c o kp → z.client ≡ c → z.number ≡ x.number → list_any (talks_apart x.number) kp ≡ true
-    → list_any (is_talk_of_another z o) kp ≡ true
-talks_shared c o x z [] known with client number any = absurd (false≢true any)
-talks_shared c o x z (q ∷ kp) known with client number any = elim (or_cases (talks_apart x.number q) (list_any (talks_apart x.number) kp) any) [
-  | inl this ↦
-      let parts = and_parts (not (is_request q)) (not (is_of x.number q)) this in
-      let plain : is_request q ≡ false = by_test (is_request q) (λ t. absurd (false≢true (sym (ap not t) ∙ parts.0))) (λ f. f) in
-      or_left (is_talk_of_another z o q) (list_any (is_talk_of_another z o) kp)
-      (and_from (not (is_request q)) (is_between z.client o q.datagram && not (is_of z.number q)) parts.0
-      (and_from (is_between z.client o q.datagram) (not (is_of z.number q))
-      (subst (λ e. is_between e o q.datagram ≡ true) (sym client) (subst (λ e. is_between c e q.datagram ≡ true) (with.0 plain) known.0.here))
-      (subst (λ n. not (is_of n q) ≡ true) (sym number) parts.1)))
-  | inr later ↦ or_right (is_talk_of_another z o q) (list_any (is_talk_of_another z o) kp) (talks_shared c o x z kp known.1 with.1 client number later)
-]
+-- The datagram is of a transfer that a late request opened, and of which is talked what was of the transfer before; all that is no
+-- request passes with one endpoint.
+pub record TakenAt (lawful : List Recorded → Type 0) (c : Endpoint) (n : ℕ) (q : Placed) (older : List Placed) : Type 0 where
+  pub k : List Recorded
+  pub kp : List Placed
+  pub rest : List Placed
+  pub x : Transfer
+  pub has : Has c k (q ∷ older) (q ∷ kp) rest x
+  pub good : lawful k
+  pub taken : Taken c k (q ∷ older) (q ∷ kp) rest x
+  pub one : Endpoint
+  pub with : AreWith c one (q ∷ kp)
+  pub number : x.number ≡ n
 
-shared_top : (c o : Endpoint) (k : List Recorded) (older kp rest : List Placed) (x z : Transfer) (d : Recorded) (now : ℕ) → Has c k (new d now (Talks z) ∷ older) (new d now (Talks z) ∷ kp) rest x → z.client ≡ c
-    → AreWith c o (new d now (Talks z) ∷ kp) → list_any (talks_apart x.number) (new d now (Talks z) ∷ kp) ≡ true → (z.number == x.number) ≡ true → is_shared (new d now (Talks z)) older ≡ true
-shared_top c o k older kp rest x z d now has client with apart number =
-    let there : line c (new d now (Talks z) ∷ older) ≡ new d now (Talks z) ∷ live now (line c older) = line_here c (new d now (Talks z)) older (ap (λ e. same_endpoint e c) client ∙ same_itself c) in
-    let rest_is : live now (line c older) ≡ kp ++ rest = rest_same (new d now (Talks z)) (live now (line c older)) (kp ++ rest) (sym there ∙ has.whole) in
-    let before : list_any (talks_apart x.number) kp ≡ true = sym (ap (λ b. not b || list_any (talks_apart x.number) kp) number) ∙ apart in
-    ap (λ e. list_any (is_talk_of_another z (other_of e d)) (live now (line e older))) client
-    ∙ ap (λ w. list_any (is_talk_of_another z w) (live now (line c older))) (with.0 refl)
-    ∙ ap (list_any (is_talk_of_another z o)) rest_is
-    ∙ any_append (is_talk_of_another z o) kp rest (talks_shared c o x z kp has.known.1 with.1 client (eqb-true z.number x.number number) before)
-
--- the newest, if it is the transfer's, passed with whom another transfer was talked of
-abbrev pub TopShared : ℕ → List Placed → Type 0
-TopShared n [] = Unit {0}
-TopShared n (q ∷ older) = is_of n q ≡ true → is_shared q older ≡ true
+-- the newest, if it is the transfer's, is such
+abbrev pub TopTaken : (List Recorded → Type 0) → Endpoint → ℕ → List Placed → Type 0
+TopTaken lawful c n [] = Unit {0}
+TopTaken lawful c n (q ∷ older) = is_of n q ≡ true → TakenAt lawful c n q older
 
 -- Of a transfer that is asked for or was answered the view is good; and where a request may come late, all that is no request passes
 -- with one endpoint.
@@ -85,25 +72,18 @@ module _ (lawful : List Recorded → Type 0) (c : Endpoint) (good : List Placed 
   pub data Spared (n : ℕ) (older : List Placed) : Type 0 where
     doubtful : is_doubted_there n older ≡ true → Spared n older
     late : some_of n is_late older ≡ true → Spared n older
-    shared : Late → TopShared n older → Spared n older
+    opened_late : Late → TopTaken lawful c n older → Spared n older
     fair : good (client_view n older) → Spared n older
 
   pub spared_more : (n : ℕ) (p : Placed) (older : List Placed) → is_of n p ≡ false → Spared n older → Spared n (p ∷ older)
   spared_more n p older off (doubtful is) = doubtful (doubted_more n p older is)
   spared_more n p older off (late is) = late (or_right _ (some_of n is_late older) is)
-  spared_more n p older off (shared may top) = shared may (λ of. absurd (false≢true (sym off ∙ of)))
+  spared_more n p older off (opened_late may top) = opened_late may (λ of. absurd (false≢true (sym off ∙ of)))
   spared_more n p older off (fair is) = fair (subst good (sym (filter_dropped (is_of n) p older off)) is)
 
   state_spared : (k : List Recorded) (older kp rest : List Placed) (x : Transfer) (d : Recorded) (now : ℕ) (place : Place) → Has c k (new d now place ∷ older) (new d now place ∷ kp) rest x
       → lawful k → Spared x.number (new d now place ∷ older)
   state_spared k older kp rest x d now place has may = by has.state where
-    top : Taken c k (new d now place ∷ older) (new d now place ∷ kp) rest x → (o : Endpoint) → AreWith c o (new d now place ∷ kp) → IsPlain c (new d now place) → TopShared x.number (new d now place ∷ older)
-    top a o with (asked z request at) of = absurd (false≢true (sym a.ends ∙ request))
-    top a o with (talks z at client) of = subst (λ p. is_shared (new d now p) older ≡ true) (sym at)
-        (shared_top c o k older kp rest x z d now (subst (λ p. Has c k (new d now p ∷ older) (new d now p ∷ kp) rest x) at has) client
-        (subst (λ p. AreWith c o (new d now p ∷ kp)) at with) (subst (λ p. list_any (talks_apart x.number) (new d now p ∷ kp) ≡ true) at a.apart)
-        (sym (of_transfer x.number d now place z (ap transfer_of at)) ∙ of))
-
     by : State c k (new d now place ∷ older) (new d now place ∷ kp) rest x → Spared x.number (new d now place ∷ older)
     by (doubted is) = doubtful is
     by (asking a) = fair (stated.is_asked k (new d now place ∷ older) (new d now place ∷ kp) rest x has may a)
@@ -113,7 +93,7 @@ module _ (lawful : List Recorded → Type 0) (c : Endpoint) (good : List Placed 
     by (reopened a) = fair (stated.is_reopened k (new d now place ∷ older) (new d now place ∷ kp) rest x has may a)
     by (taken a) =
         let (is_late_one, o, with) = stated.is_taken k (new d now place ∷ older) (new d now place ∷ kp) rest x has may a in
-        shared is_late_one (top a o with has.plain.0)
+        opened_late is_late_one (λ of. record { k = k; kp = kp; rest = rest; x = x; has = has; good = may; taken = a; one = o; with = with; number = refl })
     by (mixed a) = absurd (stated.is_mixed k (new d now place ∷ older) (new d now place ∷ kp) rest x has may a)
 
   spared_now : (n : ℕ) (k : List Recorded) (older kp rest : List Placed) (x : Transfer) (d : Recorded) (now : ℕ) (place : Place) → Has c k (new d now place ∷ older) (new d now place ∷ kp) rest x
@@ -148,16 +128,16 @@ doubted_whole n (p ∷ newer) older is = doubted_more n p (newer ++ older) (doub
 
 module _ (lawful : Endpoint → List Recorded → Type 0) (clients : List Endpoint) (recorded : List Recorded) (g : AreAll lawful clients recorded)
     (c : Endpoint) (good : List Placed → Type 0) (Late : Type 0) (good_none : good []) (stated : IsStated (lawful c) c good Late) where
-  -- a doubt is there, or it passed with whom another transfer was talked of, or the view up to this datagram is good
+  -- a doubt is there, or a late request opened the transfer, or the view up to this datagram is good
   pub doubted_or : Contains clients c → (newer older : List Placed) (p : Placed) → placed [] recorded ≡ newer ++ p ∷ older → (x : Transfer) → transfer_of p.place ≡ Some x → x.client ≡ c
-      → (needs_doubt x.number (placed [] recorded) p older ≡ true) ⊎ ((Late × (is_shared p older ≡ true)) ⊎ good (client_view x.number (p ∷ older)))
+      → (needs_doubt x.number (placed [] recorded) p older ≡ true) ⊎ ((Late × TakenAt (lawful c) c x.number p older) ⊎ good (client_view x.number (p ∷ older)))
   doubted_or is_client newer older p are x at is = by (kept_of lawful clients recorded g c
       (Spared (lawful c) c good Late good_none stated) (spared_none (lawful c) c good Late good_none stated) (spared_more (lawful c) c good Late good_none stated) (spared_one (lawful c) c good Late good_none stated)
       is_client newer older p are x at is)
     where
-      by : Spared (lawful c) c good Late good_none stated x.number (p ∷ older) → (needs_doubt x.number (placed [] recorded) p older ≡ true) ⊎ ((Late × (is_shared p older ≡ true)) ⊎ good (client_view x.number (p ∷ older)))
+      by : Spared (lawful c) c good Late good_none stated x.number (p ∷ older) → (needs_doubt x.number (placed [] recorded) p older ≡ true) ⊎ ((Late × TakenAt (lawful c) c x.number p older) ⊎ good (client_view x.number (p ∷ older)))
       by (doubtful there) = inl (or_left (is_doubted_there x.number (placed [] recorded)) (some_of x.number is_late (p ∷ older))
           (subst (λ l. is_doubted_there x.number l ≡ true) (sym are) (doubted_whole x.number newer (p ∷ older) there)))
       by (late there) = inl (or_right (is_doubted_there x.number (placed [] recorded)) (some_of x.number is_late (p ∷ older)) there)
-      by (shared may top) = inr (inl (may, top (of_transfer x.number p.datagram p.moment p.place x at ∙ eq-eqb x.number x.number refl)))
+      by (opened_late may top) = inr (inl (may, top (of_transfer x.number p.datagram p.moment p.place x at ∙ eq-eqb x.number x.number refl)))
       by (fair there) = inr (inr there)

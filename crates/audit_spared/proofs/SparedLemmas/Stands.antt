@@ -2,10 +2,11 @@
 -- part of the newest capture and what was asked before in the same words.
 use Rattle.std.proofs.Common.{◌≡◌, ◌≢◌, ℕ, Bool, true, false, List, [], ◌∷◌, ◌++◌, ◌&&◌, not, Contains, Some, map}
 use Rattle.std.specs.List.{list_any, AllByRecursion, filter}
+use Rattle.tftp_packet.specs.{Message, OptionMap, Spells}
 use Rattle.law_model.specs.Rules.{first_of}
-use Rattle.audit_flows.specs.Lines.{Recorded, Placed, is_between, other_of, is_of, is_request, newest_of, reach, line, transfer_of, latest_in, answered_in, says_more, asks_alike, is_alike_in, goes, comes_in}
+use Rattle.audit_flows.specs.Lines.{Recorded, Placed, is_between, other_of, is_of, is_request, newest_of, reach, line, transfer_of, latest_in, answered_in, says_more, asks_alike, is_alike_in, goes, comes_in, last_was_ack_0, has_window}
 use Rattle.audit_flows.specs.{Endpoint, Place, Talks, Transfer}
-use Rattle.audit_flows.specs.Lines.Recording.{is_answer}
+use Rattle.audit_flows.specs.Lines.Recording.{is_answer, is_data_1}
 use Rattle.audit_flows.specs.Transfers.{client_view, comes}
 use Rattle.audit_flows.proofs.TransfersLemmas.Ends.{spoken}
 use Rattle.audit_spared.specs.Spared.{is_doubted_there, AnswersFirst, AsksInTime, asks_from, comes_at, goes_from, goes_on_from}
@@ -140,6 +141,10 @@ TopSame r (q ∷ ps) = is_request q ≡ true → Same q.datagram r
 abbrev pub talks_apart : ℕ → Placed → Bool
 talks_apart n q = not (is_request q) && not (is_of n q)
 
+-- the client went on by it, in another transfer
+abbrev pub goes_on_apart : Endpoint → ℕ → Placed → Bool
+goes_on_apart c n q = goes_on_from c q.datagram && talks_apart n q
+
 -- The client asked once it had gone on, and by that opened a transfer, of which nothing is talked yet.
 pub record Reopened (c : Endpoint) (k : List Recorded) (older kp rest : List Placed) (x : Transfer) : Type 0 where
   pub untimely : AsksInTime c k → ⊥
@@ -151,13 +156,29 @@ pub record Reopened (c : Endpoint) (k : List Recorded) (older kp rest : List Pla
   pub top_same : TopSame asked.r kp
   pub others : AllByRecursion (OthersOf x.number) (kp ++ rest)
 
+-- What opened it so: an answer, but no DATA 1 to a client whose last word there was ACK 0; and its client had gone on before.
+pub record Reopener (c : Endpoint) (n : ℕ) (kp rest : List Placed) : Type 0 where
+  pub opener : Placed
+  pub newer : List Placed
+  pub early : List Placed
+  pub split : kp ≡ newer ++ opener ∷ early
+  pub own : is_of n opener ≡ true
+  pub from : goes_from c opener.datagram ≡ false
+  pub answers : is_answer opener.datagram.payload ≡ true
+  pub no_next : (is_data_1 opener.datagram.payload && last_was_ack_0 c (other_of c opener.datagram) (early ++ rest)) ≡ false
+  pub others : AllByRecursion (OthersOf n) early
+  pub went : list_any (λ q. goes_on_from c q.datagram) early ≡ true
+
 -- What was talked of the transfer before is talked of that one now.
 pub record Taken (c : Endpoint) (k : List Recorded) (older kp rest : List Placed) (x : Transfer) : Type 0 where
   pub untimely : AsksInTime c k → ⊥
   pub ends : ends_in_request kp ≡ false
   pub asked : AskedBefore older kp x.number
   pub came : list_any (comes x.number) older ≡ true
-  pub apart : list_any (talks_apart x.number) kp ≡ true
+  pub there : Contains k asked.r
+  pub asks_it : asks_from c asked.r ≡ true
+  pub went : list_any (goes_on_apart c x.number) kp ≡ true
+  pub opened : Reopener c x.number kp rest
 
 -- The client talks with more than one.
 pub record Mixed (c : Endpoint) (k : List Recorded) (kp : List Placed) : Type 0 where
@@ -174,6 +195,32 @@ pub data State (c : Endpoint) (k : List Recorded) (older kp rest : List Placed) 
   reopened : Reopened c k older kp rest x → State c k older kp rest x
   taken : Taken c k older kp rest x → State c k older kp rest x
   mixed : Mixed c k kp → State c k older kp rest x
+
+-- whether the transfer's request names windows a request of the capture tells
+pub record TermsOf (c : Endpoint) (k : List Recorded) (y : Transfer) : Type 0 where
+  pub request : Recorded
+  pub there : Contains k request
+  pub asks : asks_from c request ≡ true
+  pub same : y.has_window ≡ has_window request.payload
+
+-- what came first is an OACK
+abbrev pub BeginsOacked : Endpoint → List Recorded → Type 0
+BeginsOacked c k = (d : Recorded) × (options : OptionMap) × (first_of (comes_at c) k ≡ Some d) × Spells d.payload (Message.Oack options)
+
+abbrev pub HasTerms : Endpoint → List Recorded → Placed → Type 0
+HasTerms c k q = (y : Transfer) → q.place ≡ Talks y → TermsOf c k y
+
+abbrev pub TopTerms : Transfer → List Placed → Type 0
+TopTerms x [] = Unit {0}
+TopTerms x (q ∷ ps) = is_request q ≡ true → x.has_window ≡ has_window q.datagram.payload
+
+-- Where one endpoint answers, and by an OACK first, all that is talked is of transfers that the capture's requests opened.
+pub record Terms (c : Endpoint) (k : List Recorded) (kp rest : List Placed) (x : Transfer) : Type 0 where
+  pub latest : TermsOf c k x
+  pub top : TopTerms x kp
+  pub unheard : ends_in_request kp ≡ true → AllByRecursion (OthersOf x.number) (kp ++ rest)
+  pub unspoken : list_any (comes_at c) k ≡ false → AllByRecursion (λ q. is_request q ≡ true) kp
+  pub talked : (o : Endpoint) → AreWith c o kp → BeginsOacked c k → AllByRecursion (HasTerms c k) kp
 
 -- it is a request exactly if the client asks by it, and it passed at the client
 pub record IsKnown (c : Endpoint) (q : Placed) : Type 0 where
@@ -193,4 +240,5 @@ pub record Has (c : Endpoint) (k : List Recorded) (older kp rest : List Placed) 
   pub more : list_any says_more (reach (kp ++ rest)) ≡ true → list_any (goes_on_from c) k ≡ true
   pub pure : ends_in_request kp ≡ true → list_any says_more (reach (kp ++ rest)) ≡ false
   pub alike : (d : Recorded) → AllByRecursion (λ e. asks_from c e ≡ true → asks_alike e d ≡ true) k → is_alike_in d (newest_of is_request (kp ++ rest)) ≡ true
+  pub terms : Terms c k kp rest x
   pub state : State c k older kp rest x

@@ -1,9 +1,9 @@
 -- A client's line with one datagram more of the same capture, which is no request.
-use Rattle.std.proofs.Common.{◌≡◌, ◌≢◌, ℕ, Bool, true, false, List, [], ◌∷◌, ◌++◌, Option, Some, None, inl, inr, refl, sym, ap, subst, ◌∙◌, ◌==◌, ◌&&◌, ◌||◌, not, map, option_map, if◌then◌else◌}
+use Rattle.std.proofs.Common.{◌≡◌, ◌≢◌, ℕ, Bool, true, false, List, [], ◌∷◌, ◌++◌, Option, Some, None, inl, inr, refl, sym, ap, subst, ◌∙◌, ◌==◌, ◌&&◌, ◌||◌, not, map, if◌then◌else◌}
 use Rattle.std.specs.List.{list_any, AllByRecursion, filter}
 use Rattle.std.proofs.lemmas.Bool.{false≢true, or_cases, or_parts, or_left, or_right, and_from, and_parts, eq-eqb, eqb-true}
 use Rattle.law_model.specs.Rules.{first_of, or_this}
-use Rattle.audit_flows.specs.Lines.{Recorded, Placed, same_endpoint, is_between, other_of, is_of, is_request, newest_of, reach, live, line, says_more, begins_request, begins_error, goes, last_was_ack_0, answers, answered_in, latest_in, opens, place_at, is_another, may_be_answer_of, may_answer, talk_in}
+use Rattle.audit_flows.specs.Lines.{Recorded, Placed, same_endpoint, is_between, other_of, is_of, is_request, newest_of, reach, live, line, says_more, begins_request, begins_error, goes, last_was_ack_0, answers, answered_in, latest_in, place_at, is_another, may_be_answer_of, may_answer, talk_in}
 use Rattle.audit_flows.specs.{Endpoint, Place, Talks, Transfer}
 use Rattle.audit_flows.specs.Lines.Recording.{is_answer, is_data_1}
 use Rattle.audit_flows.specs.Lines.Doubting.{acked_0_in, answer_of, is_next_data}
@@ -17,7 +17,8 @@ use Rattle.audit_spared.proofs.FairLemmas.Thinned.{filter_kept, filter_dropped, 
 use Rattle.audit_spared.specs.Spared.{AnswersFirst, Follows, asks_from, comes_at, goes_from, goes_on_from}
 use Rattle.audit_spared.proofs.SparedLemmas.Basics.{some_or, doubted_more, doubted_apart, all_and, all_first, all_last, all_map, newest_all, newest_first, newest_some, any_append}
 use Rattle.audit_spared.proofs.SparedLemmas.Places.{of_talk, talk_found, place_new, place_old, place_unanswered, heard_before, spoken_other, other_is, comes_to_it, from_none}
-use Rattle.audit_spared.proofs.SparedLemmas.Stands.{new, IsPlain, asks, talks, Same, Bottom, OthersOf, AskedBefore, Asking, Answered, State, doubted, asking, waiting, misled, answered, reopened, taken, mixed, Reopened, Taken, AreWith, talks_apart, IsKnown, Has, came_in, came_from, IsNoAnswer, IsHeard, Unanswered, Opened, Misled}
+use Rattle.audit_spared.proofs.SparedLemmas.Terms.{terms_talk, unanswered}
+use Rattle.audit_spared.proofs.SparedLemmas.Stands.{new, IsPlain, asks, talks, Same, Bottom, OthersOf, AskedBefore, Asking, Answered, State, doubted, asking, waiting, misled, answered, reopened, taken, mixed, Reopened, Taken, AreWith, Terms, talks_apart, goes_on_apart, IsKnown, Has, came_in, came_from, IsNoAnswer, IsHeard, Unanswered, Opened, Misled}
 
 -- no request goes from the client
 pub no_begin : (c : Endpoint) (d : Recorded) → asks_from c d ≡ false → goes_from c d ≡ true → begins_request d.payload ≡ false
@@ -35,9 +36,9 @@ said_more c y d now client off says =
 -- whatever the state, the rest goes on
 pub talk_has : (c : Endpoint) (k : List Recorded) (older kp rest : List Placed) (x y : Transfer) (d : Recorded) (now : ℕ) → Has c k older kp rest x → y.client ≡ c
     → asks_from c d ≡ false → is_between c (other_of c d) d ≡ true → live now (line c older) ≡ line c older
-    → State c (d ∷ k) (new d now (Talks y) ∷ older) (new d now (Talks y) ∷ kp) rest x
+    → Terms c (d ∷ k) (new d now (Talks y) ∷ kp) rest x → State c (d ∷ k) (new d now (Talks y) ∷ older) (new d now (Talks y) ∷ kp) rest x
     → Has c (d ∷ k) (new d now (Talks y) ∷ older) (new d now (Talks y) ∷ kp) rest x
-talk_has c k older kp rest x y d now has client off here lived state = record {
+talk_has c k older kp rest x y d now has client off here lived terms state = record {
   whole = line_here c (new d now (Talks y)) older (ap (λ e. same_endpoint e c) client ∙ same_itself c) ∙ ap (λ l. new d now (Talks y) ∷ l) (lived ∙ has.whole);
   some = λ none. absurd (cc);
   are = ap (λ l. d ∷ l) has.are;
@@ -49,6 +50,7 @@ talk_has c k older kp rest x y d now has client off here lived state = record {
   pure = λ top. absurd (false≢true top);
   more = some_or (says_more (new d now (Talks y))) (list_any says_more (reach (kp ++ rest))) (goes_on_from c d) (list_any (goes_on_from c) k) (said_more c y d now client off) has.more;
   alike = λ e all. has.alike e all.1;
+  terms = terms;
   state = state;
 }
 
@@ -243,20 +245,6 @@ answered_talk c k older kp rest x d now has a follows off = by_test (list_any (s
     (λ none. let (y, client, place, on) = apart_on c k older kp rest x d has a follows off none in (y, client, place, answered (answered_on c k older kp rest x y d now has a on)))
 
 -- ---- in a transfer of which nothing has come in this capture
-
-no_answer : (x : Transfer) (d : Recorded) (now : ℕ) (place : Place) → OthersOf x.number (new d now place) → answers x (new d now place) ≡ false
-no_answer x d now (Talks y) other = ap (λ b. b && same_endpoint d.target x.client) (other refl)
-no_answer x d now _ other = refl
-
-none_answers : (x : Transfer) (ps : List Placed) → AllByRecursion (OthersOf x.number) ps → first_of (answers x) (reach ps) ≡ None
-none_answers x [] all = refl
-none_answers x (p ∷ ps) all = by_test (opens p)
-    (λ is. ap (λ b. first_of (answers x) (if b then [] else p ∷ reach ps)) is)
-    (λ off. ap (λ b. first_of (answers x) (if b then [] else p ∷ reach ps)) off ∙ ap (λ o. or_this o (answers x p) p) (none_answers x ps all.1)
-    ∙ ap (λ b. or_this None b p) (no_answer x p.datagram p.moment p.place all.0))
-
-unanswered : (x : Transfer) (ps : List Placed) → AllByRecursion (OthersOf x.number) ps → answered_in x ps ≡ None
-unanswered x ps all = ap (option_map (λ p. p.datagram.source)) (none_answers x ps all)
 
 pub bottom_own : (r : Recorded) (n : ℕ) (kp : List Placed) → kp ≢ [] → AllByRecursion (λ q. (is_request q ≡ true) × (is_of n q ≡ true) × Same q.datagram r) kp → Bottom r n kp
 bottom_own r n [] some all = absurd (some refl)
@@ -583,13 +571,14 @@ went_spoken c o (q ∷ kp) known with any = elim (or_cases (goes_on_from c q.dat
   | inr later ↦ or_right (spoken c o q) (list_any (spoken c o) kp) (went_spoken c o kp known.1 with.1 later)
 ]
 
-went_apart : (c : Endpoint) (n : ℕ) (kp : List Placed) → AllByRecursion (IsKnown c) kp → AllByRecursion (OthersOf n) kp → list_any (goes_on_from c) (map (λ p. p.datagram) kp) ≡ true → list_any (talks_apart n) kp ≡ true
+went_apart : (c : Endpoint) (n : ℕ) (kp : List Placed) → AllByRecursion (IsKnown c) kp → AllByRecursion (OthersOf n) kp → list_any (goes_on_from c) (map (λ p. p.datagram) kp) ≡ true → list_any (goes_on_apart c n) kp ≡ true
 went_apart c n [] known others any = absurd (false≢true any)
 went_apart c n (q ∷ kp) known others any = elim (or_cases (goes_on_from c q.datagram) (list_any (goes_on_from c) (map (λ p. p.datagram) kp)) any) [
   | inl this ↦
       let plain = went_plain c q known.0 this in
-      or_left (talks_apart n q) (list_any (talks_apart n) kp) (and_from (not (is_request q)) (not (is_of n q)) (ap not plain) (ap not (others.0 plain)))
-  | inr later ↦ or_right (talks_apart n q) (list_any (talks_apart n) kp) (went_apart c n kp known.1 others.1 later)
+      or_left (goes_on_apart c n q) (list_any (goes_on_apart c n) kp)
+      (and_from (goes_on_from c q.datagram) (talks_apart n q) this (and_from (not (is_request q)) (not (is_of n q)) (ap not plain) (ap not (others.0 plain))))
+  | inr later ↦ or_right (goes_on_apart c n q) (list_any (goes_on_apart c n) kp) (went_apart c n kp known.1 others.1 later)
 ]
 
 reopened_talk : (c : Endpoint) (k : List Recorded) (older kp rest : List Placed) (x : Transfer) (d : Recorded) (now : ℕ) → Has c k older kp rest x → Reopened c k older kp rest x
@@ -622,17 +611,36 @@ reopened_talk c k older kp rest x d now has a follows off = by (newest_of (spoke
         false≢true (sym (newest_some (spoken c o) (kp ++ rest) nobody) ∙ any_append (spoken c o) kp rest (went_spoken c o kp has.known here went));
   })
 
-  goes_over : (goes o c d && is_answer d.payload) ≡ true → State c (d ∷ k) (new d now (Talks x) ∷ older) (new d now (Talks x) ∷ kp) rest x
-  goes_over may =
-      let to = (and_parts (same_endpoint d.source o) (same_endpoint d.target c) (and_parts (goes o c d) (is_answer d.payload) may).0).1 in
+  goes_over : ((goes o c d && is_answer d.payload) && not (is_data_1 d.payload && last_was_ack_0 c o (kp ++ rest))) ≡ true → State c (d ∷ k) (new d now (Talks x) ∷ older) (new d now (Talks x) ∷ kp) rest x
+  goes_over over =
+      let parts = and_parts (goes o c d && is_answer d.payload) (not (is_data_1 d.payload && last_was_ack_0 c o (kp ++ rest))) over in
+      let may = and_parts (goes o c d) (is_answer d.payload) parts.0 in
+      let to = (and_parts (same_endpoint d.source o) (same_endpoint d.target c) may.0).1 in
       taken (record {
         untimely = λ timely. a.untimely timely.1;
         ends = refl;
         asked = asked_more older kp x.number (new d now (Talks x)) a.asked;
         came = or_left (comes x.number (new d now (Talks x))) (list_any (comes x.number) older)
             (and_from (x.number == x.number) (same_endpoint d.target x.client) (eq-eqb x.number x.number refl) (subst (λ e. same_endpoint d.target e ≡ true) (sym has.client) to));
-        apart = or_right (talks_apart x.number (new d now (Talks x))) (list_any (talks_apart x.number) kp) (went_apart c x.number kp has.known (all_first (OthersOf x.number) kp rest a.others) went);
+        there = contains_later d k a.asked.r a.there;
+        asks_it = a.asks_it;
+        went = or_right (goes_on_apart c x.number (new d now (Talks x))) (list_any (goes_on_apart c x.number) kp) went_before;
+        opened = record {
+          opener = new d now (Talks x);
+          newer = [];
+          early = kp;
+          split = refl;
+          own = eq-eqb x.number x.number refl;
+          from = by_test (goes_from c d) (λ from. absurd (no_self c d.target k (is_same d.target c to) (follows.known from (no_begin c d off from)))) (λ came. came);
+          answers = may.1;
+          no_next = by_test (is_data_1 d.payload && last_was_ack_0 c o (kp ++ rest)) (λ is. absurd (false≢true (sym (ap not is) ∙ parts.1))) (λ none_next. none_next);
+          others = all_first (OthersOf x.number) kp rest a.others;
+          went = sym (any_mapped (goes_on_from c) kp) ∙ went;
+        };
       })
+    where
+      went_before : list_any (goes_on_apart c x.number) kp ≡ true
+      went_before = went_apart c x.number kp has.known (all_first (OthersOf x.number) kp rest a.others) went
 
   stays : (y : Transfer) → (y.number == x.number) ≡ false → State c (d ∷ k) (new d now (Talks y) ∷ older) (new d now (Talks y) ∷ kp) rest x
   stays y differs = reopened (record {
@@ -656,7 +664,7 @@ reopened_talk c k older kp rest x d now has a follows off = by (newest_of (spoke
         x,
         has.client,
         place ∙ ap (λ b. if b then Talks x else Talks y) over,
-        goes_over (and_parts (goes o c d && is_answer d.payload) (not (is_data_1 d.payload && last_was_ack_0 c o (kp ++ rest))) over).0,
+        goes_over over,
       ))
       (λ not_over. (y, client, place ∙ ap (λ b. if b then Talks x else Talks y) not_over, stays y differs))
 
@@ -677,7 +685,21 @@ taken_talk c k older kp rest x d now a y = taken (record {
   ends = refl;
   asked = asked_more older kp x.number (new d now (Talks y)) a.asked;
   came = or_right (comes x.number (new d now (Talks y))) (list_any (comes x.number) older) a.came;
-  apart = or_right (talks_apart x.number (new d now (Talks y))) (list_any (talks_apart x.number) kp) a.apart;
+  there = contains_later d k a.asked.r a.there;
+  asks_it = a.asks_it;
+  went = or_right (goes_on_apart c x.number (new d now (Talks y))) (list_any (goes_on_apart c x.number) kp) a.went;
+  opened = record {
+    opener = a.opened.opener;
+    newer = new d now (Talks y) ∷ a.opened.newer;
+    early = a.opened.early;
+    split = ap (λ l. new d now (Talks y) ∷ l) a.opened.split;
+    own = a.opened.own;
+    from = a.opened.from;
+    answers = a.opened.answers;
+    no_next = a.opened.no_next;
+    others = a.opened.others;
+    went = a.opened.went;
+  };
 })
 
 -- ---- in a doubted one, and in each
@@ -729,7 +751,13 @@ talk_step c k older kp rest x d now has follows off lived = by has.state where
   Result = (y : Transfer) × (y.client ≡ c) × (place_at c (other_of c d) (line c older) d ≡ Talks y) × Has c (d ∷ k) (new d now (Talks y) ∷ older) (new d now (Talks y) ∷ kp) rest x
 
   all : Talked c k older kp rest x d now → Result
-  all (y, client, place, state) = (y, client, ap (λ l. place_at c (other_of c d) l d) has.whole ∙ place, talk_has c k older kp rest x y d now has client off follows.here lived state)
+  all (y, client, place, state) = (
+    y,
+    client,
+    ap (λ l. place_at c (other_of c d) l d) has.whole ∙ place,
+    talk_has c k older kp rest x y d now has client off follows.here lived
+        (terms_talk c k older kp rest x y d now has follows off place) state,
+  )
 
   by : State c k older kp rest x → Result
   by (doubted is) = all (any_talk c k older kp rest x d now has (λ y. doubted (doubted_more x.number (new d now (Talks y)) older is)) follows off)

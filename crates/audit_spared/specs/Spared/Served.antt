@@ -6,7 +6,7 @@ use Rattle.tftp_packet.specs.{Server}
 use Rattle.tftp_packet.specs.Hosts.{Datagram, Header}
 use Rattle.tftp_packet.specs.{In, Out}
 use Rattle.law_end.specs.{IsLawful, IsRefused, Rule}
-use Rattle.audit_flows.specs.Lines.{Recorded, Placed, same_endpoint, is_between, is_of, is_request, other_of}
+use Rattle.audit_flows.specs.Lines.{Recorded, Placed, same_endpoint, is_between, is_of, is_request, may_be_earlier, other_of}
 use Rattle.audit_flows.specs.{Address, Endpoint, Place, Opens, Repeats, Talks, Beside, Transfer}
 use Rattle.audit_flows.specs.Lines.Doubting.{line_before}
 use Rattle.audit_flows.specs.Transfers.Places.{placed}
@@ -104,6 +104,25 @@ SparesServersByFive =
     → (x : Transfer) → transfer_beside p.place ≡ Some x → Contains clients x.client
     → (rule : Rule) → IsRefused (at_server_of x.asked.port) (server_saw write x (placed [] recorded) older) (seen_at_server write x (placed [] recorded) p) rule
     → (needs_doubt x.number (placed [] recorded) p older || is_beside p || is_shared p older) ≡ true
+
+-- The program's own doubt is enough in the place of the last: that the refused datagram may be of an earlier transfer between the
+-- same two.
+abbrev pub SparesLateServersByFive : Type 0
+SparesLateServersByFive =
+    (write : Address → List ℕ) (host : Address) (clients : List Endpoint) (recorded : List Recorded) → AreServed (IsServedCapture write) write host clients recorded
+    → (newer older : List Placed) (p : Placed) → placed [] recorded ≡ newer ++ p ∷ older
+    → (x : Transfer) → transfer_beside p.place ≡ Some x → Contains clients x.client
+    → (rule : Rule) → IsRefused (at_server_of x.asked.port) (server_saw write x (placed [] recorded) older) (seen_at_server write x (placed [] recorded) p) rule
+    → (needs_doubt x.number (placed [] recorded) p older || is_beside p || may_be_earlier p older) ≡ true
+
+-- so no server's view is refused without a doubt, though requests may come late
+abbrev pub SparesLateServers : Type 0
+SparesLateServers =
+    (write : Address → List ℕ) (host : Address) (clients : List Endpoint) (recorded : List Recorded) → AreServed (IsServedCapture write) write host clients recorded
+    → (newer older : List Placed) (p : Placed) → placed [] recorded ≡ newer ++ p ∷ older
+    → (x : Transfer) → transfer_beside p.place ≡ Some x → Contains clients x.client
+    → (rule : Rule) → IsRefused (at_server_of x.asked.port) (server_saw write x (placed [] recorded) older) (seen_at_server write x (placed [] recorded) p) rule
+    → is_doubtful_at_server x.number (placed [] recorded) p older ≡ true
 
 -- where requests come in time, the last is not needed
 abbrev pub SparesServersByFour : Type 0

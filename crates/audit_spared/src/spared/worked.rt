@@ -3,7 +3,7 @@
 
 ghost use Rattle.std.specs.Prelude.{◌≡◌, ◌||◌, true, false, List, [], ◌∷◌, ◌++◌, codes, filter, map, reverse, Contains};
 ghost use Rattle.law_end.specs.{IsLawful};
-ghost use Rattle.audit_flows.specs.Lines.{Recorded, is_late};
+ghost use Rattle.audit_flows.specs.Lines.{Recorded, is_late, may_be_earlier};
 ghost use Rattle.audit_flows.specs.{Endpoint};
 ghost use Rattle.audit_flows.specs.Transfers.{ack_of, client, data_of, read_of, service, is_doubtful, is_doubtful_at_client, is_doubtful_at_server, is_doubtful_in_whole, is_led_astray, placed, some_of};
 ghost use Rattle.audit_flows.specs.Transfers.Worked.{doubtful_in, error_of, seen_by_client, seen_by_server};
@@ -205,6 +205,7 @@ pub fn requests_must_not_come_late()
     ensures order { AreInOrder (ack_again ∷ asked_late) }
     ensures accused { IsAccusedAtServer own_name needs_doubt_there ack_again asked_late }
     ensures shared { is_shared (newest ack_again asked_late) (placed [] asked_late) ≡ true }
+    ensures earlier { may_be_earlier (newest ack_again asked_late) (placed [] asked_late) ≡ true }
 {}
 
 /// A request to write comes late, and the server's ACK of the block before is refused in the transfer that this opens: it is
@@ -213,5 +214,6 @@ pub fn late_requests_are_doubtful()
     ensures meets { AreServed (IsServedCapture own_name) own_name service.address one_client (block_acked_again ∷ written_late) }
     ensures refused { IsAccusedAtServer own_name is_doubtful block_acked_again written_late }
     ensures shared { is_shared (newest block_acked_again written_late) (placed [] written_late) ≡ true }
+    ensures earlier { may_be_earlier (newest block_acked_again written_late) (placed [] written_late) ≡ true }
     ensures doubted { is_doubtful_at_server 4 (placed [] (block_acked_again ∷ written_late)) (newest block_acked_again written_late) (placed [] written_late) ≡ true }
 {}
