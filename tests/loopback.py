@@ -192,8 +192,9 @@ class Disturbing(Relay):
 
     def payloads(self, leg: EndName, is_ours: bool) -> Counter[bytes]:
         """How often each payload passed on a leg, sent by the relay, or by the end there."""
-        passed = (it.datagram for it in self.legs[leg])
-        return Counter(it.payload for it in passed if (it.source == self.host) == is_ours)
+        # a client may have the relay's own address
+        ours, passed = {side.at for side in self.sides.values()}, (it.datagram for it in self.legs[leg])
+        return Counter(it.payload for it in passed if (Endpoint(it.source, it.source_port) in ours) == is_ours)
 
     def counts(self) -> tuple[int, int]:
         """How many datagrams were lost and repeated, by how often each payload came and went."""

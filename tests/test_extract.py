@@ -57,11 +57,14 @@ def files_in(folder: pathlib.Path) -> dict[str, bytes]:
     return {path.name: path.read_bytes() for path in folder.iterdir()}
 
 
-def late_ack() -> list[Datagram]:
-    """A read in two blocks, the first of whose ACKs passes once more after the second: at the client it was sent
-    against the lock step, and at the server it came late."""
-    passed = made.late_block()
-    return [*passed[:4], passed[5], passed[2]]
+def late_in_write() -> list[Datagram]:
+    """A write in two blocks, the first of which passes once more after the second: at the client it was sent against
+    the lock step, and at the server it came late."""
+    out, back = (made.C, 40_000, made.S, 41_000), (made.S, 41_000, made.C, 40_000)
+    asked = Datagram(made.C, 40_000, made.S, 69, write_request("a", "octet")[0])
+    first, last = (Datagram(*out, data(*block)[0]) for block in ((1, b"." * 512), (2, b"!")))
+    acks = [Datagram(*back, ack(number)[0]) for number in range(3)]
+    return [asked, acks[0], first, acks[1], last, first, acks[2]]
 
 
 def text_of(*packets: tuple[str, tuple[bytes, str]], end: str = "client") -> bytes:
@@ -346,11 +349,11 @@ class Extract(Checks):
     def test_ends(self) -> None:
         """Of what is accepted between the ends that end's text is taken which is accepted too, the client's first."""
         content = b"." * 512 + b"!"
-        for name, passed, end in (("a late block", made.late_block(), "client"), ("a late ACK", late_ack(), "server")):
+        for name, passed, end in (("a read", made.late_block(), "client"), ("a write", late_in_write(), "server")):
             got, status = self.ends_of(passed, "--end", "between")
             wanted: dict[str, Any] = {"bytes": 513, "sha256": sha256(content), "end": end, "partial": None}
             holds = got is not None and {**got, "name": ""} == {**wanted, "name": ""} and status == 0
-            self.check(f"{name}, the end whose text has it", holds, (got, status))
+            self.check(f"a late block of {name}, the end whose text has it", holds, (got, status))
         self.check("its bytes", set(files_in(self.into).values()) == {content}, files_in(self.into))
 
     def test_partial(self) -> None:

@@ -147,7 +147,7 @@ class OfRecordings(Checks):
             written, _, status = self.run_it("--strict-status", "--format", "junit", *place, path)
             self.check(f"{path.name}, strict, of a report", status == strict and bool(written), status)
         output, _, status = self.run_it("--summary", "--end", "client", *(path for path, *_ in cases))
-        self.check("all", output.startswith("5 transfers in 5 recordings\n") and status == 1, output)
+        self.check("all", output.startswith("6 transfers in 5 recordings\n") and status == 1, output)
         output, _, status = self.run_it("--summary", "--strict-status", "--end", "client", of_peer, fine, short)
         self.check("none is accused", output.startswith("3 transfers in 3 recordings\n") and status == 4, output)
 
