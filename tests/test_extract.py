@@ -236,7 +236,7 @@ class Told(Checks):
             ("at no end", "exit 1", self.rows(("between", accepted)), 0,
              ({}, 1, f"between the ends: {accepted}, but the text of no end is accepted alone")),
             ("a fault", "printf hi; exit 2", self.rows(("both", accepted)), 0, ({}, 2, "wrote no whole file")),
-            ("an end refused", "printf hi", of_two, 1, ({"a": b"hi"}, 1, f"at the server: {refused}\n")),
+            ("an end refused", "printf hi", of_two, 0, ({"a": b"hi"}, 1, f"at the server: {refused}\n")),
             ("a recording that is cut", "printf hi", self.rows(("both", accepted)), 2, ({"a": b"hi"}, 2, "")),
             ("refused", "printf hi", self.rows(("between", refused)), 1, ({}, 1, f"between the ends: {refused}\n")),
         )

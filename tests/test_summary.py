@@ -34,7 +34,7 @@ ROWS = (
     ACCEPTED, ACCEPTED, REFUSED, REFUSED, row(AHEAD, accused=SERVER), INCOMPLETE, TOO_LONG, DOUBTED,
     row("incomplete after 9", doubts=("frame 34 is not there whole",)), row("aborted by client code 3"),
     row("aborted by peer code 1", "client"), row("aborted by local code 1", "server"),
-    row("aborted by peer code 1", "server"), row("aborted by server code 99"), row("fault memory"),
+    row("aborted by peer code 4", "server"), row("aborted by server code 99"), row("fault memory"),
 )
 TOLD = f"""\
 15 transfers in 4 recordings
@@ -44,8 +44,8 @@ refused                     3
                             1  rule {Rule.ACK_AHEAD}, by the server at 2001:db8::1
 aborted                     5
                             2  by the server, code 1 (file not found)
-                            1  by the client, code 1 (file not found)
                             1  by the client, code 3 (disk full or allocation exceeded)
+                            1  by the client, code 4 (illegal TFTP operation)
                             1  by the server, code 99 (a code of no RFC)
 incomplete                  1
 too long when normal        1
