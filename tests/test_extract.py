@@ -1,5 +1,5 @@
-"""The files that tools/tftp-extract writes: their bytes beside those that servers had and those that tshark finds, their
-names, which lead nowhere else and write over nothing, and what came of transfers that are not accepted."""
+"""The files that tools/tftp-extract writes: their bytes beside those that servers had and those that tshark finds,
+their names, which lead nowhere else and write over nothing, and what came of transfers that are not accepted."""
 from __future__ import annotations
 
 import hashlib
@@ -364,7 +364,7 @@ class Extract(Checks):
         self.check("nothing by itself", (output, told, status) == ([], [line], 1), (output, told, status))
         self.check("no file", files_in(self.into) == {})
         output, told, status = self.run_it("--end", "client", "--partial", self.into, path)
-        ends = f"transfer 1 of {path}, block 1 alone: block 2 is not there"
+        ends = f"transfer 1 of {path}, block 1: block 2 is not there"
         holds = output[0].split("\t")[:3] == ["a.partial", "512", sha256(first)] and output[0].endswith(f", {ends}")
         self.check("the part", holds and (told, status) == ([line], 1), (output, told, status))
         self.check("its bytes", files_in(self.into) == {"a.partial": first})

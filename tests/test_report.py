@@ -217,7 +217,7 @@ class Report(Checks):
             "A pause of 1.010 s after 0.060 s, of the server.",
             "recorded at the client", "Passed 13 datagrams.", "Time 1.120 s, 29 B/s.",
             "Longest silence 1.010 s, from 0.060 s on, of the server: then came its DATA 2 (8 bytes) in datagram 8",
-            "Repeats 0 of the client and 2 of the server.",
+            "Repeats 0 of the client and 2 of the server.", "is not told apart from what an end did.",
             "Timeout none was agreed; the server's repeats passed after 1.040 s, usually.",
             "frame 9), of the server: 1.040 s after it last passed, 1.00 times the usual 1.040 s of the server.",
         ):

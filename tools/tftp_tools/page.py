@@ -291,8 +291,8 @@ def times(it: Entry) -> str:
         return ""
     took = [("Time", f"{facts.seconds:.3f} s, {rate(facts)}.")] if facts.seconds is not None else []
     items = "".join(f"<li>{escape(words)}</li>" for words in timing.told_repeats())
-    again = f'<ul class="again">{items}</ul>\n<p class="muted">{LOST}</p>\n' if items else ""
-    return f"<h3>Times</h3>\n{reasons([*took, *timing.told()])}{again}"
+    again = f'<ul class="again">{items}</ul>\n' if items else ""
+    return f'<h3>Times</h3>\n{reasons([*took, *timing.told()])}{again}<p class="muted">{LOST}</p>\n'
 
 
 def pictures(it: Entry) -> str:

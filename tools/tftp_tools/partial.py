@@ -23,7 +23,7 @@ class Part:
     def told(self) -> str:
         """Which blocks they are."""
         which = "block 1" if len(self.blocks) == 1 else f"blocks 1 to {len(self.blocks):,}"
-        return f"{which} alone: {self.why}" if self.blocks else f"nothing: {self.why}"
+        return f"{which}: {self.why}" if self.blocks else f"nothing: {self.why}"
 
 
 def blocks_of(history: History) -> Blocks:
