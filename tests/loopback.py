@@ -23,7 +23,7 @@ from checks import Checks
 from judged import Row, checked
 from refusals import Rule, refusal
 from tftp_tools.pairs import OTHER
-from tftp_tools.relay import Endpoint, Fate, Relay
+from tftp_tools.relay import Endpoint, Fate, Relay, stay_on_one_processor
 
 # A sender, the place among the datagrams of that sender, from 1, and what becomes of the datagram there.
 Disturbance = tuple[EndName, int, Literal["lost", "repeated", "delayed", "changed"]]
@@ -233,6 +233,18 @@ def running(command: str, folder: pathlib.Path, ready: str = "") -> Iterator[Non
                 process.kill()
 
 
+@contextlib.contextmanager
+def on_one_processor() -> Iterator[None]:
+    """What is begun meanwhile runs on the relay's processor: no two send at once, so what passes has its order."""
+    before = os.sched_getaffinity(0)
+    stay_on_one_processor(SERVICE)
+    try:
+        yield
+    finally:
+        os.sched_setaffinity(0, before)
+
+
+@on_one_processor()
 def record(case: Case, recording: pathlib.Path, folder: pathlib.Path) -> Optional[Disturbing]:
     """The recording of a case, and the relay, where there is one."""
     relay = Disturbing(case.disturbed) if case.disturbed else None
