@@ -188,7 +188,8 @@ class Launchers(Checks):
         self.check("make build, where the other program is to be built", self.scratch.make("build")[0] == 0)
         for target in ("build", "install"):
             self.check(f"make {target}", self.scratch.make(target) == (0, "", False))
-        places = (AUDIT, "lib/tftp-audit/tftp-audit"), (TRANSFERS, "bin/tftp-transfers"), (MATCH, "bin/tftp-match")
+        lib = "lib/tftp-audit"
+        places = (AUDIT, f"{lib}/tftp-audit"), (TRANSFERS, f"{lib}/tftp-transfers"), (MATCH, "bin/tftp-match")
         for it, place in places:
             program, installed = self.scratch.program_of(it), self.scratch.prefix() / place
             same = installed.exists() and installed.read_bytes() == program.read_bytes()

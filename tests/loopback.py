@@ -14,14 +14,22 @@ import shutil
 import signal
 import subprocess
 import time
+from collections import Counter
 from collections.abc import Callable, Iterator, Sequence
-from typing import Optional
+from typing import Literal, Optional
 
+from captures import EndName
 from checks import Checks
 from judged import Row, checked
 from refusals import Rule, refusal
-from relay import Disturbance, Relay
+from tftp_tools.pairs import OTHER
+from tftp_tools.relay import Endpoint, Fate, Relay, stay_on_one_processor
 
+# A sender, the place among the datagrams of that sender, from 1, and what becomes of the datagram there.
+Disturbance = tuple[EndName, int, Literal["lost", "repeated", "delayed", "changed"]]
+SERVICE = 69
+# Longer than an end waits until it sends again, of those that wait one second.
+DELAY = 1.4
 SERVER, CLIENT, RELAY = "192.0.2.1", "192.0.2.7", "192.0.2.2"
 SERVER_6, CLIENT_6 = "2001:db8::1", "2001:db8::7"
 KEPT = "TFTP_RECORDINGS"
@@ -162,6 +170,39 @@ CASES = (
 )
 
 
+class Disturbing(Relay):
+    """A relay between the clients and the server that does to some datagrams what is listed; it changes the last bit of
+    those that are to be changed."""
+
+    def __init__(self, disturbed: Sequence[Disturbance]) -> None:
+        self.listed = {(sender, place): what for sender, place, what in disturbed}
+        # what was sent on in the place of another
+        self.changed: list[bytes] = []
+        super().__init__(Endpoint(RELAY, SERVICE), Endpoint(SERVER, SERVICE), self.fate, DELAY)
+
+    def fate(self, sender: EndName, place: int) -> Fate:
+        what = self.listed.get((sender, place), "passed")
+        return "passed" if what == "changed" else what
+
+    def carried(self, sender: EndName, payload: bytes) -> bytes:
+        if self.listed.get((sender, self.count[sender])) != "changed":
+            return payload
+        self.changed.append(payload[:-1] + bytes([payload[-1] ^ 1]))
+        return self.changed[-1]
+
+    def payloads(self, leg: EndName, is_ours: bool) -> Counter[bytes]:
+        """How often each payload passed on a leg, sent by the relay, or by the end there."""
+        # a client may have the relay's own address
+        ours, passed = {side.at for side in self.sides.values()}, (it.datagram for it in self.legs[leg])
+        return Counter(it.payload for it in passed if (Endpoint(it.source, it.source_port) in ours) == is_ours)
+
+    def counts(self) -> tuple[int, int]:
+        """How many datagrams were lost and repeated, by how often each payload came and went."""
+        pairs = [(self.payloads(end, False), self.payloads(OTHER[end], True)) for end in self.legs]
+        each = [(came[it], went[it]) for came, went in pairs for it in came | went]
+        return sum(max(0, came - went) for came, went in each), sum(max(0, went - came) for came, went in each)
+
+
 def make_files(folder: pathlib.Path) -> None:
     root, client = folder / "root", folder / "client"
     for place, sizes in ((root, SIZES), (client, UPLOADS)):
@@ -192,9 +233,21 @@ def running(command: str, folder: pathlib.Path, ready: str = "") -> Iterator[Non
                 process.kill()
 
 
-def record(case: Case, recording: pathlib.Path, folder: pathlib.Path) -> Optional[Relay]:
+@contextlib.contextmanager
+def on_one_processor() -> Iterator[None]:
+    """What is begun meanwhile runs on the relay's processor: no two send at once, so what passes has its order."""
+    before = os.sched_getaffinity(0)
+    stay_on_one_processor(SERVICE)
+    try:
+        yield
+    finally:
+        os.sched_setaffinity(0, before)
+
+
+@on_one_processor()
+def record(case: Case, recording: pathlib.Path, folder: pathlib.Path) -> Optional[Disturbing]:
     """The recording of a case, and the relay, where there is one."""
-    relay = Relay(RELAY, SERVER, case.disturbed) if case.disturbed else None
+    relay = Disturbing(case.disturbed) if case.disturbed else None
     recorder = f"tcpdump -i lo -s 0 -U -Z root -w {recording} udp or icmp or icmp6 or ip[6:2]&0x3fff!=0"
     with running(recorder, folder, "listening on"), running(case.server, folder), contextlib.ExitStack() as stack:
         if relay:
@@ -205,6 +258,8 @@ def record(case: Case, recording: pathlib.Path, folder: pathlib.Path) -> Optiona
                 stdout=subprocess.DEVNULL, stderr=subprocess.DEVNULL,
             )
         time.sleep(1)
+    if relay and relay.failed:
+        raise relay.failed
     return relay
 
 

@@ -12,7 +12,7 @@ from typing import Union
 from repository import TOP
 
 Word = Union[str, pathlib.Path]
-SCRIPTS = ("tftp-explain", "tftp-ladder", "tftp-report", "tftp-trial")
+SCRIPTS = ("tftp-explain", "tftp-extract", "tftp-ladder", "tftp-report", "tftp-trial")
 # What programs are built for where the processor has AVX2 and what came with it, and what these are by Linux's names.
 V3 = "x86-64-v3"
 # What is installed beside the pages.

@@ -14,10 +14,9 @@ from both import MATCHED, UNMATCHED
 from captures import EndName
 from fuzzing.transfers import ENDS
 from judged import said
-from loopback import ATFTPD, CURL, DNSMASQ, HPA, RELAY, SERVER, Case, OverLoopback, record
+from loopback import ATFTPD, CURL, DNSMASQ, HPA, RELAY, SERVER, Case, Disturbance, Disturbing, OverLoopback, record
 from programs import MATCH, TRANSFERS
 from refusals import Rule
-from relay import Disturbance, Relay
 
 # At its own address alone, beside the relay.
 BOUND = f"{DNSMASQ} --bind-interfaces"
@@ -100,7 +99,7 @@ def is_told(line: str, text: bytes, server: str) -> bool:
     return line.startswith("accepted ") or (found is not None and is_behind_last(text, int(found[1])))
 
 
-def is_right(lines: list[str], texts: dict[EndName, bytes], case: Case, relay: Relay) -> bool:
+def is_right(lines: list[str], texts: dict[EndName, bytes], case: Case, relay: Disturbing) -> bool:
     """Whether each end is accepted, and the two are matched where nothing was changed, with what was lost and repeated,
     and else unmatched at the datagram that was changed. Of ends that are refused all that is lawful goes together, up
     to what is refused."""

@@ -78,7 +78,8 @@ GIT = {f"GIT_{who}_{what}": said for who in ("AUTHOR", "COMMITTER") for what, sa
 )}
 TOOLS = ("git", "readelf", "strip", "true")
 # The places of the programs in what is installed.
-PLACES = {AUDIT: "lib/tftp-audit/tftp-audit", TRANSFERS: "bin/tftp-transfers", MATCH: "bin/tftp-match"}
+LIB = "lib/tftp-audit"
+PLACES = {AUDIT: f"{LIB}/tftp-audit", TRANSFERS: f"{LIB}/tftp-transfers", MATCH: "bin/tftp-match"}
 
 
 class Checkout(Scratch):

@@ -15,7 +15,8 @@ from tftp_tools.crates import below, libraries_of
 from tftp_tools.rules import PACKET_FAULTS, Rule
 from tftp_tools.textfaults import MEANINGS
 
-SCRIPTS, EXAMPLES = ("tftp-explain", "tftp-ladder", "tftp-report", "tftp-trial"), TOP / "examples"
+SCRIPTS = ("tftp-explain", "tftp-extract", "tftp-ladder", "tftp-report", "tftp-trial")
+EXAMPLES = TOP / "examples"
 # The programs of which docs/LIBRARIES.md shows code, and a section of that page: its program, and what stands below.
 CALLERS = ("example_judge", "example_recording", "example_normalise")
 OF_CALLER = re.compile(r"(?ms)^## [^\n]*`(example_\w+)`\n(.*?)(?=^## |\Z)")

@@ -214,8 +214,12 @@ class Report(Checks):
         self.check("a window, status", (errors, status) == ("", 0), (errors, status))
         for told in (
             "7 blocks and 4 ACKs, the highest block is 5. 2 blocks and 0 ACKs are repeats.",
-            "A pause of 1.010 s after 0.060 s.",
-            "recorded at the client", "Passed 13 datagrams.",
+            "A pause of 1.010 s after 0.060 s, of the server.",
+            "recorded at the client", "Passed 13 datagrams.", "Time 1.120 s, 29 B/s.",
+            "Longest silence 1.010 s, from 0.060 s on, of the server: then came its DATA 2 (8 bytes) in datagram 8",
+            "Repeats 0 of the client and 2 of the server.", "is not told apart from what an end did.",
+            "Timeout none was agreed; the server's repeats passed after 1.040 s, usually.",
+            "frame 9), of the server: 1.040 s after it last passed, 1.00 times the usual 1.040 s of the server.",
         ):
             self.check(f"a window, {told}", told in words, words)
         row = lines_of_page(output)[1]
@@ -223,6 +227,10 @@ class Report(Checks):
         holds = holds and row.endswith(" | 32 | blksize=8 windowsize=4 | 1.120 | 29 B/s | 2, 0")
         self.check("a window, its row", holds, row)
         self.check("a window, repeats are hollow", output.count('class="hollow s-error"') >= 2)
+        # one of the legend, and one for each repeat
+        self.check("a window, when repeats last passed", output.count('stroke-dasharray="2 2"') == 3)
+        narrow = output.partition("@media (max-width:48rem){")[2].partition("@media")[0]
+        self.check("a window, its pictures where it is narrow", "figure{overflow-x:auto}" in narrow, narrow)
         path.write_bytes(made.file_of(passed[:6], times[:6]))
         output, _, _ = run([*self.programs, "--end", "client", path])
         self.check("a window, what is missing", "1 block missing: 2." in Page(output).text(), output)
@@ -371,6 +379,37 @@ class Report(Checks):
         path.write_bytes(made.file_of(made.read("a", 40_000, 41_000)))
         it, status = self.sarif("--end", "client", path)
         self.check("SARIF, an accepted one", (it["results"], it["tool"]["driver"]["rules"], status) == ([], [], 0), it)
+
+    def test_json(self) -> None:
+        """An object for each row, with its times, which are those of the datagrams as they were made."""
+        path, passed = self.folder / "lossy.pcap", lossy()
+        times = [0.01 * place if place < 7 else 1 + 0.01 * place for place in range(len(passed))]
+        path.write_bytes(made.file_of(passed, times))
+        output, errors, status = run([*self.programs, "--format", "json", "--end", "client", path])
+        self.check("JSON, status", (errors, status, output.count("\n")) == ("", 0, 1), (errors, status))
+        found = json.loads(output)
+        again = [
+            {"datagram": number, "frame": number, "packet": f"DATA {block} (8 bytes)", "after": 1.04}
+            for number, block in ((9, 3), (10, 4))
+        ]
+        wanted = {
+            "file": str(path), "number": 1, "client": f"{made.C}:40000", "server": f"{made.S}:41000", "kind": "get",
+            "mode": "octet", "asked": '"boot.img"', "place": "client",
+            "verdict": "accepted get octet blocks 5 bytes 32", "doubts": [],
+            "times": {
+                "seconds": 1.12, "bytes": 32, "rate": 32 / 1.12, "timeout": None,
+                "usual": {"client": None, "server": 1.04},
+                "silence": {"end": "server", "begin": 0.06, "seconds": 1.01, "datagram": 8, "frame": 8},
+                "repeats": {"client": [], "server": again},
+            },
+        }
+        self.check("JSON, the times of a window", found == wanted, found)
+        output, _, status = run([*self.programs, "--format", "json", EXAMPLES / "loopback-session.pcap"])
+        found = [json.loads(line) for line in output.splitlines()]
+        verdicts, refused = [it["verdict"] for it in found], f"refused datagram 3 rule {Rule.ACK_AHEAD}"
+        self.check("JSON, a session", (verdicts[2], len(found), status) == (refused, 5, 1), verdicts)
+        none = [it["times"]["repeats"] for it in found]
+        self.check("JSON, no repeats", none == [{"client": [], "server": []}] * 5, none)
 
     def try_many(self) -> pathlib.Path:
         """A thousand transfers; how long that takes is told."""

@@ -11,7 +11,7 @@ class TransfersLauncher(Launchers):
     """The runs of tftp-transfers."""
 
     def test_launcher(self) -> None:
-        self.try_launcher(TRANSFERS, self.recordings)
+        self.try_launcher(TRANSFERS, self.recordings, self.extracting)
 
     def recordings(self) -> None:
         """The words go to the program as they are, and standard input with them."""
@@ -49,7 +49,7 @@ class TransfersLauncher(Launchers):
         mistyped: tuple[list[Word], ...] = (["chec", recording], ["gone", "-"])
         for words in mistyped:
             got = self.scratch.run(*words, given="other")
-            message = f"'{words[0]}' is no command (list, text, texts, check), and no file that can be read"
+            message = f"'{words[0]}' is no command (list, text, texts, check, extract), and no file that can be read"
             self.refuses(f"{words}", got, f"tftp-transfers: {message}; tftp-transfers --help says more\n")
         folder = recording.parent
         got = self.scratch.run("check", folder)
@@ -63,3 +63,23 @@ class TransfersLauncher(Launchers):
         self.check("a script builds the program before it asks it", holds and "progress" not in lines[-1], errors)
         self.scratch.source.write_text("3")
         self.refuses("a trial run that ends with status 3", self.scratch.call(), self.not_built(), 1)
+
+    def extracting(self) -> None:
+        """extract is a script's, which asks the program; so it is where they are installed, and other words are not."""
+        self.scratch.source.write_text("not built")
+        folder = self.scratch.top.parent / "files"
+        recording = self.scratch.top.parent / "a folder of recordings" / "the recording"
+        checkout, installed = (place / TRANSFERS.name for place in (self.scratch.top, self.scratch.prefix() / "bin"))
+        for name, launcher in (("", checkout), ("installed, ", installed)):
+            output, *others = self.scratch.run("extract", "--help", script=launcher)
+            holds = output.startswith("usage: tftp-extract ") and others == ["", 0, 0]
+            self.check(f"{name}extract --help", holds, (output, *others))
+            output, errors, status, _ = self.scratch.run("extract", folder, recording, script=launcher)
+            told = errors.splitlines()[-1:]
+            holds = (output, status) == ("", 2) and told[0].startswith("tftp-extract: ") and "gave no rows" in told[0]
+            self.check(f"{name}extract asks the program", holds, (output, errors, status))
+        got = self.scratch.run("check", recording, script=installed, given="other")
+        wanted = f"mended: {said_of(['check', recording])}: other\n"
+        self.check("installed, check", got == (wanted, "", 0, 0), got)
+        got = self.scratch.run("check", "-", script=TRANSFERS.name, folder=folder, on_path=installed.parent)
+        self.check("installed, found on PATH", got == (f"mended: {said_of(['check', '-'])}: \n", "", 0, 0), got)

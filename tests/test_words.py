@@ -20,9 +20,9 @@ from tftp_tools.words import version
 
 Word = Union[str, pathlib.Path]
 EXAMPLE = TOP / "examples" / "one-block.capture"
-# The scripts that read a file; the other one runs a client.
-TRIAL = "tftp-trial"
-READERS = tuple(name for name in SCRIPTS if name != TRIAL)
+# The scripts that read one file; the others run a client, and write files of recordings.
+TRIAL, EXTRACT = "tftp-trial", "tftp-extract"
+READERS = tuple(name for name in SCRIPTS if name not in (TRIAL, EXTRACT))
 # In the place of tftp-audit: it accepts what it is given.
 ACCEPTS = "#!/bin/sh\necho accepted get octet blocks 1 bytes $(wc -c)\n"
 # In the place of tftp-transfers: it refuses what it is given, with its words.
@@ -104,6 +104,18 @@ class Words(Checks):
         for word, also in (("--frobnicate", ""), ("--sed", ", but there is --seed"), (f"--{ODD}", "")):
             told = f"there is no option '{shown(word)}'{also}; {TRIAL} --help says more"
             self.refuses(TRIAL, [word, "--", "true"], told)
+
+    def test_unknown_to_extract(self) -> None:
+        ends = f"; {EXTRACT} --help says more"
+        for word, also in (("--frobnicate", ""), ("--partal", ", but there is --partial"), (f"--{ODD}", "")):
+            self.refuses(EXTRACT, [self.folder, EXAMPLE, word], f"there is no option '{shown(word)}'{also}{ends}")
+        missing: tuple[tuple[list[Word], str], ...] = (([], "DIR, FILE"), ([self.folder], "FILE"))
+        for words, lacking in missing:
+            self.refuses(EXTRACT, words, f"the following arguments are required: {lacking}{ends}")
+        self.refuses(EXTRACT, [self.folder, EXAMPLE], f"{str(EXAMPLE)!r} is no recording")
+        for file, why in (("missing", MISSING), (ODD, MISSING), (str(self.folder), "Is a directory")):
+            self.refuses(EXTRACT, [self.folder, file], f"cannot read the file {file!r}: {why}")
+        self.refuses(EXTRACT, [EXAMPLE, EXAMPLE], f"cannot make files in the folder {str(EXAMPLE)!r}: Not a directory")
 
     def test_places(self) -> None:
         """Options may stand between the other words."""

@@ -9,7 +9,7 @@ set -eu
 action=$1
 prefix=$2
 list=lib/tftp-audit/installed
-scripts='tftp-explain tftp-ladder tftp-report tftp-trial'
+scripts='tftp-explain tftp-extract tftp-ladder tftp-report tftp-trial'
 
 record() {
     printf '%s %s\n' "$1" "$2" >>"$prefix/$list"
@@ -78,7 +78,8 @@ put_all() {
     put_as 755 tools/installed.sh bin/tftp-audit
     put_as 755 crates/tftp_audit/out/tftp_audit lib/tftp-audit/tftp-audit
     put 644 lib/tftp-audit tools/commands.sh
-    put_as 755 crates/tftp_transfers/out/tftp_transfers bin/tftp-transfers
+    put_as 755 tools/installed_transfers.sh bin/tftp-transfers
+    put_as 755 crates/tftp_transfers/out/tftp_transfers lib/tftp-audit/tftp-transfers
     put_as 755 crates/tftp_match/out/tftp_match bin/tftp-match
     put 644 lib/tftp-audit/tftp_tools tools/tftp_tools/*.py
     link_scripts

@@ -116,7 +116,7 @@ class Program:
 
 PROGRAMS = (
     Program("tftp_audit", "tftp-audit", "lib/tftp-audit/tftp-audit"),
-    Program("tftp_transfers", "tftp-transfers", "bin/tftp-transfers"),
+    Program("tftp_transfers", "tftp-transfers", "lib/tftp-audit/tftp-transfers"),
     Program("tftp_match", "tftp-match", "bin/tftp-match"),
 )
 

@@ -204,10 +204,15 @@ def before_error(history: History, way: str) -> History:
     return history_before(history.capture, error.datagram.number) if error else history
 
 
+def earlier(capture: Capture) -> Iterator[Optional[int]]:
+    """Of each datagram the place at which the same one last passed, if it did."""
+    last: dict[tuple[str, int, str, int, bytes], int] = {}
+    for place, datagram in enumerate(capture.datagrams):
+        key = (datagram.way, datagram.local, datagram.host, datagram.remote, datagram.payload)
+        yield last.get(key)
+        last[key] = place
+
+
 def repeats(capture: Capture) -> Iterator[bool]:
     """Of each datagram, whether it is one that passed before."""
-    seen: set[tuple[str, int, str, int, bytes]] = set()
-    for datagram in capture.datagrams:
-        key = (datagram.way, datagram.local, datagram.host, datagram.remote, datagram.payload)
-        yield key in seen
-        seen.add(key)
+    return (place is not None for place in earlier(capture))

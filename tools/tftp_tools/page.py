@@ -19,8 +19,11 @@ from .packets import count, words_of
 from .plotted import plot
 from .recording import Judged, Listed
 from .remarks import NO_VERDICT, CameOver, Remarks, named
+from .timing import timing_of
 
 ROWS = 60
+# What is not seen of times.
+LOST = "What a network lost, held or repeated is not told apart from what an end did."
 HEADINGS = ("No.", "Verdict", "Client", "Server", "File", "Size", "Options agreed", "Seconds", "Throughput", "Repeated")
 # What a verdict says in a word, the worst first, and by what it begins.
 KINDS = {
@@ -55,6 +58,7 @@ tbody>tr{display:block;order:var(--at);border-bottom:2px solid;padding:.5rem 0}
 tbody>tr>*{display:grid;grid-template-columns:8.5rem 1fr;border:0;padding:.1rem 0;overflow-wrap:anywhere}
 tbody>tr>*::before{content:attr(data-heading);font-weight:bold}
 td.number{text-align:left;white-space:normal}dl{grid-template-columns:1fr}dd{grid-column:1}
+figure{overflow-x:auto}figure svg{max-width:none}.again{padding-left:1.2rem;overflow-wrap:anywhere}
 }
 @media print{fieldset{display:none}body{max-width:none;margin:0}a{text-decoration:none}
 section,figure,.beside div{break-inside:avoid}}
@@ -280,6 +284,17 @@ def what_if(it: Entry) -> str:
     )
 
 
+def times(it: Entry) -> str:
+    """How long it took, what passed again and when, and the longest silence."""
+    timing, facts = timing_of(it.capture), it.facts
+    if not it.capture.datagrams:
+        return ""
+    took = [("Time", f"{facts.seconds:.3f} s, {rate(facts)}.")] if facts.seconds is not None else []
+    items = "".join(f"<li>{escape(words)}</li>" for words in timing.told_repeats())
+    again = f'<ul class="again">{items}</ul>\n' if items else ""
+    return f'<h3>Times</h3>\n{reasons([*took, *timing.told()])}{again}<p class="muted">{LOST}</p>\n'
+
+
 def pictures(it: Entry) -> str:
     name, verdict = f"t{it.number()}", it.judged.verdict
     if not it.capture.datagrams:
@@ -287,7 +302,7 @@ def pictures(it: Entry) -> str:
     over_time = plot(it.capture, verdict, f"{name}-plot", is_alone=False)
     ladder = draw(it.capture, verdict, ROWS, False, f"{name}-ladder", is_alone=False)
     shown = (("Blocks over time", over_time), ("The exchange", ladder))
-    return "".join(f"<h3>{heading}</h3>\n<figure>{picture}</figure>\n" for heading, picture in shown)
+    return "".join(f'<h3>{heading}</h3>\n<figure tabindex="0">{picture}</figure>\n' for heading, picture in shown)
 
 
 def section(it: Entry, is_drawn: bool) -> str:
@@ -303,7 +318,7 @@ def section(it: Entry, is_drawn: bool) -> str:
         f'<section class="of {kind}" aria-labelledby="{name}">\n<h2 id="{name}">{it.number()}. {escape(asked)}</h2>'
         f'\n<p class="{it.state()}"><strong>{escape(it.says())}</strong></p>\n'
         f'<p class="muted">{escape(seen)}</p>\n'
-        f"{reasons(told)}{bytes_of(it)}{what_if(it)}{pictures(it) if is_drawn else ''}</section>\n"
+        f"{reasons(told)}{bytes_of(it)}{what_if(it)}{times(it)}{pictures(it) if is_drawn else ''}</section>\n"
     )
 
 

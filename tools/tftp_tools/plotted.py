@@ -4,30 +4,33 @@ from __future__ import annotations
 import math
 from collections.abc import Iterator
 from dataclasses import dataclass
+from typing import Optional
 from xml.sax.saxutils import escape
 
 from .capture import Capture
 from .drawn import framed
-from .facts import Facts, facts_of, times_of
-from .history import History, repeats
+from .facts import Facts, Pause, facts_of, times_of
+from .history import History, earlier
 from .packets import Ack, Data, count
 from .program import Verdict
+from .timing import timing_of
 
 WIDTH, HEIGHT, LEFT, RIGHT, TOP, BOTTOM = 960, 360, 70, 20, 44, 44
 MOST_TOLD, TICKS = 5, 6
 LEGEND = (
     ("block", "data"), ("ACK", "ack"), ("repeated block", "data again"), ("repeated ACK", "ack again"),
-    ("refused", "refused"), ("missing", "missing"),
+    ("since it last passed", "wait"), ("refused", "refused"), ("missing", "missing"),
 )
 
 
 @dataclass(frozen=True)
 class Point:
-    """A datagram of the transfer that has a block number."""
+    """A datagram of the transfer that has a block number, and of a repeat where the same one last was."""
 
     across: float
     block: int
     kind: str
+    since: Optional[float] = None
 
 
 def points_of(capture: Capture, verdict: Verdict) -> list[Point]:
@@ -35,14 +38,16 @@ def points_of(capture: Capture, verdict: Verdict) -> list[Point]:
     refused, history = verdict.refused(), History(capture)
     times, points = times_of(capture), list[Point]()
     is_timed = all(time is not None for time in times)
-    for place, (datagram, is_repeat) in enumerate(zip(capture.datagrams, repeats(capture))):
+    across = [float(time or 0) if is_timed else place for place, time in enumerate(times, 1)]
+    for place, (datagram, before) in enumerate(zip(capture.datagrams, earlier(capture))):
         passed = history.take(datagram)
         if passed.place != "main" or not isinstance(passed.packet, (Ack, Data)):
             continue
         kind = "data" if isinstance(passed.packet, Data) else "ack"
-        kind = f"{kind} again" if is_repeat else kind
+        kind = f"{kind} again" if before is not None else kind
         kind = "refused" if refused and refused[0] == place + 1 else kind
-        points.append(Point(float(times[place] or 0) if is_timed else place + 1, passed.packet.block, kind))
+        since = across[before] if before is not None else None
+        points.append(Point(across[place], passed.packet.block, kind, since))
     return points
 
 
@@ -61,6 +66,8 @@ class Plot:
         self.verdict, self.name = verdict, name
         self.points = points_of(capture, verdict)
         self.facts: Facts = facts_of(capture)
+        # of which end nothing passed in a pause
+        self.silent = {(it.begin, it.end): it.silent() for it in timing_of(capture).silences}
         self.is_timed = self.facts.seconds is not None
         widest = self.facts.seconds if self.facts.seconds is not None else float(len(capture.datagrams))
         self.most = max(widest, 1e-6)
@@ -110,13 +117,31 @@ class Plot:
         for pause in self.facts.pauses if self.is_timed else ():
             x, width = self.x(pause.begin), self.x(pause.end) - self.x(pause.begin)
             box, told = f'x="{x:.1f}" y="{TOP}" width="{width:.1f}"', f"{pause.end - pause.begin:.3f} s"
-            title = f"<title>a pause of {told}</title>"
+            title = f"<title>a pause of {told}{self.silence_in(pause)}</title>"
             self.parts.append(f'<rect {box} height="{HEIGHT - TOP - BOTTOM}" class="f-fold">{title}</rect>')
             if width > 50:
                 self.text(x + width / 2, TOP + 12, told)
+            if width > 110 and (pause.begin, pause.end) in self.silent:
+                self.text(x + width / 2, TOP + 24, f"of the {self.silent[pause.begin, pause.end]}")
+
+    def silence_in(self, pause: Pause) -> str:
+        """Of which end nothing passed in a pause."""
+        silent = self.silent.get((pause.begin, pause.end))
+        return f", of the {silent}" if silent else ""
+
+    def wait(self, begin: float, end: float, y: float) -> None:
+        self.line((begin, y, end, y), "repeat", 'stroke-dasharray="2 2"')
+
+    def waits(self) -> None:
+        """How long before a repeat the same datagram had passed, once at a place."""
+        spans = ((it.block, it.since, it.across) for it in self.points if it.since is not None)
+        places = {(round(self.x(begin)), round(self.x(end)), round(self.y(block))) for block, begin, end in spans}
+        for begin, end, y in sorted(places):
+            self.wait(begin, end, y)
 
     def mark(self, point: Point, x: float, y: float) -> None:
-        """A block is a square, an ACK a dash, a repeat hollow, what is refused a cross, what is missing a ring."""
+        """A block is a square, an ACK a dash, a repeat hollow, what is refused a cross, what is missing a ring; the
+        time since a repeat last passed is a dotted line."""
         if point.kind == "data":
             self.parts.append(f'<rect x="{x - 2:.1f}" y="{y - 2:.1f}" width="4" height="4" class="f-data"/>')
         elif point.kind == "ack":
@@ -128,6 +153,8 @@ class Plot:
             self.line((x - 6, y, x + 6, y), "error", 'stroke-width="2"')
         elif point.kind == "missing":
             self.parts.append(f'<circle cx="{x:.1f}" cy="{y:.1f}" r="4" class="hollow s-request" stroke-width="2"/>')
+        elif point.kind == "wait":
+            self.wait(x - 6, x + 6, y)
         else:
             path = f"M {x - 6:.1f} {y - 6:.1f} l 12 12 m -12 0 l 12 -12"
             self.parts.append(f'<path d="{path}" class="hollow s-refused" stroke-width="3"/>')
@@ -157,7 +184,8 @@ class Plot:
             more = ", .." if len(facts.missing) > MOST_TOLD else ""
             told.append(f"{count(len(facts.missing), 'block')} missing: {first}{more}.")
         for pause in facts.pauses[:MOST_TOLD]:
-            told.append(f"A pause of {pause.end - pause.begin:.3f} s after {pause.begin:.3f} s.")
+            length = f"{pause.end - pause.begin:.3f} s"
+            told.append(f"A pause of {length} after {pause.begin:.3f} s{self.silence_in(pause)}.")
         return " ".join(told)
 
     def picture(self, is_alone: bool) -> str:
@@ -168,6 +196,6 @@ class Plot:
 def plot(capture: Capture, verdict: Verdict, name: str = "plot", is_alone: bool = True) -> str:
     """The picture of a capture; within a page, which has the style, it is not alone."""
     drawn = Plot(capture, verdict, name)
-    for part in (drawn.pauses, drawn.across, drawn.upward, drawn.legend, drawn.marks, drawn.rings):
+    for part in (drawn.pauses, drawn.across, drawn.upward, drawn.legend, drawn.waits, drawn.marks, drawn.rings):
         part()
     return drawn.picture(is_alone)

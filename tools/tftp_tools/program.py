@@ -1,6 +1,7 @@
 """The programs: where they stand, what tftp-audit says of a capture text, and how tftp-transfers is asked."""
 from __future__ import annotations
 
+import functools
 import re
 import shutil
 import subprocess
@@ -54,6 +55,7 @@ def find_program(name: str, wanted: Optional[str]) -> str:
     return found
 
 
+@functools.lru_cache(maxsize=None)
 def built(launcher: str) -> str:
     """The launcher, once its program is built: what a build says is none of what the program tells."""
     with told(f"cannot run {launcher!r}"):
@@ -80,6 +82,15 @@ def file_of(program: str, text: bytes) -> bytes:
     if done.returncode != 0:
         raise Refused(f"{program!r} wrote no file, and ended with status {done.returncode}")
     return done.stdout
+
+
+def extract(program: str, text: bytes, into: int) -> bool:
+    """Has the program write the file of a capture text into one that is open; whether it accepts the text."""
+    with told(f"cannot run {program!r}"):
+        done = subprocess.run([program, "extract"], input=text, stdout=into, check=False)
+    if done.returncode not in (0, 1):
+        raise Refused(f"{program!r} wrote no whole file, and ended with status {done.returncode}")
+    return done.returncode == 0
 
 
 def ask(program: str, words: Sequence[str], given: Optional[bytes] = None) -> tuple[bytes, list[str], int]:

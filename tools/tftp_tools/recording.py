@@ -22,10 +22,17 @@ BEGINS = re.compile(rb"^tftp-capture ", re.MULTILINE)
 OF = re.compile(rb"^# transfer ([0-9]+) of ", re.MULTILINE)
 # The statuses of a recording that was read: all is accepted, something is not, there is nothing to judge.
 JUDGED = (0, 1, 3)
+# All statuses, that which counts most first: a fault; an end is accused, or something is not accepted; that is so and
+# nobody is accused; there is nothing to judge; all is accepted.
+STATUSES = (2, 1, 4, 3, 0)
 T = TypeVar("T")
 # The fields of a listed transfer.
 WORDS = ("client", "server", "kind", "mode", "file", "options")
 NUMBERS = ("number", "datagrams", "first_frame", "last_frame")
+
+
+class NoTransfer(Refused):
+    """A recording was read, and there is no transfer to judge in it."""
 
 
 @dataclass(frozen=True)
@@ -60,6 +67,10 @@ class Row:
 
     def is_accused(self) -> bool:
         return self.is_refused() and not self.doubts
+
+    def says(self) -> str:
+        """The verdict, as it is told of a recording."""
+        return f"{'doubtful: ' if self.doubts else ''}{self.verdict}"
 
 
 @dataclass(frozen=True)
@@ -165,6 +176,10 @@ class Recording:
 
     def rows(self, script: str, place: Optional[str], notes: Optional[list[str]] = None) -> list[Row]:
         """The verdicts, at a place if one is named; what is told beside them is told, and added to the notes."""
+        return self.checked(script, place, notes)[0]
+
+    def checked(self, script: str, place: Optional[str], notes: Optional[list[str]] = None) -> tuple[list[Row], int]:
+        """The same with the status."""
         written, beside, status = self.ask("check", "--json", *(["--end", place] if place else []))
         for line in beside[: None if written else -1]:
             tell(script, line)
@@ -172,10 +187,11 @@ class Recording:
                 notes.append(shown(line))
         rows = objects(written, row_of)
         if rows:
-            return rows
+            return rows, status
         if written or status != 0 and not beside:
             raise Refused(f"{self.transfers!r} gave no rows for {self.path!r}, and ended with status {status}")
-        raise Refused(beside[-1] if beside else f"{self.path}: there is no transfer in the recording")
+        refusal = NoTransfer if status in (0, 3) else Refused
+        raise refusal(beside[-1] if beside else f"{self.path}: there is no transfer in the recording")
 
     def rows_if_any(self, place: PlaceName) -> list[Row]:
         """The verdicts at a place, none where there is no transfer."""
@@ -246,5 +262,12 @@ def best(rows: Sequence[Row]) -> Row:
 
 def one_each(rows: Sequence[Row]) -> list[Row]:
     """A row for each transfer, in their order."""
-    numbers = dict.fromkeys(row.number for row in rows)
-    return [best([row for row in rows if row.number == number]) for number in numbers]
+    of_each: dict[int, list[Row]] = {}
+    for row in rows:
+        of_each.setdefault(row.number, []).append(row)
+    return [best(its) for its in of_each.values()]
+
+
+def worst(statuses: Iterable[int]) -> int:
+    """The status that counts most."""
+    return min(statuses, key=STATUSES.index)

@@ -15,14 +15,19 @@ from .recording import PLACES, Judged, Listed, Recording, Row, best, is_recordin
 TEXT_BEGINS = b"tftp-capture "
 
 
-def add_file(parser: argparse.ArgumentParser, what: str) -> None:
-    """The word for a file, and those by which a script is told where the programs are."""
-    parser.add_argument("capture", nargs="?", default="-", metavar="FILE", help=what)
+def add_programs(parser: argparse.ArgumentParser) -> None:
+    """The words about a recording's ports, and those by which a script is told where the programs are."""
     parser.add_argument("--service", action="append", default=[], metavar="PORT", help="a port to which requests go in"
                         " the recording, beside 69; may be given several times")
     for name in (AUDIT, TRANSFERS):
         where = f"the program {name}, where it is not found by itself"
         parser.add_argument(OPTIONS[name], metavar="PATH", help=where)
+
+
+def add_file(parser: argparse.ArgumentParser, what: str) -> None:
+    """The word for a file, and those that go with each."""
+    parser.add_argument("capture", nargs="?", default="-", metavar="FILE", help=what)
+    add_programs(parser)
 
 
 def add_words(parser: argparse.ArgumentParser, without: str) -> None:
@@ -35,7 +40,19 @@ def add_words(parser: argparse.ArgumentParser, without: str) -> None:
 
 def opened(asked: argparse.Namespace) -> Union[bytes, Recording]:
     """The text that stands in the file that is named or comes on standard input, or the recording."""
-    path = str(asked.capture)
+    return opened_at(str(asked.capture), asked)
+
+
+def recording_at(path: str, asked: argparse.Namespace) -> Recording:
+    """The recording in a file, or on standard input."""
+    found = opened_at(path, asked)
+    if isinstance(found, bytes):
+        raise Refused(f"{path!r} is no recording")
+    return found
+
+
+def opened_at(path: str, asked: argparse.Namespace) -> Union[bytes, Recording]:
+    """The same of a file, where the words say how it is read."""
     given: Optional[bytes] = None
     if path == "-" or Path(path).is_fifo():
         # it can be read once

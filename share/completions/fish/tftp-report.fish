@@ -5,5 +5,7 @@ complete -c tftp-report -l service -x -d 'A port to which requests go, beside 69
 complete -c tftp-report -l program -r -d 'The program tftp-audit'
 complete -c tftp-report -l transfers -r -d 'The program tftp-transfers'
 complete -c tftp-report -l end -x -a 'client server between' -d 'At which end it was recorded, or between'
-complete -c tftp-report -l format -x -a 'html junit sarif' -d 'A page, or for other programs'
+complete -c tftp-report -l format -x -a 'html junit sarif json' -d 'A page, or for other programs'
 complete -c tftp-report -l pictures -x -d 'So many transfers have pictures'
+complete -c tftp-report -l summary -d 'The counts of all recordings'
+complete -c tftp-report -l strict-status -d 'Status 4 where nobody is accused'
