@@ -38,8 +38,8 @@ NOISE = (
     "never whole",
 )
 FIELDS = (
-    "frame.number", "frame.time_epoch", "ip.src", "ip.dst", "ipv6.src", "ipv6.dst", "udp.srcport", "udp.dstport",
-    "udp.length", "udp.payload",
+    "frame.number", "frame.protocols", "frame.time_epoch", "ip.src", "ip.dst", "ipv6.src", "ipv6.dst", "udp.srcport",
+    "udp.dstport", "udp.length", "udp.payload",
 )
 # What begins a file that is no recording.
 OTHERS = {
@@ -124,14 +124,157 @@ TWICE = (
 
 
 # Headers of IPv6 by their number and what follows their first byte, and whether what is behind them is read.
-AUTHENTICATION, MOBILITY = 51, 135
+AUTHENTICATION, MOBILITY, ESP = 51, 135, 50
 HOME = bytes.fromhex("20010db8000000000000000000000009")
 HEADERS = {
     "a routing header with no segment left": (True, recorded.ROUTING, bytes([2, 2, 0, 0, 0, 0, 0]) + HOME),
     "a routing header with a segment left": (False, recorded.ROUTING, bytes([2, 2, 1, 0, 0, 0, 0]) + HOME),
-    "an authentication header": (False, AUTHENTICATION, bytes([4, 0, 0, 0, 0, 1, 0, 0, 0, 0, 1]) + bytes(12)),
+    "an authentication header": (True, AUTHENTICATION, bytes([4, 0, 0, 0, 0, 1, 0, 0, 0, 0, 1]) + bytes(12)),
     "a fragment of twelve bytes that more follow": (False, recorded.FRAGMENT, bytes([0, 0, 1, 0, 0, 0, 7])),
     "a mobility header": (False, MOBILITY, bytes([0, 0, 0, 0, 0, 0, 0])),
+    "ESP": (False, ESP, bytes([0, 1, 0, 0, 0, 0, 1])),
+}
+
+# ---- what stands before a packet, between a link and IP, and round another packet
+
+SNAP, SESSION, LABELS, MULTICAST_LABELS, BRIDGED = bytes.fromhex("aaaa03000000"), 0x8864, 0x8847, 0x8848, 0x6558
+PPP = {4: 0x21, 6: 0x57}
+IN_IP, GRE = {4: 4, 6: 41}, 47
+TUNNEL = {
+    4: Datagram("198.51.100.1", 1, "198.51.100.2", 1, b""), 6: Datagram("2001:db8:1::1", 1, "2001:db8:1::2", 1, b""),
+}
+
+
+def version_of(packet: bytes) -> int:
+    return packet[0] >> 4
+
+
+def type_of(packet: bytes) -> int:
+    return recorded.IPV4 if version_of(packet) == 4 else recorded.IPV6
+
+
+def with_snap(packet: bytes) -> tuple[int, bytes]:
+    """The length, and LLC with SNAP before the packet (RFC 1042)."""
+    front = SNAP + struct.pack("!H", type_of(packet))
+    return len(front) + len(packet), front + packet
+
+
+def with_session(packet: bytes) -> tuple[int, bytes]:
+    """In a session of PPPoE (RFC 2516)."""
+    return SESSION, struct.pack("!BBHHH", 0x11, 0, 7, 2 + len(packet), PPP[version_of(packet)]) + packet
+
+
+def with_labels(count: int, kind: int = LABELS) -> Callable[[bytes], tuple[int, bytes]]:
+    """Behind so many labels of MPLS (RFC 3032)."""
+
+    def labelled(packet: bytes) -> tuple[int, bytes]:
+        labels = (16 + place << 12 | (0x100 if place + 1 == count else 0) | 64 for place in range(count))
+        return kind, b"".join(struct.pack("!I", label) for label in labels) + packet
+
+    return labelled
+
+
+# A length is so long at most, of which LLC and SNAP have 8.
+LONGEST_LENGTH, LONGEST_IN_SNAP, COOKED_LLC = 1_500, 1_492, 4
+
+# None of these, and each of them: a type, and what stands behind it.
+SHIMS: dict[str, Callable[[bytes], tuple[int, bytes]]] = {
+    "nothing": lambda packet: (type_of(packet), packet), "LLC and SNAP": with_snap, "PPPoE": with_session,
+    "a label of MPLS": with_labels(1), "three labels of MPLS": with_labels(3, MULTICAST_LABELS),
+}
+
+
+def outer(version: int, content: bytes, protocol: int) -> bytes:
+    """The packet of a tunnel."""
+    it = TUNNEL[version]
+    return recorded.ipv4(it, content, protocol) if version == 4 else recorded.ipv6(it, content, protocol)
+
+
+def in_ip(version: int) -> Callable[[bytes], bytes]:
+    """In IP (RFC 2003; RFC 2473; RFC 4213)."""
+    return lambda packet: outer(version, packet, IN_IP[version_of(packet)])
+
+
+def in_gre(version: int, flags: int, shim: str = "nothing") -> Callable[[bytes], bytes]:
+    """In GRE with these flags (RFC 2784; RFC 2890): of a checksum, of a key, of a number."""
+
+    def wrapped(packet: bytes) -> bytes:
+        kind, content = SHIMS[shim](packet)
+        fields = sum(1 for flag in (0x8000, 0x2000, 0x1000) if flags & flag)
+        head = bytearray(struct.pack("!HH", flags, kind) + bytes(4 * fields))
+        if flags & 0x8000:
+            head[4:6] = struct.pack("!H", recorded.sum_of(bytes(head) + content))
+        return outer(version, bytes(head) + content, GRE)
+
+    return wrapped
+
+
+def bridged(packet: bytes) -> bytes:
+    """A frame of Ethernet with a tag in GRE."""
+    frame = bytes(range(12)) + struct.pack("!HHH", 0x8100, 5, type_of(packet)) + packet
+    return outer(4, struct.pack("!HH", 0, BRIDGED) + frame, GRE)
+
+
+def authenticated(packet: bytes) -> bytes:
+    """A whole packet in an authentication header (RFC 4302, section 3.1.2)."""
+    return outer(4, bytes([IN_IP[version_of(packet)], 4]) + bytes(10) + bytes(range(12)) + packet, AUTHENTICATION)
+
+
+def behind_header(packet: bytes) -> bytes:
+    """What a packet of IPv4 without options carries, behind an authentication header, with the right checksum where it
+    has one; a fragment is left as it is."""
+    if version_of(packet) != 4 or packet[0] != 0x45 or packet[6] & 0x3F or packet[7]:
+        return packet
+    content = bytes([packet[9], 4]) + bytes(10) + bytes(range(12)) + packet[20:]
+    head = packet[:2] + struct.pack("!H", 20 + len(content)) + packet[4:9] + bytes([AUTHENTICATION]) + packet[10:20]
+    if recorded.sum_of(packet[:20]):
+        return head + content
+    return head[:10] + struct.pack("!H", recorded.sum_of(head[:10] + bytes(2) + head[12:])) + head[12:] + content
+
+
+# No tunnel, and each of them.
+TUNNELS: dict[str, Callable[[bytes], bytes]] = {
+    "none": lambda packet: packet, "IPv4": in_ip(4), "IPv6": in_ip(6), "GRE": in_gre(4, 0),
+    "GRE in IPv6": in_gre(6, 0x2000), "GRE with all fields": in_gre(4, 0xB000),
+    "MPLS in GRE": in_gre(4, 0x1000, "three labels of MPLS"), "Ethernet in GRE": bridged,
+    "authentication round a packet": authenticated, "authentication": behind_header,
+    "IPv4 in GRE": lambda packet: in_gre(4, 0)(in_ip(4)(packet)),
+    "three": lambda packet: in_ip(6)(in_ip(4)(in_gre(6, 0)(packet))),
+}
+
+# What is not read, by its content behind a header of IPv4 or of Ethernet, and why it is left out.
+UNREAD: dict[str, tuple[str, Callable[[bytes], bytes]]] = {
+    "ESP": ("Extension", lambda packet: outer(4, struct.pack("!II", 256, 1) + packet, ESP)),
+    "IPComp": ("Extension", lambda packet: outer(4, bytes([17, 0, 0, 9]) + packet, 108)),
+    "L2TP": ("Extension", lambda packet: outer(4, bytes([0, 0, 0, 9]) + packet, 115)),
+    "an authentication header of no length": (
+        "Extension", lambda packet: outer(4, bytes([4, 0]) + bytes(10) + packet, AUTHENTICATION),
+    ),
+    "a fragment of a tunnel's packet": (
+        "Extension", lambda packet: recorded.ipv4(TUNNEL[4], packet[:24], 4, Fragment(9, 0, True)),
+    ),
+    "a fragment of authentication": (
+        "Extension", lambda packet: recorded.ipv6(TUNNEL[6], packet[:24], AUTHENTICATION, Fragment(9, 0, True)),
+    ),
+    "GRE of version 1": ("Frame", lambda packet: outer(4, bytes([0x20, 1, 0x88, 0x0B, 0, 0, 0, 0]) + packet, GRE)),
+    "GRE with routing": ("Frame", lambda packet: outer(4, bytes([0x40, 0, 8, 0]) + packet, GRE)),
+    "GRE of another type": ("Frame", lambda packet: outer(4, bytes([0, 0, 0x88, 0x3E]) + packet, GRE)),
+    "GRE that ends in its key": ("Frame", lambda packet: outer(4, bytes([0x20, 0, 8, 0, 0]), GRE)),
+    "IP in IP without a header": ("Header", lambda packet: outer(4, packet[:10], 4)),
+    "IP in IP that is cut": ("Cut", lambda packet: outer(4, packet[:-1], 4)),
+    "TCP in IP": ("Protocol", lambda packet: outer(4, recorded.ipv4(TUNNEL[4], bytes(20), recorded.TCP), 4)),
+}
+# What is not read behind the type of a frame of Ethernet.
+UNREAD_FRAMES: dict[str, tuple[str, int, bytes]] = {
+    "LLC of spanning trees": ("Network", 38, bytes.fromhex("424203") + bytes(43)),
+    "SNAP of another organization": ("Network", 40, bytes.fromhex("aaaa0300000c2000") + bytes(38)),
+    "a length, and no more": ("Frame", 40, b""),
+    "SNAP that is cut": ("Frame", 40, SNAP[:4]),
+    "the end of PPP": ("Network", SESSION, bytes([0x11, 0, 0, 7, 0, 4, 0xC0, 0x21, 9, 1])),
+    "what PPP compresses": ("Frame", SESSION, bytes([0x11, 0, 0, 7, 0, 4, 0, 0xFD, 9, 1])),
+    "PPPoE of another code": ("Frame", SESSION, bytes([0x11, 9, 0, 7, 0, 4, 0, 0x21, 9, 1])),
+    "a label before none of IP": ("Frame", LABELS, bytes([0, 1, 1, 64, 0, 0, 0, 0]) + bytes(20)),
+    "labels without an end": ("Frame", LABELS, bytes([0, 1, 0, 64]) * 3),
 }
 
 # Fragments of 40 bytes by where each begins and ends, and whether they are put together in IPv6 too.
@@ -160,6 +303,9 @@ class Maker:
         self.chance, self.links, self.id, self.time = chance, links, first, recorded.FIRST_TIME
         # tshark puts only fragments of one VLAN together.
         self.tags = chance.choice(recorded.TAGGED)
+        # What stands before packets, and round them: now and then.
+        self.shim = chance.choice(tuple(SHIMS)) if chance.random() < 0.3 else "nothing"
+        self.tunnel = chance.choice(tuple(TUNNELS)) if chance.random() < 0.3 else "none"
         # Whether fragments of IPv6 name anything, but for the first, where tshark goes by the one that comes last.
         self.is_naming = chance.random() < 0.2
         # Whether hosts leave checksums to their network cards.
@@ -186,8 +332,18 @@ class Maker:
         link, way = self.chance.choice(links or self.links), self.chance.choice(tuple(recorded.DIRECTIONS))
         is_cooked = link in (recorded.COOKED, recorded.COOKED_2)
         self.time += recorded.MILLISECOND
+        if kind is None:
+            packet = TUNNELS[self.tunnel](packet)
+            if is_cooked or link == recorded.ETHERNET:
+                kind, packet = SHIMS[self.shim_of(packet)](packet)
+                # Linux cooked has a number of its own for LLC (tcpdump.org/linktypes/LINKTYPE_LINUX_SLL.html).
+                kind = COOKED_LLC if is_cooked and kind <= LONGEST_LENGTH else kind
         content = recorded.carried(link, packet, self.chance, way if is_cooked else "unknown", kind, self.tags)
         return Frame(link, content, self.time, way if is_cooked else "unknown")
+
+    def shim_of(self, packet: bytes) -> str:
+        """What stands before a packet: LLC before none that is longer than a frame."""
+        return "nothing" if self.shim == "LLC and SNAP" and len(packet) > LONGEST_IN_SNAP else self.shim
 
     def summed(self, it: Datagram) -> tuple[recorded.Sum, recorded.Sum]:
         """The kind of a datagram's checksum, and what is told of it: none is wrong over IPv6 (RFC 8200, section
@@ -498,6 +654,46 @@ class Lists:
                 behind = ["69"] if kind in (recorded.ROUTING, AUTHENTICATION) else [""]
                 yield Check(f"{name}, as tshark has it", told == (behind, left), told)
 
+    def try_layers(self) -> Iterator[Check]:
+        """A datagram behind each of what may stand before its packet, in each tunnel, and behind each in each: what is
+        listed is what the slow reader and tshark find."""
+        for source, target in ("192.0.2.7", "192.0.2.1"), ("2001:db8::7", "2001:db8::1"):
+            it = Datagram(source, 40_000, target, 69, b"\0\4\0\1")
+            for (shim, before), (tunnel, around) in itertools.product(SHIMS.items(), TUNNELS.items()):
+                kind, content = before(around(packet_of(it, recorded.udp(it), None)))
+                frame = Frame(recorded.ETHERNET, bytes(12) + struct.pack("!H", kind) + content, recorded.FIRST_TIME)
+                file, name = recorded.pcap([frame]), f"IPv{it.version} behind {shim}, tunnel: {tunnel}"
+                got = self.run(file)
+                yield Check(name, got == ([row(1, frame, it)], [], "", 0), got)
+                yield Check(f"{name}, slowly", slow_reader.listing(file).rows == [row(1, frame, it)], name)
+                if self.tshark:
+                    yield from self.compare(name, file, got[0])
+
+    def try_unread(self) -> Iterator[Check]:
+        """What is not read counts as a frame that is left out, by its kind."""
+        it = Datagram("192.0.2.7", 40_000, "192.0.2.1", 69, b"\0\4\0\1")
+        packet = packet_of(it, recorded.udp(it), None)
+        frames = {
+            name: (why, Frame(recorded.RAW, make(packet), recorded.FIRST_TIME)) for name, (why, make) in UNREAD.items()
+        }
+        for name, (why, kind, content) in UNREAD_FRAMES.items():
+            bare = bytes(12) + struct.pack("!H", kind) + content
+            frames[name] = why, Frame(recorded.ETHERNET, bare, recorded.FIRST_TIME)
+        for name, (why, frame) in frames.items():
+            file = recorded.pcap([frame])
+            got, slowly = self.run(file), slow_reader.listing(file)
+            yield Check(name, got == ([], [(1, why)], "", 0), got)
+            yield Check(f"{name}, slowly", (slowly.rows, slowly.left) == ([], [(1, why)]), slowly)
+        # A tunnel behind a limit of tunnels (RFC 2473, section 5.1), which turns up when the fragments are put together.
+        content = bytes([IN_IP[4], 0, 4, 1, 4, 1, 0, 0]) + packet
+        parts = recorded.parts_of(content, 16, 7)
+        packets = [recorded.ipv6(TUNNEL[6], piece, recorded.DESTINATION, part) for part, piece in parts]
+        file = recorded.pcap([Frame(recorded.RAW, one, recorded.FIRST_TIME) for one in packets])
+        wanted = [(at, "Extension") for at in range(1, len(parts) + 1)]
+        rows, left, fault, status = self.run(file)
+        yield Check("a tunnel in fragments", (rows, sorted(left), fault, status) == ([], wanted, "", 0), left)
+        yield Check("a tunnel in fragments, slowly", slow_reader.listing(file).left == wanted, wanted)
+
     def compare(self, name: str, file: bytes, rows: list[str], gone: Collection[int] = ()) -> Iterator[Check]:
         """The program's list beside the fields of tshark, but for the frames of what was discarded."""
         with tempfile.NamedTemporaryFile(suffix=".pcap") as path:
@@ -515,8 +711,8 @@ class Lists:
         yield Check(f"{name}, as tshark has it", got == wanted, difference(got, wanted))
 
 
-def packet_of(it: Datagram, content: bytes, part: Fragment) -> bytes:
-    """A fragment of a datagram, in a packet without options."""
+def packet_of(it: Datagram, content: bytes, part: Fragment | None) -> bytes:
+    """A datagram or a fragment of one, in a packet without options."""
     if it.version == 4:
         return recorded.ipv4(it, content, recorded.UDP, part)
     return recorded.ipv6(it, content, recorded.UDP, part)
@@ -540,7 +736,9 @@ def as_tshark(it: dict[str, str]) -> str:
     payload = it["udp.payload"].replace(":", "")
     if length < 0 or len(payload) < 2 * length or "0" in (it["udp.srcport"], it["udp.dstport"]):
         return ""
-    hosts = it["ip.src"] or it["ipv6.src"], it["ip.dst"] or it["ipv6.dst"]
+    # Of tunnels the innermost packet.
+    version = [name for name in it["frame.protocols"].split(":") if name in ("ip", "ipv6")][-1]
+    hosts = it[f"{version}.src"], it[f"{version}.dst"]
     ends = hosts[0], it["udp.srcport"], hosts[1], it["udp.dstport"]
     return " ".join(("datagram", it["frame.number"], *ends, payload[: 2 * length] or "-"))
 
@@ -584,6 +782,8 @@ def tried(words: argparse.Namespace) -> Iterator[Check]:
     yield from lists.try_protocols()
     yield from lists.try_overlaps()
     yield from lists.try_headers()
+    yield from lists.try_layers()
+    yield from lists.try_unread()
     for seed in range(words.seed, words.seed + words.cases):
         chance = random.Random(seed)
         make = chance.choice((made_pcap, made_pcapng))

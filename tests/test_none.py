@@ -3,7 +3,7 @@ from __future__ import annotations
 
 import subprocess
 
-from captures import ack
+from captures import ack, data
 from checks import Check, Checks
 from made import C, S, file_of, late_block, read
 from programs import TRANSFERS
@@ -37,6 +37,21 @@ class WithoutTransfers(Checks):
         done = self.done("--end", "server", *files)
         found = done.returncode, done.stderr.count(NOTHING)
         return Check(name, found == (status, told), f"{found}, {done!r}")
+
+    def test_begun(self) -> None:
+        """Of a transfer without its request it is told who talked, in which frames."""
+        passed = []
+        for number in (5, 6):
+            passed.append(Datagram(S, 41_000, C, 40_000, data(number, b"x" * 512)[0]))
+            passed.append(Datagram(C, 40_000, S, 41_000, ack(number)[0]))
+        done = self.done(self.file_of("begun.pcap", file_of([*QUERY, *passed])))
+        words = (
+            f"4 datagrams between {S}:41000 and {C}:40000 look like a transfer that began before the recording"
+            " (frames 2 to 5)"
+        )
+        self.check("begun", words.encode() in done.stderr and done.returncode == 3, done)
+        few = self.done(self.file_of("few.pcap", file_of(passed[:2])))
+        self.check("few", b"look like a transfer" not in few.stderr and few.returncode == 3, few)
 
     def test_unread(self) -> None:
         """What can't be read is a fault, whatever else there is."""

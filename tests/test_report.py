@@ -247,6 +247,7 @@ class Report(Checks):
         self.check("signs of HTML, as words", holds and (errors, status) == ("", 1), (words, errors))
         is_told = f"Accused the client at {made.C}:40000, which sent the datagram." in words
         self.check("who is accused", is_told, words)
+        self.check("how it ended", 'Ended server ERROR 1 "<img src=x>", frame 2.' in words, words)
         path.write_bytes(made.file_of(made.asked_again()))
         output, _, status = run([*self.programs, path])
         words = Page(output).text()

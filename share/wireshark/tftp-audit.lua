@@ -198,7 +198,8 @@ local function row_of(line)
     local verdict = line:match('"verdict":"(.-)"')
     return {
         number = tonumber(line:match('"number":(%d+)')), place = line:match('"place":"(.-)"'), verdict = verdict,
-        frame = tonumber(line:match('"frame":(%d+)')), doubts = strings_of(line:match('"doubts":%[(.*)%]') or ""),
+        frame = tonumber(line:match('"place":"%a+","frame":(%d+)')),
+        doubts = strings_of(line:match('"doubts":%[(.*)%],"ended":') or ""),
         rule = tonumber(verdict and verdict:match("rule (%d+)")), accused = accused_of(line),
     }
 end

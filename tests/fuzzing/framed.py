@@ -1,6 +1,6 @@
 """A recording of a world as a file, with the trouble that only frames have: fragments that are missing or out of order,
 frames that the recorder dropped and counted, datagrams that a host discarded by their checksum, a mirror port that
-gives each frame twice, and one direction only."""
+gives each frame twice, one direction only, and a tunnel round all."""
 from __future__ import annotations
 
 import random
@@ -22,6 +22,8 @@ FRAME_KINDS: dict[str, str] = {
     "mirror": "each frame is recorded twice at one interface",
     "one_way": "one direction only is recorded",
 }
+# Drawn beside those: all passes in a tunnel, IPv4 in IP or in GRE.
+TUNNEL = "tunnel"
 PIECE, MICROSECOND, MOST_ID = 400, 1_000, 65_535
 UDP = 17
 
@@ -98,6 +100,9 @@ class Recorder:
         # The host that recorded, or between one of all.
         self.leaving = (recording.host or self.drawn.choice(hosts)) if "offload" in kinds else None
         self.is_header_left = self.leaving is not None and self.drawn.random() < 0.3
+        self.tunnel = recorded.Datagram("198.51.100.1", 1, "198.51.100.2", 1, b"")
+        # With the number 4 the packet itself, and with 47 behind a header of GRE that has a key (RFC 2890).
+        self.round: tuple[int, bytes] = (4, b"") if seed % 2 else (47, b"\x20\0\x08\0\0\0\0\7")
 
     def often(self, kind: str, chance: float) -> bool:
         return kind in self.kinds and self.drawn.random() < chance
@@ -164,11 +169,16 @@ class Recorder:
         rows = list(self.rows())
         if "mirror" in self.kinds:
             rows = [twice for it in rows for twice in (it, it._replace(time=it.time + 3 * MICROSECOND))]
-        frames = [Frame(recorded.RAW, it.packet, it.time) for it in rows]
+        frames = [Frame(recorded.RAW, self.around(it.packet), it.time) for it in rows]
         sources = [it.source for it in rows]
         if "drops" not in self.kinds:
             return Framed(recorded.pcap(frames, is_nano=True), sources)
         return Framed(self.counted(frames), sources)
+
+    def around(self, packet: bytes) -> bytes:
+        """The packet of the tunnel, if there is one, with this one in it."""
+        protocol, head = self.round
+        return recorded.ipv4(self.tunnel, head + packet, protocol) if TUNNEL in self.kinds else packet
 
     def counted(self, frames: list[Frame]) -> bytes:
         """A pcapng whose last block says how many packets were dropped."""
@@ -185,6 +195,8 @@ def drawn_frame_kinds(seed: int) -> frozenset[str]:
     found = set(drawn.sample(sorted(FRAME_KINDS), drawn.choice((0, 1, 1, 2))))
     if "missing_fragments" in found or "offload" in found and drawn.random() < 0.7:
         found.add("fragments")
+    if drawn.random() < 0.15:
+        found.add(TUNNEL)
     return frozenset(found)
 
 

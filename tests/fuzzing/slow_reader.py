@@ -16,10 +16,22 @@ NEXT, NEAR = 16, 1_000_000
 ROOM, LONGEST_PACKET = 1 << 26, 65_535
 IPV4, IPV6 = 4, 6
 UDP = 17
-EXTENSIONS, ROUTING, FRAGMENT_HEADER = (0, 43, 60), 43, 44
-# Authentication, mobility, host identity and shim6 are not read.
-UNREAD = (51, 135, 139, 140)
-TAGS = (0x8100, 0x88A8, 0x9100)
+EXTENSIONS, ROUTING, FRAGMENT_HEADER, AUTHENTICATION = (0, 43, 60, 51), 43, 44, 51
+# IPv4 and IPv6 in IP, and GRE; and in GRE IPv4, IPv6, Ethernet and MPLS.
+GRE = 47
+TUNNELS: dict[int, Optional[int]] = {4: IPV4, 41: IPV6, GRE: None}
+IN_GRE = (0x0800, 0x86DD, 0x6558, 0x8847, 0x8848)
+# ESP, minimal encapsulation, Ethernet, IPComp, L2TP, MPLS and Ethernet again: what they carry is not read.
+HIDING = (50, 55, 97, 108, 115, 137, 143)
+# What may hold another packet: no fragment of it is read.
+WRAPPING = (*TUNNELS, *HIDING, AUTHENTICATION)
+# Mobility, host identity and shim6 are not read either.
+UNREAD = (135, 139, 140, *HIDING)
+TAGS, LABELS, SESSION, BRIDGED = (0x8100, 0x88A8, 0x9100), (0x8847, 0x8848), 0x8864, 0x6558
+# LLC and SNAP of the organization 0, behind a length.
+SNAP, LONGEST_LENGTH = bytes.fromhex("aaaa03000000"), 1500
+# The version and code of PPPoE; protocols of PPP, and the first of those that carry no datagrams; a type of nothing.
+PPPOE, PPP, CONTROL, NO_TYPE = 0x1100, {0x21: 0x0800, 0x57: 0x86DD}, 0x4000, 0xFFFF
 TYPES = {0x0800: IPV4, 0x86DD: IPV6}
 FAMILIES = {2: IPV4, 24: IPV6, 28: IPV6, 30: IPV6}
 COOKED = {0: "in", 4: "out"}
@@ -295,6 +307,8 @@ def number(content: bytes, at: int, size: int = 2) -> int:
 def packet_of(frame: Frame) -> Packet:
     """The packet that a frame carries."""
     way, version, content = linked(frame.link, frame.content)
+    while inner := opened(version, content):
+        version, content = inner
     if version is None:
         raise Fault("Network")
     return ipv4(way, content) if version == IPV4 else ipv6(way, content)
@@ -324,33 +338,103 @@ def linked(link: int, frame: bytes) -> tuple[str, Optional[int], bytes]:
 
 
 def untagged(kind: int, after: bytes) -> tuple[Optional[int], bytes]:
-    """Over all tags."""
-    while kind in TAGS:
-        if len(after) < 4:
+    """Over all tags, LLC with SNAP, PPPoE, labels and frames of Ethernet."""
+    while size := size_behind(kind, after):
+        if len(after) < size:
             raise Fault("Frame")
-        kind, after = number(after, 2), after[4:]
+        kind, after = named_by(kind, after), after[size:]
     return TYPES.get(kind), after
 
 
+def size_behind(kind: int, after: bytes) -> int:
+    """How many bytes stand behind a type before the next one; 0 where there is none."""
+    if kind in TAGS or kind in LABELS:
+        return 4
+    if kind == BRIDGED:
+        return 14
+    return 8 if kind == SESSION or (kind <= LONGEST_LENGTH and SNAP.startswith(after[:6])) else 0
+
+
+def named_by(kind: int, it: bytes) -> int:
+    """The type that it names."""
+    if kind in TAGS:
+        return number(it, 2)
+    if kind == BRIDGED:
+        return number(it, 12)
+    if kind in LABELS:
+        if not it[2] & 1:
+            return kind
+        version = it[4] >> 4 if len(it) > 4 else 0
+        return unless_unread({4: 0x0800, 6: 0x86DD}.get(version))
+    if kind != SESSION:
+        return number(it, 6)
+    protocol = number(it, 6) if number(it, 0) == PPPOE else 0
+    is_control = protocol >= CONTROL and not protocol & 0x100
+    return NO_TYPE if is_control else unless_unread(PPP.get(protocol))
+
+
+def unless_unread(kind: Optional[int]) -> int:
+    if kind is None:
+        raise Fault("Frame")
+    return kind
+
+
+def opened(version: Optional[int], it: bytes) -> Optional[tuple[Optional[int], bytes]]:
+    """What stands in a tunnel's packet; nothing where it is none."""
+    reached = None if version is None or not has_header(version, it) else carried_by(version, it)
+    if not reached or reached[0] not in TUNNELS:
+        return None
+    protocol, _, content = reached
+    return in_gre(content) if protocol == GRE else (TUNNELS[protocol], content)
+
+
+def in_gre(it: bytes) -> tuple[Optional[int], bytes]:
+    """What stands behind a header of GRE with a checksum, a key and a number, or without (RFC 2890)."""
+    if len(it) < 4 or it[0] & 0x4C or it[1] & 7:
+        raise Fault("Frame")
+    size, kind = 4 + 4 * sum(1 for flag in (0x80, 0x20, 0x10) if it[0] & flag), number(it, 2)
+    if len(it) < size or kind not in IN_GRE:
+        raise Fault("Frame")
+    return untagged(kind, it[size:])
+
+
+def has_header(version: int, it: bytes) -> bool:
+    if version == IPV4:
+        return len(it) >= 20 and it[0] >> 4 == 4 and it[0] % 16 >= 5 and len(it) >= 4 * (it[0] % 16)
+    return len(it) >= 40 and it[0] >> 4 == 6
+
+
+def carried_by(version: int, it: bytes) -> Optional[tuple[int, Optional[Part], bytes]]:
+    """What a packet carries, by its protocol; nothing where a header before it is cut or not read."""
+    if version == IPV6:
+        return over_headers(it[6], it[40 : 40 + number(it, 4)])
+    flags, content = number(it, 6), it[4 * (it[0] % 16) : number(it, 2)]
+    part = Part(number(it, 4), 8 * (flags % 8192), bool(flags & 0x2000)) if flags % 16384 else None
+    if it[9] not in WRAPPING:
+        return it[9], part, content
+    return None if part else over_headers(it[9], content)
+
+
 def ipv4(way: str, it: bytes) -> Packet:
-    if len(it) < 20 or it[0] >> 4 != 4 or it[0] % 16 < 5 or len(it) < 4 * (it[0] % 16):
+    if not has_header(IPV4, it):
         raise Fault("Header")
-    head, total, flags = 4 * (it[0] % 16), number(it, 2), number(it, 6)
-    if it[9] != UDP:
+    head, total, reached = 4 * (it[0] % 16), number(it, 2), carried_by(IPV4, it)
+    if reached and reached[0] != UDP:
         raise Fault("Protocol")
     if total < head:
         raise Fault("Length")
     if len(it) < total:
         raise Fault("Cut")
-    part = Part(number(it, 4), 8 * (flags % 8192), bool(flags & 0x2000)) if flags % 16384 else None
-    return Packet(way, IPV4, it[12:16], it[16:20], UDP, part, it[head:total], it[:total])
+    if not reached:
+        raise Fault("Extension")
+    _, part, content = reached
+    return Packet(way, IPV4, it[12:16], it[16:20], UDP, part, content, it[:total])
 
 
 def ipv6(way: str, it: bytes) -> Packet:
-    if len(it) < 40 or it[0] >> 4 != 6:
+    if not has_header(IPV6, it):
         raise Fault("Header")
-    total = 40 + number(it, 4)
-    reached = over_headers(it[6], it[40:total])
+    total, reached = 40 + number(it, 4), carried_by(IPV6, it)
     if reached and reached[0] != UDP and not reached[1]:
         raise Fault("Protocol")
     if len(it) < total:
@@ -364,15 +448,19 @@ def ipv6(way: str, it: bytes) -> Packet:
 def over_headers(kind: int, content: bytes) -> Optional[tuple[int, Optional[Part], bytes]]:
     """What stands after all headers that are skipped; nothing where one runs beyond the bytes or is not read, as a
     routing header with segments left, or is one of a fragment that more follow and of no whole units of eight (RFC
-    8200, sections 4.4 and 4.5)."""
+    8200, sections 4.4 and 4.5), or of what may hold another packet."""
     while kind in EXTENSIONS or kind == FRAGMENT_HEADER:
         if len(content) < 8:
             return None
         if kind == FRAGMENT_HEADER and number(content, 2) & 0xFFF9:
             part = Part(number(content, 4, 4), number(content, 2) & 0xFFF8, bool(content[3] & 1))
-            return None if part.more and len(content) % 8 else (content[0], part, content[8:])
-        size = 8 if kind == FRAGMENT_HEADER else 8 * (content[1] + 1)
-        if len(content) < size or (kind == ROUTING and content[3]):
+            is_read = not (part.more and len(content) % 8) and content[0] not in WRAPPING
+            return (content[0], part, content[8:]) if is_read else None
+        if (kind == ROUTING and content[3]) or (kind == AUTHENTICATION and not content[1]):
+            return None
+        size = 4 * (content[1] + 2) if kind == AUTHENTICATION else 8 * (content[1] + 1)
+        size = 8 if kind == FRAGMENT_HEADER else size
+        if len(content) < size:
             return None
         kind, content = content[0], content[size:]
     return None if kind in UNREAD else (kind, None, content)
@@ -413,7 +501,9 @@ def sum_told(packet: Packet, it: Udp) -> str:
 def udp_of(protocol: int, content: bytes) -> Udp:
     """The datagram that a whole content is."""
     reached = over_headers(protocol, content)
-    if not reached or reached[0] != UDP or reached[1]:
+    if not reached or reached[0] in TUNNELS or reached[1]:
+        raise Fault("Extension")
+    if reached[0] != UDP:
         raise Fault("Protocol")
     it = reached[2]
     if len(it) < 8:

@@ -308,6 +308,8 @@ def pictures(it: Entry) -> str:
 def section(it: Entry, is_drawn: bool) -> str:
     """What is said of a transfer, with its pictures where they are drawn."""
     told = [*explain(it.judged.verdict, it.judged.text, it.capture), *it.judged.told()]
+    if it.judged.row and it.judged.row.ended:
+        told.append(("Ended", f"{it.judged.row.ended}."))
     if it.file:
         told.append(("File", f"{it.file.told()}."))
     name, kind = f"t{it.number()}", word_of(it.kind())

@@ -58,6 +58,7 @@ class Row:
     doubts: tuple[str, ...]
     frame: Optional[int] = None
     accused: Optional[Accused] = None
+    ended: str = ""
 
     def is_refused(self) -> bool:
         return self.verdict.startswith("refused ")
@@ -128,11 +129,24 @@ def accused_of(it: Optional[dict[str, Any]]) -> Optional[Accused]:
     return Accused(str(it["role"]), str(it["host"]), int(it["port"])) if it is not None else None
 
 
+def ended_of(it: dict[str, Any]) -> str:
+    """How a transfer ended, in words; nothing where it is whole."""
+    role, frame, seconds = it["role"], it["frame"], it["seconds"]
+    if it["how"] == "error":
+        return f'{role} ERROR {it["code"]} "{it["message"]}", frame {frame}'
+    if it["how"] == "silent":
+        return f"{role} silent for {seconds} s after frame {frame}"
+    if it["how"] == "last":
+        return f"nothing for {seconds} s after frame {frame} of the {role}" if seconds else ""
+    return f"with the recording after frame {frame}" if it["how"] == "recording" else ""
+
+
 def row_of(it: dict[str, Any]) -> Row:
     """A row of verdicts, which is an object of JSON."""
     frame = int(it["frame"]) if it["frame"] is not None else None
     doubts, accused = tuple(map(str, it["doubts"])), accused_of(it["accused"])
-    return Row(int(it["number"]), str(it["place"]), str(it["verdict"]), doubts, frame, accused)
+    ended = ended_of(it["ended"]) if "ended" in it else ""
+    return Row(int(it["number"]), str(it["place"]), str(it["verdict"]), doubts, frame, accused, ended)
 
 
 def listed_of(it: dict[str, Any]) -> Listed:

@@ -3,3 +3,4 @@ pub mod Telling
 pub mod Holding
 pub mod Trailing
 pub mod Answering
+pub mod Closing

@@ -1,2 +1,4 @@
 pub mod Intact
 pub mod Noting
+pub mod Recording
+pub mod Worked

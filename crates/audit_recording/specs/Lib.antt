@@ -6,6 +6,7 @@ pub mod Reasons
 pub mod Losses
 pub mod Session
 pub mod Blame
+pub mod Endings
 pub use declared.judges.judging.Judging.{Judging}
 pub use declared.audit.next.AuditFault.{AuditFault}
 pub use declared.audit.next.AuditFault.TheVariants.{Recording}

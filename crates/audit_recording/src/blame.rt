@@ -1,7 +1,10 @@
-//! At which frame of a recording a transfer was refused, and why a refusal may be no accusation.
+//! At which frame of a recording a transfer was refused, why a refusal may be no accusation, and how the transfer ended.
 
 mod blame;
+mod closing;
 mod doubted;
+mod ending;
+pub mod endings;
 mod facts;
 pub mod frames;
 pub mod laws;
@@ -10,14 +13,18 @@ mod passed;
 mod passing;
 mod reason;
 mod spoilt;
+mod stop;
 mod told;
 mod trail;
 mod twice;
 
 pub use blame::Blamed;
+pub use closing::{Closing, Word};
 pub use doubted::{Doubted, put_if};
+pub use ending::Ending;
 pub use missing::Missing;
 pub use passing::{Passing, about};
 pub use reason::Reason;
 pub use spoilt::Spoilt;
+pub use stop::Stop;
 pub use trail::Trail;

@@ -6,5 +6,6 @@ pub mod audit;
 pub mod between;
 pub mod blame;
 pub mod judges;
+pub mod progress;
 pub mod rows;
 pub mod session;

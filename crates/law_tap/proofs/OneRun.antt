@@ -9,7 +9,7 @@ use Rattle.law_tap.specs.Losses.{Loses, kept}
 use Rattle.law_tap.specs.LossesBetween.{AllSent, IsSentInOneRun, IsTapViewWithLosses}
 use Rattle.law_tap.proofs.Left.{loses_all, left_was_there}
 
-did_pass : (e f : End) (q : MachinePacket) (steps : List TapStep) → did e (Passes f q ∷ steps) ≡ did e steps
+pub did_pass : (e f : End) (q : MachinePacket) (steps : List TapStep) → did e (Passes f q ∷ steps) ≡ did e steps
 did_pass Client f q steps = refl
 did_pass Server f q steps = refl
 

@@ -36,7 +36,7 @@ module _ (s : TapSides) (m : Meaning) (wire : List ℕ) where
 -- ---- one way
 
 module _ (s : TapSides) (apart : AreApart s) where
-  one_end : (e f : End) → side_of s e ≡ side_of s f → e ≡ f
+  pub one_end : (e f : End) → side_of s e ≡ side_of s f → e ≡ f
   one_end Client Server is = absurd (apart.server is)
   one_end Server Client is = absurd (apart.server (sym is))
   one_end _ _ is = refl

@@ -79,7 +79,7 @@ module _ (s : TapSides) (apart : AreApart s) where
     by Server p source goes asks = rw (source_is s apart d Server Client source, source_is s apart d Server Server source, same_is d.destination s.client goes) refl
     by Client _ source goes asks = from_client earlier labels d source asks goes.0 goes.1
 
-  no_request_in : (d : TapDatagram) → PassesAstray s d → d.destination ≡ s.server → ((s.server.port == s.asked.port) && asks_in d.payload) ≡ false
+  pub no_request_in : (d : TapDatagram) → PassesAstray s d → d.destination ≡ s.server → ((s.server.port == s.asked.port) && asks_in d.payload) ≡ false
   no_request_in d p to = elim (cases_Bool ((s.server.port == s.asked.port) && asks_in d.payload)) [
     | inr other ↦ other
     | inl is ↦ let both = and_parts (s.server.port == s.asked.port) (asks_in d.payload) is in absurd (p.no_request to (eqb-true s.server.port s.asked.port both.0) (byte_begins d.payload both.1))

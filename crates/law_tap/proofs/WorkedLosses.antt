@@ -106,7 +106,7 @@ zero_unseen = record {
 pub one_pair : IsPair 0 1 1
 one_pair = (omega arith, omega arith, omega arith)
 
-request_says : Spells request_passes.payload (Message.Request (request_of two_bytes))
+pub request_says : Spells request_passes.payload (Message.Request (request_of two_bytes))
 request_says = (
   (omega arith, (omega arith, (omega arith, (omega arith, (omega arith, (omega arith, (omega arith, (omega arith, (omega arith, (omega arith, tt)))))))))),
   record {
@@ -122,7 +122,7 @@ request_says = (
   },
 )
 
-first_block_says : (one other : ℕ) → one < 256 → other < 256 → Spells (0 ∷ 3 ∷ 0 ∷ 1 ∷ one ∷ other ∷ []) (Message.Data 1 (one ∷ other ∷ []))
+pub first_block_says : (one other : ℕ) → one < 256 → other < 256 → Spells (0 ∷ 3 ∷ 0 ∷ 1 ∷ one ∷ other ∷ []) (Message.Data 1 (one ∷ other ∷ []))
 first_block_says one other byte also = ((omega arith, (omega arith, (omega arith, (omega arith, (byte, (also, tt)))))), (0, 1, one_pair, refl))
 
 pub hi_says : Spells hi_passes.payload (Message.Data 1 (block 512 two_bytes.file 1))

@@ -107,7 +107,7 @@ nothing_server view =
 small : (low : ℕ) → low < 256 → IsPair 0 low low
 small low byte = (omega arith, byte, omega arith)
 
-request_spelled : Spells request_passes.payload (Message.Request (request_of two_bytes))
+pub request_spelled : Spells request_passes.payload (Message.Request (request_of two_bytes))
 request_spelled = (
   (omega arith, (omega arith, (omega arith, (omega arith, (omega arith, (omega arith, (omega arith, (omega arith, (omega arith, (omega arith, tt)))))))))),
   record {
@@ -123,10 +123,10 @@ request_spelled = (
   },
 )
 
-hi_spelled : Spells hi_passes.payload (Message.Data 1 (codes "hi"))
+pub hi_spelled : Spells hi_passes.payload (Message.Data 1 (codes "hi"))
 hi_spelled = ((omega arith, (omega arith, (omega arith, (omega arith, (omega arith, (omega arith, tt)))))), (0, 1, small 1 (omega arith), refl))
 
-ack_spelled : Spells ack_passes.payload (Message.Ack 1)
+pub ack_spelled : Spells ack_passes.payload (Message.Ack 1)
 ack_spelled = ((omega arith, (omega arith, (omega arith, (omega arith, tt)))), (0, 1, small 1 (omega arith), refl))
 
 unknown_id_spelled : Spells answer_passes.payload (Message.Error 5 [])

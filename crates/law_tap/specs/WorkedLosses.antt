@@ -1,7 +1,8 @@
 -- Small recordings that miss datagrams. Datagrams at an end have the oldest first, what an end did and what passed between the
 -- ends the newest.
-use Rattle.std.specs.Prelude.{ℕ, List, [], ◌∷◌, codes}
-use Rattle.tftp_packet.specs.{Client, Server, In, Out}
+use Rattle.std.specs.Prelude.{List, [], ◌∷◌, codes}
+use Rattle.std.specs.FinMap as map
+use Rattle.tftp_packet.specs.{Num, RequestParts, Get, Octet, Client, Server, In, Out}
 use Rattle.tftp_packet.specs.Hosts.{Datagram, Header}
 use Rattle.law_model.specs.Model.{Sent, Took, Req, Oack, Data, Ack, History}
 use Rattle.law_tap.specs.Tap.{Pass}
@@ -105,6 +106,29 @@ zero_of_unseen_oack = Sent (Ack 0) ∷ Sent Req ∷ []
 -- the recorder missed the block
 abbrev pub ack_between : List TapDatagram
 ack_between = ack_passes ∷ request_passes ∷ []
+
+-- ACK 2, though DATA 1 "hi" was the last block
+abbrev pub ack_above : TapDatagram
+ack_above = record { source = ack_passes.source; destination = ack_passes.destination; payload = 0 ∷ 4 ∷ 0 ∷ 2 ∷ [] }
+
+-- DATA 1 once more, with other bytes: "ho"
+abbrev pub ho_passes : TapDatagram
+ho_passes = record { source = hi_passes.source; destination = hi_passes.destination; payload = 0 ∷ 3 ∷ 0 ∷ 1 ∷ 104 ∷ 111 ∷ [] }
+
+-- DATA 2, "hi"
+abbrev pub second_passes : TapDatagram
+second_passes = record { source = hi_passes.source; destination = hi_passes.destination; payload = 0 ∷ 3 ∷ 0 ∷ 2 ∷ 104 ∷ 105 ∷ [] }
+
+-- ACK 0, though no option was asked for
+abbrev pub zero_passes : TapDatagram
+zero_passes = record { source = ack_passes.source; destination = ack_passes.destination; payload = 0 ∷ 4 ∷ 0 ∷ 0 ∷ [] }
+
+-- the same read where the client asks for the size, by tsize 0 (RFC 2349)
+abbrev pub sized_request : RequestParts
+sized_request = record { side = Get; name = codes "a"; mode = Octet; options = map.from_entries ((codes "tsize", Num 0) ∷ []) }
+
+abbrev pub block_between : List TapDatagram
+block_between = hi_passes ∷ request_passes ∷ []
 
 -- what a read of two bytes sends, the other way round: the ACK passed first, and the request last
 abbrev pub read_backwards : List Pass

@@ -2,6 +2,7 @@ pub mod Tags
 pub mod Extensions
 pub mod Links
 pub mod Uppers
+pub mod Tunnels
 pub mod FaultOrder
 pub mod Datagrams
 pub mod Addresses

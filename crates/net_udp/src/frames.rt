@@ -11,6 +11,7 @@ mod link;
 mod number;
 mod packet;
 mod tag;
+mod tunnel;
 mod udp;
 
 pub use address::write_address;
@@ -21,7 +22,7 @@ pub use laws::{
     addresses_are_one_if_written_the_same, content_is_one_datagram, first_fault_is_one,
     frame_spells_one_packet, spelled_frame_has_no_fault, worked_addresses, worked_checksums,
     worked_datagrams, worked_families, worked_faults, worked_frames, worked_identifications,
-    worked_indexes,
+    worked_indexes, worked_shims, worked_tunnels,
 };
 pub use link::interface_index;
 pub use packet::{Direction, Fragment, IpPacket, UdpDatagram};

@@ -2,6 +2,7 @@
 
 use crate::cells::{put_cell, put_number_cell};
 use crate::checking::tell_session;
+use crate::conclusions::Conclusion;
 use crate::teller::{Teller, What};
 use anyhow::Result;
 use audit_recording::blame::Trail;
@@ -25,6 +26,7 @@ pub struct ListRow {
     datagrams: u64,
     first_frame: u64,
     last_frame: u64,
+    ended: Conclusion,
 }
 
 /// Lists the transfers of a recording.
@@ -40,13 +42,14 @@ pub fn list(rt: HostRuntime, asked: &ListRequest<'_>) -> Result<u8> {
 }
 
 impl ListRow {
-    /// The row of a transfer.
-    pub fn new(alloc: Global, number: u64, trail: &Trail) -> Result<Self, AllocError> {
+    /// The row of a transfer, by a recording that was read up to now.
+    pub fn new(alloc: Global, number: u64, trail: &Trail, now: u64) -> Result<Self, AllocError> {
         let request = request_of(trail.request.as_slice());
         let client = shown(alloc, trail.transfer.client)?;
         let server = shown(alloc, trail.server())?;
         let file = file_of(alloc, &request)?;
         let options = options_of(alloc, &request)?;
+        let ended = Conclusion::of(alloc, trail.ending(false, now), false, false)?;
         Ok(ListRow {
             number,
             client,
@@ -58,6 +61,7 @@ impl ListRow {
             datagrams: trail.count,
             first_frame: trail.first,
             last_frame: trail.last,
+            ended,
         })
     }
 }
@@ -87,7 +91,8 @@ pub fn put_list_row(line: &mut String, row: &ListRow) -> Result<(), AllocError> 
     put_number_cell(line, row.datagrams, 9)?;
     put_number(line, row.first_frame)?;
     line.push('-')?;
-    put_number(line, row.last_frame)
+    put_number(line, row.last_frame)?;
+    row.ended.put_error(line)
 }
 
 /// The request that a payload spells.

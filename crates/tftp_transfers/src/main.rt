@@ -3,6 +3,7 @@
 
 mod cells;
 mod checking;
+mod conclusions;
 mod listing;
 mod reading;
 mod reasoned;

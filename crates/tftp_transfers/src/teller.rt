@@ -1,10 +1,12 @@
 //! Transfers are told, a row each.
 
 use crate::cells::{pad, put_cell, put_number_cell};
+use crate::conclusions::Conclusion;
 use crate::listing::{ListRow, put_list_head, put_list_row};
 use crate::verdicts::{Judged, Told};
 use anyhow::Result;
 use audit_recording::blame::{Missing, Reason};
+use audit_recording::progress::read_until;
 use audit_recording::rows::{Accused, Row};
 use audit_recording::session::{Ended, Session, put_number, put_plain, shown_host};
 use serde::Serialize;
@@ -32,6 +34,7 @@ struct VerdictRow<'a> {
     verdict: String,
     accused: Option<AccusedEnd>,
     doubts: Vec<String>,
+    ended: Conclusion,
 }
 
 /// The end that a refusal accuses.
@@ -144,31 +147,29 @@ impl<'a> Teller<'a> {
     fn tell_oldest(&mut self, rt: HostRuntime, session: &mut Session) -> Result<()> {
         match session.pop() {
             Some(ended) => {
-                let missing = session.missing_of(&ended);
-                self.tell(rt, ended, missing)
+                let (missing, now) = (session.missing_of(&ended), read_until(session));
+                self.tell(rt, ended, missing, now)
             }
             None => Ok(()),
         }
     }
 
-    /// Tells a transfer, of whose client's datagrams these may be missing.
-    fn tell(&mut self, rt: HostRuntime, ended: Ended, missing: Missing) -> Result<()> {
+    /// Tells a transfer, of whose client's datagrams these may be missing, by a recording that was read up to now.
+    fn tell(&mut self, rt: HostRuntime, ended: Ended, missing: Missing, now: u64) -> Result<()> {
         self.told = self.told.saturating_add(1);
         match self.what {
-            What::List => self.tell_request(rt, ended),
-            What::Check => self.tell_verdict(rt, ended, missing),
+            What::List => self.tell_request(rt, ended, now),
+            What::Check => {
+                let judged = Judged::new(rt.alloc(), ended, missing, now)?;
+                self.tell_judged(rt, &judged)
+            }
         }
     }
 
-    fn tell_request(&mut self, rt: HostRuntime, ended: Ended) -> Result<()> {
-        let row = ListRow::new(rt.alloc(), self.told, &ended.trail);
+    fn tell_request(&mut self, rt: HostRuntime, ended: Ended, now: u64) -> Result<()> {
+        let row = ListRow::new(rt.alloc(), self.told, &ended.trail, now);
         let_go(ended);
         self.tell_listed(rt, &row?)
-    }
-
-    fn tell_verdict(&mut self, rt: HostRuntime, ended: Ended, missing: Missing) -> Result<()> {
-        let judged = Judged::new(rt.alloc(), ended, missing)?;
-        self.tell_judged(rt, &judged)
     }
 
     /// Tells what a transfer's request asks for.
@@ -235,6 +236,7 @@ impl<'a> Teller<'a> {
             verdict: String::from_str(alloc, told.view.line())?,
             accused: AccusedEnd::of(alloc, judged.accused(told, reasons.as_slice()))?,
             doubts: written(alloc, reasons.as_slice())?,
+            ended: judged.conclusion(alloc, told)?,
         })
     }
 
@@ -323,17 +325,18 @@ fn put_accused(line: &mut String, row: &VerdictRow<'_>) -> Result<(), AllocError
     pad(line, line.len().saturating_sub(start), 22)
 }
 
-/// Puts the verdict, and where it is doubtful why.
+/// Puts the verdict, where it is doubtful why, and how the transfer ended that is not accepted.
 fn put_verdict(line: &mut String, row: &VerdictRow<'_>) -> Result<(), AllocError> {
     if !row.doubts.is_empty() {
         line.push_str("doubtful ")?;
     }
+    row.ended.put_before(line)?;
     line.push_str(row.verdict.as_str())?;
     for (place, why) in row.doubts.iter().enumerate() {
         line.push_str(if place == 0 { ": " } else { "; " })?;
         line.push_str(why.as_str())?;
     }
-    Ok(())
+    row.ended.put(line)
 }
 
 /// Prints a row as a JSON object (RFC 8259), in a line.

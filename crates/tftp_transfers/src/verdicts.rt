@@ -1,8 +1,7 @@
 //! The verdict on a transfer at each point where it was judged.
 
-use audit_flows::lines::Transfer;
-use audit_flows::transfers::TransferEnds;
-use audit_recording::blame::{Blamed, Doubted, Missing, Reason, Trail, put_if};
+use crate::conclusions::Conclusion;
+use audit_recording::blame::{Blamed, Doubted, Ending, Missing, Reason, Stop, Trail, put_if};
 use audit_recording::judges::Verdicts;
 use audit_recording::rows::{
     Accused, Place, Point, Row, Rows, Said, Telling, accused_in_row, role_at, rows_told,
@@ -22,6 +21,8 @@ pub struct Viewed {
     blamed: Option<Blamed>,
     /// Whether it stops early, or an ERROR ended it.
     lacks: bool,
+    /// Whether it stops early.
+    stops_early: bool,
     /// Where it was judged so.
     point: Point,
     /// Whether a request that did not pass there would explain it.
@@ -35,11 +36,12 @@ pub struct Judged {
     client: Option<Viewed>,
     server: Option<Viewed>,
     between: Option<Viewed>,
-    transfer: Transfer,
-    /// Who its ends are.
-    ends: TransferEnds,
+    /// What is kept of it beside its judges.
+    trail: Trail,
     /// What makes a refusal doubtful.
     doubted: Doubted,
+    /// Up to when the recording was read, in nanoseconds since 1970.
+    now: u64,
 }
 
 /// What is said of a transfer in one row.
@@ -52,29 +54,28 @@ pub struct Told<'a> {
 }
 
 impl Judged {
-    /// What there is to say of a transfer that has ended, of whose client's datagrams these may be missing.
-    pub fn new(alloc: Global, ended: Ended, missing: Missing) -> Result<Self, AllocError> {
+    /// What there is to say of a transfer that has ended, of whose client's datagrams these may be missing, by a recording that
+    /// was read up to now.
+    pub fn new(
+        alloc: Global,
+        ended: Ended,
+        missing: Missing,
+        now: u64,
+    ) -> Result<Self, AllocError> {
         let Ended { trail, watched } = ended;
         let doubted = trail.doubted(watched.doubts(), missing);
         let verdicts = watched.finish(alloc);
-        let judged = Judged::of(alloc, &trail, &verdicts, doubted);
-        let_go(trail, verdicts);
-        judged
-    }
-
-    fn of(
-        alloc: Global,
-        trail: &Trail,
-        verdicts: &Verdicts,
-        doubted: Doubted,
-    ) -> Result<Self, AllocError> {
+        let client = at_client(alloc, &trail, &verdicts.client)?;
+        let server = at_server(alloc, &trail, &verdicts.server)?;
+        let between = between(alloc, &trail, &verdicts.between)?;
+        let_go(verdicts);
         Ok(Judged {
-            client: at_client(alloc, trail, &verdicts.client)?,
-            server: at_server(alloc, trail, &verdicts.server)?,
-            between: between(alloc, trail, &verdicts.between)?,
-            transfer: trail.transfer,
-            ends: trail.ends,
+            client,
+            server,
+            between,
+            trail,
             doubted,
+            now,
         })
     }
 
@@ -116,7 +117,7 @@ impl Judged {
     }
 }
 
-fn let_go(_trail: Trail, _verdicts: Verdicts) {}
+fn let_go(_verdicts: Verdicts) {}
 
 fn at_client(
     alloc: Global,
@@ -215,13 +216,40 @@ impl Judged {
     fn comes_of_earlier(&self, told: &Told<'_>, blamed: &Blamed) -> bool {
         let is_at_client = matches!(told.view.point, Point::Client)
             && told.telling.between.is_none();
-        let is_own = is_at_client && blamed.source == self.transfer.client;
+        let is_own = is_at_client && blamed.source == self.trail.transfer.client;
         !is_own && blamed.comes_of_earlier
     }
 
     /// Whether neither end sent the datagram, which passed at the client.
     fn is_strangers(&self, blamed: &Blamed) -> bool {
-        !blamed.is_beside && role_at(&self.transfer, &self.ends, blamed.source).is_none()
+        !blamed.is_beside && self.sender(blamed).is_none()
+    }
+
+    /// Which end sent the datagram; none where a stranger did.
+    fn sender(&self, blamed: &Blamed) -> Option<End> {
+        role_at(&self.trail.transfer, &self.trail.ends, blamed.source)
+    }
+
+    /// How the transfer ended, by what a row says.
+    pub fn conclusion(&self, alloc: Global, told: &Told<'_>) -> Result<Conclusion, AllocError> {
+        let is_whole = matches!(told.view.said, Said::Accepted);
+        let ending = self.trail.ending(is_whole, self.now);
+        let is_before = match ending {
+            Ending::Stopped(stop) => self.is_before(stop, told.view),
+            _ => false,
+        };
+        Conclusion::of(alloc, ending, told.view.stops_early, is_before)
+    }
+
+    /// Whether the ERROR came before the datagram that is refused, and from the other end.
+    fn is_before(&self, stop: &Stop, view: &Viewed) -> bool {
+        match &view.blamed {
+            Some(blamed) => match self.sender(blamed) {
+                Some(role) => stop.frame < blamed.frame && stop.role != role,
+                None => false,
+            },
+            None => false,
+        }
     }
 
     /// Whom a row accuses, with these reasons for doubt.
@@ -230,8 +258,8 @@ impl Judged {
             Some(blamed) => {
                 accused_in_row(
                     &told.telling,
-                    &self.transfer,
-                    &self.ends,
+                    &self.trail.transfer,
+                    &self.trail.ends,
                     blamed.source,
                     !reasons.is_empty(),
                 )
@@ -256,6 +284,7 @@ impl Viewed {
             said: Said::of(found, frame_of(&blamed)),
             blamed,
             lacks: matches!(found, Err(Refusal::Incomplete(_) | Refusal::Aborted(_, _))),
+            stops_early: matches!(found, Err(Refusal::Incomplete(_))),
             point,
             may_be_asked: false,
             line: line?,
@@ -279,6 +308,7 @@ impl Viewed {
                 found,
                 Err(TapRefusal::Incomplete(_) | TapRefusal::Aborted(_, _))
             ),
+            stops_early: matches!(found, Err(TapRefusal::Incomplete(_))),
             point: Point::Between,
             may_be_asked: said.may_be_asked(),
             line: line?,

@@ -17,7 +17,7 @@ const ABOUT: &str =
     "From a recording to its TFTP transfers, their capture texts and their verdicts";
 
 const AFTER: &str =
-    "FILE is a recording, pcap or pcapng; - is standard input.\n`list` may be left out, and `check` may be written --check.\n\nStatus: 0; with check 1 where a transfer is not accepted; 2 where something could not be read or judged.";
+    "FILE is a recording, pcap or pcapng; - is standard input.\n`list` may be left out, and `check` may be written --check.\n`extract DIR FILE` writes the files of accepted transfers, where tftp-extract is installed or in a checkout.\n\nStatus: 0; with check 1 where a transfer is not accepted; 2 where something could not be read or judged.";
 
 fn file<'a>(alloc: Global) -> Arg<'a> {
     Arg::new(alloc, "file")

@@ -1,6 +1,6 @@
 -- Recordings, the newest datagram first, with times in seconds.
 use Rattle.std.specs.Prelude.{ℕ, ◌*◌, ◌&&◌, not, Bool, true, false, List, [], ◌∷◌, ◌++◌, map, codes}
-use Rattle.audit_flows.specs.Lines.{Recorded, Placed, comes_in, follows_strays, follows_unanswered, goes_on_with_first, is_late, may_be_earlier, speaks_first}
+use Rattle.audit_flows.specs.Lines.{Recorded, Placed, comes_in, follows_strays, follows_unanswered, goes_on_with_first, is_asked_again, is_late, may_be_earlier, speaks_first}
 use Rattle.audit_flows.specs.declared.lines.endpoint.Address.TheVariants.{V4}
 use Rattle.audit_flows.specs.declared.lines.endpoint.Endpoint.{Endpoint}
 use Rattle.audit_flows.specs.declared.lines.place.Place.{Place}
@@ -157,6 +157,10 @@ other_service =
     ∷ requests 0 client (at 1 1069) (codes "f")
     ∷ []
 
+-- What begins as a request goes to this port, and is not spelled whole.
+abbrev pub begins_to_ask : ℕ → List Recorded
+begins_to_ask port = passes 0 client (at 1 port) (0 ∷ 1 ∷ 102 ∷ []) ∷ []
+
 -- The client asks for the same file once more, and spells the mode in capitals.
 abbrev pub respelled : List Recorded
 respelled =
@@ -182,6 +186,15 @@ abbrev pub asks_behind : Endpoint → List ℕ → List Recorded
 asks_behind source payload =
     requests 2 client service (codes "g")
     ∷ passes 1 source client payload
+    ∷ requests 0 client service (codes "f")
+    ∷ []
+
+-- Something comes to the client, which says this and asks for the same file.
+abbrev pub asks_again_behind : List ℕ → List Recorded
+asks_again_behind said =
+    requests 3 client service (codes "f")
+    ∷ passes 2 client server said
+    ∷ passes 1 server client (data_of 1)
     ∷ requests 0 client service (codes "f")
     ∷ []
 
@@ -355,6 +368,9 @@ seen_by_server n recorded = map (λ p. p.datagram.payload) (server_view n (place
 
 abbrev pub is_doubted_in : ℕ → List Recorded → Bool
 is_doubted_in n recorded = is_doubted n (placed [] recorded)
+
+abbrev pub is_asked_again_in : ℕ → List Recorded → Bool
+is_asked_again_in n recorded = some_of n is_asked_again (placed [] recorded)
 
 abbrev pub is_late_in : ℕ → List Recorded → Bool
 is_late_in n recorded = some_of n is_late (placed [] recorded)

@@ -1,6 +1,6 @@
 //! Laws of the definitions in `specs/`. Each is the contract of a function that does nothing.
 
-ghost use Rattle.std.specs.Prelude.{◌≡◌, ◌≢◌, ◌⊎◌, ◌≤◌, ℕ, List, true, false, [], ◌∷◌, codes, filter, length};
+ghost use Rattle.std.specs.Prelude.{◌≡◌, ◌≢◌, ◌⊎◌, ◌≤◌, ℕ, List, Some, true, false, [], ◌∷◌, codes, filter, length};
 ghost use Rattle.std.specs.List.{All};
 ghost use Rattle.audit_flows.specs.Lines.{Recorded, Placed, asked_part, live, line, is_of};
 ghost use Rattle.audit_flows.specs.declared.lines.place.Place.{Place};
@@ -14,6 +14,7 @@ ghost use Rattle.audit_flows.specs.Transfers.Worked.{
   where_all,
   asked_twice,
   asked_after_answer,
+  asks_again_behind,
   asks_behind,
   asks_on,
   acked_late,
@@ -42,6 +43,7 @@ ghost use Rattle.audit_flows.specs.Transfers.Worked.{
   seen_by_client,
   seen_by_server,
   is_doubted_in,
+  is_asked_again_in,
   is_late_in,
   respelled,
   late_answer,
@@ -49,6 +51,7 @@ ghost use Rattle.audit_flows.specs.Transfers.Worked.{
   server,
   stranger,
   stray_request,
+  begins_to_ask,
   begun_late,
   begun_long_ago,
   wrong_ports,
@@ -101,6 +104,17 @@ pub fn a_whole_request_makes_a_service_port()
     ensures { where_all other_service ≡ Where.Apart ∷ Where.Opens 2 ∷ Where.Client 0 ∷ Where.Opens 0 ∷ [] }
 {}
 
+/// At port 69 what begins as a request is one, and at another port only what is spelled whole (RFC 1350, sections 4 and 5).
+pub fn at_port_69_each_request_counts()
+    ensures there { where_all (begins_to_ask 69) ≡ Where.Opens 0 ∷ [] }
+    ensures elsewhere { where_all (begins_to_ask 70) ≡ Where.Nowhere ∷ [] }
+{}
+
+/// Who was told an ERROR is no server with which the client went on: that is the one with which it talked.
+pub fn who_was_told_an_error_is_not_the_server()
+    ensures { server_of 1 (placed [] late_answer) ≡ Some next_server }
+{}
+
 /// The stray at the client is seen by the client alone, and the stray at the server by the server alone.
 pub fn each_end_sees_its_own_strays()
     ensures client { seen_by_client 0 asked_twice
@@ -117,6 +131,8 @@ pub fn doubts_are_where_transfers_meet()
     ensures again { is_doubted_in 2 asked_after_answer ≡ true }
     ensures earlier { is_doubted_in 0 asked_after_answer ≡ false }
     ensures reset { is_doubted_in 3 reset ≡ false }
+    ensures after_error { is_asked_again_in 3 (asks_again_behind (error_of 0)) ≡ true }
+    ensures after_ack { is_asked_again_in 3 (asks_again_behind (ack_of 1)) ≡ false }
     ensures late { is_late_in 0 reset ≡ true }
     ensures in_time { is_late_in 3 reset ≡ false }
 {}

@@ -15,6 +15,7 @@ use Rattle.audit_recording.specs.Judges.{points_of}
 use Rattle.audit_recording.specs.Blame.Frames.{Carried, Framed, framed, framed_after, seen_of, view_of, whole_of}
 use Rattle.audit_recording.specs.Blame.Kept.{AreFactsOf, IsBlameOf, IsNoted, IsPassing, IsTrailBetween, IsTrailOf, comes_to, first_frame, is_about_it, is_copied, is_damaged, last_frame, last_time_in, passed_of}
 use Rattle.audit_recording.specs.Blame.Facts.{blamed_of}
+use Rattle.audit_recording.specs.Endings.Kept.{IsClosingOf}
 use Rattle.audit_recording.specs.declared.blame.passed.Passed.{Passed}
 use Rattle.audit_recording.specs.declared.blame.passing.Passing.{Passing}
 use Rattle.audit_recording.specs.declared.blame.trail.Trail.{Trail}
@@ -227,8 +228,9 @@ module _ (old mid new : Trail) (judging : Judging) (x : Transfer) (named : List 
       → new.transfer ≡ mid.transfer → new.first ≡ mid.first → new.last ≡ mid.last → new.count ≡ mid.count → new.last_time ≡ mid.last_time → new.is_answered ≡ mid.is_answered
       → new.copied_from ≡ or_this mid.copied_from passing.is_doubtful passing.frame → new.damaged ≡ or_this mid.damaged passing.has_error passing.frame
       → new.ends.number ≡ x.number → AreEndsAfter new.ends (whole_of named (c ∷ carried)) → (opened_it x.number f.placed ≡ true → c.frame ≡ old.first)
+      → IsClosingOf new.closing x (view_of Client x.number named (c ∷ carried))
       → IsBlameOf new.blame judging x (whole_of named (c ∷ carried)) (framed named (c ∷ carried)) → IsTrailOf new judging x named (c ∷ carried)
-  trail_more place at own beside transfer first last count last_time is_answered copied_from damaged number ends opens blame =
+  trail_more place at own beside transfer first last count last_time is_answered copied_from damaged number ends opens closing blame =
       let m = noted_at place at own beside in
       let frames = framed named carried in
       record {
@@ -245,6 +247,7 @@ module _ (old mid new : Trail) (judging : Judging) (x : Transfer) (named : List 
             (and_first (is_about x.number f.placed) passing.is_doubtful c.is_doubtful about passes.is_doubtful) passes.frame;
         damaged = damaged ∙ first_one (is_damaged x.number) f frames mid.damaged passing.has_error passing.frame (m.damaged ∙ was.damaged)
             (and_first (is_about x.number f.placed) passing.has_error c.has_error about passes.has_error) passes.frame;
+        closing = closing;
         blame = blame;
       }
 
@@ -280,6 +283,7 @@ trail_passed_by t judging x named c carried off was =
       is_answered = was.is_answered ∙ ap (list_any (comes_to x)) (sym view_same);
       copied_from = was.copied_from ∙ sym (first_same (is_copied x.number) f frames (and_none (is_about x.number f.placed) c.is_doubtful off));
       damaged = was.damaged ∙ sym (first_same (is_damaged x.number) f frames (and_none (is_about x.number f.placed) c.has_error off));
+      closing = subst (IsClosingOf t.closing x) (sym view_same) was.closing;
       blame = blame_passed_by t.blame judging x f (whole_of named carried) frames off was.blame;
     }
 
@@ -292,8 +296,8 @@ between_passed_by t judging x named c carried off was there =
 
 pub trail_new : (t : Trail) (judging : Judging) (x : Transfer) (named : List ℕ) (carried : List Carried) → filter (is_about_it x.number) (framed named carried) ≡ []
     → t.transfer ≡ x → t.ends.number ≡ x.number → AreEndsAfter t.ends [] → t.last ≡ t.first → t.count ≡ 0 → t.last_time ≡ 0 → t.is_answered ≡ false → t.copied_from ≡ None → t.damaged ≡ None
-    → IsBlameOf t.blame judging x (whole_of named carried) (framed named carried) → IsTrailOf t judging x named carried
-trail_new t judging x named carried unheard transfer number ends last count last_time is_answered copied_from damaged blame =
+    → IsClosingOf t.closing x [] → IsBlameOf t.blame judging x (whole_of named carried) (framed named carried) → IsTrailOf t judging x named carried
+trail_new t judging x named carried unheard transfer number ends last count last_time is_answered copied_from damaged closing blame =
     let frames = framed named carried in
     let none : view_of Client x.number named carried ≡ [] = view_unheard x.number frames unheard in
     record {
@@ -307,5 +311,6 @@ trail_new t judging x named carried unheard transfer number ends last count last
       is_answered = is_answered ∙ ap (list_any (comes_to x)) (sym none);
       copied_from = copied_from ∙ sym (no_first x.number (is_copied x.number) (λ f off. and_none (is_about x.number f.placed) f.carried.is_doubtful off) frames unheard);
       damaged = damaged ∙ sym (no_first x.number (is_damaged x.number) (λ f off. and_none (is_about x.number f.placed) f.carried.has_error off) frames unheard);
+      closing = subst (IsClosingOf t.closing x) (sym none) closing;
       blame = blame;
     }

@@ -19,6 +19,7 @@ use Rattle.audit_recording.specs.declared.blame.trail.Trail.{Trail}
 use Rattle.audit_recording.specs.declared.judges.judging.Judging.{Judging}
 use Rattle.audit_recording.specs.declared.rows.row.Point.{Point}
 use Rattle.audit_recording.specs.declared.rows.row.Point.TheVariants.{Client, Server, Between}
+use Rattle.audit_recording.specs.Endings.Kept.{IsClosingOf}
 use Rattle.audit_recording.specs.Judges.{points_of}
 use Rattle.audit_recording.specs.Blame.Frames.{Carried, Framed, framed, is_seen, numbered, seen_of, view_of, whole_of}
 use Rattle.audit_recording.specs.Blame.Facts.{IsRefusedAt, blamed_of}
@@ -157,6 +158,7 @@ pub record IsSameBut (old new : Trail) : Type 0 where
   pub left_out : new.left_out ≡ old.left_out
   pub copied_from : new.copied_from ≡ old.copied_from
   pub damaged : new.damaged ≡ old.damaged
+  pub closing : new.closing ≡ old.closing
   pub blame : new.blame ≡ old.blame
 
 -- a datagram at its client was noted
@@ -172,6 +174,7 @@ pub record IsNoted (old new : Trail) (passing : Passing) : Type 0 where
   pub left_out : new.left_out ≡ old.left_out
   pub copied_from : new.copied_from ≡ old.copied_from
   pub damaged : new.damaged ≡ old.damaged
+  pub closing : new.closing ≡ old.closing
   pub blame : new.blame ≡ old.blame
 
 -- It is what is to be kept of this transfer by these datagrams, judged at the points where it is to be.
@@ -186,6 +189,7 @@ pub record IsTrailOf (t : Trail) (judging : Judging) (x : Transfer) (named : Lis
   pub is_answered : t.is_answered ≡ list_any (comes_to x) (view_of Client x.number named carried)
   pub copied_from : t.copied_from ≡ first_frame (is_copied x.number) (framed named carried)
   pub damaged : t.damaged ≡ first_frame (is_damaged x.number) (framed named carried)
+  pub closing : IsClosingOf t.closing x (view_of Client x.number named carried)
   pub blame : IsBlameOf t.blame judging x (whole_of named carried) (framed named carried)
 
 -- The same of what passed between its ends.

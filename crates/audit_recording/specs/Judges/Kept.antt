@@ -1,5 +1,5 @@
 -- What the judge of a recording keeps, and for which recordings it stands. Lists have the newest first.
-use Rattle.std.specs.Prelude.{◌≡◌, ◌≤◌, ◌<◌, ◌^◌, ◌⊎◌, ◌==◌, ◌∷◌, ℕ, Bool, true, false, List, All, Option, Some, None, Err, is_some, IfSome, if◌then◌else◌}
+use Rattle.std.specs.Prelude.{◌≡◌, ◌≤◌, ◌<◌, ◌^◌, ◌⊎◌, ◌==◌, ◌∷◌, ℕ, Bool, true, false, List, All, Option, Some, None, Err, is_some, unwrap_or, IfSome, if◌then◌else◌}
 use Rattle.std.specs.BTreeMap.{BTreeMap, get}
 use Rattle.std.specs.List.{list_any}
 use Rattle.std.specs.Ordering.{nat_cmp}
@@ -7,10 +7,12 @@ use Rattle.audit_flows.specs.Transfers.{placed, is_about, opened_it, is_answered
 use Rattle.audit_flows.specs.{Attribution, TransferDoubts}
 use Rattle.audit_flows.specs.Lines.{Recorded, Placed, newest_of, transfer_of}
 use Rattle.audit_flows.specs.{Transfer}
-use Rattle.audit_views.specs.Views.{Naming, Client, IsClientAfter, IsViewAfter, View, fed_to}
+use Rattle.audit_views.specs.Views.{Naming, Client, IsClientAfter, IsViewAfter, View, fed_to, has_refused}
 use Rattle.audit_views.specs.{Party}
 use Rattle.audit_views.specs.Parties.{host_name}
-use Rattle.audit_recording.specs.Between.{IsBetweenAfter, View as Between, given_to}
+use Rattle.audit_recording.specs.Between.{IsBetweenAfter, View as Between, given_to, has_refused as refused_there}
+use Rattle.tftp_judge.specs.{Refusal}
+use Rattle.judge_tap.specs.{TapRefusal}
 use Rattle.tftp_judge.specs.declared.refusal.Refusal.TheVariants.{Memory}
 use Rattle.judge_tap.specs.declared.refusal.TapRefusal.TheVariants.{Memory as TapMemory}
 use Rattle.audit_recording.specs.declared.judges.judging.Judging.{Judging}
@@ -90,11 +92,31 @@ pub record AreTold (v : Verdicts) (points : Points) : Type 0 where
   pub server : is_some v.server ≡ points.server
   pub between : is_some v.between ≡ points.between
 
--- at each point it is that memory ran out
+-- what the judge at a point has refused; none where there is no judge
+abbrev pub refused_by : {J R : Type 0} → (J → Option R) → Option J → Option R
+refused_by refused None = None
+refused_by refused (Some j) = refused j
+
+abbrev pub refused_at_client : Option Client → Option Refusal
+refused_at_client = refused_by (λ (c : Client). c.end.judge.refused)
+
+abbrev pub refused_at_server : Option View → Option Refusal
+refused_at_server = refused_by has_refused
+
+abbrev pub refused_between : Option Between → Option TapRefusal
+refused_between = refused_by refused_there
+
+-- What is known to be refused at a point is told there, whatever memory there is since.
+pub record AreRefusalsTold (j : Judges) (v : Verdicts) : Type 0 where
+  pub client : (refusal : Refusal) → refused_at_client j.client ≡ Some refusal → v.client ≡ Some (Err refusal)
+  pub server : (refusal : Refusal) → refused_at_server j.server ≡ Some refusal → v.server ≡ Some (Err refusal)
+  pub between : (refusal : TapRefusal) → refused_between j.between ≡ Some refusal → v.between ≡ Some (Err refusal)
+
+-- at each point it is what was refused there, and else that memory ran out
 pub record AreWants (j : Judges) (v : Verdicts) : Type 0 where
-  pub client : IfSome v.client (λ said. said ≡ Err (Memory (fed_at_client j.client)))
-  pub server : IfSome v.server (λ said. said ≡ Err (Memory (fed_at_server j.server)))
-  pub between : IfSome v.between (λ said. said ≡ Err (TapMemory (fed_between j.between)))
+  pub client : IfSome v.client (λ said. said ≡ Err (unwrap_or (refused_at_client j.client) (Memory (fed_at_client j.client))))
+  pub server : IfSome v.server (λ said. said ≡ Err (unwrap_or (refused_at_server j.server) (Memory (fed_at_server j.server))))
+  pub between : IfSome v.between (λ said. said ≡ Err (unwrap_or (refused_between j.between) (TapMemory (fed_between j.between))))
 
 -- A transfer, its judges, and what is doubtful of it.
 pub record Watched : Type 0 where

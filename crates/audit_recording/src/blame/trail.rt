@@ -9,6 +9,7 @@ ghost use Rattle.audit_recording.specs.Between.{IsBetweenVerdict, between_captur
 ghost use Rattle.audit_recording.specs.Blame.Facts.{blamed_as, blamed_of, refused_between, refused_in};
 ghost use Rattle.audit_recording.specs.Blame.Frames.{Carried, Framed, framed, framed_after, whole_of};
 ghost use Rattle.audit_recording.specs.Blame.Kept.{IsNoted, IsPassing, IsSameBut, IsTrailBetween, IsTrailOf, is_about_it};
+ghost use Rattle.audit_recording.specs.Endings.Told.{IsEnding};
 ghost use Rattle.audit_recording.specs.Judges.Kept.{IsWatching};
 ghost use Rattle.audit_recording.specs.Judges.Points.{points_of};
 ghost use Rattle.audit_recording.specs.declared.judges.judging.Judging.{Judging as JudgingKind};
@@ -19,7 +20,9 @@ ghost use Rattle.audit_views.specs.Views.{IsJudgedWith, client_capture, client_h
 ghost use Rattle.law_tap.specs.{AreApart};
 
 use crate::blame::blame::{Blame, Blamed};
+use crate::blame::closing::Closing;
 use crate::blame::doubted::Doubted;
+use crate::blame::ending::{Ending, seconds_since};
 use crate::blame::missing::Missing;
 use crate::blame::passed::Passed;
 use crate::blame::passing::Passing;
@@ -71,6 +74,8 @@ pub struct Trail {
     to_client: Option<Spoilt>,
     /// The frame of a datagram that its receiver discarded for its checksum.
     discarded: Option<u64>,
+    /// How it ended, as far as it was read.
+    closing: Closing,
     blame: Blame,
 }
 
@@ -101,6 +106,7 @@ impl Trail {
             from_client: None,
             to_client: None,
             discarded: None,
+            closing: Closing::new(alloc),
             blame: Blame::new(alloc),
         }
     }
@@ -141,6 +147,8 @@ impl Trail {
             passing.target,
             passing.payload,
         );
+        self.closing
+            .note(&self.transfer, &self.ends, &found.place, passing)?;
         let passed = Passed {
             blamed: blamed_by(found, passing, &watched.doubts()),
             place: found.place,
@@ -157,7 +165,9 @@ impl Trail {
         ensures first { self.new.first ≡ self.old.first }
         ensures request { self.new.request ≡ self.old.request }
         ensures left_out { self.new.left_out ≡ self.old.left_out }
+        ensures transfer { self.new.transfer ≡ self.old.transfer }
         ensures ends { self.new.ends ≡ self.old.ends }
+        ensures closing { self.new.closing ≡ self.old.closing }
         ensures blame { self.new.blame ≡ self.old.blame }
     {
         match place.transfer() {
@@ -232,6 +242,23 @@ impl Trail {
             → result ≡ server_or_asked x (server_of x.number (whole_of named carried)) }
     {
         self.ends.server().unwrap_or(self.transfer.asked)
+    }
+
+    /// How it ended, where it is whole or not, by a recording that goes on to this moment, in nanoseconds since 1970.
+    pub fn ending(&self, is_whole: bool, now: u64) -> Ending<'_>
+        ensures { (judging : JudgingKind) (x : Transfer) (named : List ℕ) (carried : List Carried) → IsTrailOf self.now judging x named carried
+            → IsEnding x named carried is_whole now result }
+    {
+        if is_whole {
+            return Ending::Whole;
+        }
+        match self.closing.stop_with(self.server()) {
+            Some(stop) => Ending::Stopped(stop),
+            None => match self.closing.last {
+                Some(word) => Ending::Quiet(word, seconds_since(word.time, now)),
+                None => Ending::Unheard,
+            },
+        }
     }
 
     /// What makes a verdict doubtful, beside its own doubts; of its client's datagrams these may be missing.

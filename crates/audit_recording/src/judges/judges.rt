@@ -1,11 +1,12 @@
 //! The judges of one transfer, beside each other.
 
-ghost use Rattle.std.specs.Prelude.{◌≡◌, ◌≤◌, ◌∷◌, ℕ, List, [], length, option_copied, IfSome, IsErr, OnErr, OnOk, Ok, Err, MatchBool, true, false};
+ghost use Rattle.std.specs.Prelude.{◌≡◌, ◌≤◌, ◌∷◌, ℕ, List, [], length, option_copied, IfSome, IsErr, OnErr, OnOk, Ok, Err, MatchBool, true, false, unwrap_or};
 ghost use Rattle.audit_recording.specs.Between.{between_capture, is_to_itself, sides_of, IsBetweenVerdict};
 ghost use Rattle.audit_views.specs.Parties.{host_name};
-ghost use Rattle.audit_recording.specs.Judges.Kept.{AreAt, AreFew, AreJudgesAfter, AreOf, AreTold, AreWants, IsCrowded};
+ghost use Rattle.audit_recording.specs.Judges.Kept.{AreAt, AreFew, AreJudgesAfter, AreOf, AreRefusalsTold, AreTold, AreWants, IsCrowded};
 ghost use Rattle.law_tap.specs.{AreApart};
 ghost use Rattle.judge_tap.specs.{TapRefusal as RefusalKind};
+ghost use Rattle.tftp_judge.specs.declared.refusal.Refusal.TheVariants.{Memory};
 ghost use Rattle.audit_flows.specs.Lines.{Placed};
 ghost use Rattle.audit_flows.specs.{Transfer};
 ghost use Rattle.audit_flows.specs.Transfers.{is_about};
@@ -117,7 +118,8 @@ impl<D: Delivered + Drop> Judges<D> {
         self.between.as_ref()
     }
 
-    /// What there is to say of the whole that was fed, at each point.
+    /// What there is to say of the whole that was fed, at each point. What was refused there is told, also where memory ran out
+    /// since.
     pub(crate) fn finish(self, alloc: Global) -> Verdicts
         ensures client { (x : Transfer) (name : Naming) (whole : List Placed) → AreJudgesAfter self x name whole
             → IfSome result.client (IsJudgedWith (client_header x) (client_capture name x whole)) }
@@ -129,6 +131,7 @@ impl<D: Delivered + Drop> Judges<D> {
             → IfSome result.between (λ said. said ≡ Err (RefusalKind.Incomplete (length (between_capture x whole)))) }
         ensures points { (points : Points) → AreAt self points → AreTold result points }
         ensures failed { self.failed ≡ true → AreWants self result }
+        ensures refused { AreRefusalsTold self result }
     {
         let Judges {
             client,
@@ -138,9 +141,12 @@ impl<D: Delivered + Drop> Judges<D> {
         } = self;
         if failed {
             return Verdicts {
-                client: client.map(|judge| Err(Refusal::Memory(judge.fed()))),
-                server: server.map(|judge| Err(Refusal::Memory(judge.fed()))),
-                between: between.map(|judge| Err(TapRefusal::Memory(judge.fed()))),
+                client: client.map(|judge| Err(refused_or_wanting(judge.refused(), judge.fed()))),
+                server: server.map(|judge| Err(refused_or_wanting(judge.refused(), judge.fed()))),
+                between: between.map(|judge| Err(refused_or_wanting_between(
+                    judge.refused(),
+                    judge.fed(),
+                ))),
             };
         }
         Verdicts {
@@ -148,5 +154,25 @@ impl<D: Delivered + Drop> Judges<D> {
             server: server.map(|judge| judge.finish(alloc)),
             between: between.map(|judge| judge.finish(alloc)),
         }
+    }
+}
+
+/// What was refused, and else that memory ran out after so many datagrams.
+fn refused_or_wanting(refused: Option<Refusal>, fed: u64) -> Refusal
+    ensures { result ≡ unwrap_or refused (Memory fed) }
+{
+    match refused {
+        Some(refusal) => refusal,
+        None => Refusal::Memory(fed),
+    }
+}
+
+/// The same between the ends.
+fn refused_or_wanting_between(refused: Option<TapRefusal>, fed: u64) -> TapRefusal
+    ensures { result ≡ unwrap_or refused (RefusalKind.Memory fed) }
+{
+    match refused {
+        Some(refusal) => refusal,
+        None => TapRefusal::Memory(fed),
     }
 }

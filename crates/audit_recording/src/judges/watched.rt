@@ -3,7 +3,7 @@
 ghost use Rattle.std.specs.Prelude.{◌≡◌, ◌≤◌, ◌∷◌, ℕ, List, [], length, option_copied, IfSome, OnOk, Err, false, true};
 ghost use Rattle.audit_recording.specs.Between.{between_capture, is_to_itself, sides_of, IsBetweenVerdict};
 ghost use Rattle.audit_views.specs.Parties.{host_name};
-ghost use Rattle.audit_recording.specs.Judges.Kept.{AreTold, AreWants, IsCrowded, IsWatching};
+ghost use Rattle.audit_recording.specs.Judges.Kept.{AreRefusalsTold, AreTold, AreWants, IsCrowded, IsWatching};
 ghost use Rattle.audit_recording.specs.Judges.Points.{points_of};
 ghost use Rattle.audit_recording.specs.declared.judges.judging.Judging.{Judging as JudgingKind};
 ghost use Rattle.law_tap.specs.{AreApart};
@@ -143,6 +143,7 @@ impl<D: Delivered + Drop> Watched<D> {
         ensures points { (judging : JudgingKind) (x : Transfer) (name : Naming) (whole : List Placed) → IsWatching self judging x name whole
             → AreTold result (points_of judging x) }
         ensures failed { self.judges.failed ≡ true → AreWants self.judges result }
+        ensures refused { AreRefusalsTold self.judges result }
     {
         let Watched {
             transfer: _,

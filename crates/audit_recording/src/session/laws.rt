@@ -1,12 +1,23 @@
 //! Laws of the definitions in `specs/`. Each is the contract of a function that does nothing.
 
 ghost use Rattle.std.specs.Prelude.{◌≡◌, ◌||◌, ◌∷◌, ℕ, List, [], None, Some, false, true};
+ghost use Rattle.std.specs.Global.{Vec};
+ghost use Rattle.net_udp.specs.Fragments.{content_of};
+ghost use Rattle.net_udp.specs.Frames.{acknowledgement};
+ghost use Rattle.net_udp.specs.Recording.{IsDatagram, Step, last_bytes, last_part, worked_content};
+ghost use Rattle.net_udp.specs.declared.fragments.content.Content.{Content};
+ghost use Rattle.net_udp.specs.declared.recording.fate.Datagram.{Datagram};
 ghost use Rattle.audit_flows.specs.{Address, V4};
 ghost use Rattle.audit_recording.specs.Losses.Noted.{Event, IsMissingOf, Unread, is_of_host, is_of_none, is_soon, lost_by, unread, waiting_at};
 ghost use Rattle.audit_recording.specs.Losses.Noted.Event.{Asks, Finds, GivesUp, Loses, Waits};
 ghost use Rattle.audit_recording.specs.Reasons.Clock.{HaveReached};
 ghost use Rattle.audit_recording.specs.Reasons.Unplaced.{after, latest_at, newest_of, worked_end};
 ghost use Rattle.audit_recording.specs.Reasons.Unplaced.Event.{Ends, Opens, Passes};
+ghost use Rattle.audit_recording.specs.Audit.Passed.{HasPassed};
+ghost use Rattle.audit_recording.specs.Blame.Frames.{Carried, datagrams_of};
+ghost use Rattle.audit_recording.specs.Session.Noted.{Noticed};
+ghost use Rattle.audit_recording.specs.Session.Recording.{IsNoticedOf};
+ghost use Rattle.audit_recording.specs.Session.Worked.{ack_carried, at_second, frame_at, request, request_bytes, request_carried, request_packet, worked_noticed, worked_steps};
 ghost use Rattle.audit_recording.specs.Session.Intact.{before_opening, discarded_of, makes_checksums, newest_at, worked_gone, worked_host, worked_seen};
 
 /// A frame of other hosts that is lost, or that waits, makes nothing more missing of a client's host.
@@ -72,4 +83,18 @@ pub fn worked_discarded()
     ensures elsewhere { newest_at (worked_end 2001) (worked_gone ∷ []) ≡ None }
     ensures soon { before_opening 310000000000 (Some worked_gone) ≡ Some 7 }
     ensures later { before_opening 310000000001 (Some worked_gone) ≡ None }
+{}
+
+/// What is noticed of a recording is of the datagrams that its frames have given.
+pub fn what_is_noticed_has_passed()
+    ensures { (named : List ℕ) (history : List Step) (carried : List Carried) (s : Noticed) → IsNoticedOf named history carried s → HasPassed history (datagrams_of carried) }
+{}
+
+/// Of four frames the first is a fragment that waits; in the second its client asks for a file, and opens a transfer; with the third the
+/// packet of the first is there whole, which is an acknowledgement of that transfer; and the fourth, which tells no time, is lost.
+pub fn worked_recording()
+    ensures { (content : Content) (frames : Vec ℕ) (asked acked : Datagram) → content_of content ≡ worked_content → frames.items ≡ 1 ∷ 3 ∷ []
+        → IsDatagram (frame_at (at_second 2) request_bytes) request_packet request asked
+        → IsDatagram (frame_at (at_second 3) last_bytes) last_part acknowledgement acked
+        → IsNoticedOf [] (worked_steps content frames) (ack_carried ∷ request_carried ∷ []) worked_noticed }
 {}

@@ -9,6 +9,7 @@ ghost use Rattle.audit_recording.specs.Reasons.Clock.{IsClockAfter};
 ghost use Rattle.audit_recording.specs.Session.Noted.{AreHostsOf, AreNotesOf, Noticed, finding, frames_in, giving_up, leaving, losing, may_be_datagram, nothing_noticed, noting, others, passing_by, sharers_of, stretch_of, unread_in};
 
 use crate::blame::{Missing, Passing, Reason, Trail};
+use crate::session::begun::Begun;
 use crate::session::clock::Clock;
 use crate::session::intact::IntactHosts;
 use crate::session::losses::{Losses, SILENCE, Stretch, WAIT};
@@ -91,6 +92,8 @@ pub struct Notes {
     discarded: Frames,
     /// Datagrams of no transfer.
     of_none: Frames,
+    /// Those of them that look like a transfer that goes on.
+    begun: Begun,
     /// Ports at which one of these looks like a request.
     asked: Vec<u64>,
     /// Datagrams that are older than the one before.
@@ -117,6 +120,7 @@ impl Notes {
             copies: Frames::new(alloc),
             discarded: Frames::new(alloc),
             of_none: Frames::new(alloc),
+            begun: Begun::new(alloc),
             asked: Vec::new(alloc),
             backwards: Frames::new(alloc),
             fault: None,
@@ -280,6 +284,7 @@ impl Notes {
         if is_request && self.asked.len() < NAMED && !self.asked.contains(&port) {
             self.asked.push(port)?;
         }
+        self.begun.note(passing)?;
         self.of_none.add(passing.frame)
     }
 
@@ -336,6 +341,7 @@ impl Notes {
         self.discarded.put(alloc, lines, discarded)?;
         self.other_links.put(alloc, lines, "of another link type")?;
         self.of_none.put(alloc, lines, "of UDP of no transfer")?;
+        self.begun.put(alloc, lines)?;
         self.backwards.put(
             alloc,
             lines,

@@ -1,6 +1,24 @@
 //! A recording, as far as it was read.
 
+ghost use Rattle.std.specs.Prelude.{◌≡◌, ◌≢◌, ◌≤◌, ◌<◌, ◌⊎◌, ◌∷◌, ◌++◌, [], ℕ, List, IfOk, IfSome, IsErr, IsSome, OnOk, None, Some, Ok, Err, option_map, true, false};
+ghost use Rattle.std.specs.Io.KnownBytes.{Consumes, prepend_known};
+ghost use Rattle.net_pcap.specs.{FaultKind as Kind, PcapFault as Fault};
+ghost use Rattle.net_streams.specs.{Standing};
 ghost use Rattle.net_udp.specs.Frames.{IsSound};
+ghost use Rattle.net_udp.specs.Recording.{IsFateOf, StandsFor, Step, checksum_told, standing_of};
+ghost use Rattle.net_udp.specs.{Fate as Became};
+ghost use Rattle.net_udp.specs.declared.recording.fate.Datagram.{Datagram as Given};
+ghost use Rattle.audit_flows.specs.Lines.{same_address};
+ghost use Rattle.audit_flows.specs.{Attributed as Found};
+ghost use Rattle.audit_recording.specs.Audit.Audited.{IsOfEvent};
+ghost use Rattle.audit_recording.specs.Blame.Frames.{Carried, framed_after, whole_of};
+ghost use Rattle.audit_recording.specs.Judges.{IsWatching, is_among, opened};
+ghost use Rattle.audit_views.specs.Parties.{host_name};
+ghost use Rattle.audit_recording.specs.Losses.Noted.{IsAsked, IsFirst, IsMissingOf, IsTold, Since};
+ghost use Rattle.audit_recording.specs.Losses.Noted.Event.{Asks};
+ghost use Rattle.audit_recording.specs.Session.Noted.{AreNotesOf, Noticed, finding, nothing_noticed, noting, sharers_of, stretch_of};
+ghost use Rattle.audit_recording.specs.Session.Recording.{AddsOne, IsCarriedBy, IsNoticedOf, asking, going, gone_by, intact_at, intact_by, placing, reached_by};
+ghost use Rattle.audit_recording.specs.Session.Kept.{GivesNone, IsSessionAfter, ReadsOn};
 
 use crate::audit::{AuditFault, NextFrame, RecordingAudit};
 use crate::blame::{Missing, Passing, Spoilt, Trail, about};
@@ -48,7 +66,10 @@ impl Session {
         services: &[u16],
         judging: Judging,
         kept: Kept,
-    ) -> Result<Self, AllocError> {
+    ) -> Result<Self, AllocError>
+        ensures stands { IfOk result (λ s. IsSessionAfter s services.now [] [] [] nothing_noticed) }
+        ensures judging { IfOk result (λ s. s.audit.judge.judging ≡ judging) }
+    {
         Ok(Session {
             audit: RecordingAudit::new(alloc, services, judging)?,
             trails: BTreeMap::new(alloc),
@@ -65,7 +86,18 @@ impl Session {
         reader: &mut Latched<R>,
         recording: &mut RecordingReader,
         event: &mut Event,
-    ) -> Result<bool, ReadFault> {
+    ) -> Result<bool, ReadFault>
+        ensures goes_on { (named out bytes : List ℕ) (history : List Step) (carried : List Carried) (s : Noticed)
+            → StandsFor recording.old bytes history → IsSessionAfter self.old named out history carried s
+            → (taken : List ℕ)
+            × Consumes (prepend_known recording.old.frames.pieces.ahead (R.remaining reader.old.0)) (prepend_known recording.new.frames.pieces.ahead (R.remaining reader.new.0)) taken
+            × ReadsOn (λ frames datagrams noticed. StandsFor recording.new (bytes ++ taken) frames
+            × IsSessionAfter self.new named out frames datagrams noticed) history carried s result }
+        ensures ends { result ≡ Ok false
+            → ((standing_of recording.new ≡ Standing.Over) × (self.new.notes ≡ self.old.notes))
+            ⊎ ((fault : Fault) × (standing_of recording.new ≡ Standing.Failed fault) × (self.new.notes.fault ≡ Some fault)) }
+        ensures judging { self.new.audit.judge.judging ≡ self.old.audit.judge.judging }
+    {
         match self.audit.next_into(alloc, reader, recording, event) {
             Ok(NextFrame::End) => Ok(false),
             Ok(NextFrame::Nothing) => self.take(alloc, event, None),
@@ -76,7 +108,13 @@ impl Session {
     }
 
     /// The recording is read no further. What was read before is told, unless memory ran out.
-    fn stop(&mut self, fault: PcapFault) -> Result<bool, ReadFault> {
+    fn stop(&mut self, fault: PcapFault) -> Result<bool, ReadFault>
+        ensures fault { OnOk result (self.new.notes.fault ≡ Some fault) }
+        ensures notes { (s : Noticed) → AreNotesOf self.old.notes s → AreNotesOf self.new.notes s }
+        ensures audit { self.new.audit ≡ self.old.audit }
+        ensures over { result ≢ Ok true }
+        ensures told { fault.kind ≢ Kind.Memory → result ≡ Ok false }
+    {
         if let FaultKind::Memory = fault.kind {
             return Err(ReadFault::Memory);
         }
@@ -90,16 +128,49 @@ impl Session {
         alloc: Global,
         event: &mut Event,
         found: Option<Attributed>,
-    ) -> Result<bool, ReadFault> {
+    ) -> Result<bool, ReadFault>
+        ensures none { (named : List ℕ) (history : List Step) (carried : List Carried) (s : Noticed) (step : Step)
+            → found ≡ None → GivesNone event.old → IsOfEvent step history event.old
+            → IsNoticedOf named history carried s → AreNotesOf self.old.notes s
+            → OnOk result ((t : Noticed) × IsNoticedOf named (step ∷ history) carried t × AreNotesOf self.new.notes t) }
+        ensures datagram { (named : List ℕ) (history : List Step) (carried : List Carried) (s : Noticed) (step : Step) (c : Carried) (a : Found) (given : Given)
+            → found ≡ Some a → IsOfEvent step history event.old
+            → IsFateOf event.old.frame.parts event.old.likeness event.old.brought.outcome event.old.is_discarded (Became.Datagram given)
+            → IsCarriedBy event.old given carried c → a.place ≡ (framed_after named carried c).placed.place
+            → IsNoticedOf named history carried s → AreNotesOf self.old.notes s
+            → OnOk result ((t : Noticed) × IsNoticedOf named (step ∷ history) (c ∷ carried) t × AreNotesOf self.new.notes t) }
+        ensures audit { self.new.audit ≡ self.old.audit }
+        ensures goes { result ≢ Ok false }
+    {
         self.notes.lose(alloc, event.old())?;
         self.notes.lose_all(alloc, event.take_ousted(alloc))?;
-        match event.fate() {
-            Fate::Datagram(datagram) => self.pass(alloc, event, &datagram, found)?,
-            Fate::Left(why) => self.notes.leave(alloc, why, event)?,
-            Fate::Waits => self.notes.wait(alloc, event)?,
-            Fate::Discarded(datagram) => self.discard(alloc, event, &datagram)?,
-        }
+        self.note(alloc, event, found)?;
         Ok(true)
+    }
+
+    /// Notes what became of a frame.
+    fn note(
+        &mut self,
+        alloc: Global,
+        event: &Event,
+        found: Option<Attributed>,
+    ) -> Result<(), ReadFault>
+        ensures none { (named : List ℕ) (carried : List Carried) (s : Noticed)
+            → found ≡ None → GivesNone event.now → s.last ≤ event.now.frame.number → AreNotesOf self.old.notes s
+            → OnOk result ((fate : Became) × (t : Noticed) × IsFateOf event.now.frame.parts event.now.likeness event.now.brought.outcome event.now.is_discarded fate
+            × AddsOne named event.now fate carried s carried t × AreNotesOf self.new.notes t) }
+        ensures datagram { (named : List ℕ) (carried : List Carried) (s : Noticed) (c : Carried) (a : Found) (given : Given)
+            → found ≡ Some a → IsFateOf event.now.frame.parts event.now.likeness event.now.brought.outcome event.now.is_discarded (Became.Datagram given)
+            → IsCarriedBy event.now given carried c → s.last < event.now.frame.number → AreNotesOf self.old.notes s
+            → OnOk result (AreNotesOf self.new.notes (placing a.place event.now c s)) }
+        ensures audit { self.new.audit ≡ self.old.audit }
+    {
+        match event.fate() {
+            Fate::Datagram(datagram) => self.pass(alloc, event, &datagram, found),
+            Fate::Left(why) => Ok(self.notes.leave(alloc, why, event)?),
+            Fate::Waits => Ok(self.notes.wait(alloc, event)?),
+            Fate::Discarded(datagram) => Ok(self.discard(alloc, event, &datagram)?),
+        }
     }
 
     /// Notes a datagram that its host discarded, also at the newest transfer of a client that sent it, or that it went to.
@@ -108,7 +179,11 @@ impl Session {
         alloc: Global,
         event: &Event,
         datagram: &Datagram<'_>,
-    ) -> Result<(), AllocError> {
+    ) -> Result<(), AllocError>
+        ensures notes { (s : Noticed) → AreNotesOf self.old.notes s
+            → OnOk result (AreNotesOf self.new.notes (going (gone_by event.now datagram.now s.times) (finding (reached_by s.times) (sharers_of event.now) s))) }
+        ensures audit { self.new.audit ≡ self.old.audit }
+    {
         self.notes.discard(alloc, event)?;
         let source = party_of(datagram.source, datagram.source_port).end;
         let target = party_of(datagram.target, datagram.target_port).end;
@@ -125,7 +200,10 @@ impl Session {
     }
 
     /// Notes it at the newest transfer of a client with this endpoint.
-    fn discard_at(&mut self, end: Endpoint, spoilt: Spoilt) {
+    fn discard_at(&mut self, end: Endpoint, spoilt: Spoilt)
+        ensures notes { self.new.notes ≡ self.old.notes }
+        ensures audit { self.new.audit ≡ self.old.audit }
+    {
         let Some(number) = self.unplaced.newest(end) else {
             return;
         };
@@ -143,6 +221,9 @@ impl Session {
         found: Option<Attributed>,
     ) -> Result<(), ReadFault>
         requires sound { IsSound (record { source_port = datagram.now.source_port; target_port = datagram.now.target_port; payload = datagram.now.payload.now }) }
+        ensures notes { (carried : List Carried) (s : Noticed) (c : Carried) (a : Found) → found ≡ Some a → IsCarriedBy event.now datagram.now carried c
+            → s.last < event.now.frame.number → AreNotesOf self.old.notes s → OnOk result (AreNotesOf self.new.notes (placing a.place event.now c s)) }
+        ensures audit { self.new.audit ≡ self.old.audit }
     {
         let Some(found) = found else {
             return Ok(());
@@ -161,9 +242,7 @@ impl Session {
             payload: datagram.payload,
         };
         self.notes.pass(&passing)?;
-        if let Place::Opens(transfer) = found.place {
-            self.open(alloc, transfer, &passing)?;
-        }
+        self.ask(alloc, &found.place, &passing)?;
         let fed = Fed {
             place: &found.place,
             source: &source,
@@ -174,13 +253,33 @@ impl Session {
         Ok(self.follow(&found, &passing)?)
     }
 
+    /// Keeps a transfer, if the datagram is a request that opens one.
+    fn ask(&mut self, alloc: Global, place: &Place, request: &Passing<'_>) -> Result<(), AllocError>
+        ensures notes { (s : Noticed) → AreNotesOf self.old.notes s → s.last < request.now.frame
+            → OnOk result (AreNotesOf self.new.notes (asking place.now request.now.frame s)) }
+        ensures audit { self.new.audit ≡ self.old.audit }
+    {
+        match place {
+            Place::Opens(transfer) => self.open(alloc, *transfer, request),
+            Place::Repeats(_) => Ok(()),
+            Place::Talks(_) => Ok(()),
+            Place::Apart(_) => Ok(()),
+            Place::Beside(_) => Ok(()),
+            Place::Nowhere => Ok(()),
+        }
+    }
+
     /// Keeps a transfer that a request opens.
     fn open(
         &mut self,
         alloc: Global,
         transfer: Transfer,
         request: &Passing<'_>,
-    ) -> Result<(), AllocError> {
+    ) -> Result<(), AllocError>
+        ensures notes { (s : Noticed) → AreNotesOf self.old.notes s → s.last < request.now.frame
+            → OnOk result (AreNotesOf self.new.notes (noting (Asks transfer.client.address request.now.frame) request.now.frame s)) }
+        ensures audit { self.new.audit ≡ self.old.audit }
+    {
         let payload = Vec::from_slice(alloc, request.payload)?;
         let mut trail = Trail::new(alloc, transfer, payload, request.frame);
         let time = self.notes.clock.time_of(request.time);
@@ -195,22 +294,53 @@ impl Session {
         asked
     }
 
-    /// Notes a datagram at the transfer that it is about.
-    fn follow(&mut self, found: &Attributed, passing: &Passing<'_>) -> Result<(), AllocError> {
-        if let Place::Nowhere = found.place {
-            self.leave_out(passing)?;
-        }
-        let Some(number) = about(&found.place) else {
-            return self.notes.leave_out(passing);
-        };
-        match (self.trails.get_mut(&number), self.audit.watched(number)) {
-            (Some(trail), Some(watched)) => trail.take(found, passing, watched),
-            _ => Ok(()),
+    /// Notes a datagram at the transfer that it is about, or as one of none.
+    fn follow(&mut self, found: &Attributed, passing: &Passing<'_>) -> Result<(), AllocError>
+        ensures notes { (s : Noticed) → AreNotesOf self.old.notes s → AreNotesOf self.new.notes s }
+        ensures audit { self.new.audit ≡ self.old.audit }
+    {
+        match about(&found.place) {
+            Some(number) => self.hand(number, found, passing),
+            None => self.set_aside(&found.place, passing),
         }
     }
 
-    /// Notes a datagram of no transfer where its time may be within one's.
-    fn leave_out(&mut self, passing: &Passing<'_>) -> Result<(), AllocError> {
+    /// Hands a datagram to the trail of the transfer with this number.
+    fn hand(
+        &mut self,
+        number: u64,
+        found: &Attributed,
+        passing: &Passing<'_>,
+    ) -> Result<(), AllocError>
+        ensures notes { self.new.notes ≡ self.old.notes }
+        ensures audit { self.new.audit ≡ self.old.audit }
+    {
+        match self.trails.get_mut(&number) {
+            Some(trail) => match self.audit.watched(number) {
+                Some(watched) => trail.take(found, passing, watched),
+                None => Ok(()),
+            },
+            None => Ok(()),
+        }
+    }
+
+    /// Notes a datagram of no transfer, also where its time may be within one's.
+    fn set_aside(&mut self, place: &Place, passing: &Passing<'_>) -> Result<(), AllocError>
+        ensures notes { (s : Noticed) → AreNotesOf self.old.notes s → AreNotesOf self.new.notes s }
+        ensures audit { self.new.audit ≡ self.old.audit }
+    {
+        self.leave_out(place, passing)?;
+        self.notes.leave_out(passing)
+    }
+
+    /// Notes a datagram of no client's line where its time may be within a transfer's.
+    fn leave_out(&mut self, place: &Place, passing: &Passing<'_>) -> Result<(), AllocError>
+        ensures notes { self.new.notes ≡ self.old.notes }
+        ensures audit { self.new.audit ≡ self.old.audit }
+    {
+        let Place::Nowhere = place else {
+            return Ok(());
+        };
         let time = self.notes.clock.time_of(passing.time);
         self.leave_out_at(passing.source, passing.frame, time);
         self.leave_out_at(passing.target, passing.frame, time);
@@ -218,7 +348,10 @@ impl Session {
     }
 
     /// Notes it at the newest transfer of a client with this endpoint, if its time is within the transfer's.
-    fn leave_out_at(&mut self, end: Endpoint, frame: u64, time: u64) {
+    fn leave_out_at(&mut self, end: Endpoint, frame: u64, time: u64)
+        ensures notes { self.new.notes ≡ self.old.notes }
+        ensures audit { self.new.audit ≡ self.old.audit }
+    {
         let Some(number) = self.unplaced.newest(end) else {
             return;
         };
@@ -242,7 +375,15 @@ impl Session {
     }
 
     /// Hands out the oldest transfer.
-    pub fn pop(&mut self) -> Option<Ended> {
+    pub fn pop(&mut self) -> Option<Ended>
+        ensures stands { (named out : List ℕ) (history : List Step) (carried : List Carried) (s : Noticed) → IsSessionAfter self.old named out history carried s
+            → IfSome result (λ e. IsSessionAfter self.new named (e.watched.transfer.number ∷ out) history carried s) }
+        ensures watched { (named out : List ℕ) (history : List Step) (carried : List Carried) (s : Noticed) → IsSessionAfter self.old named out history carried s
+            → IfSome result (λ e. (opened e.watched.transfer.number (whole_of named carried) ≡ Some e.watched.transfer)
+            × IsWatching e.watched self.old.audit.judge.judging e.watched.transfer host_name (whole_of named carried)) }
+        ensures first { (named out : List ℕ) (history : List Step) (carried : List Carried) (s : Noticed) (n : ℕ) → IsSessionAfter self.old named out history carried s
+            → IsSome (opened n (whole_of named carried)) → is_among n out ≡ false → IfSome result (λ e. e.watched.transfer.number ≤ n) }
+    {
         let (number, mut trail) = self.trails.pop_first()?;
         self.unplaced.end(trail.transfer.client, number);
         self.notes.intact.tell(&mut trail);
@@ -250,7 +391,12 @@ impl Session {
     }
 
     /// The frames that may have been of the client of this transfer, and are not there whole.
-    pub fn missing_of(&self, ended: &Ended) -> Missing {
+    pub fn missing_of(&self, ended: &Ended) -> Missing
+        ensures first { (s : Noticed) → AreNotesOf self.now.notes s → IsFirst (IsMissingOf ended.now.trail.transfer.client.address s.events) result.first }
+        ensures within { (s : Noticed) → AreNotesOf self.now.notes s
+            → IsAsked (λ host. same_address host ended.now.trail.transfer.client.address) ended.now.trail.first s.events
+            → IsTold (Since (IsMissingOf ended.now.trail.transfer.client.address s.events) (stretch_of ended.now.trail)) (stretch_of ended.now.trail) result.within }
+    {
         self.notes.missing_of(&ended.trail)
     }
 
@@ -293,9 +439,24 @@ impl Session {
 }
 
 /// Whether a datagram of a transfer is as it was sent, where its checksums tell that.
-fn intact_in(event: &Event, found: &Attributed) -> Option<bool> {
-    about(&found.place)?;
-    match event.checksum() {
+fn intact_in(event: &Event, found: &Attributed) -> Option<bool>
+    ensures { result ≡ intact_at found.now.place (checksum_told event.now.sent) }
+{
+    match found.place {
+        Place::Opens(_) => intact_by(event.checksum()),
+        Place::Repeats(_) => intact_by(event.checksum()),
+        Place::Talks(_) => intact_by(event.checksum()),
+        Place::Beside(_) => intact_by(event.checksum()),
+        Place::Apart(_) => None,
+        Place::Nowhere => None,
+    }
+}
+
+/// Whether a datagram with such a checksum is as it was sent, where it has one.
+fn intact_by(checksum: Checksum) -> Option<bool>
+    ensures { result ≡ intact_by checksum }
+{
+    match checksum {
         Checksum::Right => Some(true),
         Checksum::Partial | Checksum::Wrong => Some(false),
         Checksum::Absent => None,
@@ -303,7 +464,9 @@ fn intact_in(event: &Event, found: &Attributed) -> Option<bool> {
 }
 
 /// The judges take no datagram any more.
-fn refuse(fault: AttributionFault) -> Result<bool, ReadFault> {
+fn refuse(fault: AttributionFault) -> Result<bool, ReadFault>
+    ensures { IsErr result }
+{
     match fault {
         AttributionFault::Memory => Err(ReadFault::Memory),
         AttributionFault::TooMany => Err(ReadFault::TooMany),
@@ -311,7 +474,10 @@ fn refuse(fault: AttributionFault) -> Result<bool, ReadFault> {
 }
 
 /// A transfer that has ended, with its judges.
-fn joined(trail: Trail, watched: Option<Watched<RingDelivered>>) -> Option<Ended> {
+fn joined(trail: Trail, watched: Option<Watched<RingDelivered>>) -> Option<Ended>
+    ensures trail { IfSome result (λ e. e.trail ≡ trail) }
+    ensures watched { option_map (λ e. e.watched) result ≡ watched }
+{
     match watched {
         Some(watched) => Some(Ended { trail, watched }),
         None => None,

@@ -5,6 +5,7 @@ use Rattle.tftp_packet.specs.{In, Out}
 use Rattle.audit_flows.specs.Lines.{bytes_of}
 use Rattle.audit_flows.specs.{Address, Transfer}
 use Rattle.audit_flows.specs.Transfers.{client, service, ack_of, data_of, read_of}
+use Rattle.audit_flows.specs.Transfers.Worked.{error_of}
 
 -- the transfer that datagram 0 opened
 abbrev pub first_transfer : Transfer
@@ -30,5 +31,15 @@ asked_twice_at_server =
     record { dir = In; local = 41000; host = 192 ∷ 0 ∷ 2 ∷ 7 ∷ []; remote = 40000; payload = ack_of 1 }
     ∷ record { dir = Out; local = 41000; host = 192 ∷ 0 ∷ 2 ∷ 7 ∷ []; remote = 40000; payload = data_of 1 }
     ∷ record { dir = In; local = 69; host = 192 ∷ 0 ∷ 2 ∷ 7 ∷ []; remote = 40000; payload = read_of (codes "f") }
+    ∷ record { dir = In; local = 69; host = 192 ∷ 0 ∷ 2 ∷ 7 ∷ []; remote = 40000; payload = read_of (codes "f") }
+    ∷ []
+
+-- of two clients the first one's transfer at its server: the third client's block comes in there, and its answer goes out
+abbrev pub two_clients_at_server : List Datagram
+two_clients_at_server =
+    record { dir = Out; local = 41000; host = 192 ∷ 0 ∷ 2 ∷ 6 ∷ []; remote = 40000; payload = error_of 5 }
+    ∷ record { dir = In; local = 41000; host = 192 ∷ 0 ∷ 2 ∷ 6 ∷ []; remote = 40000; payload = data_of 3 }
+    ∷ record { dir = In; local = 41000; host = 192 ∷ 0 ∷ 2 ∷ 7 ∷ []; remote = 40000; payload = ack_of 1 }
+    ∷ record { dir = Out; local = 41000; host = 192 ∷ 0 ∷ 2 ∷ 7 ∷ []; remote = 40000; payload = data_of 1 }
     ∷ record { dir = In; local = 69; host = 192 ∷ 0 ∷ 2 ∷ 7 ∷ []; remote = 40000; payload = read_of (codes "f") }
     ∷ []

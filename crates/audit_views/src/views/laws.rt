@@ -7,11 +7,12 @@ ghost use Rattle.tftp_judge.specs.{IsVerdict, IsTextVerdict, IsSaid, Refusal};
 ghost use Rattle.tftp_capture.specs.{text_with_hosts};
 ghost use Rattle.audit_flows.specs.Lines.{Placed, may_be_answer_of};
 ghost use Rattle.audit_flows.specs.Transfers.{placed, is_it, IsDoubtedAfter, is_about, is_at_server, server_of, server_view, asked_twice, is_settled};
+ghost use Rattle.audit_flows.specs.Transfers.Worked.{two_clients};
 ghost use Rattle.audit_flows.specs.{TransferDoubts};
 ghost use Rattle.audit_views.specs.Views.Captured.{Naming, client_capture, server_capture};
 ghost use Rattle.audit_views.specs.Views.Kept.{Client, IsClientAfter, IsViewAfter, View};
 ghost use Rattle.audit_views.specs.Views.Judged.{AreWritten, of_text};
-ghost use Rattle.audit_views.specs.Views.Worked.{asked_twice_at_client, asked_twice_at_server, by_bytes, first_transfer};
+ghost use Rattle.audit_views.specs.Views.Worked.{asked_twice_at_client, asked_twice_at_server, by_bytes, first_transfer, two_clients_at_server};
 
 /// What there is to say of datagrams is what there is to say of the text that has just them.
 pub fn verdict_is_that_of_the_text()
@@ -34,6 +35,7 @@ pub fn worked_captures()
     ensures client { client_capture by_bytes first_transfer (placed [] asked_twice) ≡ asked_twice_at_client }
     ensures server { server_capture by_bytes first_transfer (placed [] asked_twice) (placed [] asked_twice) ≡ asked_twice_at_server }
     ensures settled { is_settled 0 (placed [] asked_twice) ≡ true }
+    ensures beside { server_capture by_bytes first_transfer (placed [] two_clients) (placed [] two_clients) ≡ two_clients_at_server }
 {}
 
 /// A datagram that is not about a transfer tells its judges nothing, and makes nothing of it doubtful unless it may be its

@@ -2,12 +2,14 @@
 
 ghost use Rattle.std.specs.Prelude.{◌≡◌, ◌+◌, ◌^◌, ◌<◌, ◌≤◌, ◌∷◌, ℕ, List, [], All, filter, length, reverse, OnOk, OnErr, Ok, Err, None, Some, true, false};
 ghost use Rattle.std.specs.VecDeque.{deque_len};
-ghost use Rattle.tftp_judge.specs.{Refusal as RefusalKind};
+ghost use Rattle.law_end.specs.{IsEnded};
+ghost use Rattle.law_model.specs.Rules.{transfer_of};
+ghost use Rattle.tftp_judge.specs.{TakesForJoin, Refusal as RefusalKind};
 ghost use Rattle.audit_flows.specs.Transfers.{AreEndsAfter, is_settled, is_about};
 ghost use Rattle.audit_flows.specs.Lines.{Placed};
 ghost use Rattle.audit_views.specs.Views.Captured.{Naming, server_capture, server_header};
 ghost use Rattle.audit_views.specs.Views.Judged.{IsJudgedWith};
-ghost use Rattle.audit_views.specs.Views.Kept.{AreHeld, IsFed, IsServerAfter, IsViewAfter, fed_to, has_refused, held_of};
+ghost use Rattle.audit_views.specs.Views.Kept.{AreHeld, IsFed, IsServerAfter, IsViewAfter, Server, fed_to, has_refused, held_of};
 
 use crate::views::fed::Fed;
 use crate::views::held::Held;
@@ -64,8 +66,9 @@ impl<D: Delivered + Drop> ServerView<D> {
         }
     }
 
-    /// Takes the next datagram of the recording, of this transfer or of another, which belongs there. Where there is no
-    /// memory for it, it was not taken. A refusal is kept.
+    /// Takes the next datagram of the recording, of this transfer or of another, which belongs there. Memory is wanted of each
+    /// of its own that is held, and then of one whose payload is longer than that of the one before it; where there is none, it
+    /// was not taken. A refusal is kept.
     pub fn feed(&mut self, alloc: Global, fed: &Fed<'_>) -> Result<(), AllocError>
         requires few { fed_to self.old < 2 ^ 40 }
         requires short { length fed.now.payload.now ≤ 65527 }
@@ -73,8 +76,10 @@ impl<D: Delivered + Drop> ServerView<D> {
             → IsFed name p (held_of fed.now) → OnOk result (IsViewAfter self.new name (p ∷ older)) }
         ensures others { (p : Placed) → fed.now.place.now ≡ p.place → is_about self.old.transfer.number p ≡ false
             → (result ≡ Ok tt) × (self.new ≡ self.old) }
+        ensures longer { (judge : Server) → self.old.judge ≡ Some judge → OnErr result (judge.end.room < length fed.now.payload.now) }
         ensures same { OnErr result (self.new ≡ self.old) }
         ensures counts { fed_to self.new ≤ fed_to self.old + 1 }
+        ensures for_good { (refusal : RefusalKind) → has_refused self.old ≡ Some refusal → has_refused self.new ≡ Some refusal }
         ensures transfer { self.new.transfer ≡ self.old.transfer }
     {
         if !self.ends.is_about(fed.place) {
@@ -146,6 +151,10 @@ impl<D: Delivered + Drop> ServerView<D> {
         ensures judged { (name : Naming) (whole : List Placed) → IsViewAfter self name whole
             → IsJudgedWith (server_header self.transfer) (server_capture name self.transfer whole whole) result }
         ensures for_good { (refusal : RefusalKind) → has_refused self ≡ Some refusal → result ≡ Err refusal }
+        ensures memory { (name : Naming) (whole : List Placed) (judge : Server) (count : ℕ) → IsViewAfter self name whole
+            → self.judge ≡ Some judge → judge.end.judge.refused ≡ None → result ≡ Err (RefusalKind.Memory count)
+            → IsEnded (server_header self.transfer) (server_capture name self.transfer whole whole)
+            × TakesForJoin D.join_takes (transfer_of (server_header self.transfer) (server_capture name self.transfer whole whole)) }
     {
         let ServerView {
             transfer,

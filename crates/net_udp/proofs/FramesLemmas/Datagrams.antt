@@ -1,12 +1,12 @@
 -- A content is one datagram or has one fault.
 use Rattle.std.proofs.Common.{Bool, true, false, if◌then◌else◌, ◌≡◌, ◌≢◌, ◌↔◌, ◌⊎◌, inl, inr, ℕ, ◌-◌, ◌<◌, ◌≤◌, List, length, take, drop, refl, sym, ap, subst, ◌∙◌, arith, None, Result, Ok, Err, IsOkAnd}
 use Rattle.std.proofs.lemmas.Bool.{false≢true}
-use Rattle.net_udp.specs.Frames.{pair, Reached, ReachesOver, Udp, HasUdp, IsSized, SpellsUdp, HoldsUdp, JudgesUdp, datagram}
+use Rattle.net_udp.specs.Frames.{pair, Reached, ReachesOver, Udp, HasUdp, IsHidden, IsSized, SpellsUdp, HoldsUdp, JudgesUdp, datagram, is_hidden_in}
 use Rattle.net_udp.specs.declared.frames.checksum.Checksum.{Checksum}
 use Rattle.net_udp.specs.declared.frames.packet.UdpDatagram.{UdpDatagram}
 use Rattle.net_udp.specs.declared.frames.fault.UdpFault.{UdpFault}
 use Rattle.net_udp.specs.declared.frames.fault.UdpFault.TheVariants.{Port}
-use Rattle.net_udp.specs.declared.frames.fault.UdpFault.TheVariants.{Protocol, Header, Length}
+use Rattle.net_udp.specs.declared.frames.fault.UdpFault.TheVariants.{Protocol, Extension, Header, Length}
 use Rattle.net_udp.proofs.FramesLemmas.Extensions.{reaches_one}
 
 pub has_one : (protocol : ℕ) (content a b : List ℕ) → HasUdp protocol content a → HasUdp protocol content b → a ≡ b
@@ -29,12 +29,14 @@ udp_one protocol content d e (a, has_a, _, _, _, _, is) (b, has_b, _, _, _, _, a
 -- how far the bytes of a content are in order: up to which fault
 abbrev Upto : UdpFault → List ℕ → Type 0
 Upto Protocol bytes = ⊥
+Upto Extension bytes = ⊥
 Upto Header bytes = length bytes < 8
 Upto Length bytes = (8 ≤ length bytes) × ((pair bytes 4 < 8) ⊎ (length bytes < pair bytes 4))
 Upto Port bytes = (8 ≤ length bytes) × IsSized bytes × ((pair bytes 0 ≡ 0) ⊎ (pair bytes 2 ≡ 0))
 
 upto : (protocol : ℕ) (content bytes : List ℕ) (f : UdpFault) → HasUdp protocol content bytes → HoldsUdp f protocol content → Upto f bytes
-upto protocol content bytes Protocol has none = none bytes has
+upto protocol content bytes Protocol has none = none.0 bytes has
+upto protocol content bytes Extension has hidden = false≢true (hidden (record { protocol = 17; fragment = None; content = bytes }) has)
 upto protocol content bytes Header has (b, has_b, short) = subst (Upto Header) (has_one protocol content b bytes has_b has) short
 upto protocol content bytes Length has (b, has_b, long, wrong) = subst (Upto Length) (has_one protocol content b bytes has_b has) (long, wrong)
 upto protocol content bytes Port has (b, has_b, long, sized, zero) = subst (Upto Port) (has_one protocol content b bytes has_b has) (long, sized, zero)
@@ -48,6 +50,7 @@ no_fault protocol content d f (bytes, has, long, sized, source, target, is) h = 
   where
     none : (g : UdpFault) → Upto g bytes → ⊥
     none Protocol k = k
+    none Extension k = k
     none Header k = omega (arith, k, long)
     none Length k = not_sized bytes k.1 sized
     none Port (_, _, inl zero) = source zero
@@ -56,7 +59,9 @@ no_fault protocol content d f (bytes, has, long, sized, source, target, is) h = 
 -- a fault says where the bytes of UDP are, unless there are none
 upto_one : (bytes : List ℕ) (f g : UdpFault) → Upto f bytes → Upto g bytes → f ≡ g
 upto_one bytes Protocol g p q = absurd p
+upto_one bytes Extension g p q = absurd p
 upto_one bytes f Protocol p q = absurd q
+upto_one bytes f Extension p q = absurd q
 upto_one bytes Header Header p q = refl
 upto_one bytes Header Length p q = absurd (omega (arith, p, q.0))
 upto_one bytes Header Port p q = absurd (omega (arith, p, q.0))
@@ -69,9 +74,15 @@ upto_one bytes Port Port p q = refl
 
 pub fault_one : (protocol : ℕ) (content : List ℕ) (f g : UdpFault) → HoldsUdp f protocol content → HoldsUdp g protocol content → f ≡ g
 fault_one protocol content Protocol Protocol p q = refl
-fault_one protocol content Protocol Header p q = absurd (p q.0 q.1)
-fault_one protocol content Protocol Length p q = absurd (p q.0 q.1)
-fault_one protocol content Protocol Port p q = absurd (p q.0 q.1)
+fault_one protocol content Protocol Extension p q = absurd (p.1 q)
+fault_one protocol content Protocol Header p q = absurd (p.0 q.0 q.1)
+fault_one protocol content Protocol Length p q = absurd (p.0 q.0 q.1)
+fault_one protocol content Protocol Port p q = absurd (p.0 q.0 q.1)
+fault_one protocol content Extension Protocol p q = absurd (q.1 p)
+fault_one protocol content Extension Extension p q = refl
+fault_one protocol content Extension Header p q = absurd (upto protocol content q.0 Extension q.1 p)
+fault_one protocol content Extension Length p q = absurd (upto protocol content q.0 Extension q.1 p)
+fault_one protocol content Extension Port p q = absurd (upto protocol content q.0 Extension q.1 p)
 fault_one protocol content Header g p q = upto_one p.0 Header g (upto protocol content p.0 Header p.1 p) (upto protocol content p.0 g p.1 q)
 fault_one protocol content Length g p q = upto_one p.0 Length g (upto protocol content p.0 Length p.1 p) (upto protocol content p.0 g p.1 q)
 fault_one protocol content Port g p q = upto_one p.0 Port g (upto protocol content p.0 Port p.1 p) (upto protocol content p.0 g p.1 q)
@@ -90,3 +101,10 @@ other_protocol protocol content r reaches other bytes has = other (ap (λ (x : R
 
 pub is_part_only : (protocol : ℕ) (content : List ℕ) (r : Reached) → ReachesOver protocol content r → r.fragment ≢ None → (bytes : List ℕ) → HasUdp protocol content bytes → ⊥
 is_part_only protocol content r reaches part bytes has = part (ap (λ (x : Reached). x.fragment) (reaches_one protocol content _ _ reaches has))
+
+-- what is reached tells whether it is hidden
+pub hidden : (protocol : ℕ) (content : List ℕ) (r : Reached) → ReachesOver protocol content r → is_hidden_in r ≡ true → IsHidden protocol content
+hidden protocol content r reaches is s again = ap is_hidden_in (reaches_one protocol content s r again reaches) ∙ is
+
+pub not_hidden : (protocol : ℕ) (content : List ℕ) (r : Reached) → ReachesOver protocol content r → is_hidden_in r ≡ false → IsHidden protocol content → ⊥
+not_hidden protocol content r reaches plain all = false≢true (sym plain ∙ all r reaches)

@@ -1,8 +1,8 @@
 -- The headers of IPv6 that are skipped, one after another.
-use Rattle.std.proofs.Common.{◌≡◌, ◌≢◌, ◌↔◌, inl, inr, ℕ, zero, suc, ◌<◌, ◌≤◌, ◌==◌, ◌&&◌, ◌||◌, Bool, true, false, List, length, drop, refl, sym, ap, ◌∙◌, subst, arith, Some}
+use Rattle.std.proofs.Common.{◌≡◌, ◌≢◌, ◌↔◌, inl, inr, ℕ, zero, suc, ◌<◌, ◌≤◌, ◌==◌, ◌&&◌, ◌||◌, nat_lt, Bool, true, false, List, length, length-drop, drop, refl, sym, ap, ◌∙◌, subst, arith, Some}
 use Rattle.std.proofs.lemmas.Bool.{false≢true, or_cases}
 use Rattle.std.proofs.lemmas.Bool.Decides.{Decides-eqb}
-use Rattle.net_udp.specs.Frames.{at, Reached, is_extension, is_atomic, fragment_header, fragment_of, is_of_units, is_skippable, skipped_size, IsSkipped, Stops, StopsAfter, ReachesOver}
+use Rattle.net_udp.specs.Frames.{at, Reached, is_extension, is_atomic, fragment_header, fragment_of, is_read_part, is_skippable, skipped_size, IsSkipped, Stops, StopsAfter, ReachesOver}
 use Rattle.net_udp.specs.declared.frames.packet.Fragment.{Fragment}
 
 -- the number of a fragment header is none of the others
@@ -18,9 +18,12 @@ named : (next n : ℕ) → is_extension n ≡ true → (next == n) ≡ true → 
 named next n known e = ap is_extension ((Decides-eqb next n).0 e) ∙ known
 
 is_named : (next : ℕ) (bytes : List ℕ) → is_skippable next bytes ≡ true → is_extension next ≡ true
-is_named next bytes e = elim (or_cases (next == 0 || next == 60) ((next == 43) && (at bytes 3 == 0)) e) [
+is_named next bytes e = elim (or_cases (next == 0 || next == 60) (((next == 51) && nat_lt 0 (at bytes 1)) || ((next == 43) && (at bytes 3 == 0))) e) [
   | inl options ↦ elim (or_cases (next == 0) (next == 60) options) [ inl hops ↦ named next 0 refl hops | inr target ↦ named next 60 refl target ]
-  | inr route ↦ named next 43 refl (both_hold (next == 43) (at bytes 3 == 0) route)
+  | inr other ↦ elim (or_cases ((next == 51) && nat_lt 0 (at bytes 1)) ((next == 43) && (at bytes 3 == 0)) other) [
+    | inl authenticates ↦ named next 51 refl (both_hold (next == 51) (nat_lt 0 (at bytes 1)) authenticates)
+    | inr routes ↦ named next 43 refl (both_hold (next == 43) (at bytes 3 == 0) routes)
+  ]
 ]
 
 skipped_does_not_stop : (next : ℕ) (bytes : List ℕ) (r : Reached) → IsSkipped next bytes → Stops next bytes r → ⊥
@@ -57,17 +60,17 @@ pub no_stop_in_fragment : (next : ℕ) (bytes : List ℕ) (r : Reached) → next
 no_stop_in_fragment next bytes r is_fragment short (inl (plain, other, is)) = other is_fragment
 no_stop_in_fragment next bytes r is_fragment short (inr (is_part, room, part, units, is)) = omega (arith, room)
 
--- nor in a fragment of no whole units
-pub no_stop_of_no_units : (next : ℕ) (bytes : List ℕ) (r : Reached) → next ≡ fragment_header → is_of_units bytes ≡ false → Stops next bytes r → ⊥
-no_stop_of_no_units next bytes r is_fragment odd (inl (plain, other, is)) = other is_fragment
-no_stop_of_no_units next bytes r is_fragment odd (inr (is_part, room, part, units, is)) = false≢true (sym odd ∙ units)
+-- nor in a fragment that is not read
+pub no_stop_in_part : (next : ℕ) (bytes : List ℕ) (r : Reached) → next ≡ fragment_header → is_read_part bytes ≡ false → Stops next bytes r → ⊥
+no_stop_in_part next bytes r is_fragment odd (inl (plain, other, is)) = other is_fragment
+no_stop_in_part next bytes r is_fragment odd (inr (is_part, room, part, units, is)) = false≢true (sym odd ∙ units)
 
-pub part_of_no_units : (bytes : List ℕ) (r : Reached) → is_atomic bytes ≡ false → is_of_units bytes ≡ false → ReachesOver fragment_header bytes r → ⊥
-part_of_no_units bytes r part odd =
-    cut_header fragment_header bytes r (λ skipped. elim skipped.2 [ inl skip ↦ false≢true skip | inr whole ↦ false≢true (sym part ∙ whole.1) ]) (no_stop_of_no_units fragment_header bytes r refl odd)
+pub unread_part : (bytes : List ℕ) (r : Reached) → is_atomic bytes ≡ false → is_read_part bytes ≡ false → ReachesOver fragment_header bytes r → ⊥
+unread_part bytes r part odd =
+    cut_header fragment_header bytes r (λ skipped. elim skipped.2 [ inl skip ↦ false≢true skip | inr whole ↦ false≢true (sym part ∙ whole.1) ]) (no_stop_in_part fragment_header bytes r refl odd)
 
 -- a fragment header that is not skipped is one of a part
-pub stops_at_part : (next : ℕ) (bytes : List ℕ) (part : Fragment) (content : List ℕ) → next ≡ fragment_header → 8 ≤ length bytes → (IsSkipped next bytes → ⊥) → is_of_units bytes ≡ true → part ≡ fragment_of bytes → content ≡ drop 8 bytes
+pub stops_at_part : (next : ℕ) (bytes : List ℕ) (part : Fragment) (content : List ℕ) → next ≡ fragment_header → 8 ≤ length bytes → (IsSkipped next bytes → ⊥) → is_read_part bytes ≡ true → part ≡ fragment_of bytes → content ≡ drop 8 bytes
     → Stops next bytes (record { protocol = at bytes 0; fragment = Some part; content = content })
 stops_at_part next bytes part content is_fragment long not_skipped units part_is content_is =
     inr (is_fragment, long, atom (is_atomic bytes) refl, units, λ i. record { protocol = at bytes 0; fragment = Some (part_is i); content = content_is i })
@@ -100,3 +103,11 @@ pub next_header : (next : ℕ) (bytes : List ℕ) (size : ℕ) (rest : List ℕ)
 next_header next bytes size rest skipped size_is rest_is r =
     let all : rest ≡ drop (skipped_size next bytes) bytes = rest_is ∙ ap (λ n. drop n bytes) size_is in
     subst (λ (x : List ℕ). ReachesOver next bytes r ↔ ReachesOver (at bytes 0) x r) (sym all) (step next bytes r skipped)
+
+-- what is reached is no longer
+pub within : (headers next : ℕ) (bytes : List ℕ) (r : Reached) → StopsAfter headers next bytes r → length r.content ≤ length bytes
+within zero next bytes r (inl (_, _, is)) = omega (arith, ap (λ (x : Reached). length x.content) is)
+within zero next bytes r (inr (_, _, _, _, is)) = omega (arith, ap (λ (x : Reached). length x.content) is, length-drop 8 bytes)
+within (suc headers) next bytes r p =
+    let shorter = within headers (at bytes 0) (drop (skipped_size next bytes) bytes) r p.1 in
+    omega (arith, shorter, length-drop (skipped_size next bytes) bytes)

@@ -1,7 +1,7 @@
 -- The faults stand in one order, and a packet has none.
 use Rattle.std.proofs.Common.{◌≡◌, ◌↔◌, inl, inr, ℕ, ◌<◌, ◌≤◌, true, false, List, length, refl, sym, ap, subst, ◌∙◌, arith, None, Some, Result, Ok, Err, IsOkAnd}
 use Rattle.std.proofs.lemmas.Bool.{cases_lt, false≢true}
-use Rattle.net_udp.specs.Frames.{at, Linked, SpellsLink, link_named, Reached, Packet, HasHeader, size_of, total_of, Reaches, held_of, may_be_udp, packet_of, SpellsIp, IsLinked, SpellsFrame, Holds, HoldsIp, place, FirstFault, FirstIpFault, IsNotWhole, Judges, JudgesIp, shown}
+use Rattle.net_udp.specs.Frames.{at, Linked, IsCarried, link_named, Reached, Packet, HasHeader, size_of, total_of, Reaches, held_of, may_be_udp, packet_of, SpellsIp, IsLinked, SpellsFrame, Holds, HoldsIp, place, FirstFault, FirstIpFault, IsNotWhole, Judges, JudgesIp, shown}
 use Rattle.net_udp.specs.declared.frames.link.LinkType.{LinkType}
 use Rattle.net_udp.specs.declared.frames.link.Network.TheVariants.{Ipv4, Ipv6}
 use Rattle.net_udp.specs.declared.frames.packet.Direction.{Direction}
@@ -10,8 +10,8 @@ use Rattle.net_udp.specs.declared.frames.fault.FrameFault.{FrameFault}
 use Rattle.net_udp.specs.declared.frames.fault.FrameFault.TheVariants.{Cut}
 use Rattle.net_udp.specs.declared.frames.link.Network.{Network}
 use Rattle.net_udp.specs.declared.frames.fault.FrameFault.TheVariants.{Link, Frame, Network as NotIp, Header, Protocol, Length, Extension}
-use Rattle.net_udp.proofs.FramesLemmas.Links.{linked_one}
-use Rattle.net_udp.proofs.FramesLemmas.Extensions.{reaches_one}
+use Rattle.net_udp.proofs.FramesLemmas.Tunnels.{linked_one}
+use Rattle.net_udp.proofs.FramesLemmas.Uppers.{upper_one}
 
 place_injective : (f g : FrameFault) → place f ≡ place g → f ≡ g
 place_injective Link Link e = refl
@@ -40,11 +40,6 @@ first_one number frame f g p q = elim (cases_lt (place f) (place g)) [
     | inr under ↦ place_injective f g (omega arith)
   ]
 ]
-
--- one thing is reached in a packet
-pub upper_one : (network : Network) (bytes : List ℕ) (r s : Reached) → Reaches network bytes r → Reaches network bytes s → r ≡ s
-upper_one Ipv4 bytes r s p q = p ∙ sym q
-upper_one Ipv6 bytes r s p q = reaches_one (at bytes 6) (held_of Ipv6 bytes) r s p q
 
 ip_one : (direction : Direction) (network : Network) (bytes : List ℕ) (p q : Packet) → SpellsIp direction network bytes p → SpellsIp direction network bytes q → p ≡ q
 ip_one direction network bytes p q s t =
@@ -80,7 +75,7 @@ module _ (number : ℕ) (frame : List ℕ) (c : Linked) (network : Network) (car
   lower Link h = let no : ⊥ = cc (h, carried.1) in no
   lower Frame (link, named, none) =
       let same : link ≡ carried.0 = cc (named, carried.1) in
-      none c (subst (λ (l : LinkType). SpellsLink l frame c) (sym same) carried.2)
+      none c (subst (λ (l : LinkType). IsCarried l frame c) (sym same) carried.2)
   lower NotIp (d, again, none) =
       let one : d ≡ c = linked_one number frame d c again carried in
       let wrong : Some network ≡ None = sym is_ip ∙ sym (ap (λ (x : Linked). x.network) one) ∙ none in
@@ -167,7 +162,7 @@ extension_first network bytes header long whole none = ((header, none), earlier)
 
 -- ---- the faults of a frame that carries no packet
 
-pub frame_first : (number : ℕ) (frame : List ℕ) (link : LinkType) → link_named number ≡ Some link → ((c : Linked) → SpellsLink link frame c → ⊥) → FirstFault number frame Frame
+pub frame_first : (number : ℕ) (frame : List ℕ) (link : LinkType) → link_named number ≡ Some link → ((c : Linked) → IsCarried link frame c → ⊥) → FirstFault number frame Frame
 frame_first number frame link named none = ((link, named, none), earlier)
   where
     earlier : (f : FrameFault) → place f < 2 → Holds f number frame → ⊥
@@ -181,7 +176,7 @@ network_first number frame c carried no_ip = ((c, carried, no_ip), earlier)
     earlier Link below h = let no : ⊥ = cc (h, carried.1) in no
     earlier Frame below (link, named, none) =
         let same : link ≡ carried.0 = cc (named, carried.1) in
-        none c (subst (λ (l : LinkType). SpellsLink l frame c) (sym same) carried.2)
+        none c (subst (λ (l : LinkType). IsCarried l frame c) (sym same) carried.2)
     earlier _ below h = omega arith
 
 pub protocol_first : (network : Network) (bytes : List ℕ) (upper : Reached) → HasHeader network bytes → Reaches network bytes upper → may_be_udp network upper ≡ false → FirstIpFault network bytes Protocol

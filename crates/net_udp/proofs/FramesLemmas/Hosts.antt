@@ -1,9 +1,10 @@
 -- A frame that tells hosts names two.
 use Rattle.std.proofs.Common.{◌≡◌, ℕ, List, ◌∙◌, ap, sym, subst, Option, Some, None, MatchOption}
 use Rattle.std.specs.declared.net.ip_addr.IpAddr.{IpAddr}
-use Rattle.net_udp.specs.Frames.{Linked, TellsHosts, source_of, target_of, IsBetween, IsLinked}
+use Rattle.net_udp.specs.Frames.{Linked, TellsHosts, source_of, target_of, link_named, IsBetween, IsCarried, IsLinked}
+use Rattle.net_udp.specs.declared.frames.link.LinkType.{LinkType}
 use Rattle.net_udp.specs.declared.frames.link.Network.{Network}
-use Rattle.net_udp.proofs.FramesLemmas.Links.{linked_one}
+use Rattle.net_udp.proofs.FramesLemmas.Tunnels.{linked_one}
 
 is_some : (n m : Network) → Some n ≡ Some m → n ≡ m
 is_some n m e = cc
@@ -34,3 +35,9 @@ hosts_found number frame c network linked is (Some hosts) (has, are) = record {
 pub no_network : (number : ℕ) (frame : List ℕ) (c : Linked) → IsLinked number frame c → c.network ≡ None → (source target : IpAddr) → IsBetween number frame source target → ⊥
 no_network number frame c linked is source target b =
     let bad : Some b.network ≡ None = sym b.of_ip ∙ ap (λ (l : Linked). l.network) (linked_one number frame b.linked c b.carries linked) ∙ is in cc
+
+-- nor does what carries nothing
+pub none_carried : (number : ℕ) (frame : List ℕ) (link : LinkType) → link_named number ≡ Some link → ((c : Linked) → IsCarried link frame c → ⊥) → (source target : IpAddr) → IsBetween number frame source target → ⊥
+none_carried number frame link named none source target b =
+    let same : b.carries.0 ≡ link = cc (b.carries.1, named) in
+    none b.linked (subst (λ (l : LinkType). IsCarried l frame b.linked) same b.carries.2)

@@ -1,6 +1,6 @@
 -- A frame of a link carries one thing.
 use Rattle.std.proofs.Common.{◌≡◌, ℕ, ◌≤◌, List, length, drop, sym, ap, subst, ◌∙◌, Option, Some, None, MatchOption}
-use Rattle.net_udp.specs.Frames.{pair, least, Linked, CarriesTyped, Carries, SpellsLink, direction_said, type_network, linked, IsLinked}
+use Rattle.net_udp.specs.Frames.{pair, least, Linked, CarriesTyped, Carries, SpellsLink, direction_said, type_network, linked}
 use Rattle.net_udp.specs.declared.frames.link.LinkType.{LinkType}
 use Rattle.net_udp.specs.declared.frames.link.LinkType.TheVariants.{Ethernet, Cooked, CookedTwo}
 use Rattle.net_udp.specs.declared.frames.link.LinkContent.{LinkContent}
@@ -26,7 +26,7 @@ typed link frame kind after direction r down up said long =
     answer_of r _ _ _ _ (λ none c s. none c (down c s.2)) (λ found s. (long, s.1 ∙ said, up (linked found) s.0))
 
 -- the same of what was read
-as_read : (kind type : ℕ) (after bytes : List ℕ) (direction : Direction) (r : Option LinkContent) → kind ≡ type → after ≡ bytes → AnswersTyped kind after direction r → AnswersTyped type bytes direction r
+pub as_read : (kind type : ℕ) (after bytes : List ℕ) (direction : Direction) (r : Option LinkContent) → kind ≡ type → after ≡ bytes → AnswersTyped kind after direction r → AnswersTyped type bytes direction r
 as_read kind type after bytes direction r kind_is after_is answers =
     subst (λ (n : ℕ). AnswersTyped n bytes direction r) kind_is (subst (λ (x : List ℕ). AnswersTyped kind x direction r) after_is answers)
 
@@ -50,10 +50,10 @@ cooked_two link frame kind after direction r is kind_is after_is said long answe
 
 -- ---- one thing is carried
 
-abbrev Same : Linked → Linked → Type 0
+abbrev pub Same : Linked → Linked → Type 0
 Same c d = (c.network ≡ d.network) × (c.content ≡ d.content)
 
-typed_one : (type : ℕ) (after : List ℕ) (c d : Linked) → CarriesTyped type after c → CarriesTyped type after d → Same c d
+pub typed_one : (type : ℕ) (after : List ℕ) (c d : Linked) → CarriesTyped type after c → CarriesTyped type after d → Same c d
 typed_one type after c d (last, leads, network) (final, ends, other) =
     let same = leads_one type after last final c.content d.content leads ends in
     (network ∙ ap type_network same.0 ∙ sym other, same.1)
@@ -64,13 +64,8 @@ carries_one Cooked frame c d p q = typed_one _ _ c d p q
 carries_one CookedTwo frame c d p q = typed_one _ _ c d p q
 carries_one _ frame c d p q = (p.0 ∙ sym q.0, p.1 ∙ sym q.1)
 
-link_one : (link : LinkType) (frame : List ℕ) (c d : Linked) → SpellsLink link frame c → SpellsLink link frame d → c ≡ d
+pub link_one : (link : LinkType) (frame : List ℕ) (c d : Linked) → SpellsLink link frame c → SpellsLink link frame d → c ≡ d
 link_one link frame c d p q =
     let said : c.direction ≡ d.direction = p.1 ∙ sym q.1 in
     let same = carries_one link frame c d p.2 q.2 in
     λ i. record { direction = said i; network = same.0 i; content = same.1 i }
-
-pub linked_one : (number : ℕ) (frame : List ℕ) (c d : Linked) → IsLinked number frame c → IsLinked number frame d → c ≡ d
-linked_one number frame c d (link, named, p) (other, called, q) =
-    let same : link ≡ other = cc in
-    link_one other frame c d (subst (λ (l : LinkType). SpellsLink l frame c) same p) q

@@ -25,7 +25,8 @@ use Rattle.net_udp.specs.declared.frames.fault.UdpFault.TheVariants.{Protocol as
 use Rattle.net_udp.proofs.FramesLemmas.Datagrams.{has_one}
 use Rattle.net_udp.proofs.FramesLemmas.FaultOrder.{packet_one}
 use Rattle.net_pcap.specs.{FrameParts}
-use Rattle.net_udp.proofs.FramesLemmas.Uppers.{spells_ip}
+use Rattle.net_udp.proofs.FramesLemmas.Datagrams.{not_hidden as not_hidden_udp}
+use Rattle.net_udp.proofs.FramesLemmas.Tunnels.{spells, spells_ipv4}
 use Rattle.net_udp.specs.Recording.{LetsGoOld, TakesPart, arrival_of, content_of, IsDatagram, IsDiscarded, IsFateOf, IsHistory, IsSentBy, checksum_told, cooked_step, ethernet_step, first_bytes, first_of, first_part, first_set, first_step, icmp_content, icmp_frame, last_bytes, last_named, last_of_icmp, last_part, last_step, left_bytes, left_packet, part_of_icmp, raw_frame, raw_step, recorded_at, recorded_first, recorded_raw, sent_with, spoilt_acknowledgement, spoilt_bytes, spoilt_packet, worked_content, worked_key, worked_time}
 use Rattle.net_udp.specs.declared.recording.fate.Fate.TheVariants.{Discarded, Left}
 use Rattle.net_udp.specs.declared.recording.fate.LeftOut.TheVariants.{Frame}
@@ -39,40 +40,16 @@ use Rattle.net_udp.proofs.RecordingLemmas.Keys.{same_back, same_itself}
 -- ---- the frames
 
 pub first_spells : SpellsFrame 228 first_bytes first_part
-first_spells = (
-  record { direction = Unknown; network = Some Ipv4; content = first_bytes },
-  Ipv4,
-  (RawIpv4, refl, (omega arith, refl, (refl, refl))),
-  refl,
-  spells_ip Unknown Ipv4 first_bytes _ (omega arith, refl, omega arith, omega arith) (omega arith, omega arith) refl refl,
-)
+first_spells = spells_ipv4 228 RawIpv4 first_bytes Unknown first_bytes refl (omega arith, refl, (refl, refl)) (omega arith, refl, omega arith, omega arith) (omega arith, omega arith) refl
 
 pub last_spells : SpellsFrame 228 last_bytes last_part
-last_spells = (
-  record { direction = Unknown; network = Some Ipv4; content = last_bytes },
-  Ipv4,
-  (RawIpv4, refl, (omega arith, refl, (refl, refl))),
-  refl,
-  spells_ip Unknown Ipv4 last_bytes _ (omega arith, refl, omega arith, omega arith) (omega arith, omega arith) refl refl,
-)
+last_spells = spells_ipv4 228 RawIpv4 last_bytes Unknown last_bytes refl (omega arith, refl, (refl, refl)) (omega arith, refl, omega arith, omega arith) (omega arith, omega arith) refl
 
 ethernet_spells : SpellsFrame 1 (two_tags ++ ipv4_bytes) (ipv4_packet Unknown ipv4_bytes)
-ethernet_spells = (
-  record { direction = Unknown; network = Some Ipv4; content = ipv4_bytes },
-  Ipv4,
-  (Ethernet, refl, (omega arith, refl, (2048, (2, (refl, omega arith, (refl, omega arith, (refl, refl, refl)))), refl))),
-  refl,
-  spells_ip Unknown Ipv4 ipv4_bytes _ (omega arith, refl, omega arith, omega arith) (omega arith, omega arith) refl refl,
-)
+ethernet_spells = spells_ipv4 1 Ethernet (two_tags ++ ipv4_bytes) Unknown ipv4_bytes refl (omega arith, refl, (2048, (2, (33024, (refl, omega arith, refl), (2048, (refl, omega arith, refl), (refl, refl, refl)))), refl)) (omega arith, refl, omega arith, omega arith) (omega arith, omega arith) refl
 
 cooked_spells : SpellsFrame 113 (cooked_head ++ ipv4_bytes) (ipv4_packet Out ipv4_bytes)
-cooked_spells = (
-  record { direction = Out; network = Some Ipv4; content = ipv4_bytes },
-  Ipv4,
-  (Cooked, refl, (omega arith, refl, (2048, (0, (refl, refl, refl)), refl))),
-  refl,
-  spells_ip Out Ipv4 ipv4_bytes _ (omega arith, refl, omega arith, omega arith) (omega arith, omega arith) refl refl,
-)
+cooked_spells = spells_ipv4 113 Cooked (cooked_head ++ ipv4_bytes) Out ipv4_bytes refl (omega arith, refl, (2048, (0, (refl, refl, refl)), refl)) (omega arith, refl, omega arith, omega arith) (omega arith, omega arith) refl
 
 says_acknowledgement : SpellsUdp 17 udp_bytes acknowledgement
 says_acknowledgement = (udp_bytes, (0, inl (refl, (λ e. omega arith), refl)), omega arith, (omega arith, omega arith), (λ e. omega arith), (λ e. omega arith), refl)
@@ -336,14 +313,9 @@ datagram_fate content frames d e is = (last_part, acknowledgement, last_spells, 
 -- ---- of a packet of IPv6 the first fragment names the protocol
 
 icmp_spells : SpellsFrame 229 last_of_icmp part_of_icmp
-icmp_spells = (
-  record { direction = Unknown; network = Some Ipv6; content = last_of_icmp },
-  Ipv6,
-  (RawIpv6, refl, (omega arith, refl, (refl, refl))),
-  refl,
-  spells_ip Unknown Ipv6 last_of_icmp (record { protocol = 58; fragment = Some last_named; content = part_of_icmp.content }) (omega arith, refl) (omega arith, omega arith)
-      (0, inr (refl, omega arith, refl, refl, refl)) refl,
-)
+icmp_spells =
+    spells 229 RawIpv6 last_of_icmp Unknown Ipv6 last_of_icmp (record { protocol = 58; fragment = Some last_named; content = part_of_icmp.content }) refl (omega arith, refl, (refl, refl)) (omega arith, refl) (omega arith, omega arith)
+    (0, inr (refl, omega arith, refl, refl, refl)) refl refl
 
 pub udp_fate : (content : Made) (frames : Vec ℕ Global) (d : Given) → put_together content ≡ worked_content → IsDatagram icmp_frame part_of_icmp acknowledgement d → IsFateOf icmp_frame New (Some (Whole content frames)) false (Datagram d)
 udp_fate content frames d e is = (part_of_icmp, acknowledgement, icmp_spells, subst (λ (c : Content). SpellsUdp c.protocol c.bytes acknowledgement) (sym e) says_acknowledgement, is)
@@ -354,36 +326,18 @@ no_udp bytes (zero, inr h) = absurd (omega (arith, h.0))
 no_udp bytes (suc n, h) = elim h.0.2 [ inl e ↦ not_both false e refl | inr e ↦ absurd (omega (arith, e.0)) ]
 
 pub icmp_fate : (content : Made) (frames : Vec ℕ Global) → put_together content ≡ icmp_content → IsFateOf icmp_frame New (Some (Whole content frames)) false (Left (Frame Protocol))
-icmp_fate content frames e = inr (refl, (part_of_icmp, icmp_spells, subst (λ (c : Content). HoldsUdp NotUdp c.protocol c.bytes) (sym e) no_udp))
+icmp_fate content frames e = inr (refl, (part_of_icmp, icmp_spells, subst (λ (c : Content). HoldsUdp NotUdp c.protocol c.bytes) (sym e) (no_udp, not_hidden_udp 58 udp_bytes (record { protocol = 58; fragment = None; content = udp_bytes }) (0, inl (refl, (λ e. omega arith), refl)) refl)))
 
 -- ---- discarded
 
 raw_spells : SpellsFrame 228 ipv4_bytes (ipv4_packet Unknown ipv4_bytes)
-raw_spells = (
-  record { direction = Unknown; network = Some Ipv4; content = ipv4_bytes },
-  Ipv4,
-  (RawIpv4, refl, (omega arith, refl, (refl, refl))),
-  refl,
-  spells_ip Unknown Ipv4 ipv4_bytes _ (omega arith, refl, omega arith, omega arith) (omega arith, omega arith) refl refl,
-)
+raw_spells = spells_ipv4 228 RawIpv4 ipv4_bytes Unknown ipv4_bytes refl (omega arith, refl, (refl, refl)) (omega arith, refl, omega arith, omega arith) (omega arith, omega arith) refl
 
 spoilt_spells : SpellsFrame 228 spoilt_bytes spoilt_packet
-spoilt_spells = (
-  record { direction = Unknown; network = Some Ipv4; content = spoilt_bytes },
-  Ipv4,
-  (RawIpv4, refl, (omega arith, refl, (refl, refl))),
-  refl,
-  spells_ip Unknown Ipv4 spoilt_bytes _ (omega arith, refl, omega arith, omega arith) (omega arith, omega arith) refl refl,
-)
+spoilt_spells = spells_ipv4 228 RawIpv4 spoilt_bytes Unknown spoilt_bytes refl (omega arith, refl, (refl, refl)) (omega arith, refl, omega arith, omega arith) (omega arith, omega arith) refl
 
 left_spells : SpellsFrame 228 left_bytes left_packet
-left_spells = (
-  record { direction = Unknown; network = Some Ipv4; content = left_bytes },
-  Ipv4,
-  (RawIpv4, refl, (omega arith, refl, (refl, refl))),
-  refl,
-  spells_ip Unknown Ipv4 left_bytes _ (omega arith, refl, omega arith, omega arith) (omega arith, omega arith) refl refl,
-)
+left_spells = spells_ipv4 228 RawIpv4 left_bytes Unknown left_bytes refl (omega arith, refl, (refl, refl)) (omega arith, refl, omega arith, omega arith) (omega arith, omega arith) refl
 
 says_spoilt : SpellsUdp 17 spoilt_packet.content spoilt_acknowledgement
 says_spoilt = (spoilt_packet.content, (0, inl (refl, (λ e. omega arith), refl)), omega arith, (omega arith, omega arith), (λ e. omega arith), (λ e. omega arith), refl)

@@ -14,28 +14,18 @@ use Rattle.net_udp.proofs.FragmentsLemmas.Holding.{Added, not_both, stands_more}
 use Rattle.net_udp.proofs.FragmentsLemmas.Puts.{came_apart, empty_set, nothing_agrees}
 use Rattle.net_udp.proofs.FragmentsLemmas.Rooms.{no_set, same_set}
 use Rattle.net_udp.proofs.FragmentsLemmas.Sets.{now_none}
-use Rattle.net_udp.proofs.FramesLemmas.Uppers.{spells_ip}
+use Rattle.net_udp.proofs.FramesLemmas.Tunnels.{spells}
 use Rattle.net_udp.proofs.RecordingLemmas.Examples.{at_key, at_other, laid, none_before, not_full_waits}
 
 begun_spells : SpellsFrame 229 begun_bytes begun_part
-begun_spells = (
-  record { direction = Unknown; network = Some Ipv6; content = begun_bytes },
-  Ipv6,
-  (RawIpv6, refl, (omega arith, refl, (refl, refl))),
-  refl,
-  spells_ip Unknown Ipv6 begun_bytes (record { protocol = 17; fragment = Some begun_named; content = begun_part.content }) (omega arith, refl) (omega arith, omega arith)
-      (0, inr (refl, omega arith, refl, refl, refl)) refl,
-)
+begun_spells =
+    spells 229 RawIpv6 begun_bytes Unknown Ipv6 begun_bytes (record { protocol = 17; fragment = Some begun_named; content = begun_part.content }) refl (omega arith, refl, (refl, refl)) (omega arith, refl) (omega arith, omega arith)
+    (0, inr (refl, omega arith, refl, refl, refl)) refl refl
 
 across_spells : SpellsFrame 229 across_bytes across_part
-across_spells = (
-  record { direction = Unknown; network = Some Ipv6; content = across_bytes },
-  Ipv6,
-  (RawIpv6, refl, (omega arith, refl, (refl, refl))),
-  refl,
-  spells_ip Unknown Ipv6 across_bytes (record { protocol = 17; fragment = Some last_named; content = across_part.content }) (omega arith, refl) (omega arith, omega arith)
-      (0, inr (refl, omega arith, refl, refl, refl)) refl,
-)
+across_spells =
+    spells 229 RawIpv6 across_bytes Unknown Ipv6 across_bytes (record { protocol = 17; fragment = Some last_named; content = across_part.content }) refl (omega arith, refl, (refl, refl)) (omega arith, refl) (omega arith, omega arith)
+    (0, inr (refl, omega arith, refl, refl, refl)) refl refl
 
 abbrev begun : Arrival
 begun = arrival_of (frame_of_ipv6 begun_bytes) 1 begun_part begun_named

@@ -1,5 +1,6 @@
--- The headers of IPv6 that stand before what a packet carries (RFC 8200, section 4), and what is reached over them.
-use Rattle.std.specs.Prelude.{◌≡◌, ◌≢◌, ◌⊎◌, ◌+◌, ◌*◌, ◌/◌, ◌%◌, ◌≤◌, ◌==◌, ◌||◌, ◌&&◌, ℕ, zero, suc, Bool, true, false, List, length, drop, Option, Some, None, if◌then◌else◌}
+-- The headers that stand before what a packet carries, of IPv6 (RFC 8200, section 4) and of IPsec, and what is reached over them.
+use Rattle.std.specs.Prelude.{◌≡◌, ◌≢◌, ◌⊎◌, ◌+◌, ◌*◌, ◌/◌, ◌%◌, ◌≤◌, ◌==◌, ◌||◌, ◌&&◌, nat_lt, not, ℕ, zero, suc, Bool, true, false, List, length, drop, Option, Some, None, if◌then◌else◌}
+use Rattle.std.specs.Option.{is_some}
 use Rattle.net_udp.specs.Frames.Number.{at, pair, four}
 use Rattle.net_udp.specs.declared.frames.packet.Fragment.{Fragment}
 
@@ -9,15 +10,29 @@ pub record Reached : Type 0 where
   pub fragment : Option Fragment
   pub content : List ℕ
 
--- hop-by-hop options, routing, destination options, authentication (RFC 4302), mobility (RFC 6275), host identity (RFC 7401)
--- and shim6 (RFC 5533), in any order and number
-abbrev pub is_extension : ℕ → Bool
-is_extension next = next == 0 || next == 43 || next == 60 || next == 51 || next == 135 || next == 139 || next == 140
+-- IPv4 in IP (RFC 2003), IPv6 in IP (RFC 4213; RFC 2473) and GRE (RFC 2784)
+abbrev pub is_tunnel : ℕ → Bool
+is_tunnel n = n == 4 || n == 41 || n == 47
 
--- Of these, options and a routing header that leads to no other host are skipped: its fourth byte counts the segments that are
--- left, and where some are, the packet's target is a host on its way (RFC 8200, section 4.4).
+-- What they carry is not read: ESP, which enciphers it (RFC 4303), minimal encapsulation (RFC 2004), Ethernet in IP (RFC 3378; RFC
+-- 8986), IPComp, which compresses it (RFC 3173), L2TP (RFC 3931) and MPLS in IP (RFC 4023).
+abbrev pub is_hiding : ℕ → Bool
+is_hiding n = n == 50 || n == 55 || n == 97 || n == 108 || n == 115 || n == 137 || n == 143
+
+-- what may hold another packet; behind authentication one may stand too (RFC 4302, section 3.1.2)
+abbrev pub is_wrapping : ℕ → Bool
+is_wrapping n = is_tunnel n || is_hiding n || n == 51
+
+-- hop-by-hop options, routing, destination options, authentication (RFC 4302), mobility (RFC 6275), host identity (RFC 7401)
+-- and shim6 (RFC 5533), in any order and number; and what hides the rest
+abbrev pub is_extension : ℕ → Bool
+is_extension next = (next == 0 || next == 43 || next == 60 || next == 51 || next == 135 || next == 139 || next == 140) || is_hiding next
+
+-- Of these, options, authentication and a routing header that leads to no other host are skipped: its fourth byte counts the
+-- segments that are left, and where some are, the packet's target is a host on its way (RFC 8200, section 4.4). An
+-- authentication header has 12 bytes at least, so that its second byte is not 0 (RFC 4302, section 2.2).
 abbrev pub is_skippable : ℕ → List ℕ → Bool
-is_skippable next bytes = (next == 0 || next == 60) || ((next == 43) && (at bytes 3 == 0))
+is_skippable next bytes = (next == 0 || next == 60) || (((next == 51) && nat_lt 0 (at bytes 1)) || ((next == 43) && (at bytes 3 == 0)))
 
 -- the number of a fragment header
 abbrev pub fragment_header : ℕ
@@ -36,19 +51,32 @@ is_atomic header = (pair header 2 / 8 == 0) && (pair header 2 % 2 == 0)
 abbrev pub is_of_units : List ℕ → Bool
 is_of_units bytes = (pair bytes 2 % 2 == 0) || (length bytes % 8 == 0)
 
--- the length of a header: the second byte counts units of 8 bytes after the first 8; a fragment header has 8
+-- a fragment that is read: not one of what may hold another packet, whose hosts nobody knows before it is whole
+abbrev pub is_read_part : List ℕ → Bool
+is_read_part bytes = is_of_units bytes && not (is_wrapping (at bytes 0))
+
+-- The length of a header: the second byte counts units of 8 bytes after the first 8; in authentication units of 4 after the first
+-- 8 (RFC 4302, section 2.2). A fragment header has 8.
 abbrev pub skipped_size : ℕ → List ℕ → ℕ
-skipped_size next bytes = if next == 44 then 8 else 8 * (at bytes 1 + 1)
+skipped_size next bytes = if next == 44 then 8 else (if next == 51 then 4 * (at bytes 1 + 2) else 8 * (at bytes 1 + 1))
 
 -- the bytes begin with a header that is skipped
 abbrev pub IsSkipped : ℕ → List ℕ → Type 0
 IsSkipped next bytes = (8 ≤ length bytes) × (skipped_size next bytes ≤ length bytes) × ((is_skippable next bytes ≡ true) ⊎ ((next ≡ fragment_header) × (is_atomic bytes ≡ true)))
 
--- the bytes begin with no header that is skipped, nor with one that is cut, not read, or of no whole units
+-- the bytes begin with no header that is skipped, nor with one that is cut, not read, or of a fragment that is not
 abbrev pub Stops : ℕ → List ℕ → Reached → Type 0
 Stops next bytes r =
     ((is_extension next ≡ false) × (next ≢ fragment_header) × (r ≡ record { protocol = next; fragment = None; content = bytes }))
-    ⊎ ((next ≡ fragment_header) × (8 ≤ length bytes) × (is_atomic bytes ≡ false) × (is_of_units bytes ≡ true) × (r ≡ record { protocol = at bytes 0; fragment = Some (fragment_of bytes); content = drop 8 bytes }))
+    ⊎ ((next ≡ fragment_header) × (8 ≤ length bytes) × (is_atomic bytes ≡ false) × (is_read_part bytes ≡ true) × (r ≡ record { protocol = at bytes 0; fragment = Some (fragment_of bytes); content = drop 8 bytes }))
+
+-- what is reached is a fragment or a tunnel, which holds more than is read here
+abbrev pub is_hidden_in : Reached → Bool
+is_hidden_in r = is_some r.fragment || is_tunnel r.protocol
+
+-- a fragment that begins with a header over which another packet may stand
+abbrev pub leads_on : Reached → Bool
+leads_on r = is_some r.fragment && is_extension r.protocol
 
 -- over so many headers, each of which says with its first byte what follows it
 abbrev pub StopsAfter : ℕ → ℕ → List ℕ → Reached → Type 0

@@ -1,8 +1,9 @@
 -- Why a frame is no IP packet that may carry UDP. The faults stand in the order in which they are tried.
 use Rattle.std.specs.Prelude.{◌≡◌, ◌<◌, ◌≤◌, ℕ, false, List, length, Some, None, Result, MatchResult}
-use Rattle.net_udp.specs.Frames.Link.{link_named, Linked, SpellsLink}
+use Rattle.net_udp.specs.Frames.Link.{link_named, Linked}
 use Rattle.net_udp.specs.Frames.Extension.{Reached}
 use Rattle.net_udp.specs.Frames.Ip.{HasHeader, size_of, total_of, Reaches, may_be_udp, SpellsIp}
+use Rattle.net_udp.specs.Frames.Tunnel.{IsCarried}
 use Rattle.net_udp.specs.Frames.Frame.{IsLinked, SpellsFrame}
 use Rattle.net_udp.specs.Frames.Parts.{shown}
 use Rattle.net_udp.specs.declared.frames.link.LinkType.{LinkType}
@@ -30,7 +31,7 @@ IsNotWhole _ network bytes = ⊥
 -- what a fault says of a frame
 abbrev pub Holds : FrameFault → ℕ → List ℕ → Type 0
 Holds Link number frame = link_named number ≡ None
-Holds Frame number frame = (link : LinkType) × (link_named number ≡ Some link) × ((c : Linked) → SpellsLink link frame c → ⊥)
+Holds Frame number frame = (link : LinkType) × (link_named number ≡ Some link) × ((c : Linked) → IsCarried link frame c → ⊥)
 Holds NotIp number frame = (c : Linked) × IsLinked number frame c × (c.network ≡ None)
 Holds fault number frame = (c : Linked) × (network : Network) × IsLinked number frame c × (c.network ≡ Some network) × HoldsIp fault network c.content
 

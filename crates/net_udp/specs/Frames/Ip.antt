@@ -1,10 +1,10 @@
 -- What the bytes of an IP packet say (RFC 791, section 3.1; RFC 8200, section 3). Checksums are not looked at: a
 -- recording at the sender has them before they are made.
-use Rattle.std.specs.Prelude.{◌≡◌, ◌+◌, ◌-◌, ◌*◌, ◌/◌, ◌%◌, ◌≤◌, ◌==◌, ◌||◌, ℕ, Bool, true, false, List, [], ◌∷◌, length, take, drop, Option, Some, None, nat_lt, if◌then◌else◌}
+use Rattle.std.specs.Prelude.{◌≡◌, ◌+◌, ◌-◌, ◌*◌, ◌/◌, ◌%◌, ◌≤◌, ◌==◌, ◌||◌, ◌⊎◌, ℕ, Bool, true, false, List, [], ◌∷◌, length, take, drop, Option, Some, None, nat_lt, if◌then◌else◌}
 use Rattle.std.specs.declared.net.ip_addr.IpAddr.{IpAddr}
 use Rattle.std.specs.declared.net.ip_addr.IpAddr.TheVariants.{V4, V6}
 use Rattle.net_udp.specs.Frames.Number.{at, pair}
-use Rattle.net_udp.specs.Frames.Extension.{Reached, ReachesOver}
+use Rattle.net_udp.specs.Frames.Extension.{Reached, ReachesOver, is_wrapping, leads_on}
 use Rattle.net_udp.specs.declared.frames.packet.Fragment.{Fragment}
 use Rattle.net_udp.specs.declared.frames.packet.Direction.{Direction}
 use Rattle.net_udp.specs.declared.frames.link.Network.{Network}
@@ -56,15 +56,21 @@ part_of bytes =
 abbrev pub held_of : Network → List ℕ → List ℕ
 held_of network bytes = take (total_of network bytes - size_of network bytes) (drop (size_of network bytes) bytes)
 
+-- What a packet of IPv4 carries. What may hold another packet is read where it is whole, over authentication (RFC 4302).
+abbrev pub ReachesInIpv4 : List ℕ → List ℕ → Reached → Type 0
+ReachesInIpv4 bytes content r =
+    ((is_wrapping (at bytes 9) ≡ false) × (r ≡ record { protocol = at bytes 9; fragment = part_of bytes; content = content }))
+    ⊎ ((is_wrapping (at bytes 9) ≡ true) × (part_of bytes ≡ None) × ReachesOver (at bytes 9) content r)
+
 -- what the packet carries
 abbrev pub Reaches : Network → List ℕ → Reached → Type 0
-Reaches Ipv4 bytes r = r ≡ record { protocol = at bytes 9; fragment = part_of bytes; content = held_of Ipv4 bytes }
+Reaches Ipv4 bytes r = ReachesInIpv4 bytes (held_of Ipv4 bytes) r
 Reaches Ipv6 bytes r = ReachesOver (at bytes 6) (held_of Ipv6 bytes) r
 
 -- The packet tells the host to which it goes: its header is there, and what stands over its extension headers is reached, none
--- of which leads on to another host.
+-- of which leads on to another host; nor is it a fragment of a packet in which more such headers stand.
 abbrev pub TellsHosts : Network → List ℕ → Type 0
-TellsHosts network bytes = HasHeader network bytes × ((r : Reached) × Reaches network bytes r)
+TellsHosts network bytes = HasHeader network bytes × ((r : Reached) × Reaches network bytes r × (leads_on r ≡ false))
 
 abbrev pub is_part : Option Fragment → Bool
 is_part None = false

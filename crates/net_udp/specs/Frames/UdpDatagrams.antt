@@ -1,10 +1,10 @@
 -- Which contents of an IP packet are a UDP datagram (RFC 768), and why others are none.
-use Rattle.std.specs.Prelude.{◌≡◌, ◌≢◌, ◌⊎◌, ◌-◌, ◌<◌, ◌≤◌, ℕ, List, length, take, drop, None, Result, MatchResult, slice_index}
+use Rattle.std.specs.Prelude.{◌≡◌, ◌≢◌, ◌⊎◌, ◌-◌, ◌<◌, ◌≤◌, ℕ, true, List, length, take, drop, None, Result, MatchResult, slice_index}
 use Rattle.net_udp.specs.Frames.Number.{pair}
-use Rattle.net_udp.specs.Frames.Extension.{ReachesOver}
+use Rattle.net_udp.specs.Frames.Extension.{Reached, ReachesOver, is_hidden_in}
 use Rattle.net_udp.specs.declared.frames.packet.UdpDatagram.{UdpDatagram}
 use Rattle.net_udp.specs.declared.frames.fault.UdpFault.{UdpFault}
-use Rattle.net_udp.specs.declared.frames.fault.UdpFault.TheVariants.{Protocol, Header, Length, Port}
+use Rattle.net_udp.specs.declared.frames.fault.UdpFault.TheVariants.{Protocol, Extension, Header, Length, Port}
 
 -- the ports and the payload
 pub record Udp : Type 0 where
@@ -36,9 +36,14 @@ pub record IsSound (d : Udp) : Type 0 where
   pub bytes : (k : ℕ) → slice_index d.payload k < 256
   pub fits : length d.payload ≤ 65527
 
+-- What the content carries is not read: nothing is reached, or it is a fragment or a tunnel.
+abbrev pub IsHidden : ℕ → List ℕ → Type 0
+IsHidden protocol content = (r : Reached) → ReachesOver protocol content r → is_hidden_in r ≡ true
+
 -- what each fault says of a content
 abbrev pub HoldsUdp : UdpFault → ℕ → List ℕ → Type 0
-HoldsUdp Protocol protocol content = (bytes : List ℕ) → HasUdp protocol content bytes → ⊥
+HoldsUdp Protocol protocol content = ((bytes : List ℕ) → HasUdp protocol content bytes → ⊥) × (IsHidden protocol content → ⊥)
+HoldsUdp Extension protocol content = IsHidden protocol content
 HoldsUdp Header protocol content = (bytes : List ℕ) × HasUdp protocol content bytes × (length bytes < 8)
 HoldsUdp Length protocol content = (bytes : List ℕ) × HasUdp protocol content bytes × (8 ≤ length bytes) × ((pair bytes 4 < 8) ⊎ (length bytes < pair bytes 4))
 HoldsUdp Port protocol content = (bytes : List ℕ) × HasUdp protocol content bytes × (8 ≤ length bytes) × IsSized bytes × ((pair bytes 0 ≡ 0) ⊎ (pair bytes 2 ≡ 0))

@@ -82,6 +82,47 @@ two_tags = 2 ∷ 0 ∷ 0 ∷ 0 ∷ 0 ∷ 2 ∷ 2 ∷ 0 ∷ 0 ∷ 0 ∷ 0 ∷ 1 �
 abbrev pub two_old_tags : List ℕ
 two_old_tags = take 12 two_tags ++ 145 ∷ 0 ∷ drop 14 two_tags
 
+-- ---- by Python's struct, with the checksums of RFC 1071: tshark reads the same ports, hosts and payload in all of these
+
+-- the head of an Ethernet frame with LLC and SNAP (RFC 1042), of 40 bytes
+abbrev pub snap_head : List ℕ
+snap_head = take 12 two_tags ++ 0 ∷ 40 ∷ 170 ∷ 170 ∷ 3 ∷ 0 ∷ 0 ∷ 0 ∷ 8 ∷ 0 ∷ []
+
+-- that of one with PPPoE in session 7 (RFC 2516), and this protocol of PPP
+abbrev pub session_head : ℕ → List ℕ
+session_head protocol = take 12 two_tags ++ 136 ∷ 100 ∷ 17 ∷ 0 ∷ 0 ∷ 7 ∷ 0 ∷ 34 ∷ 0 ∷ protocol ∷ []
+
+-- that of one with two labels of MPLS, 16 and 17 (RFC 3032)
+abbrev pub labels_head : List ℕ
+labels_head = take 12 two_tags ++ 136 ∷ 71 ∷ 0 ∷ 1 ∷ 0 ∷ 64 ∷ 0 ∷ 1 ∷ 17 ∷ 64 ∷ []
+
+-- the packet with identification 7 behind an authentication header (RFC 4302)
+abbrev pub ipv4_authenticated : List ℕ
+ipv4_authenticated = 69 ∷ 0 ∷ 0 ∷ 56 ∷ 0 ∷ 7 ∷ 0 ∷ 0 ∷ 64 ∷ 51 ∷ 246 ∷ 131 ∷ 192 ∷ 0 ∷ 2 ∷ 7 ∷ 192 ∷ 0 ∷ 2 ∷ 1 ∷ 17 ∷ 4 ∷ 0 ∷ 0 ∷ 0 ∷ 0 ∷ 1 ∷ 0 ∷ 0 ∷ 0 ∷ 0 ∷ 1 ∷ 1 ∷ 2 ∷ 3 ∷ 4 ∷ 5 ∷ 6 ∷ 7 ∷ 8 ∷ 9 ∷ 10 ∷ 11 ∷ 12 ∷ udp_bytes
+
+-- The heads of tunnels from 192.0.2.53 to 192.0.2.54. IPv4 in IP (RFC 2003), and IPv6 in IP (RFC 4213):
+abbrev pub ipv4_in_ipv4 : List ℕ
+ipv4_in_ipv4 = 69 ∷ 0 ∷ 0 ∷ 52 ∷ 0 ∷ 8 ∷ 0 ∷ 0 ∷ 64 ∷ 4 ∷ 246 ∷ 82 ∷ 192 ∷ 0 ∷ 2 ∷ 53 ∷ 192 ∷ 0 ∷ 2 ∷ 54 ∷ ipv4_bytes
+
+abbrev pub ipv6_in_ipv4 : List ℕ
+ipv6_in_ipv4 = 69 ∷ 0 ∷ 0 ∷ 88 ∷ 0 ∷ 8 ∷ 0 ∷ 0 ∷ 64 ∷ 41 ∷ 246 ∷ 9 ∷ 192 ∷ 0 ∷ 2 ∷ 53 ∷ 192 ∷ 0 ∷ 2 ∷ 54 ∷ ipv6_with_extensions
+
+-- GRE with a checksum, a key and a number (RFC 2784; RFC 2890)
+abbrev pub ipv4_in_gre : List ℕ
+ipv4_in_gre = 69 ∷ 0 ∷ 0 ∷ 68 ∷ 0 ∷ 8 ∷ 0 ∷ 0 ∷ 64 ∷ 47 ∷ 246 ∷ 23 ∷ 192 ∷ 0 ∷ 2 ∷ 53 ∷ 192 ∷ 0 ∷ 2 ∷ 54 ∷ 176 ∷ 0 ∷ 8 ∷ 0 ∷ 204 ∷ 23 ∷ 0 ∷ 0 ∷ 0 ∷ 0 ∷ 0 ∷ 5 ∷ 0 ∷ 0 ∷ 0 ∷ 9 ∷ ipv4_bytes
+
+-- a frame of Ethernet in GRE
+abbrev pub ethernet_in_gre : List ℕ
+ethernet_in_gre = 69 ∷ 0 ∷ 0 ∷ 70 ∷ 0 ∷ 8 ∷ 0 ∷ 0 ∷ 64 ∷ 47 ∷ 246 ∷ 21 ∷ 192 ∷ 0 ∷ 2 ∷ 53 ∷ 192 ∷ 0 ∷ 2 ∷ 54 ∷ 0 ∷ 0 ∷ 101 ∷ 88 ∷ 2 ∷ 0 ∷ 0 ∷ 0 ∷ 0 ∷ 2 ∷ 2 ∷ 0 ∷ 0 ∷ 0 ∷ 0 ∷ 1 ∷ 8 ∷ 0 ∷ ipv4_bytes
+
+-- IPv4 in IP, in GRE
+abbrev pub ipv4_in_two : List ℕ
+ipv4_in_two = 69 ∷ 0 ∷ 0 ∷ 76 ∷ 0 ∷ 8 ∷ 0 ∷ 0 ∷ 64 ∷ 47 ∷ 246 ∷ 15 ∷ 192 ∷ 0 ∷ 2 ∷ 53 ∷ 192 ∷ 0 ∷ 2 ∷ 54 ∷ 0 ∷ 0 ∷ 8 ∷ 0 ∷ take 2 ipv4_in_ipv4 ++ 0 ∷ 52 ∷ 0 ∷ 9 ∷ 0 ∷ 0 ∷ 64 ∷ 4 ∷ 246 ∷ 81 ∷ drop 12 ipv4_in_ipv4
+
+-- what ESP enciphers (RFC 4303), here 0 to 15
+abbrev pub enciphered : List ℕ
+enciphered = 69 ∷ 0 ∷ 0 ∷ 44 ∷ 0 ∷ 8 ∷ 0 ∷ 0 ∷ 64 ∷ 50 ∷ 246 ∷ 44 ∷ 192 ∷ 0 ∷ 2 ∷ 53 ∷ 192 ∷ 0 ∷ 2 ∷ 54 ∷ 0 ∷ 0 ∷ 1 ∷ 0 ∷ 0 ∷ 0 ∷ 0 ∷ 1 ∷ 0 ∷ 1 ∷ 2 ∷ 3 ∷ 4 ∷ 5 ∷ 6 ∷ 7 ∷ 8 ∷ 9 ∷ 10 ∷ 11 ∷ 12 ∷ 13 ∷ 14 ∷ 15 ∷ []
+
 -- the head of Linux cooked, version 1: sent by the host that recorded
 abbrev pub cooked_head : List ℕ
 cooked_head = 0 ∷ 4 ∷ 0 ∷ 1 ∷ 0 ∷ 6 ∷ 2 ∷ 0 ∷ 0 ∷ 0 ∷ 0 ∷ 1 ∷ 0 ∷ 0 ∷ 8 ∷ 0 ∷ []

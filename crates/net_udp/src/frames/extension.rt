@@ -1,5 +1,5 @@
-ghost use Rattle.std.specs.Prelude.{◌≡◌, ◌≤◌, length, ◌↔◌, IsTrue, MatchOption};
-ghost use Rattle.net_udp.specs.Frames.Extension.{Reached, ReachesOver, is_extension, is_of_units, is_skippable, is_atomic, IsSkipped, skipped_size, fragment_of};
+ghost use Rattle.std.specs.Prelude.{◌≡◌, ◌≢◌, ◌≤◌, length, ◌↔◌, IsTrue, MatchOption};
+ghost use Rattle.net_udp.specs.Frames.Extension.{Reached, ReachesOver, is_tunnel, is_hiding, is_wrapping, is_extension, is_of_units, is_read_part, is_skippable, is_atomic, is_hidden_in, leads_on, IsSkipped, skipped_size, fragment_of, fragment_header};
 ghost use Rattle.net_udp.specs.Frames.Parts.{reached};
 
 use crate::frames::number::{four_at, pair_at};
@@ -10,6 +10,9 @@ const FRAGMENT: u8 = 44;
 
 /// The number of a routing header of IPv6 (RFC 8200, section 4.4).
 const ROUTING: u8 = 43;
+
+/// The number of an authentication header (RFC 4302).
+const AUTHENTICATION: u8 = 51;
 
 /// What a packet carries after its headers.
 #[derive(Clone, Copy, Debug)]
@@ -22,29 +25,62 @@ pub struct Upper<'a> {
     pub content: &'a [u8],
 }
 
+/// Whether a protocol is that of a tunnel: IPv4 in IP (RFC 2003), IPv6 in IP (RFC 4213; RFC 2473) or GRE (RFC 2784).
+#[inline]
+pub fn is_tunnel(protocol: u8) -> bool
+    ensures { result ≡ is_tunnel protocol }
+{
+    protocol == 4 || protocol == 41 || protocol == 47
+}
+
+/// Whether a protocol hides what it carries: ESP (RFC 4303), minimal encapsulation (RFC 2004), Ethernet in IP (RFC 3378; RFC 8986),
+/// IPComp (RFC 3173), L2TP (RFC 3931) and MPLS in IP (RFC 4023).
+#[inline]
+fn is_hiding(protocol: u8) -> bool
+    ensures { result ≡ is_hiding protocol }
+{
+    protocol == 50
+        || protocol == 55
+        || protocol == 97
+        || protocol == 108
+        || protocol == 115
+        || protocol == 137
+        || protocol == 143
+}
+
+/// Whether a protocol may hold another packet.
+#[inline]
+pub fn is_wrapping(protocol: u8) -> bool
+    ensures { result ≡ is_wrapping protocol }
+{
+    is_tunnel(protocol) || is_hiding(protocol) || protocol == AUTHENTICATION
+}
+
 /// Whether a header is an extension header other than a fragment header: hop-by-hop options, routing, destination options (RFC 8200, section 4), authentication (RFC 4302), mobility (RFC 6275), host
-/// identity (RFC 7401) and shim6 (RFC 5533).
+/// identity (RFC 7401) and shim6 (RFC 5533); or one that hides the rest.
 #[inline]
 fn is_extension_header(next: u8) -> bool
     ensures { result ≡ is_extension next }
 {
-    next == 0
+    (next == 0
         || next == ROUTING
         || next == 60
-        || next == 51
+        || next == AUTHENTICATION
         || next == 135
         || next == 139
-        || next == 140
+        || next == 140)
+        || is_hiding(next)
 }
 
-/// Whether an extension header is skipped by its length: one of options, or a routing header with no segments left, whose
-/// packet has come to its last host (RFC 8200, section 4.4).
+/// Whether an extension header is skipped by its length: one of options, of authentication, or a routing header with no segments
+/// left, whose packet has come to its last host (RFC 8200, section 4.4).
 #[inline]
 fn is_skippable(next: u8, header: &[u8]) -> bool
     requires { 8 ≤ length header.now }
     ensures { result ≡ is_skippable next header.now }
 {
-    (next == 0 || next == 60) || (next == ROUTING && header[3] == 0)
+    (next == 0 || next == 60)
+        || ((next == AUTHENTICATION && header[1] > 0) || (next == ROUTING && header[3] == 0))
 }
 
 /// Whether a fragment header is that of a packet which is whole (RFC 6946).
@@ -66,6 +102,30 @@ fn is_of_units(bytes: &[u8]) -> bool
     pair_at(bytes, 2) % 2 == 0 || bytes.len() % 8 == 0
 }
 
+/// Whether a fragment, from its header on, is one that is read: not one of what may hold another packet.
+#[inline]
+fn is_read_part(bytes: &[u8]) -> bool
+    requires { 8 ≤ length bytes.now }
+    ensures { result ≡ is_read_part bytes.now }
+{
+    is_of_units(bytes) && !is_wrapping(bytes[0])
+}
+
+/// How many bytes a header has that is none of a fragment (RFC 8200, section 4; RFC 4302, section 2.2).
+#[inline]
+fn header_size(next: u8, header: &[u8]) -> usize
+    requires long { 8 ≤ length header.now }
+    requires other { next ≢ fragment_header }
+    ensures is { result ≡ skipped_size next header.now }
+    ensures some { 8 ≤ result }
+{
+    if next == AUTHENTICATION {
+        (usize::from(header[1]) + 2) * 4
+    } else {
+        (usize::from(header[1]) + 1) * 8
+    }
+}
+
 /// The length of the header that is skipped; none where none is, or not all its bytes are there.
 #[inline]
 fn skipped_length(next: u8, bytes: &[u8]) -> Option<usize>
@@ -77,7 +137,7 @@ fn skipped_length(next: u8, bytes: &[u8]) -> Option<usize>
     if next == FRAGMENT {
         return if is_whole(bytes) { Some(8) } else { None };
     }
-    let size = (usize::from(bytes[1]) + 1) * 8;
+    let size = header_size(next, bytes);
     if is_skippable(next, bytes) && size <= bytes.len() {
         Some(size)
     } else {
@@ -85,8 +145,8 @@ fn skipped_length(next: u8, bytes: &[u8]) -> Option<usize>
     }
 }
 
-/// What stands after the headers of IPv6 that are skipped, where no header is cut, and none stands there that is not
-/// read, nor one of a fragment of no whole units.
+/// What stands after the headers that are skipped, where no header is cut, and none stands there that is not read, nor one of a
+/// fragment that is not.
 #[inline]
 pub fn skip_extensions(next: u8, bytes: &[u8]) -> Option<Upper<'_>>
     ensures { MatchOption result
@@ -113,7 +173,7 @@ pub fn skip_extensions(next: u8, bytes: &[u8]) -> Option<Upper<'_>>
     if rest.len() < 8 {
         return None;
     }
-    if !is_of_units(rest) {
+    if !is_read_part(rest) {
         return None;
     }
     Some(Upper {
@@ -121,6 +181,22 @@ pub fn skip_extensions(next: u8, bytes: &[u8]) -> Option<Upper<'_>>
         fragment: Some(read_fragment(rest)),
         content: rest.split_at(8).1,
     })
+}
+
+/// Whether what is reached is a fragment or a tunnel.
+#[inline]
+pub fn is_hidden_in(upper: &Upper<'_>) -> bool
+    ensures { result ≡ is_hidden_in (reached upper.now) }
+{
+    upper.fragment.is_some() || is_tunnel(upper.protocol)
+}
+
+/// Whether what is reached is a fragment that begins with a header over which another packet may stand.
+#[inline]
+pub fn leads_on(upper: &Upper<'_>) -> bool
+    ensures { result ≡ leads_on (reached upper.now) }
+{
+    upper.fragment.is_some() && is_extension_header(upper.protocol)
 }
 
 /// What a fragment header of IPv6 says (RFC 8200, section 4.5).

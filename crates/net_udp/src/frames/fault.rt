@@ -6,10 +6,12 @@ pub enum FrameFault {
     /// The link type is none of Ethernet, Linux cooked (1 and 2), raw IP, BSD NULL and BSD LOOP.
     #[error("another link type")]
     Link,
-    /// The frame ends before the link's header does, or in its tags (IEEE 802.1Q).
-    #[error("a frame that ends in the link's header")]
+    /// The frame ends before the link's header does, or in what stands between that and IP: tags (IEEE 802.1Q), LLC with SNAP (RFC
+    /// 1042), PPPoE (RFC 2516), labels (RFC 3032) and GRE (RFC 2784). Or one of these is not read: what PPP compresses or enciphers,
+    /// labels before another packet than one of IP, GRE of another version or type.
+    #[error("a frame that ends before IP, or whose headers before IP are not read")]
     Frame,
-    /// The frame carries neither IPv4 nor IPv6.
+    /// The frame carries neither IPv4 nor IPv6. Of tunnels, here and below, it is the innermost packet that is judged.
     #[error("not IP")]
     Network,
     /// There is no whole header of IPv4 (RFC 791, section 3.1) or IPv6 (RFC 8200, section 3).
@@ -24,9 +26,10 @@ pub enum FrameFault {
     /// The recording has not all bytes of the packet.
     #[error("cut")]
     Cut,
-    /// The extension headers of IPv6 run beyond the packet, or one of them is not read: authentication (RFC 4302), mobility (RFC
-    /// 6275) and the like, and a routing header with segments left, whose packet is not where it goes (RFC 8200, section 4); or
-    /// it is a fragment that more follow, and of no whole units of 8 bytes (RFC 8200, section 4.5).
+    /// The extension headers of IPv6 or an authentication header run beyond the packet, or one of them is not read: mobility (RFC
+    /// 6275) and the like, and a routing header with segments left, whose packet is not where it goes (RFC 8200, section 4); or what
+    /// the packet carries is hidden: by ESP (RFC 4303), IPComp (RFC 3173) and the like. Or it is a fragment that more follow, and of no
+    /// whole units of 8 bytes (RFC 8200, section 4.5), or one of a tunnel's packet, or behind IPsec.
     #[error("an extension header that runs beyond the packet, or is not read")]
     Extension,
 }
@@ -37,6 +40,10 @@ pub enum UdpFault {
     /// The content is not of UDP, nor do extension headers lead to it.
     #[error("not UDP")]
     Protocol,
+    /// What the content carries is not read: a header before it is cut, not read or hides it, or it is a packet in a tunnel, or a
+    /// fragment. A content that was put together of fragments may be so.
+    #[error("a header that runs beyond the content, or is not read")]
+    Extension,
     /// The content has fewer bytes than a UDP header, 8.
     #[error("no whole UDP header")]
     Header,

@@ -8,8 +8,9 @@ ghost use Rattle.net_udp.specs.declared.frames.fault.FrameFault.{FrameFault};
 
 use crate::frames::fault::FrameFault;
 use crate::frames::ip::{hosts_of, read_ip};
-use crate::frames::link::{link_type, read_link};
+use crate::frames::link::link_type;
 use crate::frames::packet::IpPacket;
+use crate::frames::tunnel::read_carried;
 use std::net::IpAddr;
 
 /// The IP packet, or the fragment of one, that a frame carries and that is of UDP, or may be. The number is that of the
@@ -33,7 +34,7 @@ pub fn read_hosts(link_number: u32, frame: &[u8]) -> Option<(IpAddr, IpAddr)>
     let Some(link) = link_type(link_number) else {
         return None;
     };
-    let Some(carried) = read_link(link, frame) else {
+    let Some(carried) = read_carried(link, frame) else {
         return None;
     };
     let Some(network) = carried.network else {
@@ -50,7 +51,7 @@ fn judge_frame(link_number: u32, frame: &[u8]) -> Result<IpPacket<'_>, FrameFaul
     let Some(link) = link_type(link_number) else {
         return Err(FrameFault::Link);
     };
-    let Some(carried) = read_link(link, frame) else {
+    let Some(carried) = read_carried(link, frame) else {
         return Err(FrameFault::Frame);
     };
     let Some(network) = carried.network else {

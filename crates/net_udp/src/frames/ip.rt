@@ -1,10 +1,10 @@
 ghost use Rattle.std.specs.Prelude.{◌≡◌, ◌+◌, ◌≤◌, length, ◌↔◌, IsTrue, MatchOption, MatchResult};
 ghost use Rattle.net_udp.specs.Frames.Extension.{Reached};
-ghost use Rattle.net_udp.specs.Frames.Ip.{HasHeader, size_of, total_of, source_of, target_of, identification_of, ipv4_address, ipv6_address, part_of, held_of, Reaches, TellsHosts, may_be_udp, IsWhole};
+ghost use Rattle.net_udp.specs.Frames.Ip.{HasHeader, size_of, total_of, source_of, target_of, identification_of, ipv4_address, ipv6_address, part_of, held_of, Reaches, ReachesInIpv4, TellsHosts, may_be_udp, IsWhole};
 ghost use Rattle.net_udp.specs.Frames.Faults.{JudgesIp, IsNotWhole};
 ghost use Rattle.net_udp.specs.Frames.Parts.{reached};
 
-use crate::frames::extension::{Upper, skip_extensions};
+use crate::frames::extension::{Upper, is_wrapping, leads_on, skip_extensions};
 use crate::frames::fault::FrameFault;
 use crate::frames::link::Network;
 use crate::frames::number::pair_at;
@@ -16,7 +16,7 @@ pub const UDP: u8 = 17;
 
 /// Whether bytes begin with a whole header.
 #[inline]
-fn has_header(network: Network, bytes: &[u8]) -> bool
+pub fn has_header(network: Network, bytes: &[u8]) -> bool
     ensures { IsTrue result ↔ HasHeader network bytes.now }
 {
     match network {
@@ -107,9 +107,12 @@ pub fn hosts_of(network: Network, bytes: &[u8]) -> Option<(IpAddr, IpAddr)>
     if !has_header(network, bytes) {
         return None;
     }
-    let Some(_) = reach(network, bytes) else {
+    let Some(upper) = reach(network, bytes) else {
         return None;
     };
+    if leads_on(&upper) {
+        return None;
+    }
     Some(hosts(network, bytes))
 }
 
@@ -154,9 +157,33 @@ fn held(network: Network, bytes: &[u8]) -> &[u8]
     body.split_at(total.saturating_sub(size).min(body.len())).0
 }
 
-/// What a packet carries; none where its extension headers are cut.
+/// What a packet of IPv4 carries, of that content; none where a header is cut or not read, or a fragment is of what may hold
+/// another packet.
 #[inline]
-fn reach(network: Network, bytes: &[u8]) -> Option<Upper<'_>>
+fn reach_in_ipv4<'a>(bytes: &[u8], content: &'a [u8]) -> Option<Upper<'a>>
+    requires { 20 ≤ length bytes.now }
+    ensures { MatchOption result
+        ((r : Reached) → ReachesInIpv4 bytes.now content.now r → ⊥)
+        (λ found. ReachesInIpv4 bytes.now content.now (reached found)) }
+{
+    let protocol = bytes[9];
+    let fragment = part(bytes);
+    if !is_wrapping(protocol) {
+        return Some(Upper {
+            protocol,
+            fragment,
+            content,
+        });
+    }
+    if fragment.is_some() {
+        return None;
+    }
+    skip_extensions(protocol, content)
+}
+
+/// What a packet carries; none where a header before it is cut or not read.
+#[inline]
+pub fn reach(network: Network, bytes: &[u8]) -> Option<Upper<'_>>
     requires { HasHeader network bytes.now }
     ensures { MatchOption result
         ((r : Reached) → Reaches network bytes.now r → ⊥)
@@ -164,11 +191,7 @@ fn reach(network: Network, bytes: &[u8]) -> Option<Upper<'_>>
 {
     let content = held(network, bytes);
     match network {
-        Network::Ipv4 => Some(Upper {
-            protocol: bytes[9],
-            fragment: part(bytes),
-            content,
-        }),
+        Network::Ipv4 => reach_in_ipv4(bytes, content),
         Network::Ipv6 => skip_extensions(bytes[6], content),
     }
 }

@@ -10,7 +10,7 @@ ghost use Rattle.net_udp.specs.Frames.Checksums.{checksum_of, in_ones_complement
 ghost use Rattle.net_udp.specs.declared.frames.checksum.Checksum.{Checksum};
 ghost use Rattle.net_udp.specs.Frames.Faults.{Holds, FirstFault};
 ghost use Rattle.net_udp.specs.Frames.UdpDatagrams.{Udp, SpellsUdp, HoldsUdp};
-ghost use Rattle.net_udp.specs.Frames.Worked.{udp_bytes, ipv4_bytes, ipv4_with_options, ipv4_fragment, ipv6_with_extensions, ipv6_authenticated, ipv6_fragment, ipv6_fragment_of_icmp, ipv6_of_no_units, ipv6_routed, two_old_tags, two_tags, udp_bytes_of_ipv6, udp_left, udp_left_of_ipv6, udp_of_three, cooked_head, cooked_two_head, null_head, ipv4_packet, ipv4_part, ipv6_packet, ipv6_part, acknowledgement, host, host_of_ipv6};
+ghost use Rattle.net_udp.specs.Frames.Worked.{udp_bytes, ipv4_bytes, ipv4_with_options, ipv4_fragment, ipv6_with_extensions, ipv6_authenticated, ipv6_fragment, ipv6_fragment_of_icmp, ipv6_of_no_units, ipv6_routed, two_old_tags, two_tags, udp_bytes_of_ipv6, udp_left, udp_left_of_ipv6, udp_of_three, cooked_head, cooked_two_head, null_head, snap_head, session_head, labels_head, ipv4_authenticated, ipv4_in_ipv4, ipv6_in_ipv4, ipv4_in_gre, ethernet_in_gre, ipv4_in_two, enciphered, ipv4_packet, ipv4_part, ipv6_packet, ipv6_part, acknowledgement, host, host_of_ipv6};
 ghost use Rattle.net_udp.specs.declared.frames.fault.FrameFault.{FrameFault};
 ghost use Rattle.net_udp.specs.declared.frames.fault.UdpFault.{UdpFault};
 ghost use Rattle.net_udp.specs.declared.frames.link.Network.{Network};
@@ -69,26 +69,54 @@ pub fn worked_frames()
     ensures another { SpellsFrame 229 ipv6_fragment_of_icmp (record ipv6_part { protocol = 58; packet = ipv6_fragment_of_icmp }) }
 {}
 
+/// Worked examples: a packet in Ethernet behind LLC and SNAP (RFC 1042), PPPoE (RFC 2516) and two labels of MPLS (RFC 3032); and
+/// behind an authentication header (RFC 4302), in IPv4 and in IPv6.
+pub fn worked_shims()
+    ensures snap { SpellsFrame 1 (snap_head ++ ipv4_bytes) (ipv4_packet Direction.Unknown ipv4_bytes) }
+    ensures session { SpellsFrame 1 (session_head 33 ++ ipv4_bytes) (ipv4_packet Direction.Unknown ipv4_bytes) }
+    ensures labels { SpellsFrame 1 (labels_head ++ ipv4_bytes) (ipv4_packet Direction.Unknown ipv4_bytes) }
+    ensures authenticated { SpellsFrame 228 ipv4_authenticated (ipv4_packet Direction.Unknown ipv4_authenticated) }
+    ensures authenticated_ipv6 { SpellsFrame 229 ipv6_authenticated (record ipv6_packet { packet = ipv6_authenticated }) }
+{}
+
+/// Worked examples: a packet in IP (RFC 2003; RFC 4213), in GRE with all its fields (RFC 2890), in Ethernet in GRE, and in IP in GRE.
+/// What is read is the innermost packet, and none of the tunnel's hosts is in it.
+pub fn worked_tunnels()
+    ensures in_ip { SpellsFrame 228 ipv4_in_ipv4 (ipv4_packet Direction.Unknown ipv4_bytes) }
+    ensures six_in_four { SpellsFrame 228 ipv6_in_ipv4 ipv6_packet }
+    ensures in_gre { SpellsFrame 228 ipv4_in_gre (ipv4_packet Direction.Unknown ipv4_bytes) }
+    ensures ethernet { SpellsFrame 228 ethernet_in_gre (ipv4_packet Direction.Unknown ipv4_bytes) }
+    ensures two { SpellsFrame 228 ipv4_in_two (ipv4_packet Direction.Unknown ipv4_bytes) }
+{}
+
 /// Worked examples: the first fault of a packet whose last byte was not recorded, of one of TCP (protocol 6), of ARP
 /// (0x0806) in Ethernet, and of a frame that ends in its first tag; and of a packet of IPv6 with a routing header that leads on
-/// to another host (RFC 8200, section 4.4), and with an authentication header (RFC 4302), which are not read; and of a fragment
-/// of seven bytes that more follow (RFC 8200, section 4.5).
+/// to another host (RFC 8200, section 4.4), which is not read; and of a fragment of seven bytes that more follow (RFC 8200,
+/// section 4.5); and of what is not read: ESP (RFC 4303), also in IPv6, a fragment of a tunnel's packet, GRE of version 1 (RFC 2637),
+/// what PPP compresses (protocol 0xfd), and a label before none of IP.
 pub fn worked_faults()
     ensures cut { FirstFault 101 (take 31 ipv4_bytes) FrameFault.Cut }
     ensures tcp { FirstFault 101 (take 9 ipv4_bytes ++ 6 ∷ drop 10 ipv4_bytes) FrameFault.Protocol }
     ensures arp { FirstFault 1 (take 12 two_tags ++ 8 ∷ 6 ∷ []) FrameFault.Network }
     ensures tag { FirstFault 1 (take 16 two_tags) FrameFault.Frame }
     ensures routed { FirstFault 229 (ipv6_routed 1) FrameFault.Extension }
-    ensures authenticated { FirstFault 229 ipv6_authenticated FrameFault.Extension }
     ensures units { FirstFault 229 ipv6_of_no_units FrameFault.Extension }
+    ensures esp { FirstFault 228 enciphered FrameFault.Extension }
+    ensures esp_ipv6 { FirstFault 229 (take 6 ipv6_authenticated ++ 50 ∷ drop 7 ipv6_authenticated) FrameFault.Extension }
+    ensures tunnel_part { FirstFault 228 (take 9 ipv4_fragment ++ 4 ∷ drop 10 ipv4_fragment) FrameFault.Extension }
+    ensures gre { FirstFault 228 (take 21 ipv4_in_gre ++ 1 ∷ drop 22 ipv4_in_gre) FrameFault.Frame }
+    ensures ppp { FirstFault 1 (session_head 253 ++ ipv4_bytes) FrameFault.Frame }
+    ensures label { FirstFault 1 (labels_head ++ 0 ∷ []) FrameFault.Frame }
 {}
 
 /// Worked examples: the acknowledgement, with what follows it in the packet left out (RFC 768), and behind a header of
-/// destination options, as the whole content of an IPv6 packet has it; and port 0.
+/// destination options, as the whole content of an IPv6 packet has it; port 0; and IPv6 in IP behind a limit of tunnels (RFC 2473,
+/// section 5.1).
 pub fn worked_datagrams()
     ensures plain { SpellsUdp 17 (udp_bytes ++ 255 ∷ 255 ∷ []) acknowledgement }
     ensures behind { SpellsUdp 60 (17 ∷ 0 ∷ 1 ∷ 4 ∷ 0 ∷ 0 ∷ 0 ∷ 0 ∷ udp_bytes) acknowledgement }
     ensures port { HoldsUdp UdpFault.Port 17 (0 ∷ 0 ∷ drop 2 udp_bytes) }
+    ensures tunnel { HoldsUdp UdpFault.Extension 60 (41 ∷ 0 ∷ 4 ∷ 1 ∷ 4 ∷ 1 ∷ 0 ∷ 0 ∷ ipv6_fragment) }
 {}
 
 /// Worked examples: the number of the interface in a header of Linux cooked, version 2; one that is cut; version 1, which has

@@ -144,7 +144,7 @@ fn least_length(link: LinkType) -> usize
 
 /// What a frame carries after a type and any tags; none where it ends in them.
 #[inline]
-fn read_typed(direction: Direction, kind: u16, after: &[u8]) -> Option<LinkContent<'_>>
+pub fn read_typed(direction: Direction, kind: u16, after: &[u8]) -> Option<LinkContent<'_>>
     ensures { MatchOption result
         ((c : Linked) → CarriesTyped kind after.now c → ⊥)
         (λ found. CarriesTyped kind after.now (linked found) × (found.direction ≡ direction)) }

@@ -2,7 +2,7 @@ ghost use Rattle.std.specs.Prelude.{◌≡◌, ◌↔◌, ◌≤◌, IfOk, IsOkA
 ghost use Rattle.net_udp.specs.Frames.UdpDatagrams.{Udp, IsSound, SpellsUdp, HasUdp, HoldsUdp, JudgesUdp, datagram};
 ghost use Rattle.net_udp.specs.declared.frames.fault.UdpFault.{UdpFault};
 
-use crate::frames::extension::skip_extensions;
+use crate::frames::extension::{is_hidden_in, skip_extensions};
 use crate::frames::fault::UdpFault;
 use crate::frames::ip::UDP;
 use crate::frames::number::pair_at;
@@ -37,6 +37,22 @@ pub(crate) fn udp_bytes(protocol: u8, content: &[u8]) -> Option<&[u8]>
     }
 }
 
+/// Why a content has no bytes of UDP.
+#[inline]
+fn unread(protocol: u8, content: &[u8]) -> UdpFault
+    requires { (bytes : List ℕ) → HasUdp protocol content.now bytes → ⊥ }
+    ensures { HoldsUdp result protocol content.now }
+{
+    let Some(upper) = skip_extensions(protocol, content) else {
+        return UdpFault::Extension;
+    };
+    if is_hidden_in(&upper) {
+        UdpFault::Extension
+    } else {
+        UdpFault::Protocol
+    }
+}
+
 /// The datagram, or the fault.
 #[inline]
 fn judge_udp(protocol: u8, content: &[u8]) -> Result<UdpDatagram<'_>, UdpFault>
@@ -44,7 +60,7 @@ fn judge_udp(protocol: u8, content: &[u8]) -> Result<UdpDatagram<'_>, UdpFault>
     ensures sound { IfOk result (λ d. IsSound (datagram d)) }
 {
     let Some(bytes) = udp_bytes(protocol, content) else {
-        return Err(UdpFault::Protocol);
+        return Err(unread(protocol, content));
     };
     if bytes.len() < 8 {
         return Err(UdpFault::Header);

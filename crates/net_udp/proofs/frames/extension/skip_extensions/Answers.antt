@@ -1,5 +1,5 @@
 use Rattle.std.proofs.Common.{zero, inl, refl, sym, ◌∙◌}
-use Rattle.net_udp.proofs.FramesLemmas.Extensions.{next_header, cut_header, no_stop_in_extension, no_stop_in_fragment, no_stop_of_no_units, stops_at_part}
+use Rattle.net_udp.proofs.FramesLemmas.Extensions.{next_header, cut_header, no_stop_in_extension, no_stop_in_fragment, no_stop_in_part, stops_at_part}
 use Rattle.net_udp.proofs.frames.extension.skip_extensions.Goals as goal
 
 pub headers-preserved : goal.headers-preserved
@@ -22,13 +22,13 @@ returns-then-rest-lt8 c r s =
     (no_stop_in_fragment c.headers.kind c.headers.rest.now r c.if-kind-ne-FRAGMENT.false c.if-rest-lt8.true)
     ((c.headers.invariant r).0 s)
 
-pub returns-then-not-is_of_units : goal.returns-then-not-is_of_units
-returns-then-not-is_of_units c r s =
+pub returns-then-not-is_read_part : goal.returns-then-not-is_read_part
+returns-then-not-is_read_part c r s =
     cut_header c.headers.kind c.headers.rest.now r c.in_default.ensures
-    (no_stop_of_no_units c.headers.kind c.headers.rest.now r c.if-kind-ne-FRAGMENT.false (sym c.is_of_units.ensures ∙ c.if-not-is_of_units.true))
+    (no_stop_in_part c.headers.kind c.headers.rest.now r c.if-kind-ne-FRAGMENT.false (sym c.is_read_part.ensures ∙ c.if-not-is_read_part.true))
     ((c.headers.invariant r).0 s)
 
 pub returns : goal.returns
 returns c =
-    let stops = stops_at_part c.headers.kind c.headers.rest.now c.read_fragment.result c.split_at-2.result.1.now c.if-kind-ne-FRAGMENT.false c.if-rest-lt8.false c.in_default.ensures (sym c.is_of_units.ensures ∙ c.if-not-is_of_units.false) c.read_fragment.ensures c.split_at-2.ensures.back in
+    let stops = stops_at_part c.headers.kind c.headers.rest.now c.read_fragment.result c.split_at-2.result.1.now c.if-kind-ne-FRAGMENT.false c.if-rest-lt8.false c.in_default.ensures (sym c.is_read_part.ensures ∙ c.if-not-is_read_part.false) c.read_fragment.ensures c.split_at-2.ensures.back in
     (c.headers.invariant _).1 (zero, stops)

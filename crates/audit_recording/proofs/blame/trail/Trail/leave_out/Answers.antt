@@ -12,5 +12,6 @@ returns-clause-stands c judging x named carried was = record {
   is_answered = was.is_answered;
   copied_from = was.copied_from;
   damaged = was.damaged;
+  closing = was.closing;
   blame = was.blame;
 }

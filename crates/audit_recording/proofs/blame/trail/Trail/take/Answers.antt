@@ -1,10 +1,13 @@
 use Rattle.std.proofs.Common.{◌≡◌, ◌∷◌, refl, ap, subst, sym, ◌∙◌}
-use Rattle.audit_flows.specs.{TransferDoubts, TransferEnds}
+use Rattle.audit_flows.specs.{Transfer, TransferDoubts, TransferEnds}
 use Rattle.audit_flows.specs.Transfers.{AreEndsAfter, IsDoubtedAfter}
 use Rattle.audit_recording.specs.declared.blame.blame.Blame.{Blame}
+use Rattle.audit_recording.specs.declared.blame.closing.Closing.{Closing}
 use Rattle.audit_recording.specs.Blame.Facts.{blamed_of}
-use Rattle.audit_recording.specs.Blame.Frames.{Framed, framed, framed_after, whole_of}
+use Rattle.audit_recording.specs.Blame.Frames.{Framed, framed, framed_after, view_of, whole_of}
 use Rattle.audit_recording.specs.Blame.Kept.{IsBlameBetween, IsBlameOf}
+use Rattle.audit_recording.specs.Endings.Kept.{IsClosingOf}
+use Rattle.audit_recording.specs.declared.rows.row.Point.TheVariants.{Client}
 use Rattle.audit_recording.proofs.BlameLemmas.Trailing.{all_placed, passed_same, trail_more}
 use Rattle.audit_recording.proofs.blame.trail.Trail.take.Goals as goal
 
@@ -17,8 +20,15 @@ returns-clause-stands c judging x named d carried was passes at doubts about ope
     let doubted = subst (λ (t : TransferDoubts). IsDoubtedAfter t (f.placed ∷ whole)) (sym c.doubts.ensures) watching.doubts in
     let blamed = c.blamed_by.ensures f passes refl at doubts doubted ∙ ap (λ (t : TransferDoubts). blamed_of t.number f) c.doubts.ensures ∙ ap (λ k. blamed_of k f) watching.number in
     let passed = passed_same x.number f (record { blamed = c.blamed_by.result; place = c.args.found.now.place; target = c.args.passing.now.target }) blamed at passes.target in
+    let own = c.note_place.ensures.transfer ∙ was.transfer in
+    let closing = subst (λ (y : Transfer). IsClosingOf c.note-2.new.self y (view_of Client y.number named (d ∷ carried))) own
+    (c.in_ok-note.ensures named d carried
+    (subst (λ (y : Transfer). IsClosingOf c.note_place.new.self.closing y (view_of Client y.number named carried)) (sym own)
+    (subst (λ (k : Closing). IsClosingOf k x (view_of Client x.number named carried)) (sym c.note_place.ensures.closing) was.closing))
+    passes at ends (number ∙ sym (ap (λ (y : Transfer). y.number) own))) in
     trail_more c.args.self.now c.note_place.new.self _ judging x named d carried c.args.passing.now was passes about c.args.found.now.place at c.note_place.ensures.own c.note_place.ensures.beside
     refl refl refl refl refl refl c.first-self.ensures c.first-self-2.ensures number ends opens
+    closing
     (c.in_ok-take.ensures.ends judging x f whole (framed named carried) (subst (λ (b : Blame). IsBlameOf b judging x whole (framed named carried)) (sym c.note_place.ensures.blame) was.blame) passed about number ends (all_placed named carried) watching)
 
 pub returns-clause-between : goal.returns-clause-between

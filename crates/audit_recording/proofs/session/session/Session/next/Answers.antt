@@ -1,0 +1,89 @@
+use Rattle.std.proofs.Common.{◌∷◌, ◌++◌, Ok, Err, inl, inr, refl, sym, subst}
+use Rattle.net_udp.specs.Recording.{StandsFor, Step}
+use Rattle.audit_recording.specs.Audit.{AuditsAfter, GoesOn, RecordingAudit}
+use Rattle.audit_recording.specs.{AuditFault, NextFrame}
+use Rattle.audit_recording.specs.Blame.Frames.{Carried, datagrams_of}
+use Rattle.audit_recording.specs.Session.Kept.{IsSessionAfter}
+use Rattle.audit_recording.specs.Session.Noted.{AreNotesOf}
+use Rattle.audit_recording.specs.Session.Recording.{IsNoticedOf}
+use Rattle.audit_recording.proofs.SessionLemmas.Recording.{always, carry, errs_so, gives_none, is_carried, reads_on, stops_so}
+use Rattle.audit_recording.proofs.session.session.Session.next.Goals as goal
+
+pub returns-in-Ok-End-clause-goes_on : goal.returns-in-Ok-End-clause-goes_on
+returns-in-Ok-End-clause-goes_on g c named out bytes history carried s stands is =
+    let read = c.in-Ok-End.ensures.continues named out bytes history (datagrams_of carried) stands is.audit in
+    let goes = subst (λ (n : NextFrame). GoesOn (λ frames datagrams. StandsFor c.next_into.new.recording (bytes ++ read.0) frames × AuditsAfter c.next_into.new.self named out frames datagrams) named history (datagrams_of carried) c.next_into.new.event (Ok n)) c.in-Ok-End.field-0-is read.2 in
+    (read.0, read.1, (goes.0, record { noticed = is.noticed; audit = goes.1; notes = is.notes }))
+
+pub returns-in-Ok-Nothing-clause-goes_on : goal.returns-in-Ok-Nothing-clause-goes_on
+returns-in-Ok-Nothing-clause-goes_on g c named out bytes history carried s stands is =
+    let read = c.in-Ok-Nothing.ensures.continues named out bytes history (datagrams_of carried) stands is.audit in
+    let goes = subst (λ (n : NextFrame). GoesOn (λ frames datagrams. StandsFor c.next_into.new.recording (bytes ++ read.0) frames × AuditsAfter c.next_into.new.self named out frames datagrams) named history (datagrams_of carried) c.next_into.new.event (Ok n)) c.in-Ok-Nothing.field-0-is read.2 in
+    let step : Step = goes.0 in
+    let none = gives_none history step c.next_into.new.event (datagrams_of carried) goes.1 is.audit.frames goes.2.1.frames in (
+      read.0,
+      read.1,
+      reads_on
+          (λ frames datagrams noticed. StandsFor c.next_into.new.recording (bytes ++ read.0) frames × IsSessionAfter c.take.new.self named out frames datagrams noticed)
+          (λ t. IsNoticedOf named (step ∷ history) carried t) (λ t. AreNotesOf c.take.new.self.notes t) history carried s step carried c.take.result c.take.ensures.goes (inl refl)
+          (c.take.ensures.none named history carried s step refl none goes.1 is.noticed is.notes)
+          (λ t noticed notes. (
+            goes.2.0,
+            record {
+              noticed = noticed;
+              audit = subst (λ (a : RecordingAudit). AuditsAfter a named out (step ∷ history) (datagrams_of carried)) (sym c.take.ensures.audit) goes.2.1;
+              notes = notes;
+            },
+          )),
+    )
+
+pub returns-in-Ok-Datagram-clause-goes_on : goal.returns-in-Ok-Datagram-clause-goes_on
+returns-in-Ok-Datagram-clause-goes_on g c named out bytes history carried s stands is =
+    let read = c.in-Ok-Datagram.ensures.continues named out bytes history (datagrams_of carried) stands is.audit in
+    let goes = subst (λ (n : NextFrame). GoesOn (λ frames datagrams. StandsFor c.next_into.new.recording (bytes ++ read.0) frames × AuditsAfter c.next_into.new.self named out frames datagrams) named history (datagrams_of carried) c.next_into.new.event (Ok n)) c.in-Ok-Datagram.field-0-is read.2 in
+    let step : Step = goes.0 in
+    let x : Carried = carry c.next_into.new.event goes.1 in
+    let given = goes.3.0 in (
+      read.0,
+      read.1,
+      reads_on
+          (λ frames datagrams noticed. StandsFor c.next_into.new.recording (bytes ++ read.0) frames × IsSessionAfter c.take-in-Ok-Datagram.new.self named out frames datagrams noticed)
+          (λ t. IsNoticedOf named (step ∷ history) (x ∷ carried) t) (λ t. AreNotesOf c.take-in-Ok-Datagram.new.self.notes t) history carried s step (x ∷ carried) c.take-in-Ok-Datagram.result c.take-in-Ok-Datagram.ensures.goes (inr (x, refl))
+          (c.take-in-Ok-Datagram.ensures.datagram named history carried s step x c.in-Ok-Datagram.found given refl goes.2 goes.3.1
+          (is_carried c.next_into.new.event given carried goes.1 goes.3.2) goes.4.0 is.noticed is.notes)
+          (λ t noticed notes. (
+            goes.5.0,
+            record {
+              noticed = noticed;
+              audit = subst (λ (a : RecordingAudit). AuditsAfter a named out (step ∷ history) (datagrams_of (x ∷ carried))) (sym c.take-in-Ok-Datagram.ensures.audit) goes.5.1;
+              notes = notes;
+            },
+          )),
+    )
+
+pub returns-in-Err-Recording-clause-goes_on : goal.returns-in-Err-Recording-clause-goes_on
+returns-in-Err-Recording-clause-goes_on g c named out bytes history carried s stands is =
+    let read = c.in-Err-Recording.ensures.continues named out bytes history (datagrams_of carried) stands is.audit in
+    let goes = subst (λ (n : AuditFault). GoesOn (λ frames datagrams. StandsFor c.next_into.new.recording (bytes ++ read.0) frames × AuditsAfter c.next_into.new.self named out frames datagrams) named history (datagrams_of carried) c.next_into.new.event (Err n)) c.in-Err-Recording.field-0-is read.2 in (
+      read.0,
+      read.1,
+      stops_so
+          (λ frames datagrams noticed. StandsFor c.next_into.new.recording (bytes ++ read.0) frames × IsSessionAfter c.stop.new.self named out frames datagrams noticed)
+          history carried s c.stop.result c.stop.ensures.over
+          (always c.stop.result (
+            goes.0,
+            record {
+              noticed = is.noticed;
+              audit = subst (λ (a : RecordingAudit). AuditsAfter a named out history (datagrams_of carried)) (sym c.stop.ensures.audit) goes.1;
+              notes = c.stop.ensures.notes s is.notes;
+            },
+          )),
+    )
+
+pub returns-in-Err-Judges-clause-goes_on : goal.returns-in-Err-Judges-clause-goes_on
+returns-in-Err-Judges-clause-goes_on g c named out bytes history carried s stands is =
+    let read = c.in-Err-Judges.ensures.continues named out bytes history (datagrams_of carried) stands is.audit in (
+      read.0,
+      read.1,
+      errs_so (λ frames datagrams noticed. StandsFor c.next_into.new.recording (bytes ++ read.0) frames × IsSessionAfter (record c.args.self.now { audit = c.next_into.new.self }) named out frames datagrams noticed) history carried s c.refuse.result c.refuse.ensures,
+    )

@@ -1,0 +1,33 @@
+use Rattle.std.proofs.Common.{refl}
+use Rattle.net_udp.specs.declared.recording.fate.Fate.TheVariants.{Left, Waits}
+use Rattle.audit_recording.proofs.SessionLemmas.Recording.{carried_same, given_once, left_told, not_discarded, not_left, not_waiting, reached_is, waits_told}
+use Rattle.audit_recording.proofs.session.session.Session.note.Goals as goal
+
+pub returns-in-Datagram-clause-none : goal.returns-in-Datagram-clause-none
+returns-in-Datagram-clause-none c named carried s none gives low are = absurd (gives c.in-Datagram.datagram c.in-Datagram.ensures.is)
+
+pub returns-in-Datagram-clause-datagram : goal.returns-in-Datagram-clause-datagram
+returns-in-Datagram-clause-datagram c named carried s x a given is came carries later are =
+    c.pass.ensures.notes carried s x a is (carried_same c.args.event.now given c.in-Datagram.datagram carried x (given_once c.args.event.now given c.in-Datagram.datagram came c.in-Datagram.ensures.is) carries) later are
+
+pub returns-in_ok-leave-in-Left-clause-none : goal.returns-in_ok-leave-in-Left-clause-none
+returns-in_ok-leave-in-Left-clause-none c named carried s none gives low are =
+    let reached = reached_is c.args.self.now.notes.clock s.times are.clock in
+    let told = left_told c.leave.new.self c.in-Left.why c.args.event.now s c.args.self.now.notes.clock.reached reached
+    (λ no. c.in_ok-leave-in-Left.ensures.none s are no) (λ may. c.in_ok-leave-in-Left.ensures.lost s are may low) in
+    (Left c.in-Left.why, told.0, c.in-Left.ensures.is, (refl, told.1), told.2)
+
+pub returns-in_ok-leave-in-Left-clause-datagram : goal.returns-in_ok-leave-in-Left-clause-datagram
+returns-in_ok-leave-in-Left-clause-datagram c named carried s x a given is came carries later are = absurd (not_left c.args.event.now given c.in-Left.why came c.in-Left.ensures.is)
+
+pub returns-in_ok-wait-in-Waits-clause-none : goal.returns-in_ok-wait-in-Waits-clause-none
+returns-in_ok-wait-in-Waits-clause-none c named carried s none gives low are =
+    let reached = reached_is c.args.self.now.notes.clock s.times are.clock in
+    let told = waits_told c.wait.new.self c.args.event.now s c.args.self.now.notes.clock.reached reached (c.in_ok-wait-in-Waits.ensures s are low) in
+    (Waits, told.0, c.in-Waits.ensures.is, (refl, told.1), told.2)
+
+pub returns-in_ok-wait-in-Waits-clause-datagram : goal.returns-in_ok-wait-in-Waits-clause-datagram
+returns-in_ok-wait-in-Waits-clause-datagram c named carried s x a given is came carries later are = absurd (not_waiting c.args.event.now given came c.in-Waits.ensures.is)
+
+pub returns-in_ok-discard-in-Discarded-clause-datagram : goal.returns-in_ok-discard-in-Discarded-clause-datagram
+returns-in_ok-discard-in-Discarded-clause-datagram c named carried s x a given is came carries later are = absurd (not_discarded c.args.event.now given c.in-Discarded.datagram came c.in-Discarded.ensures.is)

@@ -1,0 +1,58 @@
+use Rattle.std.proofs.Common.{◌≡◌, ◌≤◌, ◌<◌, arith, refl, ap, subst, List, ℕ}
+use Rattle.net_udp.specs.Fragments.{Sets}
+use Rattle.net_udp.specs.Recording.{EventState, IsFateOf}
+use Rattle.net_udp.specs.{Fate}
+use Rattle.net_udp.specs.declared.recording.fate.Fate.TheVariants.{Datagram}
+use Rattle.audit_flows.specs.{Place}
+use Rattle.audit_recording.specs.Session.Kept.{GivesNone}
+use Rattle.audit_recording.specs.Session.Noted.{AreNotesOf, Noticed, frames_in, giving_up}
+use Rattle.audit_recording.specs.Session.Recording.{AddsOne, IsCarriedBy, letting_go, placing}
+use Rattle.audit_recording.proofs.SessionLemmas.Recording.{adds_bare, bare, carried_bare, last_up_to}
+use Rattle.audit_recording.proofs.session.session.Session.take.Goals as goal
+
+pub returns-clause-none : goal.returns-clause-none
+returns-clause-none c named history carried s step none gives of noticed are =
+    let event = c.args.event.now in
+    let after : Noticed = letting_go event.brought s in
+    let first : AreNotesOf c.lose.new.self (giving_up event.brought.old s) = subst (λ (l : List ℕ). AreNotesOf c.lose.new.self (giving_up l s)) c.old.ensures (c.in_ok-lose.ensures.stands s are) in
+    let let_go : AreNotesOf c.lose_all.new.self after =
+    subst (λ (l : Sets). AreNotesOf c.lose_all.new.self (giving_up (frames_in l) (giving_up event.brought.old s))) c.take_ousted.ensures.value (c.in_ok-lose_all.ensures (giving_up event.brought.old s) first) in
+    let same : c.take_ousted.new.self ≡ bare event = λ i. record {
+      frame = c.take_ousted.ensures.frame i;
+      likeness = c.take_ousted.ensures.likeness i;
+      brought = record { old = c.take_ousted.ensures.old i; ousted = c.take_ousted.ensures.gone i; outcome = c.take_ousted.ensures.outcome i };
+      sent = c.take_ousted.ensures.sent i;
+      is_discarded = c.take_ousted.ensures.discarded i;
+    } in
+    let up = last_up_to named history carried s noticed in
+    let number = of.number in
+    let low : s.last ≤ event.frame.number = omega arith in
+    let told = subst (λ (e : EventState). GivesNone e → s.last ≤ e.frame.number
+    → (fate : Fate) × (t : Noticed) × IsFateOf e.frame.parts e.likeness e.brought.outcome e.is_discarded fate × AddsOne named e fate carried after carried t × AreNotesOf c.note.new.self.notes t)
+    same (λ gives_so low_so. c.in_ok-note.ensures.none named carried after none gives_so low_so let_go) gives low in
+    (told.1, (carried, s, event, told.0, noticed, of, told.2, adds_bare named event told.0 carried after told.1 gives told.2 told.3), told.4)
+
+pub returns-clause-datagram : goal.returns-clause-datagram
+returns-clause-datagram c named history carried s step x a given is of came carries at noticed are =
+    let event = c.args.event.now in
+    let after : Noticed = letting_go event.brought s in
+    let first : AreNotesOf c.lose.new.self (giving_up event.brought.old s) = subst (λ (l : List ℕ). AreNotesOf c.lose.new.self (giving_up l s)) c.old.ensures (c.in_ok-lose.ensures.stands s are) in
+    let let_go : AreNotesOf c.lose_all.new.self after =
+    subst (λ (l : Sets). AreNotesOf c.lose_all.new.self (giving_up (frames_in l) (giving_up event.brought.old s))) c.take_ousted.ensures.value (c.in_ok-lose_all.ensures (giving_up event.brought.old s) first) in
+    let same : c.take_ousted.new.self ≡ bare event = λ i. record {
+      frame = c.take_ousted.ensures.frame i;
+      likeness = c.take_ousted.ensures.likeness i;
+      brought = record { old = c.take_ousted.ensures.old i; ousted = c.take_ousted.ensures.gone i; outcome = c.take_ousted.ensures.outcome i };
+      sent = c.take_ousted.ensures.sent i;
+      is_discarded = c.take_ousted.ensures.discarded i;
+    } in
+    let up = last_up_to named history carried s noticed in
+    let number = of.number in
+    let later : s.last < event.frame.number = omega arith in
+    let told : AreNotesOf c.note.new.self.notes (placing a.place event x after) =
+    subst (λ (e : EventState). IsFateOf e.frame.parts e.likeness e.brought.outcome e.is_discarded (Datagram given) → IsCarriedBy e given carried x → s.last < e.frame.number → AreNotesOf c.note.new.self.notes (placing a.place e x after))
+    same (λ came_so carries_so later_so. c.in_ok-note.ensures.datagram named carried after x a given is came_so carries_so later_so let_go) came (carried_bare event given carried x carries) later in (
+      placing a.place event x after,
+      (carried, s, event, Datagram given, noticed, of, came, (x, carries, refl, ap (λ (p : Place). placing p event x after) at)),
+      told,
+    )

@@ -1,0 +1,32 @@
+-- What is kept of a recording, as far as it was read. Lists have the newest first.
+use Rattle.std.specs.Prelude.{◌≡◌, ◌⊎◌, ◌∷◌, ℕ, Bool, true, false, List, Result, Ok, Err}
+use Rattle.net_udp.specs.Recording.{EventState, IsFateOf, Step}
+use Rattle.net_udp.specs.declared.recording.fate.Datagram.{Datagram as Given}
+use Rattle.net_udp.specs.declared.recording.fate.Fate.TheVariants.{Datagram}
+use Rattle.audit_recording.specs.Audit.Audited.{AuditsAfter}
+use Rattle.audit_recording.specs.Blame.Frames.{Carried, datagrams_of}
+use Rattle.audit_recording.specs.Session.Noted.{AreNotesOf, Noticed}
+use Rattle.audit_recording.specs.Session.Recording.{IsNoticedOf}
+use Rattle.audit_recording.specs.declared.session.fault.ReadFault.{ReadFault}
+use Rattle.audit_recording.specs.declared.session.session.Session.{Session}
+
+-- By these frames these datagrams came, and this was noticed: the judges were given the datagrams, and the notes are of what was noticed.
+-- `named` are the service ports that were named, `out` the numbers of the transfers that were handed out.
+pub record IsSessionAfter (session : Session) (named out : List ℕ) (history : List Step) (carried : List Carried) (s : Noticed) : Type 0 where
+  pub noticed : IsNoticedOf named history carried s
+  pub audit : AuditsAfter session.audit named out history (datagrams_of carried)
+  pub notes : AreNotesOf session.notes s
+
+-- the event's frame has given no datagram
+abbrev pub GivesNone : EventState → Type 0
+GivesNone event = (given : Given) → IsFateOf event.frame.parts event.likeness event.brought.outcome event.is_discarded (Datagram given) → ⊥
+
+-- with one datagram more, or none
+abbrev pub IsOneMore : List Carried → List Carried → Type 0
+IsOneMore older all = (all ≡ older) ⊎ ((c : Carried) × (all ≡ c ∷ older))
+
+-- What stands after the next frame, by whether the recording goes on. A fault leaves nothing.
+abbrev pub ReadsOn : (List Step → List Carried → Noticed → Type 0) → List Step → List Carried → Noticed → Result Bool ReadFault → Type 0
+ReadsOn Stand history carried s (Ok true) = (step : Step) × (all : List Carried) × (t : Noticed) × IsOneMore carried all × Stand (step ∷ history) all t
+ReadsOn Stand history carried s (Ok false) = Stand history carried s
+ReadsOn Stand history carried s (Err fault) = Unit {0}

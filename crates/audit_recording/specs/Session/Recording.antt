@@ -1,0 +1,116 @@
+-- What is noted of a recording, frame by frame. Lists have the newest first.
+use Rattle.std.specs.Prelude.{◌≡◌, ◌∷◌, ℕ, Bool, true, false, List, [], max, min, Option, Some, None, unwrap_or}
+use Rattle.std.specs.declared.net.ip_addr.IpAddr.{IpAddr}
+use Rattle.net_udp.specs.Recording.Alike.{is_doubtful}
+use Rattle.net_udp.specs.Recording.{BroughtState, EventState, IsFateOf, Step, checksum_told}
+use Rattle.net_udp.specs.declared.frames.checksum.Checksum.{Checksum}
+use Rattle.net_udp.specs.declared.frames.checksum.Checksum.TheVariants.{Absent, Partial, Right, Wrong}
+use Rattle.net_udp.specs.declared.recording.fate.Datagram.{Datagram as Given}
+use Rattle.net_udp.specs.declared.recording.fate.Fate.TheVariants.{Datagram, Discarded, Left, Waits}
+use Rattle.net_udp.specs.declared.recording.fate.LeftOut.{LeftOut}
+use Rattle.net_udp.specs.{Fate}
+use Rattle.audit_flows.specs.declared.lines.place.Place.TheVariants.{Opens, Repeats, Talks, Apart, Beside, Nowhere}
+use Rattle.audit_flows.specs.{Place}
+use Rattle.audit_recording.specs.Audit.Audited.{IsOfEvent}
+use Rattle.audit_recording.specs.Audit.Passed.{IsTaken, end_of, time_by}
+use Rattle.audit_recording.specs.Blame.Frames.{Carried, datagrams_of, framed_after}
+use Rattle.audit_recording.specs.Losses.Noted.Event.{Asks, Waits as Awaits}
+use Rattle.audit_recording.specs.Reasons.Clock.{last_of}
+use Rattle.audit_recording.specs.Reasons.Spoilt.{checked}
+use Rattle.audit_recording.specs.Session.Intact.{Gone}
+use Rattle.audit_recording.specs.Session.Noted.{AreHostsOf, Noticed, finding, frames_in, giving_up, leaving, losing, may_be_datagram, nothing_noticed, noting, sharers_of, unread_in, with_time}
+
+-- the latest moment that two in a row have reached, or 0
+abbrev pub reached_by : List ℕ → ℕ
+reached_by [] = 0
+reached_by (time ∷ []) = 0
+reached_by (time ∷ before ∷ older) = max (min time before) (reached_by (before ∷ older))
+
+-- ---- a datagram, in its frame and at its place
+
+-- it is the one that became of the event's frame, after these
+pub record IsCarriedBy (event : EventState) (given : Given) (older : List Carried) (c : Carried) : Type 0 where
+  pub frame : c.frame ≡ event.frame.number
+  pub time : c.time ≡ event.frame.parts.time
+  pub is_doubtful : c.is_doubtful ≡ is_doubtful event.likeness
+  pub has_error : c.has_error ≡ event.frame.parts.damaged
+  pub taken : IsTaken given (time_by event.frame.parts.time (datagrams_of older)) c.datagram
+
+-- whether it is as it was sent, where its checksums are there
+abbrev pub intact_by : Checksum → Option Bool
+intact_by Right = Some true
+intact_by Partial = Some false
+intact_by Wrong = Some false
+intact_by Absent = None
+
+-- the same of what passed at a transfer's client, or beside its server; of other datagrams nothing is told
+abbrev pub intact_at : Place → Checksum → Option Bool
+intact_at (Opens x) checksum = intact_by checksum
+intact_at (Repeats x) checksum = intact_by checksum
+intact_at (Talks x) checksum = intact_by checksum
+intact_at (Beside x) checksum = intact_by checksum
+intact_at (Apart c) checksum = None
+intact_at Nowhere checksum = None
+
+-- it has passed
+abbrev pub passing_at : Place → Checksum → Carried → Noticed → Noticed
+passing_at place checksum c s = record s {
+  seen = checked c.frame c.datagram.source.address (intact_at place checksum) ∷ s.seen;
+  times = with_time c.time s.times;
+}
+
+-- where it opens a transfer, its client asks
+abbrev pub asking : Place → ℕ → Noticed → Noticed
+asking (Opens x) frame s = noting (Asks x.client.address frame) frame s
+asking place frame s = s
+
+-- its packet is there whole, it has passed, and it may ask
+abbrev pub placing : Place → EventState → Carried → Noticed → Noticed
+placing place event c s = asking place c.frame (passing_at place (checksum_told event.sent) c (finding (reached_by s.times) (sharers_of event) s))
+
+-- ---- what is no datagram of a transfer
+
+-- a datagram that its host discarded
+abbrev pub gone_by : EventState → Given → List ℕ → Gone
+gone_by event given times = record {
+  source = end_of given.source given.source_port;
+  target = end_of given.target given.target_port;
+  frame = event.frame.number;
+  time = unwrap_or event.frame.parts.time (last_of times);
+}
+
+abbrev pub going : Gone → Noticed → Noticed
+going g s = record s { gone = g ∷ s.gone }
+
+-- what is left out: it is lost where it may have been a datagram
+abbrev pub Leaves : Bool → LeftOut → EventState → Noticed → Noticed → Type 0
+Leaves true why event s t = (hosts : Option (IpAddr × IpAddr)) × AreHostsOf event hosts × (t ≡ losing (reached_by s.times) event hosts s)
+Leaves false why event s t = t ≡ leaving (reached_by s.times) why event s
+
+-- a fragment waits for others
+abbrev pub BeginsToWait : EventState → Noticed → Noticed → Type 0
+BeginsToWait event s t =
+    (hosts : Option (IpAddr × IpAddr)) × AreHostsOf event hosts × (t ≡ noting (Awaits (unread_in (reached_by s.times) event hosts s.times)) event.frame.number s)
+
+-- ---- one frame
+
+-- the fragments that had waited too long, and those that had to make room for the frame, have waited in vain
+abbrev pub letting_go : BroughtState → Noticed → Noticed
+letting_go b s = giving_up (frames_in b.ousted) (giving_up b.old s)
+
+-- What a frame adds, by what became of it: its datagram, or nothing, and what is noted.
+abbrev pub AddsOne : List ℕ → EventState → Fate → List Carried → Noticed → List Carried → Noticed → Type 0
+AddsOne named event (Datagram given) older s all t =
+    (c : Carried) × IsCarriedBy event given older c × (all ≡ c ∷ older) × (t ≡ placing (framed_after named older c).placed.place event c s)
+AddsOne named event (Left why) older s all t = (all ≡ older) × Leaves (may_be_datagram why) why event s t
+AddsOne named event Waits older s all t = (all ≡ older) × BeginsToWait event s t
+AddsOne named event (Discarded given) older s all t = (all ≡ older) × (t ≡ going (gone_by event given s.times) (finding (reached_by s.times) (sharers_of event) s))
+
+-- ---- a recording
+
+-- By these frames, one after another, these datagrams came, and this was noticed. The event is the newest frame with its number.
+abbrev pub IsNoticedOf : List ℕ → List Step → List Carried → Noticed → Type 0
+IsNoticedOf named [] all t = (all ≡ []) × (t ≡ nothing_noticed)
+IsNoticedOf named (step ∷ before) all t =
+    (older : List Carried) × (s : Noticed) × (event : EventState) × (fate : Fate) × IsNoticedOf named before older s × IsOfEvent step before event
+    × IsFateOf event.frame.parts event.likeness event.brought.outcome event.is_discarded fate × AddsOne named event fate older (letting_go event.brought s) all t

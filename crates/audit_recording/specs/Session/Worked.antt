@@ -1,0 +1,98 @@
+-- A recording for a worked example. Host 192.0.2.7 sends from port 40000 to port 69 of 192.0.2.1: the first fragment of an acknowledgement,
+-- at second 1, a request for file `a`, at second 2, the last fragment of the acknowledgement, at second 3, and a fragment that brings no
+-- byte, of which no time is known.
+use Rattle.std.specs.Prelude.{◌*◌, ℕ, true, false, List, [], ◌∷◌, Option, Some, None}
+use Rattle.std.specs.Global.{Vec}
+use Rattle.net_pcap.specs.{FrameParts}
+use Rattle.net_udp.specs.Frames.{Packet, Udp, host, ipv4_packet}
+use Rattle.net_udp.specs.Recording.{Step, first_bytes, last_bytes, nothing_brought, raw_frame, sent_with}
+use Rattle.net_udp.specs.declared.fragments.content.Content.{Content}
+use Rattle.net_udp.specs.declared.fragments.outcome.Outcome.{Outcome}
+use Rattle.net_udp.specs.declared.fragments.outcome.Outcome.TheVariants.{Empty, Waits, Whole}
+use Rattle.net_udp.specs.declared.frames.checksum.Checksum.TheVariants.{Right}
+use Rattle.net_udp.specs.declared.frames.packet.Direction.TheVariants.{Unknown}
+use Rattle.net_udp.specs.declared.recording.likeness.Likeness.TheVariants.{New}
+use Rattle.net_udp.specs.declared.recording.sent.Sent.{Sent}
+use Rattle.audit_flows.specs.Transfers.{ack_of, client, read_of, service}
+use Rattle.audit_recording.specs.Blame.Frames.{Carried}
+use Rattle.audit_recording.specs.Losses.Noted.{Unread}
+use Rattle.audit_recording.specs.Losses.Noted.Event.{Asks, Finds, Loses, Waits as Awaits}
+use Rattle.audit_recording.specs.Reasons.Spoilt.{checked}
+use Rattle.audit_recording.specs.Session.Noted.{Noticed}
+
+-- ---- the request, made by Python's struct, its checksums by RFC 1071, section 4.1
+
+abbrev pub request_udp : List ℕ
+request_udp = 156 ∷ 64 ∷ 0 ∷ 69 ∷ 0 ∷ 18 ∷ 38 ∷ 113 ∷ 0 ∷ 1 ∷ 97 ∷ 0 ∷ 111 ∷ 99 ∷ 116 ∷ 101 ∷ 116 ∷ 0 ∷ []
+
+abbrev pub request_bytes : List ℕ
+request_bytes = 69 ∷ 0 ∷ 0 ∷ 38 ∷ 0 ∷ 8 ∷ 0 ∷ 0 ∷ 64 ∷ 17 ∷ 246 ∷ 182 ∷ 192 ∷ 0 ∷ 2 ∷ 7 ∷ 192 ∷ 0 ∷ 2 ∷ 1 ∷ request_udp
+
+abbrev pub request_packet : Packet
+request_packet = record (ipv4_packet Unknown request_bytes) { identification = Some 8; content = request_udp }
+
+abbrev pub request : Udp
+request = record { source_port = 40000; target_port = 69; payload = read_of (97 ∷ []) }
+
+-- ---- the frames
+
+abbrev pub at_second : ℕ → Option ℕ
+at_second n = Some (n * 1000000000)
+
+abbrev pub frame_at : Option ℕ → List ℕ → FrameParts
+frame_at time bytes = record (raw_frame bytes) { time = time }
+
+abbrev pub step_of : FrameParts → Option Outcome → Option Sent → Step
+step_of frame outcome sent = record {
+  frame = frame;
+  likeness = New;
+  brought = record nothing_brought { outcome = outcome };
+  waits = [];
+  came = [];
+  sent = sent;
+  is_discarded = false;
+}
+
+-- the content is put together of those frames
+abbrev pub worked_steps : Content → Vec ℕ → List Step
+worked_steps content frames =
+    step_of (frame_at None last_bytes) (Some Empty) None
+    ∷ step_of (frame_at (at_second 3) last_bytes) (Some (Whole content frames)) (sent_with Right)
+    ∷ step_of (frame_at (at_second 2) request_bytes) None (sent_with Right)
+    ∷ step_of (frame_at (at_second 1) first_bytes) (Some Waits) None
+    ∷ []
+
+-- ---- their datagrams, and what is noticed
+
+abbrev pub request_carried : Carried
+request_carried = record {
+  frame = 2;
+  time = at_second 2;
+  is_doubtful = false;
+  has_error = false;
+  datagram = record { time = 2000000000; source = client; target = service; payload = read_of (97 ∷ []); is_spelled = true };
+}
+
+abbrev pub ack_carried : Carried
+ack_carried = record {
+  frame = 3;
+  time = at_second 3;
+  is_doubtful = false;
+  has_error = false;
+  datagram = record { time = 3000000000; source = client; target = service; payload = ack_of 1; is_spelled = false };
+}
+
+-- a frame between the two hosts
+abbrev pub unread_at : ℕ → ℕ → Unread
+unread_at frame time = record { frame = frame; hosts = Some (host 7, host 1); time = time }
+
+-- Frame 4 is lost: at second 3, the time of the datagram before it. With frame 3 the packet of frames 1 and 3 is there whole; the clock
+-- had reached no moment then, since one datagram alone had come. In frame 2 the client asks. Frame 1 waits.
+abbrev pub worked_noticed : Noticed
+worked_noticed = record {
+  last = 4;
+  events = Loses (unread_at 4 3000000000) ∷ Finds 3 0 ∷ Finds 1 0 ∷ Asks client.address 2 ∷ Awaits (unread_at 1 1000000000) ∷ [];
+  seen = checked 3 client.address (Some true) ∷ checked 2 client.address (Some true) ∷ [];
+  gone = [];
+  times = 3000000000 ∷ 2000000000 ∷ [];
+}

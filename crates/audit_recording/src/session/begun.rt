@@ -1,0 +1,104 @@
+//! What looks like a transfer that began before the recording.
+
+use crate::blame::Passing;
+use crate::session::endpoint::shown;
+use audit_flows::lines::Endpoint;
+use std::alloc::{AllocError, Global};
+
+/// So many pairs of endpoints are told of, the first ones.
+const MOST: usize = 16;
+
+/// So many datagrams of two endpoints look like a transfer.
+const LEAST: u64 = 3;
+
+/// What passed between two endpoints and is of no transfer.
+#[derive(Clone, Copy)]
+struct Pair {
+    one: Endpoint,
+    other: Endpoint,
+    count: u64,
+    first: u64,
+    last: u64,
+}
+
+/// Datagrams of no transfer that go on as one does, by the two endpoints between which they passed.
+#[derive(Drop)]
+pub struct Begun {
+    pairs: Vec<Pair>,
+}
+
+impl Begun {
+    /// Nothing was read.
+    pub fn new(alloc: Global) -> Self {
+        Begun {
+            pairs: Vec::new(alloc),
+        }
+    }
+
+    /// Notes a datagram of no transfer, if it begins as a block, an ACK, an ERROR or an OACK does (RFC 1350, section 5; RFC 2347).
+    pub fn note(&mut self, passing: &Passing<'_>) -> Result<(), AllocError> {
+        if !goes_on(passing.payload) {
+            return Ok(());
+        }
+        match self.pairs.iter_mut().find(|pair| pair.is_of(passing)) {
+            Some(pair) => {
+                pair.add(passing.frame);
+                Ok(())
+            }
+            None => self.begin(passing),
+        }
+    }
+
+    /// Begins with a pair of endpoints, unless there are many.
+    fn begin(&mut self, passing: &Passing<'_>) -> Result<(), AllocError> {
+        if self.pairs.len() >= MOST {
+            return Ok(());
+        }
+        self.pairs.push(Pair {
+            one: passing.source,
+            other: passing.target,
+            count: 1,
+            first: passing.frame,
+            last: passing.frame,
+        })?;
+        Ok(())
+    }
+
+    /// Adds a line for each two endpoints of which this looks like a transfer.
+    pub fn put(&self, alloc: Global, lines: &mut Vec<String>) -> Result<(), AllocError> {
+        for pair in self.pairs.iter() {
+            pair.put(alloc, lines)?;
+        }
+        Ok(())
+    }
+}
+
+impl Pair {
+    /// Whether a datagram passed between these two.
+    fn is_of(&self, passing: &Passing<'_>) -> bool {
+        let ends = (passing.source, passing.target);
+        ends == (self.one, self.other) || ends == (self.other, self.one)
+    }
+
+    fn add(&mut self, frame: u64) {
+        self.count = self.count.saturating_add(1);
+        self.last = frame;
+    }
+
+    fn put(&self, alloc: Global, lines: &mut Vec<String>) -> Result<(), AllocError> {
+        if self.count < LEAST {
+            return Ok(());
+        }
+        let (one, other) = (shown(alloc, self.one)?, shown(alloc, self.other)?);
+        let (count, first, last) = (self.count, self.first, self.last);
+        lines.push(format!(in alloc;
+            "{count} datagrams between {one} and {other} look like a transfer that began before the recording (frames {first} to {last})"
+        )?)?;
+        Ok(())
+    }
+}
+
+/// Whether a payload begins as what follows a request does.
+fn goes_on(payload: &[u8]) -> bool {
+    matches!(payload, [0, 3..=6, _, _, ..])
+}
