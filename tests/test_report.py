@@ -6,6 +6,7 @@ from __future__ import annotations
 import dataclasses
 import hashlib
 import json
+import os
 import pathlib
 import re
 import shutil
@@ -27,6 +28,14 @@ from tftp_tools.junit import spoken
 
 SCRIPT, EXAMPLES = TOP / "tools" / "tftp-report", TOP / "examples"
 BROWSERS = ("chromium", "chromium-browser", "google-chrome")
+# Tells how wide what a page has is, and how wide it is, where it is 390 pixels wide.
+FRAMED = """<iframe src="{page}" width="390" height="1600"></iframe><pre></pre><script>
+document.querySelector('iframe').onload = function() {{
+const root = this.contentDocument.documentElement;
+document.querySelector('pre').textContent = root.scrollWidth + ' ' + root.clientWidth;
+}};
+</script>
+"""
 # HTML's elements without an end.
 VOID = ("meta", "br", "input")
 LOADING = ("link", "script", "img", "iframe", "object", "embed", "video", "audio", "base", "form")
@@ -451,9 +460,19 @@ class Report(Checks):
         light, dark = ((self.folder / f"{name}.png") for name in ("light", "dark"))
         differ = light.exists() and dark.exists() and light.read_bytes() != dark.read_bytes()
         self.check("in a browser, dark is not light", differ)
+        self.check("in a browser, 390 pixels are wide enough", self.is_narrow(call, small), small)
         printed = self.folder / "page.pdf"
         subprocess.run([*call, f"--print-to-pdf={printed}", small.as_uri()], capture_output=True, timeout=120)
         self.check("in a browser, printed", printed.exists() and printed.read_bytes().startswith(b"%PDF"))
+
+    def is_narrow(self, call: Sequence[str | os.PathLike[str]], page: pathlib.Path) -> bool:
+        """Whether nothing of a page stands beyond the edge where it has the room of a telephone."""
+        framed = self.folder / "framed.html"
+        framed.write_text(FRAMED.format(page=page.name))
+        words = ("--allow-file-access-from-files", "--virtual-time-budget=3000", "--dump-dom", framed.as_uri())
+        shown = subprocess.run([*call, *words], capture_output=True, text=True, timeout=120)
+        found = re.search(r"<pre>([0-9]+) ([0-9]+)</pre>", shown.stdout)
+        return found is not None and found[1] == found[2]
 
     def test_many(self) -> None:
         """A thousand transfers, which a browser shows too."""

@@ -13,6 +13,7 @@ import pathlib
 import re
 import shutil
 import subprocess
+import tempfile
 from collections.abc import Callable, Iterator
 from typing import Any
 
@@ -22,8 +23,9 @@ from refusals import Rule
 from repository import TOP
 
 EXAMPLES, PAGE = TOP / "examples", TOP / "docs" / "RECORDING.md"
-TYPES: dict[str, type] = {
-    "object": dict, "array": list, "string": str, "integer": int, "null": type(None), "boolean": bool,
+TYPES: dict[str, type | tuple[type, ...]] = {
+    "object": dict, "array": list, "string": str, "integer": int, "number": (int, float), "null": type(None),
+    "boolean": bool,
 }
 # The words of schemas that are known here; any other would be passed over.
 WORDS = {
@@ -61,7 +63,9 @@ class Validator:
             return
         if isinstance(value, bool):
             return
-        for kind, further in ((str, self.text), (int, self.number), (list, self.items), (dict, self.object)):
+        for kind, further in (
+            (str, self.text), (int, self.number), (float, self.number), (list, self.items), (dict, self.object),
+        ):
             if isinstance(value, kind):
                 yield from further(value, schema, at)
 
@@ -118,6 +122,11 @@ def written(program: str, transfers: str, match: str) -> dict[str, list[Any]]:
     for command in ("check", "list"):
         found[command] = [it for path in recordings for it in lines_of(transfers, command, "--json", path)]
     found["explain"] += lines_of(*explain, "-", given=PAGE)
+    report = TOP / "tools" / "tftp-report", "--format", "json", "--program", program, "--transfers", transfers
+    extract = TOP / "tools" / "tftp-extract", "--json", "--partial", "--program", program, "--transfers", transfers
+    found["report"] = [it for path in recordings for it in lines_of(*report, path)]
+    with tempfile.TemporaryDirectory() as folder:
+        found["extract"] = [it for path in recordings for it in lines_of(*extract, folder, path)]
     asked = ["--json", "--counts", "--transfer", "1"]
     found["match"] = [it for path in recordings for it in lines_of(match, *asked, path, path)]
     for text in texts:

@@ -49,8 +49,8 @@ section{border-top:2px solid;margin-top:2.5rem}
 dl{display:grid;grid-template-columns:max-content 1fr;gap:.2rem 1rem}
 dt{font-weight:bold;grid-column:1}dd{margin:0;grid-column:2;overflow-wrap:anywhere}
 pre{font-size:.75rem;overflow-x:auto;padding:.6rem;margin:0}
-h4{margin:.6rem 0}figure{margin:0}
-.beside{display:flex;flex-wrap:wrap;gap:1rem}
+h1{overflow-wrap:anywhere}h4{margin:.6rem 0}figure{margin:0}
+.beside{display:flex;flex-wrap:wrap;gap:1rem}.beside div{min-width:0;max-width:100%}
 svg{max-width:100%;height:auto}
 @media (max-width:48rem){
 body{margin:.8rem auto}table{display:flex;flex-direction:column}thead{display:none}
