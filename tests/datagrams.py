@@ -137,6 +137,7 @@ HEADERS = {
 
 # ---- what stands before a packet, between a link and IP, and round another packet
 
+RING, STREAM, MIRROR, MIRROR_THREE, VXLAN, GENEVE = 0x892F, 0xF1C1, 0x88BE, 0x22EB, 4789, 6081
 SNAP, SESSION, LABELS, MULTICAST_LABELS, BRIDGED = bytes.fromhex("aaaa03000000"), 0x8864, 0x8847, 0x8848, 0x6558
 PPP = {4: 0x21, 6: 0x57}
 IN_IP, GRE = {4: 4, 6: 41}, 47
@@ -174,6 +175,12 @@ def with_labels(count: int, kind: int = LABELS) -> Callable[[bytes], tuple[int, 
     return labelled
 
 
+def numbered(kind: int, first: int) -> Callable[[bytes], tuple[int, bytes]]:
+    """Behind a tag with a number: of HSR (IEC 62439-3), whose first bytes have a path and a length, or of FRER (IEEE
+    802.1CB), whose first are 0."""
+    return lambda packet: (kind, struct.pack("!HHH", first, 9, type_of(packet)) + packet)
+
+
 # A length is so long at most, of which LLC and SNAP have 8.
 LONGEST_LENGTH, LONGEST_IN_SNAP, COOKED_LLC = 1_500, 1_492, 4
 
@@ -181,6 +188,7 @@ LONGEST_LENGTH, LONGEST_IN_SNAP, COOKED_LLC = 1_500, 1_492, 4
 SHIMS: dict[str, Callable[[bytes], tuple[int, bytes]]] = {
     "nothing": lambda packet: (type_of(packet), packet), "LLC and SNAP": with_snap, "PPPoE": with_session,
     "a label of MPLS": with_labels(1), "three labels of MPLS": with_labels(3, MULTICAST_LABELS),
+    "HSR": numbered(RING, 0x1026), "FRER": numbered(STREAM, 0),
 }
 
 
@@ -215,6 +223,40 @@ def bridged(packet: bytes) -> bytes:
     return outer(4, struct.pack("!HH", 0, BRIDGED) + frame, GRE)
 
 
+def framed(packet: bytes, shim: str = "nothing") -> bytes:
+    """A frame of Ethernet, with what stands before the packet."""
+    kind, content = SHIMS[shim](packet)
+    return bytes(range(12)) + struct.pack("!H", kind) + content
+
+
+def in_erspan(kind: int, flags: int, head: bytes) -> Callable[[bytes], bytes]:
+    """A frame in ERSPAN, behind its header in GRE with a number or without (draft-foschiano-erspan-03)."""
+    front = struct.pack("!HH", flags, kind) + (bytes(4) if flags else b"") + head
+    return lambda packet: outer(4, front + framed(packet), GRE)
+
+
+def over_udp(version: int, port: int, payload: bytes) -> bytes:
+    """A datagram of a tunnel, without a checksum, as RFC 7348 and RFC 6935 have it."""
+    it = dataclasses.replace(TUNNEL[version], source_port=50_000, target_port=port, payload=payload)
+    return outer(version, recorded.udp(it, kind="absent"), recorded.UDP)
+
+
+def in_vxlan(version: int, shim: str = "nothing") -> Callable[[bytes], bytes]:
+    """A frame in VXLAN (RFC 7348, section 5)."""
+    return lambda packet: over_udp(version, VXLAN, bytes((8, 0, 0, 0, 1, 2, 3, 0)) + framed(packet, shim))
+
+
+def in_geneve(version: int, options: bytes = b"", is_framed: bool = False) -> Callable[[bytes], bytes]:
+    """A packet or a frame in Geneve, with options (RFC 8926, section 3.4)."""
+
+    def wrapped(packet: bytes) -> bytes:
+        kind, content = (BRIDGED, framed(packet)) if is_framed else (type_of(packet), packet)
+        head = struct.pack("!BBH4s", len(options) // 4, 0x40 if options else 0, kind, bytes((1, 2, 3, 0)))
+        return over_udp(version, GENEVE, head + options + content)
+
+    return wrapped
+
+
 def authenticated(packet: bytes) -> bytes:
     """A whole packet in an authentication header (RFC 4302, section 3.1.2)."""
     return outer(4, bytes([IN_IP[version_of(packet)], 4]) + bytes(10) + bytes(range(12)) + packet, AUTHENTICATION)
@@ -232,6 +274,8 @@ def behind_header(packet: bytes) -> bytes:
     return head[:10] + struct.pack("!H", recorded.sum_of(head[:10] + bytes(2) + head[12:])) + head[12:] + content
 
 
+# ERSPAN of type III: version 2, VLAN 5, session 100, a time.
+ERSPAN_THREE = bytes((0x20, 5, 0, 100, 0, 0, 0, 9))
 # No tunnel, and each of them.
 TUNNELS: dict[str, Callable[[bytes], bytes]] = {
     "none": lambda packet: packet, "IPv4": in_ip(4), "IPv6": in_ip(6), "GRE": in_gre(4, 0),
@@ -240,7 +284,15 @@ TUNNELS: dict[str, Callable[[bytes], bytes]] = {
     "authentication round a packet": authenticated, "authentication": behind_header,
     "IPv4 in GRE": lambda packet: in_gre(4, 0)(in_ip(4)(packet)),
     "three": lambda packet: in_ip(6)(in_ip(4)(in_gre(6, 0)(packet))),
+    "ERSPAN I": in_erspan(MIRROR, 0, b""), "ERSPAN II": in_erspan(MIRROR, 0x1000, bytes((0x10, 5, 0, 100, 0, 0, 0, 7))),
+    "ERSPAN III": in_erspan(MIRROR_THREE, 0x1000, ERSPAN_THREE + bytes(4)),
+    "ERSPAN III with more": in_erspan(MIRROR_THREE, 0x1000, ERSPAN_THREE + bytes((0, 0, 0, 1, 12)) + bytes(7)),
+    "VXLAN": in_vxlan(4), "VXLAN over IPv6": in_vxlan(6, "three labels of MPLS"), "Geneve": in_geneve(4),
+    "Geneve with an option": in_geneve(6, bytes.fromhex("01028001aabbccdd"), True),
+    "VXLAN in Geneve": lambda packet: in_geneve(4, is_framed=True)(in_vxlan(4)(packet)),
 }
+
+VXLAN_HEAD = bytes((8, 0, 0, 0, 1, 2, 3, 0))
 
 # What is not read, by its content behind a header of IPv4 or of Ethernet, and why it is left out.
 UNREAD: dict[str, tuple[str, Callable[[bytes], bytes]]] = {
@@ -262,6 +314,15 @@ UNREAD: dict[str, tuple[str, Callable[[bytes], bytes]]] = {
     "GRE that ends in its key": ("Frame", lambda packet: outer(4, bytes([0x20, 0, 8, 0, 0]), GRE)),
     "IP in IP without a header": ("Header", lambda packet: outer(4, packet[:10], 4)),
     "IP in IP that is cut": ("Cut", lambda packet: outer(4, packet[:-1], 4)),
+    "ERSPAN of another version": ("Frame", in_erspan(MIRROR, 0x1000, bytes((0x20, 5, 0, 100, 0, 0, 0, 7)))),
+    "ERSPAN of a packet": ("Frame", in_erspan(MIRROR_THREE, 0x1000, ERSPAN_THREE + bytes((0, 0, 8, 0)))),
+    "ERSPAN that is cut": ("Frame", lambda packet: outer(4, struct.pack("!HHI", 0x1000, MIRROR, 9) + b"\x10\5", GRE)),
+    "VXLAN that ends in its header": ("Frame", lambda packet: over_udp(4, VXLAN, bytes((8, 0, 0, 0)))),
+    "ARP in VXLAN": ("Network", lambda packet: over_udp(4, VXLAN, VXLAN_HEAD + bytes(12) + b"\x08\6" + bytes(28))),
+    "Geneve of another type": ("Frame", lambda packet: over_udp(4, GENEVE, bytes((0, 0, 8, 6, 1, 2, 3, 0)) + packet)),
+    "Geneve that ends in its options": (
+        "Frame", lambda packet: over_udp(4, GENEVE, bytes((2, 0, 8, 0, 1, 2, 3, 0, 1))),
+    ),
     "TCP in IP": ("Protocol", lambda packet: outer(4, recorded.ipv4(TUNNEL[4], bytes(20), recorded.TCP), 4)),
 }
 # What is not read behind the type of a frame of Ethernet.
@@ -275,6 +336,20 @@ UNREAD_FRAMES: dict[str, tuple[str, int, bytes]] = {
     "PPPoE of another code": ("Frame", SESSION, bytes([0x11, 9, 0, 7, 0, 4, 0, 0x21, 9, 1])),
     "a label before none of IP": ("Frame", LABELS, bytes([0, 1, 1, 64, 0, 0, 0, 0]) + bytes(20)),
     "labels without an end": ("Frame", LABELS, bytes([0, 1, 0, 64]) * 3),
+    "HSR that is cut": ("Frame", RING, bytes((0, 38, 0))),
+    "MACsec": ("Frame", 0x88E5, bytes((0x20, 0, 0, 0, 0, 9)) + bytes(44)),
+    "a tag of Marvell's": ("Frame", 0xDADA, bytes((0, 0, 0xC0, 0, 0, 1, 8, 0)) + bytes(40)),
+    "TRILL": ("Frame", 0x22F3, bytes(46)),
+}
+
+# What goes to the port of a tunnel and is none: it begins as TFTP does (RFC 1350, section 5), or has a reserved bit.
+PLAIN = {
+    "DATA to the port of VXLAN": (VXLAN, b"\0\3\0\1" + bytes(512)), "ACK to that of Geneve": (GENEVE, b"\0\4\0\1"),
+    "DATA to that of Geneve": (GENEVE, b"\0\3\0\1" + bytes(512)), "OACK to that of Geneve": (GENEVE, b"\0\6a\0b\0"),
+    "VXLAN without its flag": (VXLAN, bytes(8) + bytes(range(60))),
+    "VXLAN with another flag": (VXLAN, bytes((0x88, 0, 0, 9, 1, 2, 3, 0)) + bytes(60)),
+    "Geneve of version 1": (GENEVE, bytes((0x40, 0, 8, 0, 1, 2, 3, 0)) + bytes(60)),
+    "Geneve that is of control": (GENEVE, bytes((0, 0x80, 8, 0, 1, 2, 3, 0)) + bytes(60)),
 }
 
 # Fragments of 40 bytes by where each begins and ends, and whether they are put together in IPv6 too.
@@ -694,6 +769,33 @@ class Lists:
         yield Check("a tunnel in fragments", (rows, sorted(left), fault, status) == ([], wanted, "", 0), left)
         yield Check("a tunnel in fragments, slowly", slow_reader.listing(file).left == wanted, wanted)
 
+    def try_plain(self) -> Iterator[Check]:
+        """What goes to the port of a tunnel and is none is a datagram as any other."""
+        for name, (port, payload) in PLAIN.items():
+            it = Datagram("192.0.2.7", 40_000, "192.0.2.1", port, payload)
+            frame = Frame(recorded.RAW, packet_of(it, recorded.udp(it), None), recorded.FIRST_TIME)
+            file, wanted = recorded.pcap([frame]), [row(1, frame, it)]
+            got = self.run(file)
+            yield Check(name, got == (wanted, [], "", 0), got)
+            yield Check(f"{name}, slowly", slow_reader.listing(file).rows == wanted, name)
+
+    def try_tunnels_in_parts(self) -> Iterator[Check]:
+        """A tunnel over UDP whose datagram comes in fragments, in any order: when they are put together it is told that
+        they are not read."""
+        it = Datagram("192.0.2.7", 40_000, "192.0.2.1", 69, b"\0\4\0\1")
+        packet = packet_of(it, recorded.udp(it), None)
+        wraps = {"VXLAN": (in_vxlan(4), in_vxlan(6)), "Geneve": (in_geneve(4), in_geneve(6))}
+        for tunnel, version in itertools.product(wraps, (4, 6)):
+            whole, name = wraps[tunnel][version == 6](packet), f"{tunnel} in fragments, IPv{version}"
+            parts = recorded.parts_of(whole[20 if version == 4 else 40 :], 24, 7)
+            for order in itertools.permutations(parts):
+                packets = [packet_of(TUNNEL[version], piece, part) for part, piece in order]
+                file = recorded.pcap([Frame(recorded.RAW, one, recorded.FIRST_TIME) for one in packets])
+                wanted = [(at, "Extension") for at in range(1, len(parts) + 1)]
+                rows, left, fault, status = self.run(file)
+                yield Check(name, (rows, sorted(left), fault, status) == ([], wanted, "", 0), left)
+                yield Check(f"{name}, slowly", slow_reader.listing(file).left == wanted, wanted)
+
     def compare(self, name: str, file: bytes, rows: list[str], gone: Collection[int] = ()) -> Iterator[Check]:
         """The program's list beside the fields of tshark, but for the frames of what was discarded."""
         with tempfile.NamedTemporaryFile(suffix=".pcap") as path:
@@ -736,8 +838,11 @@ def as_tshark(it: dict[str, str]) -> str:
     payload = it["udp.payload"].replace(":", "")
     if length < 0 or len(payload) < 2 * length or "0" in (it["udp.srcport"], it["udp.dstport"]):
         return ""
-    # Of tunnels the innermost packet.
-    version = [name for name in it["frame.protocols"].split(":") if name in ("ip", "ipv6")][-1]
+    # Of tunnels the innermost packet; the datagram of one over UDP is none where that is not of UDP, or waits.
+    layers = [name for name in it["frame.protocols"].split(":") if name in ("ip", "ipv6", "udp", "vxlan", "geneve")]
+    if layers[-1] != "udp" and {"vxlan", "geneve"} & set(layers):
+        return ""
+    version = [name for name in layers if name in ("ip", "ipv6")][-1]
     hosts = it[f"{version}.src"], it[f"{version}.dst"]
     ends = hosts[0], it["udp.srcport"], hosts[1], it["udp.dstport"]
     return " ".join(("datagram", it["frame.number"], *ends, payload[: 2 * length] or "-"))
@@ -784,6 +889,8 @@ def tried(words: argparse.Namespace) -> Iterator[Check]:
     yield from lists.try_headers()
     yield from lists.try_layers()
     yield from lists.try_unread()
+    yield from lists.try_plain()
+    yield from lists.try_tunnels_in_parts()
     for seed in range(words.seed, words.seed + words.cases):
         chance = random.Random(seed)
         make = chance.choice((made_pcap, made_pcapng))

@@ -1,4 +1,4 @@
-"""Recordings from labs: transfers behind PPPoE and MPLS, whose bytes tshark reads too, one of no frames, and a
+"""Recordings from labs: transfers behind PPPoE, MPLS and ERSPAN, whose bytes tshark reads too, one of no frames, and a
 server that gives up. What must be told is written down here."""
 from __future__ import annotations
 
@@ -11,9 +11,9 @@ from checks import Checks
 from programs import TRANSFERS
 from repository import TOP
 
-DATA = TOP / "tests" / "data"
+DATA = TOP / "tests" / "data" / "labs"
 # A read of boot.cfg in three blocks each.
-WRAPPED = ("in-pppoe", "in-mpls")
+WRAPPED = ("in-pppoe", "in-mpls", "in-erspan")
 ACCEPTED = "accepted get octet blocks 3 bytes 1300"
 
 

@@ -225,7 +225,7 @@ class Rows(Checks):
         first = json.loads(output.splitlines()[0])
         wanted = {"number": 1, "client": "192.0.2.1:34056", "server": "192.0.2.1:51973", "kind": "get", "mode": "octet"}
         wanted |= {"file": '"boot.cfg"', "options": "-", "datagrams": 7, "first_frame": 1, "last_frame": 7}
-        del first["ended"]
+        del first["ended"], first["times"]
         self.check("the list of a session in JSON", first == wanted, first)
         rows, _, status = checked(self.program, session.read_bytes())
         frames = [(row.place, row.frame) for row in rows]
@@ -375,7 +375,7 @@ class Rows(Checks):
         self.check("what came before the request", got == ([WHOLE], told, 0), got)
 
     def test_layers(self) -> None:
-        """Datagrams that were recorded twice, and tunnels: those of IP are looked into, and those of UDP are not."""
+        """Datagrams that were recorded twice, and tunnels, which are looked into but at another port of UDP."""
         passed, twofold = read("a", 40_000, 41_000), "each of its datagrams stands beside its equal: recorded twice"
         got = checked(self.program, file_of([it for it in passed for _ in (0, 1)]))
         self.check("each twice", (got[0], got[2]) == ([WHOLE], 0), got)
@@ -389,9 +389,14 @@ class Rows(Checks):
         wrapped = [dataclasses.replace(router, payload=head + packet) for packet in packets_of(passed)]
         of_none = "tftp-transfers: -: 3 datagrams of UDP of no transfer (frames 1, 2, 3)\n"
         nothing = "tftp-transfers: -: no request passed, so there is no transfer\n"
-        got = checked(self.program, file_of_packets(packets_of(wrapped)))
-        self.check("in VXLAN", got == ([], of_none + nothing, 3), got)
+        elsewhere = [dataclasses.replace(it, target_port=8472) for it in wrapped]
+        got = checked(self.program, file_of_packets(packets_of(elsewhere)))
+        self.check("in VXLAN at another port", got == ([], of_none + nothing, 3), got)
+        # to the port of VXLAN from that of the server: a transfer as any other
+        got = checked(self.program, file_of(read("a", 4789, 6081)))
+        self.check("between the ports of tunnels", got == ([WHOLE], "", 0), got)
         for name, packets in (
+            ("VXLAN", packets_of(wrapped)),
             ("IP in IP", [recorded.ipv4(router, packet, 4) for packet in packets_of(passed)]),
             ("GRE", [recorded.ipv4(router, b"\0\0\x08\0" + packet, 47) for packet in packets_of(passed)]),
         ):

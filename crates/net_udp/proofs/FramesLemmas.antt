@@ -3,7 +3,9 @@ pub mod Extensions
 pub mod Links
 pub mod Uppers
 pub mod Tunnels
+pub mod Opened
 pub mod FaultOrder
 pub mod Datagrams
 pub mod Addresses
 pub mod Hosts
+pub mod Unreached

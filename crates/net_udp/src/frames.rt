@@ -9,10 +9,13 @@ mod ip;
 mod laws;
 mod link;
 mod number;
+mod over_udp;
 mod packet;
 mod tag;
 mod tunnel;
+mod tunnel_laws;
 mod udp;
+mod unreachable;
 
 pub use address::write_address;
 pub use checksum::Checksum;
@@ -22,8 +25,12 @@ pub use laws::{
     addresses_are_one_if_written_the_same, content_is_one_datagram, first_fault_is_one,
     frame_spells_one_packet, spelled_frame_has_no_fault, worked_addresses, worked_checksums,
     worked_datagrams, worked_families, worked_faults, worked_frames, worked_identifications,
-    worked_indexes, worked_shims, worked_tunnels,
+    worked_indexes, worked_shims, worked_tunnels, worked_unreachable,
 };
 pub use link::interface_index;
 pub use packet::{Direction, Fragment, IpPacket, UdpDatagram};
+pub use tunnel_laws::{
+    tftp_opens_no_tunnel, worked_closed_tunnels, worked_mirrors, worked_over_udp, worked_paths,
+};
 pub use udp::read_udp;
+pub use unreachable::{Quoted, Unreachable, read_unreachable};

@@ -1,4 +1,4 @@
-//! Tests of the reader of recordings, of fragments and of copies.
+//! Tests of the reader of recordings, of fragments, of copies and of tunnels.
 #![tactic(auto)]
 
 #[cfg(test)]
@@ -7,3 +7,5 @@ mod copies;
 mod fragments;
 #[cfg(test)]
 mod recordings;
+#[cfg(test)]
+mod tunnels;

@@ -1,7 +1,7 @@
 -- A content is one datagram or has one fault.
 use Rattle.std.proofs.Common.{Bool, true, false, if◌then◌else◌, ◌≡◌, ◌≢◌, ◌↔◌, ◌⊎◌, inl, inr, ℕ, ◌-◌, ◌<◌, ◌≤◌, List, length, take, drop, refl, sym, ap, subst, ◌∙◌, arith, None, Result, Ok, Err, IsOkAnd}
 use Rattle.std.proofs.lemmas.Bool.{false≢true}
-use Rattle.net_udp.specs.Frames.{pair, Reached, ReachesOver, Udp, HasUdp, IsHidden, IsSized, SpellsUdp, HoldsUdp, JudgesUdp, datagram, is_hidden_in}
+use Rattle.net_udp.specs.Frames.{pair, Reached, ReachesOver, Udp, HasUdp, IsHidden, IsSized, SpellsUdp, HoldsUdp, JudgesUdp, datagram, is_hidden_in, is_over_udp}
 use Rattle.net_udp.specs.declared.frames.checksum.Checksum.{Checksum}
 use Rattle.net_udp.specs.declared.frames.packet.UdpDatagram.{UdpDatagram}
 use Rattle.net_udp.specs.declared.frames.fault.UdpFault.{UdpFault}
@@ -10,7 +10,7 @@ use Rattle.net_udp.specs.declared.frames.fault.UdpFault.TheVariants.{Protocol, E
 use Rattle.net_udp.proofs.FramesLemmas.Extensions.{reaches_one}
 
 pub has_one : (protocol : ℕ) (content a b : List ℕ) → HasUdp protocol content a → HasUdp protocol content b → a ≡ b
-has_one protocol content a b p q = ap (λ (r : Reached). r.content) (reaches_one protocol content _ _ p q)
+has_one protocol content a b p q = ap (λ (r : Reached). r.content) (reaches_one protocol content _ _ p.0 q.0)
 
 -- a verdict where the header's checksum is right, and where it is not
 pub headed : (is_headed : Bool) (one other wrong : Checksum) → is_headed ≡ true → one ≡ other → one ≡ (if is_headed then other else wrong)
@@ -36,7 +36,7 @@ Upto Port bytes = (8 ≤ length bytes) × IsSized bytes × ((pair bytes 0 ≡ 0)
 
 upto : (protocol : ℕ) (content bytes : List ℕ) (f : UdpFault) → HasUdp protocol content bytes → HoldsUdp f protocol content → Upto f bytes
 upto protocol content bytes Protocol has none = none.0 bytes has
-upto protocol content bytes Extension has hidden = false≢true (hidden (record { protocol = 17; fragment = None; content = bytes }) has)
+upto protocol content bytes Extension has hidden = false≢true (sym has.1 ∙ hidden (record { protocol = 17; fragment = None; content = bytes }) has.0)
 upto protocol content bytes Header has (b, has_b, short) = subst (Upto Header) (has_one protocol content b bytes has_b has) short
 upto protocol content bytes Length has (b, has_b, long, wrong) = subst (Upto Length) (has_one protocol content b bytes has_b has) (long, wrong)
 upto protocol content bytes Port has (b, has_b, long, sized, zero) = subst (Upto Port) (has_one protocol content b bytes has_b has) (long, sized, zero)
@@ -95,12 +95,16 @@ pub fault_of : (protocol : ℕ) (content : List ℕ) (r : Result UdpDatagram Udp
 fault_of protocol content (Ok found) judged f = ((λ e. absurd (let x : ⊥ = cc in x)), λ h. absurd (no_fault protocol content (datagram found) f judged h))
 fault_of protocol content (Err g) judged f = ((λ e. let same : g ≡ f = cc in subst (λ (x : UdpFault). HoldsUdp x protocol content) same judged), λ h. ap Err (fault_one protocol content g f judged h))
 
--- what is reached is not UDP, or a fragment of it
+-- what is reached is not UDP, or a fragment of it, or a tunnel over it
 pub other_protocol : (protocol : ℕ) (content : List ℕ) (r : Reached) → ReachesOver protocol content r → r.protocol ≢ 17 → (bytes : List ℕ) → HasUdp protocol content bytes → ⊥
-other_protocol protocol content r reaches other bytes has = other (ap (λ (x : Reached). x.protocol) (reaches_one protocol content _ _ reaches has))
+other_protocol protocol content r reaches other bytes has = other (ap (λ (x : Reached). x.protocol) (reaches_one protocol content _ _ reaches has.0))
 
 pub is_part_only : (protocol : ℕ) (content : List ℕ) (r : Reached) → ReachesOver protocol content r → r.fragment ≢ None → (bytes : List ℕ) → HasUdp protocol content bytes → ⊥
-is_part_only protocol content r reaches part bytes has = part (ap (λ (x : Reached). x.fragment) (reaches_one protocol content _ _ reaches has))
+is_part_only protocol content r reaches part bytes has = part (ap (λ (x : Reached). x.fragment) (reaches_one protocol content _ _ reaches has.0))
+
+pub is_tunnel_only : (protocol : ℕ) (content : List ℕ) (r : Reached) → ReachesOver protocol content r → is_over_udp r.content ≡ true → (bytes : List ℕ) → HasUdp protocol content bytes → ⊥
+is_tunnel_only protocol content r reaches tunnel bytes has =
+    false≢true (sym has.1 ∙ ap (λ (x : Reached). is_over_udp x.content) (reaches_one protocol content _ _ has.0 reaches) ∙ tunnel)
 
 -- what is reached tells whether it is hidden
 pub hidden : (protocol : ℕ) (content : List ℕ) (r : Reached) → ReachesOver protocol content r → is_hidden_in r ≡ true → IsHidden protocol content

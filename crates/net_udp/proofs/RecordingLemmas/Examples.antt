@@ -40,19 +40,19 @@ use Rattle.net_udp.proofs.RecordingLemmas.Keys.{same_back, same_itself}
 -- ---- the frames
 
 pub first_spells : SpellsFrame 228 first_bytes first_part
-first_spells = spells_ipv4 228 RawIpv4 first_bytes Unknown first_bytes refl (omega arith, refl, (refl, refl)) (omega arith, refl, omega arith, omega arith) (omega arith, omega arith) refl
+first_spells = spells_ipv4 228 RawIpv4 first_bytes Unknown first_bytes refl (omega arith, refl, (refl, refl)) (omega arith, refl, omega arith, omega arith) (omega arith, omega arith) refl refl
 
 pub last_spells : SpellsFrame 228 last_bytes last_part
-last_spells = spells_ipv4 228 RawIpv4 last_bytes Unknown last_bytes refl (omega arith, refl, (refl, refl)) (omega arith, refl, omega arith, omega arith) (omega arith, omega arith) refl
+last_spells = spells_ipv4 228 RawIpv4 last_bytes Unknown last_bytes refl (omega arith, refl, (refl, refl)) (omega arith, refl, omega arith, omega arith) (omega arith, omega arith) refl refl
 
 ethernet_spells : SpellsFrame 1 (two_tags ++ ipv4_bytes) (ipv4_packet Unknown ipv4_bytes)
-ethernet_spells = spells_ipv4 1 Ethernet (two_tags ++ ipv4_bytes) Unknown ipv4_bytes refl (omega arith, refl, (2048, (2, (33024, (refl, omega arith, refl), (2048, (refl, omega arith, refl), (refl, refl, refl)))), refl)) (omega arith, refl, omega arith, omega arith) (omega arith, omega arith) refl
+ethernet_spells = spells_ipv4 1 Ethernet (two_tags ++ ipv4_bytes) Unknown ipv4_bytes refl (omega arith, refl, (2048, (2, (33024, (refl, omega arith, refl), (2048, (refl, omega arith, refl), (refl, refl, refl)))), refl)) (omega arith, refl, omega arith, omega arith) (omega arith, omega arith) refl refl
 
 cooked_spells : SpellsFrame 113 (cooked_head ++ ipv4_bytes) (ipv4_packet Out ipv4_bytes)
-cooked_spells = spells_ipv4 113 Cooked (cooked_head ++ ipv4_bytes) Out ipv4_bytes refl (omega arith, refl, (2048, (0, (refl, refl, refl)), refl)) (omega arith, refl, omega arith, omega arith) (omega arith, omega arith) refl
+cooked_spells = spells_ipv4 113 Cooked (cooked_head ++ ipv4_bytes) Out ipv4_bytes refl (omega arith, refl, (2048, (0, (refl, refl, refl)), refl)) (omega arith, refl, omega arith, omega arith) (omega arith, omega arith) refl refl
 
 says_acknowledgement : SpellsUdp 17 udp_bytes acknowledgement
-says_acknowledgement = (udp_bytes, (0, inl (refl, (λ e. omega arith), refl)), omega arith, (omega arith, omega arith), (λ e. omega arith), (λ e. omega arith), refl)
+says_acknowledgement = (udp_bytes, ((0, inl (refl, (λ e. omega arith), refl)), refl), omega arith, (omega arith, omega arith), (λ e. omega arith), (λ e. omega arith), refl)
 
 -- ---- what frames tell of who sent their datagrams
 
@@ -71,13 +71,13 @@ tells_by frame whole p udp bytes checksum spells has spelled is = (
 )
 
 ethernet_tells : (time : ℕ) → IsSentBy (ethernet_step time).frame None (sent_with Right)
-ethernet_tells time = tells_by (ethernet_step time).frame None (ipv4_packet Unknown ipv4_bytes) acknowledgement udp_bytes Right ethernet_spells (0, inl (refl, (λ e. omega arith), refl)) says_acknowledgement refl
+ethernet_tells time = tells_by (ethernet_step time).frame None (ipv4_packet Unknown ipv4_bytes) acknowledgement udp_bytes Right ethernet_spells ((0, inl (refl, (λ e. omega arith), refl)), refl) says_acknowledgement refl
 
 cooked_tells : (number before time : ℕ) → IsSentBy (cooked_step New number before time).frame None (sent_with Right)
-cooked_tells number before time = tells_by (cooked_step New number before time).frame None (ipv4_packet Out ipv4_bytes) acknowledgement udp_bytes Right cooked_spells (0, inl (refl, (λ e. omega arith), refl)) says_acknowledgement refl
+cooked_tells number before time = tells_by (cooked_step New number before time).frame None (ipv4_packet Out ipv4_bytes) acknowledgement udp_bytes Right cooked_spells ((0, inl (refl, (λ e. omega arith), refl)), refl) says_acknowledgement refl
 
 last_tells : IsSentBy (raw_frame last_bytes) (Some worked_content) (sent_with Right)
-last_tells = tells_by (raw_frame last_bytes) (Some worked_content) last_part acknowledgement udp_bytes Right last_spells (0, inl (refl, (λ e. omega arith), refl)) says_acknowledgement refl
+last_tells = tells_by (raw_frame last_bytes) (Some worked_content) last_part acknowledgement udp_bytes Right last_spells ((0, inl (refl, (λ e. omega arith), refl)), refl) says_acknowledgement refl
 
 right_stays : (before : List (Option Sent)) → IsDiscarded before (sent_with Right) → ⊥
 right_stays before h = let x : Right ≡ Wrong = h.0 in cc
@@ -321,9 +321,9 @@ pub udp_fate : (content : Made) (frames : Vec ℕ Global) (d : Given) → put_to
 udp_fate content frames d e is = (part_of_icmp, acknowledgement, icmp_spells, subst (λ (c : Content). SpellsUdp c.protocol c.bytes acknowledgement) (sym e) says_acknowledgement, is)
 
 no_udp : (bytes : List ℕ) → HasUdp 58 udp_bytes bytes → ⊥
-no_udp bytes (zero, inl h) = let e = ap (λ (r : Reached). r.protocol) h.2 in absurd (omega (arith, e))
-no_udp bytes (zero, inr h) = absurd (omega (arith, h.0))
-no_udp bytes (suc n, h) = elim h.0.2 [ inl e ↦ not_both false e refl | inr e ↦ absurd (omega (arith, e.0)) ]
+no_udp bytes ((zero, inl h), _) = let e = ap (λ (r : Reached). r.protocol) h.2 in absurd (omega (arith, e))
+no_udp bytes ((zero, inr h), _) = absurd (omega (arith, h.0))
+no_udp bytes ((suc n, h), _) = elim h.0.2 [ inl e ↦ not_both false e refl | inr e ↦ absurd (omega (arith, e.0)) ]
 
 pub icmp_fate : (content : Made) (frames : Vec ℕ Global) → put_together content ≡ icmp_content → IsFateOf icmp_frame New (Some (Whole content frames)) false (Left (Frame Protocol))
 icmp_fate content frames e = inr (refl, (part_of_icmp, icmp_spells, subst (λ (c : Content). HoldsUdp NotUdp c.protocol c.bytes) (sym e) (no_udp, not_hidden_udp 58 udp_bytes (record { protocol = 58; fragment = None; content = udp_bytes }) (0, inl (refl, (λ e. omega arith), refl)) refl)))
@@ -331,28 +331,28 @@ icmp_fate content frames e = inr (refl, (part_of_icmp, icmp_spells, subst (λ (c
 -- ---- discarded
 
 raw_spells : SpellsFrame 228 ipv4_bytes (ipv4_packet Unknown ipv4_bytes)
-raw_spells = spells_ipv4 228 RawIpv4 ipv4_bytes Unknown ipv4_bytes refl (omega arith, refl, (refl, refl)) (omega arith, refl, omega arith, omega arith) (omega arith, omega arith) refl
+raw_spells = spells_ipv4 228 RawIpv4 ipv4_bytes Unknown ipv4_bytes refl (omega arith, refl, (refl, refl)) (omega arith, refl, omega arith, omega arith) (omega arith, omega arith) refl refl
 
 spoilt_spells : SpellsFrame 228 spoilt_bytes spoilt_packet
-spoilt_spells = spells_ipv4 228 RawIpv4 spoilt_bytes Unknown spoilt_bytes refl (omega arith, refl, (refl, refl)) (omega arith, refl, omega arith, omega arith) (omega arith, omega arith) refl
+spoilt_spells = spells_ipv4 228 RawIpv4 spoilt_bytes Unknown spoilt_bytes refl (omega arith, refl, (refl, refl)) (omega arith, refl, omega arith, omega arith) (omega arith, omega arith) refl refl
 
 left_spells : SpellsFrame 228 left_bytes left_packet
-left_spells = spells_ipv4 228 RawIpv4 left_bytes Unknown left_bytes refl (omega arith, refl, (refl, refl)) (omega arith, refl, omega arith, omega arith) (omega arith, omega arith) refl
+left_spells = spells_ipv4 228 RawIpv4 left_bytes Unknown left_bytes refl (omega arith, refl, (refl, refl)) (omega arith, refl, omega arith, omega arith) (omega arith, omega arith) refl refl
 
 says_spoilt : SpellsUdp 17 spoilt_packet.content spoilt_acknowledgement
-says_spoilt = (spoilt_packet.content, (0, inl (refl, (λ e. omega arith), refl)), omega arith, (omega arith, omega arith), (λ e. omega arith), (λ e. omega arith), refl)
+says_spoilt = (spoilt_packet.content, ((0, inl (refl, (λ e. omega arith), refl)), refl), omega arith, (omega arith, omega arith), (λ e. omega arith), (λ e. omega arith), refl)
 
 says_left : SpellsUdp 17 udp_left acknowledgement
-says_left = (udp_left, (0, inl (refl, (λ e. omega arith), refl)), omega arith, (omega arith, omega arith), (λ e. omega arith), (λ e. omega arith), refl)
+says_left = (udp_left, ((0, inl (refl, (λ e. omega arith), refl)), refl), omega arith, (omega arith, omega arith), (λ e. omega arith), (λ e. omega arith), refl)
 
 raw_tells : IsSentBy (raw_frame ipv4_bytes) None (sent_with Right)
-raw_tells = tells_by (raw_frame ipv4_bytes) None (ipv4_packet Unknown ipv4_bytes) acknowledgement udp_bytes Right raw_spells (0, inl (refl, (λ e. omega arith), refl)) says_acknowledgement refl
+raw_tells = tells_by (raw_frame ipv4_bytes) None (ipv4_packet Unknown ipv4_bytes) acknowledgement udp_bytes Right raw_spells ((0, inl (refl, (λ e. omega arith), refl)), refl) says_acknowledgement refl
 
 spoilt_tells : IsSentBy (raw_frame spoilt_bytes) None (sent_with Wrong)
-spoilt_tells = tells_by (raw_frame spoilt_bytes) None spoilt_packet spoilt_acknowledgement spoilt_packet.content Wrong spoilt_spells (0, inl (refl, (λ e. omega arith), refl)) says_spoilt refl
+spoilt_tells = tells_by (raw_frame spoilt_bytes) None spoilt_packet spoilt_acknowledgement spoilt_packet.content Wrong spoilt_spells ((0, inl (refl, (λ e. omega arith), refl)), refl) says_spoilt refl
 
 left_tells : IsSentBy (raw_frame left_bytes) None (sent_with Partial)
-left_tells = tells_by (raw_frame left_bytes) None left_packet acknowledgement udp_left Partial left_spells (0, inl (refl, (λ e. omega arith), refl)) says_left refl
+left_tells = tells_by (raw_frame left_bytes) None left_packet acknowledgement udp_left Partial left_spells ((0, inl (refl, (λ e. omega arith), refl)), refl) says_left refl
 
 left_stays : (before : List (Option Sent)) → IsDiscarded before (sent_with Partial) → ⊥
 left_stays before h = let x : Partial ≡ Wrong = h.0 in cc

@@ -2,6 +2,7 @@
 use Rattle.std.specs.Prelude.{◌≡◌, ◌≢◌, ◌⊎◌, ◌+◌, ◌*◌, ◌/◌, ◌%◌, ◌≤◌, ◌==◌, ◌||◌, ◌&&◌, nat_lt, not, ℕ, zero, suc, Bool, true, false, List, length, drop, Option, Some, None, if◌then◌else◌}
 use Rattle.std.specs.Option.{is_some}
 use Rattle.net_udp.specs.Frames.Number.{at, pair, four}
+use Rattle.net_udp.specs.Frames.OverUdp.{is_over_udp, is_tunnel_port}
 use Rattle.net_udp.specs.declared.frames.packet.Fragment.{Fragment}
 
 -- with what a packet's content begins, which part it is, and its bytes
@@ -70,13 +71,26 @@ Stops next bytes r =
     ((is_extension next ≡ false) × (next ≢ fragment_header) × (r ≡ record { protocol = next; fragment = None; content = bytes }))
     ⊎ ((next ≡ fragment_header) × (8 ≤ length bytes) × (is_atomic bytes ≡ false) × (is_read_part bytes ≡ true) × (r ≡ record { protocol = at bytes 0; fragment = Some (fragment_of bytes); content = drop 8 bytes }))
 
+-- what is reached is a tunnel: of IP, or over UDP (17), whose datagram is whole
+abbrev pub is_opened : Reached → Bool
+is_opened r = is_tunnel r.protocol || ((r.protocol == 17) && not (is_some r.fragment) && is_over_udp r.content)
+
 -- what is reached is a fragment or a tunnel, which holds more than is read here
 abbrev pub is_hidden_in : Reached → Bool
-is_hidden_in r = is_some r.fragment || is_tunnel r.protocol
+is_hidden_in r = is_some r.fragment || is_opened r
+
+-- the first of a packet's fragments
+abbrev pub is_first : Option Fragment → Bool
+is_first None = false
+is_first (Some part) = part.place == 0
+
+-- the first fragment of a datagram to the port of a tunnel over UDP
+abbrev pub begins_over_udp : Reached → Bool
+begins_over_udp r = (r.protocol == 17) && is_first r.fragment && (nat_lt 3 (length r.content) && is_tunnel_port (pair r.content 2))
 
 -- a fragment that begins with a header over which another packet may stand
 abbrev pub leads_on : Reached → Bool
-leads_on r = is_some r.fragment && is_extension r.protocol
+leads_on r = (is_some r.fragment && is_extension r.protocol) || begins_over_udp r
 
 -- over so many headers, each of which says with its first byte what follows it
 abbrev pub StopsAfter : ℕ → ℕ → List ℕ → Reached → Type 0

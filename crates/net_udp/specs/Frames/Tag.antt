@@ -1,5 +1,5 @@
 -- What stands between a type, in a link's header or in that of a tunnel, and what is carried: tags, LLC, PPPoE, labels, and a frame
--- of Ethernet. Each of them says which type follows it.
+-- of Ethernet. Each of them says which type follows it, if it is read.
 use Rattle.std.specs.Prelude.{◌≡◌, ◌≤◌, ◌/◌, ◌%◌, ◌==◌, ◌||◌, ◌&&◌, nat_le, ℕ, zero, suc, Bool, true, false, List, length, drop, Option, Some, None, if◌then◌else◌}
 use Rattle.net_udp.specs.Frames.Number.{at, pair}
 
@@ -19,6 +19,17 @@ is_labelled n = n == 34887 || n == 34888
 abbrev pub is_bridged : ℕ → Bool
 is_bridged n = n == 25944
 
+-- 0x892f is the type of the tag of HSR (IEC 62439-3), 0xf1c1 that of FRER (IEEE 802.1CB): a number, by which a node knows the frame
+-- when it comes again on another path
+abbrev pub is_numbered : ℕ → Bool
+is_numbered n = n == 35119 || n == 61889
+
+-- Types behind which a packet may stand that is not read: 0x88e5 of MACsec (IEEE 802.1AE), whose frames may be enciphered, 0x88e7
+-- (IEEE 802.1ah), 0x893f (IEEE 802.1BR), 0x22f3 of TRILL (RFC 6325), 0x894f of NSH (RFC 8300), and 0xdada, which Linux gives the tags of
+-- Marvell's switches.
+abbrev pub is_sealed : ℕ → Bool
+is_sealed n = (n == 35045 || n == 35047 || n == 35135) || (n == 8947 || n == 35151 || n == 56026)
+
 -- the byte at the place is this one, if it is there
 abbrev pub is_said : List ℕ → ℕ → ℕ → Bool
 is_said bytes place n = nat_le (length bytes) place || (at bytes place == n)
@@ -30,11 +41,11 @@ is_snap type bytes = nat_le type 1500 && ((is_said bytes 0 170 && is_said bytes 
 
 -- behind the type stands one of them
 abbrev pub is_shim : ℕ → List ℕ → Bool
-is_shim type bytes = is_tag_type type || is_session type || is_labelled type || is_bridged type || is_snap type bytes
+is_shim type bytes = (is_tag_type type || is_session type || is_labelled type || is_bridged type || is_snap type bytes) || (is_numbered type || is_sealed type)
 
--- A tag and a label have 4 bytes, Ethernet has 14, PPPoE has 6 and PPP in it 2, LLC with SNAP has 8.
+-- A tag and a label have 4 bytes, a tag with a number 6, Ethernet has 14, PPPoE has 6 and PPP in it 2, LLC with SNAP has 8.
 abbrev pub shim_size : ℕ → ℕ
-shim_size type = if is_tag_type type || is_labelled type then 4 else (if is_bridged type then 14 else 8)
+shim_size type = if is_tag_type type || is_labelled type then 4 else (if is_numbered type then 6 else (if is_bridged type then 14 else 8))
 
 -- 0x0021 is IPv4 in PPP (RFC 1332), and 0x0057 IPv6 (RFC 5072). What begins at 0x4000 carries no datagrams of a network (RFC
 -- 1661, section 2): it is of a type that is none of these here, 0xffff. What compresses, enciphers or parts datagrams is not read.
@@ -52,11 +63,16 @@ label_type type bytes =
     if at bytes 2 % 2 == 0 then Some type
     else (if at bytes 4 / 16 == 4 then Some 2048 else (if at bytes 4 / 16 == 6 then Some 34525 else None))
 
--- the type that it names
+-- the type that it names; none where it is not read
 abbrev pub next_type : ℕ → List ℕ → Option ℕ
 next_type type bytes =
     if is_tag_type type then Some (pair bytes 2)
-    else (if is_session type then session_type bytes else (if is_labelled type then label_type type bytes else (if is_bridged type then Some (pair bytes 12) else Some (pair bytes 6))))
+    else (if is_session type then session_type bytes
+    else (if is_labelled type then label_type type bytes
+    else (if is_numbered type then Some (pair bytes 4)
+    else (if is_sealed type then None
+    else (if is_bridged type then Some (pair bytes 12)
+    else Some (pair bytes 6))))))
 
 -- behind the type stands one of them, whole, which names the next type
 abbrev pub IsOver : ℕ → List ℕ → ℕ → Type 0

@@ -1,7 +1,8 @@
 -- Which contents of an IP packet are a UDP datagram (RFC 768), and why others are none.
-use Rattle.std.specs.Prelude.{◌≡◌, ◌≢◌, ◌⊎◌, ◌-◌, ◌<◌, ◌≤◌, ℕ, true, List, length, take, drop, None, Result, MatchResult, slice_index}
+use Rattle.std.specs.Prelude.{◌≡◌, ◌≢◌, ◌⊎◌, ◌-◌, ◌<◌, ◌≤◌, ℕ, true, false, List, length, take, drop, None, Result, MatchResult, slice_index}
 use Rattle.net_udp.specs.Frames.Number.{pair}
 use Rattle.net_udp.specs.Frames.Extension.{Reached, ReachesOver, is_hidden_in}
+use Rattle.net_udp.specs.Frames.OverUdp.{is_over_udp}
 use Rattle.net_udp.specs.declared.frames.packet.UdpDatagram.{UdpDatagram}
 use Rattle.net_udp.specs.declared.frames.fault.UdpFault.{UdpFault}
 use Rattle.net_udp.specs.declared.frames.fault.UdpFault.TheVariants.{Protocol, Extension, Header, Length, Port}
@@ -15,9 +16,9 @@ pub record Udp : Type 0 where
 abbrev pub datagram : UdpDatagram → Udp
 datagram d = record { source_port = d.source_port; target_port = d.target_port; payload = d.payload.now }
 
--- the content, which begins with a header of this number, has these bytes of UDP
+-- the content, which begins with a header of this number, has these bytes of UDP, which are no tunnel's
 abbrev pub HasUdp : ℕ → List ℕ → List ℕ → Type 0
-HasUdp protocol content bytes = ReachesOver protocol content (record { protocol = 17; fragment = None; content = bytes })
+HasUdp protocol content bytes = ReachesOver protocol content (record { protocol = 17; fragment = None; content = bytes }) × (is_over_udp bytes ≡ false)
 
 -- the length counts the header of 8 bytes in; what follows is not of the datagram
 abbrev pub IsSized : List ℕ → Type 0

@@ -1,9 +1,13 @@
 ghost use Rattle.std.specs.Prelude.{◌≡◌, ◌≢◌, ◌≤◌, length, ◌↔◌, IsTrue, MatchOption};
-ghost use Rattle.net_udp.specs.Frames.Extension.{Reached, ReachesOver, is_tunnel, is_hiding, is_wrapping, is_extension, is_of_units, is_read_part, is_skippable, is_atomic, is_hidden_in, leads_on, IsSkipped, skipped_size, fragment_of, fragment_header};
+ghost use Rattle.net_udp.specs.Frames.Extension.{Reached, ReachesOver, is_tunnel, is_hiding, is_wrapping, is_extension, is_of_units, is_read_part, is_skippable, is_atomic, is_opened, is_first, begins_over_udp, is_hidden_in, leads_on, IsSkipped, skipped_size, fragment_of, fragment_header};
 ghost use Rattle.net_udp.specs.Frames.Parts.{reached};
 
 use crate::frames::number::{four_at, pair_at};
+use crate::frames::over_udp::{is_over_udp, is_tunnel_port};
 use crate::frames::packet::Fragment;
+
+/// The number of UDP among the protocols of IP.
+pub const UDP: u8 = 17;
 
 /// The number of a fragment header of IPv6 (RFC 8200, section 4.5).
 const FRAGMENT: u8 = 44;
@@ -183,12 +187,43 @@ pub fn skip_extensions(next: u8, bytes: &[u8]) -> Option<Upper<'_>>
     })
 }
 
+/// Whether what is reached is a tunnel: of IP, or over UDP, whose datagram is whole.
+#[inline]
+pub fn is_opened(upper: &Upper<'_>) -> bool
+    ensures { result ≡ is_opened (reached upper.now) }
+{
+    is_tunnel(upper.protocol)
+        || (upper.protocol == UDP && !upper.fragment.is_some() && is_over_udp(upper.content))
+}
+
 /// Whether what is reached is a fragment or a tunnel.
 #[inline]
 pub fn is_hidden_in(upper: &Upper<'_>) -> bool
     ensures { result ≡ is_hidden_in (reached upper.now) }
 {
-    upper.fragment.is_some() || is_tunnel(upper.protocol)
+    upper.fragment.is_some() || is_opened(upper)
+}
+
+/// Whether a fragment is the first one of its packet.
+#[inline]
+fn is_first(fragment: Option<Fragment>) -> bool
+    ensures { result ≡ is_first fragment }
+{
+    match fragment {
+        Some(part) => part.place == 0,
+        None => false,
+    }
+}
+
+/// Whether what is reached is the first fragment of a datagram to the port of a tunnel over UDP.
+#[inline]
+fn begins_over_udp(upper: &Upper<'_>) -> bool
+    ensures { result ≡ begins_over_udp (reached upper.now) }
+{
+    if upper.protocol != UDP || !is_first(upper.fragment) {
+        return false;
+    }
+    upper.content.len() > 3 && is_tunnel_port(pair_at(upper.content, 2))
 }
 
 /// Whether what is reached is a fragment that begins with a header over which another packet may stand.
@@ -196,7 +231,7 @@ pub fn is_hidden_in(upper: &Upper<'_>) -> bool
 pub fn leads_on(upper: &Upper<'_>) -> bool
     ensures { result ≡ leads_on (reached upper.now) }
 {
-    upper.fragment.is_some() && is_extension_header(upper.protocol)
+    (upper.fragment.is_some() && is_extension_header(upper.protocol)) || begins_over_udp(upper)
 }
 
 /// What a fragment header of IPv6 says (RFC 8200, section 4.5).

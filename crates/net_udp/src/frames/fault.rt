@@ -7,8 +7,9 @@ pub enum FrameFault {
     #[error("another link type")]
     Link,
     /// The frame ends before the link's header does, or in what stands between that and IP: tags (IEEE 802.1Q), LLC with SNAP (RFC
-    /// 1042), PPPoE (RFC 2516), labels (RFC 3032) and GRE (RFC 2784). Or one of these is not read: what PPP compresses or enciphers,
-    /// labels before another packet than one of IP, GRE of another version or type.
+    /// 1042), PPPoE (RFC 2516), labels (RFC 3032), tags of HSR (IEC 62439-3) and FRER (IEEE 802.1CB), GRE (RFC 2784), ERSPAN, VXLAN
+    /// (RFC 7348) and Geneve (RFC 8926). Or one of these is not read: what PPP compresses or enciphers, labels before another packet
+    /// than one of IP, GRE and Geneve of another version or type; or MACsec (IEEE 802.1AE), a tag of Marvell's switches and the like.
     #[error("a frame that ends before IP, or whose headers before IP are not read")]
     Frame,
     /// The frame carries neither IPv4 nor IPv6. Of tunnels, here and below, it is the innermost packet that is judged.
@@ -41,7 +42,7 @@ pub enum UdpFault {
     #[error("not UDP")]
     Protocol,
     /// What the content carries is not read: a header before it is cut, not read or hides it, or it is a packet in a tunnel, or a
-    /// fragment. A content that was put together of fragments may be so.
+    /// fragment. A content that was put together of fragments may be so, as a datagram of VXLAN (RFC 7348).
     #[error("a header that runs beyond the content, or is not read")]
     Extension,
     /// The content has fewer bytes than a UDP header, 8.

@@ -4,15 +4,12 @@ ghost use Rattle.net_udp.specs.Frames.Ip.{HasHeader, size_of, total_of, source_o
 ghost use Rattle.net_udp.specs.Frames.Faults.{JudgesIp, IsNotWhole};
 ghost use Rattle.net_udp.specs.Frames.Parts.{reached};
 
-use crate::frames::extension::{Upper, is_wrapping, leads_on, skip_extensions};
+use crate::frames::extension::{UDP, Upper, is_wrapping, leads_on, skip_extensions};
 use crate::frames::fault::FrameFault;
 use crate::frames::link::Network;
 use crate::frames::number::pair_at;
 use crate::frames::packet::{Direction, Fragment, IpPacket};
 use std::net::{IpAddr, Ipv4Addr, Ipv6Addr};
-
-/// The number of UDP among the protocols of IP.
-pub const UDP: u8 = 17;
 
 /// Whether bytes begin with a whole header.
 #[inline]
@@ -88,7 +85,7 @@ fn ipv6_at(bytes: &[u8], place: usize) -> IpAddr
 
 /// The host that sent a packet, and the one to which it went.
 #[inline]
-fn hosts(network: Network, bytes: &[u8]) -> (IpAddr, IpAddr)
+pub fn hosts(network: Network, bytes: &[u8]) -> (IpAddr, IpAddr)
     requires { HasHeader network bytes.now }
     ensures { result ≡ (source_of network bytes.now, target_of network bytes.now) }
 {

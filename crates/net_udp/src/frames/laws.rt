@@ -6,6 +6,9 @@ ghost use Rattle.std.specs.declared.net.ip_addr.IpAddr.TheVariants.{V4, V6};
 ghost use Rattle.net_udp.specs.Frames.Link.{index_of, null_network};
 ghost use Rattle.net_udp.specs.Frames.Ip.{Packet, is_identified};
 ghost use Rattle.net_udp.specs.Frames.Frame.{SpellsFrame};
+ghost use Rattle.net_udp.specs.Frames.Told.{echo_bytes, no_port, no_port_ipv6, unreachable_bytes, unreachable_cut, unreachable_ipv6_bytes};
+ghost use Rattle.net_udp.specs.Frames.Unreachable.{TellsUnreachable};
+ghost use Rattle.net_udp.specs.declared.frames.unreachable.Unreachable.{Unreachable};
 ghost use Rattle.net_udp.specs.Frames.Checksums.{checksum_of, in_ones_complement, word_sum};
 ghost use Rattle.net_udp.specs.declared.frames.checksum.Checksum.{Checksum};
 ghost use Rattle.net_udp.specs.Frames.Faults.{Holds, FirstFault};
@@ -87,6 +90,16 @@ pub fn worked_tunnels()
     ensures in_gre { SpellsFrame 228 ipv4_in_gre (ipv4_packet Direction.Unknown ipv4_bytes) }
     ensures ethernet { SpellsFrame 228 ethernet_in_gre (ipv4_packet Direction.Unknown ipv4_bytes) }
     ensures two { SpellsFrame 228 ipv4_in_two (ipv4_packet Direction.Unknown ipv4_bytes) }
+{}
+
+/// Worked examples: that nobody has port 69 is told in IPv4 and in IPv6; an answer to an echo tells nothing, nor does a message that is
+/// cut before the second port, or a datagram.
+pub fn worked_unreachable()
+    ensures port { TellsUnreachable 228 unreachable_bytes no_port }
+    ensures port_ipv6 { TellsUnreachable 229 unreachable_ipv6_bytes no_port_ipv6 }
+    ensures echo { (u : Unreachable) → TellsUnreachable 228 echo_bytes u → ⊥ }
+    ensures cut { (u : Unreachable) → TellsUnreachable 228 unreachable_cut u → ⊥ }
+    ensures datagram { (u : Unreachable) → TellsUnreachable 228 ipv4_bytes u → ⊥ }
 {}
 
 /// Worked examples: the first fault of a packet whose last byte was not recorded, of one of TCP (protocol 6), of ARP

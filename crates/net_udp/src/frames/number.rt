@@ -1,5 +1,16 @@
 ghost use Rattle.std.specs.Prelude.{◌≡◌, ◌+◌, ◌<◌, length};
-ghost use Rattle.net_udp.specs.Frames.Number.{pair, four};
+ghost use Rattle.net_udp.specs.Frames.Number.{at, pair, four};
+
+/// The byte at a place; 0 beyond the last.
+#[inline]
+pub fn byte_at(bytes: &[u8], place: usize) -> u8
+    ensures { result ≡ at bytes.now place }
+{
+    match bytes.get(place) {
+        Some(byte) => *byte,
+        None => 0,
+    }
+}
 
 /// The number of the two bytes at a place, the more significant one first.
 #[inline]

@@ -1,5 +1,5 @@
 ghost use Rattle.std.specs.Prelude.{◌≡◌, ◌≤◌, ℕ, List, length, MatchOption};
-ghost use Rattle.net_udp.specs.Frames.Tag.{is_tag_type, is_session, is_labelled, is_bridged, is_said, is_snap, is_shim, shim_size, ppp_type, session_type, label_type, next_type, LeadsTo};
+ghost use Rattle.net_udp.specs.Frames.Tag.{is_tag_type, is_session, is_labelled, is_bridged, is_numbered, is_sealed, is_said, is_snap, is_shim, shim_size, ppp_type, session_type, label_type, next_type, LeadsTo};
 
 use crate::frames::number::pair_at;
 
@@ -30,9 +30,27 @@ fn is_bridged(kind: u16) -> bool
     kind == 0x6558
 }
 
+/// Whether a type is that of a tag with a number: of HSR (IEC 62439-3) or FRER (IEEE 802.1CB).
+#[inline]
+fn is_numbered(kind: u16) -> bool
+    ensures { result ≡ is_numbered kind }
+{
+    kind == 0x892f || kind == 0xf1c1
+}
+
+/// Whether a type is one behind which a packet may stand that is not read: MACsec (IEEE 802.1AE), IEEE 802.1ah, IEEE 802.1BR, TRILL
+/// (RFC 6325), NSH (RFC 8300), and the tags of Marvell's switches.
+#[inline]
+fn is_sealed(kind: u16) -> bool
+    ensures { result ≡ is_sealed kind }
+{
+    (kind == 0x88e5 || kind == 0x88e7 || kind == 0x893f)
+        || (kind == 0x22f3 || kind == 0x894f || kind == 0xdada)
+}
+
 /// Whether the byte at a place is that one, if it is there.
 #[inline]
-fn is_said(bytes: &[u8], place: usize, wanted: u8) -> bool
+pub fn is_said(bytes: &[u8], place: usize, wanted: u8) -> bool
     ensures { result ≡ is_said bytes.now place wanted }
 {
     bytes.len() <= place || bytes[place] == wanted
@@ -48,12 +66,17 @@ fn is_snap(kind: u16, bytes: &[u8]) -> bool
             && (is_said(bytes, 3, 0) && is_said(bytes, 4, 0) && is_said(bytes, 5, 0)))
 }
 
-/// Whether a tag, LLC with SNAP, PPPoE, a label or a frame of Ethernet stands behind a type.
+/// Whether a tag, LLC with SNAP, PPPoE, a label or a frame of Ethernet stands behind a type, or what is not read.
 #[inline]
 fn is_shim(kind: u16, bytes: &[u8]) -> bool
     ensures { result ≡ is_shim kind bytes.now }
 {
-    is_tag(kind) || kind == SESSION || is_labelled(kind) || is_bridged(kind) || is_snap(kind, bytes)
+    (is_tag(kind)
+        || kind == SESSION
+        || is_labelled(kind)
+        || is_bridged(kind)
+        || is_snap(kind, bytes))
+        || (is_numbered(kind) || is_sealed(kind))
 }
 
 /// How many bytes that has which stands behind a type.
@@ -63,6 +86,8 @@ fn shim_size(kind: u16) -> usize
 {
     if is_tag(kind) || is_labelled(kind) {
         4
+    } else if is_numbered(kind) {
+        6
     } else if is_bridged(kind) {
         14
     } else {
@@ -132,6 +157,12 @@ fn next_type(kind: u16, bytes: &[u8]) -> Option<u16>
     }
     if is_labelled(kind) {
         return label_type(kind, bytes);
+    }
+    if is_numbered(kind) {
+        return Some(pair_at(bytes, 4));
+    }
+    if is_sealed(kind) {
+        return None;
     }
     if is_bridged(kind) {
         return Some(pair_at(bytes, 12));

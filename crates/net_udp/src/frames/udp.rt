@@ -2,10 +2,10 @@ ghost use Rattle.std.specs.Prelude.{◌≡◌, ◌↔◌, ◌≤◌, IfOk, IsOkA
 ghost use Rattle.net_udp.specs.Frames.UdpDatagrams.{Udp, IsSound, SpellsUdp, HasUdp, HoldsUdp, JudgesUdp, datagram};
 ghost use Rattle.net_udp.specs.declared.frames.fault.UdpFault.{UdpFault};
 
-use crate::frames::extension::{is_hidden_in, skip_extensions};
+use crate::frames::extension::{UDP, is_hidden_in, skip_extensions};
 use crate::frames::fault::UdpFault;
-use crate::frames::ip::UDP;
 use crate::frames::number::pair_at;
+use crate::frames::over_udp::is_over_udp;
 use crate::frames::packet::UdpDatagram;
 
 /// The UDP datagram that the content of a whole packet is (RFC 768). The content begins with a header of the number
@@ -20,7 +20,7 @@ pub fn read_udp(protocol: u8, content: &[u8]) -> Result<UdpDatagram<'_>, UdpFaul
     judge_udp(protocol, content)
 }
 
-/// The bytes of UDP in a content; none where it has none.
+/// The bytes of UDP in a content; none where it has none, or these are of a tunnel.
 #[inline]
 pub(crate) fn udp_bytes(protocol: u8, content: &[u8]) -> Option<&[u8]>
     ensures { MatchOption result
@@ -30,7 +30,7 @@ pub(crate) fn udp_bytes(protocol: u8, content: &[u8]) -> Option<&[u8]>
     let Some(upper) = skip_extensions(protocol, content) else {
         return None;
     };
-    if upper.protocol == UDP && upper.fragment.is_none() {
+    if upper.protocol == UDP && upper.fragment.is_none() && !is_over_udp(upper.content) {
         Some(upper.content)
     } else {
         None

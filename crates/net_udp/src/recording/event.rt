@@ -1,7 +1,8 @@
 ghost use Rattle.std.specs.Prelude.{◌≡◌, [], None, Option, false, option_map, MatchOption};
 ghost use Rattle.std.specs.declared.net.ip_addr.IpAddr.{IpAddr as Host};
 ghost use Rattle.net_udp.specs.Fragments.{content_of as put_together};
-ghost use Rattle.net_udp.specs.Frames.{IsBetween, shown};
+ghost use Rattle.net_udp.specs.Frames.{IsBetween, TellsUnreachable, shown};
+ghost use Rattle.net_udp.specs.declared.frames.unreachable.Unreachable.{Unreachable as UnreachableValue};
 ghost use Rattle.net_udp.specs.declared.fragments.outcome.Outcome.{Outcome as Became};
 ghost use Rattle.net_pcap.specs.{FrameParts, no_frame};
 ghost use Rattle.net_udp.specs.Recording.Brought.{nothing_brought};
@@ -12,8 +13,8 @@ ghost use Rattle.net_udp.specs.declared.recording.likeness.Likeness.{Likeness};
 
 use crate::fragments::{Content, Fragments, Outcome};
 use crate::frames::{
-    Checksum, Direction as LinkDirection, FrameFault, IpPacket, UdpFault, read_frame, read_hosts,
-    read_udp,
+    Checksum, Direction as LinkDirection, FrameFault, IpPacket, UdpFault, Unreachable, read_frame,
+    read_hosts, read_udp, read_unreachable,
 };
 use crate::recording::brought::Brought;
 use crate::recording::fate::{Datagram, Fate, LeftOut};
@@ -148,6 +149,17 @@ impl Event {
             (λ hosts. IsBetween self.now.frame.parts.link self.now.frame.parts.bytes hosts.0 hosts.1) }
     {
         read_hosts(self.frame.link(), self.frame.bytes())
+    }
+
+    /// What the frame tells of a UDP datagram that did not arrive, in an ICMP message that is no fragment (RFC 792; RFC 4443, section
+    /// 3.1); none where it tells nothing. Of copies it is told too.
+    #[inline]
+    pub fn unreachable(&self) -> Option<Unreachable>
+        ensures { MatchOption result
+            ((u : UnreachableValue) → TellsUnreachable self.now.frame.parts.link self.now.frame.parts.bytes u → ⊥)
+            (λ u. TellsUnreachable self.now.frame.parts.link self.now.frame.parts.bytes u) }
+    {
+        read_unreachable(self.frame.link(), self.frame.bytes())
     }
 
     /// Whether the frame is a copy of a frame before it, recorded at another interface, or what its sender repeated: its packet

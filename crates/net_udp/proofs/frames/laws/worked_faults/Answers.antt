@@ -96,8 +96,9 @@ pub returns-clause-gre : goal.returns-clause-gre
 returns-clause-gre c = frame_first 228 version_one RawIpv4 refl none
   where
     nothing : (inner : Linked) → IsInside in_version_one inner → ⊥
-    nothing inner (inl (other, _, _)) = other refl
-    nothing inner (inr (_, p)) = false≢true p.flags
+    nothing inner (inl (other, _, _, _)) = other refl
+    nothing inner (inr (inl (_, p))) = false≢true p.flags
+    nothing inner (inr (inr (is, _))) = omega (arith, is)
 
     none : (carried : Linked) → IsCarried RawIpv4 version_one carried → ⊥
     none carried (outer, spelled, leads) =

@@ -8,19 +8,19 @@ use Rattle.net_udp.proofs.FramesLemmas.Tunnels.{spells, spells_ipv4}
 use Rattle.net_udp.proofs.frames.laws.worked_frames.Goals as goal
 
 pub returns-clause-tags : goal.returns-clause-tags
-returns-clause-tags c = spells_ipv4 1 Ethernet (two_tags ++ ipv4_bytes ++ 0 ∷ 0 ∷ []) Unknown (ipv4_bytes ++ 0 ∷ 0 ∷ []) refl (omega arith, refl, (2048, (2, (33024, (refl, omega arith, refl), (2048, (refl, omega arith, refl), (refl, refl, refl)))), refl)) (omega arith, refl, omega arith, omega arith) (omega arith, omega arith) refl
+returns-clause-tags c = spells_ipv4 1 Ethernet (two_tags ++ ipv4_bytes ++ 0 ∷ 0 ∷ []) Unknown (ipv4_bytes ++ 0 ∷ 0 ∷ []) refl (omega arith, refl, (2048, (2, (33024, (refl, omega arith, refl), (2048, (refl, omega arith, refl), (refl, refl, refl)))), refl)) (omega arith, refl, omega arith, omega arith) (omega arith, omega arith) refl refl
 
 pub returns-clause-cooked : goal.returns-clause-cooked
-returns-clause-cooked c = spells_ipv4 113 Cooked (cooked_head ++ ipv4_bytes) Out ipv4_bytes refl (omega arith, refl, (2048, (0, (refl, refl, refl)), refl)) (omega arith, refl, omega arith, omega arith) (omega arith, omega arith) refl
+returns-clause-cooked c = spells_ipv4 113 Cooked (cooked_head ++ ipv4_bytes) Out ipv4_bytes refl (omega arith, refl, (2048, (0, (refl, refl, refl)), refl)) (omega arith, refl, omega arith, omega arith) (omega arith, omega arith) refl refl
 
 pub returns-clause-cooked_two : goal.returns-clause-cooked_two
-returns-clause-cooked_two c = spells_ipv4 276 CookedTwo (cooked_two_head ++ ipv4_bytes) In ipv4_bytes refl (omega arith, refl, (2048, (0, (refl, refl, refl)), refl)) (omega arith, refl, omega arith, omega arith) (omega arith, omega arith) refl
+returns-clause-cooked_two c = spells_ipv4 276 CookedTwo (cooked_two_head ++ ipv4_bytes) In ipv4_bytes refl (omega arith, refl, (2048, (0, (refl, refl, refl)), refl)) (omega arith, refl, omega arith, omega arith) (omega arith, omega arith) refl refl
 
 pub returns-clause-options : goal.returns-clause-options
-returns-clause-options c = spells_ipv4 101 Raw ipv4_with_options Unknown ipv4_with_options refl (omega arith, refl, (refl, refl)) (omega arith, refl, omega arith, omega arith) (omega arith, omega arith) refl
+returns-clause-options c = spells_ipv4 101 Raw ipv4_with_options Unknown ipv4_with_options refl (omega arith, refl, (refl, refl)) (omega arith, refl, omega arith, omega arith) (omega arith, omega arith) refl refl
 
 pub returns-clause-part : goal.returns-clause-part
-returns-clause-part c = spells_ipv4 228 RawIpv4 ipv4_fragment Unknown ipv4_fragment refl (omega arith, refl, (refl, refl)) (omega arith, refl, omega arith, omega arith) (omega arith, omega arith) refl
+returns-clause-part c = spells_ipv4 228 RawIpv4 ipv4_fragment Unknown ipv4_fragment refl (omega arith, refl, (refl, refl)) (omega arith, refl, omega arith, omega arith) (omega arith, omega arith) refl refl
 
 pub returns-clause-extensions : goal.returns-clause-extensions
 returns-clause-extensions c =
@@ -43,4 +43,4 @@ returns-clause-routed c =
     (1, ((omega arith, omega arith, inl refl), inl (refl, (λ e. omega arith), refl))) refl refl
 
 pub returns-clause-old_tags : goal.returns-clause-old_tags
-returns-clause-old_tags c = spells_ipv4 1 Ethernet (two_old_tags ++ ipv4_bytes) Unknown ipv4_bytes refl (omega arith, refl, (2048, (2, (33024, (refl, omega arith, refl), (2048, (refl, omega arith, refl), (refl, refl, refl)))), refl)) (omega arith, refl, omega arith, omega arith) (omega arith, omega arith) refl
+returns-clause-old_tags c = spells_ipv4 1 Ethernet (two_old_tags ++ ipv4_bytes) Unknown ipv4_bytes refl (omega arith, refl, (2048, (2, (33024, (refl, omega arith, refl), (2048, (refl, omega arith, refl), (refl, refl, refl)))), refl)) (omega arith, refl, omega arith, omega arith) (omega arith, omega arith) refl refl

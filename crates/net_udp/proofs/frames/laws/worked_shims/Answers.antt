@@ -8,16 +8,16 @@ use Rattle.net_udp.proofs.frames.laws.worked_shims.Goals as goal
 
 pub returns-clause-snap : goal.returns-clause-snap
 returns-clause-snap c =
-    spells_ipv4 1 Ethernet (snap_head ++ ipv4_bytes) Unknown ipv4_bytes refl (omega arith, refl, (2048, (1, (2048, (refl, omega arith, refl), (refl, refl, refl))), refl)) (omega arith, refl, omega arith, omega arith) (omega arith, omega arith) refl
+    spells_ipv4 1 Ethernet (snap_head ++ ipv4_bytes) Unknown ipv4_bytes refl (omega arith, refl, (2048, (1, (2048, (refl, omega arith, refl), (refl, refl, refl))), refl)) (omega arith, refl, omega arith, omega arith) (omega arith, omega arith) refl refl
 
 pub returns-clause-session : goal.returns-clause-session
 returns-clause-session c =
-    spells_ipv4 1 Ethernet (session_head 33 ++ ipv4_bytes) Unknown ipv4_bytes refl (omega arith, refl, (2048, (1, (2048, (refl, omega arith, refl), (refl, refl, refl))), refl)) (omega arith, refl, omega arith, omega arith) (omega arith, omega arith) refl
+    spells_ipv4 1 Ethernet (session_head 33 ++ ipv4_bytes) Unknown ipv4_bytes refl (omega arith, refl, (2048, (1, (2048, (refl, omega arith, refl), (refl, refl, refl))), refl)) (omega arith, refl, omega arith, omega arith) (omega arith, omega arith) refl refl
 
 pub returns-clause-labels : goal.returns-clause-labels
 returns-clause-labels c =
     spells_ipv4 1 Ethernet (labels_head ++ ipv4_bytes) Unknown ipv4_bytes refl
-    (omega arith, refl, (2048, (2, (34887, (refl, omega arith, refl), (2048, (refl, omega arith, refl), (refl, refl, refl)))), refl)) (omega arith, refl, omega arith, omega arith) (omega arith, omega arith) refl
+    (omega arith, refl, (2048, (2, (34887, (refl, omega arith, refl), (2048, (refl, omega arith, refl), (refl, refl, refl)))), refl)) (omega arith, refl, omega arith, omega arith) (omega arith, omega arith) refl refl
 
 pub returns-clause-authenticated : goal.returns-clause-authenticated
 returns-clause-authenticated c =

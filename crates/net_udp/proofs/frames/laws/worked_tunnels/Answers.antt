@@ -25,14 +25,14 @@ pub returns-clause-in_ip : goal.returns-clause-in_ip
 returns-clause-in_ip c =
     let leads = itself (of_ip Ipv4 ipv4_bytes) Ipv4 inmost refl (inl (refl, refl)) refl in
     let tunnel = step (of_ip Ipv4 ipv4_in_ipv4) (of_ip Ipv4 ipv4_bytes) (of_ip Ipv4 ipv4_bytes) Ipv4 (carried ipv4_in_ipv4) refl
-    ((omega arith, refl, omega arith, omega arith), inr (refl, refl, (0, inl (refl, (λ e. omega arith), refl))), refl) (inl ((λ e. omega arith), refl, refl)) refl in
+    ((omega arith, refl, omega arith, omega arith), inr (refl, refl, (0, inl (refl, (λ e. omega arith), refl))), refl) (inl ((λ e. omega arith), (λ e. omega arith), refl, refl)) refl in
     in_tunnels 228 RawIpv4 ipv4_in_ipv4 (of_ip Ipv4 ipv4_in_ipv4) (of_ip Ipv4 ipv4_bytes) Ipv4 inmost refl (omega arith, refl, (refl, refl)) (tunnel.1 leads) refl (omega arith, refl, omega arith, omega arith) (omega arith, omega arith) (inl (refl, refl)) refl
 
 pub returns-clause-six_in_four : goal.returns-clause-six_in_four
 returns-clause-six_in_four c =
     let leads = itself (of_ip Ipv6 ipv6_with_extensions) Ipv6 inmost_of_ipv6 refl (2, ((omega arith, omega arith, inl refl), ((omega arith, omega arith, inl refl), inl (refl, (λ e. omega arith), refl)))) refl in
     let tunnel = step (of_ip Ipv4 ipv6_in_ipv4) (of_ip Ipv6 ipv6_with_extensions) (of_ip Ipv6 ipv6_with_extensions) Ipv4 (carried ipv6_in_ipv4) refl
-    ((omega arith, refl, omega arith, omega arith), inr (refl, refl, (0, inl (refl, (λ e. omega arith), refl))), refl) (inl ((λ e. omega arith), refl, refl)) refl in
+    ((omega arith, refl, omega arith, omega arith), inr (refl, refl, (0, inl (refl, (λ e. omega arith), refl))), refl) (inl ((λ e. omega arith), (λ e. omega arith), refl, refl)) refl in
     in_tunnels 228 RawIpv4 ipv6_in_ipv4 (of_ip Ipv4 ipv6_in_ipv4) (of_ip Ipv6 ipv6_with_extensions) Ipv6 inmost_of_ipv6 refl (omega arith, refl, (refl, refl)) (tunnel.1 leads) refl (omega arith, refl) (omega arith, omega arith)
     (2, ((omega arith, omega arith, inl refl), ((omega arith, omega arith, inl refl), inl (refl, (λ e. omega arith), refl)))) refl
 
@@ -41,7 +41,7 @@ returns-clause-in_gre c =
     let leads = itself (of_ip Ipv4 ipv4_bytes) Ipv4 inmost refl (inl (refl, refl)) refl in
     let tunnel = step (of_ip Ipv4 ipv4_in_gre) (of_ip Ipv4 ipv4_bytes) (of_ip Ipv4 ipv4_bytes) Ipv4 (carried ipv4_in_gre) refl
     ((omega arith, refl, omega arith, omega arith), inr (refl, refl, (0, inl (refl, (λ e. omega arith), refl))), refl)
-    (inr (refl, record { long = omega arith; flags = refl; whole = omega arith; type = refl; carries = (2048, (0, (refl, refl, refl)), refl) })) refl in
+    (inr (inl (refl, record { long = omega arith; flags = refl; whole = omega arith; carries = inl (refl, refl, (2048, (0, (refl, refl, refl)), refl)) }))) refl in
     in_tunnels 228 RawIpv4 ipv4_in_gre (of_ip Ipv4 ipv4_in_gre) (of_ip Ipv4 ipv4_bytes) Ipv4 inmost refl (omega arith, refl, (refl, refl)) (tunnel.1 leads) refl (omega arith, refl, omega arith, omega arith) (omega arith, omega arith) (inl (refl, refl)) refl
 
 pub returns-clause-ethernet : goal.returns-clause-ethernet
@@ -49,15 +49,15 @@ returns-clause-ethernet c =
     let leads = itself (of_ip Ipv4 ipv4_bytes) Ipv4 inmost refl (inl (refl, refl)) refl in
     let tunnel = step (of_ip Ipv4 ethernet_in_gre) (of_ip Ipv4 ipv4_bytes) (of_ip Ipv4 ipv4_bytes) Ipv4 (carried ethernet_in_gre) refl
     ((omega arith, refl, omega arith, omega arith), inr (refl, refl, (0, inl (refl, (λ e. omega arith), refl))), refl)
-    (inr (refl, record { long = omega arith; flags = refl; whole = omega arith; type = refl; carries = (2048, (1, (2048, (refl, omega arith, refl), (refl, refl, refl))), refl) })) refl in
+    (inr (inl (refl, record { long = omega arith; flags = refl; whole = omega arith; carries = inl (refl, refl, (2048, (1, (2048, (refl, omega arith, refl), (refl, refl, refl))), refl)) }))) refl in
     in_tunnels 228 RawIpv4 ethernet_in_gre (of_ip Ipv4 ethernet_in_gre) (of_ip Ipv4 ipv4_bytes) Ipv4 inmost refl (omega arith, refl, (refl, refl)) (tunnel.1 leads) refl (omega arith, refl, omega arith, omega arith) (omega arith, omega arith) (inl (refl, refl)) refl
 
 pub returns-clause-two : goal.returns-clause-two
 returns-clause-two c =
     let leads = itself (of_ip Ipv4 ipv4_bytes) Ipv4 inmost refl (inl (refl, refl)) refl in
     let inner = step (of_ip Ipv4 (drop 24 ipv4_in_two)) (of_ip Ipv4 ipv4_bytes) (of_ip Ipv4 ipv4_bytes) Ipv4 (carried (drop 24 ipv4_in_two)) refl
-    ((omega arith, refl, omega arith, omega arith), inr (refl, refl, (0, inl (refl, (λ e. omega arith), refl))), refl) (inl ((λ e. omega arith), refl, refl)) refl in
+    ((omega arith, refl, omega arith, omega arith), inr (refl, refl, (0, inl (refl, (λ e. omega arith), refl))), refl) (inl ((λ e. omega arith), (λ e. omega arith), refl, refl)) refl in
     let outer = step (of_ip Ipv4 ipv4_in_two) (of_ip Ipv4 (drop 24 ipv4_in_two)) (of_ip Ipv4 ipv4_bytes) Ipv4 (carried ipv4_in_two) refl
     ((omega arith, refl, omega arith, omega arith), inr (refl, refl, (0, inl (refl, (λ e. omega arith), refl))), refl)
-    (inr (refl, record { long = omega arith; flags = refl; whole = omega arith; type = refl; carries = (2048, (0, (refl, refl, refl)), refl) })) refl in
+    (inr (inl (refl, record { long = omega arith; flags = refl; whole = omega arith; carries = inl (refl, refl, (2048, (0, (refl, refl, refl)), refl)) }))) refl in
     in_tunnels 228 RawIpv4 ipv4_in_two (of_ip Ipv4 ipv4_in_two) (of_ip Ipv4 ipv4_bytes) Ipv4 inmost refl (omega arith, refl, (refl, refl)) (outer.1 (inner.1 leads)) refl (omega arith, refl, omega arith, omega arith) (omega arith, omega arith) (inl (refl, refl)) refl

@@ -4,5 +4,5 @@ use Rattle.net_udp.proofs.frames.tunnel.read_gre.Goals as goal
 
 pub returns : goal.returns
 returns c =
-    gre_read c.args.bytes.now c.split_at.result.1.now c.pair_at-kind.result c.gre_size-size.result c.args.direction c.read_typed.result c.if-bytes-lt4.false (sym c.is_gre_read.ensures ∙ c.if-not-is_gre_read.false) c.gre_size-size.ensures.is
-    c.if-bytes-size.false c.pair_at-kind.ensures (sym c.is_type_in_gre.ensures ∙ c.if-not-is_type_in_gre.false) c.split_at.ensures.back c.read_typed.ensures
+    gre_read c.args.bytes.now c.split_at.result.1.now c.pair_at.result c.gre_size-size.result c.has_number.result c.args.direction c.read_of_type.result c.if-bytes-lt4.false (sym c.is_gre_read.ensures ∙ c.if-not-is_gre_read.false) c.gre_size-size.ensures.is
+    c.if-bytes-size.false c.pair_at.ensures c.has_number.ensures c.split_at.ensures.back c.read_of_type.ensures
