@@ -2,16 +2,20 @@
 from __future__ import annotations
 
 from collections.abc import Iterator
+from itertools import combinations_with_replacement
 from random import Random
 
 from captures import EndName
 from checks import Check, Checks
 from fuzzing.ends import Packet
-from fuzzing.lossy import EMPTY, LIMIT, NUMBERED, USUAL, Asked, Options, Said, Seen
-from fuzzing.lossy import difference, first_broken, meanings, size_of
+from fuzzing.lossy import EMPTY, LIMIT, NUMBERED, STANDING, USUAL, Asked, Options, Said, Seen
+from fuzzing.lossy import difference, first_broken, fitting, is_decided_as_explained, is_fair, meanings, refused_by
+from fuzzing.lossy import rules_of, size_of
 from fuzzing.tapped import ENDS, OACK, REQUEST, Passed
 
-LISTS, THINNED = 60, 300
+LISTS, THINNED, REFUSED = 60, 300, 400
+# the rules of which some breach in these lists is not certain
+DEPENDING = frozenset((2, 10, 18, 21, 22, 26, 27))
 OFFERS: list[Options] = [EMPTY, (("windowsize", 2),), (("blksize", 1),), (("blksize", 3),), (("tsize", 3),),
                          (("blksize", 3), ("tsize", 2)), (("timeout", 1),)]
 REQUESTS = [Asked("get", it) for it in OFFERS] + [Asked("put", it) for it in OFFERS]
@@ -62,6 +66,15 @@ def thinned(chance: Random) -> tuple[Asked, list[Seen]]:
     return asked, [(end, said_as(asked, agreed, wire, it)) for end, it in kept]
 
 
+def short_lists(asked: Asked) -> Iterator[list[Seen]]:
+    """All lists of a request and two more that have a number or agree to something, and some of three more."""
+    every = [it for it in dict.fromkeys(alphabet(asked)) if it[1].kind in ("data", "ack", "oack")]
+    chance = Random(3)
+    for seen in (it for count in range(4) for it in combinations_with_replacement(every, count)):
+        if len(seen) < 3 or chance.random() < 0.02:
+            yield [("client", asked.request()), *seen]
+
+
 class Lossy(Checks):
     """Lists by chance, the same in each run."""
 
@@ -74,3 +87,19 @@ class Lossy(Checks):
         for number in range(THINNED):
             asked, seen = thinned(chance)
             self.check_each([Check(f"list {number}", not first_broken(asked, seen)[1], (asked, seen))])
+
+    def test_four_figures_decide_what_is_explained(self) -> None:
+        for asked in REQUESTS:
+            for seen in filter(lambda it: is_fair(asked, it), short_lists(asked)):
+                same = bool(fitting(asked, seen)) == is_decided_as_explained(asked, seen)
+                self.check_each([Check("list", same, (asked, seen))])
+
+    def test_some_rules_are_certain_by_their_name(self) -> None:
+        chance, depending = Random(4), set()
+        for number in range(REFUSED):
+            asked, seen = thinned(chance) if number % 2 else next(lists(chance, 1))
+            at, rule = refused_by(asked, seen)
+            if rule and not list(rules_of(asked, seen[:at], *seen[at])):
+                depending.add(rule)
+        self.check_each([Check("certain", not depending & STANDING)])
+        self.check_each([Check("others", depending == DEPENDING, depending)])

@@ -5,14 +5,18 @@ from __future__ import annotations
 from collections.abc import Iterator, Sequence
 from functools import lru_cache
 from itertools import product
-from typing import NamedTuple
+from typing import NamedTuple, Optional
 
 from captures import EndName
+from fuzzing.attribution import Datagram
+from fuzzing.between import verdict
 from fuzzing.ends import Kind, Packet
-from fuzzing.tapped import ENDS, OACK, REQUEST, Law, Passed
+from fuzzing.tapped import ENDS, OACK, REQUEST, SIDES, Law, Passed
 from normal import Side
 
-LIMIT, USUAL, LONGEST = 3, 2, 6
+LIMIT, USUAL, LONGEST, SCALE = 3, 2, 6, 256
+# the rules that are certain by their name (`StandsWhateverIsMissing`)
+STANDING = frozenset((1, 3, 5, 6, 7, 8, 11, 12, 13, 14, 15, 16, 19, 25))
 Options = tuple[tuple[str, int], ...]
 Seen = tuple[EndName, "Said"]
 EMPTY: Options = ()
@@ -113,6 +117,93 @@ def rules_of(asked: Asked, earlier: Sequence[Seen], end: EndName, said: Said) ->
     is_other = said.kind == "oack" and (bool(own) or not said.options or not asked.may_agree(said.options))
     if said.kind in ("oack", "data", "ack") and not is_other and not fitting(asked, [*earlier, (end, said)]):
         yield {"oack": 10, "data": 21, "ack": 26 if said.number else 27}[said.kind]
+
+
+# ---- by four figures
+
+
+class Figures(NamedTuple):
+    """The highest number that was said, whether an ACK 0 was, and how long the blocks below it and at it are."""
+
+    reach: int
+    zero: bool
+    below: Optional[int]
+    tail: Optional[int]
+
+
+def figures_of(seen: Sequence[Seen]) -> Optional[Figures]:
+    """The figures of a list; or none, where two blocks differ that have to be of one length."""
+    reach = max((it.number for _, it in seen if it.kind in NUMBERED), default=0)
+    blocks = [it for _, it in seen if it.kind == "data"]
+    below, tail = ({len(it.text) for it in blocks if (it.number < reach) == is_low} for is_low in (True, False))
+    if len(below) > 1 or len(tail) > 1:
+        return None
+    zero = any(it.kind == "ack" and it.number == 0 for _, it in seen)
+    return Figures(reach, zero, min(below, default=None), min(tail, default=None))
+
+
+def fits_size(size: int, it: Figures) -> bool:
+    whole = it.below in (None, size)
+    return whole and (it.tail is None or it.tail < size or (it.tail == size and it.reach < LIMIT))
+
+
+def fits_total(size: int, total: int, it: Figures) -> bool:
+    last = total // size + 1
+    whole = it.below in (None, size) and it.reach <= last <= LIMIT
+    return whole and (it.tail is None or length_fits(size, total, it.reach, it.tail))
+
+
+def fits_unseen(asked: Asked, it: Figures) -> bool:
+    """Whether a size fits that may have been agreed to where no OACK was seen."""
+    options = dict(asked.options)
+    may_be_usual = asked.side == "put" or not it.zero or bool({"windowsize", "timeout", "tsize"} & set(options))
+    lowered = range(1, options.get("blksize", 0) + 1)
+    return (may_be_usual and fits_size(USUAL, it)) or any(fits_size(size, it) for size in lowered)
+
+
+def is_decided_as_explained(asked: Asked, seen: Sequence[Seen]) -> bool:
+    """Whether the figures fit, where all OACKs say the same and may be agreed to."""
+    found, given = figures_of(seen), next((it.options for _, it in seen if it.kind == "oack"), None)
+    if found is None:
+        return False
+    if given is None:
+        return fits_unseen(asked, found)
+    total = dict(given).get("tsize")
+    return fits_size(size_of(given), found) if total is None else fits_total(size_of(given), total, found)
+
+
+def is_fair(asked: Asked, seen: Sequence[Seen]) -> bool:
+    """Whether blocks begin with 1, and all OACKs say the same, which may be agreed to."""
+    given = {it.options for _, it in seen if it.kind == "oack"}
+    are_fair = len(given) < 2 and all(it and asked.may_agree(it) for it in given)
+    return are_fair and all(it.number for _, it in seen if it.kind == "data")
+
+
+# ---- as datagrams
+
+
+def payload_of(asked: Asked, said: Said) -> bytes:
+    """The bytes of a datagram, where each letter of a block stands for 256 of them."""
+    sized = [(name, it if name in ("windowsize", "timeout") else it * SCALE) for name, it in said.options]
+    options = b"".join(f"{name}\0{it}\0".encode() for name, it in sized)
+    if said.kind == "request":
+        return bytes([0, 1 if asked.side == "get" else 2]) + b"a\0octet\0" + options
+    if said.kind == "data":
+        return bytes([0, 3, 0, said.number]) + said.text.encode() * SCALE
+    if said.kind == "ack":
+        return bytes([0, 4, 0, said.number])
+    return bytes([0, 6]) + options if said.kind == "oack" else bytes([0, 5, 0, said.number]) + b"x\0"
+
+
+def refused_by(asked: Asked, seen: Sequence[Seen]) -> tuple[int, int]:
+    """Which datagram the rules between the ends refuse first, from 0, and by which rule; or their count, and 0."""
+    datagrams = []
+    for number, (end, said) in enumerate(seen):
+        server = SIDES.asked if said.kind == "request" and end == "client" else SIDES.server
+        ends = (SIDES.client, server) if end == "client" else (SIDES.server, SIDES.client)
+        datagrams.append(Datagram(number, number * 0.1, *ends, payload_of(asked, said)))
+    words = verdict(SIDES, datagrams).split()
+    return (int(words[2]) - 1, int(words[4])) if words[0] == "refused" else (len(seen), 0)
 
 
 def first_broken(asked: Asked, seen: Sequence[Seen]) -> tuple[int, list[int]]:

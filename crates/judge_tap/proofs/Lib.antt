@@ -1,3 +1,4 @@
+mod ByRule
 mod KindsPassed
 mod SeenNoted
 mod OwnFound

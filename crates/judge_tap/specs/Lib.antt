@@ -6,7 +6,7 @@ pub mod TapVerdict
 pub use TapSeen.{AreMarks, AreNotes, AreSeen, ErrorPassed, IsNew, IsNewBlock, IsStop, IsStoppedBy, Notes, Seen, Stopped, first_stop, has_number, stop_of}
 pub use TapFinds.{FindsRule, IsOtherError, IsOtherRequest, IsReadOf, MessageBreaks, OwnBreaks}
 pub use TapKept.{IsErrorAtTap, IsKeptAtTap, IsReceiving, IsTapJudge, IsTapTransfer, Receiving, TapJudge, TapState, TapTransfer, kept_there}
-pub use TapStops.{BeginsAtTap, FindsAtTap, IsNoRequest, IsReadUnless, IsRecorded, ReceiverBreaks, RefusesAtTap, TransferBreaks, passing_of, smaller_of, error_by_refusal}
+pub use TapStops.{BeginsAtTap, FindsAtTap, IsCertainByRule, IsNoRequest, IsReadUnless, IsRecorded, ReceiverBreaks, RefusesAtTap, TransferBreaks, passing_of, smaller_of, error_by_refusal}
 pub use TapVerdict.{IsTapVerdict, NoneShown, said_at_tap, unfinished_by}
 pub use declared.datagram.TapDatagram.{TapDatagram}
 pub use declared.refusal.TapRefusal.{TapRefusal}

@@ -9,7 +9,7 @@ use Rattle.tftp_judge.specs.{TakesMemory, Refusal}
 use Rattle.tftp_judge.specs.declared.refusal.Refusal.TheVariants as of_end
 use Rattle.law_end.specs.{Broken, number_of, Rule}
 use Rattle.law_end.specs.declared.rule.Rule.TheVariants as rule
-use Rattle.law_tap.specs.{TapDatagram, TapSides, side_of, is_left_out, asks_in, has_gone, tap_tests, transfer_between, FirstTapAsked, FirstTapBroken, KeptBreaks, TapPasses, header_at, is_of_ports, kept_between, recorded_at, TapRoute}
+use Rattle.law_tap.specs.{TapDatagram, TapSides, side_of, is_left_out, asks_in, has_gone, tap_tests, transfer_between, FirstTapAsked, FirstTapBroken, KeptBreaks, TapPasses, header_at, is_of_ports, kept_between, recorded_at, TapRoute, IsCertainBetween, StandsWhateverIsMissing}
 use Rattle.judge_tap.specs.TapFinds.{OwnBreaks}
 use Rattle.judge_tap.specs.TapKept.{IsTapTransfer, TapTransfer, kept_there}
 use Rattle.judge_tap.specs.TapSeen.{IsNew}
@@ -92,3 +92,8 @@ abbrev pub RefusesAtTap : TapSides → List TapDatagram → TapDatagram → TapR
 RefusesAtTap s earlier d (Unlawful index rule) = (index ≡ length earlier + 1) × FirstTapBroken s earlier d rule
 RefusesAtTap s earlier d (WantsMemory count) = (count ≡ length earlier) × TapPasses s earlier d × TakesMemoryAtTap s earlier d
 RefusesAtTap s earlier d _ = ⊥
+
+-- Where the rule stands whatever is missing, the datagram is certain: no lawful list has it after those, however many more it has.
+abbrev pub IsCertainByRule : TapSides → List TapDatagram → TapDatagram → TapRefusal → Type 0
+IsCertainByRule s earlier d (Unlawful index rule) = StandsWhateverIsMissing rule → IsCertainBetween s earlier d
+IsCertainByRule s earlier d _ = Unit {0}

@@ -1,7 +1,7 @@
 ghost use Rattle.std.specs.Prelude.{◌≡◌, ◌+◌, ◌^◌, ◌<◌, ◌≤◌, List, [], ◌∷◌, length, None, Some, OnOk, IfErr, Err};
 ghost use Rattle.law_tap.specs.{TapDatagram as Passing, TapSides, AreApart, TapPasses};
 ghost use Rattle.judge_tap.specs.TapKept.{IsTapJudge};
-ghost use Rattle.judge_tap.specs.TapStops.{RefusesAtTap, passing_of};
+ghost use Rattle.judge_tap.specs.TapStops.{IsCertainByRule, RefusesAtTap, passing_of};
 ghost use Rattle.judge_tap.specs.TapVerdict.{IsTapVerdict};
 ghost use Rattle.judge_tap.specs.declared.refusal.TapRefusal.{TapRefusal as RefusalKind};
 
@@ -69,6 +69,10 @@ impl<D: Delivered + Drop> TapJudge<D> {
         // Or the first rule that this one breaks; memory runs out only where it breaks none, and is one that takes some.
         ensures refuses { (s : TapSides) (earlier : List Passing) → IsTapJudge self.old s earlier
             → IfErr result (RefusesAtTap s earlier (passing_of datagram)) }
+
+        // Some rules are certain by their name: then no lawful list has the datagram, whatever the recorder missed.
+        ensures certain { (s : TapSides) (earlier : List Passing) → IsTapJudge self.old s earlier
+            → IfErr result (IsCertainByRule s earlier (passing_of datagram)) }
         ensures keeps { IfErr result (λ refusal. self.new.refused ≡ Some refusal) }
         ensures for_good { (refusal : RefusalKind) → self.old.refused ≡ Some refusal → (result ≡ Err refusal) × (self.new ≡ self.old) }
         ensures goes_on { self.old.refused ≡ None → OnOk result (self.new.refused ≡ None) }

@@ -47,13 +47,13 @@ module _ (s : TapSides) (apart : AreApart s) where
 
   -- ---- a datagram of the transfer says something of an end
 
-  read_passing : (d : TapDatagram) (r : TapRoute) → is_passing r ≡ true → IsTapRead r d → (n : Message) × Spells d.payload n
+  pub read_passing : (d : TapDatagram) (r : TapRoute) → is_passing r ≡ true → IsTapRead r d → (n : Message) × Spells d.payload n
   read_passing d TapRoute.Request is read = read
   read_passing d TapRoute.FromClient is read = read
   read_passing d TapRoute.FromServer is read = read
   read_passing d _ is read = absurd (cc)
 
-  never_elsewhere : (d : TapDatagram) → is_passing (route_from_elsewhere s d) ≡ false
+  pub never_elsewhere : (d : TapDatagram) → is_passing (route_from_elsewhere s d) ≡ false
   never_elsewhere d = by (same_peer d.destination s.client) (same_peer d.destination s.server) ((s.server.port == s.asked.port) && asks_in d.payload) where
     by : (a b c : Bool) → is_passing (if a then TapRoute.Stray else if b then (if c then TapRoute.ForeignPort else TapRoute.Stray) else TapRoute.ForeignPort) ≡ false
     by true b c = refl
@@ -61,7 +61,7 @@ module _ (s : TapSides) (apart : AreApart s) where
     by false true false = refl
     by false false c = refl
 
-  passing_end : (d : TapDatagram) → is_passing (lossy_route s d) ≡ true → (e : End) × (d.source ≡ side_of s e)
+  pub passing_end : (d : TapDatagram) → is_passing (lossy_route s d) ≡ true → (e : End) × (d.source ≡ side_of s e)
   passing_end d goes = elim (cases_Bool (same_peer d.source s.client)) [
     | inl client ↦ (Client, is_same d.source s.client client)
     | inr no_client ↦ elim (cases_Bool (same_peer d.source s.server)) [

@@ -7,23 +7,24 @@ use Rattle.std.specs.FinMap.{same_map, nat_cmp-IsAntisymmetric, slice_cmp-IsAnti
 use Rattle.tftp_packet.specs.{OptionMap, OptionValue, no_options, RequestParts, Message, Spells, End, Client, Server}
 use Rattle.tftp_nego.specs.{MayAgree, number_or}
 use Rattle.law_model.specs.Model.{request_of, two_bytes}
-use Rattle.law_model.specs.{EndRule}
+use Rattle.law_model.specs.{EndRule, PortRule}
 use Rattle.law_end.specs.{Rule}
 use Rattle.law_end.proofs.Division.Divided.{any_none, any_cases, any_first, any_later}
 use Rattle.law_end.proofs.Division.RouteTests.{same_is}
 use Rattle.law_end.proofs.Soundness.MadeMeaning.{none_found, none_may_be_agreed}
 use Rattle.law_end.proofs.Spelled.{spelled_once}
-use Rattle.law_tap.specs.{TapDatagram, TapSides, AreApart, asks_in, is_passing, worked_sides, hi_passes, ack_passes, read_between}
+use Rattle.law_tap.specs.{TapDatagram, TapSides, AreApart, asks_in, is_passing, TapBroken, BreaksNoTapRule, worked_sides, hi_passes, ack_passes, read_between}
 use Rattle.law_tap.specs.Losses.{nothing, kept, lost}
 use Rattle.law_tap.specs.LossesBetween.{IsLawfulBetweenWithLosses, IsCertainBetween}
 use Rattle.law_tap.specs.LossyRules.{lossy_route, IsSaidBy, IsSaid, IsNumber, IsBlockLength, Explains, NothingExplains, block_size, LossyBroken}
-use Rattle.law_tap.specs.WorkedLosses.{ack_above, ho_passes, second_passes, zero_passes, block_between}
+use Rattle.law_tap.specs.WorkedLosses.{server_acknowledges, ack_above, ho_passes, second_passes, zero_passes, block_between}
 use Rattle.law_tap.specs.WorkedTap.{request_passes, stray_passes, answer_passes}
 use Rattle.law_tap.proofs.LossyCertain.{broken_is_certain}
+use Rattle.law_tap.proofs.StandingRules.{standing_is_certain}
 use Rattle.law_tap.proofs.TapTests.{source_is}
 use Rattle.law_tap.proofs.WorkedLosses.{request_says, first_block_says, ack_says}
 use Rattle.law_tap.proofs.WorkedLossesBetween.{read_between_lossy}
-use Rattle.law_tap.proofs.WorkedTap.{read_shown, sides_apart}
+use Rattle.law_tap.proofs.WorkedTap.{read_shown, read_passes, sides_apart}
 
 -- ---- the ways of the transfer
 
@@ -229,3 +230,17 @@ zero_broken = inr (inr (record {
 
 pub zero_certain : IsCertainBetween worked_sides (request_passes ∷ []) zero_passes
 zero_certain = broken_is_certain worked_sides (request_passes ∷ []) zero_passes (Rule.Block EndRule.AckZero) sides_apart zero_broken
+
+-- ---- by the rule's name
+
+pub request_alone : BreaksNoTapRule worked_sides (request_passes ∷ [])
+request_alone = read_passes.1.1.1.1
+
+pub sender_acknowledges : TapBroken worked_sides (request_passes ∷ []) server_acknowledges Rule.WrongKind
+sender_acknowledges = inr (refl, inl (asked, (request_passes, refl, request_says), Server, refl, (Message.Ack 1, ack_says, tt)))
+
+pub sender_certain : IsCertainBetween worked_sides (request_passes ∷ []) server_acknowledges
+sender_certain = standing_is_certain worked_sides (request_passes ∷ []) server_acknowledges Rule.WrongKind sides_apart request_alone sender_acknowledges tt
+
+pub silent_server : TapBroken worked_sides (request_passes ∷ []) ack_passes (Rule.Port PortRule.Wrong)
+silent_server = inl refl

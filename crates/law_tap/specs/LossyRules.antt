@@ -6,7 +6,7 @@ use Rattle.std.specs.List.{AllByRecursion}
 use Rattle.tftp_packet.specs.{OptionMap, Num, no_options, Message, RequestParts, Spells, FirstFault, Get, Octet, End, Client}
 use Rattle.tftp_packet.specs.Hosts.{same_peer}
 use Rattle.tftp_nego.specs.{MayAgree, AgreementBroken, Holds, NegoFault, option_or}
-use Rattle.law_model.specs.{EndRule}
+use Rattle.law_model.specs.{EndRule, PortRule}
 use Rattle.law_end.specs.{IsWrongKind, Rule}
 use Rattle.law_end.specs.declared.rule.Rule.TheVariants as rule
 use Rattle.law_tap.specs.TapCapture.{TapDatagram, TapSides, side_of}
@@ -148,6 +148,21 @@ IsOfOrder (rule.Block EndRule.WindowOverrun) = Unit {0}
 IsOfOrder (rule.Block EndRule.BlockSkipped) = Unit {0}
 IsOfOrder (rule.Block EndRule.GoneBack) = Unit {0}
 IsOfOrder _ = ⊥
+
+-- The rules whose breach is certain by the rule's name: what breaks one of them after datagrams that break none does so whatever
+-- is missing. Those of order never are; of the others it depends on more than the name.
+abbrev pub StandsWhateverIsMissing : Rule → Type 0
+StandsWhateverIsMissing (rule.Port PortRule.Foreign) = Unit {0}
+StandsWhateverIsMissing (rule.Port PortRule.BadAnswer) = Unit {0}
+StandsWhateverIsMissing (rule.Malformed fault) = Unit {0}
+StandsWhateverIsMissing rule.WrongKind = Unit {0}
+StandsWhateverIsMissing rule.AfterError = Unit {0}
+StandsWhateverIsMissing rule.RequestChanged = Unit {0}
+StandsWhateverIsMissing (rule.Agreement broken) = Unit {0}
+StandsWhateverIsMissing rule.OackChanged = Unit {0}
+StandsWhateverIsMissing (rule.Block EndRule.BlockZero) = Unit {0}
+StandsWhateverIsMissing (rule.Block EndRule.BlockChanged) = Unit {0}
+StandsWhateverIsMissing _ = ⊥
 
 -- the datagram can be read, and breaks no rule
 pub record LossyPasses (s : TapSides) (earlier : List TapDatagram) (d : TapDatagram) : Type 0 where

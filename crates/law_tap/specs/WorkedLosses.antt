@@ -1,6 +1,6 @@
 -- Small recordings that miss datagrams. Datagrams at an end have the oldest first, what an end did and what passed between the
 -- ends the newest.
-use Rattle.std.specs.Prelude.{List, [], ◌∷◌, codes}
+use Rattle.std.specs.Prelude.{false, List, [], ◌∷◌, Some, codes}
 use Rattle.std.specs.FinMap as map
 use Rattle.tftp_packet.specs.{Num, RequestParts, Get, Octet, Client, Server, In, Out}
 use Rattle.tftp_packet.specs.Hosts.{Datagram, Header}
@@ -9,6 +9,7 @@ use Rattle.law_tap.specs.Tap.{Pass}
 use Rattle.law_tap.specs.WorkedTap.{request_passes, hi_passes, ack_passes}
 use Rattle.law_tap.specs.TapCapture.{TapDatagram}
 use Rattle.law_tap.specs.Losses.{Noted}
+use Rattle.law_tap.specs.SaidFigures.{Figures}
 
 -- ---- a read of two bytes, at the client
 
@@ -123,6 +124,10 @@ second_passes = record { source = hi_passes.source; destination = hi_passes.dest
 abbrev pub zero_passes : TapDatagram
 zero_passes = record { source = ack_passes.source; destination = ack_passes.destination; payload = 0 ∷ 4 ∷ 0 ∷ 0 ∷ [] }
 
+-- ACK 1 of the server, which has nothing to acknowledge in a read
+abbrev pub server_acknowledges : TapDatagram
+server_acknowledges = record { source = hi_passes.source; destination = hi_passes.destination; payload = ack_passes.payload }
+
 -- the same read where the client asks for the size, by tsize 0 (RFC 2349)
 abbrev pub sized_request : RequestParts
 sized_request = record { side = Get; name = codes "a"; mode = Octet; options = map.from_entries ((codes "tsize", Num 0) ∷ []) }
@@ -141,3 +146,7 @@ read_backwards =
 -- an OACK where nothing is agreed
 abbrev pub oack_of_nothing : List Pass
 oack_of_nothing = record { from = Server; packet = Oack } ∷ []
+
+-- blocks 1 and 2 of 8 and 3 bytes
+abbrev pub two_blocks : Figures
+two_blocks = record { reach = 2; zero = false; below = Some 8; tail = Some 3 }

@@ -1,6 +1,7 @@
 ghost use Rattle.std.specs.Prelude.{◌≡◌, ℕ, List};
 ghost use Rattle.tftp_packet.specs.{opcode_of};
 ghost use Rattle.law_tap.specs.TapCapture.{TapDatagram};
+ghost use Rattle.law_tap.specs.LossyRules.{lossy_astray, lossy_route};
 ghost use Rattle.law_tap.specs.TapRoutes.{asks_in, ends_in, has_gone, route_astray, route_from_client, route_from_server, route_from_elsewhere, tap_route};
 
 use crate::route::TapRoute;
@@ -86,6 +87,55 @@ impl Sides {
             self.from_server(passing)
         } else {
             self.from_elsewhere(passing)
+        }
+    }
+
+    /// Where a datagram belongs that passes between the ends, whatever was missed: then anything may have gone the other way (RFC 1350,
+    /// section 4).
+    pub fn route_with_losses(&self, source: Peer, destination: Peer, opcode: u16) -> TapRoute
+        ensures { (payload : List ℕ) → opcode_of payload ≡ opcode
+            → result ≡ lossy_route self.now (record { source = source; destination = destination; payload = payload }) }
+    {
+        let passing = Passing {
+            source,
+            destination,
+            opcode,
+            answers: true,
+        };
+        if source == self.client {
+            if passing.asks() {
+                if destination == self.asked {
+                    TapRoute::Request
+                } else {
+                    TapRoute::WrongPort
+                }
+            } else if destination == self.server {
+                TapRoute::FromClient
+            } else {
+                self.astray_with_losses(&passing)
+            }
+        } else if source == self.server {
+            if destination == self.client {
+                TapRoute::FromServer
+            } else {
+                self.astray_with_losses(&passing)
+            }
+        } else {
+            self.from_elsewhere(&passing)
+        }
+    }
+
+    /// What an end sends to neither the other end nor where it asks, whatever was missed.
+    fn astray_with_losses(&self, passing: &Passing) -> TapRoute
+        ensures { (payload : List ℕ) → opcode_of payload ≡ passing.now.opcode
+            → result ≡ lossy_astray self.now (record { source = passing.now.source; destination = passing.now.destination; payload = payload }) }
+    {
+        if passing.destination == self.client || passing.destination == self.server {
+            TapRoute::WrongPort
+        } else if passing.ends() {
+            TapRoute::StrayAnswer
+        } else {
+            TapRoute::WrongPort
         }
     }
 

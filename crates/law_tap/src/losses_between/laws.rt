@@ -1,16 +1,19 @@
 //! Laws of the definitions in `specs/LossesBetween.antt`. Each is the contract of a function that does nothing.
 
-ghost use Rattle.std.specs.Prelude.{◌↔◌, ℕ, List, ◌∷◌};
-ghost use Rattle.tftp_packet.specs.{End};
+ghost use Rattle.std.specs.Prelude.{◌≡◌, ◌↔◌, ◌≤◌, ℕ, false, List, ◌∷◌, Option};
+ghost use Rattle.tftp_packet.specs.{End, Client, Message, OptionMap, RequestParts};
 ghost use Rattle.law_model.specs.Model.{Meaning, History};
 ghost use Rattle.law_tap.specs.Tap.{Pass, tapped_at};
+ghost use Rattle.law_model.specs.{EndRule};
 ghost use Rattle.law_end.specs.{Rule};
 ghost use Rattle.law_tap.specs.TapCapture.{TapDatagram, TapSides, AreApart};
 ghost use Rattle.law_tap.specs.TapDress.{IsLawfulBetween};
-ghost use Rattle.law_tap.specs.TapRules.{BreaksNoTapRule};
+ghost use Rattle.law_tap.specs.TapRules.{SidesBreak, IsTapRead, TapBroken, BreaksNoTapRule};
+ghost use Rattle.law_tap.specs.TapRoutes.{is_passing};
 ghost use Rattle.law_tap.specs.Losses.{Loses, IsSeenOf};
 ghost use Rattle.law_tap.specs.LossesBetween.{IsTapViewWithLosses, IsSentInOneRun, IsLawfulBetweenWithLosses, IsCertainBetween};
-ghost use Rattle.law_tap.specs.LossyRules.{LossyBroken, IsOfOrder, BreaksNoLossyRule, BeginsWithRequest};
+ghost use Rattle.law_tap.specs.SaidFigures.{Figures, AreFigures, FitsAgreed, FitsSaid, FitsUnseen, IsFair, IsOffered};
+ghost use Rattle.law_tap.specs.LossyRules.{lossy_route, LossyBreaks, LossyBroken, LossyPasses, IsSaidBy, IsSaid, NothingExplains, IsOfOrder, StandsWhateverIsMissing, BreaksNoLossyRule, BeginsWithRequest};
 
 /// Between the ends a list is what was seen of what passed exactly if one run sends all of it: the order in which it passed says
 /// nothing.
@@ -72,6 +75,62 @@ pub fn the_first_that_breaks_a_rule_with_losses_is_the_first_certain()
 /// Nobody is accused with losses who is not without them: a list that breaks no rule between the ends breaks none of these.
 pub fn what_breaks_no_rule_breaks_none_with_losses()
     ensures { (s : TapSides) (tapped : List TapDatagram) → AreApart s → BreaksNoTapRule s tapped → BreaksNoLossyRule s tapped }
+{}
+
+/// Some rules are certain by their name: what breaks one of them after datagrams that break none breaks a rule with losses too, that
+/// one or another of them, and so is certain.
+pub fn what_breaks_a_rule_that_stands_is_certain()
+    ensures breaks { (s : TapSides) (earlier : List TapDatagram) (d : TapDatagram) (broken : Rule) → AreApart s → BreaksNoTapRule s earlier
+        → TapBroken s earlier d broken → StandsWhateverIsMissing broken → (other : Rule) × LossyBroken s earlier d other }
+    ensures certain { (s : TapSides) (earlier : List TapDatagram) (d : TapDatagram) (broken : Rule) → AreApart s → BreaksNoTapRule s earlier
+        → TapBroken s earlier d broken → StandsWhateverIsMissing broken → IsCertainBetween s earlier d }
+{}
+
+/// Four figures decide whether one transfer explains all that was said: where no block size fits them that may have been agreed to,
+/// none does.
+pub fn what_fits_no_size_is_not_explained()
+    ensures { (s : TapSides) (asked : RequestParts) (tapped : List TapDatagram) (f : Figures) (offered : Option OptionMap) → AreFigures f s tapped
+        → IsOffered s tapped offered → (FitsSaid asked offered f → ⊥) → NothingExplains s asked tapped }
+{}
+
+/// And where one fits, one does.
+pub fn what_fits_a_size_is_explained()
+    ensures agreed { (s : TapSides) (asked : RequestParts) (tapped : List TapDatagram) (f : Figures) (agreed : OptionMap) → AreFigures f s tapped
+        → ((e : End) (k : ℕ) (bytes : List ℕ) → IsSaid s tapped e (Message.Data k bytes) → 1 ≤ k) → IsFair asked agreed
+        → ((e : End) × IsSaid s tapped e (Message.Oack agreed)) → ((e : End) (options : OptionMap) → IsSaid s tapped e (Message.Oack options) → options ≡ agreed)
+        → FitsAgreed asked agreed f → NothingExplains s asked tapped → ⊥ }
+    ensures unseen { (s : TapSides) (asked : RequestParts) (tapped : List TapDatagram) (f : Figures) → AreFigures f s tapped
+        → ((e : End) (k : ℕ) (bytes : List ℕ) → IsSaid s tapped e (Message.Data k bytes) → 1 ≤ k)
+        → ((e : End) (options : OptionMap) → IsSaid s tapped e (Message.Oack options) → ⊥) → IsSaid s tapped Client (Message.Request asked)
+        → FitsUnseen asked f → NothingExplains s asked tapped → ⊥ }
+{}
+
+/// Whether a datagram passes with losses is decided by the one message that it says after the request, or by its two sides where it is
+/// none of the transfer.
+pub fn one_message_decides_with_losses()
+    ensures message { (s : TapSides) (earlier : List TapDatagram) (d : TapDatagram) → AreApart s → (e : End) (n : Message) → IsSaidBy s e n d
+        → (asked : RequestParts) → ((now : RequestParts) → IsSaid s earlier Client (Message.Request now) → now ≡ asked)
+        → ((broken : Rule) → LossyBreaks s earlier d asked e n broken → ⊥) → LossyPasses s earlier d }
+    ensures first { (s : TapSides) (earlier : List TapDatagram) (d : TapDatagram) (e : End) (n : Message) → IsSaidBy s e n d
+        → ((now : RequestParts) → IsSaid s earlier Client (Message.Request now) → ⊥) → LossyPasses s earlier d }
+    ensures outside { (s : TapSides) (earlier : List TapDatagram) (d : TapDatagram) → is_passing (lossy_route s d) ≡ false
+        → IsTapRead (lossy_route s d) d → ((broken : Rule) → SidesBreak (lossy_route s d) d broken → ⊥) → LossyPasses s earlier d }
+{}
+
+/// A block 65535 that something explains is the last one, and shorter than the others: it breaks no rule 20.
+pub fn an_explained_block_is_within_65535()
+    ensures { (s : TapSides) (earlier : List TapDatagram) (d : TapDatagram) (e : End) (k : ℕ) (bytes : List ℕ) → IsSaidBy s e (Message.Data k bytes) d
+        → (asked : RequestParts) → (NothingExplains s asked (d ∷ earlier) → ⊥)
+        → LossyBreaks s earlier d asked e (Message.Data k bytes) (Rule.Block EndRule.BeyondBlock65535) → ⊥ }
+{}
+
+/// What has no number, and what is none of the transfer, leave the four figures as they are.
+pub fn what_has_no_number_leaves_the_figures()
+    ensures message { (s : TapSides) (earlier : List TapDatagram) (d : TapDatagram) (e : End) (n : Message) → IsSaidBy s e n d
+        → ((k : ℕ) → n ≡ Message.Ack k → ⊥) → ((k : ℕ) (bytes : List ℕ) → n ≡ Message.Data k bytes → ⊥) → (f : Figures) → AreFigures f s earlier
+        → AreFigures f s (d ∷ earlier) }
+    ensures outside { (s : TapSides) (earlier : List TapDatagram) (d : TapDatagram) → is_passing (lossy_route s d) ≡ false → (f : Figures)
+        → AreFigures f s earlier → AreFigures f s (d ∷ earlier) }
 {}
 
 /// Seven rules are broken by nothing, since what they want may be missing: 4, 9, 17, 18, 22, 23 and 24.

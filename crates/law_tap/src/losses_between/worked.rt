@@ -3,11 +3,13 @@
 ghost use Rattle.std.specs.Prelude.{List, [], ◌∷◌};
 ghost use Rattle.tftp_packet.specs.{no_options, End, Message};
 ghost use Rattle.law_model.specs.Model.{request_of, two_bytes};
-ghost use Rattle.law_model.specs.{EndRule};
+ghost use Rattle.law_model.specs.{EndRule, PortRule};
 ghost use Rattle.law_end.specs.{Rule};
 ghost use Rattle.law_tap.specs.Tap.{IsTapView};
+ghost use Rattle.law_tap.specs.TapRules.{TapBroken, BreaksNoTapRule};
 ghost use Rattle.law_tap.specs.LossesBetween.{IsTapViewWithLosses, IsLawfulBetweenWithLosses, IsCertainBetween};
-ghost use Rattle.law_tap.specs.LossyRules.{Explains, LossyBreaks, LossyBroken};
+ghost use Rattle.law_tap.specs.LossyRules.{Explains, LossyBreaks, LossyBroken, StandsWhateverIsMissing};
+ghost use Rattle.law_tap.specs.SaidFigures.{FitsSize, FitsTotal};
 ghost use Rattle.law_tap.specs.WorkedTap.{worked_sides, request_passes, ack_passes, ack_of_nothing};
 ghost use Rattle.law_tap.specs.WorkedLosses.{
   ack_between,
@@ -19,6 +21,8 @@ ghost use Rattle.law_tap.specs.WorkedLosses.{
   block_between,
   read_backwards,
   oack_of_nothing,
+  server_acknowledges,
+  two_blocks,
 };
 
 /// An ACK of a block that was not seen passed: the block may have been missed.
@@ -76,4 +80,28 @@ pub fn an_ack_zero_of_nothing_is_certain_between()
 /// two bytes is the whole file.
 pub fn a_size_binds_nothing_before_its_oack()
     ensures { Explains worked_sides sized_request block_between no_options 2 }
+{}
+
+/// An ACK of the server of a read breaks rule 6, which stands by its name, and so is certain.
+pub fn an_ack_of_the_sender_stands()
+    ensures before { BreaksNoTapRule worked_sides (request_passes ∷ []) }
+    ensures broken { TapBroken worked_sides (request_passes ∷ []) server_acknowledges Rule.WrongKind }
+    ensures named { StandsWhateverIsMissing Rule.WrongKind }
+    ensures certain { IsCertainBetween worked_sides (request_passes ∷ []) server_acknowledges }
+{}
+
+/// An ACK to a server of which nothing has passed breaks rule 2, which does not stand by its name: what the server sent may have been
+/// missed.
+pub fn an_ack_to_a_silent_server_depends()
+    ensures before { BreaksNoTapRule worked_sides (request_passes ∷ []) }
+    ensures broken { TapBroken worked_sides (request_passes ∷ []) ack_passes (Rule.Port PortRule.Wrong) }
+    ensures named { StandsWhateverIsMissing (Rule.Port PortRule.Wrong) → ⊥ }
+    ensures lawful { IsLawfulBetweenWithLosses worked_sides ack_between }
+{}
+
+/// Blocks of 8 and 3 bytes are those of a file in blocks of 8 bytes, and of none in blocks of 512: the first of them is whole.
+pub fn eight_bytes_fit()
+    ensures lowered { FitsSize 8 two_blocks }
+    ensures usual { FitsSize 512 two_blocks → ⊥ }
+    ensures total { FitsTotal 8 11 two_blocks }
 {}
