@@ -4,3 +4,4 @@ pub mod Holding
 pub mod Trailing
 pub mod Answering
 pub mod Closing
+pub mod Pacing

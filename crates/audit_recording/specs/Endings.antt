@@ -1,3 +1,4 @@
 pub mod Told
+pub mod Pace
 pub mod Kept
 pub mod Worked

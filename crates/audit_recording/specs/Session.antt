@@ -1,5 +1,6 @@
 pub mod Intact
 pub mod Noted
 pub mod Recording
+pub mod Trails
 pub mod Kept
 pub mod Worked

@@ -13,7 +13,8 @@ use Rattle.audit_recording.specs.declared.judges.judging.Judging.{Judging}
 use Rattle.audit_recording.specs.declared.rows.row.Point.TheVariants.{Client, Server, Between}
 use Rattle.audit_recording.specs.Judges.{points_of}
 use Rattle.audit_recording.specs.Blame.Frames.{Carried, Framed, framed, framed_after, seen_of, view_of, whole_of}
-use Rattle.audit_recording.specs.Blame.Kept.{AreFactsOf, IsBlameOf, IsNoted, IsPassing, IsTrailBetween, IsTrailOf, comes_to, first_frame, is_about_it, is_copied, is_damaged, last_frame, last_time_in, passed_of}
+use Rattle.audit_recording.specs.Blame.Kept.{AreFactsOf, IsBlameOf, IsNoted, IsPassing, IsTrailBetween, IsTrailOf, comes_to, first_frame, is_about_it, is_copied, is_damaged, last_frame, last_time_in, passed_of, sent_of}
+use Rattle.audit_recording.specs.Reasons.Twice.{IsTwiceAfter, sent}
 use Rattle.audit_recording.specs.Blame.Facts.{blamed_of}
 use Rattle.audit_recording.specs.Endings.Kept.{IsClosingOf}
 use Rattle.audit_recording.specs.declared.blame.passed.Passed.{Passed}
@@ -99,7 +100,7 @@ module _ (n : ℕ) (frames : List Framed) (unheard : filter (is_about_it n) fram
   pub view_unheard : filter (λ (f : Framed). is_of n f.placed) frames ≡ []
   view_unheard = sym (filter_both (λ (f : Framed). is_of n f.placed) (is_about_it n) (λ f off. about_none n f.placed off) frames) ∙ ap (filter (λ (f : Framed). is_of n f.placed)) unheard
 
-first_unheard : (n : ℕ) (test : Framed → Bool) → ((f : Framed) → is_about_it n f ≡ false → test f ≡ false) → (frames : List Framed) → filter (is_about_it n) frames ≡ [] → first_of test frames ≡ None
+pub first_unheard : (n : ℕ) (test : Framed → Bool) → ((f : Framed) → is_about_it n f ≡ false → test f ≡ false) → (frames : List Framed) → filter (is_about_it n) frames ≡ [] → first_of test frames ≡ None
 first_unheard n test none [] unheard = refl
 first_unheard n test none (f ∷ frames) unheard = by_test (is_about_it n f)
     (λ is. let both : f ∷ filter (is_about_it n) frames ≡ [] = sym (filter_one (is_about_it n) f frames is) ∙ unheard in absurd (cc))
@@ -224,13 +225,31 @@ module _ (old mid new : Trail) (judging : Judging) (x : Transfer) (named : List 
           told = subst (IsTold mid x) (sym view_more) (told_own old mid x f passing view was.transfer passes refl noted tells);
         }
 
+  -- it stands beside its equal, or not
+  pub twice_at : (place : Place) → place ≡ f.placed.place
+      → (IsSome (transfer_of place) → IsTwiceAfter mid.twice (sent passing.source passing.target passing.payload.now ∷ map sent_of view)) → (transfer_of place ≡ None → mid ≡ old)
+      → IsTwiceAfter mid.twice (map sent_of (view_of Client x.number named (c ∷ carried)))
+  twice_at place at own beside = by (transfer_of place) refl where
+    is_own : is_of x.number f.placed ≡ is_some (transfer_of place)
+    is_own = own_about x.number f.placed about ∙ ap (λ p. is_some (transfer_of p)) (sym at)
+
+    by : (o : Option Transfer) → transfer_of place ≡ o → IsTwiceAfter mid.twice (map sent_of (view_of Client x.number named (c ∷ carried)))
+    by None none =
+        let view_same : view_of Client x.number named (c ∷ carried) ≡ view = filter_none (λ (g : Framed). is_of x.number g.placed) f (framed named carried) (is_own ∙ ap is_some none) in
+        subst (λ l. IsTwiceAfter mid.twice (map sent_of l)) (sym view_same) (subst (λ (t : Trail). IsTwiceAfter t.twice (map sent_of view)) (sym (beside none)) was.twice)
+    by (Some y) is =
+        let view_more : view_of Client x.number named (c ∷ carried) ≡ f ∷ view = filter_one (λ (g : Framed). is_of x.number g.placed) f (framed named carried) (is_own ∙ ap is_some is) in
+        let same : sent passing.source passing.target passing.payload.now ≡ sent_of f = λ i. sent (passes.source i) (passes.target i) (passes.payload i) in
+        subst (λ l. IsTwiceAfter mid.twice (map sent_of l)) (sym view_more)
+        (subst (λ d. IsTwiceAfter mid.twice (d ∷ map sent_of view)) same (own (subst IsSome (sym is) refl)))
+
   pub trail_more : (place : Place) → place ≡ f.placed.place → (IsSome (transfer_of place) → IsNoted old mid passing) → (transfer_of place ≡ None → mid ≡ old)
       → new.transfer ≡ mid.transfer → new.first ≡ mid.first → new.last ≡ mid.last → new.count ≡ mid.count → new.last_time ≡ mid.last_time → new.is_answered ≡ mid.is_answered
       → new.copied_from ≡ or_this mid.copied_from passing.is_doubtful passing.frame → new.damaged ≡ or_this mid.damaged passing.has_error passing.frame
       → new.ends.number ≡ x.number → AreEndsAfter new.ends (whole_of named (c ∷ carried)) → (opened_it x.number f.placed ≡ true → c.frame ≡ old.first)
-      → IsClosingOf new.closing x (view_of Client x.number named (c ∷ carried))
+      → IsTwiceAfter new.twice (map sent_of (view_of Client x.number named (c ∷ carried))) → IsClosingOf new.closing x (view_of Client x.number named (c ∷ carried))
       → IsBlameOf new.blame judging x (whole_of named (c ∷ carried)) (framed named (c ∷ carried)) → IsTrailOf new judging x named (c ∷ carried)
-  trail_more place at own beside transfer first last count last_time is_answered copied_from damaged number ends opens closing blame =
+  trail_more place at own beside transfer first last count last_time is_answered copied_from damaged number ends opens twice closing blame =
       let m = noted_at place at own beside in
       let frames = framed named carried in
       record {
@@ -243,6 +262,7 @@ module _ (old mid new : Trail) (judging : Judging) (x : Transfer) (named : List 
         count = count ∙ m.told.count;
         last_time = last_time ∙ m.told.last_time;
         is_answered = is_answered ∙ m.told.is_answered;
+        twice = twice;
         copied_from = copied_from ∙ first_one (is_copied x.number) f frames mid.copied_from passing.is_doubtful passing.frame (m.copied_from ∙ was.copied_from)
             (and_first (is_about x.number f.placed) passing.is_doubtful c.is_doubtful about passes.is_doubtful) passes.frame;
         damaged = damaged ∙ first_one (is_damaged x.number) f frames mid.damaged passing.has_error passing.frame (m.damaged ∙ was.damaged)
@@ -253,7 +273,7 @@ module _ (old mid new : Trail) (judging : Judging) (x : Transfer) (named : List 
 
 -- ---- one that is not about it
 
-or_none : {X : Type 0} (o : Option X) (x : X) (b : Bool) → b ≡ false → or_this o b x ≡ o
+pub or_none : {X : Type 0} (o : Option X) (x : X) (b : Bool) → b ≡ false → or_this o b x ≡ o
 or_none None x true off = absurd (true≢false off)
 or_none None x false off = refl
 or_none (Some y) x b off = refl
@@ -281,6 +301,7 @@ trail_passed_by t judging x named c carried off was =
       count = was.count ∙ ap (λ (l : List Framed). min (length l) (2 ^ 64 - 1)) (sym view_same);
       last_time = was.last_time ∙ ap last_time_in (sym view_same);
       is_answered = was.is_answered ∙ ap (list_any (comes_to x)) (sym view_same);
+      twice = subst (λ l. IsTwiceAfter t.twice (map sent_of l)) (sym view_same) was.twice;
       copied_from = was.copied_from ∙ sym (first_same (is_copied x.number) f frames (and_none (is_about x.number f.placed) c.is_doubtful off));
       damaged = was.damaged ∙ sym (first_same (is_damaged x.number) f frames (and_none (is_about x.number f.placed) c.has_error off));
       closing = subst (IsClosingOf t.closing x) (sym view_same) was.closing;
@@ -296,8 +317,8 @@ between_passed_by t judging x named c carried off was there =
 
 pub trail_new : (t : Trail) (judging : Judging) (x : Transfer) (named : List ℕ) (carried : List Carried) → filter (is_about_it x.number) (framed named carried) ≡ []
     → t.transfer ≡ x → t.ends.number ≡ x.number → AreEndsAfter t.ends [] → t.last ≡ t.first → t.count ≡ 0 → t.last_time ≡ 0 → t.is_answered ≡ false → t.copied_from ≡ None → t.damaged ≡ None
-    → IsClosingOf t.closing x [] → IsBlameOf t.blame judging x (whole_of named carried) (framed named carried) → IsTrailOf t judging x named carried
-trail_new t judging x named carried unheard transfer number ends last count last_time is_answered copied_from damaged closing blame =
+    → IsTwiceAfter t.twice [] → IsClosingOf t.closing x [] → IsBlameOf t.blame judging x (whole_of named carried) (framed named carried) → IsTrailOf t judging x named carried
+trail_new t judging x named carried unheard transfer number ends last count last_time is_answered copied_from damaged twice closing blame =
     let frames = framed named carried in
     let none : view_of Client x.number named carried ≡ [] = view_unheard x.number frames unheard in
     record {
@@ -309,6 +330,7 @@ trail_new t judging x named carried unheard transfer number ends last count last
       count = count ∙ ap (λ (l : List Framed). min (length l) (2 ^ 64 - 1)) (sym none);
       last_time = last_time ∙ ap last_time_in (sym none);
       is_answered = is_answered ∙ ap (list_any (comes_to x)) (sym none);
+      twice = subst (λ l. IsTwiceAfter t.twice (map sent_of l)) (sym none) twice;
       copied_from = copied_from ∙ sym (no_first x.number (is_copied x.number) (λ f off. and_none (is_about x.number f.placed) f.carried.is_doubtful off) frames unheard);
       damaged = damaged ∙ sym (no_first x.number (is_damaged x.number) (λ f off. and_none (is_about x.number f.placed) f.carried.has_error off) frames unheard);
       closing = subst (IsClosingOf t.closing x) (sym none) closing;

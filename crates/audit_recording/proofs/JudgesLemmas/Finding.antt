@@ -9,4 +9,4 @@ pub kept_found : (judging : Judging) (name : Naming) (out : List ℕ) (all : Lis
     → IsKept judging name out all all n kept
     → MatchOption found ((opened n all ≡ None) ⊎ (is_among n out ≡ true)) (λ w. (opened n all ≡ Some w.now.transfer) × IsWatching w.now judging w.now.transfer name all)
 kept_found judging name out all n None kept same is = subst (IsKept judging name out all all n) (sym same) is
-kept_found judging name out all n (Some w) kept same is = subst (IsKept judging name out all all n) (sym same) is
+kept_found judging name out all n (Some w) kept same is = let held : IsKept judging name out all all n (Some w.now) = subst (IsKept judging name out all all n) (sym same) is in (held.0, held.2)

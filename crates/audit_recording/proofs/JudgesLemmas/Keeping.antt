@@ -1,16 +1,17 @@
 -- What is kept of all transfers, with one datagram more.
-use Rattle.std.proofs.Common.{rules, arith, ◌≡◌, ◌≤◌, ◌<◌, ℕ, Bool, true, false, cond, List, [], ◌∷◌, length, Option, Some, None, ◌⊎◌, inl, inr, refl, sym, ap, subst, ◌∙◌, ◌==◌, ◌&&◌, ◌||◌, not, IsSome, if◌then◌else◌}
+use Rattle.std.proofs.Common.{rules, arith, All, ◌≡◌, ◌≤◌, ◌<◌, ℕ, Bool, true, false, cond, List, [], ◌∷◌, length, Option, Some, None, ◌⊎◌, inl, inr, refl, sym, ap, subst, ◌∙◌, ◌==◌, ◌&&◌, ◌||◌, not, IsSome, if◌then◌else◌}
 use Rattle.std.specs.BTreeMap.{get, is_at, BTreeMap, IsLowerBound, IsUnchanged}
 use Rattle.std.specs.Map.{lookup}
 use Rattle.std.specs.Ordering.{is_eq, is_gt, nat_cmp}
 use Rattle.std.proofs.lemmas.Bool.{eqb-true, or_parts, or_right}
+use Rattle.std.proofs.lemmas.List.Elements.{All-head, All-tail}
 use Rattle.audit_flows.specs.Lines.{Recorded, Placed, newest_of, transfer_of, may_be_answer_of}
 use Rattle.audit_flows.specs.{Place, Opens, Transfer}
 use Rattle.audit_flows.specs.Transfers.{place_of, placed, is_about, opened_it, is_it}
 use Rattle.audit_flows.proofs.LinesLemmas.Lines.{by_test}
 use Rattle.audit_flows.proofs.TransfersLemmas.Numbers.{none_answers_before, none_before, opening_number, length_placed}
 use Rattle.audit_views.specs.Views.{Naming}
-use Rattle.audit_recording.specs.Judges.{AreCrowded, AreHanded, AreKept, IsCrowded, IsKept, IsUnheard, IsWatching, Watched, is_among, opened}
+use Rattle.audit_recording.specs.Judges.{AreCrowded, AreHanded, AreKept, IsCrowded, IsKept, IsNew, IsWatching, Watched, WereOpened, is_among, opened}
 use Rattle.audit_recording.specs.declared.judges.judging.Judging.{Judging}
 use Rattle.audit_recording.proofs.JudgesLemmas.Watching.{watching_on, watching_unheard}
 
@@ -36,15 +37,23 @@ pub opened_elsewhere : (n : ℕ) (p : Placed) (older : List Placed) → opened_i
 opened_elsewhere n p older off =
     opened_as n (p ∷ older) ∙ ap (λ b. found_opening (if b then Some p else newest_of (opened_it n) older)) off ∙ sym (opened_as n older)
 
-opened_here : (n : ℕ) (p : Placed) (older : List Placed) → opened_it n p ≡ true → opened n (p ∷ older) ≡ transfer_of p.place
+pub opened_here : (n : ℕ) (p : Placed) (older : List Placed) → opened_it n p ≡ true → opened n (p ∷ older) ≡ transfer_of p.place
 opened_here n p older is = opened_as n (p ∷ older) ∙ ap (λ b. found_opening (if b then Some p else newest_of (opened_it n) older)) is
 
-opening_of : (n : ℕ) (d : Recorded) (now : ℕ) (place : Place) (x : Transfer) → place ≡ Opens x → opened_it n (record { datagram = d; moment = now; place = place }) ≡ (x.number == n)
-opening_of n d now place x is = ap (λ (q : Place). opened_it n (record { datagram = d; moment = now; place = q })) is
+pub opens_at : (n : ℕ) (d : Recorded) (now : ℕ) (place : Place) (x : Transfer) → place ≡ Opens x → opened_it n (record { datagram = d; moment = now; place = place }) ≡ (x.number == n)
+opens_at n d now place x is = ap (λ (q : Place). opened_it n (record { datagram = d; moment = now; place = q })) is
 
 numbered : (n : ℕ) (d : Recorded) (now : ℕ) (place : Place) (x : Transfer) → opened_it n (record { datagram = d; moment = now; place = place }) ≡ true → transfer_of place ≡ Some x → x.number ≡ n
 numbered n d now (Opens y) x is of = let this : y ≡ x = cc in eqb-true x.number n (subst (λ (z : Transfer). (z.number == n) ≡ true) this is)
 numbered n d now _ x is of = absurd (cc)
+
+opens_some : (n : ℕ) (d : Recorded) (now : ℕ) (place : Place) → opened_it n (record { datagram = d; moment = now; place = place }) ≡ true → IsSome (transfer_of place)
+opens_some n d now (Opens x) is = refl
+opens_some n d now _ is = absurd (cc)
+
+opens_about : (n : ℕ) (d : Recorded) (now : ℕ) (place : Place) → is_about n (record { datagram = d; moment = now; place = place }) ≡ false → opened_it n (record { datagram = d; moment = now; place = place }) ≡ false
+opens_about n d now (Opens x) off = off
+opens_about n d now _ off = refl
 
 pub opened_number : (n : ℕ) (placed : List Placed) (x : Transfer) → opened n placed ≡ Some x → x.number ≡ n
 opened_number n [] x is = absurd (cc)
@@ -52,26 +61,38 @@ opened_number n (p ∷ older) x is = by_test (opened_it n p)
     (λ yes. numbered n p.datagram p.moment p.place x yes (sym (opened_here n p older yes) ∙ is))
     (λ no. opened_number n older x (sym (opened_elsewhere n p older no) ∙ is))
 
+pub opened_stays : (n : ℕ) (p : Placed) (older : List Placed) → IsSome (opened n older) → IsSome (opened n (p ∷ older))
+opened_stays n p older some = by_test (opened_it n p)
+    (λ is. subst IsSome (sym (opened_here n p older is)) (opens_some n p.datagram p.moment p.place is))
+    (λ off. subst IsSome (sym (opened_elsewhere n p older off)) some)
+
+pub opened_none : (n : ℕ) (placed : List Placed) → All (λ (p : Placed). is_about n p ≡ false) placed → opened n placed ≡ None
+opened_none n [] none = refl
+opened_none n (p ∷ older) none =
+    opened_elsewhere n p older (opens_about n p.datagram p.moment p.place (All-head (λ (q : Placed). is_about n q ≡ false) p older none))
+    ∙ opened_none n older (All-tail (λ (q : Placed). is_about n q ≡ false) p older none)
+
 -- ---- a datagram that opens none
 
 kept_opened : (judging : Judging) (name : Naming) (out : List ℕ) (one other fed : List Placed) (n : ℕ) (o : Option Watched) → opened n other ≡ opened n one → IsKept judging name out one fed n o → IsKept judging name out other fed n o
 kept_opened judging name out one other fed n None same (inl none) = inl (same ∙ none)
 kept_opened judging name out one other fed n None same (inr gone) = inr gone
-kept_opened judging name out one other fed n (Some w) same kept = (same ∙ kept.0, kept.1)
+kept_opened judging name out one other fed n (Some w) same kept = (same ∙ kept.0, kept.1, kept.2)
 
 -- ---- a datagram that opens one
 
-pub opens_one : (old new : BTreeMap ℕ Watched) (w : Watched) (x : Transfer) (judging : Judging) (name : Naming) (out : List ℕ) (p : Placed) (older : List Placed) → p.place ≡ Opens x → IsUnheard x.number older → IsWatching w judging x name []
+pub opens_one : (old new : BTreeMap ℕ Watched) (w : Watched) (x : Transfer) (judging : Judging) (name : Naming) (out : List ℕ) (p : Placed) (older : List Placed) → p.place ≡ Opens x → IsNew x.number out older → IsWatching w judging x name []
     → ((n : ℕ) → get nat_cmp new n ≡ cond (is_eq (nat_cmp x.number n)) (Some w) (get nat_cmp old n))
     → AreKept old judging name out older older → AreKept new judging name out (p ∷ older) older
-opens_one old new w x judging name out p older opens unheard fresh updates kept = λ n. by_test (x.number == n)
+opens_one old new w x judging name out p older opens unknown fresh updates kept = λ n. by_test (x.number == n)
     (λ is. subst (IsKept judging name out (p ∷ older) older n) (sym (updates n ∙ ap (λ b. cond b (Some w) (get nat_cmp old n)) (same_number x.number n ∙ is)))
-    (let on : IsWatching w judging x name older = watching_unheard w judging x name older unheard fresh in (
-      opened_here n p older (opening_of n p.datagram p.moment p.place x opens ∙ is) ∙ ap transfer_of opens ∙ ap Some (sym on.transfer),
+    (let on : IsWatching w judging x name older = watching_unheard w judging x name older unknown.0 fresh in (
+      opened_here n p older (opens_at n p.datagram p.moment p.place x opens ∙ is) ∙ ap transfer_of opens ∙ ap Some (sym on.transfer),
+      subst (λ k. is_among k out ≡ false) (eqb-true x.number n is) unknown.1,
       subst (λ (y : Transfer). IsWatching w judging y name older) (sym on.transfer) on,
     )))
     (λ off. subst (IsKept judging name out (p ∷ older) older n) (sym (updates n ∙ ap (λ b. cond b (Some w) (get nat_cmp old n)) (same_number x.number n ∙ off)))
-    (kept_opened judging name out older (p ∷ older) older n (get nat_cmp old n) (opened_elsewhere n p older (opening_of n p.datagram p.moment p.place x opens ∙ off)) (kept n)))
+    (kept_opened judging name out older (p ∷ older) older n (get nat_cmp old n) (opened_elsewhere n p older (opens_at n p.datagram p.moment p.place x opens ∙ off)) (kept n)))
 
 -- ---- a datagram is handed to one
 
@@ -98,12 +119,12 @@ module _ (got : ℕ → Bool) (old new : BTreeMap ℕ Watched) (judging : Judgin
         here = subst (IsKept judging name out (p ∷ older) (if ((m == m) || got m) then p ∷ older else older) m)
             (sym (updates m ∙ ap (λ b. cond b (Some v) (get nat_cmp old m)) (same_number m m ∙ is_itself m)))
             (subst (λ b. IsKept judging name out (p ∷ older) (if (b || got m) then p ∷ older else older) m (Some v)) (sym (is_itself m))
-            (held.0 ∙ ap Some (sym same), subst (λ (y : Transfer). IsWatching v judging y name (p ∷ older)) (sym same) stands))
+            (held.0 ∙ ap Some (sym same), held.1, subst (λ (y : Transfer). IsWatching v judging y name (p ∷ older)) (sym same) stands))
 
   pub held_one : (w : Watched) → get nat_cmp old m ≡ Some w → AreHanded got old judging name out p older → (w.transfer.number ≡ m) × IsWatching w judging w.transfer name older
   held_one w was kept =
       let held : IsKept judging name out (p ∷ older) older m (Some w) = subst (λ b. IsKept judging name out (p ∷ older) (if b then p ∷ older else older) m (Some w)) fresh (subst (IsKept judging name out (p ∷ older) (if got m then p ∷ older else older) m) was (kept m)) in
-      (opened_number m (p ∷ older) w.transfer held.0, held.1)
+      (opened_number m (p ∷ older) w.transfer held.0, held.2)
 
 pub or_none : (b : Bool) → (b || false) ≡ b
 or_none true = refl
@@ -138,7 +159,7 @@ handed_all watched judging name out p older own answered about apart kept = λ n
       let number : w.transfer.number ≡ n = opened_number n (p ∷ older) w.transfer here.0 in
       let off : is_about w.transfer.number p ≡ false = ap (λ k. is_about k p) number ∙ about n ∙ own_no in
       let away : is_it w.transfer.number (may_be_answer_of p older) ≡ false = ap (λ k. is_it k (may_be_answer_of p older)) number ∙ no_answer (is_it n (may_be_answer_of p older)) (is_it n own) own_no (sym (apart n) ∙ parts.0) in
-      (here.0, watching_on w judging w.transfer name p older off away here.1))
+      (here.0, here.1, watching_on w judging w.transfer name p older off away here.2))
 
 -- ---- how many datagrams a judge has
 
@@ -169,14 +190,31 @@ crowded_more old new w m none updates crowded = by_test (m == crowded.number)
       crowded = crowded.crowded;
     })
 
+-- ---- what was handed out was opened
+
+pub handed_more : (out : List ℕ) (p : Placed) (older : List Placed) → WereOpened out older → WereOpened out (p ∷ older)
+handed_more out p older handed = λ n is. opened_stays n p older (handed n is)
+
+pub handed_one_more : (out : List ℕ) (m : ℕ) (x : Transfer) (all : List Placed) → opened m all ≡ Some x → WereOpened out all → WereOpened (m ∷ out) all
+handed_one_more out m x all is handed = λ n among. by_test (m == n)
+    (λ same. subst (λ k. IsSome (opened k all)) (eqb-true m n same) (subst IsSome (sym is) refl))
+    (λ off. handed n (sym (ap (λ b. b || is_among n out) off) ∙ among))
+
+pub not_handed : (out : List ℕ) (all : List Placed) (n : ℕ) → WereOpened out all → opened n all ≡ None → is_among n out ≡ false
+not_handed out all n handed none = by_test (is_among n out)
+    (λ is. let some : false ≡ true = subst IsSome none (handed n is) in absurd (cc))
+    (λ off. off)
+
 -- ---- before an opening
 
-pub unheard_before : (named : List ℕ) (recorded : List Recorded) (now : ℕ) (d : Recorded) (x : Transfer) → place_of named (placed named recorded) now d ≡ Opens x → IsUnheard x.number (placed named recorded)
-unheard_before named recorded now d x opens =
+pub new_before : (named out : List ℕ) (recorded : List Recorded) (now : ℕ) (d : Recorded) (x : Transfer) → WereOpened out (placed named recorded) → place_of named (placed named recorded) now d ≡ Opens x
+    → IsNew x.number out (placed named recorded)
+new_before named out recorded now d x handed opens =
     let number : x.number ≡ length (placed named recorded) = opening_number named (placed named recorded) now d x opens in
     let same : length (placed named recorded) ≡ length recorded = length_placed named recorded in
     let up : length recorded ≤ x.number = omega arith in
-    (none_before named recorded x.number up, none_answers_before named recorded x.number up)
+    let none = none_before named recorded x.number up in
+    ((none, none_answers_before named recorded x.number up), not_handed out (placed named recorded) x.number handed (opened_none x.number (placed named recorded) none))
 
 -- ---- one is handed out
 
@@ -185,12 +223,18 @@ pub kept_here : (watched : BTreeMap ℕ Watched) (judging : Judging) (name : Nam
 kept_here watched judging name out all k w was kept =
     let held : IsKept judging name out all all k (Some w) = subst (IsKept judging name out all all k) was (kept k) in
     let number : w.transfer.number ≡ k = opened_number k all w.transfer held.0 in
-    (number, (ap (λ n. opened n all) number ∙ held.0, held.1))
+    (number, (ap (λ n. opened n all) number ∙ held.0, held.2))
 
-kept_out : (judging : Judging) (name : Naming) (out : List ℕ) (m : ℕ) (all : List Placed) (n : ℕ) (o : Option Watched) → IsKept judging name out all all n o → IsKept judging name (m ∷ out) all all n o
-kept_out judging name out m all n None (inl none) = inl none
-kept_out judging name out m all n None (inr gone) = inr (or_right (m == n) (is_among n out) gone)
-kept_out judging name out m all n (Some w) kept = kept
+kept_out : (judging : Judging) (name : Naming) (out : List ℕ) (m : ℕ) (all : List Placed) (n : ℕ) (o : Option Watched) → (m == n) ≡ false → IsKept judging name out all all n o → IsKept judging name (m ∷ out) all all n o
+kept_out judging name out m all n None off (inl none) = inl none
+kept_out judging name out m all n None off (inr gone) = inr (or_right (m == n) (is_among n out) gone)
+kept_out judging name out m all n (Some w) off kept = (kept.0, ap (λ b. b || is_among n out) off ∙ kept.1, kept.2)
+
+pub once_here : (watched : BTreeMap ℕ Watched) (judging : Judging) (name : Naming) (out : List ℕ) (all : List Placed) (k : ℕ) (w : Watched) → get nat_cmp watched k ≡ Some w → AreKept watched judging name out all all
+    → is_among w.transfer.number out ≡ false
+once_here watched judging name out all k w was kept =
+    let held : IsKept judging name out all all k (Some w) = subst (IsKept judging name out all all k) was (kept k) in
+    ap (λ n. is_among n out) (opened_number k all w.transfer held.0) ∙ held.1
 
 pub kept_less : (old new : BTreeMap ℕ Watched) (judging : Judging) (name : Naming) (out : List ℕ) (all : List Placed) (k : ℕ) (w : Watched) → get nat_cmp old k ≡ Some w
     → ((n : ℕ) → get nat_cmp new n ≡ cond (is_eq (nat_cmp k n)) None (get nat_cmp old n)) → AreKept old judging name out all all → AreKept new judging name (w.transfer.number ∷ out) all all
@@ -198,7 +242,7 @@ kept_less old new judging name out all k w was updates kept = λ n. by_test (k =
     (λ is. subst (IsKept judging name (w.transfer.number ∷ out) all all n) (sym (updates n ∙ ap (λ b. cond b None (get nat_cmp old n)) (same_number k n ∙ is)))
     (inr (ap (λ m. (m == n) || is_among n out) (kept_here old judging name out all k w was kept).0 ∙ ap (λ b. b || is_among n out) is)))
     (λ off. subst (IsKept judging name (w.transfer.number ∷ out) all all n) (sym (updates n ∙ ap (λ b. cond b None (get nat_cmp old n)) (same_number k n ∙ off)))
-    (kept_out judging name out w.transfer.number all n (get nat_cmp old n) (kept n)))
+    (kept_out judging name out w.transfer.number all n (get nat_cmp old n) (ap (λ m. m == n) (kept_here old judging name out all k w was kept).0 ∙ off) (kept n)))
 
 pub none_kept : (watched : BTreeMap ℕ Watched) (judging : Judging) (name : Naming) (out : List ℕ) (all : List Placed) (n : ℕ) → ((0 < length watched.entries) → ⊥) → IsKept judging name out all all n (get nat_cmp watched n)
     → (opened n all ≡ None) ⊎ (is_among n out ≡ true)

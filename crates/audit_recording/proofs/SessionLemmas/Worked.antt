@@ -2,7 +2,7 @@
 use Rattle.std.proofs.Common.{◌≡◌, ◌+◌, ◌↔◌, ◌∷◌, ℕ, true, false, List, [], length, get_or, codes, inl, Some, None, Vec, Global, refl, sym, ap, subst, arith, rules}
 use Rattle.std.proofs.lemmas.Bool.{false≢true}
 use Rattle.net_udp.specs.Fragments.{content_of as put_together}
-use Rattle.net_udp.specs.Frames.{HasHeader, IsBetween, Packet, Reached, SpellsFrame, SpellsLink, SpellsUdp, acknowledgement, at, held_of, host, is_tunnel, is_wrapping, source_of, target_of, udp_bytes}
+use Rattle.net_udp.specs.Frames.{HasHeader, IsBetween, Packet, Reached, SpellsFrame, SpellsLink, SpellsUdp, acknowledgement, at, held_of, host, is_opened, is_wrapping, source_of, target_of, udp_bytes}
 use Rattle.net_udp.specs.Frames.Extension.{leads_on}
 use Rattle.net_udp.specs.Frames.Ip.{part_of}
 use Rattle.net_udp.specs.declared.frames.link.Network.TheVariants.{Ipv4}
@@ -40,11 +40,11 @@ abbrev upper_of : List ℕ → Reached
 upper_of bytes = record { protocol = at bytes 9; fragment = part_of bytes; content = held_of Ipv4 bytes }
 
 between : (bytes : List ℕ) → SpellsLink RawIpv4 bytes (record { direction = Unknown; network = Some Ipv4; content = bytes }) → HasHeader Ipv4 bytes → at bytes 9 ≡ 17
-    → leads_on (upper_of bytes) ≡ false → IsBetween 228 bytes (source_of Ipv4 bytes) (target_of Ipv4 bytes)
-between bytes linked header is plain = record {
+    → leads_on (upper_of bytes) ≡ false → is_opened (upper_of bytes) ≡ false → IsBetween 228 bytes (source_of Ipv4 bytes) (target_of Ipv4 bytes)
+between bytes linked header is plain closed = record {
   linked = record { direction = Unknown; network = Some Ipv4; content = bytes };
   network = Ipv4;
-  carries = (RawIpv4, refl, plainly RawIpv4 bytes (record { direction = Unknown; network = Some Ipv4; content = bytes }) Ipv4 (upper_of bytes) linked refl (inl (ap is_wrapping is, refl)) (ap is_tunnel is));
+  carries = (RawIpv4, refl, plainly RawIpv4 bytes (record { direction = Unknown; network = Some Ipv4; content = bytes }) Ipv4 (upper_of bytes) linked refl (inl (ap is_wrapping is, refl)) closed);
   of_ip = refl;
   tells = (header, (upper_of bytes, inl (ap is_wrapping is, refl), plain));
   from = refl;
@@ -52,13 +52,13 @@ between bytes linked header is plain = record {
 }
 
 request_spells : SpellsFrame 228 request_bytes request_packet
-request_spells = spells_ipv4 228 RawIpv4 request_bytes Unknown request_bytes refl (omega arith, refl, (refl, refl)) (omega arith, refl, omega arith, omega arith) (omega arith, omega arith) refl
+request_spells = spells_ipv4 228 RawIpv4 request_bytes Unknown request_bytes refl (omega arith, refl, (refl, refl)) (omega arith, refl, omega arith, omega arith) (omega arith, omega arith) refl refl
 
 says_request : SpellsUdp 17 request_udp request
-says_request = (request_udp, (0, inl (refl, (λ e. omega arith), refl)), omega arith, (omega arith, omega arith), (λ e. omega arith), (λ e. omega arith), refl)
+says_request = (request_udp, ((0, inl (refl, (λ e. omega arith), refl)), refl), omega arith, (omega arith, omega arith), (λ e. omega arith), (λ e. omega arith), refl)
 
 says_acknowledgement : SpellsUdp 17 udp_bytes acknowledgement
-says_acknowledgement = (udp_bytes, (0, inl (refl, (λ e. omega arith), refl)), omega arith, (omega arith, omega arith), (λ e. omega arith), (λ e. omega arith), refl)
+says_acknowledgement = (udp_bytes, ((0, inl (refl, (λ e. omega arith), refl)), refl), omega arith, (omega arith, omega arith), (λ e. omega arith), (λ e. omega arith), refl)
 
 -- ---- what is a request
 
@@ -119,7 +119,7 @@ module _ (content : Made) (frames : Vec ℕ Global) (asked acked : Given) (is : 
     (refl, refl),
     is_event 1 first [] refl,
     refl,
-    (refl, (Some (host 7, host 1), between first_bytes (omega arith, refl, (refl, refl)) (omega arith, refl, omega arith, omega arith) refl refl, refl)),
+    (refl, (Some (host 7, host 1), between first_bytes (omega arith, refl, (refl, refl)) (omega arith, refl, omega arith, omega arith) refl refl refl, refl)),
   )
 
   abbrev has_asked : Noticed
@@ -209,5 +209,5 @@ module _ (content : Made) (frames : Vec ℕ Global) (asked acked : Given) (is : 
     acked_noticed,
     is_event 4 fourth (third ∷ second ∷ first ∷ []) refl,
     refl,
-    (refl, (Some (host 7, host 1), between last_bytes (omega arith, refl, (refl, refl)) (omega arith, refl, omega arith, omega arith) refl refl, refl)),
+    (refl, (Some (host 7, host 1), between last_bytes (omega arith, refl, (refl, refl)) (omega arith, refl, omega arith, omega arith) refl refl refl, refl)),
   )

@@ -23,6 +23,7 @@ use Rattle.audit_recording.specs.Endings.Kept.{IsClosingOf}
 use Rattle.audit_recording.specs.Judges.{points_of}
 use Rattle.audit_recording.specs.Blame.Frames.{Carried, Framed, framed, is_seen, numbered, seen_of, view_of, whole_of}
 use Rattle.audit_recording.specs.Blame.Facts.{IsRefusedAt, blamed_of}
+use Rattle.audit_recording.specs.Reasons.Twice.{IsTwiceAfter, Sent, sent}
 
 -- ---- what a judge tells
 
@@ -158,6 +159,7 @@ pub record IsSameBut (old new : Trail) : Type 0 where
   pub left_out : new.left_out ≡ old.left_out
   pub copied_from : new.copied_from ≡ old.copied_from
   pub damaged : new.damaged ≡ old.damaged
+  pub twice : new.twice ≡ old.twice
   pub closing : new.closing ≡ old.closing
   pub blame : new.blame ≡ old.blame
 
@@ -177,6 +179,10 @@ pub record IsNoted (old new : Trail) (passing : Passing) : Type 0 where
   pub closing : new.closing ≡ old.closing
   pub blame : new.blame ≡ old.blame
 
+-- as it is compared with its equal
+abbrev pub sent_of : Framed → Sent
+sent_of f = sent f.carried.datagram.source f.carried.datagram.target f.carried.datagram.payload
+
 -- It is what is to be kept of this transfer by these datagrams, judged at the points where it is to be.
 pub record IsTrailOf (t : Trail) (judging : Judging) (x : Transfer) (named : List ℕ) (carried : List Carried) : Type 0 where
   pub transfer : t.transfer ≡ x
@@ -187,6 +193,7 @@ pub record IsTrailOf (t : Trail) (judging : Judging) (x : Transfer) (named : Lis
   pub count : t.count ≡ min (length (view_of Client x.number named carried)) (2 ^ 64 - 1)
   pub last_time : t.last_time ≡ last_time_in (view_of Client x.number named carried)
   pub is_answered : t.is_answered ≡ list_any (comes_to x) (view_of Client x.number named carried)
+  pub twice : IsTwiceAfter t.twice (map sent_of (view_of Client x.number named carried))
   pub copied_from : t.copied_from ≡ first_frame (is_copied x.number) (framed named carried)
   pub damaged : t.damaged ≡ first_frame (is_damaged x.number) (framed named carried)
   pub closing : IsClosingOf t.closing x (view_of Client x.number named carried)

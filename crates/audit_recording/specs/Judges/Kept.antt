@@ -1,5 +1,5 @@
 -- What the judge of a recording keeps, and for which recordings it stands. Lists have the newest first.
-use Rattle.std.specs.Prelude.{◌≡◌, ◌≤◌, ◌<◌, ◌^◌, ◌⊎◌, ◌==◌, ◌∷◌, ℕ, Bool, true, false, List, All, Option, Some, None, Err, is_some, unwrap_or, IfSome, if◌then◌else◌}
+use Rattle.std.specs.Prelude.{◌≡◌, ◌≤◌, ◌<◌, ◌^◌, ◌⊎◌, ◌==◌, ◌∷◌, ℕ, Bool, true, false, List, All, Option, Some, None, Err, is_some, unwrap_or, IfSome, IsSome, if◌then◌else◌}
 use Rattle.std.specs.BTreeMap.{BTreeMap, get}
 use Rattle.std.specs.List.{list_any}
 use Rattle.std.specs.Ordering.{nat_cmp}
@@ -152,15 +152,19 @@ opened n placed = by (newest_of (opened_it n) placed) where
 abbrev pub is_among : ℕ → List ℕ → Bool
 is_among n numbers = list_any (λ k. k == n) numbers
 
--- What is kept of the transfer with this number: its judges, fed with `fed`; or nothing, where no request opened it or it
--- was handed out.
+-- What is kept of the transfer with this number: its judges, fed with `fed`, where it was not handed out; or nothing, where no
+-- request opened it or it was handed out.
 abbrev pub IsKept : Judging → Naming → List ℕ → List Placed → List Placed → ℕ → Option Watched → Type 0
 IsKept judging name out all fed n None = (opened n all ≡ None) ⊎ (is_among n out ≡ true)
-IsKept judging name out all fed n (Some w) = (opened n all ≡ Some w.transfer) × IsWatching w judging w.transfer name fed
+IsKept judging name out all fed n (Some w) = (opened n all ≡ Some w.transfer) × (is_among n out ≡ false) × IsWatching w judging w.transfer name fed
 
 -- of each transfer that was opened in `all`
 abbrev pub AreKept : BTreeMap ℕ Watched → Judging → Naming → List ℕ → List Placed → List Placed → Type 0
 AreKept watched judging name out all fed = (n : ℕ) → IsKept judging name out all fed n (get nat_cmp watched n)
+
+-- a request opened each transfer with one of these numbers
+abbrev pub WereOpened : List ℕ → List Placed → Type 0
+WereOpened numbers placed = (n : ℕ) → is_among n numbers ≡ true → IsSome (opened n placed)
 
 -- What the judge of a recording keeps: what places the datagrams, the transfers by their numbers, whether memory ran out
 -- for a datagram, and where transfers are to be judged.
@@ -177,6 +181,7 @@ pub record StandsAfter (judge : RecordingJudge) (named : List ℕ) (name : Namin
   pub works : judge.failed ≡ false
   pub attribution : IsAfter judge.attribution named (placed named recorded)
   pub transfers : AreKept judge.watched judge.judging name out (placed named recorded) (placed named recorded)
+  pub handed : WereOpened out (placed named recorded)
 
 -- the host of an end is called by its name
 abbrev pub IsCalled : Naming → Party → Type 0
@@ -187,6 +192,10 @@ IsCalled name p = p.host ≡ name p.end.address
 -- no datagram has told anything of the transfer with this number
 abbrev pub IsUnheard : ℕ → List Placed → Type 0
 IsUnheard n placed = All (λ (p : Placed). is_about n p ≡ false) placed × (is_answered_apart n placed ≡ false)
+
+-- no datagram has told anything of it, nor was it handed out
+abbrev pub IsNew : ℕ → List ℕ → List Placed → Type 0
+IsNew n out placed = IsUnheard n placed × (is_among n out ≡ false)
 
 -- The newest datagram was handed to the transfers with these numbers, and not yet to the others.
 abbrev pub AreHanded : (ℕ → Bool) → BTreeMap ℕ Watched → Judging → Naming → List ℕ → Placed → List Placed → Type 0

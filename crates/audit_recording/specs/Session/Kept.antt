@@ -3,19 +3,22 @@ use Rattle.std.specs.Prelude.{◌≡◌, ◌⊎◌, ◌∷◌, ℕ, Bool, true, 
 use Rattle.net_udp.specs.Recording.{EventState, IsFateOf, Step}
 use Rattle.net_udp.specs.declared.recording.fate.Datagram.{Datagram as Given}
 use Rattle.net_udp.specs.declared.recording.fate.Fate.TheVariants.{Datagram}
-use Rattle.audit_recording.specs.Audit.Audited.{AuditsAfter}
+use Rattle.audit_recording.specs.Audit.Audited.{AuditsAfter, RecordingAudit}
 use Rattle.audit_recording.specs.Blame.Frames.{Carried, datagrams_of}
 use Rattle.audit_recording.specs.Session.Noted.{AreNotesOf, Noticed}
 use Rattle.audit_recording.specs.Session.Recording.{IsNoticedOf}
+use Rattle.audit_recording.specs.Session.Trails.{AreTrailsKept}
 use Rattle.audit_recording.specs.declared.session.fault.ReadFault.{ReadFault}
 use Rattle.audit_recording.specs.declared.session.session.Session.{Session}
 
--- By these frames these datagrams came, and this was noticed: the judges were given the datagrams, and the notes are of what was noticed.
+-- By these frames these datagrams came, and this was noticed: the judges were given the datagrams, the notes are of what was noticed, and
+-- each transfer that was not handed out has its trail.
 -- `named` are the service ports that were named, `out` the numbers of the transfers that were handed out.
 pub record IsSessionAfter (session : Session) (named out : List ℕ) (history : List Step) (carried : List Carried) (s : Noticed) : Type 0 where
   pub noticed : IsNoticedOf named history carried s
   pub audit : AuditsAfter session.audit named out history (datagrams_of carried)
   pub notes : AreNotesOf session.notes s
+  pub trails : AreTrailsKept session.trails session.audit.judge.judging named out carried
 
 -- the event's frame has given no datagram
 abbrev pub GivesNone : EventState → Type 0
@@ -24,6 +27,11 @@ GivesNone event = (given : Given) → IsFateOf event.frame.parts event.likeness 
 -- with one datagram more, or none
 abbrev pub IsOneMore : List Carried → List Carried → Type 0
 IsOneMore older all = (all ≡ older) ⊎ ((c : Carried) × (all ≡ c ∷ older))
+
+-- The judges have failed for good, or they stand for what has passed, with the newest datagram or without it.
+abbrev pub AreJudgesLeft : RecordingAudit → List ℕ → List ℕ → List Carried → Type 0
+AreJudgesLeft audit named out carried =
+    (audit.judge.failed ≡ true) ⊎ ((history : List Step) × (all : List Carried) × IsOneMore carried all × AuditsAfter audit named out history (datagrams_of all))
 
 -- What stands after the next frame, by whether the recording goes on. A fault leaves nothing.
 abbrev pub ReadsOn : (List Step → List Carried → Noticed → Type 0) → List Step → List Carried → Noticed → Result Bool ReadFault → Type 0

@@ -196,6 +196,8 @@ impl<D: Delivered + Drop> RecordingAudit<D> {
             → AuditsAfter self.old named out history passed
             → IsSome (opened n (placed named passed)) → is_among n out ≡ false
             → IfSome result (λ w. w.transfer.number ≤ n) }
+        ensures once { (named : List ℕ) (out : List ℕ) (history : List Step) (passed : List Recorded)
+            → AuditsAfter self.old named out history passed → IfSome result (λ w. is_among w.transfer.number out ≡ false) }
         ensures judging { self.new.judge.judging ≡ self.old.judge.judging }
     {
         self.judge.pop_first()

@@ -10,7 +10,9 @@ ghost use Rattle.audit_recording.specs.Blame.Kept.{IsPassing};
 ghost use Rattle.audit_recording.specs.declared.rows.row.Point.TheVariants.{Client};
 ghost use Rattle.audit_recording.specs.Endings.Told.{first_stop, is_to_stranger, last_word, sent_of, stop_in};
 ghost use Rattle.audit_recording.specs.Endings.Kept.{IsClosingOf};
+ghost use Rattle.audit_recording.specs.Endings.Pace.{IsPaceOf};
 
+use crate::blame::pace::Pace;
 use crate::blame::passing::Passing;
 use crate::blame::stop::{Stop, error_in, sender_at};
 use audit_flows::lines::{Endpoint, Place, Transfer};
@@ -30,6 +32,8 @@ pub struct Closing {
     stops: BTreeMap<Endpoint, Stop>,
     /// The last datagram that passed at both ends; none before any.
     pub last: Option<Word>,
+    /// How these passed in time.
+    pub pace: Pace,
 }
 
 /// A datagram that one end of a transfer sent.
@@ -52,6 +56,7 @@ impl Closing {
             alloc,
             stops: BTreeMap::new(alloc),
             last: None,
+            pace: Pace::new(),
         }
     }
 
@@ -105,11 +110,17 @@ impl Closing {
             → f.placed.datagram ≡ f.carried.datagram → place.now ≡ f.placed.place
             → AreEndsAfter ends.now (f.placed ∷ f.before) → ends.now.number ≡ transfer.now.number
             → self.new.last ≡ last_word transfer.now (f ∷ view) }
+        ensures pace { (f : Framed) (view : List Framed) → IsPaceOf self.old.pace transfer.now view → self.old.last ≡ last_word transfer.now view
+            → IsPassing passing.now f.carried → f.placed.datagram ≡ f.carried.datagram → place.now ≡ f.placed.place
+            → AreEndsAfter ends.now (f.placed ∷ f.before) → ends.now.number ≡ transfer.now.number
+            → IsPaceOf self.new.pace transfer.now (f ∷ view) }
         ensures stops { self.new.stops ≡ self.old.stops }
     {
         if ends.is_at_server(place, passing.source, passing.target) {
+            let role = sender_at(transfer, passing.source);
+            self.pace.note(role, passing, self.last);
             self.last = Some(Word {
-                role: sender_at(transfer, passing.source),
+                role,
                 frame: passing.frame,
                 time: passing.time,
             });
@@ -129,6 +140,7 @@ impl Closing {
             → AreEndsAfter ends.now (f.placed ∷ f.before) → ends.now.number ≡ transfer.now.number
             → OnOk result ((s : EndpointValue) → option_map sent_of (get endpoint_cmp self.new.stops s) ≡ first_stop transfer.now s (f ∷ view)) }
         ensures last { self.new.last ≡ self.old.last }
+        ensures pace { self.new.pace ≡ self.old.pace }
     {
         let Some((code, text)) = stop_in(transfer, ends, passing) else {
             return Ok(());

@@ -1,5 +1,9 @@
 //! A datagram of a recording.
 
+ghost use Rattle.std.specs.Prelude.{◌≡◌, ℕ};
+ghost use Rattle.audit_flows.specs.Lines.{Placed};
+ghost use Rattle.audit_flows.specs.Transfers.{is_about, is_it};
+
 use audit_flows::lines::{Endpoint, Place};
 
 /// A datagram as it passed in a recording.
@@ -24,7 +28,9 @@ pub struct Passing<'a> {
 }
 
 /// The number of the transfer of which a datagram there is, at its client or beside its server.
-pub fn about(place: &Place) -> Option<u64> {
+pub fn about(place: &Place) -> Option<u64>
+    ensures { (p : Placed) → place.now ≡ p.place → (n : ℕ) → is_about n p ≡ is_it n result }
+{
     match place {
         Place::Opens(transfer) => Some(transfer.number),
         Place::Repeats(transfer) => Some(transfer.number),

@@ -1,15 +1,17 @@
 //! What is kept of a transfer beside its judges.
 
-ghost use Rattle.std.specs.Prelude.{◌≡◌, ◌∷◌, ◌||◌, not, [], ℕ, List, IsSome, None, OnOk, Some, filter, true};
+ghost use Rattle.std.specs.Prelude.{◌≡◌, ◌∷◌, ◌||◌, not, [], ℕ, List, IsSome, None, OnOk, Some, filter, map, true};
 ghost use Rattle.law_model.specs.Rules.{or_this};
 ghost use Rattle.audit_flows.specs.Lines.{Placed, doubts_of, same_endpoint, transfer_of};
 ghost use Rattle.audit_flows.specs.{Transfer};
 ghost use Rattle.audit_flows.specs.Transfers.{IsDoubtedAfter, comes_of_earlier, is_beside, opened_it, server_of, tells_strays};
 ghost use Rattle.audit_recording.specs.Between.{IsBetweenVerdict, between_capture, server_or_asked, sides_of};
 ghost use Rattle.audit_recording.specs.Blame.Facts.{blamed_as, blamed_of, refused_between, refused_in};
-ghost use Rattle.audit_recording.specs.Blame.Frames.{Carried, Framed, framed, framed_after, whole_of};
-ghost use Rattle.audit_recording.specs.Blame.Kept.{IsNoted, IsPassing, IsSameBut, IsTrailBetween, IsTrailOf, is_about_it};
-ghost use Rattle.audit_recording.specs.Endings.Told.{IsEnding};
+ghost use Rattle.audit_recording.specs.Blame.Frames.{Carried, Framed, framed, framed_after, view_of, whole_of};
+ghost use Rattle.audit_recording.specs.Blame.Kept.{IsNoted, IsPassing, IsSameBut, IsTrailBetween, IsTrailOf, is_about_it, sent_of};
+ghost use Rattle.audit_recording.specs.Reasons.Twice.{IsTwiceAfter, Sent, are_twice, sent};
+ghost use Rattle.audit_recording.specs.Endings.Pace.{IsPaceIn};
+ghost use Rattle.audit_recording.specs.Endings.Told.{IsEnding, last_of};
 ghost use Rattle.audit_recording.specs.Judges.Kept.{IsWatching};
 ghost use Rattle.audit_recording.specs.Judges.Points.{points_of};
 ghost use Rattle.audit_recording.specs.declared.judges.judging.Judging.{Judging as JudgingKind};
@@ -20,15 +22,18 @@ ghost use Rattle.audit_views.specs.Views.{IsJudgedWith, client_capture, client_h
 ghost use Rattle.law_tap.specs.{AreApart};
 
 use crate::blame::blame::{Blame, Blamed};
-use crate::blame::closing::Closing;
+use crate::blame::closing::{Closing, Word};
 use crate::blame::doubted::Doubted;
 use crate::blame::ending::{Ending, seconds_since};
 use crate::blame::missing::Missing;
+use crate::blame::pace::Pace;
 use crate::blame::passed::Passed;
 use crate::blame::passing::Passing;
 use crate::blame::spoilt::{Spoilt, first_spoilt};
+use crate::blame::stop::sender_at;
 use crate::blame::told::{refused_between, refused_in};
 use crate::blame::twice::Twice;
+use crate::blame::undelivered::Undelivered;
 use crate::judges::Watched;
 use crate::rows::Point;
 use audit_flows::lines::{Doubts, Endpoint, Place, Transfer};
@@ -37,7 +42,7 @@ use judge_tap::TapRefusal;
 use std::alloc::{AllocError, Global};
 use tftp_ends::blocks::RingDelivered;
 use tftp_judge::{Meaning, Refusal};
-use tftp_packet::opcode;
+use tftp_packet::{End, opcode};
 
 /// How an ERROR 5 begins, "Unknown transfer ID" (RFC 1350, section 5).
 const ERROR_5: [u8; 4] = [0, 5, 0, 5];
@@ -74,6 +79,8 @@ pub struct Trail {
     to_client: Option<Spoilt>,
     /// The frame of a datagram that its receiver discarded for its checksum.
     discarded: Option<u64>,
+    /// The last datagram between its ends that did not arrive.
+    undelivered: Option<Undelivered>,
     /// How it ended, as far as it was read.
     closing: Closing,
     blame: Blame,
@@ -106,6 +113,7 @@ impl Trail {
             from_client: None,
             to_client: None,
             discarded: None,
+            undelivered: None,
             closing: Closing::new(alloc),
             blame: Blame::new(alloc),
         }
@@ -162,6 +170,8 @@ impl Trail {
     fn note_place(&mut self, place: &Place, passing: &Passing<'_>) -> Result<(), AllocError>
         ensures own { IsSome (transfer_of place.now) → IsNoted self.old self.new passing.now }
         ensures beside { transfer_of place.now ≡ None → self.new ≡ self.old }
+        ensures twice { (older : List Sent) → IsSome (transfer_of place.now) → IsTwiceAfter self.old.twice older
+            → OnOk result (IsTwiceAfter self.new.twice (sent passing.now.source passing.now.target passing.now.payload.now ∷ older)) }
         ensures first { self.new.first ≡ self.old.first }
         ensures request { self.new.request ≡ self.old.request }
         ensures left_out { self.new.left_out ≡ self.old.left_out }
@@ -178,7 +188,9 @@ impl Trail {
 
     /// Notes a datagram at its client.
     fn note_own(&mut self, passing: &Passing<'_>) -> Result<(), AllocError>
-        ensures { IsNoted self.old self.new passing.now }
+        ensures noted { IsNoted self.old self.new passing.now }
+        ensures twice { (older : List Sent) → IsTwiceAfter self.old.twice older
+            → OnOk result (IsTwiceAfter self.new.twice (sent passing.now.source passing.now.target passing.now.payload.now ∷ older)) }
     {
         self.count = self.count.saturating_add(1);
         self.last = passing.frame;
@@ -236,6 +248,36 @@ impl Trail {
         self.left_out = first(self.left_out, true, frame);
     }
 
+    /// Notes that a datagram did not arrive, if it was between its client and its server, or whom it asked: the last one is kept.
+    pub fn note_undelivered(&mut self, undelivered: Undelivered)
+        ensures blame { self.new.blame ≡ self.old.blame }
+        ensures stands { (judging : JudgingKind) (x : Transfer) (named : List ℕ) (carried : List Carried) → IsTrailOf self.old judging x named carried
+            → IsTrailOf self.new judging x named carried }
+        ensures first { self.new.first ≡ self.old.first }
+        ensures request { self.new.request ≡ self.old.request }
+        ensures left_out { self.new.left_out ≡ self.old.left_out }
+    {
+        self.undelivered = match self.is_between_ends(&undelivered) {
+            true => Some(undelivered),
+            false => self.undelivered,
+        };
+    }
+
+    /// Whether the datagram was between its client and its server, or whom it asked.
+    fn is_between_ends(&self, undelivered: &Undelivered) -> bool {
+        let peer = self.transfer.peer(undelivered.source, undelivered.target);
+        peer == self.server() || peer == self.transfer.asked
+    }
+
+    /// The end that a datagram of the other one did not reach, after which none of the two sent another, and what tells it.
+    pub fn undelivered(&self) -> Option<(End, Undelivered)> {
+        let undelivered = self.undelivered?;
+        match self.closing.last {
+            Some(word) if word.frame > undelivered.frame => None,
+            _ => Some((sender_at(&self.transfer, undelivered.target), undelivered)),
+        }
+    }
+
     /// The server: with whom the client went on, or who answered it first, or else whom it asked.
     pub fn server(&self) -> Endpoint
         ensures { (judging : JudgingKind) (x : Transfer) (named : List ℕ) (carried : List Carried) → IsTrailOf self.now judging x named carried
@@ -261,10 +303,29 @@ impl Trail {
         }
     }
 
+    /// How it went in time.
+    pub fn pace(&self) -> Pace
+        ensures { (judging : JudgingKind) (x : Transfer) (named : List ℕ) (carried : List Carried) → IsTrailOf self.now judging x named carried
+            → IsPaceIn result x named carried }
+    {
+        self.closing.pace
+    }
+
+    /// The last datagram between its two ends.
+    pub fn last_word(&self) -> Option<Word>
+        ensures { (judging : JudgingKind) (x : Transfer) (named : List ℕ) (carried : List Carried) → IsTrailOf self.now judging x named carried
+            → result ≡ last_of x named carried }
+    {
+        self.closing.last
+    }
+
     /// What makes a verdict doubtful, beside its own doubts; of its client's datagrams these may be missing.
     pub fn doubted(&self, doubts: TransferDoubts, missing: Missing) -> Doubted
         ensures doubts { result.doubts ≡ doubts }
         ensures missing { result.missing ≡ missing }
+        ensures is_twice { (judging : JudgingKind) (x : Transfer) (named : List ℕ) (carried : List Carried) → IsTrailOf self.now judging x named carried
+            → result.is_twice ≡ are_twice (map sent_of (view_of PointKind.Client x.number named carried)) }
+        ensures discarded { result.discarded ≡ self.now.discarded }
         ensures begins { result.begins ≡ self.now.first }
         ensures is_one_way { result.is_one_way ≡ not self.now.is_answered }
         ensures copied_from { result.copied_from ≡ self.now.copied_from }

@@ -1,7 +1,7 @@
 //! The transfers of a recording, with one datagram more.
 
 ghost use Rattle.std.specs.Prelude.{◌≡◌, ◌≢◌, ◌≤◌, ◌∷◌, ◌&&◌, ◌||◌, not, ℕ, Bool, List, length, IsOk, OnOk, Err, None, true, false};
-ghost use Rattle.audit_recording.specs.Judges.Kept.{AreCrowded, AreHanded, AreKept, IsUnheard};
+ghost use Rattle.audit_recording.specs.Judges.Kept.{AreCrowded, AreHanded, AreKept, IsNew};
 ghost use Rattle.audit_recording.specs.declared.judges.judging.Judging.{Judging as JudgingKind};
 ghost use Rattle.audit_flows.specs.Lines.{doubts_of, Placed};
 ghost use Rattle.audit_flows.specs.{Place, Transfer};
@@ -26,7 +26,7 @@ pub(crate) fn open<D: Delivered + Drop>(
     place: &Place,
 ) -> Result<(), AllocError>
     ensures kept { (name : Naming) (out : List ℕ) (p : Placed) (older : List Placed) → place.now ≡ p.place
-        → ((x : Transfer) → p.place ≡ Place.Opens x → IsUnheard x.number older)
+        → ((x : Transfer) → p.place ≡ Place.Opens x → IsNew x.number out older)
         → AreKept watched.old judging name out older older → OnOk result (AreKept watched.new judging name out (p ∷ older) older) }
     ensures spare { ((x : Transfer) → place.now ≢ Place.Opens x) → IsOk result }
     ensures crowded { AreCrowded watched.new → AreCrowded watched.old }
@@ -49,7 +49,7 @@ fn begin<D: Delivered + Drop>(
     transfer: Transfer,
 ) -> Result<(), AllocError>
     ensures kept { (name : Naming) (out : List ℕ) (p : Placed) (older : List Placed) → p.place ≡ Place.Opens transfer
-        → IsUnheard transfer.number older
+        → IsNew transfer.number out older
         → AreKept watched.old judging name out older older → OnOk result (AreKept watched.new judging name out (p ∷ older) older) }
     ensures crowded { AreCrowded watched.new → AreCrowded watched.old }
 {

@@ -139,6 +139,8 @@ impl<D: Delivered + Drop> RecordingJudge<D> {
         ensures first { (named : List ℕ) (name : Naming) (out : List ℕ) (recorded : List Recorded) (n : ℕ)
             → StandsAfter self.old named name out recorded → IsSome (opened n (placed named recorded)) → is_among n out ≡ false
             → IfSome result (λ w. w.transfer.number ≤ n) }
+        ensures once { (named : List ℕ) (name : Naming) (out : List ℕ) (recorded : List Recorded)
+            → StandsAfter self.old named name out recorded → IfSome result (λ w. is_among w.transfer.number out ≡ false) }
         ensures judging { self.new.judging ≡ self.old.judging }
     {
         let (_, first) = self.watched.pop_first()?;

@@ -1,6 +1,6 @@
 //! Which hosts send their datagrams with right checksums, and where datagrams were discarded.
 
-ghost use Rattle.std.specs.Prelude.{◌≡◌, ◌∷◌, List, [], OnOk, option_map};
+ghost use Rattle.std.specs.Prelude.{◌≡◌, ◌∷◌, ℕ, List, [], Option, OnOk, option_map};
 ghost use Rattle.audit_recording.specs.Reasons.Spoilt.{Checked, checked};
 ghost use Rattle.audit_recording.specs.Session.Intact.{AreIntactAfter, Gone, before_opening, discarded_of, discarding, is_right, makes_checksums, newest_at};
 
@@ -63,8 +63,9 @@ impl IntactHosts {
     /// Notes at a transfer that a request opens at this time what was left out as discarded in the 300 s before: it may have
     /// been of it.
     pub fn open(&self, trail: &mut Trail, time: u64)
-        ensures { (seen : List Checked) (gone : List Gone) → AreIntactAfter self.now seen gone
+        ensures is { (seen : List Checked) (gone : List Gone) → AreIntactAfter self.now seen gone
             → trail.new ≡ discarding (before_opening time (newest_at trail.old.transfer.client gone)) trail.old }
+        ensures only { (frame : Option ℕ) × (trail.new ≡ discarding frame trail.old) }
     {
         match self.latest_before(trail.transfer.client, time) {
             Some(spoilt) => trail.discard(spoilt),
@@ -97,8 +98,9 @@ impl IntactHosts {
 
     /// Notes at a transfer what its receivers discarded.
     pub fn tell(&self, trail: &mut Trail)
-        ensures { (seen : List Checked) (gone : List Gone) → AreIntactAfter self.now seen gone
+        ensures is { (seen : List Checked) (gone : List Gone) → AreIntactAfter self.now seen gone
             → trail.new ≡ discarding (discarded_of seen trail.old.to_client) (discarding (discarded_of seen trail.old.from_client) trail.old) }
+        ensures only { (one other : Option ℕ) × (trail.new ≡ discarding other (discarding one trail.old)) }
     {
         let (from_client, to_client) = trail.spoilt();
         self.tell_of(trail, from_client);
@@ -107,8 +109,9 @@ impl IntactHosts {
 
     /// Notes at a transfer that its receiver discarded this one, if its host makes its checksums.
     fn tell_of(&self, trail: &mut Trail, spoilt: Option<Spoilt>)
-        ensures { (seen : List Checked) (gone : List Gone) → AreIntactAfter self.now seen gone
+        ensures is { (seen : List Checked) (gone : List Gone) → AreIntactAfter self.now seen gone
             → trail.new ≡ discarding (discarded_of seen spoilt) trail.old }
+        ensures only { (frame : Option ℕ) × (trail.new ≡ discarding frame trail.old) }
     {
         match spoilt {
             Some(spoilt) if self.have(spoilt.host) => trail.discard(spoilt),

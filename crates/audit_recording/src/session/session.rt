@@ -1,6 +1,6 @@
 //! A recording, as far as it was read.
 
-ghost use Rattle.std.specs.Prelude.{◌≡◌, ◌≢◌, ◌≤◌, ◌<◌, ◌⊎◌, ◌∷◌, ◌++◌, [], ℕ, List, IfOk, IfSome, IsErr, IsSome, OnOk, None, Some, Ok, Err, option_map, true, false};
+ghost use Rattle.std.specs.Prelude.{◌≡◌, ◌≢◌, ◌==◌, ◌≤◌, ◌<◌, ◌⊎◌, ◌∷◌, ◌++◌, [], ℕ, List, IfOk, IfSome, IsErr, IsSome, OnErr, OnOk, None, Some, Ok, Err, option_map, true, false};
 ghost use Rattle.std.specs.Io.KnownBytes.{Consumes, prepend_known};
 ghost use Rattle.net_pcap.specs.{FaultKind as Kind, PcapFault as Fault};
 ghost use Rattle.net_streams.specs.{Standing};
@@ -9,19 +9,23 @@ ghost use Rattle.net_udp.specs.Recording.{IsFateOf, StandsFor, Step, checksum_to
 ghost use Rattle.net_udp.specs.{Fate as Became};
 ghost use Rattle.net_udp.specs.declared.recording.fate.Datagram.{Datagram as Given};
 ghost use Rattle.audit_flows.specs.Lines.{same_address};
-ghost use Rattle.audit_flows.specs.{Attributed as Found};
-ghost use Rattle.audit_recording.specs.Audit.Audited.{IsOfEvent};
-ghost use Rattle.audit_recording.specs.Blame.Frames.{Carried, framed_after, whole_of};
-ghost use Rattle.audit_recording.specs.Judges.{IsWatching, is_among, opened};
+ghost use Rattle.audit_flows.specs.{Attributed as Found, Opens, Transfer as TransferValue};
+ghost use Rattle.audit_recording.specs.Audit.{AuditsAfter};
+ghost use Rattle.audit_recording.specs.Audit.Audited.{IsAttributed, IsOfEvent};
+ghost use Rattle.audit_recording.specs.Blame.Frames.{Carried, datagrams_of, framed_after, whole_of};
+ghost use Rattle.audit_recording.specs.Blame.Kept.{IsPassing, IsTrailOf, is_about_it};
+ghost use Rattle.audit_recording.specs.Judges.{IsWatching, WereOpened, is_among, opened};
+ghost use Rattle.audit_recording.specs.declared.judges.judging.Judging.{Judging as JudgingKind};
 ghost use Rattle.audit_views.specs.Parties.{host_name};
 ghost use Rattle.audit_recording.specs.Losses.Noted.{IsAsked, IsFirst, IsMissingOf, IsTold, Since};
 ghost use Rattle.audit_recording.specs.Losses.Noted.Event.{Asks};
 ghost use Rattle.audit_recording.specs.Session.Noted.{AreNotesOf, Noticed, finding, nothing_noticed, noting, sharers_of, stretch_of};
 ghost use Rattle.audit_recording.specs.Session.Recording.{AddsOne, IsCarriedBy, IsNoticedOf, asking, going, gone_by, intact_at, intact_by, placing, reached_by};
-ghost use Rattle.audit_recording.specs.Session.Kept.{GivesNone, IsSessionAfter, ReadsOn};
+ghost use Rattle.audit_recording.specs.Session.Kept.{AreJudgesLeft, GivesNone, IsSessionAfter, ReadsOn};
+ghost use Rattle.audit_recording.specs.Session.Trails.{AreTrailsBegun, AreTrailsKept, IsTrailAfter};
 
 use crate::audit::{AuditFault, NextFrame, RecordingAudit};
-use crate::blame::{Missing, Passing, Spoilt, Trail, about};
+use crate::blame::{Missing, Passing, Spoilt, Trail, Undelivered, about};
 use crate::judges::{Judging, Watched};
 use crate::session::fault::{ReadFault, TextFault};
 use crate::session::kept::Kept;
@@ -93,6 +97,9 @@ impl Session {
             × Consumes (prepend_known recording.old.frames.pieces.ahead (R.remaining reader.old.0)) (prepend_known recording.new.frames.pieces.ahead (R.remaining reader.new.0)) taken
             × ReadsOn (λ frames datagrams noticed. StandsFor recording.new (bytes ++ taken) frames
             × IsSessionAfter self.new named out frames datagrams noticed) history carried s result }
+        ensures wants { (named out bytes : List ℕ) (history : List Step) (carried : List Carried) (s : Noticed)
+            → StandsFor recording.old bytes history → IsSessionAfter self.old named out history carried s
+            → OnErr result (AreJudgesLeft self.new.audit named out carried) }
         ensures ends { result ≡ Ok false
             → ((standing_of recording.new ≡ Standing.Over) × (self.new.notes ≡ self.old.notes))
             ⊎ ((fault : Fault) × (standing_of recording.new ≡ Standing.Failed fault) × (self.new.notes.fault ≡ Some fault)) }
@@ -112,6 +119,7 @@ impl Session {
         ensures fault { OnOk result (self.new.notes.fault ≡ Some fault) }
         ensures notes { (s : Noticed) → AreNotesOf self.old.notes s → AreNotesOf self.new.notes s }
         ensures audit { self.new.audit ≡ self.old.audit }
+        ensures trails { self.new.trails ≡ self.old.trails }
         ensures over { result ≢ Ok true }
         ensures told { fault.kind ≢ Kind.Memory → result ≡ Ok false }
     {
@@ -140,12 +148,56 @@ impl Session {
             → IsNoticedOf named history carried s → AreNotesOf self.old.notes s
             → OnOk result ((t : Noticed) × IsNoticedOf named (step ∷ history) (c ∷ carried) t × AreNotesOf self.new.notes t) }
         ensures audit { self.new.audit ≡ self.old.audit }
+        ensures same_trails { (judging : JudgingKind) (named out : List ℕ) (carried : List Carried) → found ≡ None
+            → AreTrailsKept self.old.trails judging named out carried → AreTrailsKept self.new.trails judging named out carried }
+        ensures trails { (named out : List ℕ) (history : List Step) (carried : List Carried) (c : Carried) (a : Found) (given : Given)
+            → found ≡ Some a
+            → IsFateOf event.old.frame.parts event.old.likeness event.old.brought.outcome event.old.is_discarded (Became.Datagram given)
+            → IsCarriedBy event.old given carried c → IsAttributed named (datagrams_of carried) c.datagram a
+            → WereOpened out (whole_of named carried) → AuditsAfter self.old.audit named out history (datagrams_of (c ∷ carried))
+            → AreTrailsKept self.old.trails self.old.audit.judge.judging named out carried
+            → OnOk result (AreTrailsKept self.new.trails self.old.audit.judge.judging named out (c ∷ carried)) }
         ensures goes { result ≢ Ok false }
     {
         self.notes.lose(alloc, event.old())?;
         self.notes.lose_all(alloc, event.take_ousted(alloc))?;
         self.note(alloc, event, found)?;
+        self.note_undelivered(event);
         Ok(true)
+    }
+
+    /// Notes at the newest transfer of a client that its datagram, or one to it, did not arrive, if the frame tells that.
+    fn note_undelivered(&mut self, event: &Event)
+        ensures notes { self.new.notes ≡ self.old.notes }
+        ensures audit { self.new.audit ≡ self.old.audit }
+        ensures trails { (judging : JudgingKind) (named out : List ℕ) (carried : List Carried) → AreTrailsKept self.old.trails judging named out carried → AreTrailsKept self.new.trails judging named out carried }
+    {
+        let Some(told) = event.unreachable() else {
+            return;
+        };
+        let undelivered = Undelivered {
+            frame: event.number(),
+            host: party_of(told.from, 0).end.address,
+            code: told.code,
+            source: party_of(told.quoted.source, told.quoted.source_port).end,
+            target: party_of(told.quoted.target, told.quoted.target_port).end,
+        };
+        self.note_undelivered_at(undelivered.source, undelivered);
+        self.note_undelivered_at(undelivered.target, undelivered);
+    }
+
+    /// Notes it at the newest transfer of a client with this endpoint.
+    fn note_undelivered_at(&mut self, end: Endpoint, undelivered: Undelivered)
+        ensures notes { self.new.notes ≡ self.old.notes }
+        ensures audit { self.new.audit ≡ self.old.audit }
+        ensures trails { (judging : JudgingKind) (named out : List ℕ) (carried : List Carried) → AreTrailsKept self.old.trails judging named out carried → AreTrailsKept self.new.trails judging named out carried }
+    {
+        let Some(number) = self.unplaced.newest(end) else {
+            return;
+        };
+        if let Some(trail) = self.trails.get_mut(&number) {
+            trail.note_undelivered(undelivered);
+        }
     }
 
     /// Notes what became of a frame.
@@ -164,6 +216,14 @@ impl Session {
             → IsCarriedBy event.now given carried c → s.last < event.now.frame.number → AreNotesOf self.old.notes s
             → OnOk result (AreNotesOf self.new.notes (placing a.place event.now c s)) }
         ensures audit { self.new.audit ≡ self.old.audit }
+        ensures same_trails { (judging : JudgingKind) (named out : List ℕ) (carried : List Carried) → found ≡ None
+            → AreTrailsKept self.old.trails judging named out carried → AreTrailsKept self.new.trails judging named out carried }
+        ensures trails { (named out : List ℕ) (history : List Step) (carried : List Carried) (c : Carried) (a : Found) (given : Given)
+            → found ≡ Some a → IsFateOf event.now.frame.parts event.now.likeness event.now.brought.outcome event.now.is_discarded (Became.Datagram given)
+            → IsCarriedBy event.now given carried c → IsAttributed named (datagrams_of carried) c.datagram a
+            → WereOpened out (whole_of named carried) → AuditsAfter self.old.audit named out history (datagrams_of (c ∷ carried))
+            → AreTrailsKept self.old.trails self.old.audit.judge.judging named out carried
+            → OnOk result (AreTrailsKept self.new.trails self.old.audit.judge.judging named out (c ∷ carried)) }
     {
         match event.fate() {
             Fate::Datagram(datagram) => self.pass(alloc, event, &datagram, found),
@@ -183,6 +243,7 @@ impl Session {
         ensures notes { (s : Noticed) → AreNotesOf self.old.notes s
             → OnOk result (AreNotesOf self.new.notes (going (gone_by event.now datagram.now s.times) (finding (reached_by s.times) (sharers_of event.now) s))) }
         ensures audit { self.new.audit ≡ self.old.audit }
+        ensures trails { (judging : JudgingKind) (named out : List ℕ) (carried : List Carried) → AreTrailsKept self.old.trails judging named out carried → AreTrailsKept self.new.trails judging named out carried }
     {
         self.notes.discard(alloc, event)?;
         let source = party_of(datagram.source, datagram.source_port).end;
@@ -203,6 +264,7 @@ impl Session {
     fn discard_at(&mut self, end: Endpoint, spoilt: Spoilt)
         ensures notes { self.new.notes ≡ self.old.notes }
         ensures audit { self.new.audit ≡ self.old.audit }
+        ensures trails { (judging : JudgingKind) (named out : List ℕ) (carried : List Carried) → AreTrailsKept self.old.trails judging named out carried → AreTrailsKept self.new.trails judging named out carried }
     {
         let Some(number) = self.unplaced.newest(end) else {
             return;
@@ -224,6 +286,13 @@ impl Session {
         ensures notes { (carried : List Carried) (s : Noticed) (c : Carried) (a : Found) → found ≡ Some a → IsCarriedBy event.now datagram.now carried c
             → s.last < event.now.frame.number → AreNotesOf self.old.notes s → OnOk result (AreNotesOf self.new.notes (placing a.place event.now c s)) }
         ensures audit { self.new.audit ≡ self.old.audit }
+        ensures same_trails { (judging : JudgingKind) (named out : List ℕ) (carried : List Carried) → found ≡ None
+            → AreTrailsKept self.old.trails judging named out carried → AreTrailsKept self.new.trails judging named out carried }
+        ensures trails { (named out : List ℕ) (history : List Step) (carried : List Carried) (c : Carried) (a : Found) → found ≡ Some a
+            → IsCarriedBy event.now datagram.now carried c → IsAttributed named (datagrams_of carried) c.datagram a
+            → WereOpened out (whole_of named carried) → AuditsAfter self.old.audit named out history (datagrams_of (c ∷ carried))
+            → AreTrailsKept self.old.trails self.old.audit.judge.judging named out carried
+            → OnOk result (AreTrailsKept self.new.trails self.old.audit.judge.judging named out (c ∷ carried)) }
     {
         let Some(found) = found else {
             return Ok(());
@@ -258,6 +327,9 @@ impl Session {
         ensures notes { (s : Noticed) → AreNotesOf self.old.notes s → s.last < request.now.frame
             → OnOk result (AreNotesOf self.new.notes (asking place.now request.now.frame s)) }
         ensures audit { self.new.audit ≡ self.old.audit }
+        ensures trails { (judging : JudgingKind) (named out : List ℕ) (c : Carried) (carried : List Carried)
+            → place.now ≡ (framed_after named carried c).placed.place → IsPassing request.now c → WereOpened out (whole_of named carried)
+            → AreTrailsKept self.old.trails judging named out carried → OnOk result (AreTrailsBegun self.new.trails judging named out c carried) }
     {
         match place {
             Place::Opens(transfer) => self.open(alloc, *transfer, request),
@@ -279,15 +351,16 @@ impl Session {
         ensures notes { (s : Noticed) → AreNotesOf self.old.notes s → s.last < request.now.frame
             → OnOk result (AreNotesOf self.new.notes (noting (Asks transfer.client.address request.now.frame) request.now.frame s)) }
         ensures audit { self.new.audit ≡ self.old.audit }
+        ensures trails { (judging : JudgingKind) (named out : List ℕ) (c : Carried) (carried : List Carried)
+            → Opens transfer ≡ (framed_after named carried c).placed.place → IsPassing request.now c → WereOpened out (whole_of named carried)
+            → AreTrailsKept self.old.trails judging named out carried → OnOk result (AreTrailsBegun self.new.trails judging named out c carried) }
     {
         let payload = Vec::from_slice(alloc, request.payload)?;
         let mut trail = Trail::new(alloc, transfer, payload, request.frame);
         let time = self.notes.clock.time_of(request.time);
         let later = self.unplaced.open(transfer.client, transfer.number, time);
         let asked = self.notes.ask(alloc, &trail);
-        if let Ok(Some(frame)) = later {
-            trail.leave_out(frame);
-        }
+        note_later(&mut trail, &later);
         self.notes.intact.open(&mut trail, time);
         self.trails.insert(transfer.number, trail)?;
         later?;
@@ -298,6 +371,11 @@ impl Session {
     fn follow(&mut self, found: &Attributed, passing: &Passing<'_>) -> Result<(), AllocError>
         ensures notes { (s : Noticed) → AreNotesOf self.old.notes s → AreNotesOf self.new.notes s }
         ensures audit { self.new.audit ≡ self.old.audit }
+        ensures trails { (named out : List ℕ) (history : List Step) (c : Carried) (carried : List Carried)
+            → IsAttributed named (datagrams_of carried) c.datagram found.now → IsPassing passing.now c
+            → AuditsAfter self.old.audit named out history (datagrams_of (c ∷ carried))
+            → AreTrailsBegun self.old.trails self.old.audit.judge.judging named out c carried
+            → OnOk result (AreTrailsKept self.new.trails self.old.audit.judge.judging named out (c ∷ carried)) }
     {
         match about(&found.place) {
             Some(number) => self.hand(number, found, passing),
@@ -314,6 +392,12 @@ impl Session {
     ) -> Result<(), AllocError>
         ensures notes { self.new.notes ≡ self.old.notes }
         ensures audit { self.new.audit ≡ self.old.audit }
+        ensures trails { (named out : List ℕ) (history : List Step) (c : Carried) (carried : List Carried)
+            → ((n : ℕ) → is_about_it n (framed_after named carried c) ≡ (number == n))
+            → IsAttributed named (datagrams_of carried) c.datagram found.now → IsPassing passing.now c
+            → AuditsAfter self.old.audit named out history (datagrams_of (c ∷ carried))
+            → AreTrailsBegun self.old.trails self.old.audit.judge.judging named out c carried
+            → OnOk result (AreTrailsKept self.new.trails self.old.audit.judge.judging named out (c ∷ carried)) }
     {
         match self.trails.get_mut(&number) {
             Some(trail) => match self.audit.watched(number) {
@@ -328,6 +412,7 @@ impl Session {
     fn set_aside(&mut self, place: &Place, passing: &Passing<'_>) -> Result<(), AllocError>
         ensures notes { (s : Noticed) → AreNotesOf self.old.notes s → AreNotesOf self.new.notes s }
         ensures audit { self.new.audit ≡ self.old.audit }
+        ensures trails { (judging : JudgingKind) (named out : List ℕ) (carried : List Carried) → AreTrailsKept self.old.trails judging named out carried → AreTrailsKept self.new.trails judging named out carried }
     {
         self.leave_out(place, passing)?;
         self.notes.leave_out(passing)
@@ -337,6 +422,7 @@ impl Session {
     fn leave_out(&mut self, place: &Place, passing: &Passing<'_>) -> Result<(), AllocError>
         ensures notes { self.new.notes ≡ self.old.notes }
         ensures audit { self.new.audit ≡ self.old.audit }
+        ensures trails { (judging : JudgingKind) (named out : List ℕ) (carried : List Carried) → AreTrailsKept self.old.trails judging named out carried → AreTrailsKept self.new.trails judging named out carried }
     {
         let Place::Nowhere = place else {
             return Ok(());
@@ -351,6 +437,7 @@ impl Session {
     fn leave_out_at(&mut self, end: Endpoint, frame: u64, time: u64)
         ensures notes { self.new.notes ≡ self.old.notes }
         ensures audit { self.new.audit ≡ self.old.audit }
+        ensures trails { (judging : JudgingKind) (named out : List ℕ) (carried : List Carried) → AreTrailsKept self.old.trails judging named out carried → AreTrailsKept self.new.trails judging named out carried }
     {
         let Some(number) = self.unplaced.newest(end) else {
             return;
@@ -383,6 +470,15 @@ impl Session {
             × IsWatching e.watched self.old.audit.judge.judging e.watched.transfer host_name (whole_of named carried)) }
         ensures first { (named out : List ℕ) (history : List Step) (carried : List Carried) (s : Noticed) (n : ℕ) → IsSessionAfter self.old named out history carried s
             → IsSome (opened n (whole_of named carried)) → is_among n out ≡ false → IfSome result (λ e. e.watched.transfer.number ≤ n) }
+        ensures once { (named out : List ℕ) (history : List Step) (carried : List Carried) (s : Noticed) → IsSessionAfter self.old named out history carried s
+            → IfSome result (λ e. is_among e.watched.transfer.number out ≡ false) }
+        ensures trail { (named out : List ℕ) (history : List Step) (carried : List Carried) (s : Noticed) → IsSessionAfter self.old named out history carried s
+            → IfSome result (λ e. IsTrailAfter e.trail self.old.audit.judge.judging e.watched.transfer named carried) }
+        ensures all { (named out : List ℕ) (history : List Step) (carried : List Carried) (s : Noticed) → IsSessionAfter self.old named out history carried s
+            → result ≡ None → (n : ℕ) → (opened n (whole_of named carried) ≡ None) ⊎ (is_among n out ≡ true) }
+        ensures none { (named out : List ℕ) (history : List Step) (carried : List Carried) (s : Noticed) → IsSessionAfter self.old named out history carried s
+            → result ≡ None → IsSessionAfter self.new named out history carried s }
+        ensures judging { self.new.audit.judge.judging ≡ self.old.audit.judge.judging }
     {
         let (number, mut trail) = self.trails.pop_first()?;
         self.unplaced.end(trail.transfer.client, number);
@@ -435,6 +531,19 @@ impl Session {
     /// How many transfers there are that were not handed out.
     pub fn count(&self) -> usize {
         self.trails.len()
+    }
+}
+
+/// Notes at a transfer the frame of what was left out before its request, but has a later time.
+fn note_later(trail: &mut Trail, later: &Result<Option<u64>, AllocError>)
+    ensures stands { (judging : JudgingKind) (x : TransferValue) (named : List ℕ) (carried : List Carried) → IsTrailOf trail.old judging x named carried
+        → IsTrailOf trail.new judging x named carried }
+    ensures blame { trail.new.blame ≡ trail.old.blame }
+    ensures first { trail.new.first ≡ trail.old.first }
+    ensures request { trail.new.request ≡ trail.old.request }
+{
+    if let Ok(Some(frame)) = later {
+        trail.leave_out(*frame);
     }
 }
 

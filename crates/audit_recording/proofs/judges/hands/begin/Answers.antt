@@ -5,8 +5,8 @@ pub returns-in_err-before-clause-crowded : goal.returns-in_err-before-clause-cro
 returns-in_err-before-clause-crowded g c crowded = crowded_same _ _ c.in_err-before.ensures.err crowded
 
 pub returns-clause-kept : goal.returns-clause-kept
-returns-clause-kept g c name out p older opens unheard kept =
-    opens_one c.args.watched.now c.insert.new.self c.new.result c.args.transfer c.args.judging name out p older opens unheard (c.new.ensures.stands name) c.in_ok-before.ensures.updates.0 kept
+returns-clause-kept g c name out p older opens unknown kept =
+    opens_one c.args.watched.now c.insert.new.self c.new.result c.args.transfer c.args.judging name out p older opens unknown (c.new.ensures.stands name) c.in_ok-before.ensures.updates.0 kept
 
 pub returns-clause-crowded : goal.returns-clause-crowded
 returns-clause-crowded g c crowded = crowded_more c.args.watched.now c.insert.new.self c.new.result c.args.transfer.number c.new.ensures.none c.in_ok-before.ensures.updates.0 crowded

@@ -31,3 +31,9 @@ returns-clause-first g c named out history passed n after =
     let old : AuditsAfter (record { judge = c.self.inside.judge; last_time = c.self.inside.last_time }) named out history passed =
     subst (λ (a : RecordingAudit). AuditsAfter a named out history passed) (sym c.self.view_is) after in
     c.pop_first.ensures.first named host_name out passed n old.judges
+
+pub returns-clause-once : goal.returns-clause-once
+returns-clause-once g c named out history passed after =
+    let old : AuditsAfter (record { judge = c.self.inside.judge; last_time = c.self.inside.last_time }) named out history passed =
+    subst (λ (a : RecordingAudit). AuditsAfter a named out history passed) (sym c.self.view_is) after in
+    c.pop_first.ensures.once named host_name out passed old.judges

@@ -1,14 +1,14 @@
-use Rattle.std.proofs.Common.{◌≡◌, ◌∷◌, refl, ap, subst, sym, ◌∙◌}
+use Rattle.std.proofs.Common.{◌≡◌, ◌∷◌, map, refl, ap, subst, sym, ◌∙◌}
 use Rattle.audit_flows.specs.{Transfer, TransferDoubts, TransferEnds}
 use Rattle.audit_flows.specs.Transfers.{AreEndsAfter, IsDoubtedAfter}
 use Rattle.audit_recording.specs.declared.blame.blame.Blame.{Blame}
 use Rattle.audit_recording.specs.declared.blame.closing.Closing.{Closing}
 use Rattle.audit_recording.specs.Blame.Facts.{blamed_of}
 use Rattle.audit_recording.specs.Blame.Frames.{Framed, framed, framed_after, view_of, whole_of}
-use Rattle.audit_recording.specs.Blame.Kept.{IsBlameBetween, IsBlameOf}
+use Rattle.audit_recording.specs.Blame.Kept.{IsBlameBetween, IsBlameOf, sent_of}
 use Rattle.audit_recording.specs.Endings.Kept.{IsClosingOf}
 use Rattle.audit_recording.specs.declared.rows.row.Point.TheVariants.{Client}
-use Rattle.audit_recording.proofs.BlameLemmas.Trailing.{all_placed, passed_same, trail_more}
+use Rattle.audit_recording.proofs.BlameLemmas.Trailing.{all_placed, passed_same, trail_more, twice_at}
 use Rattle.audit_recording.proofs.blame.trail.Trail.take.Goals as goal
 
 pub returns-clause-stands : goal.returns-clause-stands
@@ -28,6 +28,8 @@ returns-clause-stands c judging x named d carried was passes at doubts about ope
     passes at ends (number ∙ sym (ap (λ (y : Transfer). y.number) own))) in
     trail_more c.args.self.now c.note_place.new.self _ judging x named d carried c.args.passing.now was passes about c.args.found.now.place at c.note_place.ensures.own c.note_place.ensures.beside
     refl refl refl refl refl refl c.first-self.ensures c.first-self-2.ensures number ends opens
+    (twice_at c.args.self.now c.note_place.new.self c.note_place.new.self judging x named d carried c.args.passing.now was passes about c.args.found.now.place at
+    (λ own. c.in_ok-note_place.ensures.twice (map sent_of (view_of Client x.number named carried)) own was.twice) c.note_place.ensures.beside)
     closing
     (c.in_ok-take.ensures.ends judging x f whole (framed named carried) (subst (λ (b : Blame). IsBlameOf b judging x whole (framed named carried)) (sym c.note_place.ensures.blame) was.blame) passed about number ends (all_placed named carried) watching)
 

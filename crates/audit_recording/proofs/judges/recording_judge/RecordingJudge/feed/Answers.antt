@@ -3,7 +3,7 @@ use Rattle.audit_flows.specs.Lines.{doubts_of, Placed, clock}
 use Rattle.audit_flows.specs.Transfers.{place_of, placed}
 use Rattle.audit_views.specs.Views.{IsFed}
 use Rattle.audit_recording.specs.Judges.{RecordingJudge, StandsAfter}
-use Rattle.audit_recording.proofs.JudgesLemmas.Keeping.{unheard_before}
+use Rattle.audit_recording.proofs.JudgesLemmas.Keeping.{handed_more, new_before}
 use Rattle.audit_recording.proofs.judges.recording_judge.RecordingJudge.feed.Goals as goal
 
 pub returns-clause-doubts : goal.returns-clause-doubts
@@ -30,5 +30,6 @@ returns-clause-stands g c named name out recorded d stands of from to =
       works = refl;
       attribution = c.in_ok-found.ensures.stands named older d old.attribution of;
       transfers = c.in_ok-hand_on.ensures.kept c.self.inside.judging name out p older fed belongs doubts
-          (c.in_ok-open.ensures.kept name out p older belongs (unheard_before named recorded (max d.time (clock older)) d) old.transfers);
+          (c.in_ok-open.ensures.kept name out p older belongs (λ x. new_before named out recorded (max d.time (clock older)) d x old.handed) old.transfers);
+      handed = handed_more out p older old.handed;
     }

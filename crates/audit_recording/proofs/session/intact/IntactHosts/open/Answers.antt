@@ -3,9 +3,9 @@ use Rattle.audit_recording.specs.Session.Intact.{before_opening, newest_at}
 use Rattle.audit_recording.proofs.SessionLemmas.Intact.{discarding_it, discarding_none}
 use Rattle.audit_recording.proofs.session.intact.IntactHosts.open.Goals as goal
 
-pub returns-in-Some : goal.returns-in-Some
-returns-in-Some c = λ seen gone stands.
+pub returns-in-Some-clause-is : goal.returns-in-Some-clause-is
+returns-in-Some-clause-is c = λ seen gone stands.
     discarding_it c.args.trail.now c.discard.new.self (before_opening c.args.time (newest_at c.args.trail.now.transfer.client gone)) c.in-Some.spoilt (c.in-Some.ensures seen gone stands) c.discard.ensures.is
 
-pub returns-in-None : goal.returns-in-None
-returns-in-None c = λ seen gone stands. discarding_none c.args.trail.now (before_opening c.args.time (newest_at c.args.trail.now.transfer.client gone)) (sym (c.in-None.ensures seen gone stands))
+pub returns-in-None-clause-is : goal.returns-in-None-clause-is
+returns-in-None-clause-is c = λ seen gone stands. discarding_none c.args.trail.now (before_opening c.args.time (newest_at c.args.trail.now.transfer.client gone)) (sym (c.in-None.ensures seen gone stands))

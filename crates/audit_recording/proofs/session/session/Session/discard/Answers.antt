@@ -23,3 +23,6 @@ returns-clause-notes c s are =
       clock = found.clock;
     } in
     subst (λ (n : Notes). AreNotesOf n (going (gone_by event c.args.datagram.now s.times) whole)) (sym (c.discard_at-2.ensures.notes ∙ c.discard_at.ensures.notes)) gone
+
+pub returns-clause-trails : goal.returns-clause-trails
+returns-clause-trails c judging named out carried kept = c.discard_at-2.ensures.trails judging named out carried (c.discard_at.ensures.trails judging named out carried kept)

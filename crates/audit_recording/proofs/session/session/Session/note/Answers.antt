@@ -31,3 +31,23 @@ returns-in_ok-wait-in-Waits-clause-datagram c named carried s x a given is came 
 
 pub returns-in_ok-discard-in-Discarded-clause-datagram : goal.returns-in_ok-discard-in-Discarded-clause-datagram
 returns-in_ok-discard-in-Discarded-clause-datagram c named carried s x a given is came carries later are = absurd (not_discarded c.args.event.now given c.in-Discarded.datagram came c.in-Discarded.ensures.is)
+
+pub returns-in-Datagram-clause-trails : goal.returns-in-Datagram-clause-trails
+returns-in-Datagram-clause-trails c named out history carried x a given is came carries at handed audit kept =
+    c.pass.ensures.trails named out history carried x a is (carried_same c.args.event.now given c.in-Datagram.datagram carried x (given_once c.args.event.now given c.in-Datagram.datagram came c.in-Datagram.ensures.is) carries) at handed audit kept
+
+pub returns-in_ok-leave-in-Left-clause-trails : goal.returns-in_ok-leave-in-Left-clause-trails
+returns-in_ok-leave-in-Left-clause-trails c named out history carried x a given is came carries at handed audit kept = absurd (not_left c.args.event.now given c.in-Left.why came c.in-Left.ensures.is)
+
+pub returns-in_ok-wait-in-Waits-clause-trails : goal.returns-in_ok-wait-in-Waits-clause-trails
+returns-in_ok-wait-in-Waits-clause-trails c named out history carried x a given is came carries at handed audit kept = absurd (not_waiting c.args.event.now given came c.in-Waits.ensures.is)
+
+pub returns-in_ok-discard-in-Discarded-clause-trails : goal.returns-in_ok-discard-in-Discarded-clause-trails
+returns-in_ok-discard-in-Discarded-clause-trails c named out history carried x a given is came carries at handed audit kept =
+    absurd (not_discarded c.args.event.now given c.in-Discarded.datagram came c.in-Discarded.ensures.is)
+
+pub returns-in_err-discard-in-Discarded-clause-same_trails : goal.returns-in_err-discard-in-Discarded-clause-same_trails
+returns-in_err-discard-in-Discarded-clause-same_trails c judging named out carried none kept = c.discard.ensures.trails judging named out carried kept
+
+pub returns-in_ok-discard-in-Discarded-clause-same_trails : goal.returns-in_ok-discard-in-Discarded-clause-same_trails
+returns-in_ok-discard-in-Discarded-clause-same_trails c judging named out carried none kept = c.discard.ensures.trails judging named out carried kept

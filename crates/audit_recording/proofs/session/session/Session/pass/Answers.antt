@@ -4,6 +4,13 @@ use Rattle.net_udp.specs.Recording.{checksum_told}
 use Rattle.audit_recording.specs.Reasons.Spoilt.{checked}
 use Rattle.audit_recording.specs.Session.Noted.{AreNotesOf, Noticed, finding, sharers_of, with_time}
 use Rattle.audit_recording.specs.Session.Recording.{asking, intact_at, passing_at, reached_by}
+use Rattle.audit_recording.specs.Audit.{AuditsAfter, RecordingAudit}
+use Rattle.audit_recording.specs.Audit.Audited.{IsAttributed}
+use Rattle.audit_recording.specs.Blame.Frames.{datagrams_of}
+use Rattle.audit_recording.specs.Blame.Kept.{IsPassing}
+use Rattle.audit_recording.specs.Session.Trails.{AreTrailsBegun, AreTrailsKept}
+use Rattle.audit_recording.specs.declared.blame.passing.Passing.{Passing}
+use Rattle.audit_recording.specs.declared.judges.judging.Judging.{Judging}
 use Rattle.audit_recording.proofs.SessionLemmas.Recording.{reached_is}
 use Rattle.audit_recording.proofs.session.session.Session.pass.Goals as goal
 
@@ -26,3 +33,35 @@ returns-clause-notes c carried s x a is carries later are =
     let asked = c.in_ok-ask.ensures.notes (passing_at a.place (checksum_told event.sent) x whole) passed (omega arith) in
     let followed = c.follow.ensures.notes (asking c.in-Some.found.place c.number.result (passing_at a.place (checksum_told event.sent) x whole)) asked in
     subst (λ (t : Noticed). AreNotesOf c.follow.new.self.notes t) (λ i. asking ((same i).place) (frame i) (passing_at a.place (checksum_told event.sent) x whole)) followed
+
+pub returns-clause-trails : goal.returns-clause-trails
+returns-clause-trails c named out history carried d a is carries at handed audit kept =
+    let event = c.args.event.now in
+    let same : c.in-Some.found ≡ a = cc in
+    let judging = c.args.self.now.audit.judge.judging in
+    let passing : Passing = record {
+      frame = c.number.result;
+      time = c.time.result;
+      is_doubtful = c.is_doubtful.result;
+      has_error = c.has_error.result;
+      is_intact = c.intact_in.result;
+      source = c.party_of-source.result.end;
+      target = c.party_of-target.result.end;
+      payload = c.args.datagram.now.payload;
+    } in
+    let passes : IsPassing passing d = record {
+      frame = c.number.ensures ∙ sym carries.frame;
+      time = c.time.ensures ∙ sym carries.time;
+      is_doubtful = c.is_doubtful.ensures ∙ sym carries.is_doubtful;
+      has_error = c.has_error.ensures ∙ sym carries.has_error;
+      source = c.party_of-source.ensures.end ∙ sym carries.taken.source;
+      target = c.party_of-target.ensures.end ∙ sym carries.taken.target;
+      payload = sym carries.taken.payload;
+    } in
+    let begun = c.in_ok-ask.ensures.trails judging named out d carried (ap (λ (p : Attributed). p.place) same ∙ at.0) passes handed kept in
+    let judged : c.ask.new.self.audit.judge.judging ≡ judging = ap (λ (s : RecordingAudit). s.judge.judging) c.ask.ensures.audit in
+    let followed = c.in_ok-follow.ensures.trails named out history d carried
+    (subst (λ (f : Attributed). IsAttributed named (datagrams_of carried) d.datagram f) (sym same) at) passes
+    (subst (λ (s : RecordingAudit). AuditsAfter s named out history (datagrams_of (d ∷ carried))) (sym c.ask.ensures.audit) audit)
+    (subst (λ (j : Judging). AreTrailsBegun c.ask.new.self.trails j named out d carried) (sym judged) begun) in
+    subst (λ (j : Judging). AreTrailsKept c.follow.new.self.trails j named out (d ∷ carried)) judged followed

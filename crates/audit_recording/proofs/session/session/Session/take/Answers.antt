@@ -1,4 +1,4 @@
-use Rattle.std.proofs.Common.{◌≡◌, ◌≤◌, ◌<◌, arith, refl, ap, subst, List, ℕ}
+use Rattle.std.proofs.Common.{◌≡◌, ◌∷◌, ◌≤◌, ◌<◌, arith, refl, ap, subst, sym, List, ℕ}
 use Rattle.net_udp.specs.Fragments.{Sets}
 use Rattle.net_udp.specs.Recording.{EventState, IsFateOf}
 use Rattle.net_udp.specs.{Fate}
@@ -7,6 +7,8 @@ use Rattle.audit_flows.specs.{Place}
 use Rattle.audit_recording.specs.Session.Kept.{GivesNone}
 use Rattle.audit_recording.specs.Session.Noted.{AreNotesOf, Noticed, frames_in, giving_up}
 use Rattle.audit_recording.specs.Session.Recording.{AddsOne, IsCarriedBy, letting_go, placing}
+use Rattle.audit_recording.specs.Session.Trails.{AreTrailsKept}
+use Rattle.audit_recording.specs.declared.session.notes.Notes.{Notes}
 use Rattle.audit_recording.proofs.SessionLemmas.Recording.{adds_bare, bare, carried_bare, last_up_to}
 use Rattle.audit_recording.proofs.session.session.Session.take.Goals as goal
 
@@ -29,8 +31,11 @@ returns-clause-none c named history carried s step none gives of noticed are =
     let low : s.last ≤ event.frame.number = omega arith in
     let told = subst (λ (e : EventState). GivesNone e → s.last ≤ e.frame.number
     → (fate : Fate) × (t : Noticed) × IsFateOf e.frame.parts e.likeness e.brought.outcome e.is_discarded fate × AddsOne named e fate carried after carried t × AreNotesOf c.note.new.self.notes t)
-    same (λ gives_so low_so. c.in_ok-note.ensures.none named carried after none gives_so low_so let_go) gives low in
-    (told.1, (carried, s, event, told.0, noticed, of, told.2, adds_bare named event told.0 carried after told.1 gives told.2 told.3), told.4)
+    same (λ gives_so low_so. c.in_ok-note.ensures.none named carried after none gives_so low_so let_go) gives low in (
+      told.1,
+      (carried, s, event, told.0, noticed, of, told.2, adds_bare named event told.0 carried after told.1 gives told.2 told.3),
+      subst (λ (n : Notes). AreNotesOf n told.1) (sym c.note_undelivered.ensures.notes) told.4,
+    )
 
 pub returns-clause-datagram : goal.returns-clause-datagram
 returns-clause-datagram c named history carried s step x a given is of came carries at noticed are =
@@ -54,5 +59,24 @@ returns-clause-datagram c named history carried s step x a given is of came carr
     same (λ came_so carries_so later_so. c.in_ok-note.ensures.datagram named carried after x a given is came_so carries_so later_so let_go) came (carried_bare event given carried x carries) later in (
       placing a.place event x after,
       (carried, s, event, Datagram given, noticed, of, came, (x, carries, refl, ap (λ (p : Place). placing p event x after) at)),
-      told,
+      subst (λ (n : Notes). AreNotesOf n (placing a.place event x after)) (sym c.note_undelivered.ensures.notes) told,
     )
+
+pub returns-clause-trails : goal.returns-clause-trails
+returns-clause-trails c named out history carried x a given is came carries at handed audit kept =
+    let event = c.args.event.now in
+    let same : c.take_ousted.new.self ≡ bare event = λ i. record {
+      frame = c.take_ousted.ensures.frame i;
+      likeness = c.take_ousted.ensures.likeness i;
+      brought = record { old = c.take_ousted.ensures.old i; ousted = c.take_ousted.ensures.gone i; outcome = c.take_ousted.ensures.outcome i };
+      sent = c.take_ousted.ensures.sent i;
+      is_discarded = c.take_ousted.ensures.discarded i;
+    } in
+    c.note_undelivered.ensures.trails c.args.self.now.audit.judge.judging named out (x ∷ carried)
+    (subst (λ (e : EventState). IsFateOf e.frame.parts e.likeness e.brought.outcome e.is_discarded (Datagram given) → IsCarriedBy e given carried x
+    → AreTrailsKept c.note.new.self.trails c.args.self.now.audit.judge.judging named out (x ∷ carried))
+    same (λ came_so carries_so. c.in_ok-note.ensures.trails named out history carried x a given is came_so carries_so at handed audit kept) came (carried_bare event given carried x carries))
+
+pub returns-clause-same_trails : goal.returns-clause-same_trails
+returns-clause-same_trails c judging named out carried none kept =
+    c.note_undelivered.ensures.trails judging named out carried (c.in_ok-note.ensures.same_trails judging named out carried none kept)

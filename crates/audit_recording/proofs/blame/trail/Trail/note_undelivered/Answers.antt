@@ -1,0 +1,18 @@
+use Rattle.audit_recording.proofs.blame.trail.Trail.note_undelivered.Goals as goal
+
+pub returns-clause-stands : goal.returns-clause-stands
+returns-clause-stands c judging x named carried was = record {
+  transfer = was.transfer;
+  number = was.number;
+  ends = was.ends;
+  first = was.first;
+  last = was.last;
+  count = was.count;
+  last_time = was.last_time;
+  is_answered = was.is_answered;
+  twice = was.twice;
+  copied_from = was.copied_from;
+  damaged = was.damaged;
+  closing = was.closing;
+  blame = was.blame;
+}
