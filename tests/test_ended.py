@@ -100,7 +100,9 @@ CASES = (
     ),
     Case(
         "a request again", [ASKED, ASKED, LATER], (0.0, 5.0, 15.5), quiet("silent", "server", 2, 10),
-        "incomplete after 2", "incomplete after 2; ended: server silent for 10 s after frame 2",
+        "incomplete after 2",
+        "incomplete after 2; ended: server silent for 10 s after frame 2; took 5.000 s, the server silent for 5.000 s"
+        " before frame 2, sent again: 1 of the client, 0 of the server",
     ),
     Case(
         "a stranger's block and the ERROR 5 to it",

@@ -17,10 +17,13 @@ ROOM, LONGEST_PACKET = 1 << 26, 65_535
 IPV4, IPV6 = 4, 6
 UDP = 17
 EXTENSIONS, ROUTING, FRAGMENT_HEADER, AUTHENTICATION = (0, 43, 60, 51), 43, 44, 51
-# IPv4 and IPv6 in IP, and GRE; and in GRE IPv4, IPv6, Ethernet and MPLS.
+# IPv4 and IPv6 in IP, and GRE; and in GRE IPv4, IPv6, Ethernet and MPLS, and ERSPAN of types I and II, and of type III.
 GRE = 47
 TUNNELS: dict[int, Optional[int]] = {4: IPV4, 41: IPV6, GRE: None}
 IN_GRE = (0x0800, 0x86DD, 0x6558, 0x8847, 0x8848)
+MIRROR, MIRROR_THREE = 0x88BE, 0x22EB
+# The ports of tunnels over UDP, and how a header of VXLAN begins: the flag of a number alone (RFC 7348, section 5).
+VXLAN, GENEVE, VXLAN_HEAD = 4789, 6081, bytes((8, 0, 0, 0))
 # ESP, minimal encapsulation, Ethernet, IPComp, L2TP, MPLS and Ethernet again: what they carry is not read.
 HIDING = (50, 55, 97, 108, 115, 137, 143)
 # What may hold another packet: no fragment of it is read.
@@ -28,6 +31,8 @@ WRAPPING = (*TUNNELS, *HIDING, AUTHENTICATION)
 # Mobility, host identity and shim6 are not read either.
 UNREAD = (135, 139, 140, *HIDING)
 TAGS, LABELS, SESSION, BRIDGED = (0x8100, 0x88A8, 0x9100), (0x8847, 0x8848), 0x8864, 0x6558
+# The tags of HSR and FRER; and MACsec, 802.1ah, 802.1BR, TRILL, NSH and Marvell's tags, behind which nothing is read.
+NUMBERED, SEALED = (0x892F, 0xF1C1), (0x88E5, 0x88E7, 0x893F, 0x22F3, 0x894F, 0xDADA)
 # LLC and SNAP of the organization 0, behind a length.
 SNAP, LONGEST_LENGTH = bytes.fromhex("aaaa03000000"), 1500
 # The version and code of PPPoE; protocols of PPP, and the first of those that carry no datagrams; a type of nothing.
@@ -339,17 +344,25 @@ def linked(link: int, frame: bytes) -> tuple[str, Optional[int], bytes]:
 
 def untagged(kind: int, after: bytes) -> tuple[Optional[int], bytes]:
     """Over all tags, LLC with SNAP, PPPoE, labels and frames of Ethernet."""
-    while size := size_behind(kind, after):
+    while size := size_behind(unless_sealed(kind), after):
         if len(after) < size:
             raise Fault("Frame")
         kind, after = named_by(kind, after), after[size:]
     return TYPES.get(kind), after
 
 
+def unless_sealed(kind: int) -> int:
+    if kind in SEALED:
+        raise Fault("Frame")
+    return kind
+
+
 def size_behind(kind: int, after: bytes) -> int:
     """How many bytes stand behind a type before the next one; 0 where there is none."""
     if kind in TAGS or kind in LABELS:
         return 4
+    if kind in NUMBERED:
+        return 6
     if kind == BRIDGED:
         return 14
     return 8 if kind == SESSION or (kind <= LONGEST_LENGTH and SNAP.startswith(after[:6])) else 0
@@ -359,6 +372,8 @@ def named_by(kind: int, it: bytes) -> int:
     """The type that it names."""
     if kind in TAGS:
         return number(it, 2)
+    if kind in NUMBERED:
+        return number(it, 4)
     if kind == BRIDGED:
         return number(it, 12)
     if kind in LABELS:
@@ -382,10 +397,40 @@ def unless_unread(kind: Optional[int]) -> int:
 def opened(version: Optional[int], it: bytes) -> Optional[tuple[Optional[int], bytes]]:
     """What stands in a tunnel's packet; nothing where it is none."""
     reached = None if version is None or not has_header(version, it) else carried_by(version, it)
-    if not reached or reached[0] not in TUNNELS:
+    if not reached or not is_opened(*reached):
         return None
     protocol, _, content = reached
+    if protocol == UDP:
+        return in_udp(content)
     return in_gre(content) if protocol == GRE else (TUNNELS[protocol], content)
+
+
+def is_opened(protocol: int, part: Optional[Part], content: bytes) -> bool:
+    """Whether it is a tunnel: of IP, or a whole datagram of one over UDP."""
+    return protocol in TUNNELS or (protocol == UDP and not part and is_over_udp(content))
+
+
+def is_over_udp(it: bytes) -> bool:
+    """Whether a datagram goes to the port of VXLAN or Geneve and begins with its header, as far as its bytes go: each
+    flag and reserved bit as its RFC has it sent (RFC 7348, section 5; RFC 8926, section 3.4)."""
+    if len(it) < 8:
+        return False
+    head = it[8 : number(it, 4)][:8]
+    if any(head[7:]):
+        return False
+    if number(it, 2) == VXLAN:
+        return VXLAN_HEAD.startswith(head[:4])
+    return number(it, 2) == GENEVE and number(head, 0, 1) < 64 and head[1:2] in (b"", b"\0", b"\x40")
+
+
+def in_udp(it: bytes) -> tuple[Optional[int], bytes]:
+    """What stands in VXLAN, a frame, or in Geneve, whose first byte counts the words of its options."""
+    payload, is_vxlan = it[8 : number(it, 4)], number(it, 2) == VXLAN
+    size = 8 if is_vxlan else 8 + 4 * number(payload, 0, 1)
+    kind = BRIDGED if is_vxlan else number(payload, 2)
+    if len(payload) < size or kind not in IN_GRE:
+        raise Fault("Frame")
+    return untagged(kind, payload[size:])
 
 
 def in_gre(it: bytes) -> tuple[Optional[int], bytes]:
@@ -393,9 +438,26 @@ def in_gre(it: bytes) -> tuple[Optional[int], bytes]:
     if len(it) < 4 or it[0] & 0x4C or it[1] & 7:
         raise Fault("Frame")
     size, kind = 4 + 4 * sum(1 for flag in (0x80, 0x20, 0x10) if it[0] & flag), number(it, 2)
-    if len(it) < size or kind not in IN_GRE:
+    if len(it) < size:
+        raise Fault("Frame")
+    if kind in (MIRROR, MIRROR_THREE):
+        return mirrored(kind, bool(it[0] & 0x10), it[size:])
+    if kind not in IN_GRE:
         raise Fault("Frame")
     return untagged(kind, it[size:])
+
+
+def mirrored(kind: int, is_counted: bool, it: bytes) -> tuple[Optional[int], bytes]:
+    """The frame in ERSPAN: without a number in GRE nothing stands before it, with one 8 bytes of version 1; in type III
+    12 of version 2, and 8 more where the last bit says so."""
+    version, size, is_read = number(it, 0, 1) >> 4, 0, True
+    if kind == MIRROR_THREE:
+        size, is_read = 20 if number(it, 11, 1) & 1 else 12, version == 2 and not number(it, 10, 1) & 0x7C
+    elif is_counted:
+        size, is_read = 8, version == 1
+    if len(it) < size or not is_read:
+        raise Fault("Frame")
+    return untagged(BRIDGED, it[size:])
 
 
 def has_header(version: int, it: bytes) -> bool:
@@ -501,7 +563,7 @@ def sum_told(packet: Packet, it: Udp) -> str:
 def udp_of(protocol: int, content: bytes) -> Udp:
     """The datagram that a whole content is."""
     reached = over_headers(protocol, content)
-    if not reached or reached[0] in TUNNELS or reached[1]:
+    if not reached or reached[1] or is_opened(*reached):
         raise Fault("Extension")
     if reached[0] != UDP:
         raise Fault("Protocol")

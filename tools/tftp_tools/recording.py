@@ -134,6 +134,8 @@ def ended_of(it: dict[str, Any]) -> str:
     role, frame, seconds = it["role"], it["frame"], it["seconds"]
     if it["how"] == "error":
         return f'{role} ERROR {it["code"]} "{it["message"]}", frame {frame}'
+    if it["how"] == "unreachable":
+        return f'{it["message"]}, frame {frame}'
     if it["how"] == "silent":
         return f"{role} silent for {seconds} s after frame {frame}"
     if it["how"] == "last":

@@ -1,7 +1,8 @@
 //! How a transfer ended, beside the verdict on it.
 
-use audit_recording::blame::{Ending, Stop, Word};
-use audit_recording::session::{put_number, put_plain};
+use audit_flows::lines::Address;
+use audit_recording::blame::{Ending, Stop, Undelivered, Word};
+use audit_recording::session::{put_number, put_plain, shown_host};
 use serde::Serialize;
 use std::alloc::{AllocError, Global};
 use tftp_packet::End;
@@ -10,7 +11,7 @@ use tftp_packet::End;
 #[derive(Drop, Serialize)]
 pub struct Conclusion {
     how: &'static str,
-    /// Who sent the ERROR or the last datagram, or who is silent.
+    /// Who sent the ERROR or the last datagram, who is silent, or who was not reached.
     role: Option<&'static str>,
     code: Option<u16>,
     message: Option<String>,
@@ -23,18 +24,24 @@ pub struct Conclusion {
 
 impl Conclusion {
     /// How a transfer ended that stops early, or whose end no judge has seen; whether what is refused follows an ERROR of the
-    /// other end.
+    /// other end; and which datagram did not arrive at last.
     pub fn of(
         alloc: Global,
         ending: Ending<'_>,
         stops_early: bool,
         before_refusal: bool,
+        undelivered: Option<(End, Undelivered)>,
     ) -> Result<Self, AllocError> {
-        match ending {
-            Ending::Whole => Ok(Conclusion::plain("whole")),
-            Ending::Stopped(stop) => Conclusion::stopped(alloc, stop, before_refusal),
-            Ending::Quiet(word, seconds) => Ok(Conclusion::quiet(word, seconds, stops_early)),
-            Ending::Unheard => Ok(Conclusion::plain("last")),
+        match (ending, undelivered) {
+            (Ending::Whole, _) => Ok(Conclusion::plain("whole")),
+            (Ending::Stopped(stop), _) => Conclusion::stopped(alloc, stop, before_refusal),
+            (Ending::Quiet(_, seconds), Some((role, undelivered))) => {
+                Conclusion::unreachable(alloc, role, seconds, undelivered)
+            }
+            (Ending::Quiet(word, seconds), None) => {
+                Ok(Conclusion::quiet(word, seconds, stops_early))
+            }
+            (Ending::Unheard, _) => Ok(Conclusion::plain("last")),
         }
     }
 
@@ -60,6 +67,25 @@ impl Conclusion {
             frame: Some(stop.frame),
             seconds: None,
             before_refusal,
+        })
+    }
+
+    /// With a datagram to an end that it did not reach.
+    fn unreachable(
+        alloc: Global,
+        role: End,
+        seconds: u64,
+        undelivered: Undelivered,
+    ) -> Result<Self, AllocError> {
+        let message = unreachable_words(alloc, &undelivered)?;
+        Ok(Conclusion {
+            how: "unreachable",
+            role: Some(name_of(role)),
+            code: Some(u16::from(undelivered.code)),
+            message: Some(message),
+            frame: Some(undelivered.frame),
+            seconds: Some(seconds),
+            before_refusal: false,
         })
     }
 
@@ -97,14 +123,23 @@ impl Conclusion {
         match self.how {
             "whole" => Ok(()),
             "error" => self.put_error(line),
+            "unreachable" => self.put_unreachable(line),
             "silent" => self.put_silent(line),
             "last" => self.put_last(line),
             _ => self.put_frame(line, "; ended: with the recording after frame "),
         }
     }
 
+    /// Puts the ERROR that ended it, or that a datagram did not arrive at last.
+    pub fn put_fault(&self, line: &mut String) -> Result<(), AllocError> {
+        match self.how {
+            "unreachable" => self.put_unreachable(line),
+            _ => self.put_error(line),
+        }
+    }
+
     /// Puts the ERROR that ended it, if one did.
-    pub fn put_error(&self, line: &mut String) -> Result<(), AllocError> {
+    fn put_error(&self, line: &mut String) -> Result<(), AllocError> {
         let (Some(code), Some(message)) = (self.code, &self.message) else {
             return Ok(());
         };
@@ -114,6 +149,15 @@ impl Conclusion {
         line.push_str(" \"")?;
         line.push_str(message.as_str())?;
         self.put_frame(line, "\" frame ")
+    }
+
+    fn put_unreachable(&self, line: &mut String) -> Result<(), AllocError> {
+        let Some(message) = &self.message else {
+            return Ok(());
+        };
+        line.push_str("; ended: ")?;
+        line.push_str(message.as_str())?;
+        self.put_frame(line, " frame ")
     }
 
     fn put_silent(&self, line: &mut String) -> Result<(), AllocError> {
@@ -149,7 +193,8 @@ impl Conclusion {
     }
 }
 
-fn name_of(role: End) -> &'static str {
+/// The word for an end.
+pub fn name_of(role: End) -> &'static str {
     match role {
         End::Client => "client",
         End::Server => "server",
@@ -160,6 +205,27 @@ fn other(role: End) -> End {
     match role {
         End::Client => End::Server,
         End::Server => End::Client,
+    }
+}
+
+/// What an ICMP message says, and the host that sent it (RFC 792; RFC 1812, section 5.2.7.1; RFC 4443, section 3.1).
+fn unreachable_words(alloc: Global, undelivered: &Undelivered) -> Result<String, AllocError> {
+    let host = shown_host(alloc, undelivered.host)?;
+    let (host, code) = (host.as_str(), undelivered.code);
+    match (undelivered.host, code) {
+        (Address::V4(_), 3) | (Address::V6(_), 4) => {
+            format!(in alloc; "ICMP port unreachable from {host}")
+        }
+        (Address::V4(_), 0) | (Address::V6(_), 0) => {
+            format!(in alloc; "ICMP network unreachable from {host}")
+        }
+        (Address::V4(_), 1) | (Address::V6(_), 3) => {
+            format!(in alloc; "ICMP host unreachable from {host}")
+        }
+        (Address::V4(_), 9 | 10 | 13) | (Address::V6(_), 1) => {
+            format!(in alloc; "ICMP prohibited from {host}")
+        }
+        _ => format!(in alloc; "ICMP unreachable, code {code}, from {host}"),
     }
 }
 

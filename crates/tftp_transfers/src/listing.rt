@@ -4,13 +4,14 @@ use crate::cells::{put_cell, put_number_cell};
 use crate::checking::tell_session;
 use crate::conclusions::Conclusion;
 use crate::teller::{Teller, What};
+use crate::times::Times;
 use anyhow::Result;
-use audit_recording::blame::Trail;
+use audit_recording::blame::{Trail, Undelivered};
 use audit_recording::judges::Judging;
 use audit_recording::session::{Kept, Session, Wanted, put_number, put_plain, shown};
 use serde::Serialize;
 use std::alloc::{AllocError, Global};
-use tftp_packet::{Mode, OptionsView, Packet, RequestView, Side, read_packet};
+use tftp_packet::{End, Mode, OptionsView, Packet, RequestView, Side, read_packet};
 use tftp_words::ListRequest;
 
 /// A row of the list.
@@ -27,6 +28,7 @@ pub struct ListRow {
     first_frame: u64,
     last_frame: u64,
     ended: Conclusion,
+    times: Times,
 }
 
 /// Lists the transfers of a recording.
@@ -49,7 +51,13 @@ impl ListRow {
         let server = shown(alloc, trail.server())?;
         let file = file_of(alloc, &request)?;
         let options = options_of(alloc, &request)?;
-        let ended = Conclusion::of(alloc, trail.ending(false, now), false, false)?;
+        let ended = Conclusion::of(
+            alloc,
+            trail.ending(false, now),
+            false,
+            false,
+            unreached_server(trail),
+        )?;
         Ok(ListRow {
             number,
             client,
@@ -62,7 +70,16 @@ impl ListRow {
             first_frame: trail.first,
             last_frame: trail.last,
             ended,
+            times: Times::of(trail, None),
         })
+    }
+}
+
+/// That the server was not reached at last. A client that is not is mostly one that has the whole file, and is gone.
+fn unreached_server(trail: &Trail) -> Option<(End, Undelivered)> {
+    match trail.undelivered() {
+        Some((End::Server, undelivered)) => Some((End::Server, undelivered)),
+        _ => None,
     }
 }
 
@@ -92,7 +109,8 @@ pub fn put_list_row(line: &mut String, row: &ListRow) -> Result<(), AllocError> 
     put_number(line, row.first_frame)?;
     line.push('-')?;
     put_number(line, row.last_frame)?;
-    row.ended.put_error(line)
+    row.ended.put_fault(line)?;
+    row.times.put(line)
 }
 
 /// The request that a payload spells.

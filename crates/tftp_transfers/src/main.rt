@@ -9,6 +9,7 @@ mod reading;
 mod reasoned;
 mod teller;
 mod texts;
+mod times;
 mod verdicts;
 
 use crate::checking::check;

@@ -3,6 +3,7 @@
 use crate::cells::{pad, put_cell, put_number_cell};
 use crate::conclusions::Conclusion;
 use crate::listing::{ListRow, put_list_head, put_list_row};
+use crate::times::Times;
 use crate::verdicts::{Judged, Told};
 use anyhow::Result;
 use audit_recording::blame::{Missing, Reason};
@@ -35,6 +36,9 @@ struct VerdictRow<'a> {
     accused: Option<AccusedEnd>,
     doubts: Vec<String>,
     ended: Conclusion,
+    /// Of what is refused between the ends, whether that stands whatever datagrams of the transfer were missed.
+    stands: Option<bool>,
+    times: Times,
 }
 
 /// The end that a refusal accuses.
@@ -237,6 +241,8 @@ impl<'a> Teller<'a> {
             accused: AccusedEnd::of(alloc, judged.accused(told, reasons.as_slice()))?,
             doubts: written(alloc, reasons.as_slice())?,
             ended: judged.conclusion(alloc, told)?,
+            stands: told.view.stands,
+            times: judged.times(told),
         })
     }
 
@@ -325,7 +331,7 @@ fn put_accused(line: &mut String, row: &VerdictRow<'_>) -> Result<(), AllocError
     pad(line, line.len().saturating_sub(start), 22)
 }
 
-/// Puts the verdict, where it is doubtful why, and how the transfer ended that is not accepted.
+/// Puts the verdict, where it is doubtful why, how the transfer ended that is not accepted, and how slow it was.
 fn put_verdict(line: &mut String, row: &VerdictRow<'_>) -> Result<(), AllocError> {
     if !row.doubts.is_empty() {
         line.push_str("doubtful ")?;
@@ -336,7 +342,8 @@ fn put_verdict(line: &mut String, row: &VerdictRow<'_>) -> Result<(), AllocError
         line.push_str(if place == 0 { ": " } else { "; " })?;
         line.push_str(why.as_str())?;
     }
-    row.ended.put(line)
+    row.ended.put(line)?;
+    row.times.put(line)
 }
 
 /// Prints a row as a JSON object (RFC 8259), in a line.

@@ -1,6 +1,7 @@
 //! The verdict on a transfer at each point where it was judged.
 
 use crate::conclusions::Conclusion;
+use crate::times::Times;
 use audit_recording::blame::{Blamed, Doubted, Ending, Missing, Reason, Stop, Trail, put_if};
 use audit_recording::judges::Verdicts;
 use audit_recording::rows::{
@@ -8,6 +9,7 @@ use audit_recording::rows::{
 };
 use audit_recording::session::Ended;
 use judge_tap::TapRefusal;
+use law_tap::stands_whatever_is_missing;
 use net_streams::streams::LineWriter;
 use std::alloc::{AllocError, Global};
 use tftp_commands::{say_accepted, say_verdict};
@@ -27,6 +29,10 @@ pub struct Viewed {
     point: Point,
     /// Whether a request that did not pass there would explain it.
     may_be_asked: bool,
+    /// Of what is refused between the ends, whether that stands whatever datagrams of the transfer were missed.
+    pub stands: Option<bool>,
+    /// How many bytes came over, where it is accepted.
+    bytes: Option<u64>,
     line: String,
 }
 
@@ -238,7 +244,18 @@ impl Judged {
             Ending::Stopped(stop) => self.is_before(stop, told.view),
             _ => false,
         };
-        Conclusion::of(alloc, ending, told.view.stops_early, is_before)
+        Conclusion::of(
+            alloc,
+            ending,
+            told.view.stops_early,
+            is_before,
+            self.trail.undelivered(),
+        )
+    }
+
+    /// How it went in time, by what a row says.
+    pub fn times(&self, told: &Told<'_>) -> Times {
+        Times::of(&self.trail, told.view.bytes)
     }
 
     /// Whether the ERROR came before the datagram that is refused, and from the other end.
@@ -287,6 +304,8 @@ impl Viewed {
             stops_early: matches!(found, Err(Refusal::Incomplete(_))),
             point,
             may_be_asked: false,
+            stands: None,
+            bytes: bytes_of(found),
             line: line?,
         })
     }
@@ -311,6 +330,8 @@ impl Viewed {
             stops_early: matches!(found, Err(TapRefusal::Incomplete(_))),
             point: Point::Between,
             may_be_asked: said.may_be_asked(),
+            stands: stands_in(found),
+            bytes: bytes_of(found),
             line: line?,
         })
     }
@@ -337,6 +358,22 @@ fn is_unseen(told: &Told<'_>, blamed: &Blamed) -> bool {
     let may_be_between = told.telling.between.is_some()
         || matches!(told.view.point, Point::Between);
     told.view.may_be_asked || (may_be_between && blamed.follows_unknown_id)
+}
+
+/// Whether what is refused between the ends is so whatever datagrams of the transfer were missed.
+fn stands_in(found: &Result<Meaning, TapRefusal>) -> Option<bool> {
+    match found {
+        Err(TapRefusal::Unlawful(_, rule)) => Some(stands_whatever_is_missing(*rule)),
+        _ => None,
+    }
+}
+
+/// How many bytes came over, where it is accepted.
+fn bytes_of<E>(found: &Result<Meaning, E>) -> Option<u64> {
+    match found {
+        Ok(meaning) => Some(meaning.file_len()),
+        Err(_) => None,
+    }
 }
 
 fn frame_of(blamed: &Option<Blamed>) -> Option<u64> {
