@@ -66,8 +66,8 @@ class Made:
 @dataclasses.dataclass
 class Told:
     """What the program tells: the lines of datagrams, the frames left out with their kinds, the line of a fault, the
-    status, the frames that were received with an error, how many packets were lost, and the datagrams whose checksums
-    are not right."""
+    status, the frames that were received with an error, how many packets were lost, the datagrams whose checksums
+    are not right, and the frames with a header that is not read, with its name."""
 
     rows: list[str]
     left: list[tuple[int, str]]
@@ -76,6 +76,7 @@ class Told:
     damaged: list[int]
     lost: int
     sums: list[tuple[int, str]]
+    unread: list[tuple[int, str]]
 
 
 @dataclasses.dataclass
@@ -340,6 +341,14 @@ UNREAD_FRAMES: dict[str, tuple[str, int, bytes]] = {
     "MACsec": ("Frame", 0x88E5, bytes((0x20, 0, 0, 0, 0, 9)) + bytes(44)),
     "a tag of Marvell's": ("Frame", 0xDADA, bytes((0, 0, 0xC0, 0, 0, 1, 8, 0)) + bytes(40)),
     "TRILL": ("Frame", 0x22F3, bytes(46)),
+}
+
+# What of these is told by a name.
+NAMED = {
+    "MACsec": "MACsec (IEEE 802.1AE)", "a tag of Marvell's": "a tag of Marvell's switches", "TRILL": "TRILL (RFC 6325)",
+    "a routing header with a segment left": "a routing header with segments left (RFC 8200)",
+    "a mobility header": "a mobility header (RFC 6275)", "ESP": "ESP (RFC 4303)", "IPComp": "IPComp (RFC 3173)",
+    "L2TP": "L2TP (RFC 3931)",
 }
 
 # What goes to the port of a tunnel and is none: it begins as TFTP does (RFC 1350, section 5), or has a reserved bit.
@@ -611,7 +620,7 @@ class Lists:
     def tell(self, file: bytes) -> Told:
         """All that the program says of a recording."""
         done = subprocess.run([self.program, "datagrams"], input=file, capture_output=True, timeout=120)
-        told = Told([], [], done.stderr.decode(), done.returncode, [], 0, [])
+        told = Told([], [], done.stderr.decode(), done.returncode, [], 0, [], [])
         for line in done.stdout.decode().splitlines():
             word, _, rest = line.partition(" ")
             if word == "datagram":
@@ -622,6 +631,9 @@ class Lists:
             elif word == "checksum":
                 number, kind = rest.split(" ", 1)
                 told.sums.append((int(number), kind))
+            elif word == "unread":
+                number, kind = rest.split(" ", 1)
+                told.unread.append((int(number), kind))
             elif word == "damaged":
                 told.damaged.append(int(rest))
             elif word == "lost":
@@ -659,6 +671,7 @@ class Lists:
         yield Check(f"{name}, errors, losses and checksums", seen == said, (seen, said))
         yield Check(f"{name}, datagrams", rows == wanted.rows, difference(rows, wanted.rows))
         yield Check(f"{name}, left out", sorted(left) == wanted.left, (sorted(left), wanted.left))
+        yield Check(f"{name}, not read", told.unread == wanted.unread, (told.unread, wanted.unread))
         ends = wanted.fault, 2 if wanted.fault else 0
         yield Check(f"{name}, its end", (fault, status) == ends, (fault, status, ends))
 
@@ -723,6 +736,8 @@ class Lists:
             rows = [row(1, Frame(recorded.RAW, packet, recorded.FIRST_TIME), it)] if is_read else []
             got = self.run(file)
             yield Check(name, got == (rows, [] if is_read else [(1, "Extension")], "", 0), got)
+            unread, wanted = self.tell(file).unread, [(1, NAMED[name])] if name in NAMED else []
+            yield Check(f"{name}, its name", unread == wanted, unread)
             if self.tshark:
                 told = fields_of(file, "udp.dstport"), fields_of(file, "ipv6.routing.segleft")
                 left = [str(rest[2])] if kind == recorded.ROUTING else [""]
@@ -759,6 +774,9 @@ class Lists:
             got, slowly = self.run(file), slow_reader.listing(file)
             yield Check(name, got == ([], [(1, why)], "", 0), got)
             yield Check(f"{name}, slowly", (slowly.rows, slowly.left) == ([], [(1, why)]), slowly)
+            unread = self.tell(file).unread
+            called = [(1, NAMED[name])] if name in NAMED else []
+            yield Check(f"{name}, its name", unread == slowly.unread == called, (unread, slowly.unread))
         # A tunnel behind a limit of tunnels (RFC 2473, section 5.1), which turns up when the fragments are put together.
         content = bytes([IN_IP[4], 0, 4, 1, 4, 1, 0, 0]) + packet
         parts = recorded.parts_of(content, 16, 7)

@@ -24,15 +24,24 @@ IN_GRE = (0x0800, 0x86DD, 0x6558, 0x8847, 0x8848)
 MIRROR, MIRROR_THREE = 0x88BE, 0x22EB
 # The ports of tunnels over UDP, and how a header of VXLAN begins: the flag of a number alone (RFC 7348, section 5).
 VXLAN, GENEVE, VXLAN_HEAD = 4789, 6081, bytes((8, 0, 0, 0))
-# ESP, minimal encapsulation, Ethernet, IPComp, L2TP, MPLS and Ethernet again: what they carry is not read.
-HIDING = (50, 55, 97, 108, 115, 137, 143)
+# What they carry is not read; by their names.
+HIDING = {
+    50: "ESP (RFC 4303)", 55: "minimal encapsulation (RFC 2004)", 97: "Ethernet in IP (RFC 3378, RFC 8986)",
+    108: "IPComp (RFC 3173)", 115: "L2TP (RFC 3931)", 137: "MPLS in IP (RFC 4023)",
+    143: "Ethernet in IP (RFC 3378, RFC 8986)",
+}
 # What may hold another packet: no fragment of it is read.
 WRAPPING = (*TUNNELS, *HIDING, AUTHENTICATION)
-# Mobility, host identity and shim6 are not read either.
-UNREAD = (135, 139, 140, *HIDING)
+# These are not read either, nor is a routing header that leads on.
+UNREAD = {135: "a mobility header (RFC 6275)", 139: "HIP (RFC 7401)", 140: "Shim6 (RFC 5533)", **HIDING}
+ROUTED_ON = "a routing header with segments left (RFC 8200)"
 TAGS, LABELS, SESSION, BRIDGED = (0x8100, 0x88A8, 0x9100), (0x8847, 0x8848), 0x8864, 0x6558
-# The tags of HSR and FRER; and MACsec, 802.1ah, 802.1BR, TRILL, NSH and Marvell's tags, behind which nothing is read.
-NUMBERED, SEALED = (0x892F, 0xF1C1), (0x88E5, 0x88E7, 0x893F, 0x22F3, 0x894F, 0xDADA)
+# The tags of HSR and FRER; and those behind which nothing is read, by their names.
+NUMBERED = (0x892F, 0xF1C1)
+SEALED = {
+    0x88E5: "MACsec (IEEE 802.1AE)", 0x88E7: "IEEE 802.1ah", 0x893F: "IEEE 802.1BR", 0x22F3: "TRILL (RFC 6325)",
+    0x894F: "NSH (RFC 8300)", 0xDADA: "a tag of Marvell's switches",
+}
 # LLC and SNAP of the organization 0, behind a length.
 SNAP, LONGEST_LENGTH = bytes.fromhex("aaaa03000000"), 1500
 # The version and code of PPPoE; protocols of PPP, and the first of those that carry no datagrams; a type of nothing.
@@ -59,9 +68,18 @@ class Fault(Exception):
     """A recording, a frame or a content that is none."""
 
 
+class Sealed(Fault):
+    """A frame in which nothing is read behind a type, and the name of what that type is of."""
+
+    def __init__(self, kind: int) -> None:
+        super().__init__("Frame")
+        self.name = SEALED[kind]
+
+
 class Listing(NamedTuple):
     """The lines of datagrams, the frames that are left out with the reason, the fault at the end, the frames that were
-    received with an error, how many packets the recorder lost, and the datagrams whose checksums are not right."""
+    received with an error, how many packets the recorder lost, the datagrams whose checksums are not right, and the
+    frames with a header that is not read, with its name."""
 
     rows: list[str]
     left: list[tuple[int, str]]
@@ -69,6 +87,7 @@ class Listing(NamedTuple):
     damaged: list[int]
     lost: int
     sums: list[tuple[int, str]]
+    unread: list[tuple[int, str]]
 
 
 # ---- files
@@ -353,7 +372,7 @@ def untagged(kind: int, after: bytes) -> tuple[Optional[int], bytes]:
 
 def unless_sealed(kind: int) -> int:
     if kind in SEALED:
-        raise Fault("Frame")
+        raise Sealed(kind)
     return kind
 
 
@@ -526,6 +545,49 @@ def over_headers(kind: int, content: bytes) -> Optional[tuple[int, Optional[Part
             return None
         kind, content = content[0], content[size:]
     return None if kind in UNREAD else (kind, None, content)
+
+
+def unread_in(frame: Frame) -> Optional[str]:
+    """The name of the header at which the reading of a frame ends: one on its own link, or in its innermost packet."""
+    try:
+        _, version, content = linked(frame.link, frame.content)
+    except Fault as fault:
+        return fault.name if isinstance(fault, Sealed) else None
+    try:
+        while inner := opened(version, content):
+            version, content = inner
+    except Fault:
+        return None
+    if version is None or not has_header(version, content):
+        return None
+    return unread_in_packet(version, content)
+
+
+def unread_in_packet(version: int, it: bytes) -> Optional[str]:
+    """In IPv4 the packet's own header names it, or it stands behind authentication in a whole packet."""
+    if version == IPV6:
+        return unread_over(it[6], it[40 : 40 + number(it, 4)])
+    if it[9] != AUTHENTICATION:
+        return HIDING.get(it[9])
+    is_part = bool(number(it, 6) % 16384)
+    return None if is_part else unread_over(AUTHENTICATION, it[4 * (it[0] % 16) : number(it, 2)])
+
+
+def unread_over(kind: int, content: bytes) -> Optional[str]:
+    """Over all headers that are skipped; that of a fragment names with what its packet goes on."""
+    while kind in EXTENSIONS or kind == FRAGMENT_HEADER:
+        if len(content) < 8:
+            return None
+        if kind == FRAGMENT_HEADER and number(content, 2) & 0xFFF9:
+            return HIDING.get(content[0])
+        if kind == ROUTING and content[3]:
+            return ROUTED_ON
+        size = 4 * (content[1] + 2) if kind == AUTHENTICATION else 8 * (content[1] + 1)
+        size = 8 if kind == FRAGMENT_HEADER else size
+        if len(content) < size or (kind == AUTHENTICATION and not content[1]):
+            return None
+        kind, content = content[0], content[size:]
+    return UNREAD.get(kind)
 
 
 class Udp(NamedTuple):
@@ -738,4 +800,5 @@ def listing(file: bytes) -> Listing:
         reader.leave(it.frames, "FragmentMissing")
     damaged = [at for at, frame in enumerate(frames, 1) if frame.is_damaged]
     ends = f"fault {len(frames) + 1} {fault}" if fault else ""
-    return Listing(reader.rows, sorted(reader.left), ends, damaged, lost, reader.sums)
+    unread = [(at, name) for at, frame in enumerate(frames, 1) if (name := unread_in(frame))]
+    return Listing(reader.rows, sorted(reader.left), ends, damaged, lost, reader.sums, unread)

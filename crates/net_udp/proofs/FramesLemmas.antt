@@ -3,6 +3,8 @@ pub mod Extensions
 pub mod Links
 pub mod Uppers
 pub mod Tunnels
+pub mod Unread
+pub mod UnreadOnce
 pub mod Opened
 pub mod FaultOrder
 pub mod Datagrams

@@ -16,6 +16,8 @@ mod tunnel;
 mod tunnel_laws;
 mod udp;
 mod unreachable;
+mod unread;
+mod unread_laws;
 
 pub use address::write_address;
 pub use checksum::Checksum;
@@ -34,3 +36,7 @@ pub use tunnel_laws::{
 };
 pub use udp::read_udp;
 pub use unreachable::{Quoted, Unreachable, read_unreachable};
+pub use unread::{UnreadHeader, unread_header};
+pub use unread_laws::{
+    unread_header_is_one, what_hides_has_a_name, worked_unread_in_packets, worked_unread_on_links,
+};

@@ -1,4 +1,4 @@
-//! Tests of the reader of recordings, of fragments, of copies and of tunnels.
+//! Tests of the reader of recordings, of fragments, of copies, of tunnels and of headers that are not read.
 #![tactic(auto)]
 
 #[cfg(test)]
@@ -9,3 +9,5 @@ mod fragments;
 mod recordings;
 #[cfg(test)]
 mod tunnels;
+#[cfg(test)]
+mod unread;

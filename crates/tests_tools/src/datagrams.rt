@@ -94,7 +94,8 @@ fn put_left_out(rt: HostRuntime, event: &Event, why: LeftOut) -> io::Result<()> 
     match why {
         LeftOut::Frame(fault) => {
             let kind = format!(in rt.alloc(); "{fault:?}")?;
-            put_shared(rt, event, kind.as_str())
+            put_shared(rt, event, kind.as_str())?;
+            put_unread(rt, event)
         }
         LeftOut::Udp(fault) => {
             let kind = format!(in rt.alloc(); "{fault:?}")?;
@@ -108,6 +109,14 @@ fn put_left_out(rt: HostRuntime, event: &Event, why: LeftOut) -> io::Result<()> 
         LeftOut::TooLong => put_left(rt, &[event.number()], "FragmentTooLong"),
         LeftOut::Full => put_left(rt, &[event.number()], "FragmentFull"),
         LeftOut::Copy => put_left(rt, &[event.number()], "Copy"),
+    }
+}
+
+/// The name of the header at which the reading of a frame ends, if it has one.
+fn put_unread(rt: HostRuntime, event: &Event) -> io::Result<()> {
+    match event.unread_header() {
+        Some(header) => println!(rt; "unread {} {}", event.number(), header.name()),
+        None => Ok(()),
     }
 }
 

@@ -26,7 +26,7 @@ is_named next bytes e = elim (or_cases (next == 0 || next == 60) (((next == 51) 
   ]
 ]
 
-skipped_does_not_stop : (next : ℕ) (bytes : List ℕ) (r : Reached) → IsSkipped next bytes → Stops next bytes r → ⊥
+pub skipped_does_not_stop : (next : ℕ) (bytes : List ℕ) (r : Reached) → IsSkipped next bytes → Stops next bytes r → ⊥
 skipped_does_not_stop next bytes r (long, fits, inl test) (inl (plain, other, is)) = false≢true (sym plain ∙ is_named next bytes test)
 skipped_does_not_stop next bytes r (long, fits, inl test) (inr (is_part, room, part, units, is)) = no_extension next is_part (is_named next bytes test)
 skipped_does_not_stop next bytes r (long, fits, inr (is_whole, whole)) (inl (plain, other, is)) = other is_whole

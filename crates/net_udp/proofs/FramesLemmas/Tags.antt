@@ -1,5 +1,5 @@
 -- What stands behind a type, one after another.
-use Rattle.std.proofs.Common.{◌≡◌, ◌↔◌, ℕ, zero, suc, ◌<◌, ◌≤◌, true, false, List, length, length-drop, drop, refl, sym, ap, subst, ◌∙◌, arith, Option, Some, None}
+use Rattle.std.proofs.Common.{◌≡◌, ◌↔◌, ℕ, zero, suc, ◌<◌, ◌≤◌, true, false, List, length, length-drop, drop, refl, sym, ap, subst, ◌∙◌, arith, Some, None}
 use Rattle.std.proofs.lemmas.Bool.{false≢true}
 use Rattle.net_udp.specs.Frames.{is_shim, shim_size, next_type, IsOver, LeadsOver, LeadsTo}
 
@@ -7,7 +7,7 @@ same_type : (n m : ℕ) → Some n ≡ Some m → n ≡ m
 same_type n m e = cc
 
 -- one type is named
-over_one : (type : ℕ) (bytes : List ℕ) (next other : ℕ) → IsOver type bytes next → IsOver type bytes other → next ≡ other
+pub over_one : (type : ℕ) (bytes : List ℕ) (next other : ℕ) → IsOver type bytes next → IsOver type bytes other → next ≡ other
 over_one type bytes next other p q = same_type next other (sym p.2 ∙ q.2)
 
 -- what stands behind a type, and what follows it

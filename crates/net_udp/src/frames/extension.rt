@@ -10,13 +10,13 @@ use crate::frames::packet::Fragment;
 pub const UDP: u8 = 17;
 
 /// The number of a fragment header of IPv6 (RFC 8200, section 4.5).
-const FRAGMENT: u8 = 44;
+pub const FRAGMENT: u8 = 44;
 
 /// The number of a routing header of IPv6 (RFC 8200, section 4.4).
-const ROUTING: u8 = 43;
+pub const ROUTING: u8 = 43;
 
 /// The number of an authentication header (RFC 4302).
-const AUTHENTICATION: u8 = 51;
+pub const AUTHENTICATION: u8 = 51;
 
 /// What a packet carries after its headers.
 #[derive(Clone, Copy, Debug)]
@@ -89,7 +89,7 @@ fn is_skippable(next: u8, header: &[u8]) -> bool
 
 /// Whether a fragment header is that of a packet which is whole (RFC 6946).
 #[inline]
-fn is_whole(header: &[u8]) -> bool
+pub fn is_whole(header: &[u8]) -> bool
     requires { 8 ≤ length header.now }
     ensures { result ≡ is_atomic header.now }
 {
@@ -132,7 +132,7 @@ fn header_size(next: u8, header: &[u8]) -> usize
 
 /// The length of the header that is skipped; none where none is, or not all its bytes are there.
 #[inline]
-fn skipped_length(next: u8, bytes: &[u8]) -> Option<usize>
+pub fn skipped_length(next: u8, bytes: &[u8]) -> Option<usize>
     ensures { MatchOption result (IsSkipped next bytes.now → ⊥) (λ size. IsSkipped next bytes.now × (size ≡ skipped_size next bytes.now)) }
 {
     if bytes.len() < 8 {

@@ -127,7 +127,7 @@ fn identification(network: Network, bytes: &[u8]) -> Option<u16>
 
 /// Which part of a packet an IPv4 header says that it heads.
 #[inline]
-fn part(bytes: &[u8]) -> Option<Fragment>
+pub fn part(bytes: &[u8]) -> Option<Fragment>
     requires { 20 ≤ length bytes.now }
     ensures { result ≡ part_of bytes.now }
 {
@@ -144,7 +144,7 @@ fn part(bytes: &[u8]) -> Option<Fragment>
 
 /// What is there of the bytes after a packet's header, without what pads the frame.
 #[inline]
-fn held(network: Network, bytes: &[u8]) -> &[u8]
+pub fn held(network: Network, bytes: &[u8]) -> &[u8]
     requires { HasHeader network bytes.now }
     ensures { result.now ≡ held_of network bytes.now }
 {

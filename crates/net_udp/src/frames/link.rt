@@ -129,7 +129,7 @@ fn direction_of(packet_type: u16) -> Direction
 
 /// The least bytes that a link's header has.
 #[inline]
-fn least_length(link: LinkType) -> usize
+pub fn least_length(link: LinkType) -> usize
     ensures { result ≡ least link }
 {
     match link {

@@ -1,5 +1,5 @@
-ghost use Rattle.std.specs.Prelude.{◌≡◌, ◌≤◌, ℕ, List, length, MatchOption};
-ghost use Rattle.net_udp.specs.Frames.Tag.{is_tag_type, is_session, is_labelled, is_bridged, is_numbered, is_sealed, is_said, is_snap, is_shim, shim_size, ppp_type, session_type, label_type, next_type, LeadsTo};
+ghost use Rattle.std.specs.Prelude.{◌≡◌, ◌≤◌, ℕ, List, length, drop, MatchOption};
+ghost use Rattle.net_udp.specs.Frames.Tag.{is_tag_type, is_session, is_labelled, is_bridged, is_numbered, is_sealed, is_said, is_snap, is_shim, shim_size, ppp_type, session_type, label_type, next_type, IsOver, LeadsTo};
 
 use crate::frames::number::pair_at;
 
@@ -168,6 +168,26 @@ fn next_type(kind: u16, bytes: &[u8]) -> Option<u16>
         return Some(pair_at(bytes, 12));
     }
     Some(pair_at(bytes, 6))
+}
+
+/// The type that is named by what stands behind a type, and what follows that; none where nothing stands there that is read, whole.
+#[inline]
+pub fn passed(kind: u16, bytes: &[u8]) -> Option<(u16, &[u8])>
+    ensures { MatchOption result
+        ((next : ℕ) → IsOver kind bytes.now next → ⊥)
+        (λ found. IsOver kind bytes.now found.0 × (found.1.now ≡ drop (shim_size kind) bytes.now)) }
+{
+    if !is_shim(kind, bytes) {
+        return None;
+    }
+    let size = shim_size(kind);
+    if bytes.len() < size {
+        return None;
+    }
+    let Some(next) = next_type(kind, bytes) else {
+        return None;
+    };
+    Some((next, bytes.split_at(size).1))
 }
 
 /// The type after all that stands behind a type, and what follows it; none where the bytes end before, or are not read.

@@ -1,8 +1,9 @@
 ghost use Rattle.std.specs.Prelude.{◌≡◌, [], None, Option, false, option_map, MatchOption};
 ghost use Rattle.std.specs.declared.net.ip_addr.IpAddr.{IpAddr as Host};
 ghost use Rattle.net_udp.specs.Fragments.{content_of as put_together};
-ghost use Rattle.net_udp.specs.Frames.{IsBetween, TellsUnreachable, shown};
+ghost use Rattle.net_udp.specs.Frames.{HasUnread, IsBetween, TellsUnreachable, shown};
 ghost use Rattle.net_udp.specs.declared.frames.unreachable.Unreachable.{Unreachable as UnreachableValue};
+ghost use Rattle.net_udp.specs.declared.frames.unread.UnreadHeader.{UnreadHeader as Header};
 ghost use Rattle.net_udp.specs.declared.fragments.outcome.Outcome.{Outcome as Became};
 ghost use Rattle.net_pcap.specs.{FrameParts, no_frame};
 ghost use Rattle.net_udp.specs.Recording.Brought.{nothing_brought};
@@ -13,8 +14,8 @@ ghost use Rattle.net_udp.specs.declared.recording.likeness.Likeness.{Likeness};
 
 use crate::fragments::{Content, Fragments, Outcome};
 use crate::frames::{
-    Checksum, Direction as LinkDirection, FrameFault, IpPacket, UdpFault, Unreachable, read_frame,
-    read_hosts, read_udp, read_unreachable,
+    Checksum, Direction as LinkDirection, FrameFault, IpPacket, UdpFault, Unreachable,
+    UnreadHeader, read_frame, read_hosts, read_udp, read_unreachable, unread_header,
 };
 use crate::recording::brought::Brought;
 use crate::recording::fate::{Datagram, Fate, LeftOut};
@@ -149,6 +150,17 @@ impl Event {
             (λ hosts. IsBetween self.now.frame.parts.link self.now.frame.parts.bytes hosts.0 hosts.1) }
     {
         read_hosts(self.frame.link(), self.frame.bytes())
+    }
+
+    /// The header at which the reading of the frame ends, though a datagram may stand behind it, as MACsec (IEEE 802.1AE); none where
+    /// it ends for another reason, or a datagram is read. Of what was put together of fragments nothing is told.
+    #[inline]
+    pub fn unread_header(&self) -> Option<UnreadHeader>
+        ensures { MatchOption result
+            ((u : Header) → HasUnread self.now.frame.parts.link self.now.frame.parts.bytes u → ⊥)
+            (λ u. HasUnread self.now.frame.parts.link self.now.frame.parts.bytes u) }
+    {
+        unread_header(self.frame.link(), self.frame.bytes())
     }
 
     /// What the frame tells of a UDP datagram that did not arrive, in an ICMP message that is no fragment (RFC 792; RFC 4443, section
