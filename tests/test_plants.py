@@ -62,8 +62,12 @@ CHECKED = """checked box::shelf::low, 1 of 4
   (expected)
 ./proofs/shelf/Shelf/len/Answers.antt:9:5: error: `returns-clause-least`: the goal does not follow
 ./proofs/shelf/beside/Answers.antt:9:5: error: `returns`: `c.was` has no field `is`
+./proofs/Row.antt:4:9: error: `one`: expected type `⊥`, but this has type `IsRow [7]`
+./proofs/Row.antt:6:9: error: `of`: `rows` is not in scope
 fn box::shelf::Shelf::len: not proved
 fn box::shelf::beside: not proved
+fn box::laws::one: not proved; it stands on `Rattle.box.proofs.Row.of`, `Rattle.box.proofs.Row.one`, which antt refuses
+fn box::laws::of: not proved; it stands on `Rattle.box.proofs.Row.of`, which antt refuses
 note: src/shelf.rt:20:5: it is not proved that the index is in bounds (`index-1`); the facts known there allow values
 note: a goal may be false even if its line does not say so
 fn box::shelf::low: no proof: expected answers in ./proofs/shelf/low/Answers.antt; `search` did not prove `index-1`
@@ -157,6 +161,12 @@ class Told(unittest.TestCase):
 
     def test_a_proof_that_names_what_is_gone_is_none(self) -> None:
         self.assertEqual(self.of(BESIDE)[0], Outcome.NAMED)
+
+    def test_a_lemma_that_falls_refuses_what_stands_on_it(self) -> None:
+        law = "box::laws::one"
+        fell = f"{law}, goal one, is not proved: a lemma that it stands on"
+        self.assertEqual(self.of(law), (Outcome.REFUSED, fell))
+        self.assertEqual(self.of("box::laws::of")[0], Outcome.UNTOLD)
 
     def test_a_function_that_is_proved_or_not_there_is_none(self) -> None:
         self.assertEqual(self.of(READ)[0], Outcome.PROVED)

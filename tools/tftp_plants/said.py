@@ -9,6 +9,9 @@ LINE = re.compile(r"(?:fn|struct|enum|impl|trait|type) (\S+): (proved|not proved
 NOTE = re.compile(r"note: (\S+): (.*?) \(`([^`]+)`\)")
 # An error of a proof file, which stands in the folder that its function is named by.
 WRITTEN = re.compile(r"(?:\./)?proofs/(\S+)/(Answers|Invariants|Proof)\.antt:\d+:\d+: error: (?:`([^`]+)`: )?(.*)")
+# An error of any other proof file, in a lemma that functions stand on: only an edit of a definition can make one fall.
+LEMMA = re.compile(r"(?:\./)?proofs/(\S+)\.antt:\d+:\d+: error: `([^`]+)`: (.*)")
+STANDS_ON = re.compile(r"it stands on (.*), which antt refuses")
 # An error of a source's types or syntax: of a goal it would have the name.
 SOURCE = re.compile(r"(?:\./)?(?:src|specs)/\S+?:\d+:\d+: error(?:\[[^\]]*\])?: (?!`[^`]*`: )")
 NAMES = re.compile(r"has no field|is not in scope|has no `|was not admitted|is no name")
@@ -41,6 +44,8 @@ class Said:
         # The goals of each function that are open, or whose answers name what is gone, with the reason.
         self.open: dict[str, list[tuple[str, str]]] = {}
         self.named: dict[str, list[tuple[str, str]]] = {}
+        # The lemmas that fell, and not only because they name what is gone, by their whole names.
+        self.fallen: set[str] = set()
         self.wrong: list[str] = []
         self.ended = self.proved = False
         notes: list[tuple[str, str, str]] = []
@@ -60,11 +65,18 @@ class Said:
         """Reads what a proof file fails to prove, or names in vain."""
         found = WRITTEN.match(line)
         if not found:
+            self.read_lemma(crate, line)
             return
         path, file, goal, why = found.groups()
         symbol = "::".join([crate, *path.split("/")])
         kept = self.named if NAMES.search(re.sub(r"`[^`]*`", "``", why)) else self.open
         kept.setdefault(symbol, []).append((goal or file, "its written answer does not prove it"))
+
+    def read_lemma(self, crate: str, line: str) -> None:
+        """Reads which lemma fell."""
+        found = LEMMA.match(line)
+        if found and not NAMES.search(re.sub(r"`[^`]*`", "``", found[3])):
+            self.fallen.add(f"Rattle.{crate}.proofs.{found[1].replace('/', '.')}.{found[2]}")
 
     def read_stands(self, symbol: str, stands: str, rest: str, notes: Collection[tuple[str, str, str]]) -> None:
         self.stands[symbol] = stands + rest
@@ -75,6 +87,9 @@ class Said:
         what = {goal: said for _, said, goal in notes}
         found = [(goal, what.get(goal, "the search did not prove it")) for goal in goals]
         found += [(goal, said) for goal, said in what.items() if goal not in goals and "it calls" not in rest]
+        stands_on = STANDS_ON.search(rest)
+        lemmas = re.findall(r"`([^`]+)`", stands_on[1]) if stands_on else []
+        found += [(it.rpartition(".")[2], "a lemma that it stands on") for it in lemmas if it in self.fallen]
         if found:
             self.open.setdefault(symbol, []).extend(found)
 
