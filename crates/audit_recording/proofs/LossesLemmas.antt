@@ -3,3 +3,4 @@ pub mod Keeping
 pub mod Answering
 pub mod Standing
 pub mod Others
+pub mod Waiting

@@ -3,4 +3,5 @@ pub mod Noted
 pub mod Recording
 pub mod Trails
 pub mod Kept
+pub mod Over
 pub mod Worked

@@ -2,6 +2,7 @@
 //! that are wanted, and what is to be told of the recording as a whole.
 
 mod begun;
+mod behind;
 mod clock;
 mod endpoint;
 mod fault;

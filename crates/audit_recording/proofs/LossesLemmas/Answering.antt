@@ -90,7 +90,7 @@ abbrev IsMissingWhere : (Unread → Bool) → List Event → ℕ → ℕ → Typ
 IsMissingWhere mine history n time =
     (f : Unread) × (IsLost f history ⊎ (waiting_at f.frame history ≡ Some f)) × (mine f ≡ true) × (f.frame ≡ n) × (f.time ≡ time)
 
-waits_where : (mine : Unread → Bool) (w : Option Unread) (time : ℕ) → time_where mine w ≡ Some time → (f : Unread) × (w ≡ Some f) × (mine f ≡ true) × (f.time ≡ time)
+pub waits_where : (mine : Unread → Bool) (w : Option Unread) (time : ℕ) → time_where mine w ≡ Some time → (f : Unread) × (w ≡ Some f) × (mine f ≡ true) × (f.time ≡ time)
 waits_where mine None time is = absurd (false≢true (ap is_some is))
 waits_where mine (Some f) time is = by_test (mine f)
     (λ own. (f, refl, own, some_is (sym (ap (λ b. cond b (Some f.time) None) own) ∙ is)))
@@ -138,7 +138,7 @@ or_right : (x y : Bool) → y ≡ true → (x || y) ≡ true
 or_right true y is = refl
 or_right false y is = is
 
-or_cases : (x y : Bool) → (x || y) ≡ true → (x ≡ true) ⊎ (y ≡ true)
+pub or_cases : (x y : Bool) → (x || y) ≡ true → (x ≡ true) ⊎ (y ≡ true)
 or_cases true y is = inl refl
 or_cases false y is = inr is
 

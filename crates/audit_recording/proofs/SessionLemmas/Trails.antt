@@ -254,7 +254,7 @@ pub no_trails : (judging : Judging) (named out : List ℕ) (carried : List Carri
 no_trails judging named out carried n None is kept = kept
 no_trails judging named out carried n (Some t) is kept = absurd (cc)
 
-at_most : (k n : ℕ) → is_gt (nat_cmp k n) ≡ false → k ≤ n
+pub at_most : (k n : ℕ) → is_gt (nat_cmp k n) ≡ false → k ≤ n
 at_most k n off = search rules
 
 is_kept : (judging : Judging) (named out : List ℕ) (carried : List Carried) (n : ℕ) (x : Transfer) (o : Option Trail) → opened n (whole_of named carried) ≡ Some x → is_among n out ≡ false

@@ -1,10 +1,10 @@
 //! Which frames of one host are not there whole.
 
-ghost use Rattle.std.specs.Prelude.{◌≡◌, ℕ, None, OnOk, Some, true};
+ghost use Rattle.std.specs.Prelude.{◌≡◌, ℕ, MatchBool, None, OnOk, Some, true};
 ghost use Rattle.std.specs.BTreeMap.{get};
 ghost use Rattle.std.specs.Ordering.{nat_cmp};
 ghost use Rattle.audit_recording.specs.Losses.Noted.{IsFirst, IsTold, Since, is_soon};
-ghost use Rattle.audit_recording.specs.Losses.Kept.{HasAskedIn, HasLost, HasWaited, IsKept, IsNoted, lesser};
+ghost use Rattle.audit_recording.specs.Losses.Kept.{HasAskedIn, HasLost, HasWaited, IsKept, IsNoted, lesser, waits_at};
 
 use crate::session::losses::{SILENCE, Stretch};
 use std::alloc::{AllocError, Global};
@@ -58,8 +58,13 @@ impl HostLosses {
     }
 
     /// Whether one waits.
-    pub(crate) fn is_waiting(&self) -> bool {
-        !self.waiting.is_empty()
+    pub(crate) fn is_waiting(&self) -> bool
+        ensures { MatchBool result ((n : ℕ) × (time : ℕ) × (waits_at (Some self.now) n ≡ Some time)) ((n : ℕ) → waits_at (Some self.now) n ≡ None) }
+    {
+        match self.waiting.first_key_value() {
+            Some(_) => true,
+            None => false,
+        }
     }
 
     /// Notes a frame that is lost, unless one is noted that was lost before it and after the latest request.

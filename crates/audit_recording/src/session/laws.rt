@@ -1,6 +1,6 @@
 //! Laws of the definitions in `specs/`. Each is the contract of a function that does nothing.
 
-ghost use Rattle.std.specs.Prelude.{◌≡◌, ◌||◌, ◌∷◌, ℕ, List, [], None, Some, false, true};
+ghost use Rattle.std.specs.Prelude.{◌≡◌, ◌≤◌, ◌+◌, ◌++◌, ◌||◌, ◌∷◌, ℕ, List, [], None, Some, false, true};
 ghost use Rattle.std.specs.Global.{Vec};
 ghost use Rattle.net_udp.specs.Fragments.{content_of};
 ghost use Rattle.net_udp.specs.Frames.{acknowledgement};
@@ -8,6 +8,7 @@ ghost use Rattle.net_udp.specs.Recording.{IsDatagram, Step, last_bytes, last_par
 ghost use Rattle.net_udp.specs.declared.fragments.content.Content.{Content};
 ghost use Rattle.net_udp.specs.declared.recording.fate.Datagram.{Datagram};
 ghost use Rattle.audit_flows.specs.{Address, V4};
+ghost use Rattle.audit_recording.specs.declared.session.losses.Stretch.{Stretch};
 ghost use Rattle.audit_recording.specs.Losses.Noted.{Event, IsMissingOf, Unread, is_of_host, is_of_none, is_soon, lost_by, unread, waiting_at};
 ghost use Rattle.audit_recording.specs.Losses.Noted.Event.{Asks, Finds, GivesUp, Loses, Waits};
 ghost use Rattle.audit_recording.specs.Reasons.Clock.{HaveReached};
@@ -15,7 +16,9 @@ ghost use Rattle.audit_recording.specs.Reasons.Unplaced.{after, latest_at, newes
 ghost use Rattle.audit_recording.specs.Reasons.Unplaced.Event.{Ends, Opens, Passes};
 ghost use Rattle.audit_recording.specs.Audit.Passed.{HasPassed};
 ghost use Rattle.audit_recording.specs.Blame.Frames.{Carried, datagrams_of};
-ghost use Rattle.audit_recording.specs.Session.Noted.{Noticed};
+ghost use Rattle.audit_flows.specs.Lines.{silence};
+ghost use Rattle.audit_recording.specs.Session.Noted.{AreUpTo, Noticed};
+ghost use Rattle.audit_recording.specs.Session.Over.{AreLater, IsPast};
 ghost use Rattle.audit_recording.specs.Session.Recording.{IsNoticedOf};
 ghost use Rattle.audit_recording.specs.Session.Worked.{ack_carried, at_second, frame_at, request, request_bytes, request_carried, request_packet, worked_noticed, worked_steps};
 ghost use Rattle.audit_recording.specs.Session.Intact.{before_opening, discarded_of, makes_checksums, newest_at, worked_gone, worked_host, worked_seen};
@@ -26,6 +29,26 @@ pub fn what_others_lose_is_not_missing()
         → IsMissingOf host (Loses f ∷ history) n time → IsMissingOf host history n time }
     ensures waits { (host : Address) (f : Unread) (history : List Event) (n time : ℕ) → (is_of_host host f || is_of_none f) ≡ false
         → IsMissingOf host (Waits f ∷ history) n time → IsMissingOf host history n time }
+{}
+
+/// Of a transfer that is past nothing that comes later is missing: what is missing then, among its datagrams or up to 300 s after
+/// them, was missing before. And what was missing up to 300 s after them stays so.
+pub fn nothing_later_is_missing_of_what_is_past()
+    ensures whole { (w : Stretch) (newest moment : ℕ) (history : List Event) → w.last ≤ newest → IsPast w moment history
+        → (later : List Event) → AreLater newest moment later
+        → (n time : ℕ) → IsMissingOf w.client (later ++ history) n time → is_soon w n time ≡ true → IsMissingOf w.client history n time }
+    ensures missing { (w : Stretch) (newest moment : ℕ) (history : List Event) → AreUpTo newest history → w.last ≤ newest → IsPast w moment history
+        → (later : List Event) → AreLater newest moment later
+        → (n time : ℕ) → IsMissingOf w.client history n time → time ≤ w.last_time + silence → IsMissingOf w.client (later ++ history) n time }
+{}
+
+/// Of a transfer whose last datagram passed at second 10 all is told once the clock has gone beyond second 310, or beyond second 340
+/// where frame 9, of unknown hosts, waits.
+pub fn worked_past()
+    ensures soon { IsPast (record { client = V4 (192 ∷ 0 ∷ 2 ∷ 1 ∷ []); first = 3; last = 6; last_time = 10000000000 }) 310000000000 [] → ⊥ }
+    ensures past { IsPast (record { client = V4 (192 ∷ 0 ∷ 2 ∷ 1 ∷ []); first = 3; last = 6; last_time = 10000000000 }) 310000000001 [] }
+    ensures waits { IsPast (record { client = V4 (192 ∷ 0 ∷ 2 ∷ 1 ∷ []); first = 3; last = 6; last_time = 10000000000 }) 340000000000 (Waits (unread 9 20000000000) ∷ []) → ⊥ }
+    ensures waited { IsPast (record { client = V4 (192 ∷ 0 ∷ 2 ∷ 1 ∷ []); first = 3; last = 6; last_time = 10000000000 }) 340000000001 (Waits (unread 9 20000000000) ∷ []) }
 {}
 
 /// Frame 8 waits from second 1 on. Given up it is lost; found up to 30 s later it is not, and later it stays so. Its hosts are unknown, so

@@ -1,10 +1,11 @@
 //! Which frames are not there whole, by the hosts between which they went.
 
-ghost use Rattle.std.specs.Prelude.{◌≡◌, ◌∷◌, ◌⊎◌, ℕ, List, [], None, OnOk, Some, option_map};
+ghost use Rattle.std.specs.Prelude.{◌≡◌, ◌∷◌, ◌⊎◌, ℕ, List, [], MatchBool, None, OnOk, Some, option_map};
 ghost use Rattle.audit_flows.specs.Lines.{same_address};
 ghost use Rattle.audit_recording.specs.Losses.Noted.{Event, IsAfterAll, IsAsked, IsFirst, IsMissingOf, IsTold, Since, waiting_at};
 ghost use Rattle.audit_recording.specs.Losses.Noted.Event.{Asks, Finds, GivesUp, Loses, Waits};
-ghost use Rattle.audit_recording.specs.Losses.Kept.{AreLosses, Changes, HasAskedIn, HasLost, HasWaited, LosesMore, StandFor, host_end, kept_of};
+ghost use Rattle.audit_recording.specs.Losses.Kept.{AreLosses, Changes, HasAskedIn, HasLost, HasWaited, LosesMore, StandFor, host_end, kept_of, of_host, waits_at};
+ghost use Rattle.audit_recording.specs.Session.Over.{IsWaitingAt};
 
 use crate::blame::Missing;
 use crate::session::host_losses::{HostLosses, least};
@@ -171,8 +172,20 @@ impl Losses {
         }
     }
 
-    /// Whether a fragment of this host waits.
-    pub fn is_waiting(&self, host: Address) -> bool {
+    /// Whether a frame waits that may be of this host: that of an unknown one may be.
+    pub fn is_waiting(&self, host: Address) -> bool
+        ensures { (history : List Event) → AreLosses self.now history
+            → MatchBool result (IsWaitingAt host history) (IsWaitingAt host history → ⊥) }
+    {
+        self.is_waiting_there(host) || self.of_unknown.is_waiting()
+    }
+
+    /// Whether a frame waits that is known to be of this host.
+    fn is_waiting_there(&self, host: Address) -> bool
+        ensures { MatchBool result
+            ((n : ℕ) × (time : ℕ) × (waits_at (of_host self.now.of_hosts host) n ≡ Some time))
+            ((n : ℕ) → waits_at (of_host self.now.of_hosts host) n ≡ None) }
+    {
         match self.of_hosts.get(&key_of(host)) {
             Some(losses) => losses.is_waiting(),
             None => false,

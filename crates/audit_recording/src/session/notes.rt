@@ -1,15 +1,18 @@
 //! What is to be told of a recording as a whole.
 
-ghost use Rattle.std.specs.Prelude.{◌≡◌, ◌≤◌, ◌<◌, ◌∷◌, [], ℕ, List, Option, OnOk, false, true};
+ghost use Rattle.std.specs.Prelude.{◌≡◌, ◌≤◌, ◌<◌, ◌∷◌, ◌⊎◌, [], ℕ, List, MatchBool, Option, OnOk, false, true};
 ghost use Rattle.std.specs.declared.net.ip_addr.IpAddr.{IpAddr as Host};
 ghost use Rattle.audit_flows.specs.Lines.{same_address};
-ghost use Rattle.audit_recording.specs.Losses.Noted.{IsAsked, IsFirst, IsMissingOf, IsTold, Since};
+ghost use Rattle.audit_recording.specs.Losses.Noted.{IsAsked, IsFirst, IsMissingOf, IsTold, Since, longest_wait};
 ghost use Rattle.audit_recording.specs.Losses.Noted.Event.{Asks, Waits};
 ghost use Rattle.audit_recording.specs.Reasons.Clock.{IsClockAfter};
 ghost use Rattle.audit_recording.specs.Session.Noted.{AreHostsOf, AreNotesOf, Noticed, finding, frames_in, giving_up, leaving, losing, may_be_datagram, nothing_noticed, noting, others, passing_by, sharers_of, stretch_of, unread_in};
+ghost use Rattle.audit_recording.specs.Session.Over.{IsPast, IsWaitingAt};
+ghost use Rattle.audit_recording.specs.Session.Recording.{reached_by};
 
 use crate::blame::{Missing, Passing, Reason, Trail};
 use crate::session::begun::Begun;
+use crate::session::behind::Behind;
 use crate::session::clock::Clock;
 use crate::session::intact::IntactHosts;
 use crate::session::losses::{Losses, SILENCE, Stretch, WAIT};
@@ -31,14 +34,16 @@ pub struct Frames {
 }
 
 impl Frames {
-    fn new(alloc: Global) -> Self {
+    /// There is none yet.
+    pub(crate) fn new(alloc: Global) -> Self {
         Frames {
             count: 0,
             first: Vec::new(alloc),
         }
     }
 
-    fn add(&mut self, frame: u64) -> Result<(), AllocError> {
+    /// Adds a frame.
+    pub(crate) fn add(&mut self, frame: u64) -> Result<(), AllocError> {
         self.count = self.count.saturating_add(1);
         if self.first.len() < NAMED {
             self.first.push(frame)?;
@@ -47,7 +52,12 @@ impl Frames {
     }
 
     /// Adds a line that tells how many they are and which ones, if there are any.
-    fn put(&self, alloc: Global, lines: &mut Vec<String>, what: &str) -> Result<(), AllocError> {
+    pub(crate) fn put(
+        &self,
+        alloc: Global,
+        lines: &mut Vec<String>,
+        what: &str,
+    ) -> Result<(), AllocError> {
         if self.count == 0 {
             return Ok(());
         }
@@ -80,7 +90,9 @@ fn put_numbers(named: &mut String, numbers: &[u64]) -> Result<(), AllocError> {
 pub struct Notes {
     /// Frames that may have been datagrams of UDP, or parts of such, and can't be read.
     lost: Frames,
-    /// The same by their hosts.
+    /// Those of them that stand behind a header that is not read.
+    behind: Behind,
+    /// Those that were lost, by their hosts.
     losses: Losses,
     /// The hosts that make their checksums.
     pub(crate) intact: IntactHosts,
@@ -114,6 +126,7 @@ impl Notes {
     {
         Notes {
             lost: Frames::new(alloc),
+            behind: Behind::new(alloc),
             losses: Losses::new(alloc),
             intact: IntactHosts::new(alloc),
             other_links: Frames::new(alloc),
@@ -203,6 +216,7 @@ impl Notes {
         let frame = event.number();
         self.lose_others(alloc, event.sharers(), frame)?;
         self.lost.add(frame)?;
+        self.behind.note(alloc, event.unread_header(), frame)?;
         let time = self.clock.moment_of(event.time());
         self.losses.lose(alloc, frame, event.hosts(), time)
     }
@@ -314,12 +328,24 @@ impl Notes {
 
     /// Whether the recording went on for more than 300 s after a transfer, and for 30 s more where a fragment waits that may be
     /// of it: then nothing that comes later changes what is missing of it.
-    pub(crate) fn is_past(&self, trail: &Trail) -> bool {
-        let end = trail.last_time.saturating_add(SILENCE);
+    pub(crate) fn is_past(&self, trail: &Trail) -> bool
+        ensures { (s : Noticed) → AreNotesOf self.now s
+            → MatchBool result (IsPast (stretch_of trail.now) (reached_by s.times) s.events) (IsPast (stretch_of trail.now) (reached_by s.times) s.events → ⊥) }
+    {
+        let silent = trail.last_time.saturating_add(SILENCE);
+        self.clock.reached > silent.saturating_add(self.wait_for(trail))
+    }
+
+    /// How much longer is to be waited for what may be of a transfer, in nanoseconds.
+    fn wait_for(&self, trail: &Trail) -> u64
+        ensures { (s : Noticed) → AreNotesOf self.now s
+            → (IsWaitingAt trail.now.transfer.client.address s.events × (result ≡ longest_wait))
+            ⊎ ((IsWaitingAt trail.now.transfer.client.address s.events → ⊥) × (result ≡ 0)) }
+    {
         if self.losses.is_waiting(trail.transfer.client.address) {
-            return self.clock.reached > end.saturating_add(WAIT);
+            return WAIT;
         }
-        self.clock.reached > end
+        0
     }
 
     /// Whether the recording was read to its end and nothing is missing.
@@ -352,6 +378,7 @@ impl Notes {
             lines,
             "not there whole, so that datagrams may be missing",
         )?;
+        self.behind.put(alloc, lines)?;
         if self.dropped > 0 {
             let dropped = Reason::Dropped(self.dropped);
             lines.push(format!(in alloc; "{dropped}, so that datagrams may be missing")?)?;

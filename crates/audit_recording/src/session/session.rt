@@ -1,6 +1,6 @@
 //! A recording, as far as it was read.
 
-ghost use Rattle.std.specs.Prelude.{◌≡◌, ◌≢◌, ◌==◌, ◌≤◌, ◌<◌, ◌⊎◌, ◌∷◌, ◌++◌, [], ℕ, List, IfOk, IfSome, IsErr, IsSome, OnErr, OnOk, None, Some, Ok, Err, option_map, true, false};
+ghost use Rattle.std.specs.Prelude.{◌≡◌, ◌≢◌, ◌==◌, ◌≤◌, ◌<◌, ◌⊎◌, ◌∷◌, ◌++◌, [], ℕ, List, IfOk, IfSome, IsErr, IsSome, MatchBool, OnErr, OnOk, None, Some, Ok, Err, option_map, true, false};
 ghost use Rattle.std.specs.Io.KnownBytes.{Consumes, prepend_known};
 ghost use Rattle.net_pcap.specs.{FaultKind as Kind, PcapFault as Fault};
 ghost use Rattle.net_streams.specs.{Standing};
@@ -22,6 +22,7 @@ ghost use Rattle.audit_recording.specs.Losses.Noted.Event.{Asks};
 ghost use Rattle.audit_recording.specs.Session.Noted.{AreNotesOf, Noticed, finding, nothing_noticed, noting, sharers_of, stretch_of};
 ghost use Rattle.audit_recording.specs.Session.Recording.{AddsOne, IsCarriedBy, IsNoticedOf, asking, going, gone_by, intact_at, intact_by, placing, reached_by};
 ghost use Rattle.audit_recording.specs.Session.Kept.{AreJudgesLeft, GivesNone, IsSessionAfter, ReadsOn};
+ghost use Rattle.audit_recording.specs.Session.Over.{IsOldestOver};
 ghost use Rattle.audit_recording.specs.Session.Trails.{AreTrailsBegun, AreTrailsKept, IsTrailAfter};
 
 use crate::audit::{AuditFault, NextFrame, RecordingAudit};
@@ -452,7 +453,10 @@ impl Session {
 
     /// Whether there is a transfer, and nothing that comes later changes what is told of the oldest: no datagram joins it any
     /// more, and no fragment of its client's host waits that may be of it.
-    pub fn is_first_over(&self) -> bool {
+    pub fn is_first_over(&self) -> bool
+        ensures { (named out : List ℕ) (history : List Step) (carried : List Carried) (s : Noticed) → IsSessionAfter self.now named out history carried s
+            → MatchBool result (IsOldestOver self.now named carried s) (IsOldestOver self.now named carried s → ⊥) }
+    {
         match self.trails.first_key_value() {
             Some((_, trail)) => {
                 self.notes.is_past(trail) && self.audit.is_over(&trail.transfer.client)
