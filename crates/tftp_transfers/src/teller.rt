@@ -4,12 +4,13 @@ use crate::cells::{pad, put_cell, put_number_cell};
 use crate::conclusions::Conclusion;
 use crate::listing::{ListRow, put_list_head, put_list_row};
 use crate::times::Times;
-use crate::verdicts::{Judged, Told};
+use crate::verdicts::{conclusion, has_same_words, line_of, times, word_of};
 use anyhow::Result;
 use audit_recording::blame::{Missing, Reason};
 use audit_recording::progress::read_until;
 use audit_recording::rows::{Accused, Row};
 use audit_recording::session::{Ended, Session, put_number, put_plain, shown_host};
+use audit_rows::{Charge, Judged, Told};
 use serde::Serialize;
 use std::alloc::{AllocError, Global};
 use std::mem;
@@ -41,6 +42,13 @@ struct VerdictRow<'a> {
     times: Times,
 }
 
+/// A row that is not told yet, and why it is doubtful as far as that is known.
+#[derive(Drop)]
+struct HeldRow<'a> {
+    row: VerdictRow<'a>,
+    charge: Charge,
+}
+
 /// The end that a refusal accuses.
 #[derive(Drop, Serialize)]
 struct AccusedEnd {
@@ -65,7 +73,7 @@ pub struct Teller<'a> {
     has_none: bool,
     is_headed: bool,
     /// From the first refusal on, while the recorder may still tell that it lost packets.
-    held: Vec<VerdictRow<'a>>,
+    held: Vec<HeldRow<'a>>,
     may_lose: bool,
     /// How many packets the recorder lost.
     dropped: u64,
@@ -113,8 +121,8 @@ impl<'a> Teller<'a> {
         self.may_lose = false;
         self.dropped = session.notes.dropped;
         let held = mem::replace(&mut self.held, Vec::new(rt.alloc()));
-        for row in held {
-            self.tell_row(rt, row)?;
+        for HeldRow { row, charge } in held {
+            self.tell_row(rt, row, charge)?;
         }
         Ok(())
     }
@@ -164,7 +172,7 @@ impl<'a> Teller<'a> {
         match self.what {
             What::List => self.tell_request(rt, ended, now),
             What::Check => {
-                let judged = Judged::new(rt.alloc(), ended, missing, now)?;
+                let judged = Judged::new(rt.alloc(), ended, missing, now);
                 self.tell_judged(rt, &judged)
             }
         }
@@ -198,7 +206,7 @@ impl<'a> Teller<'a> {
 
     /// Tells the verdicts on a transfer.
     fn tell_judged(&mut self, rt: HostRuntime, judged: &Judged) -> Result<()> {
-        let rows = judged.rows();
+        let rows = judged.rows(has_same_words(rt.alloc(), judged)?);
         self.tell_at(rt, judged, rows.client)?;
         self.tell_at(rt, judged, rows.server)?;
         self.tell_at(rt, judged, rows.between)
@@ -215,14 +223,15 @@ impl<'a> Teller<'a> {
     }
 
     fn tell_one(&mut self, rt: HostRuntime, judged: &Judged, told: &Told<'_>) -> Result<()> {
+        let charge = judged.charge(rt.alloc(), told)?;
         let row = self.row_of(rt.alloc(), judged, told)?;
         self.status = self.status.max(told.view.status());
         let is_next = self.held.is_empty() && row.frame.is_none();
         if self.may_lose && !is_next {
-            self.held.push(row)?;
+            self.held.push(HeldRow { row, charge })?;
             return Ok(());
         }
-        self.tell_row(rt, row)
+        self.tell_row(rt, row, charge)
     }
 
     fn row_of(
@@ -231,28 +240,25 @@ impl<'a> Teller<'a> {
         judged: &Judged,
         told: &Told<'_>,
     ) -> Result<VerdictRow<'a>, AllocError> {
-        let reasons = judged.reasons(alloc, told)?;
         Ok(VerdictRow {
             file: self.file,
             number: self.told,
-            place: told.place,
+            place: word_of(told.place),
             frame: told.view.frame(),
-            verdict: String::from_str(alloc, told.view.line())?,
-            accused: AccusedEnd::of(alloc, judged.accused(told, reasons.as_slice()))?,
-            doubts: written(alloc, reasons.as_slice())?,
-            ended: judged.conclusion(alloc, told)?,
-            stands: told.view.stands,
-            times: judged.times(told),
+            verdict: line_of(alloc, &told.view.found)?,
+            accused: None,
+            doubts: Vec::new(alloc),
+            ended: conclusion(alloc, judged, told)?,
+            stands: told.view.found.stands(),
+            times: times(judged, told),
         })
     }
 
     /// Tells a row. A refusal is doubtful where the recorder lost packets.
-    fn tell_row(&mut self, rt: HostRuntime, mut row: VerdictRow<'a>) -> Result<()> {
-        if self.dropped > 0 && row.frame.is_some() {
-            let dropped = Reason::Dropped(self.dropped);
-            row.doubts.push(format!(in rt.alloc(); "{dropped}")?)?;
-            row.accused = None;
-        }
+    fn tell_row(&mut self, rt: HostRuntime, mut row: VerdictRow<'a>, charge: Charge) -> Result<()> {
+        let charge = charge.with_dropped(self.dropped)?;
+        row.accused = AccusedEnd::of(rt.alloc(), charge.accused)?;
+        row.doubts = written(rt.alloc(), charge.reasons.as_slice())?;
         if self.is_json {
             return print_json(rt, &row);
         }

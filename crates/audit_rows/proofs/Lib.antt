@@ -1,0 +1,3 @@
+mod Sent
+mod Named
+mod Seen

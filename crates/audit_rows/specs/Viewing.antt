@@ -1,0 +1,85 @@
+-- What is said of a transfer at a point where it was judged, and of which datagram. Lists have the newest first.
+use Rattle.std.specs.Prelude.{◌≡◌, ◌↔◌, ◌||◌, ℕ, Bool, true, false, List, length, IsTrue, Option, Some, None, option_map, Result, Ok, Err}
+use Rattle.law_tap.specs.{StandsWhateverIsMissing}
+use Rattle.tftp_judge.specs.declared.refusal.Refusal.TheVariants as refusal
+use Rattle.judge_tap.specs.declared.refusal.TapRefusal.TheVariants as tap
+use Rattle.audit_flows.specs.Lines.{Placed}
+use Rattle.audit_flows.specs.{Transfer}
+use Rattle.audit_views.specs.Parties.{host_name}
+use Rattle.audit_views.specs.Views.{IsJudgedWith, client_capture, client_header, server_capture, server_header}
+use Rattle.audit_recording.specs.Between.{IsBetweenVerdict, between_capture, sides_of}
+use Rattle.audit_recording.specs.Blame.Facts.{blamed_as, refused_between, refused_in}
+use Rattle.audit_recording.specs.Blame.Frames.{Carried, whole_of}
+use Rattle.audit_recording.specs.Rows.Told.{said_between, said_of}
+use Rattle.audit_recording.specs.declared.rows.row.Point.{Point}
+use Rattle.audit_recording.specs.declared.rows.row.Point.TheVariants as point
+use Rattle.audit_recording.specs.declared.rows.said.Said.{Said}
+use Rattle.audit_rows.specs.declared.found.Found.{Found}
+use Rattle.audit_rows.specs.declared.found.Found.TheVariants.{AtEnd, Between}
+use Rattle.audit_rows.specs.declared.viewed.Viewed.{Viewed}
+
+-- ---- what was found
+
+-- what is said there, where the refused datagram is in this frame
+abbrev pub said_by : Found → Option ℕ → Said
+said_by (AtEnd found) frame = said_of found frame
+said_by (Between found) frame = said_between found frame
+
+-- It is lawful, and no ERROR ended it, but it is not whole.
+abbrev pub stops_early : Found → Bool
+stops_early (AtEnd (Err (refusal.Incomplete count))) = true
+stops_early (Between (Err (tap.Incomplete count))) = true
+stops_early _ = false
+
+-- an ERROR ended it (RFC 1350, section 7)
+abbrev pub is_aborted : Found → Bool
+is_aborted (AtEnd (Err (refusal.Aborted by code))) = true
+is_aborted (Between (Err (tap.Aborted by code))) = true
+is_aborted _ = false
+
+abbrev pub is_cut_short : Found → Bool
+is_cut_short found = is_aborted found || stops_early found
+
+-- Of what is refused between the ends, it is said whether that stands whatever datagrams were missed; of all else nothing.
+abbrev pub IsStanding : Found → Option Bool → Type 0
+IsStanding (Between (Err (tap.Unlawful number rule))) stands = (it : Bool) × (stands ≡ Some it) × (IsTrue it ↔ StandsWhateverIsMissing rule)
+IsStanding _ stands = stands ≡ None
+
+-- how many bytes the file has, where the transfer is accepted
+abbrev pub bytes_in : Found → Option ℕ
+bytes_in (AtEnd (Ok m)) = Some (length m.file)
+bytes_in (Between (Ok m)) = Some (length m.file)
+bytes_in _ = None
+
+-- it is a whole transfer
+abbrev pub is_whole : Found → Bool
+is_whole (AtEnd (Ok m)) = true
+is_whole (Between (Ok m)) = true
+is_whole _ = false
+
+-- ---- the verdict at a point
+
+-- what was found at a point, if the transfer was judged there
+abbrev pub found_in : Option Viewed → Option Found
+found_in view = option_map (λ v. v.found) view
+
+-- what is said there; the refused datagram is the blamed one
+abbrev pub said_in : Viewed → Said
+said_in v = said_by v.found (option_map (λ b. b.frame) v.blamed)
+
+-- the number of the refused datagram among those that were seen there, from 1
+abbrev pub number_in : Found → Option ℕ
+number_in (AtEnd found) = refused_in found
+number_in (Between found) = refused_between found
+
+-- It is the verdict on what the point saw of the whole recording.
+abbrev pub IsFoundAt : Point → Transfer → List Placed → Found → Type 0
+IsFoundAt point.Client x whole (AtEnd found) = IsJudgedWith (client_header x) (client_capture host_name x whole) found
+IsFoundAt point.Server x whole (AtEnd found) = IsJudgedWith (server_header x) (server_capture host_name x whole whole) found
+IsFoundAt point.Between x whole (Between found) = IsBetweenVerdict (sides_of x whole) (between_capture x whole) found
+IsFoundAt _ x whole _ = ⊥
+
+-- And the blamed datagram is the one of the refusal's number among those that were seen there: its frame, its source, its facts.
+pub record IsViewAt (at : Point) (x : Transfer) (named : List ℕ) (carried : List Carried) (v : Viewed) : Type 0 where
+  pub found : IsFoundAt at x (whole_of named carried) v.found
+  pub blamed : v.blamed ≡ blamed_as at x.number named carried (number_in v.found)

@@ -1,0 +1,69 @@
+//! Laws of the definitions in `specs/`. Each is the contract of a function that does nothing.
+
+ghost use Rattle.std.specs.Prelude.{◌≡◌, ◌∷◌, ◌++◌, [], ℕ, List, None, Option, Some, false, true};
+ghost use Rattle.tftp_packet.specs.{Client as ClientEnd};
+ghost use Rattle.audit_flows.specs.Lines.{Placed};
+ghost use Rattle.audit_flows.specs.{Transfer};
+ghost use Rattle.audit_recording.specs.{Accused, Telling};
+ghost use Rattle.audit_recording.specs.Blame.Frames.{Carried, Framed, seen_as};
+ghost use Rattle.audit_recording.specs.Blame.Facts.{blamed_of};
+ghost use Rattle.audit_recording.specs.declared.blame.blame.Blamed.{Blamed};
+ghost use Rattle.audit_recording.specs.declared.blame.doubted.Doubted.{Doubted};
+ghost use Rattle.audit_recording.specs.declared.blame.reason.Reason.{Reason};
+ghost use Rattle.audit_recording.specs.Reasons.Listed.{worked_doubted};
+ghost use Rattle.audit_recording.specs.Rows.Accusing.{accused_in_row, role_at};
+ghost use Rattle.audit_recording.specs.Rows.Told.{is_refused, refused_frame};
+ghost use Rattle.audit_recording.specs.declared.blame.reason.Reason.TheVariants.{Late, Lost, Stranger};
+ghost use Rattle.audit_recording.specs.declared.rows.row.Point.{Point as PointKind};
+ghost use Rattle.audit_rows.specs.Accusing.{accused_of_row, is_listed};
+ghost use Rattle.audit_rows.specs.Charging.{unless_listed};
+ghost use Rattle.audit_rows.specs.Doubting.{row_reasons};
+ghost use Rattle.audit_rows.specs.Viewing.{IsViewAt, number_in, said_in};
+ghost use Rattle.audit_rows.specs.Worked.{worked_client, worked_early, worked_telling, worked_transfer, worked_view};
+ghost use Rattle.audit_rows.specs.declared.viewed.Viewed.{Viewed};
+
+/// Whom a row accuses sent the datagram that is refused there, and is an end of the transfer; the row tells a refusal, and no
+/// reason for doubt is listed.
+pub fn whom_a_row_accuses_sent_what_is_refused()
+    ensures sent { (x : Transfer) (whole : List Placed) (d : Doubted) (t : Telling) (v : Viewed) (a : Accused)
+        → accused_of_row x whole t v.blamed (row_reasons x whole d t v) ≡ Some a → (b : Blamed) × (v.blamed ≡ Some b) × (a.end ≡ b.source) }
+    ensures end { (x : Transfer) (whole : List Placed) (d : Doubted) (t : Telling) (v : Viewed) (a : Accused)
+        → accused_of_row x whole t v.blamed (row_reasons x whole d t v) ≡ Some a → role_at x whole a.end ≡ Some a.role }
+    ensures refused { (x : Transfer) (whole : List Placed) (d : Doubted) (t : Telling) (v : Viewed) (a : Accused)
+        → accused_of_row x whole t v.blamed (row_reasons x whole d t v) ≡ Some a → is_refused t.said ≡ true }
+    ensures sure { (x : Transfer) (whole : List Placed) (d : Doubted) (t : Telling) (v : Viewed) (a : Accused)
+        → accused_of_row x whole t v.blamed (row_reasons x whole d t v) ≡ Some a → row_reasons x whole d t v ≡ [] }
+{}
+
+/// A row accuses as the refusal of that datagram does, which is doubtful exactly where a reason is listed.
+pub fn a_row_accuses_as_its_refusal_does()
+    ensures { (x : Transfer) (whole : List Placed) (t : Telling) (b : Blamed) (reasons : List Reason) (p : Placed) → p.datagram.source ≡ b.source
+        → accused_of_row x whole t (Some b) reasons ≡ accused_in_row x whole p t (is_listed reasons) }
+{}
+
+/// Reasons that are known later take an accusation away as they would have from the start.
+pub fn a_later_reason_takes_an_accusation_away()
+    ensures { (x : Transfer) (whole : List Placed) (t : Telling) (o : Option Blamed) (reasons more : List Reason)
+        → accused_of_row x whole t o (reasons ++ more) ≡ unless_listed more (accused_of_row x whole t o reasons) }
+{}
+
+/// Where a verdict refuses a datagram of what was seen at its point, what is said there has the frame in which that datagram came,
+/// and the blamed datagram is that one, with its source.
+pub fn a_refusal_has_the_frame_of_its_datagram()
+    ensures frame { (at : PointKind) (x : Transfer) (named : List ℕ) (carried : List Carried) (v : Viewed) (frame : ℕ) → IsViewAt at x named carried v
+        → refused_frame (said_in v) ≡ Some frame
+        → (number : ℕ) × (f : Framed) × (number_in v.found ≡ Some number) × (seen_as at x.number named carried number ≡ Some f) × (f.carried.frame ≡ frame) }
+    ensures source { (at : PointKind) (x : Transfer) (named : List ℕ) (carried : List Carried) (v : Viewed) (b : Blamed) → IsViewAt at x named carried v
+        → v.blamed ≡ Some b
+        → (number : ℕ) × (f : Framed) × (number_in v.found ≡ Some number) × (seen_as at x.number named carried number ≡ Some f) × (b.source ≡ f.placed.datagram.source) }
+{}
+
+/// Of a refusal in frame 5, that its client had asked again is a reason, and that neither end sent the datagram. Without these its
+/// client is accused. A transfer that stops early may have gone on in frame 9.
+pub fn worked_row()
+    ensures two { row_reasons (worked_transfer 3000) [] (worked_doubted false false None) (worked_telling (worked_view true)) (worked_view true) ≡ Stranger ∷ Late ∷ [] }
+    ensures none { row_reasons (worked_transfer 2000) [] (worked_doubted false false None) (worked_telling (worked_view false)) (worked_view false) ≡ [] }
+    ensures accused { accused_of_row (worked_transfer 2000) [] (worked_telling (worked_view false)) (worked_view false).blamed [] ≡ Some (record { role = ClientEnd; end = worked_client }) }
+    ensures doubtful { accused_of_row (worked_transfer 2000) [] (worked_telling (worked_view true)) (worked_view true).blamed (Late ∷ []) ≡ None }
+    ensures early { row_reasons (worked_transfer 2000) [] (worked_doubted false false None) (worked_telling worked_early) worked_early ≡ Lost 9 ∷ [] }
+{}

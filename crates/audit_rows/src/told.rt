@@ -1,0 +1,57 @@
+//! What is said of a transfer in one row.
+
+ghost use Rattle.std.specs.Prelude.{◌≡◌};
+ghost use Rattle.audit_rows.specs.Doubting.{goes_over, is_clients_own, is_spoken_first, is_unseen, may_be_between};
+
+use crate::viewed::Viewed;
+use audit_flows::lines::Transfer;
+use audit_recording::blame::Blamed;
+use audit_recording::rows::{Place, Point, Telling};
+
+/// What is said of a transfer in one row.
+#[derive(Clone, Copy)]
+pub struct Told<'a> {
+    /// Where it was recorded.
+    pub place: Place,
+    /// The verdict there.
+    pub view: &'a Viewed,
+    /// What is said there and between the ends.
+    pub telling: Telling,
+}
+
+impl Told<'_> {
+    /// Whether a request may have passed elsewhere that explains what is refused: between the ends alone, or where it is not
+    /// known whether the recording was made there.
+    pub(crate) fn is_unseen(&self, blamed: &Blamed) -> bool
+        ensures { result ≡ is_unseen self.now.telling blamed.now }
+    {
+        let is_between = matches!(self.telling.point, Point::Between);
+        let may_be_asked = is_between && self.telling.said.may_be_asked();
+        let may_be_between = self.telling.between.is_some() || is_between;
+        may_be_asked || (may_be_between && blamed.follows_unknown_id)
+    }
+
+    /// Whether, at the server, its client sent the datagram to where it had heard nothing from.
+    pub(crate) fn is_spoken_first(&self, blamed: &Blamed) -> bool
+        ensures { result ≡ is_spoken_first self.now.telling blamed.now }
+    {
+        matches!(self.telling.point, Point::Server) && blamed.speaks_first
+    }
+
+    /// Whether it may come of an earlier transfer between the same two: what a client sends itself is not late there, if it was
+    /// recorded there.
+    pub(crate) fn goes_over(&self, transfer: &Transfer, blamed: &Blamed) -> bool
+        ensures { result ≡ goes_over transfer.now self.now.telling blamed.now }
+    {
+        !self.is_clients_own(transfer, blamed) && blamed.comes_of_earlier
+    }
+
+    /// Whether the client sent it, and the recording was made there for sure.
+    fn is_clients_own(&self, transfer: &Transfer, blamed: &Blamed) -> bool
+        ensures { result ≡ is_clients_own transfer.now self.now.telling blamed.now }
+    {
+        let is_at_client = matches!(self.telling.point, Point::Client)
+            && self.telling.between.is_none();
+        is_at_client && blamed.source == transfer.client
+    }
+}
