@@ -10,6 +10,12 @@
     requests    that of a read of one block whose request comes again and again, with as many options of unknown names
                 as a third word says, in at most 512 bytes
     oacks       the request of a read and again and again the same OACK, of 64 options whose names have 1,020 bytes
+    alike       the same of 1,000 options whose names have 62 bytes, and hashes that lead to slots side by side
+    tiny        the same of 16,000 options whose names have two bytes, of which the first have such hashes
+    respelled   that of a read of one block whose request comes again and again, with 49 options of names whose hashes are
+                alike, and each time in other letters' case
+    once        that of a read of one block, among one datagram from each of 65,534 strays; the least has 1.1 MB
+    blank       a capture of one datagram among empty lines
     hosts       a capture of version 2 of a read of one block among datagrams of strays, each from another host, of 45
                 bytes, in no order
     comments    a capture of one datagram among comment lines of 25 bytes each
@@ -19,6 +25,7 @@
     wire        a text whose lines end in CR LF
     random      bytes of every value, the same each time
     recording   a recording of that read in the format pcap, in frames of Ethernet, IPv4 and UDP
+    asks        a recording of requests alone, each from another client
     transfers   a recording of lawful reads one after another, in blocks of 1,428 bytes in lock step, each of a file of
                 as many bytes as a third word says, or without one of a single read
     ports       the ports 1 to 65534 in another order, and again, by two bytes each
@@ -34,10 +41,11 @@ import pathlib
 import random
 import struct
 import sys
-from collections.abc import Callable
+from collections.abc import Callable, Iterable
 
 sys.path.append(str(pathlib.Path(__file__).resolve().parent.parent / "tests"))
 
+import alike as crowded  # noqa: E402
 import recorded  # noqa: E402
 
 HEADER = b"tftp-capture 1\nend client\nservice 69\n"
@@ -153,15 +161,47 @@ def requests(wanted: int, options: int) -> None:
     out.write(data_line(1, b"hi") + ack_line(1) + total_line(times + 2))
 
 
-def oacks(wanted: int) -> None:
-    """A request, and the same OACK of 64 options with long names again and again, which is not lawful."""
-    options = b"".join(b"a" * 1_019 + bytes([128 + at, 0]) + b"1\0" for at in range(64))
+def oacks(wanted: int, names: Iterable[bytes], value: bytes = b"") -> None:
+    """A request, and the same OACK of options with these names again and again, which is not lawful."""
+    options = b"".join(name + b"\0" + value + b"\0" for name in names)
     line = f"in 40000 {SERVER} 0006{options.hex()}\n".encode()
     times = max(1, wanted // len(line))
     out.write(HEADER + f"out 40000 69 {REQUEST.hex()}\n".encode())
     for _ in range(times):
         out.write(line)
     out.write(total_line(times + 1))
+
+
+def respelled(wanted: int) -> None:
+    """A read of one block whose request has names with alike hashes, and comes again and again in other letters' case."""
+    names = crowded.alike(6, 49)
+    options = b"".join(name + bytes(2) for name in names)
+    lines = [
+        f"out 40000 69 {(REQUEST + spelled(options, at)).hex()}\n".encode() for at in range(4)
+    ]
+    times = max(1, wanted // (4 * len(lines[0])))
+    out.write(HEADER)
+    for _ in range(times):
+        out.write(b"".join(lines))
+    out.write(data_line(1, b"hi") + ack_line(1) + total_line(4 * times + 2))
+
+
+def spelled(options: bytes, way: int) -> bytes:
+    """The options with their letters in one of four ways of upper and lower case."""
+    return bytes(it - 32 if 97 <= it <= 122 and place * way % 3 == 1 else it for place, it in enumerate(options))
+
+
+def once(wanted: int) -> None:
+    """A read of one block, and between it and its acknowledgement a datagram from each other port. The text has 1.1 MB,
+    or as much more as their payloads have to have."""
+    others = [port for port in range(1, 65_536) if port != SERVER]
+    chance.shuffle(others)
+    before, line = head(), "in 40000 {} {}\n"
+    content = "00" * (max(0, wanted - len(others) * 17) // (2 * len(others))) or "-"
+    out.write(data_line(1, b"hi"))
+    for port in others:
+        out.write(line.format(port, content).encode())
+    out.write(ack_line(1) + total_line(before + 2 + len(others)))
 
 
 def hosts(wanted: int) -> None:
@@ -247,6 +287,18 @@ def transfers(wanted: int, size: int = 0) -> None:
         frames += one_transfer(frames, 20_000 + number % 10_000, 40_000 + number % 10_000, size)
 
 
+def asks(wanted: int) -> None:
+    """A recording of requests, each from another endpoint."""
+    out.write(recorded.header(recorded.ETHERNET))
+    for number in range(wanted // len(record(0, 40_000, 69, REQUEST))):
+        host, port = divmod(number, 60_000)
+        udp = struct.pack("!HHHH", 1_024 + port, 69, 8 + len(REQUEST), 0) + REQUEST
+        hosts = bytes((10, 0, 0, 1 + host, 192, 0, 2, 1))
+        ip = struct.pack("!BBHHHBBH", 0x45, 0, 20 + len(udp), number % 65_535 + 1, 0, 64, 17, 0) + hosts
+        frame = bytes(12) + b"\x08\0" + ip + udp
+        out.write(recorded.record(recorded.Frame(recorded.ETHERNET, frame, recorded.FIRST_TIME + 1_000 * number)))
+
+
 def ports(wanted: int) -> None:
     """Each port once before it comes again, and those beside each other far apart."""
     for turn in range(wanted // 2):
@@ -273,7 +325,13 @@ KINDS: dict[str, Callable[..., object]] = {
     "returns": lambda wanted: netascii_wire(wanted, b"\r\0"),
     "old": lambda wanted: netascii_wire(wanted, bytes(chance.choices(range(97, 123), k=79)) + b"\r\0"),
     "requests": requests,
-    "oacks": oacks,
+    "oacks": lambda wanted: oacks(wanted, (b"a" * 1_019 + bytes((128 + at,)) for at in range(64)), b"1"),
+    "alike": lambda wanted: oacks(wanted, crowded.alike(62, 1_000)),
+    "tiny": lambda wanted: oacks(wanted, crowded.short(16_000)),
+    "respelled": respelled,
+    "once": once,
+    "blank": lambda wanted: comments(b"\n", wanted),
+    "asks": asks,
     "hosts": hosts,
     "acks": acks,
     "comments": lambda wanted: comments(b"# this line says nothing\n", wanted),

@@ -41,8 +41,8 @@ def most_resident(process: int) -> int:
     return 0
 
 
-def run(path: str, command: Sequence[str], pause: float = 0.005) -> Run:
-    """A run on the bytes of a file, whose memory is looked at after each pause."""
+def run(path: str, command: Sequence[str], pause: float = 0.005, most_status: int = 0) -> Run:
+    """A run on the bytes of a file, whose memory is looked at after each pause, and which ends with that status at most."""
     with open(path, "rb") as given, tempfile.TemporaryFile() as taken:
         out: int | IO[bytes] = subprocess.DEVNULL if command[-1] in WRITES_TEXT else taken
         child = subprocess.Popen(command, stdin=given, stdout=out)
@@ -54,15 +54,15 @@ def run(path: str, command: Sequence[str], pause: float = 0.005) -> Run:
                 break
             time.sleep(pause)
         child.returncode = os.waitstatus_to_exitcode(status)
-        if child.returncode:
+        if not 0 <= child.returncode <= most_status:
             sys.exit(f"{' '.join(command)}: ended with status {child.returncode}")
         taken.seek(0)
         return Run(usage.ru_utime + usage.ru_stime, most, taken.read().decode().strip())
 
 
-def best_of(turns: int, path: str, *commands: Sequence[str]) -> list[Run]:
+def best_of(turns: int, path: str, *commands: Sequence[str], most_status: int = 0) -> list[Run]:
     """For each command its best time, and the memory and the answer of its runs; the commands run in turn."""
-    runs = [[run(path, command) for command in commands] for _ in range(turns)]
+    runs = [[run(path, command, most_status=most_status) for command in commands] for _ in range(turns)]
     # The system may count no time at all for a short run.
     return [
         Run(max(1e-6, min(it.seconds for it in of_one)), max(it.memory for it in of_one), of_one[0].answer)

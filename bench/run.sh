@@ -36,7 +36,7 @@ case $(cat "$program.processor" 2>/dev/null || :) in
 esac
 cc -O3 -march="$processor" -o "$folder/least" "$here/least.c"
 python3 "$here/least.py" "$program" "$folder/least"
-python3 "$here/worst.py" "$program" || echo "A text takes more than it may."
+python3 "$here/worst.py" "$program" "$transfers" || echo "A text or a recording takes more than it may."
 python3 "$here/matching.py" "$program" "$match" || echo "A pair takes more than it may."
 
 generate wire 100000000
