@@ -11,9 +11,9 @@ from checks import Checks
 from programs import TRANSFERS
 from repository import TOP
 
-DATA = TOP / "tests" / "data" / "labs"
+DATA, EXAMPLES = TOP / "tests" / "data" / "labs", TOP / "examples"
 # A read of boot.cfg in three blocks each.
-WRAPPED = ("in-pppoe", "in-mpls", "in-erspan")
+WRAPPED = (DATA / "in-pppoe.pcap", DATA / "in-mpls.pcap", EXAMPLES / "in-erspan.pcap")
 ACCEPTED = "accepted get octet blocks 3 bytes 1300"
 
 
@@ -28,8 +28,8 @@ class Labs(Checks):
         return [json.loads(line) for line in done.stdout.splitlines()], done.stderr, done.returncode
 
     def test_wrapped(self) -> None:
-        for name in WRAPPED:
-            path = str(DATA / f"{name}.pcap")
+        for recording in WRAPPED:
+            name, path = recording.stem, str(recording)
             for words in ((), ("--end", "client"), ("--end", "server"), ("--end", "between")):
                 rows, errors, status = self.told("check", "--json", *words, path)
                 verdicts = [(row["verdict"], row["ended"]["how"]) for row in rows]
@@ -43,14 +43,23 @@ class Labs(Checks):
         if not shutil.which("tshark"):
             self.leave("by tshark", "tshark is not installed")
             return
-        for name in WRAPPED:
-            words = ["tshark", "-r", str(DATA / f"{name}.pcap"), "-Y", "tftp", "-T", "fields", "-e", "tftp.opcode"]
+        for recording in WRAPPED:
+            words = ["tshark", "-r", str(recording), "-Y", "tftp", "-T", "fields", "-e", "tftp.opcode"]
             done = subprocess.run(words, capture_output=True, text=True, timeout=60)
-            self.check(f"{name}, by tshark", done.stdout.split() == ["1", "3", "4", "3", "4", "3", "4"], done)
+            self.check(f"{recording.stem}, by tshark", done.stdout.split() == ["1", "3", "4", "3", "4", "3", "4"], done)
 
     def test_no_frames(self) -> None:
         rows, errors, status = self.told("check", "--json", str(DATA / "no-frames.pcap"))
         self.check("no frames", (rows, status) == ([], 3) and "no request passed" in errors, (rows, errors, status))
+
+    def test_began_late(self) -> None:
+        """What looks like a transfer is named by its endpoints and frames, where its request was not recorded."""
+        rows, errors, status = self.told("check", "--json", str(EXAMPLES / "loopback-began-late.pcap"))
+        told = (
+            "6 datagrams between 192.0.2.1:51973 and 192.0.2.1:34056 look like a transfer that began before the recording"
+            " (frames 1 to 6)"
+        )
+        self.check("began late", (rows, status) == ([], 3) and told in errors, (rows, errors, status))
 
     def test_gives_up(self) -> None:
         """lwIP ends a transfer by ERROR 5 where an ACK is repeated, and goes on."""
