@@ -51,7 +51,9 @@ def spells_request(payload: bytes) -> bool:
     """Whether it is a request from its first byte to its last."""
     words = payload[2:].split(b"\0")
     has_form = len(words) % 2 == 1 and len(words) > 2 and words[-1] == b""
-    return begins(payload, 1, 2) and has_form and words[1].lower() in MODES
+    names = [name.lower() for name in words[2:-1:2]]
+    has_names = b"" not in names and len(set(names)) == len(names)
+    return begins(payload, 1, 2) and has_form and has_names and words[1].lower() in MODES
 
 
 def is_answer(payload: bytes) -> bool:
