@@ -1,7 +1,7 @@
 //! Laws of the definitions in `specs/`. Each is the contract of a function that does nothing.
 
 ghost use Rattle.std.specs.Prelude.{◌≡◌, ◌≢◌, ◌≤◌, ◌↔◌, ◌⊎◌, ℕ, List, [], ◌∷◌, ◌++◌, All, length};
-ghost use Rattle.tftp_packet.specs.{Mode, OptionMap, no_options, RequestParts};
+ghost use Rattle.tftp_packet.specs.{Mode, OptionMap, no_options, RequestParts, In, Out};
 ghost use Rattle.tftp_nego.specs.{MayAgree, Holds, NegoFault};
 ghost use Rattle.law_model.specs.Model.{Meaning};
 ghost use Rattle.tftp_packet.specs.Hosts.{Datagram, Header};
@@ -10,8 +10,9 @@ ghost use Rattle.law_end.specs.Writable.{CanBeWritten};
 ghost use Rattle.law_end.specs.Law.{Shows, IsLawful, IsLawfulUpTo};
 ghost use Rattle.law_end.specs.Rules.{number_of, FirstBroken};
 ghost use Rattle.law_end.specs.declared.rule.Rule.{Rule};
-ghost use Rattle.law_end.specs.Aborted.{IsAborted, IsNotAborted};
+ghost use Rattle.law_end.specs.Aborted.{IsAborted, IsErrorBy, IsNotAborted};
 ghost use Rattle.law_end.specs.declared.aborted_by.AbortedBy.{AbortedBy};
+ghost use Rattle.law_end.specs.declared.aborted_by.AbortedBy.TheVariants.{Local, Peer};
 ghost use Rattle.law_end.specs.OneEnd.{OneEnded, IsRefused, Meant};
 
 /// Options that may be agreed have none of the faults of an OACK, where there are any (RFC 2347).
@@ -49,6 +50,18 @@ pub fn the_first_error_is_one()
         → IsAborted header earlier by code → ⊥ }
     ensures either { (header : Header) (earlier : List Datagram) → OneEnded header earlier
         → ((by : AbortedBy) × (code : ℕ) × IsAborted header earlier by code) ⊎ IsNotAborted header earlier }
+{}
+
+/// An ERROR that goes out is this end's own, and one that comes in is the other end's.
+pub fn an_error_is_of_the_end_that_sent_it()
+    ensures own { (d : Datagram) (by : AbortedBy) (code : ℕ) → IsErrorBy d by code → d.dir ≡ Out → by ≡ Local }
+    ensures others { (d : Datagram) (by : AbortedBy) (code : ℕ) → IsErrorBy d by code → d.dir ≡ In → by ≡ Peer }
+{}
+
+/// The ERROR that ended a transfer stays that one, whatever comes after it.
+pub fn the_first_error_stays()
+    ensures { (header : Header) (earlier : List Datagram) (d : Datagram) (by : AbortedBy) (code : ℕ) → IsAborted header earlier by code
+        → IsAborted header (d ∷ earlier) by code }
 {}
 
 /// A capture that the rules accept has one meaning.

@@ -13,5 +13,6 @@ pub mod Stops
 pub mod OtherEnd
 pub mod Cut
 pub mod OneSided
+pub mod WorkedNone
 pub mod HiddenEnd
 pub mod MadeRuns

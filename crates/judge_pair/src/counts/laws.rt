@@ -4,7 +4,7 @@ ghost use Rattle.std.specs.Prelude.{◌≡◌, ◌≤◌, ◌+◌, ◌^◌, ◌�
 ghost use Rattle.tftp_packet.specs.{Message, Spells};
 ghost use Rattle.tftp_packet.specs.Hosts.{Datagram};
 ghost use Rattle.law_model.specs.Rules.{comes_in, goes_out};
-ghost use Rattle.judge_pair.specs.Counts.Counts.{AreTooMany, TakesRoom, number_of, packet_of, sent, taken, times, lost_below, repeated_below};
+ghost use Rattle.judge_pair.specs.Counts.Counts.{AreLostBetween, AreRepeatedBetween, AreTooMany, TakesRoom, number_of, packet_of, packets, sent, taken, times, lost_below, repeated_below};
 ghost use Rattle.judge_pair.specs.Counts.Spelled.{named};
 ghost use Rattle.judge_pair.specs.declared.counts.packets.CountedPacket.TheVariants.{Opening, Error, Data, Ack};
 ghost use Rattle.judge_pair.specs.Counts.Worked.{at_the_client, at_the_server};
@@ -17,6 +17,15 @@ pub fn counted_as_it_is_spelled()
 /// More copies are lost, or made, than fit 64 bits only among 2^46 datagrams or more.
 pub fn too_many_of_as_many()
     ensures { (one other : List Datagram) → AreTooMany one other → 2 ^ 46 ≤ length one + length other }
+{}
+
+/// What the network lost and made between two ends is what those of each packet are that one end sent and the other took, both ways
+/// together.
+pub fn both_ways_are_counted()
+    ensures lost { (one other : List Datagram) (count above : ℕ) → AreLostBetween one other count → above ≡ packets
+        → count ≡ lost_below above one other + lost_below above other one }
+    ensures repeated { (one other : List Datagram) (count above : ℕ) → AreRepeatedBetween one other count → above ≡ packets
+        → count ≡ repeated_below above one other + repeated_below above other one }
 {}
 
 /// Which packet a payload is a copy of: a read request, an OACK, an ERROR, DATA 1 and 256, ACK 256.

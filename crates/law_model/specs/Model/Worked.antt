@@ -79,3 +79,11 @@ ten_bytes_steps =
     ∷ server (Took Req)
     ∷ client (Sent Req)
     ∷ []
+
+-- no client of it asks once more after its ACK 0
+abbrev pub asked_again_view : History
+asked_again_view = Sent Req ∷ Sent (Ack 0) ∷ Took Oack ∷ Sent Req ∷ []
+
+-- and no server of it agrees once more after its first block
+abbrev pub agreed_late_view : History
+agreed_late_view = Sent Oack ∷ Sent (Data 1) ∷ Took (Ack 0) ∷ Sent Oack ∷ Took Req ∷ []

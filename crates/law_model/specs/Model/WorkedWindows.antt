@@ -98,6 +98,10 @@ block_repeated_steps =
 abbrev pub block_repeated_view : History
 block_repeated_view = Took (Ack 2) ∷ Sent (Data 2) ∷ Sent (Data 1) ∷ Took (Ack 1) ∷ Sent (Data 1) ∷ Took Oack ∷ Sent Req ∷ []
 
+-- no client of it sends DATA 1 once more after DATA 2
+abbrev pub gone_back_view : History
+gone_back_view = Sent (Data 1) ∷ Sent (Data 2) ∷ Took (Ack 1) ∷ Sent (Data 1) ∷ Took Oack ∷ Sent Req ∷ []
+
 -- a write of ten bytes with a window of four: ACK 0 says that DATA 1 was lost, and both blocks go out again
 abbrev pub window_repeated : Meaning
 window_repeated = record { side = Put; name = codes "a"; mode = Octet; requested = eight_by_four; agreed = eight_by_four; file = codes "1111111122" }

@@ -36,6 +36,8 @@ ghost use Rattle.law_model.specs.Model.Worked.{
   two_bytes_written_view,
   ten_bytes,
   ten_bytes_view,
+  asked_again_view,
+  agreed_late_view,
 };
 ghost use Rattle.law_model.specs.Model.WorkedWindows.{
   six_blocks,
@@ -44,6 +46,7 @@ ghost use Rattle.law_model.specs.Model.WorkedWindows.{
   six_blocks_server_view,
   block_repeated,
   block_repeated_view,
+  gone_back_view,
   window_repeated,
   window_repeated_view,
 };
@@ -57,7 +60,7 @@ ghost use Rattle.law_model.specs.Model.WorkedErrors.{
   block_after_error_view,
   answer_to_late_ack_view,
 };
-ghost use Rattle.tftp_packet.specs.{End, Client, Server, Get, Put};
+ghost use Rattle.tftp_packet.specs.{End, Client, Server, Get, Put, no_options};
 
 /// Five bytes are three blocks of two, the last of them short.
 pub fn five_bytes_are_three_blocks()
@@ -148,6 +151,27 @@ pub fn read_stopped_at_its_end_is_a_run()
 pub fn blocks_after_an_error_were_sent_before_it()
     ensures view { IsView ten_bytes ten_bytes.file Client block_after_error_view }
     ensures late { IsView ten_bytes ten_bytes.file Client answer_to_late_ack_view → ⊥ }
+{}
+
+/// Worked cases of what no end does: a client asks again after its first ACK; a sender goes back in lock step; a server agrees to
+/// options after its first block.
+pub fn what_no_end_does()
+    ensures asks_again { IsView ten_bytes ten_bytes.file Client asked_again_view → ⊥ }
+    ensures goes_back { IsView block_repeated block_repeated.file Client gone_back_view → ⊥ }
+    ensures agrees_late { IsView ten_bytes ten_bytes.file Server agreed_late_view → ⊥ }
+{}
+
+/// A read whose last block was not acknowledged is complete at neither end.
+pub fn without_the_last_ack_no_read_is_complete()
+    ensures client { IsComplete two_bytes two_bytes.file Client (Deed.Took (MachinePacket.Data 1) ∷ Deed.Sent MachinePacket.Req ∷ []) → ⊥ }
+    ensures server { IsComplete two_bytes two_bytes.file Server (Deed.Sent (MachinePacket.Data 1) ∷ Deed.Took MachinePacket.Req ∷ []) → ⊥ }
+{}
+
+/// Where nothing was agreed a block has 512 bytes and one goes out at a time, whatever was asked for (RFC 1350, section 2; RFC 2347).
+pub fn nothing_agreed_is_rfc_1350()
+    ensures size { blksize_of two_bytes ≡ 512 }
+    ensures window { windowsize_of two_bytes ≡ 1 }
+    ensures refused { blksize_of (record ten_bytes { agreed = no_options }) ≡ 512 }
 {}
 
 /// What an end had done before its last deed was a view too.
