@@ -37,7 +37,6 @@ use tftp_packet::{
 };
 
 /// The transfer from its first request on: what was asked for and answered, the named end, and what it has sent.
-#[derive(Drop)]
 pub struct Transfer<D: Delivered + Drop> {
     named: End,
     asked: Request,
@@ -45,6 +44,20 @@ pub struct Transfer<D: Delivered + Drop> {
     block_sent: bool,
     ack_sent: bool,
     errors: Errors,
+}
+
+impl<D: Delivered + Drop> Drop for Transfer<D> {
+    // written out, since the prover takes a derived one apart again wherever a value is let go
+    fn drop(self) {
+        let Transfer {
+            named: _,
+            asked: _,
+            exchange: _,
+            block_sent: _,
+            ack_sent: _,
+            errors: _,
+        } = self;
+    }
 }
 
 impl<D: Delivered + Drop> Model for Transfer<D> {
@@ -391,7 +404,9 @@ impl<D: Delivered + Drop> Transfer<D> {
             asked,
             exchange,
             errors,
-            ..
+            named: _,
+            block_sent: _,
+            ack_sent: _,
         } = self;
         let (agreed, end) = match exchange {
             Exchange::Unanswered => return Err(errors.unfinished(count)),

@@ -28,13 +28,25 @@ use std::mem;
 use std::net::IpAddr;
 
 /// A frame of a recording, what became of it, and of which frames it decided; to be filled by a reader, in its memory.
-#[derive(Drop)]
 pub struct Event {
     pub(crate) frame: Frame,
     pub(crate) likeness: Likeness,
     pub(crate) brought: Brought,
     pub(crate) sent: Option<Sent>,
     pub(crate) is_discarded: bool,
+}
+
+impl Drop for Event {
+    // written out, since the prover takes a derived one apart again wherever a value is let go
+    fn drop(self) {
+        let Event {
+            frame: _,
+            likeness: _,
+            brought: _,
+            sent: _,
+            is_discarded: _,
+        } = self;
+    }
 }
 
 impl Model for Event {

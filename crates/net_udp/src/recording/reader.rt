@@ -18,13 +18,25 @@ use std::marker::Model;
 
 /// A reader of what became of a recording's frames: it holds what a reader of frames does, the last 16 packets,
 /// the fragments that wait for others of their packets, 64 MB at most, and the hosts that sent datagrams with checksums.
-#[derive(Drop)]
 pub struct RecordingReader {
     frames: FrameReader,
     recent: Recent,
     waiting: Fragments,
     senders: Senders,
     refused: Option<PcapFault>,
+}
+
+impl Drop for RecordingReader {
+    // written out, since the prover takes a derived one apart again wherever a value is let go
+    fn drop(self) {
+        let RecordingReader {
+            frames: _,
+            recent: _,
+            waiting: _,
+            senders: _,
+            refused: _,
+        } = self;
+    }
 }
 
 impl Model for RecordingReader {
@@ -129,6 +141,13 @@ impl RecordingReader {
     pub fn into_waiting(self) -> Fragments
         ensures { result ≡ self.waiting }
     {
-        self.waiting
+        let RecordingReader {
+            waiting,
+            frames: _,
+            recent: _,
+            senders: _,
+            refused: _,
+        } = self;
+        waiting
     }
 }
