@@ -130,22 +130,31 @@ fn try_beside(
 ) -> Result<Option<Vec<Tried>>> {
     let mut tried = Vec::new(rt.alloc());
     for number in numbers {
-        let number = *number;
-        let own = recorded.text(rt.alloc(), number);
-        let Some(own) = told(rt, PROGRAM, recorded.named.file, own)? else {
-            return Ok(None);
-        };
-        let own = own.as_slice();
-        let pair = match recorded.end {
-            End::Client => Tried::of(Some(number), None, &said_of(rt.alloc(), own, text)),
-            End::Server => Tried::of(None, Some(number), &said_of(rt.alloc(), text, own)),
-        };
-        match pair {
+        match try_number(rt, recorded, text, *number)? {
             Some(pair) => tried.push(pair)?,
-            None => bail!("out of memory"),
+            None => return Ok(None),
         }
     }
     Ok(Some(tried))
+}
+
+/// The transfer of that number, judged together with the text; none where it has no text, which is told.
+fn try_number(
+    rt: HostRuntime,
+    recorded: &Recorded<'_>,
+    text: &[u8],
+    number: u64,
+) -> Result<Option<Tried>> {
+    let own = recorded.text(rt.alloc(), number);
+    let Some(own) = told(rt, PROGRAM, recorded.named.file, own)? else {
+        return Ok(None);
+    };
+    let own = own.as_slice();
+    let tried = match recorded.end {
+        End::Client => Tried::of(Some(number), None, &said_of(rt.alloc(), own, text)),
+        End::Server => Tried::of(None, Some(number), &said_of(rt.alloc(), text, own)),
+    };
+    kept(tried)
 }
 
 /// All that a reader gives.
@@ -240,17 +249,36 @@ fn try_pairs(
 ) -> Result<Option<Vec<Tried>>> {
     let mut tried = Vec::new(rt.alloc());
     for pair in pairs {
-        let (one, other) = *pair;
-        let Some(both) = both_texts(rt, client, one, server, other)? else {
-            return Ok(None);
-        };
-        let said = said_of(rt.alloc(), both.client.as_slice(), both.server.as_slice());
-        match Tried::of(Some(one), Some(other), &said) {
+        match try_pair(rt, client, server, *pair)? {
             Some(pair) => tried.push(pair)?,
-            None => bail!("out of memory"),
+            None => return Ok(None),
         }
     }
     Ok(Some(tried))
+}
+
+/// This pair, judged together; none where a transfer has no text, which is told.
+fn try_pair(
+    rt: HostRuntime,
+    client: &Recorded<'_>,
+    server: &Recorded<'_>,
+    pair: (u64, u64),
+) -> Result<Option<Tried>> {
+    let (one, other) = pair;
+    let Some(both) = both_texts(rt, client, one, server, other)? else {
+        return Ok(None);
+    };
+    let (own, others) = (both.client.as_slice(), both.server.as_slice());
+    let tried = Tried::of(Some(one), Some(other), &said_of(rt.alloc(), own, others));
+    kept(tried)
+}
+
+/// The pair that was tried, unless memory ran out for it.
+fn kept(tried: Option<Tried>) -> Result<Option<Tried>> {
+    match tried {
+        Some(tried) => Ok(Some(tried)),
+        None => bail!("out of memory"),
+    }
 }
 
 fn both_texts(

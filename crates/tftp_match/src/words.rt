@@ -2,7 +2,7 @@
 
 use crate::help::command_line;
 use clap::error::ErrorKind;
-use clap::{ArgMatches, Error};
+use clap::{ArgMatches, Command, Error};
 use std::alloc::{AllocError, Global};
 use std::convert::AsStr;
 
@@ -28,6 +28,15 @@ pub struct Request<'a> {
 pub fn request_of<'a, S: AsStr>(alloc: Global, words: &'a [S]) -> Result<Request<'a>, Error> {
     let mut command = command_line(alloc)?;
     let matches = command.try_get_matches_from_mut(words)?;
+    request_in(alloc, &mut command, &matches)
+}
+
+/// What the words ask for that were parsed.
+fn request_in<'a>(
+    alloc: Global,
+    command: &mut Command<'_>,
+    matches: &ArgMatches<'a>,
+) -> Result<Request<'a>, Error> {
     let client = matches.get_str("client").unwrap_or("-");
     let server = matches.get_str("server").unwrap_or("-");
     if client == "-" && server == "-" {
@@ -41,7 +50,7 @@ pub fn request_of<'a, S: AsStr>(alloc: Global, words: &'a [S]) -> Result<Request
         server,
         transfer: matches.get_one::<u64>("transfer"),
         server_transfer: matches.get_one::<u64>("server-transfer"),
-        services: services_of(alloc, &matches)?,
+        services: services_of(alloc, matches)?,
         counts: matches.get_flag("counts"),
         json: matches.get_flag("json"),
     })

@@ -26,11 +26,21 @@ use std::marker::Model;
 use tftp_ends::blocks::Delivered;
 
 /// A transfer of a recording: its judges, each at a point where it is judged, and what makes a refusal of it no accusation.
-#[derive(Drop)]
 pub struct Watched<D: Delivered + Drop> {
     transfer: Transfer,
     judges: Judges<D>,
     doubts: TransferDoubts,
+}
+
+impl<D: Delivered + Drop> Drop for Watched<D> {
+    // written out, since the prover takes a derived one apart again wherever a value is let go
+    fn drop(self) {
+        let Watched {
+            transfer: _,
+            judges: _,
+            doubts: _,
+        } = self;
+    }
 }
 
 impl<D: Delivered + Drop> Model for Watched<D> {
