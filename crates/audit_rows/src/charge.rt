@@ -1,6 +1,6 @@
 //! Why what a row tells is doubtful, and whom it accuses.
 
-ghost use Rattle.std.specs.Prelude.{◌≡◌, ◌++◌, IfOk};
+ghost use Rattle.std.specs.Prelude.{◌≡◌, ◌≢◌, ◌++◌, [], IfOk, IsErr};
 ghost use Rattle.audit_rows.specs.Charging.{dropped_reasons, unless_listed};
 
 use audit_recording::blame::Reason;
@@ -24,6 +24,7 @@ impl Charge {
         ensures reasons { IfOk result (λ charge. charge.reasons.items ≡ self.reasons.items ++ dropped_reasons self.is_refusal dropped) }
         ensures accused { IfOk result (λ charge. charge.accused ≡ unless_listed (dropped_reasons self.is_refusal dropped) self.accused) }
         ensures is_refusal { IfOk result (λ charge. charge.is_refusal ≡ self.is_refusal) }
+        ensures spare { IsErr result → dropped_reasons self.is_refusal dropped ≢ [] }
     {
         if !self.is_refusal || dropped == 0 {
             return Ok(self);

@@ -1,6 +1,6 @@
 //! What there is to say of a transfer.
 
-ghost use Rattle.std.specs.Prelude.{◌≡◌, ◌++◌, ℕ, List, IfOk, IfSome, None, OnOk, option_map};
+ghost use Rattle.std.specs.Prelude.{◌≡◌, ◌≢◌, ◌++◌, ℕ, List, [], IfOk, IfSome, IsErr, None, OnOk, option_map};
 ghost use Rattle.audit_flows.specs.{Transfer};
 ghost use Rattle.audit_recording.specs.Blame.Frames.{Carried, whole_of};
 ghost use Rattle.audit_recording.specs.Endings.Told.{IsEnding};
@@ -123,8 +123,10 @@ impl Judged {
 
     /// Why a refusal in a row is no accusation, and why what is not whole there may be whole.
     pub fn reasons(&self, alloc: Global, told: &Told<'_>) -> Result<Vec<Reason>, AllocError>
-        ensures { (judging : JudgingKind) (x : Transfer) (named : List ℕ) (carried : List Carried) → IsJudgedOf self.now judging x named carried
+        ensures listed { (judging : JudgingKind) (x : Transfer) (named : List ℕ) (carried : List Carried) → IsJudgedOf self.now judging x named carried
             → IfOk result (λ reasons. reasons.items ≡ row_reasons x (whole_of named carried) self.now.doubted told.now.telling told.now.view.now) }
+        ensures spare { (judging : JudgingKind) (x : Transfer) (named : List ℕ) (carried : List Carried) → IsJudgedOf self.now judging x named carried
+            → IsErr result → row_reasons x (whole_of named carried) self.now.doubted told.now.telling told.now.view.now ≢ [] }
     {
         let mut reasons = Vec::new(alloc);
         let put = self.put_reasons(&mut reasons, told);
@@ -133,8 +135,10 @@ impl Judged {
     }
 
     fn put_reasons(&self, reasons: &mut Vec<Reason>, told: &Told<'_>) -> Result<(), AllocError>
-        ensures { (judging : JudgingKind) (x : Transfer) (named : List ℕ) (carried : List Carried) → IsJudgedOf self.now judging x named carried
+        ensures added { (judging : JudgingKind) (x : Transfer) (named : List ℕ) (carried : List Carried) → IsJudgedOf self.now judging x named carried
             → OnOk result (reasons.new.items ≡ reasons.old.items ++ row_reasons x (whole_of named carried) self.now.doubted told.now.telling told.now.view.now) }
+        ensures spare { (judging : JudgingKind) (x : Transfer) (named : List ℕ) (carried : List Carried) → IsJudgedOf self.now judging x named carried
+            → IsErr result → row_reasons x (whole_of named carried) self.now.doubted told.now.telling told.now.view.now ≢ [] }
     {
         match (&told.telling.said, &told.view.blamed) {
             (Said::Refused(_, _), Some(blamed)) => self.put_doubts(reasons, told, blamed),
@@ -152,8 +156,10 @@ impl Judged {
         told: &Told<'_>,
         blamed: &Blamed,
     ) -> Result<(), AllocError>
-        ensures { (judging : JudgingKind) (x : Transfer) (named : List ℕ) (carried : List Carried) → IsJudgedOf self.now judging x named carried
+        ensures added { (judging : JudgingKind) (x : Transfer) (named : List ℕ) (carried : List Carried) → IsJudgedOf self.now judging x named carried
             → OnOk result (reasons.new.items ≡ reasons.old.items ++ refusal_reasons x (whole_of named carried) self.now.doubted told.now.telling blamed.now) }
+        ensures spare { (judging : JudgingKind) (x : Transfer) (named : List ℕ) (carried : List Carried) → IsJudgedOf self.now judging x named carried
+            → IsErr result → refusal_reasons x (whole_of named carried) self.now.doubted told.now.telling blamed.now ≢ [] }
     {
         let transfer = &self.trail.transfer;
         put_if(reasons, told.telling.depends_on_place(), Reason::Unplaced)?;
@@ -199,10 +205,13 @@ impl Judged {
         }
     }
 
-    /// Why what a row tells is doubtful, and whom it accuses.
+    /// Why what a row tells is doubtful, and whom it accuses. Where no reason is listed it takes no memory, so that an accusation
+    /// is told whatever memory there is.
     pub fn charge(&self, alloc: Global, told: &Told<'_>) -> Result<Charge, AllocError>
-        ensures { (judging : JudgingKind) (x : Transfer) (named : List ℕ) (carried : List Carried) → IsJudgedOf self.now judging x named carried
+        ensures charged { (judging : JudgingKind) (x : Transfer) (named : List ℕ) (carried : List Carried) → IsJudgedOf self.now judging x named carried
             → IfOk result (λ charge. IsChargeOf charge x (whole_of named carried) self.now.doubted told.now.telling told.now.view.now) }
+        ensures spare { (judging : JudgingKind) (x : Transfer) (named : List ℕ) (carried : List Carried) → IsJudgedOf self.now judging x named carried
+            → IsErr result → row_reasons x (whole_of named carried) self.now.doubted told.now.telling told.now.view.now ≢ [] }
     {
         let reasons = self.reasons(alloc, told)?;
         let accused = self.accused(told, reasons.as_slice());

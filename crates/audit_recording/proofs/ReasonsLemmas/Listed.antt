@@ -1,6 +1,7 @@
 -- Reasons that are added one after the other, and which of them are the division's.
-use Rattle.std.proofs.Common.{◌≡◌, ◌&&◌, ◌||◌, not, ℕ, Bool, true, false, List, [], ◌∷◌, ◌++◌, Option, Some, None, Result, Ok, Err, OnOk, refl, sym, ap, ◌∙◌, append_assoc}
+use Rattle.std.proofs.Common.{◌≡◌, ◌≢◌, ◌&&◌, ◌||◌, not, ℕ, Bool, true, false, List, [], ◌∷◌, ◌++◌, Option, Some, None, Result, Ok, Err, OnOk, refl, sym, ap, subst, ◌∙◌, append_assoc, rules}
 use Rattle.std.specs.List.{list_any}
+use Rattle.std.specs.Prelude.{option_to_list}
 use Rattle.std.proofs.lemmas.List.Folds.{list_any-append}
 use Rattle.audit_flows.specs.Lines.{Placed, follows_strays, follows_unanswered, goes_on_with_first, is_asked_again, is_disordered, is_late, says_first_word}
 use Rattle.audit_flows.specs.Transfers.Doubts.{is_answered_apart, is_beside, is_doubted, is_doubtful, is_led_astray, some_of, tells_strays}
@@ -22,6 +23,24 @@ begun old new some given last same = last ∙ ap (λ g. old ++ g) same
 
 pub more_of : (old middle new some others given : List Reason) → new ≡ middle ++ given → given ≡ others → middle ≡ old ++ some → new ≡ old ++ (some ++ others)
 more_of old middle new some others given last same first = more old middle new some others (begun middle new others given last same) first
+
+-- ---- where one is added
+
+pub left : (some others : List Reason) → some ≢ [] → (some ++ others) ≢ []
+left [] others are = λ e. are refl
+left (reason ∷ some) others are = λ e. search rules
+
+pub right : (some others : List Reason) → others ≢ [] → (some ++ others) ≢ []
+right [] others are = are
+right (reason ∷ some) others are = λ e. search rules
+
+pub holding : (reason : Reason) (holds : Bool) → holds ≡ true → where_so reason holds ≢ []
+holding reason true is = λ e. search rules
+holding reason false is = λ e. search rules
+
+pub listed : (reason : Option Reason) → reason ≢ None → option_to_list reason ≢ []
+listed None is = λ e. is refl
+listed (Some reason) is = λ e. search rules
 
 -- ---- which of them are the division's
 

@@ -1,6 +1,6 @@
 //! What makes the refusals of a transfer doubtful.
 
-ghost use Rattle.std.specs.Prelude.{◌≡◌, ◌++◌, List, OnOk, option_map, option_to_list};
+ghost use Rattle.std.specs.Prelude.{◌≡◌, ◌≢◌, ◌++◌, List, [], IsErr, None, OnOk, option_map, option_to_list, true};
 ghost use Rattle.audit_flows.specs.Lines.{Placed};
 ghost use Rattle.audit_flows.specs.Transfers.{IsDoubtedAfter};
 ghost use Rattle.audit_recording.specs.Reasons.Listed.{frame_reasons, is_astray, is_one_way, missing_reasons, reasons_of, up_to, where_so, whole_reasons};
@@ -37,8 +37,10 @@ pub struct Doubted {
 impl Doubted {
     /// Adds why a refusal there is doubtful: nothing where it is an accusation.
     pub fn put_reasons(&self, reasons: &mut Vec<Reason>, blamed: &Blamed) -> Result<(), AllocError>
-        ensures { (placed : List Placed) → IsDoubtedAfter self.now.doubts placed
+        ensures added { (placed : List Placed) → IsDoubtedAfter self.now.doubts placed
             → OnOk result (reasons.new.items ≡ reasons.old.items ++ reasons_of placed self.now blamed.now) }
+        ensures spare { (placed : List Placed) → IsDoubtedAfter self.now.doubts placed
+            → IsErr result → reasons_of placed self.now blamed.now ≢ [] }
     {
         self.put_doubts(reasons)?;
         put_if(reasons, blamed.is_late, Reason::Late)?;
@@ -53,8 +55,10 @@ impl Doubted {
 
     /// Adds the doubts of the whole transfer.
     fn put_doubts(&self, reasons: &mut Vec<Reason>) -> Result<(), AllocError>
-        ensures { (placed : List Placed) → IsDoubtedAfter self.now.doubts placed
+        ensures added { (placed : List Placed) → IsDoubtedAfter self.now.doubts placed
             → OnOk result (reasons.new.items ≡ reasons.old.items ++ whole_reasons placed self.now) }
+        ensures spare { (placed : List Placed) → IsDoubtedAfter self.now.doubts placed
+            → IsErr result → whole_reasons placed self.now ≢ [] }
     {
         let doubts = &self.doubts;
         put_if(reasons, doubts.is_disordered(), Reason::Disordered)?;
@@ -85,7 +89,8 @@ impl Doubted {
 
     /// Adds the doubts that come with a frame up to the one that is refused.
     fn put_frames(&self, reasons: &mut Vec<Reason>, blamed: &Blamed) -> Result<(), AllocError>
-        ensures { OnOk result (reasons.new.items ≡ reasons.old.items ++ frame_reasons self.now blamed.now) }
+        ensures added { OnOk result (reasons.new.items ≡ reasons.old.items ++ frame_reasons self.now blamed.now) }
+        ensures spare { IsErr result → frame_reasons self.now blamed.now ≢ [] }
     {
         let lost = up_to(self.missing.first, blamed.frame);
         put_some(reasons, lost.map(|frame| Reason::Lost(frame)))?;
@@ -99,7 +104,8 @@ impl Doubted {
 
     /// Adds why a transfer that stops early may have gone on.
     pub fn put_missing(&self, reasons: &mut Vec<Reason>) -> Result<(), AllocError>
-        ensures { OnOk result (reasons.new.items ≡ reasons.old.items ++ missing_reasons self.now) }
+        ensures added { OnOk result (reasons.new.items ≡ reasons.old.items ++ missing_reasons self.now) }
+        ensures spare { IsErr result → missing_reasons self.now ≢ [] }
     {
         put_some(reasons, self.left_out.map(|frame| Reason::LeftOut(frame)))?;
         put_some(
@@ -109,9 +115,10 @@ impl Doubted {
     }
 }
 
-/// Adds a reason, if it holds.
+/// Adds a reason, if it holds. Memory is taken for a reason alone.
 pub fn put_if(reasons: &mut Vec<Reason>, holds: bool, reason: Reason) -> Result<(), AllocError>
-    ensures { OnOk result (reasons.new.items ≡ reasons.old.items ++ where_so reason holds) }
+    ensures added { OnOk result (reasons.new.items ≡ reasons.old.items ++ where_so reason holds) }
+    ensures spare { IsErr result → holds ≡ true }
 {
     if holds {
         reasons.push(reason)?;
@@ -121,7 +128,8 @@ pub fn put_if(reasons: &mut Vec<Reason>, holds: bool, reason: Reason) -> Result<
 
 /// Adds a reason, if there is one.
 fn put_some(reasons: &mut Vec<Reason>, reason: Option<Reason>) -> Result<(), AllocError>
-    ensures { OnOk result (reasons.new.items ≡ reasons.old.items ++ option_to_list reason) }
+    ensures added { OnOk result (reasons.new.items ≡ reasons.old.items ++ option_to_list reason) }
+    ensures spare { IsErr result → reason ≢ None }
 {
     if let Some(reason) = reason {
         reasons.push(reason)?;
