@@ -1,24 +1,15 @@
 -- Lines that say nothing, taken one after another.
-use Rattle.std.proofs.Common.{◌≡◌, ℕ, ◌+◌, ◌^◌, ◌<◌, ◌≤◌, true, false, List, [], ◌∷◌, ◌++◌, length, take, drop, get_or, All, Option, Ok, sym, ap, ◌∙◌, subst, arith, append_assoc, append-nil, take-append-drop, length-append}
+use Rattle.std.proofs.Common.{◌≡◌, ℕ, ◌+◌, ◌^◌, ◌<◌, ◌≤◌, true, false, List, [], ◌∷◌, ◌++◌, length, take, drop, get_or, All, Option, Ok, sym, ap, ◌∙◌, subst, arith, append_assoc, append-nil, take-append-drop, length-append, length-drop, length-take-le, refl}
 use Rattle.std.specs.Io.KnownBytes.{prepend_known, Consumes}
 use Rattle.std.proofs.KnownBytes.{Consumes-trans, Keeps-refl}
 use Rattle.std.proofs.lemmas.List.Concat.{flat_map-append}
-use Rattle.std.proofs.lemmas.List.Elements.{All-nil, All-push}
-use Rattle.std.proofs.Math.Seq.{take-append_seam}
-use Rattle.tftp_capture.specs.{longest_line, says_nothing, whole_lines, BeginsWithLine, HasNoEnd, HoldsLine, IsSilent, IsSkipped, LineEnds, LineState, ReachesLine}
+use Rattle.std.proofs.lemmas.List.Elements.{All-append, All-nil, All-push}
+use Rattle.std.proofs.Math.Seq.{take-add, take-append_seam}
+use Rattle.tftp_capture.specs.{longest_line, says_nothing, whole_lines, BeginsWithLine, HasNoEnd, HoldsLine, BeginsSilent, IsSilent, IsSkipped, LineEnds, LineState, ReachesLine, Skipped, StandsSilent}
 use Rattle.tftp_capture.proofs.Bytes.{held_some, line_ended}
 
 pub whole_lines-push : (lines : List (List ℕ)) (line : List ℕ) → whole_lines (lines ++ line ∷ []) ≡ whole_lines lines ++ (line ++ 10 ∷ [])
 whole_lines-push lines line = flat_map-append (λ (l : List ℕ). l ++ 10 ∷ []) lines (line ∷ []) ∙ ap (λ l. whole_lines lines ++ l) (append-nil (line ++ 10 ∷ []))
-
--- only lines that say nothing were taken
-pub record Skipped (old new : LineState) (before after : Option (List ℕ)) : Type 0 where
-  pub skipped : List (List ℕ)
-  pub nothing : All (IsSkipped (longest_line old.version)) skipped
-  pub consumed : Consumes before after (whole_lines skipped)
-  pub taken : new.taken ≡ old.taken + length (whole_lines skipped)
-  pub count : new.count ≡ old.count + length skipped
-  pub version : new.version ≡ old.version
 
 pub skipped_more : (old mid new : LineState) (k0 k1 k2 : Option (List ℕ)) (room : ℕ) (bytes : List ℕ) → Skipped old mid k0 k1
     → Consumes k1 k2 bytes → LineEnds {T = Unit {0}} (Ok tt) new.line (longest_line mid.version) room bytes → says_nothing new.line ≡ true
@@ -34,6 +25,18 @@ skipped_more old mid new k0 k1 k2 room bytes s consumed ends nothing taken count
       taken = omega (arith, s.taken, taken, size);
       count = omega (arith, s.count, count, length-append s.skipped (new.line ∷ []));
       version = same ∙ s.version;
+    }
+
+pub skipped_on : (old mid new : LineState) (k0 k1 k2 : Option (List ℕ)) → Skipped old mid k0 k1 → Skipped mid new k1 k2 → Skipped old new k0 k2
+skipped_on old mid new k0 k1 k2 s t =
+    let are : whole_lines (s.skipped ++ t.skipped) ≡ whole_lines s.skipped ++ whole_lines t.skipped = flat_map-append (λ (l : List ℕ). l ++ 10 ∷ []) s.skipped t.skipped in
+    record {
+      skipped = s.skipped ++ t.skipped;
+      nothing = All-append (IsSkipped (longest_line old.version)) s.skipped t.skipped s.nothing (subst (λ v. All (IsSkipped (longest_line v)) t.skipped) s.version t.nothing);
+      consumed = rw are (Consumes-trans _ _ _ _ _ s.consumed t.consumed);
+      taken = omega (arith, s.taken, t.taken, ap length are, length-append (whole_lines s.skipped) (whole_lines t.skipped));
+      count = omega (arith, s.count, t.count, length-append s.skipped t.skipped);
+      version = t.version ∙ s.version;
     }
 
 -- ---- lines among the bytes that are held
@@ -71,6 +74,41 @@ held_line bytes rest count p within here no_end says = record {
   nothing = p.nothing;
   no_end = no_end;
   says = says;
+}
+
+-- ---- lines at the beginning of what is held that say nothing, taken as they are
+
+pub begins_none : (longest : ℕ) (bytes : List ℕ) → BeginsSilent longest bytes 0 0
+begins_none longest bytes = record {
+  silent = [];
+  are = refl;
+  within = omega arith;
+  nothing = All-nil (IsSkipped longest);
+  counted = refl;
+}
+
+pub begins_more : (longest : ℕ) (bytes : List ℕ) (at count size : ℕ) → BeginsSilent longest bytes at count → StandsSilent (drop at bytes) size → size ≤ longest + 1
+    → BeginsSilent longest bytes (at + size) (count + 1)
+begins_more longest bytes at count size b s narrow =
+    let long : length s.line + 1 ≡ size = omega (arith, ap length s.are, length-append s.line (10 ∷ []), length-take-le size (drop at bytes) s.within) in
+    record {
+      silent = b.silent ++ s.line ∷ [];
+      are = take-add at size bytes ∙ ap (λ l. l ++ take size (drop at bytes)) b.are ∙ ap (λ l. whole_lines b.silent ++ l) s.are ∙ sym (whole_lines-push b.silent s.line);
+      within = omega (arith, b.within, s.within, length-drop at bytes);
+      nothing = All-push (IsSkipped longest) b.silent s.line b.nothing (record { nothing = s.silent.nothing; no_end = s.silent.no_end; narrow = omega (arith, long, narrow) });
+      counted = omega (arith, b.counted, length-append b.silent (s.line ∷ []));
+    }
+
+pub skipped_held : (old new : LineState) (size count : ℕ) (known : Option (List ℕ)) → BeginsSilent (longest_line old.version) old.ahead size count
+    → new.ahead ≡ drop size old.ahead → new.taken ≡ old.taken + size → new.count ≡ old.count + count → new.version ≡ old.version
+    → Skipped old new (prepend_known old.ahead known) (prepend_known new.ahead known)
+skipped_held old new size count known b ahead taken counted version = record {
+  skipped = b.silent;
+  nothing = b.nothing;
+  consumed = rw (ahead, ← b.are) (held_some (prepend_known old.ahead known) known old.ahead size (Keeps-refl (prepend_known old.ahead known)));
+  taken = omega (arith, taken, ap length b.are, length-take-le size old.ahead b.within);
+  count = omega (arith, counted, b.counted);
+  version = version;
 }
 
 -- ---- a line that lies in what is held, taken as it is

@@ -14,7 +14,7 @@ pub use Fields.{BeginWithFields, BodyEnds, DatagramEnds, PayloadEnds, TotalEnds,
 pub use Heads.{BeginsWithDatagram, BeginsWithHead, GoesOnAfter, HeadState, IsDecoded, IsHead, MayName, SpellsBehind, head_text}
 pub use History.{Answers, Continues, FailsToBegin, FaultTells, GoesOn, HasService, IsAtTextEnd, IsReadFault, IsReadStanding, FirstTells, MemoryTells, ReaderState, SaysOneMore, StandingTells, StandsFor, WantTells, gave, with_answer}
 pub use InTwo.{in_version_two, is_way, line_in_two, lines_in_two, pieces_in_two}
-pub use Lines.{BeginsWithLine, HasByteAt, HasNoEnd, HoldsLine, HoldsNoLine, HoldsPart, IsPartOfLine, IsSilent, IsSkipped, LineEnds, LineState, ReachesLine, TextEnds, fault_at, line_at, unread}
+pub use Lines.{BeginsSilent, BeginsWithLine, HasByteAt, HasNoEnd, HoldsLine, HoldsNoLine, HoldsPart, IsPartOfLine, IsSilent, IsSkipped, LineEnds, LineState, ReachesLine, Skipped, StandsSilent, TextEnds, fault_at, line_at, unread}
 pub use Worked.{line, named_datagrams, named_text, worked_header, worked_text}
 pub use Written.{HasWritten, HasWrittenHosts, header_text, header_text_in, head_naming, host_field, line_naming}
 pub use declared.fault.CaptureFault.{CaptureFault}

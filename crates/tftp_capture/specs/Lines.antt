@@ -115,6 +115,30 @@ pub record IsSkipped (longest : ℕ) (line : List ℕ) : Type 0 where
   pub no_end : HasNoEnd line
   pub narrow : length line ≤ longest
 
+-- the bytes begin with a whole line that says nothing, which has so many bytes with its LF
+pub record StandsSilent (bytes : List ℕ) (size : ℕ) : Type 0 where
+  pub line : List ℕ
+  pub are : take size bytes ≡ line ++ 10 ∷ []
+  pub within : size ≤ length bytes
+  pub silent : IsSilent line
+
+-- the bytes begin with so many whole lines of at most so many bytes each that say nothing, which have so many bytes
+pub record BeginsSilent (longest : ℕ) (bytes : List ℕ) (size count : ℕ) : Type 0 where
+  pub silent : List (List ℕ)
+  pub are : take size bytes ≡ whole_lines silent
+  pub within : size ≤ length bytes
+  pub nothing : All (IsSkipped longest) silent
+  pub counted : length silent ≡ count
+
+-- only lines that say nothing were taken
+pub record Skipped (old new : LineState) (before after : Option (List ℕ)) : Type 0 where
+  pub skipped : List (List ℕ)
+  pub nothing : All (IsSkipped (longest_line old.version)) skipped
+  pub consumed : Consumes before after (whole_lines skipped)
+  pub taken : new.taken ≡ old.taken + length (whole_lines skipped)
+  pub count : new.count ≡ old.count + length skipped
+  pub version : new.version ≡ old.version
+
 -- lines that say nothing were taken, and then the bytes in which the next line that says something was looked for
 pub record ReachesLine {T : Type 0} (result : Result T LineError) (old new : LineState) (before after : Option (List ℕ)) : Type 0 where
   pub skipped : List (List ℕ)

@@ -1,6 +1,6 @@
-ghost use Rattle.std.specs.Prelude.{◌≡◌, ◌≢◌, ◌+◌, ◌-◌, ◌^◌, ◌≤◌, ◌⊎◌, ℕ, List, [], length, take, true, false, Ok, IfOk, OnOk, OnErr, Option};
+ghost use Rattle.std.specs.Prelude.{◌≡◌, ◌≢◌, ◌+◌, ◌-◌, ◌^◌, ◌<◌, ◌≤◌, ◌⊎◌, ℕ, List, [], length, take, true, false, Ok, IfOk, OnOk, OnErr, Option};
 ghost use Rattle.std.specs.Io.KnownBytes.{prepend_known, Consumes, IsAtEnd};
-ghost use Rattle.tftp_capture.specs.Lines.{reading_of, unread, BeginsWithLine, HoldsLine, HoldsNoLine, LineEnds, ReachesLine, TextEnds};
+ghost use Rattle.tftp_capture.specs.Lines.{reading_of, unread, BeginsSilent, BeginsWithLine, HoldsLine, HoldsNoLine, LineEnds, ReachesLine, Skipped, StandsSilent, TextEnds};
 ghost use Rattle.net_streams.specs.Streams.{most_ahead};
 ghost use Rattle.tftp_capture.specs.CaptureText.{longest_line, says_nothing, SaysDatagram};
 ghost use Rattle.tftp_capture.specs.Fields.{datagram_of};
@@ -69,6 +69,47 @@ fn holds_line(bytes: &[u8]) -> bool
             return true;
         }
         rest = &rest[count + 1..];
+    }
+}
+
+/// How many bytes a line with its LF has that says nothing and stands whole at the beginning, or 0.
+#[inline]
+fn silent_line(bytes: &[u8]) -> usize
+    ensures { 0 < result → StandsSilent bytes.now result }
+{
+    let Some(first) = bytes.first() else {
+        return 0;
+    };
+    if *first == b'\n' {
+        return 1;
+    }
+    if *first != b'#' {
+        return 0;
+    }
+    if bytes.len() > 1 && bytes[1] == b'\n' {
+        return 2;
+    }
+    let size = count_before(bytes, b'\n');
+    if size < bytes.len() { size + 1 } else { 0 }
+}
+
+/// How many bytes the lines have that say nothing and stand whole at the beginning, and how many lines these are: none of
+/// more than `longest` bytes, and `room` bytes in all. A text may have little else, so that a line costs about what a byte
+/// of another line does.
+fn silent_lines(bytes: &[u8], longest: usize, room: u64) -> (usize, u64)
+    ensures begins { BeginsSilent longest bytes.now result.0 result.1 }
+    ensures few { result.1 ≤ result.0 }
+    ensures short { result.0 ≤ room }
+{
+    let mut at: usize = 0;
+    let mut count: u64 = 0;
+    'lines: loop {
+        let size = silent_line(&bytes[at..]);
+        if size == 0 || longest < size - 1 || room - (at as u64) < size as u64 {
+            return (at, count);
+        }
+        at += size;
+        count += 1;
     }
 }
 
@@ -189,6 +230,20 @@ impl Lines {
         Ok(())
     }
 
+    /// Takes the lines that say nothing and lie whole in what is read ahead, up to one that is not so.
+    fn pass_silent(&mut self)
+        ensures skips { (known : Option (List ℕ)) → Skipped self.old self.new (prepend_known self.old.ahead known) (prepend_known self.new.ahead known) }
+    {
+        self.ahead.consume(self.lies);
+        self.lies = 0;
+        let longest = self.version.longest_line();
+        let room = LONGEST_TEXT - self.taken;
+        let (size, count) = silent_lines(self.ahead.as_slice(), longest, room);
+        self.ahead.consume(size);
+        self.taken += size as u64;
+        self.count += count;
+    }
+
     /// Reads the next line, as `next` does. Where it is like one before it the datagram is filled with what it says, as it
     /// comes, and the answer is true; else nothing is said of the datagram.
     fn next_like<R: Read>(
@@ -252,6 +307,7 @@ impl Lines {
             if !is_skipped(self.line()) {
                 return Ok(like);
             }
+            self.pass_silent();
         }
     }
 
@@ -269,6 +325,7 @@ impl Lines {
             if !is_skipped(self.line()) {
                 return Ok(());
             }
+            self.pass_silent();
         }
     }
 

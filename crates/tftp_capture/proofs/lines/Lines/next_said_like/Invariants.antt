@@ -1,6 +1,6 @@
 use Rattle.std.proofs.Common.{◌≡◌, ◌-◌, ◌^◌}
 use Rattle.std.specs.Io.KnownBytes.{prepend_known}
-use Rattle.tftp_capture.proofs.Skips.{Skipped}
+use Rattle.tftp_capture.specs.{Skipped}
 use Rattle.tftp_capture.proofs.lines.Lines.next_said_like.Given as goal
 
 abbrev pub invariant-lines : goal.invariant-lines
