@@ -20,4 +20,4 @@ pub mod CanonicalOptions
 pub mod CanonicalLaws
 pub mod NameLists
 pub mod NameOrder
-pub mod NameTable
+pub mod NameMarks

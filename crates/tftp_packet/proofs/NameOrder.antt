@@ -18,7 +18,7 @@ use Rattle.tftp_packet.proofs.NameLists.{any_of, two_of_common}
 use Rattle.tftp_packet.proofs.Maps.{bytes_eq_yes}
 
 -- ---- the names of options
-any_named : (name : List ℕ) (pairs : List Pair) → AnyOf (λ pair. lower name ≡ lower pair.0) pairs → AnyOf (λ later. lower name ≡ later) (each (λ pair. lower pair.0) pairs)
+pub any_named : (name : List ℕ) (pairs : List Pair) → AnyOf (λ pair. lower name ≡ lower pair.0) pairs → AnyOf (λ later. lower name ≡ later) (each (λ pair. lower pair.0) pairs)
 any_named name [] any = any
 any_named name (pair ∷ pairs) (inl here) = inl here
 any_named name (pair ∷ pairs) (inr later) = inr (any_named name pairs later)

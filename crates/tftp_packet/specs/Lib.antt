@@ -15,7 +15,6 @@ pub mod Owned
 pub mod Canonical
 pub mod Same
 pub mod Names
-pub mod NameTable
 pub mod Rows
 pub use OptionMaps.{Num, OptionMap, OptionValue, Text, is_within, lower, no_options, number_in}
 unfoldable pub use OptionMaps.{is_known_number, is_number, range_of, value_of}
@@ -32,9 +31,8 @@ pub use OptionFaults.{HoldsOptions, OptionFault}
 pub use Owned.{AreInOrder, AreLower, Shown, options_code, parts_code, place, shown, shown_entries, shown_entry, side_code}
 pub use Canonical.{canonical, canonical_pairs, shown_pair, shown_pairs, value_text}
 pub use Same.{HasEach}
-pub use Names.{HasCommon, HasTwo, HasTwoBeside}
-pub use NameTable.{AreMarked, IsFound, IsFree, IsHeld, StandForSome, StandsFirst, keys_of, mixed, string_first}
-unfoldable pub use NameTable.{key_at, mark_of}
+pub use Names.{HasCommon, HasTwo, HasTwoBeside, StandsFirst, as_name, is_of, keys_in, keys_of, mixed, those}
+unfoldable pub use Names.{mark_of}
 pub use declared.fault.PacketFault.{PacketFault}
 pub use declared.fault.PacketFault.TheVariants.{AckLength, DuplicateOption, EmptyOptionName, MailMode, NoTerminator, OddOptions, Opcode, RequestTooLong, Short, UnknownMode}
 pub use declared.kinds.End.{End}

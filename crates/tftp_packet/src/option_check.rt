@@ -3,7 +3,7 @@ ghost use Rattle.tftp_packet.specs.OptionMaps.{lower};
 ghost use Rattle.tftp_packet.specs.Written.{pairs_of};
 ghost use Rattle.tftp_packet.specs.Faults.{AnyOf, HasRepeat};
 
-use crate::name_table::has_repeat_of_many;
+use crate::name_marks::has_repeat_of_many;
 use crate::text::split_pair;
 
 /// Up to so many strings, each option is compared with each later one.
@@ -30,15 +30,15 @@ pub fn has_empty_name(bytes: &[u8]) -> bool
     false
 }
 
-/// Whether two options have one name, letter case ignored, by `strings`, how many strings there are. No memory is taken: more
-/// than 8 options are looked for in a table of 12 KB on the stack, by the hashes of their names.
+/// Whether two options have one name, letter case ignored, by `strings`, how many strings there are. No memory is taken: of
+/// the names of more than 8 options numbers are sorted on the stack.
 pub fn has_repeat(bytes: &[u8], strings: usize) -> bool
     ensures { IsTrue result ↔ HasRepeat (pairs_of bytes.now) }
 {
     if strings <= FEW_STRINGS {
         has_repeat_of_few(bytes)
     } else {
-        has_repeat_of_many(bytes)
+        has_repeat_of_many(bytes, strings / 2)
     }
 }
 
@@ -57,7 +57,7 @@ pub(crate) fn has_repeat_of_few(bytes: &[u8]) -> bool
 }
 
 /// Whether some option has this name, letter case ignored.
-fn has_name(bytes: &[u8], name: &[u8]) -> bool
+pub(crate) fn has_name(bytes: &[u8], name: &[u8]) -> bool
     ensures { IsTrue result ↔ AnyOf (λ pair. lower name.now ≡ lower pair.0) (pairs_of bytes.now) }
 {
     let mut rest = bytes;

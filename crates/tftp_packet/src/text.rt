@@ -3,7 +3,7 @@ ghost use Rattle.tftp_packet.specs.OptionMaps.{lower};
 ghost use Rattle.tftp_packet.specs.Written.{IsString, terminated, pairs_of};
 ghost use Rattle.tftp_packet.specs.Spelling.{mode_name};
 ghost use Rattle.tftp_packet.specs.Faults.{EndsWithZero, ModeFault};
-ghost use Rattle.tftp_packet.specs.NameTable.{StandsFirst};
+ghost use Rattle.tftp_packet.specs.Names.{StandsFirst};
 
 use crate::fault::PacketFault;
 use crate::kinds::Mode;
