@@ -10,10 +10,12 @@
     requests    that of a read of one block whose request comes again and again, with as many options of unknown names
                 as a third word says, in at most 512 bytes
     oacks       the request of a read and again and again the same OACK, of 64 options whose names have 1,020 bytes
-    alike       the same of 1,000 options whose names have 62 bytes, and hashes that lead to slots side by side
-    tiny        the same of 16,000 options whose names have two bytes, of which the first have such hashes
-    respelled   that of a read of one block whose request comes again and again, with 49 options of names whose hashes are
-                alike, and each time in other letters' case
+    alike       the same of 1,000 options whose names have 62 bytes and one number, so that it does not tell them apart
+    tiny        the same of 16,000 options whose names have two bytes, and two options whose names have one number
+    three       the same of 13,000 options whose names have three bytes
+    nine        the same of 5,900 options whose names have nine bytes, of which the first seven are the same
+    respelled   that of a read of one block whose request comes again and again, with 35 options of names of one number,
+                and each time in other letters' case
     once        that of a read of one block, among one datagram from each of 65,534 strays; the least has 1.1 MB
     blank       a capture of one datagram among empty lines
     hosts       a capture of version 2 of a read of one block among datagrams of strays, each from another host, of 45
@@ -173,8 +175,8 @@ def oacks(wanted: int, names: Iterable[bytes], value: bytes = b"") -> None:
 
 
 def respelled(wanted: int) -> None:
-    """A read of one block whose request has names with alike hashes, and comes again and again in other letters' case."""
-    names = crowded.alike(6, 49)
+    """A read of one block whose request has names of one number, and comes again and again in other letters' case."""
+    names = crowded.alike(12, 35)
     options = b"".join(name + bytes(2) for name in names)
     lines = [
         f"out 40000 69 {(REQUEST + spelled(options, at)).hex()}\n".encode() for at in range(4)
@@ -327,7 +329,9 @@ KINDS: dict[str, Callable[..., object]] = {
     "requests": requests,
     "oacks": lambda wanted: oacks(wanted, (b"a" * 1_019 + bytes((128 + at,)) for at in range(64)), b"1"),
     "alike": lambda wanted: oacks(wanted, crowded.alike(62, 1_000)),
-    "tiny": lambda wanted: oacks(wanted, crowded.short(16_000)),
+    "tiny": lambda wanted: oacks(wanted, [*crowded.alike(10, 2), *crowded.short(2, 16_000)]),
+    "three": lambda wanted: oacks(wanted, crowded.short(3, 13_000)),
+    "nine": lambda wanted: oacks(wanted, (b"aaaaaaa" + it for it in crowded.short(2, 5_900))),
     "respelled": respelled,
     "once": once,
     "blank": lambda wanted: comments(b"\n", wanted),

@@ -23,18 +23,21 @@ ROWS = [
     ("netascii, lines that end in CR", ["old"], ["check", "extract", "normal", "count"], 15),
     ("a request of 64 options again and again", ["requests", "64"], ["check", "show"], 15),
     ("a request of 120 options again and again", ["requests", "120"], ["check", "show"], 15),
-    ("49 options with alike hashes, respelled", ["respelled"], ["check", "show"], 15),
+    ("35 options whose names have one number, respelled", ["respelled"], ["check", "show"], 15),
     ("an OACK of 64 long names again and again", ["oacks"], ["show"], 15),
-    ("an OACK of 1,000 names with alike hashes", ["alike"], ["show"], 15),
-    ("an OACK of 16,000 names, some with alike hashes", ["tiny"], ["show"], 15),
+    ("an OACK of 1,000 names of one number", ["alike"], ["show"], 15),
+    ("an OACK of 16,000 names, two of one number", ["tiny"], ["show"], 15),
+    ("an OACK of 13,000 names of three bytes", ["three"], ["show"], 15),
+    ("an OACK of 5,900 names that begin alike", ["nine"], ["show"], 15),
     ("65,534 stray ports, each once", ["once"], ["check"], 15),
     ("a million hosts", ["hosts"], ["check"], 15),
     ("empty lines", ["blank"], ["check", "show"], 15),
+    ("comments of one byte", ["short"], ["check", "show"], 15),
 ]
 # The same of recordings.
 OF_RECORDINGS = [("requests alone, each from another client", ["asks"], ["check"], 15)]
 # So many MB have the texts of some kinds, which take long for each byte.
-SMALL = {"alike": 2, "tiny": 1, "once": 1, "asks": 8}
+SMALL = {"alike": 2, "tiny": 1, "three": 1, "nine": 1, "once": 1, "asks": 8}
 
 
 def made(folder: str, size: int, kind: str, *words: str) -> str:
