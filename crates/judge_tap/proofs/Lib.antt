@@ -11,3 +11,5 @@ mod KeptLawful
 mod StateFound
 mod TapShown
 mod TapVerdictFound
+mod SaidAfter
+mod LossyFound

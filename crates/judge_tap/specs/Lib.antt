@@ -3,12 +3,17 @@ pub mod TapFinds
 pub mod TapKept
 pub mod TapStops
 pub mod TapVerdict
+pub mod Said
+pub mod LossyKept
 pub use TapSeen.{AreMarks, AreNotes, AreSeen, ErrorPassed, IsNew, IsNewBlock, IsStop, IsStoppedBy, Notes, Seen, Stopped, first_stop, has_number, stop_of}
 pub use TapFinds.{FindsRule, IsOtherError, IsOtherRequest, IsReadOf, MessageBreaks, OwnBreaks}
 pub use TapKept.{IsErrorAtTap, IsKeptAtTap, IsReceiving, IsTapJudge, IsTapTransfer, Receiving, TapJudge, TapState, TapTransfer, kept_there}
 pub use TapStops.{BeginsAtTap, FindsAtTap, IsCertainByRule, IsNoRequest, IsReadUnless, IsRecorded, ReceiverBreaks, RefusesAtTap, TransferBreaks, passing_of, smaller_of, error_by_refusal}
 pub use TapVerdict.{IsTapVerdict, NoneShown, said_at_tap, unfinished_by}
+pub use Said.{AreSaidNotes, FindsSaid, IsErrorPut, IsErrorSaid, IsNewlySaid, IsOfferSaid, SaidError, SaidErrors, SaidNotes, ack_broken, error_of}
+pub use LossyKept.{FindsWithLosses, HasBegun, HasKeptWithLosses, IsKeptWithLosses, IsLossyJudge, IsNotCertain, LossyJudge, LossyState, NoneIsSaid, RefusesWithLosses, TakesMemoryWithLosses}
 pub use declared.datagram.TapDatagram.{TapDatagram}
+pub use declared.lossy_refusal.LossyRefusal.{LossyRefusal}
 pub use declared.refusal.TapRefusal.{TapRefusal}
 pub use declared.refusal.TapRefusal.TheVariants.{Aborted, Incomplete, NormalTooLong, Unlawful}
 pub use declared.seen.Marks.{Marks}
