@@ -13,3 +13,4 @@ mod TapShown
 mod TapVerdictFound
 mod SaidAfter
 mod LossyFound
+mod WorkedLossy

@@ -240,10 +240,10 @@ answer_found s earlier d is text says k kept = outside_found s earlier d (ap is_
 -- ---- whether it is certain
 
 -- a request that may come next where nothing was said
-abbrev next : TapSides → TapDatagram
+abbrev pub next : TapSides → TapDatagram
 next s = record { source = s.client; destination = s.asked; payload = request_passes.payload }
 
-request_next : (s : TapSides) → IsSaidBy s Client (Message.Request (request_of two_bytes)) (next s)
+pub request_next : (s : TapSides) → IsSaidBy s Client (Message.Request (request_of two_bytes)) (next s)
 request_next s = record { goes = rw (same_is s.client s.client refl, same_is s.asked s.asked refl) refl; source = refl; spells = request_says }
 
 pub not_certain : (s : TapSides) (earlier : List TapDatagram) (d : TapDatagram) → AreApart s → BreaksNoLossyRule s (d ∷ earlier) → HasBegun s (d ∷ earlier) → IsNotCertain s earlier d

@@ -5,6 +5,7 @@ pub mod TapStops
 pub mod TapVerdict
 pub mod Said
 pub mod LossyKept
+pub mod WorkedLossy
 pub use TapSeen.{AreMarks, AreNotes, AreSeen, ErrorPassed, IsNew, IsNewBlock, IsStop, IsStoppedBy, Notes, Seen, Stopped, first_stop, has_number, stop_of}
 pub use TapFinds.{FindsRule, IsOtherError, IsOtherRequest, IsReadOf, MessageBreaks, OwnBreaks}
 pub use TapKept.{IsErrorAtTap, IsKeptAtTap, IsReceiving, IsTapJudge, IsTapTransfer, Receiving, TapJudge, TapState, TapTransfer, kept_there}
@@ -12,6 +13,7 @@ pub use TapStops.{BeginsAtTap, FindsAtTap, IsCertainByRule, IsNoRequest, IsReadU
 pub use TapVerdict.{IsTapVerdict, NoneShown, said_at_tap, unfinished_by}
 pub use Said.{AreSaidNotes, FindsSaid, IsErrorPut, IsErrorSaid, IsNewlySaid, IsOfferSaid, SaidError, SaidErrors, SaidNotes, ack_broken, error_of}
 pub use LossyKept.{FindsWithLosses, HasBegun, HasKeptWithLosses, IsKeptWithLosses, IsLossyJudge, IsNotCertain, LossyJudge, LossyState, NoneIsSaid, RefusesWithLosses, TakesMemoryWithLosses}
+pub use WorkedLossy.{long_blocks, lowered_request}
 pub use declared.datagram.TapDatagram.{TapDatagram}
 pub use declared.lossy_refusal.LossyRefusal.{LossyRefusal}
 pub use declared.refusal.TapRefusal.{TapRefusal}

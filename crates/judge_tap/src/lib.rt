@@ -18,6 +18,7 @@ mod said_errors;
 mod said_notes;
 mod seen;
 mod transfer;
+pub mod worked_losses;
 
 pub use datagram::TapDatagram;
 pub use judging::TapJudge;
