@@ -1,10 +1,12 @@
 //! Laws of the definitions in `specs/`. Each is the contract of a function that does nothing.
 
-ghost use Rattle.std.specs.Prelude.{◌↔◌, ℕ, List, reverse};
+ghost use Rattle.std.specs.Prelude.{◌↔◌, ℕ, List, ◌∷◌, reverse};
 ghost use Rattle.tftp_packet.specs.{RequestParts};
 ghost use Rattle.law_model.specs.Model.{Meaning};
-ghost use Rattle.law_end.specs.{ShowsBy, OneEnded};
-ghost use Rattle.law_tap.specs.{TapDatagram, TapSides, AreApart, ShowsBetween, transfer_between, BreaksNoTapRule, FirstTapAsked, header_at, kept_between};
+ghost use Rattle.law_end.specs.{Rule, ShowsBy, OneEnded};
+ghost use Rattle.law_tap.specs.{TapDatagram, TapSides, AreApart, IsLawfulBetweenWithLosses, ShowsBetween, transfer_between, BreaksNoTapRule, FirstTapAsked, header_at, kept_between};
+ghost use Rattle.judge_tap.specs.LossyKept.{RefusesWithLosses};
+ghost use Rattle.judge_tap.specs.declared.lossy_refusal.LossyRefusal.{LossyRefusal};
 
 /// What the end that gets the file would keep of a lawful capture between the ends breaks no rule there. So what it would keep
 /// and does refuse, no point between the ends could have seen.
@@ -19,4 +21,12 @@ pub fn what_is_shown_is_shown_there()
     ensures { (s : TapSides) (tapped : List TapDatagram) (asked : RequestParts) → AreApart s → BreaksNoTapRule s tapped
         → FirstTapAsked s (transfer_between s tapped) asked → (m : Meaning) (wire : List ℕ)
         → ShowsBetween s m wire tapped ↔ ShowsBy (header_at s asked.side) m wire (reverse (kept_between s asked.side (transfer_between s tapped))) }
+{}
+
+/// Nobody is refused with losses for what some lawful list has, and so nobody for what breaks no rule between the ends.
+pub fn what_is_lawful_is_not_refused_with_losses()
+    ensures lossy { (s : TapSides) (earlier : List TapDatagram) (d : TapDatagram) → IsLawfulBetweenWithLosses s (d ∷ earlier)
+        → (index : ℕ) (broken : Rule) → RefusesWithLosses s earlier d (LossyRefusal.Certain index broken) → ⊥ }
+    ensures accepted { (s : TapSides) (earlier : List TapDatagram) (d : TapDatagram) → AreApart s → BreaksNoTapRule s (d ∷ earlier)
+        → (index : ℕ) (broken : Rule) → RefusesWithLosses s earlier d (LossyRefusal.Certain index broken) → ⊥ }
 {}
