@@ -1,0 +1,4 @@
+pub mod Rounds
+pub mod Positions
+pub mod Readings
+pub mod Timely

@@ -1,0 +1,8 @@
+use Rattle.law_rollover.proofs.laws.half_a_round_is_near.Goals as goal
+use Rattle.law_rollover.proofs.Positions.{around_is_near, low_is_near}
+
+pub returns-clause-around : goal.returns-clause-around
+returns-clause-around c r high k old new = around_is_near r high k old new
+
+pub returns-clause-low : goal.returns-clause-low
+returns-clause-low c r high k timely low = low_is_near r high k low timely
