@@ -36,7 +36,7 @@ def mixed(name: bytes) -> int:
 def alike(size: int, count: int) -> Iterator[bytes]:
     """So many names of that even number of bytes, at least ten, which have one number."""
     front, found = b"a" * (size - SIZE), 0
-    turns = sorted(itertools.product(range(-4, 5), repeat=len(STEPS)), key=lambda turn: sum(map(abs, turn)))
+    turns = sorted(itertools.product(range(-4, 5), repeat=len(STEPS)), key=lambda turn: sum(abs(it) for it in turn))
     for turn in turns:
         pairs = [MIDDLE + sum(times * step[at] for times, step in zip(turn, STEPS)) for at in range(SIZE // 2)]
         if found == count or min(pairs) < 0 or max(pairs) > 0xFFFF:
