@@ -6,7 +6,7 @@ use Rattle.audit_views.specs.Views.{AreHeld, IsFed, IsGoingOn, IsServerAfter, Is
 use Rattle.audit_views.specs.declared.views.held.Held.{Held}
 use Rattle.audit_views.proofs.ViewsLemmas.Holding.{held_newest, held_short, own_alone}
 use Rattle.audit_views.proofs.views.server_view.ServerView.wait.Goals as goal
-use Rattle.audit_views.proofs.views.server_view.ServerView.wait.Goals.{in-Some-1, in-None-3}
+use Rattle.audit_views.proofs.views.server_view.ServerView.wait.Goals.{in-Some-1, in-None-1}
 
 pub judge_of-requires-clause-short : goal.judge_of-requires-clause-short
 judge_of-requires-clause-short g c =
@@ -64,5 +64,5 @@ returns-then-is_settled-clause-after g c name p older after fed about =
     } in
     elim c.match-self.branch [
       | in-Some-1 w' ↦ subst (λ (v : View). IsViewAfter v name (p ∷ older)) (sym w'.self-is) goes
-      | in-None-3 w' ↦ subst (λ (v : View). IsViewAfter v name (p ∷ older)) (sym w'.self-is) goes
+      | in-None-1 w' ↦ subst (λ (v : View). IsViewAfter v name (p ∷ older)) (sym w'.self-is) goes
     ]
