@@ -8,7 +8,7 @@ use Rattle.audit_recording.specs.Between.{between_capture, AreHeld, Between, Bet
 use Rattle.audit_recording.proofs.BetweenLemmas.Holding.{held_newest, is_waiting}
 use Rattle.audit_views.proofs.ViewsLemmas.Holding.{held_short}
 use Rattle.audit_recording.proofs.between.between_view.BetweenView.wait.Goals as goal
-use Rattle.audit_recording.proofs.between.between_view.BetweenView.wait.Goals.{in-Some+in-Some-self-2+in-Some-self-3+in-Some-self-10, in-Some+in-Some-self-2+in-Some-self-3+in-None-1, in-Some+in-Some-self-2+in-None-1, in-Some+in-None-1, in-None-4}
+use Rattle.audit_recording.proofs.between.between_view.BetweenView.wait.Goals.{in-Some+in-Some-self-2, in-Some+in-None-1, in-None-1}
 
 pub judge_of-requires-clause-short : goal.judge_of-requires-clause-short
 judge_of-requires-clause-short g c =
@@ -65,9 +65,7 @@ returns-then-is_settled-clause-after g c p older after fed is =
       passed = c.judge_of.ensures.passed (between_capture v.transfer (p ∷ older)) held;
     } in
     elim c.match-self.branch [
-      | in-Some+in-Some-self-2+in-Some-self-3+in-Some-self-10 w' ↦ subst (λ (v : View). IsBetweenAfter v (p ∷ older)) (sym w'.self-is) goes
-      | in-Some+in-Some-self-2+in-Some-self-3+in-None-1 w' ↦ subst (λ (v : View). IsBetweenAfter v (p ∷ older)) (sym w'.self-is) goes
-      | in-Some+in-Some-self-2+in-None-1 w' ↦ subst (λ (v : View). IsBetweenAfter v (p ∷ older)) (sym w'.self-is) goes
+      | in-Some+in-Some-self-2 w' ↦ subst (λ (v : View). IsBetweenAfter v (p ∷ older)) (sym w'.self-is) goes
       | in-Some+in-None-1 w' ↦ subst (λ (v : View). IsBetweenAfter v (p ∷ older)) (sym w'.self-is) goes
-      | in-None-4 w' ↦ subst (λ (v : View). IsBetweenAfter v (p ∷ older)) (sym w'.self-is) goes
+      | in-None-1 w' ↦ subst (λ (v : View). IsBetweenAfter v (p ∷ older)) (sym w'.self-is) goes
     ]
