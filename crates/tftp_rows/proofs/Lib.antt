@@ -1,0 +1,3 @@
+pub mod VerdictLines
+pub mod FoundLines
+pub mod TimesLemmas

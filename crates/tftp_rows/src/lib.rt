@@ -1,0 +1,23 @@
+//! The rows that `tftp-transfers check` prints, as exact text: what each part says, and of what it is.
+#![tactic(auto)]
+
+mod cells;
+mod conclusion;
+mod endpoint;
+mod laws;
+mod objects;
+mod plain;
+mod reason;
+mod row;
+mod times;
+mod verdict;
+
+pub use cells::{pad, put_cell, put_number_cell};
+pub use conclusion::{Conclusion, concluded, role_name};
+pub use endpoint::{shown, shown_host};
+pub use objects::{AccusedObject, EndedObject, RowObject, SilenceObject, TimesObject};
+pub use plain::{put_number, put_plain};
+pub use reason::ReasonWords;
+pub use row::{VerdictRow, place_name, put_head};
+pub use times::{Repeated, Times, times_told};
+pub use verdict::{has_same_words, verdict_words};
