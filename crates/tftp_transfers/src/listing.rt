@@ -1,10 +1,7 @@
 //! The transfers of a recording, a line each.
 
-use crate::cells::{put_cell, put_number_cell};
 use crate::checking::tell_session;
-use crate::conclusions::Conclusion;
 use crate::teller::{Teller, What};
-use crate::times::Times;
 use anyhow::Result;
 use audit_recording::blame::{Trail, Undelivered};
 use audit_recording::judges::Judging;
@@ -12,10 +9,11 @@ use audit_recording::session::{Kept, Session, Wanted, put_number, put_plain, sho
 use serde::Serialize;
 use std::alloc::{AllocError, Global};
 use tftp_packet::{End, Mode, OptionsView, Packet, RequestView, Side, read_packet};
+use tftp_rows::{Conclusion, EndedObject, Times, TimesObject, put_cell, put_number_cell};
 use tftp_words::ListRequest;
 
 /// A row of the list.
-#[derive(Drop, Serialize)]
+#[derive(Drop)]
 pub struct ListRow {
     number: u64,
     client: String,
@@ -29,6 +27,23 @@ pub struct ListRow {
     last_frame: u64,
     ended: Conclusion,
     times: Times,
+}
+
+/// The object of such a row that is printed as JSON, its fields in this order.
+#[derive(Drop, Serialize)]
+pub struct ListObject<'a> {
+    number: u64,
+    client: &'a str,
+    server: &'a str,
+    kind: &'static str,
+    mode: &'static str,
+    file: &'a str,
+    options: &'a str,
+    datagrams: u64,
+    first_frame: u64,
+    last_frame: u64,
+    ended: EndedObject,
+    times: TimesObject,
 }
 
 /// Lists the transfers of a recording.
@@ -73,6 +88,24 @@ impl ListRow {
             times: Times::of(trail, None),
         })
     }
+
+    /// Its object.
+    pub fn object(&self, alloc: Global) -> Result<ListObject<'_>, AllocError> {
+        Ok(ListObject {
+            number: self.number,
+            client: self.client.as_str(),
+            server: self.server.as_str(),
+            kind: self.kind,
+            mode: self.mode,
+            file: self.file.as_str(),
+            options: self.options.as_str(),
+            datagrams: self.datagrams,
+            first_frame: self.first_frame,
+            last_frame: self.last_frame,
+            ended: self.ended.object(alloc)?,
+            times: self.times.object(),
+        })
+    }
 }
 
 /// That the server was not reached at last. A client that is not is mostly one that has the whole file, and is gone.
@@ -97,7 +130,7 @@ pub fn put_list_head(line: &mut String) -> Result<(), AllocError> {
 }
 
 /// Puts the row of a transfer under them.
-pub fn put_list_row(line: &mut String, row: &ListRow) -> Result<(), AllocError> {
+pub fn put_list_row(alloc: Global, line: &mut String, row: &ListRow) -> Result<(), AllocError> {
     put_number_cell(line, row.number, 6)?;
     put_cell(line, row.client.as_str(), 21)?;
     put_cell(line, row.server.as_str(), 21)?;
@@ -109,7 +142,7 @@ pub fn put_list_row(line: &mut String, row: &ListRow) -> Result<(), AllocError> 
     put_number(line, row.first_frame)?;
     line.push('-')?;
     put_number(line, row.last_frame)?;
-    row.ended.put_fault(line)?;
+    row.ended.put_fault(alloc, line)?;
     row.times.put(line)
 }
 

@@ -1,16 +1,12 @@
 //! From a recording to its TFTP transfers, their capture texts and their verdicts.
 #![tactic(auto)]
 
-mod cells;
 mod checking;
-mod conclusions;
 mod listing;
 mod reading;
 mod reasoned;
 mod teller;
 mod texts;
-mod times;
-mod verdicts;
 
 use crate::checking::check;
 use crate::listing::list;

@@ -1,20 +1,16 @@
 //! Transfers are told, a row each.
 
-use crate::cells::{pad, put_cell, put_number_cell};
-use crate::conclusions::Conclusion;
 use crate::listing::{ListRow, put_list_head, put_list_row};
-use crate::times::Times;
-use crate::verdicts::{conclusion, has_same_words, line_of, times, word_of};
 use anyhow::Result;
-use audit_recording::blame::{Missing, Reason};
+use audit_recording::blame::Missing;
 use audit_recording::progress::read_until;
-use audit_recording::rows::{Accused, Row};
-use audit_recording::session::{Ended, Session, put_number, put_plain, shown_host};
-use audit_rows::{Charge, Judged, Told};
+use audit_recording::rows::Row;
+use audit_recording::session::{Ended, Session};
+use audit_rows::{Judged, Told};
 use serde::Serialize;
 use std::alloc::{AllocError, Global};
 use std::mem;
-use tftp_packet::End;
+use tftp_rows::{VerdictRow, has_same_words, put_head};
 
 /// What is told of each transfer.
 #[derive(Clone, Copy)]
@@ -23,38 +19,6 @@ pub enum What {
     List,
     /// The verdict on it.
     Check,
-}
-
-/// A row of verdicts.
-#[derive(Drop, Serialize)]
-struct VerdictRow<'a> {
-    file: &'a str,
-    number: u64,
-    place: &'static str,
-    /// That of the datagram that is refused; none where none is.
-    frame: Option<u64>,
-    verdict: String,
-    accused: Option<AccusedEnd>,
-    doubts: Vec<String>,
-    ended: Conclusion,
-    /// Of what is refused between the ends, whether that stands whatever datagrams of the transfer were missed.
-    stands: Option<bool>,
-    times: Times,
-}
-
-/// A row that is not told yet, and why it is doubtful as far as that is known.
-#[derive(Drop)]
-struct HeldRow<'a> {
-    row: VerdictRow<'a>,
-    charge: Charge,
-}
-
-/// The end that a refusal accuses.
-#[derive(Drop, Serialize)]
-struct AccusedEnd {
-    role: &'static str,
-    host: String,
-    port: u16,
 }
 
 /// Tells transfers, each as soon as nothing that comes later changes what is told of it.
@@ -73,7 +37,7 @@ pub struct Teller<'a> {
     has_none: bool,
     is_headed: bool,
     /// From the first refusal on, while the recorder may still tell that it lost packets.
-    held: Vec<HeldRow<'a>>,
+    held: Vec<VerdictRow<'a>>,
     may_lose: bool,
     /// How many packets the recorder lost.
     dropped: u64,
@@ -121,8 +85,8 @@ impl<'a> Teller<'a> {
         self.may_lose = false;
         self.dropped = session.notes.dropped;
         let held = mem::replace(&mut self.held, Vec::new(rt.alloc()));
-        for HeldRow { row, charge } in held {
-            self.tell_row(rt, row, charge)?;
+        for row in held {
+            self.tell_row(rt, row)?;
         }
         Ok(())
     }
@@ -187,21 +151,26 @@ impl<'a> Teller<'a> {
     /// Tells what a transfer's request asks for.
     fn tell_listed(&mut self, rt: HostRuntime, row: &ListRow) -> Result<()> {
         if self.is_json {
-            return print_json(rt, row);
+            return print_json(rt, &row.object(rt.alloc())?);
         }
         let mut line = String::new(rt.alloc());
-        let put = self.put_listed(&mut line, row);
+        let put = self.put_listed(rt.alloc(), &mut line, row);
         put?;
         println!(rt; "{line}")?;
         Ok(())
     }
 
-    fn put_listed(&mut self, line: &mut String, row: &ListRow) -> Result<(), AllocError> {
+    fn put_listed(
+        &mut self,
+        alloc: Global,
+        line: &mut String,
+        row: &ListRow,
+    ) -> Result<(), AllocError> {
         if !self.is_headed {
             put_list_head(line)?;
             self.is_headed = true;
         }
-        put_list_row(line, row)
+        put_list_row(alloc, line, row)
     }
 
     /// Tells the verdicts on a transfer.
@@ -223,134 +192,44 @@ impl<'a> Teller<'a> {
     }
 
     fn tell_one(&mut self, rt: HostRuntime, judged: &Judged, told: &Told<'_>) -> Result<()> {
-        let charge = judged.charge(rt.alloc(), told)?;
-        let row = self.row_of(rt.alloc(), judged, told)?;
+        let row = VerdictRow::of(rt.alloc(), self.file, self.told, judged, told)?;
         self.status = self.status.max(told.view.status());
         let is_next = self.held.is_empty() && row.frame.is_none();
         if self.may_lose && !is_next {
-            self.held.push(HeldRow { row, charge })?;
+            self.held.push(row)?;
             return Ok(());
         }
-        self.tell_row(rt, row, charge)
-    }
-
-    fn row_of(
-        &self,
-        alloc: Global,
-        judged: &Judged,
-        told: &Told<'_>,
-    ) -> Result<VerdictRow<'a>, AllocError> {
-        Ok(VerdictRow {
-            file: self.file,
-            number: self.told,
-            place: word_of(told.place),
-            frame: told.view.frame(),
-            verdict: line_of(alloc, &told.view.found)?,
-            accused: None,
-            doubts: Vec::new(alloc),
-            ended: conclusion(alloc, judged, told)?,
-            stands: told.view.found.stands(),
-            times: times(judged, told),
-        })
+        self.tell_row(rt, row)
     }
 
     /// Tells a row. A refusal is doubtful where the recorder lost packets.
-    fn tell_row(&mut self, rt: HostRuntime, mut row: VerdictRow<'a>, charge: Charge) -> Result<()> {
-        let charge = charge.with_dropped(self.dropped)?;
-        row.accused = AccusedEnd::of(rt.alloc(), charge.accused)?;
-        row.doubts = written(rt.alloc(), charge.reasons.as_slice())?;
+    fn tell_row(&mut self, rt: HostRuntime, row: VerdictRow<'a>) -> Result<()> {
+        let row = row.with_dropped(self.dropped)?;
         if self.is_json {
-            return print_json(rt, &row);
+            return print_json(rt, &row.object(rt.alloc())?);
         }
         let mut line = String::new(rt.alloc());
-        let put = self.put_row(&mut line, &row);
+        let put = self.put_row(rt.alloc(), &mut line, &row);
         put?;
         println!(rt; "{line}")?;
         Ok(())
     }
 
-    fn put_row(&mut self, line: &mut String, row: &VerdictRow<'_>) -> Result<(), AllocError> {
+    fn put_row(
+        &mut self,
+        alloc: Global,
+        line: &mut String,
+        row: &VerdictRow<'_>,
+    ) -> Result<(), AllocError> {
         if !self.is_headed {
-            put_cell(line, "file", self.width)?;
-            line.push_str("number  place    frame     accused                 verdict\n")?;
+            put_head(line, self.width)?;
             self.is_headed = true;
         }
-        let start = line.len();
-        put_plain(line, row.file.as_bytes())?;
-        pad(line, line.len().saturating_sub(start), self.width)?;
-        put_number_cell(line, row.number, 6)?;
-        put_cell(line, row.place, 7)?;
-        match row.frame {
-            Some(frame) => put_number_cell(line, frame, 8)?,
-            None => put_cell(line, "-", 8)?,
-        }
-        put_accused(line, row)?;
-        put_verdict(line, row)
-    }
-}
-
-impl AccusedEnd {
-    /// The end that is accused, if one is.
-    fn of(alloc: Global, accused: Option<Accused>) -> Result<Option<Self>, AllocError> {
-        let Some(Accused { role, end }) = accused else {
-            return Ok(None);
-        };
-        Ok(Some(AccusedEnd {
-            role: match role {
-                End::Client => "client",
-                End::Server => "server",
-            },
-            host: shown_host(alloc, end.address)?,
-            port: end.port,
-        }))
-    }
-
-    /// Puts the role and the endpoint, an IPv6 address in brackets (RFC 3986, section 3.2.2).
-    fn put(&self, line: &mut String) -> Result<(), AllocError> {
-        let is_ipv6 = self.host.as_str().contains(':');
-        line.push_str(self.role)?;
-        line.push_str(if is_ipv6 { " [" } else { " " })?;
-        line.push_str(self.host.as_str())?;
-        line.push_str(if is_ipv6 { "]:" } else { ":" })?;
-        put_number(line, u64::from(self.port))
+        row.put(alloc, line, self.width)
     }
 }
 
 fn let_go(_ended: Ended) {}
-
-/// What each reason says.
-fn written(alloc: Global, reasons: &[Reason]) -> Result<Vec<String>, AllocError> {
-    let mut words = Vec::new(alloc);
-    for reason in reasons {
-        words.push(format!(in alloc; "{reason}")?)?;
-    }
-    Ok(words)
-}
-
-/// Puts who is accused as a cell.
-fn put_accused(line: &mut String, row: &VerdictRow<'_>) -> Result<(), AllocError> {
-    let start = line.len();
-    match &row.accused {
-        Some(accused) => accused.put(line)?,
-        None => line.push('-')?,
-    }
-    pad(line, line.len().saturating_sub(start), 22)
-}
-
-/// Puts the verdict, where it is doubtful why, how the transfer ended that is not accepted, and how slow it was.
-fn put_verdict(line: &mut String, row: &VerdictRow<'_>) -> Result<(), AllocError> {
-    if !row.doubts.is_empty() {
-        line.push_str("doubtful ")?;
-    }
-    row.ended.put_before(line)?;
-    line.push_str(row.verdict.as_str())?;
-    for (place, why) in row.doubts.iter().enumerate() {
-        line.push_str(if place == 0 { ": " } else { "; " })?;
-        line.push_str(why.as_str())?;
-    }
-    row.ended.put(line)?;
-    row.times.put(line)
-}
 
 /// Prints a row as a JSON object (RFC 8259), in a line.
 fn print_json<T: Serialize>(rt: HostRuntime, row: &T) -> Result<()> {
