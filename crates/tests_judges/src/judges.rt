@@ -5,4 +5,6 @@ mod cases;
 #[cfg(test)]
 mod judges;
 #[cfg(test)]
+mod lossy;
+#[cfg(test)]
 mod verdicts;
