@@ -12,9 +12,8 @@ from normal import Output, meaning_of, outputs_of_refused
 from programs import AUDIT
 from refusals import Rule, refusal
 
-# The stack that the program is run in, that for more options than a thousand in a packet, whose names are sorted there,
-# and the steps in which its memory is raised, in bytes.
-STACK, MORE_STACK, STEP = 100 * 1024, 256 * 1024, 16 * 1024
+# The stack that the program is run in, and the steps in which its memory is raised, in bytes.
+STACK, STEP = 100 * 1024, 16 * 1024
 # A file for which room is asked for ahead, sixteen times of it, and beside what the empty program has so much memory
 # that it is granted for what is needed alone.
 LONG, SCARCE = 2_000_000, 6 * 1024 * 1024
@@ -82,17 +81,17 @@ def outputs(capture: Capture, line: str, file: bytes) -> dict[str, Output]:
     return {**by_command, "show": (b"".join(capture.rows), 0)}
 
 
-def cases() -> Iterator[tuple[str, bytes, dict[str, Output], int]]:
-    """A name, a text, what each command prints of it, and in how much stack."""
+def cases() -> Iterator[tuple[str, bytes, dict[str, Output]]]:
+    """A name, a text and what each command prints of it."""
     told = [
-        ("windows", windowed(), "accepted get octet blocks 6 bytes 40", b"0123456789" * 4, STACK),
-        ("65 options", read_of_two_bytes(65), "accepted get octet blocks 1 bytes 2", b"hi", STACK),
-        ("120 options", read_of_two_bytes(120), "accepted get octet blocks 1 bytes 2", b"hi", STACK),
-        ("1,000 options", unasked(1_000), refusal(2, Rule.OPTION_NOT_REQUESTED), b"", STACK),
-        ("10,000 options", unasked(10_000), refusal(2, Rule.OPTION_NOT_REQUESTED), b"", MORE_STACK),
+        ("windows", windowed(), "accepted get octet blocks 6 bytes 40", b"0123456789" * 4),
+        ("65 options", read_of_two_bytes(65), "accepted get octet blocks 1 bytes 2", b"hi"),
+        ("120 options", read_of_two_bytes(120), "accepted get octet blocks 1 bytes 2", b"hi"),
+        ("1,000 options", unasked(1_000), refusal(2, Rule.OPTION_NOT_REQUESTED), b""),
+        ("10,000 options", unasked(10_000), refusal(2, Rule.OPTION_NOT_REQUESTED), b""),
     ]
-    for name, capture, line, file, stack in told:
-        yield name, capture.text(), outputs(capture, line, file), stack
+    for name, capture, line, file in told:
+        yield name, capture.text(), outputs(capture, line, file)
 
 
 class Limits(Checks):
@@ -105,8 +104,8 @@ class Limits(Checks):
         self.begin = self.least()
 
     def test_commands(self) -> None:
-        for name, text, by_command, stack in cases():
-            self.try_case(name, text, by_command, stack)
+        for name, text, by_command in cases():
+            self.try_case(name, text, by_command)
 
     def call(self, words: list[str], given: bytes, limit: int, size: int) -> tuple[bytes, int, bytes]:
         """What the program writes, its status (negative where a signal ended it), and what it writes of errors."""
@@ -153,8 +152,8 @@ class Limits(Checks):
         line = b"accepted get octet blocks 245 bytes 2000000\n"
         self.check("check, a long file where memory is scarce", got == (line, 0, b""), got[1:] + (got[0][-80:],))
 
-    def try_case(self, name: str, text: bytes, by_command: dict[str, Output], stack: int) -> None:
+    def try_case(self, name: str, text: bytes, by_command: dict[str, Output]) -> None:
         for command in COMMANDS:
-            got = self.call([command], text, resource.RLIMIT_STACK, stack)
+            got = self.call([command], text, resource.RLIMIT_STACK, STACK)
             self.check(f"{command}, {name}, little stack", got == (*by_command[command], b""), got[1:])
             self.little_memory(name, command, text, by_command[command])

@@ -18,8 +18,8 @@ const FEW: usize = 64;
 /// So many have few.
 const MANY: usize = 1_024;
 
-/// More have no room in a UDP datagram: each has three bytes at least.
-const MOST: usize = 21_842;
+/// The numbers of so many names have room on a stack of 100 KB.
+const MOST: usize = 6_144;
 
 /// Names of so many bytes or more are long. No two shorter ones have one number.
 const LONG: usize = 7;
@@ -68,7 +68,7 @@ fn repeated_among_many(bytes: &[u8], long: bool) -> Option<u64>
     repeated_among(bytes, &mut [0; MANY], long)
 }
 
-/// The same in room for each UDP datagram.
+/// The same in more room yet.
 #[inline(never)]
 fn repeated_among_most(bytes: &[u8], long: bool) -> Option<u64>
     ensures { IfNone result (HasTwo (keys_in long bytes.now) → ⊥) }

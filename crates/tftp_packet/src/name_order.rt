@@ -17,8 +17,8 @@ const FEW: usize = 64;
 /// So many have few.
 const MANY: usize = 1_024;
 
-/// A UDP datagram has room for so many long names.
-const MOST: usize = 7_281;
+/// So many names have room on a stack of 100 KB.
+const MOST: usize = 3_072;
 
 /// Whether two long names are equal, or two of the others, letter case ignored, where there are so many options. Takes no
 /// memory: as many names are sorted as have room on the stack, and those after them are looked for among them.
@@ -42,7 +42,7 @@ fn has_repeat_among_many(bytes: &[u8], long: bool) -> bool
     has_repeat_among(bytes, long, &mut [b"".as_slice(); MANY])
 }
 
-/// The same in room for the long names of each UDP datagram.
+/// The same in more room yet.
 #[inline(never)]
 fn has_repeat_among_most(bytes: &[u8], long: bool) -> bool
     ensures { IsTrue result ↔ HasTwo (keys_in long bytes.now) }
