@@ -10,6 +10,7 @@ ghost use Rattle.audit_recording.specs.Blame.Facts.{blamed_as, blamed_of, refuse
 ghost use Rattle.audit_recording.specs.Blame.Frames.{Carried, Framed, framed, framed_after, view_of, whole_of};
 ghost use Rattle.audit_recording.specs.Blame.Kept.{IsNoted, IsPassing, IsSameBut, IsTrailBetween, IsTrailOf, is_about_it, sent_of};
 ghost use Rattle.audit_recording.specs.Reasons.Twice.{IsTwiceAfter, Sent, are_twice, sent};
+ghost use Rattle.audit_recording.specs.Endings.Undelivered.{undelivered_of};
 ghost use Rattle.audit_recording.specs.Endings.Pace.{IsPaceIn};
 ghost use Rattle.audit_recording.specs.Endings.Told.{IsEnding, last_of};
 ghost use Rattle.audit_recording.specs.Judges.Kept.{IsWatching};
@@ -270,7 +271,9 @@ impl Trail {
     }
 
     /// The end that a datagram of the other one did not reach, after which none of the two sent another, and what tells it.
-    pub fn undelivered(&self) -> Option<(End, Undelivered)> {
+    pub fn undelivered(&self) -> Option<(End, Undelivered)>
+        ensures { result ≡ undelivered_of self.now }
+    {
         let undelivered = self.undelivered?;
         match self.closing.last {
             Some(word) if word.frame > undelivered.frame => None,
