@@ -6,6 +6,7 @@ use Rattle.audit_flows.specs.{Transfer}
 use Rattle.audit_recording.specs.Blame.Frames.{Carried, whole_of}
 use Rattle.audit_recording.specs.Endings.Pace.{other_end}
 use Rattle.audit_recording.specs.Endings.Told.{IsEnding, sent_of}
+use Rattle.audit_recording.specs.Endings.Undelivered.{undelivered_of}
 use Rattle.audit_recording.specs.declared.blame.blame.Blamed.{Blamed}
 use Rattle.audit_recording.specs.declared.blame.closing.Word.{Word}
 use Rattle.audit_recording.specs.declared.blame.ending.Ending.{Ending}
@@ -41,5 +42,5 @@ is_before x whole _ blamed = false
 -- It tells how this transfer ended, by the row that this is; and what ICMP told of its last datagram, if it told anything.
 abbrev pub IsConclusionOf : Conclusion → Judged → Told → Transfer → List ℕ → List Carried → Type 0
 IsConclusionOf c j t x named carried =
-    (e : Ending) × (undelivered : Option (End × Undelivered)) × IsEnding x named carried (is_whole t.view.now.found) j.until e
-    × Concludes e (stops_early t.view.now.found) (is_before x (whole_of named carried) e t.view.now.blamed) undelivered c
+    (e : Ending) × IsEnding x named carried (is_whole t.view.now.found) j.until e
+    × Concludes e (stops_early t.view.now.found) (is_before x (whole_of named carried) e t.view.now.blamed) (undelivered_of j.trail) c
