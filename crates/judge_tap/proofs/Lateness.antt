@@ -38,7 +38,7 @@ module _ (s : TapSides) (side : Side) (passed : List TapDatagram) where
 -- ---- an ACK, by what had passed before the receiver's ERROR
 
 module _ (s : TapSides) (side : Side) (passed : List TapDatagram) (marks : Marks) (are : AreMarks marks (before_error (tap_tests s) (receiver_of side) passed)) (j : ℕ) where
-  pub ahead_found : j ≤ 65535 → marks.front < j → FindsRule (LateBreaks s side passed (Message.Ack j)) (Some (rule.Block EndRule.AckAhead))
+  pub ahead_found : j ≤ 4294967295 → marks.front < j → FindsRule (LateBreaks s side passed (Message.Ack j)) (Some (rule.Block EndRule.AckAhead))
   ahead_found fits high = (
     (marks.front + 1, omega arith, omega (arith, high), are.next (omega (arith, fits, high))),
     λ other low b. elim (late_ack s side passed j other b) [ inl same ↦ omega (arith, subst (λ x. number_of x < 26) same.0 low) | inr same ↦ omega (arith, subst (λ x. number_of x < 26) same.0 low) ],

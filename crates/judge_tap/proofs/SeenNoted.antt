@@ -29,7 +29,7 @@ module _ (passed : List TapDatagram) (d : TapDatagram) (m : Message) (says : Spe
       below = λ k low high. kind_before (IsBlock k) passed d m says (are.marks.below k low (subst (λ n. k ≤ n) front high));
       next = λ low has. elim (kind_cases (IsBlock (marks.front + 1)) passed d m says has) [
         | inl now ↦ none (marks.front + 1) now
-        | inr before ↦ are.marks.next (subst (λ n. n < 65535) front low) (subst (λ n. HasKind (IsBlock (n + 1)) passed) front before)
+        | inr before ↦ are.marks.next (subst (λ n. n < 4294967295) front low) (subst (λ n. HasKind (IsBlock (n + 1)) passed) front before)
       ];
       block = flagged IsSomeBlock old.marks.block marks.block block are.marks.block;
       oack = flagged IsOack old.marks.oack marks.oack oack are.marks.oack;
@@ -68,10 +68,10 @@ module _ (passed : List TapDatagram) (d : TapDatagram) (number : ℕ) (bytes : L
   cases k has = kind_cases (IsBlock k) passed d (Message.Data number bytes) says has
 
   marks_with : (front : ℕ) (marks : Marks) → marks.front ≡ front → marks.block ≡ true → marks.oack ≡ old.marks.oack → marks.reply ≡ old.marks.reply
-      → ((k : ℕ) → 1 ≤ k → k ≤ front → HasKind (IsBlock k) (d ∷ passed)) → (front < 65535 → HasKind (IsBlock (front + 1)) (d ∷ passed) → ⊥) → AreMarks marks (d ∷ passed)
+      → ((k : ℕ) → 1 ≤ k → k ≤ front → HasKind (IsBlock k) (d ∷ passed)) → (front < 4294967295 → HasKind (IsBlock (front + 1)) (d ∷ passed) → ⊥) → AreMarks marks (d ∷ passed)
   marks_with front marks is block oack reply below next = record {
     below = λ k low high. below k low (subst (λ n. k ≤ n) is high);
-    next = λ low has. next (subst (λ n. n < 65535) is low) (subst (λ n. HasKind (IsBlock (n + 1)) (d ∷ passed)) is has);
+    next = λ low has. next (subst (λ n. n < 4294967295) is low) (subst (λ n. HasKind (IsBlock (n + 1)) (d ∷ passed)) is has);
     block = (λ _. kind_now IsSomeBlock passed d (Message.Data number bytes) says tt, λ _. block);
     oack = flagged passed d (Message.Data number bytes) says IsOack old.marks.oack marks.oack (λ on. inr (sym oack ∙ on), λ on. elim on [ inl never ↦ absurd never | inr was ↦ oack ∙ was ]) are.marks.oack;
     reply = flagged passed d (Message.Data number bytes) says IsReply old.marks.reply marks.reply (λ on. inr (sym reply ∙ on), λ on. elim on [ inl never ↦ absurd never | inr was ↦ reply ∙ was ]) are.marks.reply;
@@ -92,7 +92,7 @@ module _ (passed : List TapDatagram) (d : TapDatagram) (number : ℕ) (bytes : L
 
   -- the next one
   pub block_next : (front : ℕ) (marks : Marks) → marks.front ≡ front → marks.block ≡ true → marks.oack ≡ old.marks.oack → marks.reply ≡ old.marks.reply → number ≡ old.marks.front + 1 → number ≤ front
-      → ((k : ℕ) → number < k → k ≤ front → has_number k old.above ≡ true) → (front < 65535 → has_number (front + 1) old.above ≡ false)
+      → ((k : ℕ) → number < k → k ≤ front → has_number k old.above ≡ true) → (front < 4294967295 → has_number (front + 1) old.above ≡ false)
       → AreSeen (record { marks = marks; above = old.above }) (d ∷ passed)
   block_next front marks is block oack reply next within held gap = record {
     marks = marks_with front marks is block oack reply below above_it;
@@ -112,7 +112,7 @@ module _ (passed : List TapDatagram) (d : TapDatagram) (number : ℕ) (bytes : L
         ]
       ]
 
-      above_it : front < 65535 → HasKind (IsBlock (front + 1)) (d ∷ passed) → ⊥
+      above_it : front < 4294967295 → HasKind (IsBlock (front + 1)) (d ∷ passed) → ⊥
       above_it fits has = elim (cases (front + 1) has) [
         | inl now ↦ omega (arith, now, within)
         | inr before ↦ elim (are.all (front + 1) before) [ inl low ↦ omega (arith, low, next, within) | inr above ↦ true≢false (sym above ∙ gap fits) ]

@@ -19,7 +19,7 @@ pub record Seen : Type 0 where
 -- what is marked has passed, and what is not marked has not
 pub record AreMarks (marks : Marks) (passed : List TapDatagram) : Type 0 where
   pub below : (k : ℕ) → 1 ≤ k → k ≤ marks.front → HasKind (IsBlock k) passed
-  pub next : marks.front < 65535 → HasKind (IsBlock (marks.front + 1)) passed → ⊥
+  pub next : marks.front < 4294967295 → HasKind (IsBlock (marks.front + 1)) passed → ⊥
   pub block : (marks.block ≡ true) ↔ HasKind IsSomeBlock passed
   pub oack : (marks.oack ≡ true) ↔ HasKind IsOack passed
   pub reply : (marks.reply ≡ true) ↔ HasKind IsReply passed

@@ -183,7 +183,7 @@ impl TapNotes {
     }
 
     /// The first rule that an ACK breaks by what had passed before the receiver's first ERROR (RFC 1350, sections 2 and 4).
-    fn late_ack(&self, side: Side, block: u16) -> Option<Rule>
+    fn late_ack(&self, side: Side, block: u32) -> Option<Rule>
         ensures { (s : TapSides) (passed : List TapDatagram) → AreNotes self.now s passed
             → FindsRule (LateBreaks s side passed (Message.Ack block)) result }
     {

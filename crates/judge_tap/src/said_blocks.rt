@@ -11,7 +11,7 @@ use tftp_ends::blocks::PutOutcome;
 /// The blocks of a transfer that were recorded, by their numbers, in whatever order they passed (RFC 1350, section 5).
 #[derive(Drop)]
 pub struct SaidBlocks {
-    by_number: BTreeMap<u16, Vec<u8>>,
+    by_number: BTreeMap<u32, Vec<u8>>,
 }
 
 impl Model for SaidBlocks {
@@ -40,7 +40,7 @@ impl SaidBlocks {
     pub fn put(
         &mut self,
         alloc: Global,
-        number: u16,
+        number: u32,
         bytes: &[u8],
     ) -> Result<PutOutcome, AllocError>
         ensures ok { IfOk result (λ placed. Places self.old self.new number bytes.now (placing placed)) }

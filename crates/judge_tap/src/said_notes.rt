@@ -97,7 +97,7 @@ impl SaidNotes {
     }
 
     /// The same of a block (RFC 1350, sections 5 and 6; RFC 2348).
-    fn take_block(&mut self, alloc: Global, number: u16, bytes: &[u8]) -> Result<(), PassError>
+    fn take_block(&mut self, alloc: Global, number: u32, bytes: &[u8]) -> Result<(), PassError>
         ensures { (s : TapSides) (earlier : List TapDatagram) (d : TapDatagram) (e : Who) → AreSaidNotes self.old s earlier
             → IsSaidBy s e (Message.Data number bytes.now) d → (IsWrongKind e self.old.asked.side (Message.Data number bytes.now) → ⊥)
             → FindsSaid s earlier d self.old.asked e (Message.Data number bytes.now) (AreSaidNotes self.new s (d ∷ earlier)) result }
@@ -119,7 +119,7 @@ impl SaidNotes {
     }
 
     /// The same of an ACK (RFC 1350, section 5; RFC 2347).
-    fn take_ack(&mut self, number: u16) -> Result<(), PassError>
+    fn take_ack(&mut self, number: u32) -> Result<(), PassError>
         ensures { (s : TapSides) (earlier : List TapDatagram) (d : TapDatagram) (e : Who) → AreSaidNotes self.old s earlier
             → IsSaidBy s e (Message.Ack number) d → (IsWrongKind e self.old.asked.side (Message.Ack number) → ⊥)
             → FindsSaid s earlier d self.old.asked e (Message.Ack number) (AreSaidNotes self.new s (d ∷ earlier)) result }
@@ -191,7 +191,7 @@ impl SaidNotes {
 }
 
 /// The rule that an ACK breaks which nothing explains (RFC 1350, section 5; RFC 2347).
-fn broken_by_ack(number: u16) -> Rule
+fn broken_by_ack(number: u32) -> Rule
     ensures { result ≡ ack_broken number }
 {
     if number == 0 {

@@ -14,7 +14,7 @@ use tftp_packet::Packet;
 #[derive(Clone, Copy)]
 pub struct Marks {
     /// Each block from 1 to this one has passed, and the next one has not.
-    pub front: u16,
+    pub front: u32,
     /// Some block has passed.
     pub block: bool,
     /// An OACK has passed (RFC 2347).
@@ -27,7 +27,7 @@ pub struct Marks {
 #[derive(Drop)]
 pub struct Seen {
     marks: Marks,
-    above: BTreeSet<u16>,
+    above: BTreeSet<u32>,
 }
 
 impl Model for Seen {
@@ -86,7 +86,7 @@ impl Seen {
     }
 
     /// Notes a block that passes.
-    fn note_block(&mut self, number: u16) -> Result<(), AllocError>
+    fn note_block(&mut self, number: u32) -> Result<(), AllocError>
         ensures ok { (passed : List Parts) (d : Parts) (bytes : List ℕ) → AreSeen self.old passed → Spells d.payload (Message.Data number bytes)
             → OnOk result (AreSeen self.new (d ∷ passed)) }
         ensures absent { (passed : List Parts) → AreSeen self.old passed → OnErr result (HasKind (IsBlock number) passed → ⊥) }
@@ -106,13 +106,13 @@ impl Seen {
 }
 
 /// The highest number such that all from the one after `from` to it are in the set.
-fn front_after(above: &BTreeSet<u16>, from: u16) -> u16
+fn front_after(above: &BTreeSet<u32>, from: u32) -> u32
     ensures within { from ≤ result }
     ensures held { (k : ℕ) → from < k → k ≤ result → has_number k above.now.keys ≡ true }
-    ensures next { result < 65535 → has_number (result + 1) above.now.keys ≡ false }
+    ensures next { result < 4294967295 → has_number (result + 1) above.now.keys ≡ false }
 {
     let mut front = from;
-    while front < u16::MAX && above.contains(&(front + 1)) {
+    while front < u32::MAX && above.contains(&(front + 1)) {
         front += 1;
     }
     front

@@ -2,7 +2,7 @@
 use Rattle.std.proofs.Common.{◌≡◌, ℕ, ◌<◌, nat_lt, nat_eq, true, List, [], ◌∷◌, inl, inr, refl, sym, ap}
 use Rattle.std.proofs.lemmas.Bool.{and_parts, ltb-true, false≢true}
 use Rattle.std.specs.List.{AllByRecursion, list_all}
-use Rattle.tftp_packet.specs.{Message, IsPair, Spells}
+use Rattle.tftp_packet.specs.{Message, IsPlace, Spells}
 use Rattle.tftp_packet.proofs.Unique.{one_message}
 use Rattle.tftp_packet.specs.{Out}
 use Rattle.law_model.specs.Rules.{Passed}
@@ -13,17 +13,17 @@ bytes_are : (xs : List ℕ) → list_all (λ b. nat_lt b 256) xs ≡ true → Al
 bytes_are [] e = tt
 bytes_are (x ∷ xs) e = let parts = and_parts (nat_lt x 256) (list_all (λ b. nat_lt b 256) xs) e in (ltb-true x 256 parts.0, bytes_are xs parts.1)
 
-one_is : IsPair 0 1 1
-one_is = (ltb-true 0 256 refl, ltb-true 1 256 refl, refl)
+one_is : IsPlace 0 1 1
+one_is = (ltb-true 1 256 refl, refl)
 
 pub sent_block : Spells (block_of 105) (Message.Data 1 (104 ∷ 105 ∷ []))
-sent_block = (bytes_are (block_of 105) refl, (0, 1, one_is, refl))
+sent_block = let bytes = bytes_are (block_of 105) refl in ((bytes.0, (bytes.1.0, bytes.1.1.1)), (0, 1, one_is, refl))
 
 pub other_block : Spells (block_of 106) (Message.Data 1 (104 ∷ 106 ∷ []))
-other_block = (bytes_are (block_of 106) refl, (0, 1, one_is, refl))
+other_block = let bytes = bytes_are (block_of 106) refl in ((bytes.0, (bytes.1.0, bytes.1.1.1)), (0, 1, one_is, refl))
 
 pub an_ack : Spells acknowledged (Message.Ack 1)
-an_ack = (bytes_are acknowledged refl, (0, 1, one_is, refl))
+an_ack = let bytes = bytes_are acknowledged refl in ((bytes.0, (bytes.1.0, bytes.1.1.1)), (0, 1, one_is, refl))
 
 -- What came in as DATA 1 with another last byte was not sent: a payload has the bytes of one block.
 last_byte : Message → ℕ

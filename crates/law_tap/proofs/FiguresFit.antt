@@ -16,7 +16,7 @@ use Rattle.law_tap.specs.SaidFigures.{Figures, AreFigures, HaveLength, FitsSize,
 -- ---- from a total to a size
 
 total_fits_size : (b total : ℕ) (f : Figures) → 0 < b → FitsTotal b total f → FitsSize b f
-total_fits_size b total f some t = record { below = t.below; tail = λ long is. by long (t.tail long is) } where
+total_fits_size b total f some t = record { numbered = (let most = t.numbered in let high = t.reach in omega (arith, most, high)); below = t.below; tail = λ long is. by long (t.tail long is) } where
   by : (long : ℕ) → IsBlockLength b total f.reach long → (long < b) ⊎ ((long ≡ b) × (f.reach < 65535))
   by long (inl whole) = let up = whole.0 in let most = t.numbered in inr (whole.1, omega (arith, up, most))
   by long (inr last) = let is = last.1 in let less = mod_below total b some in inl (omega (arith, is, less))

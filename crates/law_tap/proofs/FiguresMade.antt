@@ -43,20 +43,20 @@ or_zero None = 0
 abbrev total_of : ℕ → Figures → ℕ
 total_of b f = (f.reach - 1) * b + or_zero f.tail
 
-less_fits : (b total : ℕ) (f : Figures) → f.reach ≤ 65535 → FitsSize b f → total / b ≡ f.reach - 1 → ((long : ℕ) → f.tail ≡ Some long → (1 ≤ f.reach) × (long ≡ total % b)) → FitsTotal b total f
-less_fits b total f few fits is tail = record {
-  numbered = omega (arith, is, few);
+less_fits : (b total : ℕ) (f : Figures) → FitsSize b f → total / b ≡ f.reach - 1 → ((long : ℕ) → f.tail ≡ Some long → (1 ≤ f.reach) × (long ≡ total % b)) → FitsTotal b total f
+less_fits b total f fits is tail = record {
+  numbered = (let few = fits.numbered in omega (arith, is, few));
   reach = omega (arith, is);
   below = fits.below;
   tail = λ long at. let t = tail long at in inr (omega (arith, is, t.0), t.1);
 }
 
-size_fits_total : (b : ℕ) (f : Figures) → 0 < b → f.reach ≤ 65535 → ((long : ℕ) → f.tail ≡ Some long → 1 ≤ f.reach) → FitsSize b f → FitsTotal b (total_of b f) f
-size_fits_total b f some few low fits = by f.tail refl where
+size_fits_total : (b : ℕ) (f : Figures) → 0 < b → ((long : ℕ) → f.tail ≡ Some long → 1 ≤ f.reach) → FitsSize b f → FitsTotal b (total_of b f) f
+size_fits_total b f some low fits = by f.tail refl where
   by : (o : Option ℕ) → f.tail ≡ o → FitsTotal b ((f.reach - 1) * b + or_zero o) f
-  by None is = less_fits b ((f.reach - 1) * b + 0) f few fits (div-mul-add (f.reach - 1) b 0 some) (λ long at. let both : None ≡ Some long = sym is ∙ at in absurd (cc))
+  by None is = less_fits b ((f.reach - 1) * b + 0) f fits (div-mul-add (f.reach - 1) b 0 some) (λ long at. let both : None ≡ Some long = sym is ∙ at in absurd (cc))
   by (Some t) is = elim (fits.tail t is) [
-    | inl short ↦ less_fits b ((f.reach - 1) * b + t) f few fits (div-mul-add (f.reach - 1) b t short)
+    | inl short ↦ less_fits b ((f.reach - 1) * b + t) f fits (div-mul-add (f.reach - 1) b t short)
         (λ long at. let same : long ≡ t = (let both : Some t ≡ Some long = sym is ∙ at in sym (cc)) in (low long at, same ∙ sym (mod-mul-add (f.reach - 1) b t short)))
     | inr whole ↦ full t is whole.0 whole.1
   ]
@@ -84,13 +84,6 @@ size_fits_total b f some few low fits = by f.tail refl where
 -- ---- all that was said
 
 module _ (s : TapSides) (asked : RequestParts) (tapped : List TapDatagram) (f : Figures) (are : AreFigures f s tapped) where
-  number_small : (k : ℕ) → IsNumber s tapped k → k ≤ 65535
-  number_small k (e, inl said) = let (d, at, is) = any_there (IsSaidBy s e (Message.Ack k)) tapped said in let (x, y, pair, layout) = is.spells.1 in omega (arith, pair.0, pair.1, pair.2)
-  number_small k (e, inr (bytes, said)) = let (d, at, is) = any_there (IsSaidBy s e (Message.Data k bytes)) tapped said in let (x, y, pair, layout) = is.spells.1 in omega (arith, pair.0, pair.1, pair.2)
-
-  few : f.reach ≤ 65535
-  few = elim are.reached [ inl none ↦ omega (arith, none) | inr is ↦ number_small f.reach is ]
-
   module _ (low : (e : End) (k : ℕ) (bytes : List ℕ) → IsSaid s tapped e (Message.Data k bytes) → 1 ≤ k) where
     tail_low : (long : ℕ) → f.tail ≡ Some long → 1 ≤ f.reach
     tail_low long is = let (all, (e, k, bytes, said, at)) = subst (HaveLength s tapped (λ k. k ≡ f.reach)) is are.tail in let first = low e k bytes said in omega (arith, at, first)
@@ -141,7 +134,7 @@ module _ (s : TapSides) (asked : RequestParts) (tapped : List TapDatagram) (f : 
       explain total sized t none = none agreed total (made agreed total fair.may (λ some. seen) (λ e options said. (all e options said, fair.some)) (λ get is. fair.some) sized t)
 
       free : FitsSize (block_size agreed) f → FitsTotal (block_size agreed) (total_of (block_size agreed) f) f
-      free fits = size_fits_total (block_size agreed) f some_size few tail_low fits
+      free fits = size_fits_total (block_size agreed) f some_size tail_low fits
 
       pub agreed_explains : FitsAgreed asked agreed f → NothingExplains s asked tapped → ⊥
       agreed_explains fits none = by (map.get agreed (codes "tsize")) refl asked.mode refl fits where
@@ -164,7 +157,7 @@ module _ (s : TapSides) (asked : RequestParts) (tapped : List TapDatagram) (f : 
       plain nought fits none =
           none no_options (total_of 512 f) (made no_options (total_of 512 f) (none_may_be_agreed asked) (λ some. absurd (some refl)) (λ e options said. absurd (none_said e options said)) (λ get is. absurd (nought get is))
           (λ octet size at. let both : None ≡ Some (Num size) = sym (none_found (codes "tsize")) ∙ at in absurd (cc))
-          (subst (λ b. FitsTotal b (total_of 512 f) f) (sym usual_size) (size_fits_total 512 f (omega arith) few tail_low fits)))
+          (subst (λ b. FitsTotal b (total_of 512 f) f) (sym usual_size) (size_fits_total 512 f (omega arith) tail_low fits)))
 
       -- with one option
       one : (name : List ℕ) (is : IsName name) (n number b total : ℕ) (small : n < 2 ^ 64) (range : is_within (range_of name) n ≡ true) → map.get asked.options name ≡ Some (Num number) → MayAnswer asked.side name number n
@@ -189,7 +182,7 @@ module _ (s : TapSides) (asked : RequestParts) (tapped : List TapDatagram) (f : 
           one (codes "windowsize") window_name n n 512 (total_of 512 f) small range has (inr (inl (refl, omega arith)))
           (ap (number_or 512) (other_none (codes "windowsize") window_name n small range (codes "blksize") (λ is. window_is_no_size (sym is))))
           (λ size at. let both : None ≡ Some (Num size) = sym (other_none (codes "windowsize") window_name n small range (codes "tsize") window_is_no_total) ∙ at in absurd (cc))
-          (size_fits_total 512 f (omega arith) few tail_low fits) none
+          (size_fits_total 512 f (omega arith) tail_low fits) none
       usual_other get (inr (inl (n, has))) fits none =
           let range = asked_range (codes "timeout") n has in
           let bounds = timeout_range n range in
@@ -197,17 +190,17 @@ module _ (s : TapSides) (asked : RequestParts) (tapped : List TapDatagram) (f : 
           one (codes "timeout") timeout_name n n 512 (total_of 512 f) small range has (inr (inr (inl (refl, refl))))
           (ap (number_or 512) (other_none (codes "timeout") timeout_name n small range (codes "blksize") (λ is. timeout_is_no_size (sym is))))
           (λ size at. let both : None ≡ Some (Num size) = sym (other_none (codes "timeout") timeout_name n small range (codes "tsize") timeout_is_no_total) ∙ at in absurd (cc))
-          (size_fits_total 512 f (omega arith) few tail_low fits) none
+          (size_fits_total 512 f (omega arith) tail_low fits) none
       usual_other get (inr (inr (number, has))) fits none =
           let n = total_of 512 f in
           let most = tail_most fits in
-          let up : n ≤ 18446744073709551615 = below_all f.reach (or_zero f.tail) few most in
+          let up : n ≤ 18446744073709551615 = below_all f.reach (or_zero f.tail) fits.numbered most in
           let small : n < 2 ^ 64 = omega (arith, up) in
           let range = total_within n up in
           one (codes "tsize") total_name n number 512 n small range has (inr (inr (inr (refl, λ put. let both : Get ≡ Put = sym get ∙ put in absurd (cc)))))
           (ap (number_or 512) (other_none (codes "tsize") total_name n small range (codes "blksize") (λ is. total_is_no_size (sym is))))
           (λ size at. let both : Some (Num n) ≡ Some (Num size) = sym (one_there (codes "tsize") total_name n small range) ∙ at in cc)
-          (size_fits_total 512 f (omega arith) few tail_low fits) none
+          (size_fits_total 512 f (omega arith) tail_low fits) none
         where
           below_all : (r t : ℕ) → r ≤ 65535 → t ≤ 512 → (r - 1) * 512 + t ≤ 18446744073709551615
           below_all r t first last = omega (arith, first, last)
@@ -227,7 +220,7 @@ module _ (s : TapSides) (asked : RequestParts) (tapped : List TapDatagram) (f : 
           one (codes "blksize") size_name b most b (total_of b f) small range has (inl (refl, up))
           (ap (number_or 512) (one_there (codes "blksize") size_name b small range))
           (λ size at. let both : None ≡ Some (Num size) = sym (other_none (codes "blksize") size_name b small range (codes "tsize") total_is_no_size) ∙ at in absurd (cc))
-          (size_fits_total b f (omega (arith, low)) few tail_low fits) none
+          (size_fits_total b f (omega (arith, low)) tail_low fits) none
 
       pub unseen_explains : FitsUnseen asked f → NothingExplains s asked tapped → ⊥
       unseen_explains (inl (may, fits)) none = usual_explains may fits none

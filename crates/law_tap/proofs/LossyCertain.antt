@@ -209,7 +209,12 @@ module _ (s : TapSides) (apart : AreApart s) (earlier : List TapDatagram) (d : T
 
       by : (broken : Rule) → LossyBreaks s earlier d asked e (Message.Data n bytes) broken → ⊥
       by rule.WrongKind b = right_data e asked.side n bytes (placed.0 ∙ ap sender_of side_is) b
-      by (rule.Block EndRule.BeyondBlock65535) (at, whole) =
+      by (rule.Block EndRule.BeyondBlock65535) (inl above) =
+          let x = all oacked in
+          let low = x.numbered in
+          let high = x.numbers n (e, inr (bytes, here e _ said)) in
+          omega (arith, above, high, low)
+      by (rule.Block EndRule.BeyondBlock65535) (inr (at, whole)) =
           let long = whole k.m.agreed (length k.wire) (fewer k.m.agreed (length k.wire) (all oacked)) in
           let less = short at in
           omega (arith, long, less)

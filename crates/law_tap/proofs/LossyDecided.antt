@@ -87,7 +87,11 @@ module _ (s : TapSides) (earlier : List TapDatagram) (d : TapDatagram) where
 
   pub explained_is_not_beyond : (e : End) (k : ℕ) (bytes : List ℕ) → IsSaidBy s e (Message.Data k bytes) d → (asked : RequestParts) → (NothingExplains s asked (d ∷ earlier) → ⊥)
       → LossyBreaks s earlier d asked e (Message.Data k bytes) (rule.Block EndRule.BeyondBlock65535) → ⊥
-  explained_is_not_beyond e k bytes says asked some (at, whole) = some (λ agreed total x.
+  explained_is_not_beyond e k bytes says asked some (inl above) = some (λ agreed total x.
+      let high = x.numbers k (e, inr (bytes, any_first (IsSaidBy s e (Message.Data k bytes)) d earlier says)) in
+      let most = x.numbered in
+      omega (arith, above, high, most))
+  explained_is_not_beyond e k bytes says asked some (inr (at, whole)) = some (λ agreed total x.
       let long = whole agreed total (fewer asked agreed total x) in
       let most = x.numbered in
       let size = sized asked agreed total x in

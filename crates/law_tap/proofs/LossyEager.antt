@@ -77,7 +77,7 @@ module _ (s : TapSides) (m : Meaning) (wire : List ℕ) (request : (payload : Li
     block_told = record { from = sender_of side; packet = Data (suc n) } ∷ told
 
     spelled_block : (payload : List ℕ) × Spells payload (message_of m wire (Data (suc n)))
-    spelled_block = data_spelled (suc n) _ (omega (arith, up, numbered)) (block_bytes (blksize_of m) wire (suc n) bytes)
+    spelled_block = data_spelled (suc n) _ (block_bytes (blksize_of m) wire (suc n) bytes)
 
     block_goes : GoesThere s g.t.division (carrier s (sender_of side) (Data (suc n)) spelled_block.0) (sender_of side) (Data (suc n))
     block_goes = by side refl where
@@ -106,7 +106,7 @@ module _ (s : TapSides) (m : Meaning) (wire : List ℕ) (request : (payload : Li
     ack_told = record { from = receiver_of side; packet = Ack (suc n) } ∷ block_told
 
     spelled_ack : (payload : List ℕ) × Spells payload (Message.Ack (suc n))
-    spelled_ack = ack_spelled (suc n) (omega (arith, up, numbered))
+    spelled_ack = ack_spelled (suc n)
 
     ack_goes : GoesThere s tell_block.division (carrier s (receiver_of side) (Ack (suc n)) spelled_ack.0) (receiver_of side) (Ack (suc n))
     ack_goes = by side refl where
@@ -193,7 +193,7 @@ module _ (s : TapSides) (m : Meaning) (wire : List ℕ) (request : (payload : Li
       }
 
   zero_spelled : (payload : List ℕ) × Spells payload (Message.Ack 0)
-  zero_spelled = ack_spelled 0 (omega arith)
+  zero_spelled = ack_spelled 0
 
   -- no block and no ACK is below the first
   nothing_low : (k : ℕ) → 1 ≤ k → k ≤ 0 → ⊥

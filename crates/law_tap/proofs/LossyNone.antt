@@ -2,7 +2,7 @@
 use Rattle.std.proofs.Common.{◌≡◌, ◌⊎◌, ℕ, ◌+◌, ◌/◌, ◌<◌, ◌≤◌, true, List, [], ◌∷◌, length, Option, Some, codes, inl, inr, refl, sym, subst, ap, ◌∙◌, arith}
 use Rattle.std.specs.FinMap as map
 use Rattle.std.specs.List.{AllByRecursion}
-use Rattle.tftp_packet.specs.{OptionMap, OptionValue, Num, no_options, is_within, range_of, RequestParts, Message, Spells, Side, Get, Put, End, Client, Server}
+use Rattle.tftp_packet.specs.{OptionMap, OptionValue, Num, no_options, is_within, range_of, RequestParts, Message, Spells, but_third, Side, Get, Put, End, Client, Server}
 use Rattle.tftp_nego.specs.{AreInRange, number_or}
 use Rattle.tftp_nego.proofs.Numbers.{map_in_range, windowsize_range}
 use Rattle.law_model.specs.Model.{Meaning, blksize_of, windowsize_of, block, block_count, MachinePacket, Req, Oack, Data, Ack, Error, message_of}
@@ -109,7 +109,7 @@ module _ (s : TapSides) (apart : AreApart s) (tapped : List TapDatagram) (asked 
     block_bytes k y said =
         let (d, at, is) = any_there (IsSaidBy s (sender_of asked.side) (Message.Data k y)) tapped said in
         let (u, v, pair, layout) = is.spells.1 in
-        (subst Bytes layout is.spells.0).1.1.1.1
+        (subst (λ (p : List ℕ). Bytes (but_third p)) layout is.spells.0).1.1.1
 
     module _ (wire : List ℕ) (long : length wire ≡ total) (bytes : Bytes wire) (has : (k : ℕ) (y : List ℕ) → Block k y → y ≡ block (blksize_of (meant [])) wire k)
         (stop : End → ℕ × List ℕ) (stops : (e : End) (c : ℕ) (t : List ℕ) → IsSaid s tapped e (Message.Error c t) → Error c t ≡ Error (stop e).0 (stop e).1) where

@@ -2,7 +2,7 @@
 use Rattle.std.proofs.Common.{◌≡◌, ℕ, false, ◌/◌, ◌%◌, ◌<◌, ◌≤◌, List, [], ◌∷◌, Any, Contains, inl, inr, refl, sym, subst, ap, ◌∙◌, arith}
 use Rattle.std.proofs.lemmas.Bool.{true≢false}
 use Rattle.std.proofs.lemmas.Nat.{mod_below, div-add-mod'}
-use Rattle.tftp_packet.specs.{Message, IsPair, Spells, End, Client, Server}
+use Rattle.tftp_packet.specs.{Message, IsPlace, Spells, End, Client, Server}
 use Rattle.law_model.specs.Model.{Meaning, block, MachinePacket, Req, Data, Error, message_of, Sent, Took, NoErrorSent, MaySend, is_error}
 use Rattle.law_model.proofs.ModelLemmas.Members.{contains_first, contains_cases, contains_none}
 use Rattle.law_end.specs.{says_of}
@@ -16,21 +16,21 @@ use Rattle.law_tap.proofs.Passed.{sent_passed}
 
 -- ---- how it is spelled
 
-pair_is : (k : ℕ) → k ≤ 65535 → IsPair (k / 256) (k % 256) k
-pair_is k small =
+place_is : (k : ℕ) → IsPlace (k / 256) (k % 256) k
+place_is k =
     let split = div-add-mod' k 256 in
     let low = mod_below k 256 (omega arith) in
-    (omega (arith, small, split), low, omega (arith, split))
+    (low, omega (arith, split))
 
-pub data_spelled : (k : ℕ) (bytes : List ℕ) → k ≤ 65535 → Bytes bytes → (payload : List ℕ) × Spells payload (Message.Data k bytes)
-data_spelled k bytes small all =
-    let pair = pair_is k small in
-    (0 ∷ 3 ∷ (k / 256) ∷ (k % 256) ∷ bytes, ((omega arith, (omega arith, (pair.0, (pair.1, all)))), (k / 256, k % 256, pair, refl)))
+pub data_spelled : (k : ℕ) (bytes : List ℕ) → Bytes bytes → (payload : List ℕ) × Spells payload (Message.Data k bytes)
+data_spelled k bytes all =
+    let place = place_is k in
+    (0 ∷ 3 ∷ (k / 256) ∷ (k % 256) ∷ bytes, ((omega arith, (omega arith, (place.0, all))), (k / 256, k % 256, place, refl)))
 
-pub ack_spelled : (k : ℕ) → k ≤ 65535 → (payload : List ℕ) × Spells payload (Message.Ack k)
-ack_spelled k small =
-    let pair = pair_is k small in
-    (0 ∷ 4 ∷ (k / 256) ∷ (k % 256) ∷ [], ((omega arith, (omega arith, (pair.0, (pair.1, tt)))), (k / 256, k % 256, pair, refl)))
+pub ack_spelled : (k : ℕ) → (payload : List ℕ) × Spells payload (Message.Ack k)
+ack_spelled k =
+    let place = place_is k in
+    (0 ∷ 4 ∷ (k / 256) ∷ (k % 256) ∷ [], ((omega arith, (omega arith, (place.0, tt))), (k / 256, k % 256, place, refl)))
 
 pub block_bytes : (b : ℕ) (wire : List ℕ) (k : ℕ) → Bytes wire → Bytes (block b wire k)
 block_bytes b wire k all = all_take (λ x. x < 256) b _ (all_drop (λ x. x < 256) _ wire all)

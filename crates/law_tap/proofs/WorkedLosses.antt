@@ -1,6 +1,6 @@
 -- The worked recordings at an end that miss datagrams.
 use Rattle.std.proofs.Common.{◌≡◌, ℕ, ◌<◌, ◌≤◌, List, [], ◌∷◌, Contains, codes, inl, inr, refl, sym, subst, arith}
-use Rattle.tftp_packet.specs.{Message, Spells, IsPair, End, Client, Server, Out}
+use Rattle.tftp_packet.specs.{Message, Spells, IsPlace, End, Client, Server, Out}
 use Rattle.tftp_packet.specs.Hosts.{Datagram}
 use Rattle.law_model.specs.Model.{Meaning, request_of, blksize_of, block, Deed, Sent, Took, Req, Oack, Data, Ack, History, IsView, two_bytes, two_bytes_view, two_bytes_written, two_bytes_written_view, ten_bytes, ten_bytes_view, six_blocks, six_blocks_server_view}
 use Rattle.law_model.proofs.ModelLemmas.Members.{contains_cases, contains_none}
@@ -103,8 +103,8 @@ zero_unseen = record {
 
 -- ---- payloads
 
-pub one_pair : IsPair 0 1 1
-one_pair = (omega arith, omega arith, omega arith)
+pub one_place : IsPlace 0 1 1
+one_place = (omega arith, omega arith)
 
 pub request_says : Spells request_passes.payload (Message.Request (request_of two_bytes))
 request_says = (
@@ -123,7 +123,7 @@ request_says = (
 )
 
 pub first_block_says : (one other : ℕ) → one < 256 → other < 256 → Spells (0 ∷ 3 ∷ 0 ∷ 1 ∷ one ∷ other ∷ []) (Message.Data 1 (one ∷ other ∷ []))
-first_block_says one other byte also = ((omega arith, (omega arith, (omega arith, (omega arith, (byte, (also, tt)))))), (0, 1, one_pair, refl))
+first_block_says one other byte also = ((omega arith, (omega arith, (omega arith, (byte, (also, tt))))), (0, 1, one_place, refl))
 
 pub hi_says : Spells hi_passes.payload (Message.Data 1 (block 512 two_bytes.file 1))
 hi_says = first_block_says 104 105 (omega arith) (omega arith)
@@ -132,7 +132,7 @@ hi_is_block : Spells hi_passes.payload (Message.Data 1 (block (blksize_of two_by
 hi_is_block = subst (λ b. Spells hi_passes.payload (Message.Data 1 (block b two_bytes.file 1))) (sym (default_blksize two_bytes refl)) hi_says
 
 pub ack_says : Spells ack_passes.payload (Message.Ack 1)
-ack_says = ((omega arith, (omega arith, (omega arith, (omega arith, tt)))), (0, 1, one_pair, refl))
+ack_says = ((omega arith, (omega arith, (omega arith, tt))), (0, 1, one_place, refl))
 
 -- ---- at the client
 

@@ -55,21 +55,21 @@ above_said : IsSaidBy worked_sides Client (Message.Ack 2) ack_above
 above_said = record {
   goes = client_goes worked_sides ack_above refl refl refl;
   source = refl;
-  spells = ((omega arith, (omega arith, (omega arith, (omega arith, tt)))), (0, 2, (omega arith, omega arith, omega arith), refl));
+  spells = ((omega arith, (omega arith, (omega arith, tt))), (0, 2, (omega arith, omega arith), refl));
 }
 
 second_said : IsSaidBy worked_sides Server (Message.Data 2 (104 ∷ 105 ∷ [])) second_passes
 second_said = record {
   goes = server_goes worked_sides sides_apart second_passes refl refl;
   source = refl;
-  spells = ((omega arith, (omega arith, (omega arith, (omega arith, (omega arith, (omega arith, tt)))))), (0, 2, (omega arith, omega arith, omega arith), refl));
+  spells = ((omega arith, (omega arith, (omega arith, (omega arith, (omega arith, tt))))), (0, 2, (omega arith, omega arith), refl));
 }
 
 zero_said : IsSaidBy worked_sides Client (Message.Ack 0) zero_passes
 zero_said = record {
   goes = client_goes worked_sides zero_passes refl refl refl;
   source = refl;
-  spells = ((omega arith, (omega arith, (omega arith, (omega arith, tt)))), (0, 0, (omega arith, omega arith, omega arith), refl));
+  spells = ((omega arith, (omega arith, (omega arith, tt))), (0, 0, (omega arith, omega arith), refl));
 }
 
 pub asked_before : IsSaid worked_sides block_between Client (Message.Request asked)

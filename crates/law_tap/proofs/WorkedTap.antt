@@ -2,7 +2,7 @@
 use Rattle.std.proofs.Common.{◌≡◌, ℕ, ◌≤◌, ◌<◌, true, [], ◌∷◌, Any, Contains, codes, inl, inr, refl, sym, subst, ap, arith}
 use Rattle.std.proofs.lemmas.Bool.{true≢false}
 use Rattle.std.specs.FinMap as map
-use Rattle.tftp_packet.specs.{Message, Spells, IsPair, Client, Server, End}
+use Rattle.tftp_packet.specs.{Message, Spells, IsPair, IsPlace, Client, Server, End}
 use Rattle.law_model.specs.Model.{number_or, request_of, block, block_count, Sent, Took, Req, Oack, Data, Ack, HasSent, IsRun, IsView, two_bytes, two_bytes_view, ten_bytes, ten_bytes_view, eight_by_four, window_repeated, window_repeated_steps}
 use Rattle.law_model.proofs.ModelLemmas.Members.{contains_first, contains_cases, contains_none}
 use Rattle.law_model.proofs.ModelLemmas.OneSided.{view_one_sided}
@@ -107,6 +107,9 @@ nothing_server view =
 small : (low : ℕ) → low < 256 → IsPair 0 low low
 small low byte = (omega arith, byte, omega arith)
 
+one_place : IsPlace 0 1 1
+one_place = (omega arith, omega arith)
+
 pub request_spelled : Spells request_passes.payload (Message.Request (request_of two_bytes))
 request_spelled = (
   (omega arith, (omega arith, (omega arith, (omega arith, (omega arith, (omega arith, (omega arith, (omega arith, (omega arith, (omega arith, tt)))))))))),
@@ -124,10 +127,10 @@ request_spelled = (
 )
 
 pub hi_spelled : Spells hi_passes.payload (Message.Data 1 (codes "hi"))
-hi_spelled = ((omega arith, (omega arith, (omega arith, (omega arith, (omega arith, (omega arith, tt)))))), (0, 1, small 1 (omega arith), refl))
+hi_spelled = ((omega arith, (omega arith, (omega arith, (omega arith, (omega arith, tt))))), (0, 1, one_place, refl))
 
 pub ack_spelled : Spells ack_passes.payload (Message.Ack 1)
-ack_spelled = ((omega arith, (omega arith, (omega arith, (omega arith, tt)))), (0, 1, small 1 (omega arith), refl))
+ack_spelled = ((omega arith, (omega arith, (omega arith, tt))), (0, 1, one_place, refl))
 
 unknown_id_spelled : Spells answer_passes.payload (Message.Error 5 [])
 unknown_id_spelled = ((omega arith, (omega arith, (omega arith, (omega arith, (omega arith, tt))))), (0, 5, small 5 (omega arith), tt, refl))

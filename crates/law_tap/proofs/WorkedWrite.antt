@@ -15,7 +15,7 @@ use Rattle.law_end.proofs.Division.Divided.{any_first}
 use Rattle.law_tap.specs.Losses.{nothing, kept, lost, IsLawfulWithLosses}
 use Rattle.law_tap.specs.WorkedTap.{hi_passes}
 use Rattle.law_tap.specs.WorkedLosses.{at_client, request_out, ack_out, at_server, write_in, zero_out, block_in, one_out, whole_write, write_without_block}
-use Rattle.law_tap.proofs.WorkedLosses.{one_pair, hi_says, ack_says}
+use Rattle.law_tap.proofs.WorkedLosses.{one_place, hi_says, ack_says}
 
 -- ---- what the payloads say
 
@@ -36,7 +36,7 @@ write_says = (
 )
 
 zero_says : Spells zero_out.payload (Message.Ack 0)
-zero_says = ((omega arith, (omega arith, (omega arith, (omega arith, tt)))), (0, 0, (omega arith, omega arith, omega arith), refl))
+zero_says = ((omega arith, (omega arith, (omega arith, tt))), (0, 0, (omega arith, omega arith), refl))
 
 block_says : Spells block_in.payload (Message.Data 1 (block (blksize_of two_bytes_written) two_bytes_written.file 1))
 block_says = subst (λ b. Spells hi_passes.payload (Message.Data 1 (block b two_bytes_written.file 1))) (sym (default_blksize two_bytes_written refl)) hi_says

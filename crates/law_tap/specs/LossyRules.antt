@@ -1,6 +1,6 @@
 -- The rules that a datagram may break that passed between the ends, where the recorder may have missed some of what passed:
 -- what it breaks whatever is missing. Order says nothing then, and so no rule asks what came first. Lists have the newest first.
-use Rattle.std.specs.Prelude.{◌≡◌, ◌≢◌, ◌⊎◌, ℕ, ◌+◌, ◌/◌, ◌%◌, ◌≤◌, ◌||◌, true, false, List, [], ◌∷◌, length, Any, Some, codes, if◌then◌else◌}
+use Rattle.std.specs.Prelude.{◌≡◌, ◌≢◌, ◌⊎◌, ℕ, ◌+◌, ◌/◌, ◌%◌, ◌<◌, ◌≤◌, ◌||◌, true, false, List, [], ◌∷◌, length, Any, Some, codes, if◌then◌else◌}
 use Rattle.std.specs.FinMap as map
 use Rattle.std.specs.List.{AllByRecursion}
 use Rattle.tftp_packet.specs.{OptionMap, Num, no_options, Message, RequestParts, Spells, FirstFault, Get, Octet, End, Client}
@@ -107,7 +107,7 @@ LossyBreaks s earlier d asked e (Message.Oack options) rule.ReplyChanged = IsFir
 -- blocks are numbered from 1, by two bytes (RFC 1350, section 5)
 LossyBreaks s earlier d asked e (Message.Oack options) (rule.Block EndRule.BeyondBlock65535) = Holds NegoFault.BeyondBlock65535 asked options
 LossyBreaks s earlier d asked e (Message.Data k bytes) (rule.Block EndRule.BeyondBlock65535) =
-    (k ≡ 65535) × ((agreed : OptionMap) (total : ℕ) → Explains s asked earlier agreed total → block_size agreed ≤ length bytes)
+    (65535 < k) ⊎ ((k ≡ 65535) × ((agreed : OptionMap) (total : ℕ) → Explains s asked earlier agreed total → block_size agreed ≤ length bytes))
 LossyBreaks s earlier d asked e (Message.Data k bytes) (rule.Block EndRule.BlockZero) = k ≡ 0
 -- a block that no block size fits, nor the other blocks and ACKs (RFC 1350, section 6; RFC 2348)
 LossyBreaks s earlier d asked e (Message.Data k bytes) (rule.Block EndRule.BlockLength) = NothingExplains s asked (d ∷ earlier)

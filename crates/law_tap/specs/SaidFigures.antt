@@ -39,6 +39,7 @@ join_lengths (Some long) (Some other) = if long == other then Some (Some long) e
 
 -- Blocks of b bytes fit: what is below the highest number is whole, and block 65535 is the last one (RFC 1350, sections 5 and 6).
 pub record FitsSize (b : ℕ) (f : Figures) : Type 0 where
+  pub numbered : f.reach ≤ 65535
   pub below : (long : ℕ) → f.below ≡ Some long → long ≡ b
   pub tail : (long : ℕ) → f.tail ≡ Some long → (long < b) ⊎ ((long ≡ b) × (f.reach < 65535))
 

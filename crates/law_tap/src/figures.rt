@@ -11,12 +11,15 @@ use std::marker::Model;
 use tftp_nego::Agreed;
 use tftp_packet::{Mode, Request, Side, Value};
 
+/// The greatest number that a block may have (RFC 1350, section 5).
+const GREATEST_BLOCK: u32 = 65_535;
+
 /// Four figures of the blocks and ACKs between the ends of a transfer, of which any number may be missing, in any order. They
 /// decide whether one transfer can have said all of it (RFC 1350, sections 5 and 6).
 #[derive(Clone, Copy)]
 pub struct Figures {
     /// The highest number of a block or an ACK, or 0.
-    reach: u16,
+    reach: u32,
     /// Whether an ACK 0 was said.
     zero: bool,
     /// How many bytes the blocks below the highest number have, where some were seen.
@@ -49,7 +52,7 @@ impl Figures {
     }
 
     /// The figures with an ACK more; none where two blocks below its number have other lengths, so that nothing explains them.
-    pub fn with_ack(&self, number: u16) -> Option<Figures>
+    pub fn with_ack(&self, number: u32) -> Option<Figures>
         ensures some { (s : TapSides) (earlier : List TapDatagram) (d : TapDatagram) (e : End) → AreFigures self.now s earlier
             → IsSaidBy s e (Message.Ack number) d → IfSome result (λ f. AreFigures f s (d ∷ earlier)) }
         ensures none { (s : TapSides) (earlier : List TapDatagram) (d : TapDatagram) (e : End) (asked : RequestParts) → AreFigures self.now s earlier
@@ -71,7 +74,7 @@ impl Figures {
     }
 
     /// The figures with a block more of so many bytes; none where two blocks that have to be of one length are not.
-    pub fn with_block(&self, number: u16, long: usize) -> Option<Figures>
+    pub fn with_block(&self, number: u32, long: usize) -> Option<Figures>
         ensures some { (s : TapSides) (earlier : List TapDatagram) (d : TapDatagram) (e : End) (bytes : List ℕ) → AreFigures self.now s earlier
             → IsSaidBy s e (Message.Data number bytes) d → length bytes ≡ long → IfSome result (λ f. AreFigures f s (d ∷ earlier)) }
         ensures none { (s : TapSides) (earlier : List TapDatagram) (d : TapDatagram) (e : End) (bytes : List ℕ) (asked : RequestParts) → AreFigures self.now s earlier
@@ -103,10 +106,10 @@ impl Figures {
             None => true,
         };
         let last = match self.tail {
-            Some(length) => length < size || (length == size && self.reach < u16::MAX),
+            Some(length) => length < size || (length == size && self.reach < GREATEST_BLOCK),
             None => true,
         };
-        whole && last
+        self.reach <= GREATEST_BLOCK && whole && last
     }
 
     /// Whether blocks of this size fit, in a file of so many bytes (RFC 1350, sections 5 and 6; RFC 2349).

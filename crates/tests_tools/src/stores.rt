@@ -46,7 +46,7 @@ pub fn fill_stores<D: Delivered + Drop, R: Read>(
             put(
                 alloc,
                 &mut store,
-                at + 1,
+                u32::from(at) + 1,
                 &text[start..start + size as usize],
             )?;
         }
@@ -56,7 +56,7 @@ pub fn fill_stores<D: Delivered + Drop, R: Read>(
 }
 
 /// Puts a block that the store takes.
-fn put<D: Delivered>(alloc: Global, store: &mut D, number: u16, bytes: &[u8]) -> io::Result<()> {
+fn put<D: Delivered>(alloc: Global, store: &mut D, number: u32, bytes: &[u8]) -> io::Result<()> {
     if store.takes(number, bytes.len()) {
         store.put(alloc, number, bytes)?;
     }

@@ -211,10 +211,16 @@ module _ (h : Header) (es : List Spelled) (e : Spelled) (s : AllSpelled es) (her
   block_kept : (u : Terms) (k : ℕ) (bytes : List ℕ) (rule : EndRule) → block_keeps u (main_of h es) k bytes rule ≡ true → BlockBreaks u passed k bytes rule → ⊥
   block_kept u k bytes EndRule.NotStarted t b = started used used_spelled u.side u.reply t (subst (BlocksWait u.side u.reply) (sym used_are) b)
   block_kept u k bytes EndRule.BlockZero t b = differs k 0 t b
-  block_kept u k bytes EndRule.BeyondBlock65535 t b = elim (or_cases (not (k == 65535)) (nat_lt (length bytes) u.blksize) t) [
-    | inl other ↦ differs k 65535 other b.0
-    | inr short ↦ let less = ltb-true (length bytes) u.blksize short in let most = b.1 in omega arith
-  ]
+  block_kept u k bytes EndRule.BeyondBlock65535 t b =
+      let parts = and_parts (nat_le k 65535) (not (k == 65535) || nat_lt (length bytes) u.blksize) t in
+      let few = leb-true k 65535 parts.0 in
+      elim b [
+        | inl above ↦ omega (arith, above, few)
+        | inr last ↦ elim (or_cases (not (k == 65535)) (nat_lt (length bytes) u.blksize) parts.1) [
+          | inl other ↦ differs k 65535 other last.0
+          | inr short ↦ let less = ltb-true (length bytes) u.blksize short in let most = last.1 in omega (arith, less, most)
+        ]
+      ]
   block_kept u k bytes EndRule.BlockLength t b = right_length u k (length bytes) t b
   block_kept u k bytes EndRule.WindowOverrun t b = within used used_spelled u k t b.0 (subst (λ ds. IsAckedAt u ds b.0) (sym used_are) b.1) b.2
   block_kept u k bytes EndRule.BlockSkipped t b = not_skipped u k t b.0 b.1.0 b.1.1 b.1.2

@@ -124,7 +124,7 @@ oack_spells pairs options e is =
 pub block_spells : (x y : ℕ) (bytes : List ℕ) (k : ℕ) → all_bytes (0 ∷ 3 ∷ x ∷ y ∷ bytes) ≡ true → k ≡ 256 * x + y → Spells (0 ∷ 3 ∷ x ∷ y ∷ bytes) (Message.Data k bytes)
 block_spells x y bytes k e is =
     let all = bytes_are (0 ∷ 3 ∷ x ∷ y ∷ bytes) e in
-    (all, (x, y, (all.1.1.0, all.1.1.1.0, is), refl))
+    ((all.0, (all.1.0, all.1.1.1)), (x, y, (all.1.1.1.0, is), refl))
 
 pub data_spells : (k : ℕ) (bytes : List ℕ) → all_bytes (block k bytes) ≡ true → Spells (block k bytes) (Message.Data k bytes)
 data_spells k bytes e = block_spells 0 k bytes k e (omega arith)
@@ -132,7 +132,7 @@ data_spells k bytes e = block_spells 0 k bytes k e (omega arith)
 pub ack_spells : (j : ℕ) → all_bytes (ack j) ≡ true → Spells (ack j) (Message.Ack j)
 ack_spells j e =
     let all = bytes_are (ack j) e in
-    (all, (0, j, (omega arith, all.1.1.1.0, omega arith), refl))
+    ((all.0, (all.1.0, all.1.1.1)), (0, j, (all.1.1.1.0, omega arith), refl))
 
 pub error_spells : (code : ℕ) (text : List ℕ) → all_bytes (error code text) ≡ true → is_string text ≡ true → Spells (error code text) (Message.Error code text)
 error_spells code text e strung =

@@ -81,7 +81,7 @@ zero_refused = refused_end at_client write_by_four (acked 0) EndRule.AckZero ref
 -- ---- block 65535, as long as a block
 
 pub last_refused : IsRefused at_client (reverse before_last_number) last_number (Rule.Block EndRule.BeyondBlock65535)
-last_refused = refused_end at_client (after at_client read_by_most (acks 0 ∷ []) refl) (last_number, Message.Data 65535 ones) EndRule.BeyondBlock65535 refl (refl, omega arith)
+last_refused = refused_end at_client (after at_client read_by_most (acks 0 ∷ []) refl) (last_number, Message.Data 65535 ones) EndRule.BeyondBlock65535 refl (inr (refl, omega arith))
 
 -- ---- ten bytes
 

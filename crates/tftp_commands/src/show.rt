@@ -111,7 +111,7 @@ fn put_packet<W: Write>(writer: &mut LineWriter<W>, packet: &Packet<'_>) -> Resu
         Packet::Request(request) => writer.add_all(&[request_name(request.side()), b"\n"]),
         Packet::Data { block, bytes } => put_data(writer, *block, bytes.len()),
         Packet::Ack { block } => put_numbered(writer, b"ACK ", *block),
-        Packet::Error { code, message: _ } => put_numbered(writer, b"ERROR ", *code),
+        Packet::Error { code, message: _ } => put_numbered(writer, b"ERROR ", u32::from(*code)),
         Packet::Oack(_) => writer.add(b"OACK\n"),
     }
 }
@@ -119,7 +119,7 @@ fn put_packet<W: Write>(writer: &mut LineWriter<W>, packet: &Packet<'_>) -> Resu
 /// Adds what there is to say of a block, and the line's end; the length is that of its data.
 fn put_data<W: Write>(
     writer: &mut LineWriter<W>,
-    block: u16,
+    block: u32,
     length: usize,
 ) -> Result<(), WriteFault>
     ensures adds { Adds W.contents writer.old writer.new result (codes "DATA " ++ decimal block ++ codes " " ++ decimal length ++ codes "\n") }
@@ -139,7 +139,7 @@ fn put_data<W: Write>(
 fn put_numbered<W: Write>(
     writer: &mut LineWriter<W>,
     word: &[u8],
-    number: u16,
+    number: u32,
 ) -> Result<(), WriteFault>
     ensures adds { Adds W.contents writer.old writer.new result (word.now ++ decimal number ++ codes "\n") }
 {

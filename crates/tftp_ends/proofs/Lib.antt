@@ -2,6 +2,7 @@ pub mod BlocksLemmas
 pub mod Passing
 pub mod AfterSender
 pub mod SoundStates
+pub mod Highest
 pub mod FirstRules
 pub mod EndLengths
 pub mod AfterReceiver

@@ -1,6 +1,6 @@
 //! The rules of blocks and acknowledgements, by the numbers and blocks that a state keeps.
 
-ghost use Rattle.std.specs.Prelude.{◌≡◌, ◌↔◌, ℕ, ◌≤◌, List, length, Some, IsTrue, true, false, MatchOption, OnOk, OnErr, IfErr};
+ghost use Rattle.std.specs.Prelude.{◌⊎◌, ◌<◌, ◌≡◌, ◌↔◌, ℕ, ◌≤◌, List, length, Some, IsTrue, true, false, MatchOption, OnOk, OnErr, IfErr};
 ghost use Rattle.std.specs.FinMap as map;
 ghost use Rattle.tftp_packet.specs.{Data, Ack, NoneBelow};
 ghost use Rattle.tftp_packet.specs.Hosts.{Datagram};
@@ -15,6 +15,9 @@ use crate::rejection::Rejection;
 use law_model::rules::{EndRule, Reply, Terms};
 use std::alloc::Global;
 use tftp_packet::Side;
+
+/// The greatest number that a block may have (RFC 1350, section 5).
+const GREATEST_BLOCK: u32 = 65_535;
 
 /// Whether blocks wait for an ACK 0 (RFC 1350, section 4; RFC 2347). `zero` tells whether one has passed.
 fn blocks_wait(terms: &Terms, zero: bool) -> bool
@@ -40,7 +43,7 @@ pub(crate) fn ack_zero_waits(terms: &Terms, any_block: bool) -> bool
 
 /// The block that is shorter than the others, and so the last, if it is held (RFC 1350, section 2). It is the highest.
 #[inline(always)]
-fn short_block<D: Delivered>(store: &D, highest: u16, block_size: usize) -> Option<u16>
+fn short_block<D: Delivered>(store: &D, highest: u32, block_size: usize) -> Option<u32>
     requires highest { IsHighest (D.held store.now) highest }
     requires orderly { IsOrderly block_size (D.held store.now) }
     ensures { MatchOption result (AreWhole block_size (D.held store.now)) (IsShortTop block_size (D.held store.now)) }
@@ -74,7 +77,7 @@ pub(crate) fn last_block<D: Delivered>(terms: &Terms, store: &D) -> Option<u64>
 /// Whether a block has the length that this size of the wire leaves it (RFC 1350, section 2; RFC 2349).
 fn has_length_by_size(block_size: u64, size: u64, number: u64, len: u64) -> bool
     requires block_size { 8 ≤ block_size }
-    requires number { number ≤ 65535 }
+    requires number { number ≤ 4294967295 }
     ensures { IsTrue result ↔ HasLengthBySize block_size size number len }
 {
     let whole_blocks = size / block_size;
@@ -89,9 +92,9 @@ fn has_length_by_size(block_size: u64, size: u64, number: u64, len: u64) -> bool
 #[inline(always)]
 fn ends_elsewhere<D: Delivered>(
     store: &D,
-    highest: u16,
+    highest: u32,
     block_size: usize,
-    number: u16,
+    number: u32,
     len: usize,
 ) -> bool
     requires highest { IsHighest (D.held store.now) highest }
@@ -115,8 +118,8 @@ fn ends_elsewhere<D: Delivered>(
 fn has_wrong_length<D: Delivered>(
     terms: &Terms,
     store: &D,
-    highest: u16,
-    number: u16,
+    highest: u32,
+    number: u32,
     len: usize,
 ) -> bool
     requires sound { IsSound terms.now (D.held store.now) }
@@ -140,11 +143,11 @@ fn has_wrong_length<D: Delivered>(
     }
 }
 
-/// Whether it is a block 65535 that is not the last (RFC 1350, section 5).
-fn is_beyond(terms: &Terms, number: u16, len: usize) -> bool
-    ensures { IsTrue result ↔ ((number ≡ 65535) × (terms.now.blksize ≤ len)) }
+/// Whether it is a block above 65535, or that block and not the last (RFC 1350, section 5).
+fn is_beyond(terms: &Terms, number: u32, len: usize) -> bool
+    ensures { IsTrue result ↔ ((65535 < number) ⊎ ((number ≡ 65535) × (terms.now.blksize ≤ len))) }
 {
-    number == u16::MAX && usize::from(terms.blksize) <= len
+    number > GREATEST_BLOCK || (number == GREATEST_BLOCK && usize::from(terms.blksize) <= len)
 }
 
 /// The first rule that a block of this length breaks, of those that are the same at both ends and do not compare its
@@ -154,10 +157,10 @@ fn is_beyond(terms: &Terms, number: u16, len: usize) -> bool
 pub(crate) fn may_open<D: Delivered>(
     terms: &Terms,
     store: &D,
-    highest: u16,
+    highest: u32,
     zero: bool,
-    acked: u16,
-    number: u16,
+    acked: u32,
+    number: u32,
     len: usize,
 ) -> Result<(), EndRule>
     requires sound { IsSound terms.now (D.held store.now) }
@@ -170,6 +173,7 @@ pub(crate) fn may_open<D: Delivered>(
         → IfErr result (FirstEndBroken terms.now passed (Data number bytes)) }
     ensures takes { OnOk result (Takes terms.now.blksize terms.now.windowsize (D.held store.now) number len) }
     ensures sized { OnOk result ((size : ℕ) → terms.now.size ≡ Some size → HasLengthBySize terms.now.blksize size number len) }
+    ensures low { OnOk result (number ≤ 65535) }
 {
     if blocks_wait(terms, zero) {
         return Err(EndRule::NotStarted);
@@ -183,7 +187,7 @@ pub(crate) fn may_open<D: Delivered>(
     if has_wrong_length(terms, store, highest, number, len) {
         return Err(EndRule::BlockLength);
     }
-    if u32::from(acked) + u32::from(terms.windowsize) < u32::from(number) {
+    if u64::from(acked) + u64::from(terms.windowsize) < u64::from(number) {
         return Err(EndRule::WindowOverrun);
     }
     Ok(())
@@ -194,7 +198,7 @@ pub(crate) fn may_open<D: Delivered>(
 pub(crate) fn hold_block<D: Delivered>(
     store: &mut D,
     alloc: Global,
-    number: u16,
+    number: u32,
     bytes: &[u8],
 ) -> Result<(), Rejection>
     requires { Takes (D.block_size store.old) (D.window store.old) (D.held store.old) number (length bytes.now) }

@@ -3,6 +3,7 @@ ghost use Rattle.tftp_packet.specs.{meaning};
 ghost use Rattle.tftp_packet.specs.Hosts.{Datagram};
 ghost use Rattle.law_model.specs.Model.Roles.{sender_of as sends};
 ghost use Rattle.tftp_ends.specs.Blocks.{nothing_held};
+ghost use Rattle.law_model.specs.Rules.{IsHigh};
 ghost use Rattle.tftp_ends.specs.Rejections.{IsFound};
 ghost use Rattle.tftp_ends.specs.States.{has_stopped, IsBeforeBlocks, IsBlockOrAck, IsNewBlock, IsOfItsAuthor, Says};
 ghost use Rattle.tftp_ends.specs.NamedEnds.{terms_of, held_of, IsEndAfter, IsEndDone, HoldsBlock, HoldsWire};
@@ -92,9 +93,20 @@ impl<D: Delivered> NamedEnd<D> {
         }
     }
 
+    /// The highest block that has passed, or 0.
+    pub fn highest(&self) -> u32
+        ensures highest { (passed : List Datagram) → IsEndAfter self.now passed → IsHigh passed result }
+        ensures low { result ≤ 65535 }
+    {
+        match &self.role {
+            Role::Sends(sender) => sender.highest(),
+            Role::Receives(receiver) => receiver.highest(),
+        }
+    }
+
     /// Whether this end has sent this block, with these bytes (RFC 1350, section 2). A receiver has sent none, whatever it
     /// holds.
-    pub fn has_sent(&self, number: u16, bytes: &[u8]) -> bool
+    pub fn has_sent(&self, number: u32, bytes: &[u8]) -> bool
         ensures { IsTrue result ↔ HoldsBlock self.now number bytes.now }
     {
         match &self.role {

@@ -4,7 +4,7 @@ ghost use Rattle.tftp_packet.specs.{Data, Ack, Error, meaning};
 ghost use Rattle.tftp_packet.specs.Hosts.{Datagram};
 ghost use Rattle.tftp_packet.specs.{In, Out};
 ghost use Rattle.tftp_ends.specs.Blocks.{nothing_held};
-ghost use Rattle.law_model.specs.Rules.{IsReceiver, FirstEndBroken};
+ghost use Rattle.law_model.specs.Rules.{IsReceiver, FirstEndBroken, IsHigh};
 ghost use Rattle.tftp_ends.specs.NamedEnds.{Receives, HoldsWire};
 ghost use Rattle.tftp_ends.specs.Rejections.{IsFound, NoneBroken};
 ghost use Rattle.tftp_ends.specs.States.{
@@ -37,9 +37,9 @@ pub struct ReceiverState<D: Delivered> {
     // the blocks that came in
     store: D,
     // the highest ACK that went out
-    acked: u16,
+    acked: u32,
     // the highest ACK that went out before an ERROR came in
-    usable_acked: u16,
+    usable_acked: u32,
     // whether an ACK 0 went out before an ERROR came in
     zero: bool,
     // whether an ERROR came in
@@ -112,7 +112,7 @@ impl<D: Delivered> ReceiverState<D> {
 
     /// Keeps a block that comes in, as `pass` says it.
     #[inline(never)]
-    fn pass_data(&mut self, alloc: Global, number: u16, bytes: &[u8]) -> Result<(), Rejection>
+    fn pass_data(&mut self, alloc: Global, number: u32, bytes: &[u8]) -> Result<(), Rejection>
         ensures found { (passed : List Datagram) → IsReceiverAfter self.old passed → IsFound self.old.terms passed (Data number bytes.now) result }
         ensures after { (passed : List Datagram) (d : Datagram) → IsReceiverAfter self.old passed → Says d In (Data number bytes.now)
             → OnOk result (IsReceiverAfter self.new (d ∷ passed)) }
@@ -135,7 +135,7 @@ impl<D: Delivered> ReceiverState<D> {
     }
 
     /// Notes an ACK that goes out, as `pass` says it.
-    fn pass_ack(&mut self, number: u16) -> Result<(), EndRule>
+    fn pass_ack(&mut self, number: u32) -> Result<(), EndRule>
         ensures lawful { (passed : List Datagram) → IsReceiverAfter self.old passed
             → OnOk result (NoneBroken self.old.terms passed (Ack number)) }
         ensures first { (passed : List Datagram) → IsReceiverAfter self.old passed
@@ -184,6 +184,14 @@ impl<D: Delivered> ReceiverState<D> {
             Some(last) => { last == u64::from(self.store.front()) && last == u64::from(self.acked) }
             None => false,
         }
+    }
+
+    /// The highest block that came in, or 0.
+    pub fn highest(&self) -> u32
+        ensures highest { (passed : List Datagram) → IsReceiverAfter self.now passed → IsHigh passed result }
+        ensures low { result ≤ 65535 }
+    {
+        self.store.highest()
     }
 
     /// The store with the blocks that came in.

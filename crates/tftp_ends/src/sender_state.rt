@@ -4,7 +4,7 @@ ghost use Rattle.tftp_packet.specs.{Data, Ack, Error, meaning};
 ghost use Rattle.tftp_packet.specs.Hosts.{Datagram};
 ghost use Rattle.tftp_packet.specs.{In, Out};
 ghost use Rattle.tftp_ends.specs.Blocks.{nothing_held};
-ghost use Rattle.law_model.specs.Rules.{IsSender, FirstEndBroken};
+ghost use Rattle.law_model.specs.Rules.{IsSender, FirstEndBroken, IsHigh};
 ghost use Rattle.tftp_ends.specs.NamedEnds.{Sends, HoldsWire};
 ghost use Rattle.tftp_ends.specs.Rejections.{IsFound, NoneBroken};
 ghost use Rattle.tftp_ends.specs.States.{
@@ -37,11 +37,11 @@ pub struct SenderState<D: Delivered> {
     // the blocks that went out
     store: D,
     // the highest ACK that came in
-    answered: u16,
+    answered: u32,
     // whether an ACK 0 came in
     zero: bool,
     // the highest block that went out before an ERROR came in
-    usable_top: u16,
+    usable_top: u32,
     // whether an ERROR came in
     stopped: bool,
 }
@@ -112,7 +112,7 @@ impl<D: Delivered> SenderState<D> {
 
     /// Keeps a block that goes out, as `pass` says it.
     #[inline(never)]
-    fn pass_data(&mut self, alloc: Global, number: u16, bytes: &[u8]) -> Result<(), Rejection>
+    fn pass_data(&mut self, alloc: Global, number: u32, bytes: &[u8]) -> Result<(), Rejection>
         ensures found { (passed : List Datagram) → IsSenderAfter self.old passed → IsFound self.old.terms passed (Data number bytes.now) result }
         ensures after { (passed : List Datagram) (d : Datagram) → IsSenderAfter self.old passed → Says d Out (Data number bytes.now)
             → OnOk result (IsSenderAfter self.new (d ∷ passed)) }
@@ -131,7 +131,7 @@ impl<D: Delivered> SenderState<D> {
             number,
             bytes.len(),
         )?;
-        if u32::from(top) + 1 < u32::from(number) {
+        if u64::from(top) + 1 < u64::from(number) {
             return Err(Rejection::Broken(EndRule::BlockSkipped));
         }
         if self.terms.windowsize == 1 && number < top {
@@ -145,7 +145,7 @@ impl<D: Delivered> SenderState<D> {
     }
 
     /// Notes an ACK that comes in, as `pass` says it.
-    fn pass_ack(&mut self, number: u16) -> Result<(), EndRule>
+    fn pass_ack(&mut self, number: u32) -> Result<(), EndRule>
         ensures lawful { (passed : List Datagram) → IsSenderAfter self.old passed
             → OnOk result (NoneBroken self.old.terms passed (Ack number)) }
         ensures first { (passed : List Datagram) → IsSenderAfter self.old passed
@@ -193,13 +193,21 @@ impl<D: Delivered> SenderState<D> {
     }
 
     /// Whether this block went out, with these bytes (RFC 1350, section 2).
-    pub fn has_sent(&self, number: u16, bytes: &[u8]) -> bool
+    pub fn has_sent(&self, number: u32, bytes: &[u8]) -> bool
         ensures { IsTrue result ↔ (map.get self.now.held number ≡ Some bytes.now) }
     {
         match self.store.block(number) {
             Some(held) => held == bytes,
             None => false,
         }
+    }
+
+    /// The highest block that went out, or 0.
+    pub fn highest(&self) -> u32
+        ensures highest { (passed : List Datagram) → IsSenderAfter self.now passed → IsHigh passed result }
+        ensures low { result ≤ 65535 }
+    {
+        self.store.highest()
     }
 
     /// The store with the blocks that went out.

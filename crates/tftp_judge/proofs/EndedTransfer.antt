@@ -1,5 +1,5 @@
 -- When a transfer is whole by what the named end keeps.
-use Rattle.std.proofs.Common.{◌≡◌, ◌↔◌, ◌⊎◌, ℕ, ◌+◌, ◌/◌, ◌<◌, ◌≤◌, zero, suc, List, [], ◌∷◌, length, All, Option, Some, None, Ok, Err, codes, inl, inr, refl, sym, subst, ap, ◌∙◌, arith, reverse}
+use Rattle.std.proofs.Common.{◌≡◌, ◌↔◌, ◌⊎◌, ℕ, ◌+◌, ◌*◌, ◌/◌, ◌<◌, ◌≤◌, zero, suc, List, [], ◌∷◌, length, All, Option, Some, None, Ok, Err, codes, inl, inr, refl, sym, subst, ap, ◌∙◌, arith, reverse}
 use Rattle.std.specs.FinMap as map
 use Rattle.std.proofs.lemmas.List.{reverse-reverse, length-reverse}
 use Rattle.std.proofs.lemmas.List.Elements.{All-from_recursion, recursion_from_All}
@@ -31,10 +31,22 @@ use Rattle.tftp_judge.proofs.Replied.{terms_named, terms_side}
 
 -- ---- the front of what is held
 
-small_block : (dir : Dir) (k : ℕ) (bytes : List ℕ) (passed : List Datagram) → Passed dir (Message.Data k bytes) passed → k < 65536
+abbrev place_in : List ℕ → ℕ
+place_in [] = 0
+place_in (a ∷ []) = 0
+place_in (a ∷ b ∷ []) = 0
+place_in (a ∷ b ∷ x ∷ []) = 0
+place_in (a ∷ b ∷ x ∷ y ∷ rest) = 256 * x + y
+
+-- no block that has passed is above this
+abbrev most_of : List Datagram → ℕ
+most_of [] = 0
+most_of (d ∷ passed) = place_in d.payload + most_of passed
+
+small_block : (dir : Dir) (k : ℕ) (bytes : List ℕ) (passed : List Datagram) → Passed dir (Message.Data k bytes) passed → k ≤ most_of passed
 small_block dir k bytes [] p = absurd p
-small_block dir k bytes (d ∷ passed) (inl (way, (all, (x, y, (small, also, is), text)))) = omega arith
-small_block dir k bytes (d ∷ passed) (inr before) = small_block dir k bytes passed before
+small_block dir k bytes (d ∷ passed) (inl (way, (all, (x, y, (also, is), text)))) = let at : place_in d.payload ≡ 256 * x + y = ap place_in text in omega arith
+small_block dir k bytes (d ∷ passed) (inr before) = let low = small_block dir k bytes passed before in omega arith
 
 module _ (held : Held) where
   front_below : (n : ℕ) → ((k : ℕ) → 1 ≤ k → k ≤ n → IsHeld held k) ⊎ ((front : ℕ) × IsHeldFront held front)
@@ -53,11 +65,11 @@ module _ (held : Held) where
 
   -- the numbers of blocks end, and so there is a front
   pub some_front : (passed : List Datagram) → AreBlocks passed held → (front : ℕ) × IsHeldFront held front
-  some_front passed blocks = elim (front_below 65536) [
+  some_front passed blocks = elim (front_below (most_of passed + 1)) [
     | inr found ↦ found
     | inl all ↦
-        let last = all 65536 (omega arith) (omega arith) in
-        let small : 65536 < 65536 = elim ((blocks 65536 last.0).1 last.1) [ inl p ↦ small_block In 65536 last.0 passed p | inr p ↦ small_block Out 65536 last.0 passed p ] in
+        let last = all (most_of passed + 1) (omega arith) (omega arith) in
+        let small : most_of passed + 1 ≤ most_of passed = elim ((blocks (most_of passed + 1) last.0).1 last.1) [ inl p ↦ small_block In (most_of passed + 1) last.0 passed p | inr p ↦ small_block Out (most_of passed + 1) last.0 passed p ] in
         absurd (omega (arith, small))
   ]
 

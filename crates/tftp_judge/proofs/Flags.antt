@@ -1,8 +1,8 @@
 -- Flags in words of 64 bits.
-use Rattle.std.proofs.Common.{◌≡◌, ◌||◌, ◌==◌, ◌/◌, ◌%◌, ◌+◌, ◌*◌, ◌^◌, ◌<◌, ℕ, zero, suc, Bool, true, false, List, length, w64, bit_or, inl, inr, refl, sym, subst, ap, ◌∙◌, replicate, slice_index_or, slice_set}
+use Rattle.std.proofs.Common.{◌≡◌, ◌||◌, ◌==◌, ◌/◌, ◌%◌, ◌+◌, ◌*◌, ◌^◌, ◌<◌, ◌≤◌, ℕ, zero, suc, Bool, true, false, List, length, w64, bit_or, inl, inr, refl, sym, subst, ap, ◌∙◌, replicate, slice_index_or, slice_set}
 use Rattle.std.specs.Int.{bit_at}
 use Rattle.std.proofs.lemmas.Bool.{cases_eq, eq-eqb, ne_eqb}
-use Rattle.std.proofs.lemmas.List.{get_or-set_same, get_or-set_other}
+use Rattle.std.proofs.lemmas.List.{get_or_past, get_or-set_same, get_or-set_other}
 use Rattle.std.proofs.lemmas.Nat.{div-add-mod'}
 use Rattle.std.proofs.lemmas.Nat.Bits.{bit_at-zero, bit_at_set_same, bit_at_set_other}
 use Rattle.tftp_judge.specs.{flags_of}
@@ -25,6 +25,10 @@ zero_at (suc n) (suc i) = zero_at n i
 
 pub no_flag : (n j : ℕ) → flags_of (replicate n 0) j ≡ false
 no_flag n j = ap (λ w. bit_at w (j % 64) == 1) (zero_at n (j / 64)) ∙ ap (λ b. b == 1) (bit_at-zero (j % 64))
+
+-- a flag that no word has
+pub flag_beyond : (words : List ℕ) (j : ℕ) → length words ≤ j / 64 → false ≡ flags_of words j
+flag_beyond words j past = sym (ap (λ w. bit_at w (j % 64) == 1) (get_or_past words (j / 64) 0 past) ∙ ap (λ b. b == 1) (bit_at-zero (j % 64)))
 
 -- the word with one flag more
 abbrev raised : List ℕ → ℕ → ℕ

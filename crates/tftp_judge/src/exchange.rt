@@ -87,7 +87,7 @@ impl<D: Delivered + Drop> Exchange<D> {
     }
 
     /// Whether the named end has sent this block, with these bytes (RFC 1350, section 2).
-    pub fn has_sent(&self, number: u16, bytes: &[u8]) -> bool
+    pub fn has_sent(&self, number: u32, bytes: &[u8]) -> bool
         ensures { IsTrue result ↔ HasBlock (exchange_of self.now) number bytes.now }
     {
         match self {

@@ -122,7 +122,7 @@ pub fn file_of<D: Delivered + Drop>(
 }
 
 /// The number of blocks of the one wire that is written for a file; none where it is above 65535 (RFC 1350, section 5).
-pub fn written_blocks(blksize: u16, file: &CarriedFile) -> Option<u16>
+pub fn written_blocks(blksize: u16, file: &CarriedFile) -> Option<u32>
     requires sized { 1 ≤ blksize }
     ensures { MatchOption result (length (written_wire file.now.0 file.now.1) / blksize + 1 ≤ 65535 → ⊥)
         (λ blocks. (blocks ≡ length (written_wire file.now.0 file.now.1) / blksize + 1)
@@ -130,7 +130,7 @@ pub fn written_blocks(blksize: u16, file: &CarriedFile) -> Option<u16>
 {
     let full = file.written_len() / u64::from(blksize);
     if full < 65535 {
-        Some(full as u16 + 1)
+        Some(full as u32 + 1)
     } else {
         None
     }

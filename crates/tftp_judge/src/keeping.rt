@@ -160,10 +160,23 @@ impl<D: Delivered + Drop> JudgeState<D> {
                 return transfer.pass_oack_again(dir);
             }
             if let Some((block, bytes)) = block_of(payload) {
-                return transfer.pass(alloc, dir, &Packet::Data { block, bytes });
+                return transfer.pass(
+                    alloc,
+                    dir,
+                    &Packet::Data {
+                        block: u32::from(block),
+                        bytes,
+                    },
+                );
             }
             if let Some(block) = ack_of(payload) {
-                return transfer.pass(alloc, dir, &Packet::Ack { block });
+                return transfer.pass(
+                    alloc,
+                    dir,
+                    &Packet::Ack {
+                        block: u32::from(block),
+                    },
+                );
             }
         }
         self.pass_read(alloc, route, dir, payload)

@@ -9,7 +9,7 @@ pub struct Meaning {
     request: Request,
     agreed: Options,
     file: CarriedFile,
-    blocks: u16,
+    blocks: u32,
 }
 
 /// A meaning taken apart.
@@ -22,7 +22,7 @@ pub struct MeaningParts {
     /// The bytes of the file, or of its canonical wire where that is the one which came.
     pub file: FileBytes,
     /// How many blocks the canonical wire of the file has, the last one too.
-    pub blocks: u16,
+    pub blocks: u32,
 }
 
 impl Model for Meaning {
@@ -48,7 +48,7 @@ impl Meaning {
     ghost use Rattle.tftp_judge.specs.Contents.{file_in, IsCanonical};
 
     /// Takes the parts over, and no memory. The number of the blocks is that of the canonical wire.
-    pub(crate) fn of(request: Request, agreed: Options, file: CarriedFile, blocks: u16) -> Self
+    pub(crate) fn of(request: Request, agreed: Options, file: CarriedFile, blocks: u32) -> Self
         requires can { CanBeWritten (meaning_from (request, (agreed, file.1))) }
         requires counted { blocks ≡ blocks_of (meaning_from (request, (agreed, file.1))) }
         requires mode { file.0 ≡ request.mode }
@@ -121,7 +121,7 @@ impl Meaning {
     /// those that came: in netascii a file has several wires. Whatever is meant can be written: the file fits on that wire,
     /// and each of its packets goes into a datagram.
     #[inline]
-    pub fn blocks(&self) -> u16
+    pub fn blocks(&self) -> u32
         ensures count { result ≡ blocks_of self.now }
         ensures can { CanBeWritten self.now }
     {

@@ -34,11 +34,24 @@ impl SentAcks {
         self.words[usize::from(block / 64)] |= 1u64 << (block % 64);
     }
 
-    /// Whether the ACK of this block went out.
+    /// Whether the ACK of this block went out. None above 65535 did.
     #[inline]
-    pub fn has(&self, block: u16) -> bool
+    pub fn has(&self, block: u32) -> bool
         ensures { result ≡ flags_of self.now block }
     {
-        (self.words[usize::from(block / 64)] >> (block % 64)) & 1 == 1
+        has_flag(&self.words, block)
     }
+}
+
+/// Whether the flag of this block is set. Beyond the words none is.
+#[tactic(auto, using(crate::proofs::Flags::flag_beyond))]
+#[inline]
+fn has_flag(words: &[u64], block: u32) -> bool
+    ensures { result ≡ flags_of words.now block }
+{
+    let word = (block / 64) as usize;
+    if word >= words.len() {
+        return false;
+    }
+    (words[word] >> (block % 64)) & 1 == 1
 }

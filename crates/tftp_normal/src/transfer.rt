@@ -49,7 +49,7 @@ impl<'a> Transfer<'a> {
         request: &'a Request,
         agreed: &'a Options,
         file: &'a FileBytes,
-        blocks: u16,
+        blocks: u32,
     ) -> Self
         requires can { CanBeWritten (meaning_from (request.now, (agreed.now, file_in request.now.mode file.now))) }
         requires counted { blocks ≡ blocks_of (meaning_from (request.now, (agreed.now, file_in request.now.mode file.now))) }
@@ -60,7 +60,7 @@ impl<'a> Transfer<'a> {
             request,
             agreed,
             file,
-            blocks,
+            blocks: blocks as u16,
         }
     }
 

@@ -1,11 +1,14 @@
 -- What is written for a message spells it, and nothing shorter does.
 use Rattle.std.proofs.Common.{◌≡◌, ℕ, ◌/◌, ◌%◌, ◌<◌, ◌≤◌, List, [], ◌∷◌, length, length-append, refl, sym, ap, subst, ◌∙◌, arith, rules}
 use Rattle.std.specs.List.{AllByRecursion}
-use Rattle.tftp_packet.specs.{OptionMap, lower, RequestParts, Message, Request, Data, Ack, Error, Oack, IsString, terminated, strings, pair_strings, map_of, IsPair, side_opcode, mode_name, SpellsRequest, SpellsOack, Spells, canonical, canonical_pairs, shown_pairs, Side, Get, Put, Mode, Octet, Netascii}
+use Rattle.tftp_packet.specs.{OptionMap, lower, RequestParts, Message, Request, Data, Ack, Error, Oack, IsString, terminated, strings, pair_strings, map_of, IsPair, IsPlace, but_third, side_opcode, mode_name, SpellsRequest, SpellsOack, Spells, canonical, canonical_pairs, shown_pairs, Side, Get, Put, Mode, Octet, Netascii}
 use Rattle.tftp_packet.proofs.CanonicalOptions.{Bytes, bytes_of_strings, strings_bytes, Canonical, canonical_good, no_entry, length_lower}
 
 numbered : (x y n : ℕ) → IsPair x y n → IsPair (n / 256) (n % 256) n
 numbered x y n is = (omega arith, omega arith, omega arith)
+
+place_again : (n : ℕ) → IsPlace (n / 256) (n % 256) n
+place_again n = (omega arith, omega arith)
 
 mode_bytes : (mode : Mode) → Bytes (mode_name mode)
 mode_bytes Octet = search rules
@@ -85,11 +88,11 @@ module _ (payload : List ℕ) (options : OptionMap) (all : Bytes payload) (p : S
 pub spells_again : (payload : List ℕ) (m : Message) → Spells payload m → Spells (canonical m) m
 spells_again payload (Request request) (all, p) = request_spells payload request all p
 spells_again payload (Data block bytes) (all, (x, y, is, e)) =
-    let new = numbered x y block is in
-    ((omega arith, (omega arith, (new.0, (new.1, (subst Bytes e all).1.1.1.1)))), (block / 256, block % 256, new, refl))
+    let new = place_again block in
+    ((omega arith, (omega arith, (new.0, (subst (λ (p : List ℕ). Bytes (but_third p)) e all).1.1.1))), (block / 256, block % 256, new, refl))
 spells_again payload (Ack block) (all, (x, y, is, e)) =
-    let new = numbered x y block is in
-    ((omega arith, (omega arith, (new.0, (new.1, tt)))), (block / 256, block % 256, new, refl))
+    let new = place_again block in
+    ((omega arith, (omega arith, (new.0, tt))), (block / 256, block % 256, new, refl))
 spells_again payload (Error code message) (all, (x, y, is, string, e)) =
     let new = numbered x y code is in
     ((omega arith, (omega arith, (new.0, (new.1, (subst Bytes e all).1.1.1.1)))), (code / 256, code % 256, new, string, refl))

@@ -3,7 +3,7 @@ use Rattle.std.proofs.Common.{◌≡◌, ◌≢◌, ◌↔◌, inl, inr, ℕ, �
 use Rattle.std.specs.List.{AllByRecursion}
 use Rattle.std.proofs.lemmas.List.Elements.{recursion_from_All, All-from_get_or}
 use Rattle.std.proofs.lemmas.List.{take_all}
-use Rattle.tftp_packet.specs.{IsString, terminated, Message, meaning, Spells, IsPair, Holds, FirstFault, opcode_of, IsWritten, Judges, Packet, PacketFault, Short, Opcode, NoTerminator}
+use Rattle.tftp_packet.specs.{IsString, terminated, Message, meaning, Spells, IsPair, IsPlace, bytes_in, Holds, FirstFault, opcode_of, IsWritten, Judges, Packet, PacketFault, Short, Opcode, NoTerminator}
 use Rattle.byteorder.specs.Endian.{big_number}
 use Rattle.tftp_packet.proofs.FaultOrder.{first_fault_unique, first_fault}
 use Rattle.tftp_packet.proofs.Unique.{one_message}
@@ -13,8 +13,22 @@ use Rattle.tftp_packet.proofs.NoFault.{no_fault}
 pub all_bytes : (payload : List ℕ) → ((i : ℕ) → Fits w8 (get_or payload i 0)) → AllByRecursion (λ b. b < 256) payload
 all_bytes payload fits = recursion_from_All (λ b. b < 256) payload (All-from_get_or (λ b. b < 256) payload 0 (λ i h. omega (arith, fits i)))
 
+-- what are bytes in each case, where all are
+pub bytes_but : (m : Message) (payload : List ℕ) → AllByRecursion (λ b. b < 256) payload → AllByRecursion (λ b. b < 256) (bytes_in m payload)
+bytes_but (Message.Request request) payload all = all
+bytes_but (Message.Error code message) payload all = all
+bytes_but (Message.Oack options) payload all = all
+bytes_but (Message.Data block bytes) [] all = all
+bytes_but (Message.Data block bytes) (a ∷ []) all = all
+bytes_but (Message.Data block bytes) (a ∷ b ∷ []) all = all
+bytes_but (Message.Data block bytes) (a ∷ b ∷ c ∷ rest) all = (all.0, (all.1.0, all.1.1.1))
+bytes_but (Message.Ack block) [] all = all
+bytes_but (Message.Ack block) (a ∷ []) all = all
+bytes_but (Message.Ack block) (a ∷ b ∷ []) all = all
+bytes_but (Message.Ack block) (a ∷ b ∷ c ∷ rest) all = (all.0, (all.1.0, all.1.1.1))
+
 pub found_of : (payload : List ℕ) (r : Result Packet PacketFault) → AllByRecursion (λ b. b < 256) payload → Judges payload r → IfOk r (λ p. Spells payload (meaning p))
-found_of payload (Ok p) bytes judged = (bytes, judged.0)
+found_of payload (Ok p) bytes judged = (bytes_but (meaning p) payload bytes, judged.0)
 found_of payload (Err f) bytes judged = tt
 
 pub written_of : (payload : List ℕ) (r : Result Packet PacketFault) → Judges payload r → IfOk r (IsWritten payload)
@@ -70,6 +84,9 @@ error_fault payload text x y parts never = first_fault payload NoTerminator (inr
     not_opcode : Holds Opcode payload → ⊥
     not_opcode (inl op) = omega (arith, five)
     not_opcode (inr op) = omega (arith, five)
+
+pub as_place : (payload rest : List ℕ) (k n : ℕ) → ((x y : ℕ) × IsPair x y n × (payload ≡ 0 ∷ k ∷ x ∷ y ∷ rest)) → ((x y : ℕ) × IsPlace x y n × (payload ≡ 0 ∷ k ∷ x ∷ y ∷ rest))
+as_place payload rest k n (x, y, is, e) = (x, y, (omega arith, omega arith), e)
 
 -- the number of bytes 2 and 3, and the bytes after them
 abbrev pub Numbered : List ℕ → ℕ → ℕ → Type 0

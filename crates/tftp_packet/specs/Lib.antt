@@ -20,8 +20,8 @@ pub use OptionMaps.{Num, OptionMap, OptionValue, Text, is_within, lower, no_opti
 unfoldable pub use OptionMaps.{is_known_number, is_number, range_of, value_of}
 pub use Messages.{Ack, Data, Error, Message, Oack, Request, RequestParts}
 pub use Written.{AreApart, AreNamed, AreOptions, AreStrings, IsString, Pair, SameName, WrittenRequest, map_of, pair_strings, pair_up, pairs_of, parts, strings, strings_of, terminated, text_of}
-pub use Spelling.{IsPair, Layout, Spells, SpellsOack, SpellsRequest, mode_name, side_opcode}
-pub use Meaning.{HasStringMessage, meaning}
+pub use Spelling.{IsPair, IsPlace, but_third, bytes_in, Layout, Spells, SpellsOack, SpellsRequest, mode_name, side_opcode}
+pub use Meaning.{IsSpellable, meaning}
 pub use FirstOf.{IsFirst, NoneBelow}
 pub use Faults.{AnyOf, EndsWithZero, FirstFault, HasMode, HasOptionStrings, HasRepeat, Holds, IsRequest, IsRequestOf, ModeFault, number, opcode_of}
 pub use AsWritten.{IsWritten, IsWrittenOack, IsWrittenRequest, request_strings, written_oack, written_request}

@@ -1,4 +1,5 @@
 -- What a packet that was read says.
+use Rattle.std.specs.Prelude.{◌≤◌}
 use Rattle.tftp_packet.specs.Messages.{Message, Request, Data, Ack, Error, Oack}
 use Rattle.tftp_packet.specs.Written.{IsString, parts, map_of}
 use Rattle.tftp_packet.specs.declared.packet.Packet.{Packet}
@@ -11,10 +12,10 @@ meaning (packet.Ack block) = Ack block
 meaning (packet.Error code message) = Error code message.now
 meaning (packet.Oack options) = Oack (map_of options)
 
--- the message of an error has no zero byte
-abbrev pub HasStringMessage : Packet → Type 0
-HasStringMessage (packet.Request request) = Unit {0}
-HasStringMessage (packet.Data block bytes) = Unit {0}
-HasStringMessage (packet.Ack block) = Unit {0}
-HasStringMessage (packet.Error code message) = IsString message.now
-HasStringMessage (packet.Oack options) = Unit {0}
+-- some payload of bytes spells it: a block has two bytes for its number, and the message of an error no zero byte
+abbrev pub IsSpellable : Packet → Type 0
+IsSpellable (packet.Request request) = Unit {0}
+IsSpellable (packet.Data block bytes) = block ≤ 65535
+IsSpellable (packet.Ack block) = block ≤ 65535
+IsSpellable (packet.Error code message) = IsString message.now
+IsSpellable (packet.Oack options) = Unit {0}

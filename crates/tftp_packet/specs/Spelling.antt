@@ -13,6 +13,11 @@ use Rattle.tftp_packet.specs.declared.kinds.Mode.TheVariants.{Octet, Netascii}
 abbrev pub IsPair : ℕ → ℕ → ℕ → Type 0
 IsPair x y n = (x < 256) × (y < 256) × (n ≡ 256 * x + y)
 
+-- The two parts of a block's place. Where the first one is a byte they are the block's number, which has two bytes
+-- (RFC 1350, section 5); a block above 65535 has more in it.
+abbrev pub IsPlace : ℕ → ℕ → ℕ → Type 0
+IsPlace x y n = (y < 256) × (n ≡ 256 * x + y)
+
 -- the opcode of a request
 abbrev pub side_opcode : Side → ℕ
 side_opcode Get = 1
@@ -46,14 +51,27 @@ pub record SpellsOack (payload : List ℕ) (options : OptionMap) : Type 0 where
 -- the layout of each packet
 abbrev pub Layout : List ℕ → Message → Type 0
 Layout payload (Request request) = SpellsRequest payload request
-Layout payload (Data block bytes) = (x y : ℕ) × IsPair x y block × (payload ≡ 0 ∷ 3 ∷ x ∷ y ∷ bytes)
-Layout payload (Ack block) = (x y : ℕ) × IsPair x y block × (payload ≡ 0 ∷ 4 ∷ x ∷ y ∷ [])
+Layout payload (Data block bytes) = (x y : ℕ) × IsPlace x y block × (payload ≡ 0 ∷ 3 ∷ x ∷ y ∷ bytes)
+Layout payload (Ack block) = (x y : ℕ) × IsPlace x y block × (payload ≡ 0 ∷ 4 ∷ x ∷ y ∷ [])
 Layout payload (Error code message) = (x y : ℕ) × IsPair x y code × IsString message × (payload ≡ 0 ∷ 5 ∷ x ∷ y ∷ terminated message)
 Layout payload (Oack options) = SpellsOack payload options
 
--- the payload is bytes, laid out as the packet
+-- a payload without its third element
+abbrev pub but_third : List ℕ → List ℕ
+but_third (a ∷ b ∷ c ∷ rest) = a ∷ b ∷ rest
+but_third payload = payload
+
+-- what has to be bytes: of DATA and ACK all but the first part of the block's place
+abbrev pub bytes_in : Message → List ℕ → List ℕ
+bytes_in (Data block bytes) payload = but_third payload
+bytes_in (Ack block) payload = but_third payload
+bytes_in (Request request) payload = payload
+bytes_in (Error code message) payload = payload
+bytes_in (Oack options) payload = payload
+
+-- the payload is bytes, laid out as the packet; the first part of a block's place may be more than a byte
 abbrev pub Spells : List ℕ → Message → Type 0
-Spells payload message = AllByRecursion (λ b. b < 256) payload × Layout payload message
+Spells payload message = AllByRecursion (λ b. b < 256) (bytes_in message payload) × Layout payload message
 
 -- a request to read a file in octet mode, without options
 abbrev pub octet_read : List ℕ → RequestParts

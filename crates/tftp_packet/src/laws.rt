@@ -1,7 +1,8 @@
-ghost use Rattle.std.specs.Prelude.{◌≡◌, ◌∷◌, ◌++◌, [], ◌≤◌, ℕ, List, codes, length, option_map};
+ghost use Rattle.std.specs.Prelude.{◌≡◌, ◌∷◌, ◌++◌, [], ◌<◌, ◌≤◌, ℕ, List, codes, length, option_map};
 ghost use Rattle.tftp_packet.specs.Messages.{Message};
 ghost use Rattle.tftp_packet.specs.OptionMaps.{OptionValue, value_of};
 ghost use Rattle.std.specs.FinMap as map;
+ghost use Rattle.std.specs.List.{AllByRecursion};
 ghost use Rattle.tftp_packet.specs.Written.{terminated, strings, Pair, AreApart, map_of, text_of, WrittenRequest};
 ghost use Rattle.tftp_packet.specs.AsWritten.{IsWrittenRequest, IsWrittenOack};
 ghost use Rattle.tftp_packet.specs.Worked.{capitals_oack, capitals_request, capital_window, capital_size, capital_request, long_name};
@@ -28,12 +29,20 @@ pub fn spelled_has_no_fault()
     ensures { (payload : List ℕ) (m : Message) (f : PacketFault) → Spells payload m → FirstFault payload f → ⊥ }
 {}
 
+/// Where a payload is bytes, the block that it spells has a number of two bytes (RFC 1350, section 5).
+pub fn bytes_spell_blocks_of_two_bytes()
+    ensures data { (payload bytes : List ℕ) (k : ℕ) → AllByRecursion (λ b. b < 256) payload → Spells payload (Message.Data k bytes) → k ≤ 65535 }
+    ensures ack { (payload : List ℕ) (k : ℕ) → AllByRecursion (λ b. b < 256) payload → Spells payload (Message.Ack k) → k ≤ 65535 }
+{}
+
 /// Worked examples (RFC 1350, section 5): a request to read `a` in octet mode, the block 1 of `hi`, and its
-/// acknowledgement.
+/// acknowledgement; and a block and an acknowledgement above 65535, which no bytes spell.
 pub fn worked_spellings()
     ensures request { Spells (0 ∷ 1 ∷ 97 ∷ 0 ∷ 111 ∷ 99 ∷ 116 ∷ 101 ∷ 116 ∷ 0 ∷ []) (Message.Request (octet_read (97 ∷ []))) }
     ensures data { Spells (0 ∷ 3 ∷ 0 ∷ 1 ∷ 104 ∷ 105 ∷ []) (Message.Data 1 (104 ∷ 105 ∷ [])) }
     ensures ack { Spells (0 ∷ 4 ∷ 1 ∷ 2 ∷ []) (Message.Ack 258) }
+    ensures high_data { Spells (0 ∷ 3 ∷ 256 ∷ 1 ∷ 104 ∷ 105 ∷ []) (Message.Data 65537 (104 ∷ 105 ∷ [])) }
+    ensures high_ack { Spells (0 ∷ 4 ∷ 256 ∷ 0 ∷ []) (Message.Ack 65536) }
 {}
 
 /// What is written for a message that some payload spells, spells it too.

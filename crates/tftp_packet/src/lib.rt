@@ -23,9 +23,10 @@ pub use byte_list::Bytes;
 pub use fault::PacketFault;
 pub use kinds::{End, Mode, Side};
 pub use laws::{
-    canonical_is_shortest, canonical_spells, first_fault_is_one, map_of_options,
-    spelled_has_no_fault, spells_one_message, worked_canonicals, worked_faults, worked_mode_faults,
-    worked_option_faults, worked_spellings, worked_values, worked_written, written_is_one,
+    bytes_spell_blocks_of_two_bytes, canonical_is_shortest, canonical_spells, first_fault_is_one,
+    map_of_options, spelled_has_no_fault, spells_one_message, worked_canonicals, worked_faults,
+    worked_mode_faults, worked_option_faults, worked_spellings, worked_values, worked_written,
+    written_is_one,
 };
 pub use options::{OptionsView, Pairs};
 pub use owned_options::{Options, own_options};

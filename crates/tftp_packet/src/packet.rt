@@ -20,9 +20,9 @@ pub enum Packet<'a> {
     /// A request to read or to write a file.
     Request(RequestView<'a>),
     /// A block of the file.
-    Data { block: u16, bytes: &'a [u8] },
+    Data { block: u32, bytes: &'a [u8] },
     /// The acknowledgement of a block, or of the block 0.
-    Ack { block: u16 },
+    Ack { block: u32 },
     /// The end of the transfer, with a code and a message for people (RFC 1350, section 5).
     Error { code: u16, message: &'a [u8] },
     /// The options that the server agrees to (RFC 2347).
@@ -105,7 +105,10 @@ fn read_data(payload: &[u8]) -> Result<Packet<'_>, PacketFault>
     ensures { Judges payload.now result }
 {
     match block_of(payload) {
-        Some((block, bytes)) => Ok(Packet::Data { block, bytes }),
+        Some((block, bytes)) => Ok(Packet::Data {
+            block: u32::from(block),
+            bytes,
+        }),
         None => Err(PacketFault::Short),
     }
 }
@@ -116,7 +119,9 @@ fn read_ack(payload: &[u8]) -> Result<Packet<'_>, PacketFault>
     ensures { Judges payload.now result }
 {
     match ack_of(payload) {
-        Some(block) => Ok(Packet::Ack { block }),
+        Some(block) => Ok(Packet::Ack {
+            block: u32::from(block),
+        }),
         None => Err(PacketFault::AckLength),
     }
 }

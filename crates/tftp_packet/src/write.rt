@@ -1,6 +1,6 @@
 ghost use Rattle.std.specs.Prelude.{◌≡◌, ◌++◌, ◌∷◌, [], ◌<◌, ◌/◌, ◌%◌, IfOk, OnOk};
 ghost use Rattle.tftp_packet.specs.Messages.{Message};
-ghost use Rattle.tftp_packet.specs.Meaning.{meaning, HasStringMessage};
+ghost use Rattle.tftp_packet.specs.Meaning.{meaning, IsSpellable};
 ghost use Rattle.tftp_packet.specs.Written.{terminated, strings, pair_strings};
 ghost use Rattle.tftp_packet.specs.Owned.{shown};
 ghost use Rattle.tftp_packet.specs.Canonical.{value_text, canonical_pairs, canonical};
@@ -16,13 +16,13 @@ use std::alloc::{AllocError, Global};
 
 /// The canonical bytes of a packet: no other spelling of it is shorter.
 pub fn write_packet(alloc: Global, packet: &Packet<'_>) -> Result<Vec<u8>, AllocError>
-    requires { HasStringMessage packet.now }
+    requires { IsSpellable packet.now }
     ensures { IfOk result (λ v. v.items ≡ canonical (meaning packet.now)) }
 {
     match packet {
         Packet::Request(view) => write_request(alloc, &own_request(alloc, view)?),
-        Packet::Data { block, bytes } => write_numbered(alloc, 3, *block, bytes),
-        Packet::Ack { block } => write_numbered(alloc, 4, *block, &[]),
+        Packet::Data { block, bytes } => write_numbered(alloc, 3, *block as u16, bytes),
+        Packet::Ack { block } => write_numbered(alloc, 4, *block as u16, &[]),
         Packet::Error { code, message } => {
             let mut out = write_numbered(alloc, 5, *code, message)?;
             out.push(0)?;

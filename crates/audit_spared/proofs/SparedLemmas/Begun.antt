@@ -3,7 +3,7 @@ use Rattle.std.proofs.Common.{◌≡◌, ◌≤◌, ◌+◌, ℕ, zero, suc, Boo
 use Rattle.std.specs.List.{list_any, AllByRecursion}
 use Rattle.std.proofs.lemmas.Bool.{false≢true, or_left, or_right, and_parts, or_parts}
 use Rattle.std.proofs.lemmas.List.{reverse-reverse}
-use Rattle.tftp_packet.specs.{Message, Side, Get, Put, Client, Server, IsPair, Spells}
+use Rattle.tftp_packet.specs.{Message, Side, Get, Put, Client, Server, IsPlace, Spells}
 use Rattle.tftp_packet.specs.Hosts.{Datagram, Header}
 use Rattle.tftp_packet.specs.{In}
 use Rattle.law_model.specs.Model.{Meaning, windowsize_of, MachinePacket, Req, Oack, Data, Ack, Error, Deed, Sent, Took, History, message_of, request_of, HasSent, HasTaken, IsStartedOn, MayAckZeroOn, LetsStartOn, IsOneSided, MayCome, heard}
@@ -208,11 +208,11 @@ module _ (service : ℕ) where
       (λ e spelled goes says. asked_alike e.payload d.payload (request_of n.m) (spelled goes says) own)
       (datagrams_of n.rest) (asked_spell n.m n.wire n.ids n.rest n.labels.1))
 
-  pub ack_0 : (x y : ℕ) → IsPair x y 0 → (x ≡ 0) × (y ≡ 0)
-  ack_0 x y (low, high, is) = (omega arith, omega arith)
+  pub ack_0 : (x y : ℕ) → IsPlace x y 0 → (x ≡ 0) × (y ≡ 0)
+  ack_0 x y (low, is) = (omega arith, omega arith)
 
-  pub data_1 : (x y : ℕ) → IsPair x y 1 → (x ≡ 0) × (y ≡ 1)
-  data_1 x y (low, high, is) = (omega arith, omega arith)
+  pub data_1 : (x y : ℕ) → IsPlace x y 1 → (x ≡ 0) × (y ≡ 1)
+  data_1 x y (low, is) = (omega arith, omega arith)
 
   pub says_ack_0 : (payload : List ℕ) (x y : ℕ) → (x ≡ 0) × (y ≡ 0) → payload ≡ 0 ∷ 4 ∷ x ∷ y ∷ [] → is_answer payload ≡ true
   says_ack_0 payload x y (left, right) is = subst (λ p. is_answer p ≡ true) (sym (is ∙ (λ i. 0 ∷ 4 ∷ left i ∷ right i ∷ []))) refl
@@ -238,9 +238,9 @@ module _ (service : ℕ) where
     by (Main (Took (Error code text))) has own = let (b, (x, y, pair, string, is)) = has.spells in subst (λ p. is_answer p ≡ true) (sym is) refl
     by (Main (Took (Ack j))) has own =
         let (b, (x, y, pair, is)) = has.spells in
-        says_ack_0 d.payload x y (ack_0 x y (subst (IsPair x y) (first_ack n.m n.wire n.ids (view_in n.rest) own.1 no_took j own.0) pair)) is
+        says_ack_0 d.payload x y (ack_0 x y (subst (IsPlace x y) (first_ack n.m n.wire n.ids (view_in n.rest) own.1 no_took j own.0) pair)) is
     by (Main (Took (Data k))) has own =
         let (b, (x, y, pair, is)) = has.spells in
-        says_data_1 d.payload _ x y (data_1 x y (subst (IsPair x y) (first_data n.m n.wire n.ids (view_in n.rest) own.1 no_took k own.0) pair)) is
+        says_data_1 d.payload _ x y (data_1 x y (subst (IsPlace x y) (first_data n.m n.wire n.ids (view_in n.rest) own.1 no_took k own.0) pair)) is
     by Stray has own = absurd (false≢true (sym none_in ∙ any_came n.m n.wire n.ids _ (λ p main. main.1) n.rest has.after))
     by StrayAnswer has own = absurd (false≢true (sym (out_false d has.dir) ∙ came))

@@ -26,7 +26,7 @@ use Rattle.audit_spared.specs.Spared.{as_served, asks_from, comes_at, goes_from,
 use Rattle.audit_spared.proofs.SparedLemmas.Basics.{all_first}
 use Rattle.audit_spared.proofs.SparedLemmas.Bottoms.{seen_of}
 use Rattle.audit_spared.proofs.SparedLemmas.Lists.{map_append}
-use Rattle.audit_spared.proofs.SparedLemmas.NextRuns.{IsNewest, agreed_or, all_done, newest_run, server_receives, server_sends, told}
+use Rattle.audit_spared.proofs.SparedLemmas.NextRuns.{IsNewest, agreed_or, all_done, newest_run, number_fits, server_receives, server_sends, told}
 use Rattle.audit_spared.proofs.SparedLemmas.AskedWindows.{FirstOut, failed, first_out, oacked, silent}
 use Rattle.audit_spared.proofs.SparedLemmas.LockStep.{lock_step, says_oack}
 use Rattle.audit_spared.proofs.SparedLemmas.Places.{of_talk}
@@ -287,25 +287,29 @@ module _ (write : Address → List ℕ) (host : Address) (c : Endpoint) where
       by_deed (Took (Error code text)) is label now =
           let told = error_told d.payload code text (says (Message.Error code text) label.spells) in absurd (not_low 0 (inl (omega arith)) (told.0 (writes_of nx.m.side) (goes_from c d)) told.1)
       by_deed (Sent (Data n)) is label now =
+          let small = number_fits nx.m nx.wire nx.fits.numbered (view_in nx.before.division) (Sent (Data n)) now n (inl refl) in
           let (block_is, number) = block_told d.payload n (block (blksize_of nx.m) nx.wire n) (says (Message.Data n (block (blksize_of nx.m) nx.wire n)) label.spells) now.0.from_one in
           let side = server_sends nx.m.side now.0.sender in
           let from = (from_way write host c Out d label.dir).1 refl in
-          numbered_on n (inl (ap packet_of is)) (passes_block (writes_of nx.m.side) (goes_from c d) d.payload block_is (λ j. sends_blocks (writes_of (side j)) (from j))) number
+          numbered_on n (inl (ap packet_of is)) (passes_block (writes_of nx.m.side) (goes_from c d) d.payload block_is (λ j. sends_blocks (writes_of (side j)) (from j))) (number, small)
       by_deed (Took (Data n)) is label now =
+          let small = number_fits nx.m nx.wire nx.fits.numbered (view_in nx.before.division) (Took (Data n)) now n (inl refl) in
           let (block_is, number) = block_told d.payload n (block (blksize_of nx.m) nx.wire n) (says (Message.Data n (block (blksize_of nx.m) nx.wire n)) label.spells) now.0.from_one in
           let side = server_receives nx.m.side now.0.receiver in
           let from = (from_way write host c In d label.dir).0 refl in
-          numbered_on n (inl (ap packet_of is)) (passes_block (writes_of nx.m.side) (goes_from c d) d.payload block_is (λ j. sends_blocks (writes_of (side j)) (from j))) number
+          numbered_on n (inl (ap packet_of is)) (passes_block (writes_of nx.m.side) (goes_from c d) d.payload block_is (λ j. sends_blocks (writes_of (side j)) (from j))) (number, small)
       by_deed (Sent (Ack n)) is label now =
+          let small = number_fits nx.m nx.wire nx.fits.numbered (view_in nx.before.division) (Sent (Ack n)) now n (inr refl) in
           let (block_is, ack_is, number) = ack_told d.payload n (says (Message.Ack n) label.spells) in
           let side = server_receives nx.m.side now.0.receiver in
           let from = (from_way write host c Out d label.dir).1 refl in
-          numbered_on n (inr (ap packet_of is)) (passes_ack (writes_of nx.m.side) (goes_from c d) d.payload block_is ack_is (λ j. sends_blocks (writes_of (side j)) (from j))) number
+          numbered_on n (inr (ap packet_of is)) (passes_ack (writes_of nx.m.side) (goes_from c d) d.payload block_is ack_is (λ j. sends_blocks (writes_of (side j)) (from j))) (number, small)
       by_deed (Took (Ack n)) is label now =
+          let small = number_fits nx.m nx.wire nx.fits.numbered (view_in nx.before.division) (Took (Ack n)) now n (inr refl) in
           let (block_is, ack_is, number) = ack_told d.payload n (says (Message.Ack n) label.spells) in
           let side = server_sends nx.m.side now.0.sender in
           let from = (from_way write host c In d label.dir).0 refl in
-          numbered_on n (inr (ap packet_of is)) (passes_ack (writes_of nx.m.side) (goes_from c d) d.payload block_is ack_is (λ j. sends_blocks (writes_of (side j)) (from j))) number
+          numbered_on n (inr (ap packet_of is)) (passes_ack (writes_of nx.m.side) (goes_from c d) d.payload block_is ack_is (λ j. sends_blocks (writes_of (side j)) (from j))) (number, small)
 
     -- so it may be of an earlier transfer, or the view goes on
     pub earlier_or : (may_be_earlier p older ≡ true) ⊎ IsFair write host c (client_view i (p ∷ older))

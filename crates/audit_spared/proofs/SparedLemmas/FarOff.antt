@@ -59,16 +59,16 @@ module _ (write : Address → List ℕ) (host : Address) (c : Endpoint) where
   pub tells : (side : Side) (dir : Dir) (x : Message) (y : Transfer) (d : Recorded) (n : ℕ) → IsRight side dir x → IsNearBy n x → (see d).dir ≡ dir → Spells d.payload x → Tells side y d n
   tells side In (Message.Data k bytes) y d n right near way says =
       let (block, number) = block_told d.payload k bytes says right.0 in
-      record { writes = block_by y d block ∙ (from_way In d way).0 refl ∙ sym (ap writes_of right.1); near = subst (λ i. n ≤ i + 1) (sym number.0) near }
+      record { writes = block_by y d block ∙ (from_way In d way).0 refl ∙ sym (ap writes_of right.1); near = subst (λ i. n ≤ i + 1) (sym number) near }
   tells side Out (Message.Data k bytes) y d n right near way says =
       let (block, number) = block_told d.payload k bytes says right.0 in
-      record { writes = block_by y d block ∙ (from_way Out d way).1 refl ∙ sym (ap writes_of right.1); near = subst (λ i. n ≤ i + 1) (sym number.0) near }
+      record { writes = block_by y d block ∙ (from_way Out d way).1 refl ∙ sym (ap writes_of right.1); near = subst (λ i. n ≤ i + 1) (sym number) near }
   tells side In (Message.Ack j) y d n right near way says =
       let (block, ack, number) = ack_told d.payload j says in
-      record { writes = ack_by y d block ack ∙ ap not ((from_way In d way).0 refl) ∙ sym (ap writes_of right); near = subst (λ i. n ≤ i + 1) (sym number.0) near }
+      record { writes = ack_by y d block ack ∙ ap not ((from_way In d way).0 refl) ∙ sym (ap writes_of right); near = subst (λ i. n ≤ i + 1) (sym number) near }
   tells side Out (Message.Ack j) y d n right near way says =
       let (block, ack, number) = ack_told d.payload j says in
-      record { writes = ack_by y d block ack ∙ ap not ((from_way Out d way).1 refl) ∙ sym (ap writes_of right); near = subst (λ i. n ≤ i + 1) (sym number.0) near }
+      record { writes = ack_by y d block ack ∙ ap not ((from_way Out d way).1 refl) ∙ sym (ap writes_of right); near = subst (λ i. n ≤ i + 1) (sym number) near }
   tells side In (Message.Request r) y d n right near way says = absurd right
   tells side Out (Message.Request r) y d n right near way says = absurd right
   tells side In (Message.Error code text) y d n right near way says = absurd right

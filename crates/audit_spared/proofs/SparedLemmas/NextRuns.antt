@@ -1,11 +1,11 @@
 -- What may pass next at a server after a part of a lawful capture, where all passed with one client.
-use Rattle.std.proofs.Common.{◌≡◌, ◌≢◌, ◌⊎◌, ℕ, ◌+◌, ◌-◌, ◌≤◌, Bool, true, false, if◌then◌else◌, List, [], ◌∷◌, Any, Contains, Some, inl, inr, refl, sym, ap, subst, ◌∙◌, false, reverse, arith}
+use Rattle.std.proofs.Common.{◌≡◌, ◌≢◌, ◌⊎◌, ℕ, zero, suc, ◌+◌, ◌-◌, ◌≤◌, Bool, true, false, if◌then◌else◌, List, [], ◌∷◌, Any, Contains, Some, inl, inr, refl, sym, ap, subst, ◌∙◌, false, reverse, arith}
 use Rattle.std.specs.List.{AllByRecursion}
 use Rattle.std.proofs.lemmas.List.{reverse-reverse}
 use Rattle.tftp_packet.specs.{OptionMap, Message, RequestParts, Side, Get, Put, Server, Spells}
 use Rattle.tftp_packet.specs.Hosts.{Datagram, PeerId, peer_of}
 use Rattle.tftp_packet.specs.{Dir, In, Out}
-use Rattle.law_model.specs.Model.{Meaning, NothingAgreed, request_of, blksize_of, block, block_count, windowsize_of, MachinePacket, Req, Oack, Data, Ack, Error, Deed, Sent, Took, History, message_of, HasSent, HasTaken, IsOneSided, IsStartedOn, LetsStartOn, heard}
+use Rattle.law_model.specs.Model.{Meaning, NothingAgreed, request_of, blksize_of, block, block_count, windowsize_of, MachinePacket, Req, Oack, Data, Ack, Error, Deed, Sent, Took, History, message_of, MayCome, MaySend, HasSent, HasTaken, IsOneSided, IsStartedOn, LetsStartOn, heard}
 use Rattle.law_model.specs.Model.Roles.{sender_of, receiver_of}
 use Rattle.law_model.specs.Rules.{HasPassed, Passed, asks, begins_request, first_of, is_of_transfer, route_of, transfer_of, usable}
 use Rattle.law_model.proofs.ModelLemmas.Members.{contains_cases, contains_first, contains_later, contains_none}
@@ -13,6 +13,8 @@ use Rattle.law_model.proofs.ModelLemmas.OneSided.{view_one_sided}
 use Rattle.law_model.proofs.ModelLemmas.Stops.{heard_done, lawful_tail}
 use Rattle.law_end.specs.{Accords, Agrees, AreRouted, Begins, Division, Fits, FirstAnswer, FirstAsked, GoesToServer, HasLabel, HaveLabels, IsMain, Label, Labelled, Main, OneEnded, Stray, TransferIds, datagrams_of, dir_of, label_route, packet_of, view_in}
 use Rattle.law_end.specs.Dress.{StrayAnswer}
+use Rattle.law_end.proofs.Accord.FirstSpelled.{numbered}
+use Rattle.law_end.proofs.Accord.HeardAnswer.{heard_own}
 use Rattle.law_end.proofs.Accord.FirstReply.{data_out, sent_data, took_data, used_start}
 use Rattle.law_end.proofs.Accord.PassedIsDone.{Told, ack_came_in, ack_went, block_came, block_sent, data_only, passed_told, told_passed, used_ack, used_passed, used_told, with_main}
 use Rattle.law_end.proofs.Completeness.NextDeed.{wire_blocks}
@@ -252,6 +254,20 @@ pub record IsNewest (d : Datagram) (ds : List Datagram) : Type 0 where
   pub deed : Deed
   pub has : HasLabel at m wire before.ids before.division d (Main deed)
   pub now : IsOneSided m wire Server (deed ∷ view_in before.division)
+
+-- the number of a block or an ACK has two bytes
+pub number_fits : (m : Meaning) (wire : List ℕ) → block_count (blksize_of m) wire ≤ 65535 → (v : History) (deed : Deed) → IsOneSided m wire Server (deed ∷ v) → (n : ℕ)
+    → (packet_of deed ≡ Data n) ⊎ (packet_of deed ≡ Ack n) → n ≤ 65535
+number_fits m wire few v deed own n (inl is) = let low = (numbered at m wire (deed ∷ v) own deed (contains_first deed v) n is).1 in omega (arith, low, few)
+number_fits m wire few v deed own zero (inr is) = omega arith
+number_fits m wire few v (Sent p) own (suc n) (inr is) =
+    let may = subst (MaySend m wire Server v) is own.0 in
+    let low = (numbered at m wire v own.1 (Took (Data (suc n))) (may.taken (suc n) (omega arith) (omega arith)) (suc n) refl).1 in
+    omega (arith, low, few)
+number_fits m wire few v (Took p) own (suc n) (inr is) =
+    let may = subst (MayCome m wire Server v) is own.0 in
+    let low = (numbered at m wire (heard v) (heard_own m wire Server v own.1) (Sent (Data (suc n))) (may.sent (suc n) (omega arith) (omega arith)) (suc n) refl).1 in
+    omega (arith, low, few)
 
 pub newest_run : (peer : PeerId) (d : Datagram) (ds : List Datagram) → OneEnded at (d ∷ ds) → AllByRecursion (λ e. peer_of e ≡ peer) (d ∷ ds) → IsNewest d ds
 newest_run peer d ds passes from =

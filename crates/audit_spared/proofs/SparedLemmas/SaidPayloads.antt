@@ -13,24 +13,20 @@ use Rattle.audit_flows.proofs.LinesLemmas.Lines.{by_test}
 abbrev pub IsNumber : List ℕ → ℕ → Type 0
 IsNumber payload n = (number_of payload ≡ n) × (n ≤ 65535)
 
-pub block_told : (payload : List ℕ) (k : ℕ) (bytes : List ℕ) → Spells payload (Message.Data k bytes) → 1 ≤ k → (is_block payload ≡ true) × IsNumber payload k
-block_told payload k bytes (b, (x, y, pair, is)) low =
-    let high = pair.0 in
-    let rest = pair.1 in
-    let whole = pair.2 in
+pub block_told : (payload : List ℕ) (k : ℕ) (bytes : List ℕ) → Spells payload (Message.Data k bytes) → 1 ≤ k → (is_block payload ≡ true) × (number_of payload ≡ k)
+block_told payload k bytes (b, (x, y, place, is)) low =
+    let whole = place.1 in
     let some : nat_le 1 (256 * x + y) ≡ true = by_test (nat_le 1 (256 * x + y)) (λ t. t) (λ off. let less = leb-false 1 (256 * x + y) off in absurd (omega (arith, less, whole, low))) in (
       subst (λ p. is_block p ≡ true) (sym is) some,
-      (subst (λ p. number_of p ≡ k) (sym is) (ap (λ b. if b || false then 256 * x + y else 0) some ∙ sym whole), omega (arith, high, rest, whole)),
+      subst (λ p. number_of p ≡ k) (sym is) (ap (λ b. if b || false then 256 * x + y else 0) some ∙ sym whole),
     )
 
-pub ack_told : (payload : List ℕ) (j : ℕ) → Spells payload (Message.Ack j) → (is_block payload ≡ false) × (is_ack payload ≡ true) × IsNumber payload j
-ack_told payload j (b, (x, y, pair, is)) =
-    let high = pair.0 in
-    let rest = pair.1 in
-    let whole = pair.2 in (
+pub ack_told : (payload : List ℕ) (j : ℕ) → Spells payload (Message.Ack j) → (is_block payload ≡ false) × (is_ack payload ≡ true) × (number_of payload ≡ j)
+ack_told payload j (b, (x, y, place, is)) =
+    let whole = place.1 in (
       subst (λ p. is_block p ≡ false) (sym is) refl,
       subst (λ p. is_ack p ≡ true) (sym is) refl,
-      (subst (λ p. number_of p ≡ j) (sym is) (sym whole), omega (arith, high, rest, whole)),
+      subst (λ p. number_of p ≡ j) (sym is) (sym whole),
     )
 
 pub passes_block : (w e : Bool) (p : List ℕ) → is_block p ≡ true → sends_blocks w e ≡ true → passes_in w e p ≡ true
@@ -53,17 +49,17 @@ oack_told payload options says = (
 
 -- a block that answers is DATA 1, and an ACK that does is ACK 0
 pub answers_block : (payload : List ℕ) (k : ℕ) (bytes : List ℕ) → Spells payload (Message.Data k bytes) → is_answer payload ≡ true → (k ≡ 1) × (is_data_1 payload ≡ true)
-answers_block payload k bytes (b, (x, y, pair, e)) is =
+answers_block payload k bytes (b, (x, y, place, e)) is =
     let first : (nat_eq 0 x && (nat_eq 1 y && true)) ≡ true = subst (λ l. is_answer l ≡ true) e is in
     let parts = and_parts (nat_eq 0 x) (nat_eq 1 y && true) first in
     let more = and_parts (nat_eq 1 y) true parts.1 in
     let left : 0 ≡ x = eqb-true 0 x parts.0 in
     let right : 1 ≡ y = eqb-true 1 y more.0 in
-    let whole = pair.2 in
+    let whole = place.1 in
     (omega (arith, left, right, whole), subst (λ l. is_data_1 l ≡ true) (sym e) first)
 
 pub answers_ack : (payload : List ℕ) (j : ℕ) → Spells payload (Message.Ack j) → is_answer payload ≡ true → j ≡ 0
-answers_ack payload j (b, (x, y, pair, e)) is =
+answers_ack payload j (b, (x, y, place, e)) is =
     let either : ((nat_eq x 0 && (nat_eq y 0 && true)) || false) ≡ true = subst (λ l. is_answer l ≡ true) e is in
     elim (or_cases (nat_eq x 0 && (nat_eq y 0 && true)) false either) [
       | inl first ↦
@@ -71,14 +67,14 @@ answers_ack payload j (b, (x, y, pair, e)) is =
           let more = and_parts (nat_eq y 0) true parts.1 in
           let left : x ≡ 0 = eqb-true x 0 parts.0 in
           let right : y ≡ 0 = eqb-true y 0 more.0 in
-          let whole = pair.2 in
+          let whole = place.1 in
           omega (arith, left, right, whole)
       | inr none ↦ absurd (false≢true none)
     ]
 
 pub zero_acks : (payload : List ℕ) → Spells payload (Message.Ack 0) → is_ack_0 payload ≡ true
-zero_acks payload (b, (x, y, pair, e)) =
-    let whole = pair.2 in
+zero_acks payload (b, (x, y, place, e)) =
+    let whole = place.1 in
     let left : x ≡ 0 = omega (arith, whole) in
     let right : y ≡ 0 = omega (arith, whole) in
     subst (λ l. is_ack_0 l ≡ true) (sym (e ∙ (λ i. 0 ∷ 4 ∷ left i ∷ right i ∷ []))) refl

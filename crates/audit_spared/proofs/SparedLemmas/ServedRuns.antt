@@ -3,7 +3,7 @@ use Rattle.std.proofs.Common.{◌≡◌, ℕ, zero, suc, true, false, List, [], 
 use Rattle.std.specs.List.{list_any, AllByRecursion}
 use Rattle.std.proofs.lemmas.Bool.{false≢true, or_left, or_right, and_from, or_parts}
 use Rattle.std.proofs.lemmas.List.{reverse-reverse}
-use Rattle.tftp_packet.specs.{Client, Server, IsPair, Spells}
+use Rattle.tftp_packet.specs.{Client, Server, IsPlace, Spells}
 use Rattle.tftp_packet.specs.Hosts.{Datagram, Header, PeerId, peer_of}
 use Rattle.tftp_packet.specs.{Dir, In, Out}
 use Rattle.law_model.specs.Model.{Meaning, MachinePacket, Req, Oack, Data, Ack, Error, Deed, Sent, Took, History, message_of, HasSent, HasTaken, IsOneSided}
@@ -170,7 +170,7 @@ module _ (m : Meaning) (wire : List ℕ) (ids : TransferIds) where
   answers earlier d (Sent (Data k)) has own only out =
       let (b, (x, y, pair, is)) = has.spells in
       elim own.0.in_order [
-        | inl first ↦ says_data_1 69 d.payload _ x y (data_1 69 x y (subst (IsPair x y) first pair)) is
+        | inl first ↦ says_data_1 69 d.payload _ x y (data_1 69 x y (subst (IsPlace x y) first pair)) is
         | inr next ↦ absurd (only.sent (Data _) next)
       ]
 

@@ -60,10 +60,10 @@ g_spelled = (
 )
 
 pub block_spelled : Spells (data_of 1) (Message.Data 1 (5 ∷ []))
-block_spelled = (bytes_are (data_of 1) refl, (0, 1, (omega arith, omega arith, omega arith), refl))
+block_spelled = let bytes = bytes_are (data_of 1) refl in ((bytes.0, (bytes.1.0, bytes.1.1.1)), (0, 1, (omega arith, omega arith), refl))
 
 pub ack_spelled : Spells (ack_of 1) (Message.Ack 1)
-ack_spelled = (bytes_are (ack_of 1) refl, (0, 1, (omega arith, omega arith, omega arith), refl))
+ack_spelled = let bytes = bytes_are (ack_of 1) refl in ((bytes.0, (bytes.1.0, bytes.1.1.1)), (0, 1, (omega arith, omega arith), refl))
 
 pub stop_spelled : Spells (error_of 1) (Message.Error 1 [])
 stop_spelled = (bytes_are (error_of 1) refl, (0, 1, (omega arith, omega arith, omega arith), tt, refl))

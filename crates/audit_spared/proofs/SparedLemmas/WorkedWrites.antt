@@ -45,7 +45,7 @@ write_spelled = (
 )
 
 zero_spelled : Spells (ack_of 0) (Message.Ack 0)
-zero_spelled = (bytes_are (ack_of 0) refl, (0, 0, (omega arith, omega arith, omega arith), refl))
+zero_spelled = let bytes = bytes_are (ack_of 0) refl in ((bytes.0, (bytes.1.0, bytes.1.1.1)), (0, 0, (omega arith, omega arith), refl))
 
 -- ---- the meaning
 

@@ -18,7 +18,7 @@ use tftp_capture::{Datagram, Header};
 use tftp_ends::blocks::Delivered;
 use tftp_judge::{Judge, Refusal, SentAcks};
 use tftp_packet::hosts::Dir;
-use tftp_packet::{Packet, read_packet};
+use tftp_packet::{ack_of, read_packet};
 
 /// One end of a pair: its judge, the ACKs that it has sent, and its last datagram where that came in and waits for what the
 /// other end sends.
@@ -135,10 +135,8 @@ impl<D: Delivered + Drop> Side<D> {
         ensures held { self.new.held ≡ self.old.held }
         ensures counts { self.new.counts ≡ self.old.counts }
     {
-        match read_packet(payload) {
-            Ok(Packet::Ack { block }) => self.acks.note(block),
-            Ok(_) => {}
-            Err(_) => {}
+        if let Some(block) = ack_of(payload) {
+            self.acks.note(block);
         }
     }
 

@@ -66,7 +66,8 @@ module _ (wire : List ℕ) (t : Terms) (some : 0 < t.blksize) (numbered : block_
       ]
 
   pub not_beyond : (k : ℕ) → 1 ≤ k → k ≤ count → BlockBreaks t passed k (block t.blksize wire k) EndRule.BeyondBlock65535 → ⊥
-  not_beyond k low up (is, whole) =
+  not_beyond k low up (inl above) = let few = numbered in omega (arith, above, up, few)
+  not_beyond k low up (inr (is, whole)) =
       let few = numbered in
       let at : k ≡ count = omega (arith, is, up, few) in
       let short = subst (λ i. length (block t.blksize wire i) < t.blksize) (sym at) (last_block t.blksize count wire some refl) in

@@ -25,13 +25,6 @@ pub record Filled (b : ℕ) (passed : List Datagram) (count : ℕ) (wire : List 
   pub whole : length wire ≡ count * b
   pub blocks : (k : ℕ) (bytes : List ℕ) → HasPassed (Message.Data k bytes) passed → k ≤ count → bytes ≡ block b wire k
 
-small_block : (dir : Dir) (k : ℕ) (bytes : List ℕ) (passed : List Datagram) → Passed dir (Message.Data k bytes) passed → k ≤ 65535
-small_block dir k bytes [] p = absurd p
-small_block dir k bytes (d ∷ passed) p = elim p [ inl here ↦ let pair = here.1.1.2 in omega arith | inr before ↦ small_block dir k bytes passed before ]
-
-small : (k : ℕ) (bytes : List ℕ) (passed : List Datagram) → HasPassed (Message.Data k bytes) passed → k ≤ 65535
-small k bytes passed p = elim p [ inl came ↦ small_block _ k bytes passed came | inr went ↦ small_block _ k bytes passed went ]
-
 module _ (side : Side) (t : Terms) (passed : List Datagram) (s : Settled side t passed) (all : AllSpelled passed) where
   -- with one block more, of at most this length
   appended : (n : ℕ) (w x : List ℕ) → Filled t.blksize passed n w → length x ≤ t.blksize → ((bytes : List ℕ) → HasPassed (Message.Data (suc n) bytes) passed → bytes ≡ x)
@@ -87,7 +80,7 @@ module _ (side : Side) (t : Terms) (passed : List Datagram) (s : Settled side t 
                   let short = s.ended p.0 (subst (λ i. HasPassed (Message.Data i p.0) passed) is p.1) in
                   let whole = unknown.all_whole high p.0 p.1 in
                   absurd (omega (arith, short, whole))
-              | inr other ↦ let low = small high p.0 passed p.1 in omega (arith, other, low)
+              | inr other ↦ let low = s.low high p.0 p.1 in omega (arith, other, low)
             ]
           ]);
           blocks = λ k bytes p.
@@ -120,7 +113,7 @@ module _ (side : Side) (t : Terms) (passed : List Datagram) (s : Settled side t 
 
   -- the last block is among those that are numbered, if that of the size is
   last_small : ((size : ℕ) → t.size ≡ Some size → size / t.blksize + 1 ≤ 65535) → (last : ℕ) → IsLast t passed last → (1 ≤ last) × (last ≤ 65535)
-  last_small limit last (inl (bytes, p, short)) = (s.numbered last bytes p, small last bytes passed p)
+  last_small limit last (inl (bytes, p, short)) = (s.numbered last bytes p, s.low last bytes p)
   last_small limit last (inr (size, is, at)) = let low = limit size is in (omega (arith, at), omega (arith, at, low))
 
   ended_wire : 0 < t.blksize → ((size : ℕ) → t.size ≡ Some size → size / t.blksize + 1 ≤ 65535) → (n : ℕ) → IsLast t passed (suc n) → (wire : List ℕ) × Carries t passed wire

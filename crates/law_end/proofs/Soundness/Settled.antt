@@ -28,6 +28,7 @@ pub record Settled (side : Side) (t : Terms) (passed : List Datagram) : Type 0 w
   pub numbered : (k : ℕ) (bytes : List ℕ) → HasPassed (Message.Data k bytes) passed → 1 ≤ k
   pub within : (k : ℕ) (bytes : List ℕ) → HasPassed (Message.Data k bytes) passed → length bytes ≤ t.blksize
   pub ended : (bytes : List ℕ) → HasPassed (Message.Data 65535 bytes) passed → length bytes < t.blksize
+  pub low : (k : ℕ) (bytes : List ℕ) → HasPassed (Message.Data k bytes) passed → k ≤ 65535
   pub placed : (k last : ℕ) (bytes : List ℕ) → HasPassed (Message.Data k bytes) passed → IsLast t passed last → IsNotLengthOf t last k (length bytes) → ⊥
 
 none_settled : (side : Side) (t : Terms) (passed : List Datagram) → NoBlock passed → Settled side t passed
@@ -39,6 +40,7 @@ none_settled side t passed none = record {
   numbered = λ k bytes p. absurd (none k bytes p);
   within = λ k bytes p. absurd (none k bytes p);
   ended = λ bytes p. absurd (none 65535 bytes p);
+  low = λ k bytes p. absurd (none k bytes p);
   placed = λ k last bytes p. absurd (none k bytes p);
 }
 
@@ -61,6 +63,7 @@ record Fits (t : Terms) (d : Datagram) (passed : List Datagram) : Type 0 where
   pub numbered : (k : ℕ) (bytes : List ℕ) → Spells d.payload (Message.Data k bytes) → 1 ≤ k
   pub within : (k : ℕ) (bytes : List ℕ) → Spells d.payload (Message.Data k bytes) → length bytes ≤ t.blksize
   pub ended : (bytes : List ℕ) → Spells d.payload (Message.Data 65535 bytes) → length bytes < t.blksize
+  pub low : (k : ℕ) (bytes : List ℕ) → Spells d.payload (Message.Data k bytes) → k ≤ 65535
   pub right : (k last : ℕ) (bytes : List ℕ) → Spells d.payload (Message.Data k bytes) → IsLast t passed last → IsNotLengthOf t last k (length bytes) → ⊥
   pub opens : (k : ℕ) (bytes : List ℕ) → Spells d.payload (Message.Data k bytes) → LastIsUnknown t passed → length bytes < t.blksize
       → (j : ℕ) (other : List ℕ) → HasPassed (Message.Data j other) passed → j < k
@@ -160,6 +163,7 @@ extended side t d passed s f answered = record {
   numbered = λ k bytes p. elim (either (Message.Data k bytes) d passed p) [ inl x ↦ f.numbered k bytes x | inr x ↦ s.numbered k bytes x ];
   within = λ k bytes p. elim (either (Message.Data k bytes) d passed p) [ inl x ↦ f.within k bytes x | inr x ↦ s.within k bytes x ];
   ended = λ bytes p. elim (either (Message.Data 65535 bytes) d passed p) [ inl x ↦ f.ended bytes x | inr x ↦ s.ended bytes x ];
+  low = λ k bytes p. elim (either (Message.Data k bytes) d passed p) [ inl x ↦ f.low k bytes x | inr x ↦ s.low k bytes x ];
   placed = all_placed side t d passed s f;
 }
 
@@ -184,10 +188,16 @@ module _ (h : Header) (earlier : List Datagram) (d : Datagram) (lawful : OneEnde
     | inr fits ↦ fits
   ]
 
+  low_enough : (t : Terms) → AreTerms h earlier t → (k : ℕ) (bytes : List ℕ) → Spells d.payload (Message.Data k bytes) → k ≤ 65535
+  low_enough t known k bytes s = elim (cases_lt 65535 k) [
+    | inl above ↦ absurd (keeps t known (Message.Data k bytes) s EndRule.BeyondBlock65535 (inl above))
+    | inr within ↦ within
+  ]
+
   short_end : (t : Terms) → AreTerms h earlier t → (bytes : List ℕ) → Spells d.payload (Message.Data 65535 bytes) → length bytes < t.blksize
   short_end t known bytes s = elim (cases_lt (length bytes) t.blksize) [
     | inl short ↦ short
-    | inr whole ↦ absurd (keeps t known (Message.Data 65535 bytes) s EndRule.BeyondBlock65535 (refl, whole))
+    | inr whole ↦ absurd (keeps t known (Message.Data 65535 bytes) s EndRule.BeyondBlock65535 (inr (refl, whole)))
   ]
 
   -- after these terms
@@ -199,6 +209,7 @@ module _ (h : Header) (earlier : List Datagram) (d : Datagram) (lawful : OneEnde
     numbered = one_or_more t known;
     within = no_longer t known;
     ended = short_end t known;
+    low = low_enough t known;
     right = λ k last bytes s is wrong. keeps t known (Message.Data k bytes) s EndRule.BlockLength (inr (inl (last, is, wrong)));
     opens = λ k bytes s unknown less j other p.
         let high = high_of passed (transfer_spelled h earlier lawful) in
@@ -244,6 +255,7 @@ module _ (h : Header) (earlier : List Datagram) (d : Datagram) (lawful : OneEnde
         numbered = one_or_more before_it asks_it;
         within = λ k bytes s. subst (λ b. length bytes ≤ b) (sym usual) (no_longer before_it asks_it k bytes s);
         ended = λ bytes s. subst (λ b. length bytes < b) (sym usual) (short_end before_it asks_it bytes s);
+        low = low_enough before_it asks_it;
         right = λ k last bytes s is wrong. no_last last is;
         opens = λ k bytes s unknown less j other p. absurd (no_block_before none j other p);
         known = inl (record { no_size = unsized; all_whole = λ k bytes p. absurd (no_block_before none k bytes p) });

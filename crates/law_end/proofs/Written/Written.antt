@@ -3,7 +3,7 @@ use Rattle.std.proofs.Common.{◌≡◌, ℕ, ◌<◌, ◌≤◌, ◌⊎◌, Lis
 use Rattle.std.specs.List.{AllByRecursion}
 use Rattle.std.proofs.lemmas.List.Elements.{recursion_from_All}
 use Rattle.std.specs.FinMap as finite
-use Rattle.tftp_packet.specs.{OptionValue, Num, range_of, is_within, Spells, Mode, Octet, Netascii, Side, Get, Put, End}
+use Rattle.tftp_packet.specs.{OptionValue, Num, range_of, is_within, Spells, Mode, Octet, Netascii, Side, Get, Put, End, but_third}
 use Rattle.tftp_netascii.specs.{nul, lf, cr, canonical_bytes, canonical_wire}
 use Rattle.tftp_nego.specs.{AreInRange, number_or}
 use Rattle.tftp_packet.specs.Hosts.{Datagram, Header}
@@ -117,7 +117,7 @@ can_be_written h m datagrams short shows =
     ] in
     let of_block : (k : ℕ) → 1 ≤ k → k ≤ block_count (blksize_of m) shows.wire → Bytes (block (blksize_of m) shows.wire k) = λ k low high.
     (let (d, at, spells) = spelled (Data k) (each_block m shows.wire h.named seen.view own shown.complete k low high) in
-    let (x, y, pair, is) = spells.1 in (subst Bytes is spells.0).1.1.1.1) in
+    let (x, y, pair, is) = spells.1 in (subst (λ (p : List ℕ). Bytes (but_third p)) is spells.0).1.1.1) in
     let bytes = file_bytes m.mode shows.wire m.file seen.fits.reads (block_bytes (blksize_of m) shows.wire large of_block) in
     let payload : (p : MachinePacket) → HasPassed seen.view p → HasPayload (message_of m shows.wire p) = λ p passed.
     (let (d, at, spells) = spelled p passed in let less = canonical_shortest d.payload (message_of m shows.wire p) spells in let limit = all_contains (λ (d : Datagram). length d.payload ≤ 65527) (reverse datagrams) d (all_reverse (λ (d : Datagram). length d.payload ≤ 65527) datagrams short) at in (spells_again d.payload (message_of m shows.wire p) spells, omega (arith, less, limit))) in

@@ -142,7 +142,7 @@ abbrev pub BlockBreaks : Terms → List Datagram → ℕ → List ℕ → EndRul
 BlockBreaks t passed k bytes NotStarted = BlocksWait t.side t.reply (usable passed)
 -- blocks are numbered from 1, by two bytes (RFC 1350, section 5)
 BlockBreaks t passed k bytes BlockZero = k ≡ 0
-BlockBreaks t passed k bytes BeyondBlock65535 = (k ≡ 65535) × (t.blksize ≤ length bytes)
+BlockBreaks t passed k bytes BeyondBlock65535 = (65535 < k) ⊎ ((k ≡ 65535) × (t.blksize ≤ length bytes))
 -- a block shorter than the others is the last (RFC 1350, section 2; RFC 2348; RFC 2349)
 BlockBreaks t passed k bytes BlockLength = HasWrongLength t passed k (length bytes)
 -- no more than a window goes ahead of what was acknowledged (RFC 7440, section 4; a window of 1 is RFC 1350, section 2)

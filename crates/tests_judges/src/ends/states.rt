@@ -14,17 +14,17 @@ use tftp_packet::{End, Packet, Side};
 /// A call of a state, and what it answers.
 enum Step {
     /// A block: one that goes out at a sender, or comes in at a receiver.
-    Data(u16, &'static [u8], Result<(), EndRule>),
+    Data(u32, &'static [u8], Result<(), EndRule>),
     /// An ACK, which comes in, or goes out.
-    Ack(u16, Result<(), EndRule>),
+    Ack(u32, Result<(), EndRule>),
     /// The other end's ERROR.
     Stopped,
     /// Whether the end is done.
     Done(bool),
     /// What the store holds of a block.
-    Block(u16, &'static [u8]),
+    Block(u32, &'static [u8]),
     /// The store's front, and how many blocks wait above it.
-    Front(u16, usize),
+    Front(u32, usize),
 }
 
 /// How a state begins: its side, whether an OACK was agreed, the block size, the window, and the size if it is agreed.
@@ -99,12 +99,12 @@ fn answer_of<D: Delivered + Drop>(
 }
 
 /// A block.
-fn data(block: u16, bytes: &'static [u8]) -> Packet<'static> {
+fn data(block: u32, bytes: &'static [u8]) -> Packet<'static> {
     Packet::Data { block, bytes }
 }
 
 /// An acknowledgement.
-fn ack(block: u16) -> Packet<'static> {
+fn ack(block: u32) -> Packet<'static> {
     Packet::Ack { block }
 }
 
@@ -120,7 +120,7 @@ fn error() -> Packet<'static> {
 fn take<D: Delivered + Drop>(
     rt: &HostRuntime,
     receiver: &mut State<D>,
-    number: u16,
+    number: u32,
     bytes: &'static [u8],
 ) -> Result<(), Fail> {
     match answer_of(rt, receiver, Dir::In, &data(number, bytes)) {
@@ -131,12 +131,12 @@ fn take<D: Delivered + Drop>(
 }
 
 /// Whether a store holds these bytes of a block.
-fn has_block<D: Delivered>(store: &D, number: u16, bytes: &[u8]) -> bool {
+fn has_block<D: Delivered>(store: &D, number: u32, bytes: &[u8]) -> bool {
     store.block(number) == Some(bytes)
 }
 
 /// Whether a store has this front, and so many blocks wait above it.
-fn has_front<D: Delivered>(store: &D, front: u16, pending: usize) -> bool {
+fn has_front<D: Delivered>(store: &D, front: u32, pending: usize) -> bool {
     store.front() == front && store.pending() == pending
 }
 
@@ -215,10 +215,13 @@ const LARGEST_SENDER: &[Step] = &[
     Step::Ack(1, Ok(())),
     Step::Data(65535, b"1111111", Err(EndRule::BlockSkipped)),
     Step::Data(65535, b"11111111", Err(EndRule::BeyondBlock65535)),
+    Step::Data(65536, b"1111111", Err(EndRule::BeyondBlock65535)),
+    Step::Data(u32::MAX, b"1111111", Err(EndRule::BeyondBlock65535)),
+    Step::Ack(65537, Err(EndRule::AckAhead)),
 ];
 
 /// A sender by its name, with the highest block that it has sent at the end.
-type Sender = (&'static str, Start, &'static [Step], u16);
+type Sender = (&'static str, Start, &'static [Step], u32);
 
 /// Senders.
 const SENDERS: &[Sender] = &[
@@ -438,7 +441,7 @@ fn receiver_of<D: Delivered + Drop>(rt: &HostRuntime, start: Start) -> Option<St
 }
 
 /// The highest block that a sender has sent. A state is let go in such functions alone, since that is dear to prove.
-fn highest_of<D: Delivered + Drop>(sender: State<D>) -> u16 {
+fn highest_of<D: Delivered + Drop>(sender: State<D>) -> u32 {
     sender.into_store().highest()
 }
 
@@ -502,7 +505,7 @@ fn take_all_but_one<D: Delivered + Drop>(
     receiver: &mut State<D>,
 ) -> Result<(), Fail> {
     take(rt, receiver, 65535, b".......")?;
-    for below in 1..65534u16 {
+    for below in 1..65534u32 {
         take(rt, receiver, 65535 - below, b"........")?;
     }
     Ok(())

@@ -7,17 +7,17 @@ use tftp_ends::blocks::{Delivered, MapDelivered, PutOutcome, RingDelivered};
 /// A call of a store, and what it answers.
 enum Step {
     /// A block is put.
-    Put(u16, &'static [u8], PutOutcome),
+    Put(u32, &'static [u8], PutOutcome),
     /// Whether a block of this length is taken.
-    Takes(u16, usize, bool),
+    Takes(u32, usize, bool),
     /// The front, the highest block and the number of those that wait.
-    Stands(u16, u16, usize),
+    Stands(u32, u32, usize),
     /// What is held of a block.
-    Block(u16, Option<&'static [u8]>),
+    Block(u32, Option<&'static [u8]>),
 }
 
 /// The front, the highest block and the number of those that wait; and whether a block is held.
-fn state_of<D: Delivered>(store: &D, number: u16) -> (u16, u16, usize, bool) {
+fn state_of<D: Delivered>(store: &D, number: u32) -> (u32, u32, usize, bool) {
     let held = store.block(number).is_some();
     (store.front(), store.highest(), store.pending(), held)
 }
@@ -25,8 +25,8 @@ fn state_of<D: Delivered>(store: &D, number: u16) -> (u16, u16, usize, bool) {
 /// Whether nothing has changed.
 fn is_as_before<D: Delivered>(
     store: &D,
-    number: u16,
-    (front, highest, pending, held): (u16, u16, usize, bool),
+    number: u32,
+    (front, highest, pending, held): (u32, u32, usize, bool),
 ) -> bool {
     stands(store, front, highest, pending) && store.block(number).is_some() == held
 }
@@ -35,7 +35,7 @@ fn is_as_before<D: Delivered>(
 fn put_once<D: Delivered>(
     rt: &HostRuntime,
     store: &mut D,
-    number: u16,
+    number: u32,
     bytes: &[u8],
     refused: &'static str,
 ) -> Result<Option<PutOutcome>, Fail> {
@@ -52,7 +52,7 @@ fn put_once<D: Delivered>(
 fn put<D: Delivered>(
     rt: &HostRuntime,
     store: &mut D,
-    number: u16,
+    number: u32,
     bytes: &[u8],
 ) -> Result<PutOutcome, Fail> {
     let before = state_of(store, number);
@@ -69,7 +69,7 @@ fn put<D: Delivered>(
 }
 
 /// Whether the front, the highest block and the number of those that wait are these.
-fn stands<D: Delivered>(store: &D, front: u16, highest: u16, pending: usize) -> bool {
+fn stands<D: Delivered>(store: &D, front: u32, highest: u32, pending: usize) -> bool {
     store.front() == front && store.highest() == highest && store.pending() == pending
 }
 
@@ -172,7 +172,7 @@ fn keeps<D: Delivered + Drop>(rt: &HostRuntime, (name, steps, wanted): &Case) ->
 /// Fails unless each block but the first is new, the highest before the others.
 fn all_are_new<D: Delivered>(rt: &HostRuntime, store: &mut D) -> Result<(), Fail> {
     for below in 0..65534u16 {
-        if put(rt, store, 65535 - below, b"........")? != PutOutcome::New {
+        if put(rt, store, 65535 - u32::from(below), b"........")? != PutOutcome::New {
             return Err(Fail::from(below));
         }
     }
@@ -223,7 +223,7 @@ fn ring_keeps_blocks(rt: HostRuntime) -> Result<(), Fail> {
 fn kept_after(
     rt: &HostRuntime,
     store: &mut RingDelivered,
-    number: u16,
+    number: u32,
     bytes: &[u8],
 ) -> Result<usize, Fail> {
     put(rt, store, number, bytes)?;

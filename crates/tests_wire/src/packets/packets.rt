@@ -1,6 +1,6 @@
 //! Packets and options: payloads and what they spell, and what is written.
 
-ghost use Rattle.tftp_packet.specs.{HasStringMessage};
+ghost use Rattle.tftp_packet.specs.{IsSpellable};
 
 use crate::packets::views::{oack_of, owned_request_of, packet_of, request_of};
 use std::alloc::AllocError;
@@ -30,14 +30,14 @@ fn fault_of(payload: &[u8]) -> Option<PacketFault> {
 }
 
 /// A packet without options: its opcode, its block or code, and its bytes or message.
-type Parts<'a> = (u16, u16, &'a [u8]);
+type Parts<'a> = (u16, u32, &'a [u8]);
 
 /// The parts that a payload spells; none of another packet.
 fn parts_of(payload: &[u8]) -> Option<Parts<'_>> {
     match packet_of(payload) {
         Ok(Packet::Data { block, bytes }) => Some((3, block, bytes)),
         Ok(Packet::Ack { block }) => Some((4, block, b"")),
-        Ok(Packet::Error { code, message }) => Some((5, code, message)),
+        Ok(Packet::Error { code, message }) => Some((5, u32::from(code), message)),
         _ => None,
     }
 }
@@ -45,8 +45,8 @@ fn parts_of(payload: &[u8]) -> Option<Parts<'_>> {
 /// The parts of a block or an ACK.
 fn parts_of_block_or_ack(payload: &[u8]) -> Option<Parts<'_>> {
     match (block_of(payload), ack_of(payload)) {
-        (Some((block, bytes)), None) => Some((3, block, bytes)),
-        (None, Some(block)) => Some((4, block, b"")),
+        (Some((block, bytes)), None) => Some((3, u32::from(block), bytes)),
+        (None, Some(block)) => Some((4, u32::from(block), b"")),
         _ => None,
     }
 }
@@ -185,7 +185,7 @@ fn writes_a_request_canonically(rt: HostRuntime) -> Result<(), Fail> {
 
 /// Fails unless this is written of a packet.
 fn is_written(rt: &HostRuntime, packet: &Packet<'_>, wanted: &[u8]) -> Result<(), Fail>
-    requires { HasStringMessage packet.now }
+    requires { IsSpellable packet.now }
 {
     let written = write_packet(rt.alloc(), packet)?;
     is_same(written.as_slice(), wanted)

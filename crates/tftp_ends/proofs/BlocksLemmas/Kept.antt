@@ -141,16 +141,16 @@ past_highest held high q is more = by (finite.get held q) refl
     by None e = e
     by (Some y) e = let within = is.most q y e in absurd (omega arith)
 
-front_more : (held : Held) (old high k new : ℕ) (x : List ℕ) → IsHeldFront held old → finite.get held k ≡ None → IsHighest (finite.insert held k x) high → high ≤ 65535
+front_more : (held : Held) (old high k new : ℕ) (x : List ℕ) → IsHeldFront held old → finite.get held k ≡ None → IsHighest (finite.insert held k x) high → high ≤ 4294967295
     → ((q : ℕ) → old < q → q ≤ new → is_some (finite.get (finite.insert held k x) q) ≡ true)
-    → (new < 65535 → is_some (finite.get (finite.insert held k x) (new + 1)) ≡ false)
+    → (new < 4294967295 → is_some (finite.get (finite.insert held k x) (new + 1)) ≡ false)
     → IsHeldFront (finite.insert held k x) new
 front_more held old high k new x is none highest most has next = record {
   below = λ q low up. elim (cases_lt old q) [
     | inl over ↦ found (finite.get (finite.insert held k x) q) (has q over up)
     | inr under ↦ let before = is.below q low under in (before.0, there held k x q before.0 none before.1)
   ];
-  next = elim (cases_lt new 65535) [
+  next = elim (cases_lt new 4294967295) [
     | inl room ↦ missing (finite.get (finite.insert held k x) (new + 1)) (next room)
     | inr last ↦ past_highest (finite.insert held k x) high (new + 1) highest (omega arith)
   ];
@@ -176,11 +176,11 @@ nothing_kept b w some = record {
 
 -- what is kept once a new block came and the front went as far as the blocks do
 pub kept_more : {X : Type 0} (f : X → List ℕ) (es fs : List (ℕ × X)) (b w front high k new : ℕ) (x : X) → IsKept b w (map_of f es) front high (length es)
-    → Takes b w (map_of f es) k (length (f x)) → finite.get (map_of f es) k ≡ None → max high k ≤ 65535
+    → Takes b w (map_of f es) k (length (f x)) → finite.get (map_of f es) k ≡ None → max high k ≤ 4294967295
     → ((q : ℕ) → lookup (is_at (nat_cmp q)) fs ≡ cond (is_at (nat_cmp k) q) (Some x) (lookup (is_at (nat_cmp q)) es))
     → length fs ≡ length es + 1 → front ≤ new
     → ((q : ℕ) → front < q → q ≤ new → is_some (lookup (is_at (nat_cmp q)) fs) ≡ true)
-    → (new < 65535 → is_some (lookup (is_at (nat_cmp (new + 1))) fs) ≡ false)
+    → (new < 4294967295 → is_some (lookup (is_at (nat_cmp (new + 1))) fs) ≡ false)
     → IsKept b w (map_of f fs) new (max high k) (length fs)
 kept_more f es fs b w front high k new x is takes none most updates long from has next =
     let held = map_of f es in

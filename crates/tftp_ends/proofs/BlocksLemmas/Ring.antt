@@ -135,7 +135,7 @@ new_row b w n js ring k x row takes none after =
     }
 
 pub new_waits : (b w n : ℕ) (js : List ℕ) (ring : Slots) (waiting k : ℕ) (x : List ℕ) → IsRing b w js n ring waiting → Takes b w (numbered 1 (cut b n js ++ ring)) k (length x)
-    → map.get (numbered 1 (cut b n js ++ ring)) k ≡ None → n + 1 < k → k ≤ 65535 → IsRing b w js n (placed ring (k - n - 1) x) (waiting + 1)
+    → map.get (numbered 1 (cut b n js ++ ring)) k ≡ None → n + 1 < k → k ≤ 4294967295 → IsRing b w js n (placed ring (k - n - 1) x) (waiting + 1)
 new_waits b w n js ring waiting k x is takes none after fits =
     let near = takes_within b w (numbered 1 (cut b n js ++ ring)) n k (length x) (front_is b n js ring is.gap) takes in
     let within = is.within in
@@ -158,6 +158,10 @@ new_waits b w n js ring waiting k x is takes none after fits =
           let one = filled_placed ring (k - n - 1) x (ap (λ m. slice_index_or ring m None) (sym is_place) ∙ empty) in omega arith;
       sizes = is.sizes;
     }
+
+-- a block that is taken lies no further than a window
+pub place_within : (b w n : ℕ) (js : List ℕ) (ring : Slots) (waiting k : ℕ) (x : List ℕ) → IsRing b w js n ring waiting → Takes b w (numbered 1 (cut b n js ++ ring)) k (length x) → k ≤ n + w
+place_within b w n js ring waiting k x is takes = takes_within b w (numbered 1 (cut b n js ++ ring)) n k (length x) (front_is b n js ring is.gap) takes
 
 pub new_after : (b n : ℕ) (js : List ℕ) (ring : Slots) (k : ℕ) → 1 ≤ k → map.get (numbered 1 (cut b n js ++ ring)) k ≡ None → n < k
 new_after b n js ring k one none = elim (cases_lt n k) [
@@ -198,7 +202,7 @@ none_is_dropped b ring even none =
     let empty = nil_from_length ring (omega arith) in empty ∙ ap (drop 1) (sym empty)
 
 pub first_alone : (b w n : ℕ) (js : List ℕ) (ring : Slots) (waiting k : ℕ) (x : List ℕ) → IsRing b w js n ring waiting → Takes b w (numbered 1 (cut b n js ++ ring)) k (length x)
-    → map.get (numbered 1 (cut b n js ++ ring)) k ≡ None → n < k → k - n - 1 ≤ 0 → k ≤ 65535 → filled ring ≤ 0 → IsRing b w (js ++ x) k ring waiting
+    → map.get (numbered 1 (cut b n js ++ ring)) k ≡ None → n < k → k - n - 1 ≤ 0 → k ≤ 4294967295 → filled ring ≤ 0 → IsRing b w (js ++ x) k ring waiting
 first_alone b w n js ring waiting k x is takes none after first fits alone =
     let short = none_waits b ring is.row.even alone in
     record {

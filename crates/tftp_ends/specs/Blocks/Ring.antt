@@ -60,7 +60,7 @@ pub record IsRing (b window : ℕ) (joined : List ℕ) (front : ℕ) (ring : Slo
   pub row : IsRow b joined front ring
   pub gap : slice_index_or ring 0 None ≡ None
   pub within : length ring ≤ window
-  pub numbers : front + length ring ≤ 65535
+  pub numbers : front + length ring ≤ 4294967295
   pub count : waiting ≡ filled ring
   pub sizes : (1 ≤ b) × (1 ≤ window)
 

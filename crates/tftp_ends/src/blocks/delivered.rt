@@ -59,14 +59,14 @@ pub trait Delivered: Sized {
 
     /// Whether a block of this length may be held. A block shorter than the others is the last one (RFC 1350,
     /// section 2), and none lies more than a window above the front (RFC 7440, section 4).
-    fn takes(&self, number: u16, len: usize) -> bool
+    fn takes(&self, number: u32, len: usize) -> bool
         ensures { (result ≡ true) ↔ Takes (block_size self.now) (window self.now) (held self.now) number len }
     {
         let size = self.block_size() as usize;
         if number == 0 || len > size {
             return false;
         }
-        if number as u32 > self.front() as u32 + self.window() as u32 {
+        if number as u64 > self.front() as u64 + self.window() as u64 {
             return false;
         }
         let whole = len == size;
@@ -87,7 +87,7 @@ pub trait Delivered: Sized {
     }
 
     /// Holds a block.
-    fn put(&mut self, alloc: Global, number: u16, bytes: &[u8]) -> Result<PutOutcome, AllocError>
+    fn put(&mut self, alloc: Global, number: u32, bytes: &[u8]) -> Result<PutOutcome, AllocError>
         requires { Takes (block_size self.old) (window self.old) (held self.old) number (length bytes.now) }
         ensures ok { IfOk result (λ placed. Places (held self.old) (held self.new) number bytes.now (placing placed)) }
         ensures err { OnErr result (held self.new ≡ held self.old) }
@@ -96,16 +96,16 @@ pub trait Delivered: Sized {
         ensures window { window self.new ≡ window self.old };
 
     /// The highest number up to which each block is held. It is what a receiver acknowledges (RFC 7440, section 4).
-    fn front(&self) -> u16
+    fn front(&self) -> u32
         ensures { IsHeldFront (held self.now) result };
 
     /// The highest block that is held, or 0.
-    fn highest(&self) -> u16
+    fn highest(&self) -> u32
         ensures highest { IsHighest (held self.now) result }
         ensures orderly { IsOrderly (block_size self.now) (held self.now) };
 
     /// The bytes of a block, if it is held.
-    fn block(&self, number: u16) -> Option<&[u8]>
+    fn block(&self, number: u32) -> Option<&[u8]>
         ensures { option_map (λ b. b.now) result ≡ map.get (held self.now) number };
 
     /// How many blocks above the front are held.

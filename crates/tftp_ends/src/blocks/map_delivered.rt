@@ -12,9 +12,9 @@ use std::marker::Model;
 /// Each block for itself, in a map. By its contracts it is what `RingDelivered` is, and it is the plainer of the two.
 #[derive(Drop)]
 pub struct MapDelivered {
-    by_number: BTreeMap<u16, Vec<u8>>,
-    front: u16,
-    highest: u16,
+    by_number: BTreeMap<u32, Vec<u8>>,
+    front: u32,
+    highest: u32,
     block_size: u16,
     window: u16,
 }
@@ -63,7 +63,7 @@ impl Delivered for MapDelivered {
         self.window
     }
 
-    fn put(&mut self, alloc: Global, number: u16, bytes: &[u8]) -> Result<PutOutcome, AllocError> {
+    fn put(&mut self, alloc: Global, number: u32, bytes: &[u8]) -> Result<PutOutcome, AllocError> {
         match self.by_number.get(&number) {
             Some(held) => {
                 if held.as_slice() == bytes {
@@ -81,15 +81,15 @@ impl Delivered for MapDelivered {
         Ok(PutOutcome::New)
     }
 
-    fn front(&self) -> u16 {
+    fn front(&self) -> u32 {
         self.front
     }
 
-    fn highest(&self) -> u16 {
+    fn highest(&self) -> u32 {
         self.highest
     }
 
-    fn block(&self, number: u16) -> Option<&[u8]> {
+    fn block(&self, number: u32) -> Option<&[u8]> {
         match self.by_number.get(&number) {
             Some(bytes) => Some(bytes.as_slice()),
             None => None,
@@ -118,13 +118,13 @@ impl Delivered for MapDelivered {
 }
 
 /// The front, where the blocks up to `from` are known to be held.
-fn front_after(blocks: &BTreeMap<u16, Vec<u8>>, from: u16) -> u16
+fn front_after(blocks: &BTreeMap<u32, Vec<u8>>, from: u32) -> u32
     ensures within { from ≤ result }
     ensures held { (k : ℕ) → from < k → k ≤ result → is_some (get nat_cmp blocks.now k) ≡ true }
-    ensures next { result < 65535 → is_some (get nat_cmp blocks.now (result + 1)) ≡ false }
+    ensures next { result < 4294967295 → is_some (get nat_cmp blocks.now (result + 1)) ≡ false }
 {
     let mut front = from;
-    while front < u16::MAX && blocks.contains_key(&(front + 1)) {
+    while front < u32::MAX && blocks.contains_key(&(front + 1)) {
         front += 1;
     }
     front
@@ -133,8 +133,8 @@ fn front_after(blocks: &BTreeMap<u16, Vec<u8>>, from: u16) -> u16
 /// The blocks up to the front, joined.
 fn join(
     alloc: Global,
-    blocks: &BTreeMap<u16, Vec<u8>>,
-    front: u16,
+    blocks: &BTreeMap<u32, Vec<u8>>,
+    front: u32,
     block_size: u16,
 ) -> Result<Vec<u8>, AllocError>
     requires { IsHeldFront (held_in blocks.now.entries) front }

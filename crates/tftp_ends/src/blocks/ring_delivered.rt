@@ -26,7 +26,7 @@ pub struct RingDelivered {
     joined: Vec<u8>,
     // place i stands for block front + 1 + i, and the last place has a block
     pending: Waiting,
-    front: u16,
+    front: u32,
     // how many places have a block
     waiting: u16,
     block_size: u16,
@@ -63,7 +63,7 @@ impl RingDelivered {
 
     /// Holds a block that is not held yet.
     #[inline(always)]
-    fn hold_new(&mut self, alloc: Global, number: u16, bytes: &[u8]) -> Result<(), AllocError>
+    fn hold_new(&mut self, alloc: Global, number: u32, bytes: &[u8]) -> Result<(), AllocError>
         requires takes { Takes self.old.1 self.old.2 (numbered 1 self.old.0) number (length bytes.now) }
         requires absent { map.get (numbered 1 self.old.0) number ≡ None }
         ensures ok { OnOk result (numbered 1 self.new.0 ≡ map.insert (numbered 1 self.old.0) number bytes.now) }
@@ -86,7 +86,7 @@ impl RingDelivered {
         if self.waiting > 0 {
             self.pending.drop_first();
             self.front = advance(&mut self.joined, &mut self.pending, number, self.block_size);
-            self.waiting -= self.front - number;
+            self.waiting -= (self.front - number) as u16;
         }
         Ok(())
     }
@@ -124,7 +124,7 @@ impl Delivered for RingDelivered {
     }
 
     #[inline(always)]
-    fn put(&mut self, alloc: Global, number: u16, bytes: &[u8]) -> Result<PutOutcome, AllocError> {
+    fn put(&mut self, alloc: Global, number: u32, bytes: &[u8]) -> Result<PutOutcome, AllocError> {
         match self.block(number) {
             Some(held) => {
                 if held == bytes {
@@ -138,15 +138,15 @@ impl Delivered for RingDelivered {
         Ok(PutOutcome::New)
     }
 
-    fn front(&self) -> u16 {
+    fn front(&self) -> u32 {
         self.front
     }
 
-    fn highest(&self) -> u16 {
-        self.front + self.pending.len() as u16
+    fn highest(&self) -> u32 {
+        self.front + self.pending.len() as u32
     }
 
-    fn block(&self, number: u16) -> Option<&[u8]> {
+    fn block(&self, number: u32) -> Option<&[u8]> {
         if number == 0 {
             return None;
         }
@@ -206,10 +206,10 @@ fn make_room(joined: &mut Vec<u8>, block_size: u16, more: usize) -> Result<(), A
 }
 
 /// Moves the blocks up to the first gap behind the joined ones, where there is room for them. Answers the front.
-fn advance(joined: &mut Vec<u8>, pending: &mut Waiting, from: u16, block_size: u16) -> u16
+fn advance(joined: &mut Vec<u8>, pending: &mut Waiting, from: u32, block_size: u16) -> u32
     requires row { IsRow block_size joined.old.items from pending.old.0 }
     requires room { length joined.old.items + leading pending.old.0 ≤ vec_capacity joined.old }
-    requires numbers { from + length pending.old.0 ≤ 65535 }
+    requires numbers { from + length pending.old.0 ≤ 4294967295 }
     ensures row { IsRow block_size joined.new.items result pending.new.0 }
     ensures slots { cut block_size result joined.new.items ++ pending.new.0
         ≡ cut block_size from joined.old.items ++ pending.old.0 }

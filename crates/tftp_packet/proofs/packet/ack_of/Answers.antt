@@ -1,6 +1,6 @@
 use Rattle.std.proofs.Common.{◌≡◌, ◌-◌, ◌/◌, ◌%◌, ℕ, List, [], ◌∷◌, take, drop, length, ap, subst, arith}
-use Rattle.tftp_packet.specs.{IsPair, opcode_of}
-use Rattle.tftp_packet.proofs.Judged.{all_bytes, numbered}
+use Rattle.tftp_packet.specs.{IsPair, Message, opcode_of}
+use Rattle.tftp_packet.proofs.Judged.{all_bytes, bytes_but, as_place, numbered}
 use Rattle.tftp_packet.proofs.packet.ack_of.Goals as goal
 
 -- of four bytes there is none behind the number
@@ -21,4 +21,4 @@ returns-clause-spelled c =
     let four : length c.args.payload.now ≡ 4 = omega (arith, c.if-payload-ne4.false) in
     let is : opcode_of c.args.payload.now ≡ 4 = omega (arith, c.if-opcode-ne4.false, c.opcode.ensures) in
     let bytes = all_bytes c.args.payload.now c.type_inv.payload in
-    (bytes, (alone c.args.payload.now c.read_u16.result four (numbered c.args.payload.now 4 c.read_u16.result is (omega arith) (omega arith) bytes (omega arith) c.read_u16.ensures)).0)
+    (bytes_but (Message.Ack c.read_u16.result) c.args.payload.now bytes, as_place c.args.payload.now [] 4 c.read_u16.result (alone c.args.payload.now c.read_u16.result four (numbered c.args.payload.now 4 c.read_u16.result is (omega arith) (omega arith) bytes (omega arith) c.read_u16.ensures)).0)

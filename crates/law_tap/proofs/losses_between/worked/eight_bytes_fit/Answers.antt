@@ -4,6 +4,7 @@ use Rattle.law_tap.proofs.losses_between.worked.eight_bytes_fit.Goals as goal
 
 pub returns-clause-lowered : goal.returns-clause-lowered
 returns-clause-lowered c = record {
+  numbered = omega arith;
   below = λ long is. let same : ◌≡◌ {A = ℕ} 8 long = cc in sym same;
   tail = λ long is. let same : ◌≡◌ {A = ℕ} 3 long = cc in inl (omega (arith, same));
 }

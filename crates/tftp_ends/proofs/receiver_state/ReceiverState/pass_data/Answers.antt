@@ -23,7 +23,7 @@ returns-in_err-hold_block-clause-found g c = λ passed.
 
 pub invariant_of-self-2 : goal.invariant_of-self-2
 invariant_of-self-2 g c =
-    let small = c.ranges.number.fits in (
+    let small = c.in_ok-may_open.ensures.low in (
       sound_taken _ _ c.args.number c.args.bytes.now _ c.self.invariant.0 c.in_ok-may_open.ensures.takes.from_one (omega arith) c.in_ok-may_open.ensures.sized c.in_ok-hold_block.ensures.ok.1 c.in_ok-hold_block.ensures.same,
       c.in_ok-hold_block.ensures.block_size ∙ c.self.invariant.1,
       c.in_ok-hold_block.ensures.window ∙ c.self.invariant.2,

@@ -48,7 +48,7 @@ returns-in_err-hold_block-clause-found g c = λ passed.
 
 pub invariant_of-self-then-not-self : goal.invariant_of-self-then-not-self
 invariant_of-self-then-not-self g c =
-    let small = c.ranges.number.fits in (
+    let small = c.in_ok-may_open.ensures.low in (
       sound_sent _ _ c.args.number _ c.args.bytes.now _ c.self.invariant.0 c.in_ok-may_open.ensures.takes.from_one (omega arith) c.in_ok-may_open.ensures.sized
           (below_it _ c.self.invariant.0 c.args.number c.highest-top.result c.highest-top.ensures.highest (let near = c.if-from.false in let x = c.from.ensures in let y = c.from-2.ensures in omega arith))
           c.in_ok-hold_block.ensures.ok.1 c.in_ok-hold_block.ensures.same (inr c.max-self-inside.ensures),
@@ -58,7 +58,7 @@ invariant_of-self-then-not-self g c =
 
 pub invariant_of-self-else-not-self : goal.invariant_of-self-else-not-self
 invariant_of-self-else-not-self g c =
-    let small = c.ranges.number.fits in (
+    let small = c.in_ok-may_open.ensures.low in (
       sound_sent _ _ c.args.number _ c.args.bytes.now _ c.self.invariant.0 c.in_ok-may_open.ensures.takes.from_one (omega arith) c.in_ok-may_open.ensures.sized
           (below_it _ c.self.invariant.0 c.args.number c.highest-top.result c.highest-top.ensures.highest (let near = c.if-from.false in let x = c.from.ensures in let y = c.from-2.ensures in omega arith))
           c.in_ok-hold_block.ensures.ok.1 c.in_ok-hold_block.ensures.same (inl refl),

@@ -32,41 +32,41 @@ returns-then-has_agreed_by-clause-finds g c = λ h earlier d at one kept is on d
 pub returns-in-Some-block_of-clause-finds : goal.returns-in-Some-block_of-clause-finds
 returns-in-Some-block_of-clause-finds g c = λ h earlier d at one kept is on dir payload.
     let t = c.in-Some.transfer in
-    let m = Message.Data c.in-Some-block_of.block c.in-Some-block_of.bytes.now in
+    let m = Message.Data c.from.result c.in-Some-block_of.bytes.now in
     let routed : is_of_transfer (route_of h earlier d) ≡ true = ap is_of_transfer (sym is) ∙ on in
     let there : c.args.self.now.transfer ≡ Some t = sym (ap (λ (k : JudgeState). k.transfer) c.self.view_is) ∙ c.in-Some.is in
-    let spells : Spells d.payload m = subst (λ (bytes : List _). Spells bytes m) (sym payload) (rw c.in-Some-block_of.is at c.block_of.ensures.spelled) in
+    let spells : Spells d.payload m = subst (λ (bytes : List _). Spells bytes m) (sym payload) (subst (λ k. Spells c.args.payload.now (Message.Data k c.in-Some-block_of.bytes.now)) (sym c.from.ensures) (rw c.in-Some-block_of.is at c.block_of.ensures.spelled)) in
     let kept_now : IsKept h earlier (Some t) = subst (λ (o : Option Transfer). IsKept h earlier o) there kept in
     message_found h earlier d c.args.dir m t c.pass.new.self dir routed spells kept_now c.pass.ensures.asked c.pass.result (c.pass.ensures.finds h (transfer_of h earlier) d kept_now.1 (dir, spells))
 
 pub returns-in-Some-block_of-clause-memory : goal.returns-in-Some-block_of-clause-memory
 returns-in-Some-block_of-clause-memory g c = λ h earlier d kept is on dir payload want.
-    let m = Message.Data c.in-Some-block_of.block c.in-Some-block_of.bytes.now in
+    let m = Message.Data c.from.result c.in-Some-block_of.bytes.now in
     let there : c.args.self.now.transfer ≡ Some c.in-Some.transfer = sym (ap (λ (k : JudgeState). k.transfer) c.self.view_is) ∙ c.in-Some.is in
     let kept_now : IsKept h earlier (Some c.in-Some.transfer) = subst (λ (o : Option Transfer). IsKept h earlier o) there kept in
     inr (
       m,
-      record { routed = ap is_of_transfer (sym is) ∙ on; spells = subst (λ (bytes : List _). Spells bytes m) (sym payload) (rw c.in-Some-block_of.is at c.block_of.ensures.spelled) },
+      record { routed = ap is_of_transfer (sym is) ∙ on; spells = subst (λ (bytes : List _). Spells bytes m) (sym payload) (subst (λ k. Spells c.args.payload.now (Message.Data k c.in-Some-block_of.bytes.now)) (sym c.from.ensures) (rw c.in-Some-block_of.is at c.block_of.ensures.spelled)) },
       subst (λ w. IsNew (transfer_of h earlier) w m) (sym dir) (c.pass.ensures.memory h (transfer_of h earlier) kept_now.1 want),
     )
 
 pub returns-in-Some-ack_of-clause-finds : goal.returns-in-Some-ack_of-clause-finds
 returns-in-Some-ack_of-clause-finds g c = λ h earlier d at one kept is on dir payload.
     let t = c.in-Some.transfer in
-    let m = Message.Ack c.in-Some-ack_of.block in
+    let m = Message.Ack c.from-in-Some-ack_of.result in
     let routed : is_of_transfer (route_of h earlier d) ≡ true = ap is_of_transfer (sym is) ∙ on in
     let there : c.args.self.now.transfer ≡ Some t = sym (ap (λ (k : JudgeState). k.transfer) c.self.view_is) ∙ c.in-Some.is in
-    let spells : Spells d.payload m = subst (λ (bytes : List _). Spells bytes m) (sym payload) (rw c.in-Some-ack_of.is at c.ack_of.ensures.spelled) in
+    let spells : Spells d.payload m = subst (λ (bytes : List _). Spells bytes m) (sym payload) (subst (λ k. Spells c.args.payload.now (Message.Ack k)) (sym c.from-in-Some-ack_of.ensures) (rw c.in-Some-ack_of.is at c.ack_of.ensures.spelled)) in
     let kept_now : IsKept h earlier (Some t) = subst (λ (o : Option Transfer). IsKept h earlier o) there kept in
     message_found h earlier d c.args.dir m t c.pass-in-Some-ack_of.new.self dir routed spells kept_now c.pass-in-Some-ack_of.ensures.asked c.pass-in-Some-ack_of.result (c.pass-in-Some-ack_of.ensures.finds h (transfer_of h earlier) d kept_now.1 (dir, spells))
 
 pub returns-in-Some-ack_of-clause-memory : goal.returns-in-Some-ack_of-clause-memory
 returns-in-Some-ack_of-clause-memory g c = λ h earlier d kept is on dir payload want.
-    let m = Message.Ack c.in-Some-ack_of.block in
+    let m = Message.Ack c.from-in-Some-ack_of.result in
     let there : c.args.self.now.transfer ≡ Some c.in-Some.transfer = sym (ap (λ (k : JudgeState). k.transfer) c.self.view_is) ∙ c.in-Some.is in
     let kept_now : IsKept h earlier (Some c.in-Some.transfer) = subst (λ (o : Option Transfer). IsKept h earlier o) there kept in
     inr (
       m,
-      record { routed = ap is_of_transfer (sym is) ∙ on; spells = subst (λ (bytes : List _). Spells bytes m) (sym payload) (rw c.in-Some-ack_of.is at c.ack_of.ensures.spelled) },
+      record { routed = ap is_of_transfer (sym is) ∙ on; spells = subst (λ (bytes : List _). Spells bytes m) (sym payload) (subst (λ k. Spells c.args.payload.now (Message.Ack k)) (sym c.from-in-Some-ack_of.ensures) (rw c.in-Some-ack_of.is at c.ack_of.ensures.spelled)) },
       subst (λ w. IsNew (transfer_of h earlier) w m) (sym dir) (c.pass-in-Some-ack_of.ensures.memory h (transfer_of h earlier) kept_now.1 want),
     )

@@ -2,7 +2,7 @@ use Rattle.std.proofs.Common.{ap, sym, subst, ◌∙◌, ◌≡◌, ◌≤◌, �
 use Rattle.std.proofs.lemmas.List.{length-drop}
 use Rattle.std.specs.FinMap as finite
 use Rattle.tftp_ends.specs.Blocks.{numbered, cut, placed, IsRow, IsRing, IsRoom, total}
-use Rattle.tftp_ends.proofs.BlocksLemmas.Ring.{new_facts, new_waits, numbered_new, first_row, first_moved, first_alone, none_is_dropped, numbered_first, filled_within, new_room, same_room}
+use Rattle.tftp_ends.proofs.BlocksLemmas.Ring.{new_facts, new_waits, place_within, numbered_new, first_row, first_moved, first_alone, none_is_dropped, numbered_first, filled_within, new_room, same_room}
 use Rattle.tftp_ends.proofs.blocks.ring_delivered.RingDelivered.hold_new.Goals as goal
 
 pub overflow_sub-place : goal.overflow_sub-place
@@ -109,4 +109,11 @@ advance-self-inside-requires-clause-numbers c =
     let fewer = ap length c.drop_first.ensures.places ∙ length-drop 1 c.self.inside.pending.0 in
     let numbers = c.self.invariant.0.numbers in
     let near : c.args.number - c.self.inside.front - 1 ≤ 0 = c.if-place-gt0.false in
+    omega arith
+
+pub hold-requires-clause-place : goal.hold-requires-clause-place
+hold-requires-clause-place c =
+    let wide = c.self.ranges in
+    let known = new_facts c.self.inside.block_size c.self.inside.window c.self.inside.front c.self.inside.joined.items c.self.inside.pending.0 c.args.number c.args.bytes.now c.self.inside.pending.1 c.args.self.now c.self.view_is c.requires.takes (sym c.requires.absent) in
+    let near = place_within c.self.inside.block_size c.self.inside.window c.self.inside.front c.self.inside.joined.items c.self.inside.pending.0 c.self.inside.waiting c.args.number c.args.bytes.now c.self.invariant.0 known.0 in
     omega arith
