@@ -69,7 +69,7 @@ bench: build
 # one breach, of which most must be told without a doubt: a table tells how many. For each
 # twenty a transfer is recorded between its ends, and changes of it, and what is said compared with a slow reference; for each
 # ten both ends of a transfer are matched, whole, cut and changed; and for each ten a recording is changed, and what is read
-# of it compared with what a slow reader finds.
+# of it compared with what a slow reader finds, and another one by tftp-transfers in 2 GB, which must end in time.
 N = 10000
 JOBS = 2
 fuzz: ready
@@ -80,6 +80,7 @@ fuzz: ready
 	python3 tests/both.py --cases $$(($(N) / 10 + 1)) $(if $(SEED),--seed $(SEED)) $(MATCH)
 	@cd crates/tests_tools && rt run -- </dev/null >/dev/null || test $$? -eq 2
 	python3 tests/datagrams.py --cases 0 --changes $$(($(N) / 10 + 1)) $(if $(SEED),--seed $(SEED)) $(TOOLS)
+	python3 tests/mutated.py --recordings $$(($(N) / 10 + 1)) --jobs $(JOBS) $(if $(SEED),--seed $(SEED)) $(TRANSFERS)
 
 # The programs in bin; the scripts beside their modules in lib, with links in bin; the manual pages, the pages for
 # readers, the examples and what shells complete; in share the plugin of Wireshark and the schemas of JSON. The programs

@@ -48,8 +48,8 @@ module _ (m : Meaning) (can : CanBeWritten m) where
   payload_bytes : (p : MachinePacket) → InWire p → Bytes (canonical (message_of m (wire_of m) p))
   payload_bytes Req there = can.request.0.0
   payload_bytes Oack some = (can.oack some).0.0
-  payload_bytes (Data k) low = (data_spells m can k low).0
-  payload_bytes (Ack j) low = (ack_spells m can j low).0
+  payload_bytes (Data k) low = let said = (data_spells m can k low).0 in let most = can.fits.numbered in (said.0, (said.1.0, (omega (arith, low, most), said.1.1)))
+  payload_bytes (Ack j) low = let said = (ack_spells m can j low).0 in let most = can.fits.numbered in (said.0, (said.1.0, (omega (arith, low, most), said.1.1)))
   payload_bytes (Error code text) there = absurd there
 
   payload_length : (p : MachinePacket) → InWire p → length (canonical (message_of m (wire_of m) p)) ≤ 65527
