@@ -4,10 +4,9 @@ use Rattle.tftp_packet.specs.{Message, Spells, End, Client, Server}
 use Rattle.tftp_packet.specs.Hosts.{Datagram, Header, peer_of}
 use Rattle.law_model.specs.Model.{MachinePacket, Req, Oack, Data, Ack, Error, Deed}
 use Rattle.law_end.specs.Dress.{StrayAnswer}
-use Rattle.law_end.specs.{AnswersStray, BeginsAsRequest, Carries, ComesAstray, Label, IsMain, Main, Stray, Labelled, Division, GoesToServer, HasClientId, HasServerId, HasLabelBy, Saying, TransferIds, dir_of, packet_of, from_server, server_port}
+use Rattle.law_end.specs.{BeginsAsRequest, Label, IsMain, Main, Stray, Labelled, Division, GoesToServer, HasClientId, HasServerId, HasLabelBy, Saying, TransferIds, packet_of, from_server, server_port}
 use Rattle.law_end.proofs.Division.Divided.{any_none, any_cases, any_first, any_later}
 use Rattle.law_rollover.specs.{with_payload}
-
 -- the labels are the same, and the datagrams but for what they carry
 abbrev pub Alike : Division → Division → Type 0
 Alike [] [] = Unit {0}

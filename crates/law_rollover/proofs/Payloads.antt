@@ -1,13 +1,14 @@
 -- What a payload says by numbers is what it says with blocks in their place.
-use Rattle.std.proofs.Common.{◌≡◌, ◌⊎◌, ℕ, ◌+◌, ◌*◌, ◌/◌, ◌%◌, ◌<◌, ◌≤◌, ◌==◌, ◌&&◌, ◌||◌, true, false, List, [], ◌∷◌, length, inl, inr, refl, sym, subst, ap, ◌∙◌, arith}
+use Rattle.std.proofs.Common.{ne_eqb, ◌≡◌, ◌≢◌, ℕ, ◌+◌, ◌*◌, ◌/◌, ◌%◌, ◌<◌, ◌≤◌, ◌==◌, ◌&&◌, ◌||◌, Bool, true, false, if◌then◌else◌, List, [], ◌∷◌, length, inl, inr, refl, sym, subst, ap, ◌∙◌, arith}
 use Rattle.std.specs.List.{AllByRecursion}
-use Rattle.tftp_packet.specs.{Message, Spells, Side, Get, Put, opcode_of, side_opcode}
+use Rattle.tftp_packet.specs.{Message, OptionMap, RequestParts, Spells, Side, Get, Put, opcode_of, side_opcode}
 use Rattle.law_model.specs.Model.{Meaning, MachinePacket, Req, Oack, Data, Ack, Error, message_of, blksize_of, block}
 use Rattle.law_end.specs.{BeginsAsRequest, says_of}
 use Rattle.law_rollover.specs.{IsNear, IsNearPacket, Rollover, carries_number, first_of, number_of, position_of, says_by_number, unrolled_payload, with_place}
-use Rattle.law_rollover.proofs.Positions.{has_number, is_near, read_back}
+use Rattle.std.proofs.lemmas.Bool.{cases_eq}
+use Rattle.law_rollover.proofs.Rounds.{low_numbers}
+use Rattle.law_rollover.proofs.Positions.{has_number, is_near, low_is_near, read_back}
 use Rattle.law_rollover.proofs.Unrolling.{data_unrolled, ack_unrolled, others_stay, opcode_stays, length_stays}
-
 -- ---- payloads without a number
 
 no_number : (payload : List ℕ) (o : ℕ) → opcode_of payload ≡ o → ((o == 3) || ((o == 4) && (length payload == 4))) ≡ false → carries_number payload ≡ false
@@ -111,6 +112,13 @@ module _ (r : Rollover) (high : ℕ) (payload : List ℕ) where
   back : (o : ℕ) → opcode_of now ≡ o → ((o == 3) || ((o == 4) && (length payload == 4))) ≡ false → now ≡ payload
   back o is none = same o (sym (opcode_stays r high payload) ∙ is) none
 
+  -- a request, an OACK, and what is too short for a block or of another length than an ACK
+  pub request_stays : (asked : RequestParts) → Spells payload (Message.Request asked) → now ≡ payload
+  request_stays asked (all, request) = others_stay r high payload (request_opcode _ _ payload request.bytes)
+
+  pub oack_stays : (options : OptionMap) → Spells payload (Message.Oack options) → now ≡ payload
+  oack_stays options (all, oack) = same 6 (ap opcode_of oack.bytes) refl
+
   pub begins_back : BeginsAsRequest now → BeginsAsRequest payload
   begins_back (rest, inl is) = (rest, inl (sym (back 1 (ap opcode_of is) refl) ∙ is))
   begins_back (rest, inr is) = (rest, inr (sym (back 2 (ap opcode_of is) refl) ∙ is))
@@ -154,3 +162,52 @@ module _ (r : Rollover) (high : ℕ) (payload : List ℕ) where
       says_back (Data k) spells = data_back r high payload bytes k (block (blksize_of m) wire k) spells
       says_back (Ack j) spells = ack_back r high payload bytes j spells
       says_back (Error code text) spells = (error_back code text spells, tt)
+
+-- ---- what is neither a block nor an ACK
+
+short_stays : (f : ℕ → ℕ) (payload : List ℕ) → length payload < 4 → with_place f payload ≡ payload
+short_stays f [] short = refl
+short_stays f (a ∷ []) short = refl
+short_stays f (a ∷ b ∷ []) short = refl
+short_stays f (a ∷ b ∷ c ∷ []) short = refl
+short_stays f (a ∷ b ∷ c ∷ d ∷ rest) short = absurd (omega (arith, short))
+
+pub neither_stays : (r : Rollover) (high : ℕ) (payload : List ℕ) → (opcode_of payload ≡ 3 → length payload < 4) → (opcode_of payload ≡ 4 → length payload ≢ 4)
+    → unrolled_payload r high payload ≡ payload
+neither_stays r high payload block ack = elim (cases_eq (opcode_of payload) 3) [
+  | inl three ↦ by (carries_number payload) (short_stays (position_of r high) payload (block three))
+  | inr other ↦ elim (cases_eq (opcode_of payload) 4) [
+    | inl four ↦ others_stay r high payload (no_number payload 4 four (ne_eqb (length payload) 4 (ack four)))
+    | inr further ↦ others_stay r high payload (both (ne_eqb (opcode_of payload) 3 other) (ne_eqb (opcode_of payload) 4 further))
+  ]
+] where
+  by : (b : Bool) → with_place (position_of r high) payload ≡ payload → (if b then with_place (position_of r high) payload else payload) ≡ payload
+  by true stays = stays
+  by false stays = refl
+
+  both : (opcode_of payload == 3) ≡ false → (opcode_of payload == 4) ≡ false → carries_number payload ≡ false
+  both three four = ap (λ x. x || ((opcode_of payload == 4) && (length payload == 4))) three ∙ ap (λ x. x && (length payload == 4)) four
+
+-- ---- before anything has passed
+
+placed_itself : (f : ℕ → ℕ) → ((n : ℕ) → n ≤ 65535 → f n ≡ n) → (payload : List ℕ) → AllByRecursion (λ b. b < 256) payload → with_place f payload ≡ payload
+placed_itself f itself [] all = refl
+placed_itself f itself (a ∷ []) all = refl
+placed_itself f itself (a ∷ b ∷ []) all = refl
+placed_itself f itself (a ∷ b ∷ x ∷ []) all = refl
+placed_itself f itself (a ∷ b ∷ x ∷ y ∷ rest) all =
+    let low = all.1.1.0 in
+    let last = all.1.1.1.0 in
+    let is : f (256 * x + y) ≡ 256 * x + y = itself (256 * x + y) (omega (arith, low, last)) in
+    let third : f (256 * x + y) / 256 ≡ x = omega (arith, is, last) in
+    let fourth : f (256 * x + y) % 256 ≡ y = omega (arith, is, last) in
+    ap (λ k. a ∷ b ∷ k ∷ f (256 * x + y) % 256 ∷ rest) third ∙ ap (λ k. a ∷ b ∷ x ∷ k ∷ rest) fourth
+
+pub first_stays : (r : Rollover) (payload : List ℕ) → AllByRecursion (λ b. b < 256) payload → unrolled_payload r 0 payload ≡ payload
+first_stays r payload all = by (carries_number payload) where
+  itself : (n : ℕ) → n ≤ 65535 → position_of r 0 n ≡ n
+  itself n small = ap (position_of r 0) (sym (low_numbers (first_of r) n small)) ∙ read_back r 0 n (low_is_near r 0 n small (omega (arith)))
+
+  by : (b : Bool) → (if b then with_place (position_of r 0) payload else payload) ≡ payload
+  by true = placed_itself (position_of r 0) itself payload all
+  by false = refl

@@ -1,5 +1,5 @@
 -- A capture shows a run by numbers exactly if it shows the run with the blocks near in their place.
-use Rattle.std.proofs.Common.{◌≡◌, ◌⊎◌, ◌↔◌, ℕ, ◌+◌, ◌<◌, ◌≤◌, max, List, [], ◌∷◌, Contains, reverse, inl, inr, refl, sym, subst, ap, ◌∙◌, arith}
+use Rattle.std.proofs.Common.{◌≡◌, ◌⊎◌, ℕ, ◌<◌, ◌≤◌, max, List, [], ◌∷◌, Contains, reverse, inl, inr, refl, sym, subst, ap, ◌∙◌, arith}
 use Rattle.std.specs.List.{AllByRecursion}
 use Rattle.std.proofs.lemmas.Bool.{cases_lt}
 use Rattle.std.proofs.lemmas.List.{reverse-reverse}
@@ -9,16 +9,15 @@ use Rattle.law_model.specs.Model.{Meaning, MachinePacket, Req, Oack, Data, Ack, 
 use Rattle.law_model.specs.Rules.{IsGreatest, IsHigh, transfer_of}
 use Rattle.law_model.proofs.ModelLemmas.Members.{contains_first, contains_later}
 use Rattle.law_end.specs.Dress.{StrayAnswer}
-use Rattle.law_end.specs.{AreRouted, BeginsAsRequest, Division, HasLabelBy, HaveLabels, HaveLabelsBy, IsDressed, Label, Labelled, Main, Stray, Starts, TransferIds, datagrams_of, packet_of, dir_of, says_of, view_in}
+use Rattle.law_end.specs.{AreRouted, BeginsAsRequest, Division, HasLabelBy, HaveLabels, HaveLabelsBy, IsDressed, Label, Main, Stray, TransferIds, datagrams_of, packet_of, dir_of, says_of, view_in}
 use Rattle.law_end.proofs.Accord.HighestNumbers.{either_way, some_way}
 use Rattle.law_end.proofs.Accord.PassedIsDone.{passed_told, told_passed, data_only}
 use Rattle.law_end.proofs.Division.Routed.{routed_by, starts_of, told_of}
 use Rattle.law_end.proofs.Written.EachOf.{all_reverse}
-use Rattle.law_rollover.specs.{AreBytes, AreNear, AreUnrolled, IsNearPacket, IsDressedByNumber, IsUnrolled, Rollover, high_of, higher_of, says_by_number, unrolled_payload, with_payload}
+use Rattle.law_rollover.specs.{AreBytes, AreNear, AreUnrolled, IsNearPacket, IsDressedByNumber, Rollover, high_of, higher_of, says_by_number, unrolled_payload, with_payload}
 use Rattle.law_rollover.proofs.Timely.{data_below}
 use Rattle.law_rollover.proofs.Dressing.{Alike, label_moves}
 use Rattle.law_rollover.proofs.Payloads.{begins_on, begins_back, error_on, error_back, says_on, says_back}
-
 -- ---- the highest block
 
 pub one_greatest : (P : ℕ → Type 0) (a b : ℕ) → IsGreatest P a → IsGreatest P b → a ≡ b

@@ -1,9 +1,8 @@
 -- What a payload says with a block in the place of its number.
-use Rattle.std.proofs.Common.{◌≡◌, ℕ, ◌+◌, ◌*◌, ◌/◌, ◌%◌, ◌<◌, Bool, true, false, List, [], ◌∷◌, length, refl, sym, subst, ap, ◌∙◌, arith}
+use Rattle.std.proofs.Common.{◌≡◌, ℕ, ◌/◌, ◌%◌, Bool, true, false, List, [], ◌∷◌, length, refl, sym, subst, ap, ◌∙◌, arith}
 use Rattle.std.specs.Prelude.{if◌then◌else◌}
 use Rattle.tftp_packet.specs.{Message, Spells, opcode_of}
 use Rattle.law_rollover.specs.{position_of, Rollover, carries_number, unrolled_payload, with_place}
-
 -- ---- blocks and ACKs
 
 pub data_unrolled : (r : Rollover) (high n : ℕ) (bytes payload : List ℕ) → Spells payload (Message.Data n bytes)

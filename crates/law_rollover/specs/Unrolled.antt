@@ -1,5 +1,5 @@
 -- A capture with blocks in the place of numbers. The lists have the newest datagram first.
-use Rattle.std.specs.Prelude.{◌≡◌, ℕ, ◌+◌, ◌*◌, ◌/◌, ◌%◌, ◌==◌, ◌&&◌, ◌||◌, Bool, List, [], ◌∷◌, length, if◌then◌else◌}
+use Rattle.std.specs.Prelude.{◌≡◌, ℕ, ◌+◌, ◌*◌, ◌/◌, ◌%◌, ◌==◌, ◌&&◌, ◌||◌, Bool, List, [], ◌∷◌, Option, Some, None, length, if◌then◌else◌}
 use Rattle.tftp_packet.specs.{opcode_of}
 use Rattle.tftp_packet.specs.Hosts.{Datagram, Header}
 use Rattle.law_model.specs.Rules.{IsHigh, transfer_of}
@@ -31,3 +31,12 @@ abbrev pub AreUnrolled : Rollover → Header → List Datagram → List Datagram
 AreUnrolled r h [] [] = Unit {0}
 AreUnrolled r h (d ∷ earlier) (now ∷ unrolled) = IsUnrolled r (transfer_of h unrolled) d now × AreUnrolled r h earlier unrolled
 AreUnrolled r h _ _ = ⊥
+
+-- What a judge takes a payload for after these datagrams: that payload, or where numbers begin again the one with the block near.
+abbrev pub IsTakenFor : Option Rollover → (passed : List Datagram) → List ℕ → List ℕ → Type 0
+IsTakenFor None passed payload now = now ≡ payload
+IsTakenFor (Some r) passed payload now = (high : ℕ) × IsHigh passed high × (now ≡ unrolled_payload r high payload)
+
+-- and what it takes a datagram for
+abbrev pub IsTaken : Option Rollover → (passed : List Datagram) → Datagram → Datagram → Type 0
+IsTaken rollover passed d now = (now ≡ with_payload d now.payload) × IsTakenFor rollover passed d.payload now.payload
