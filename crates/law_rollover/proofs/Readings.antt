@@ -1,10 +1,11 @@
 -- Packets, deeds and lists of them are read back from their numbers.
 use Rattle.std.proofs.Common.{◌≡◌, ℕ, [], ◌∷◌, refl, sym, ap, ◌∙◌}
 use Rattle.law_model.specs.Model.{MachinePacket, Req, Oack, Data, Ack, Error, Deed, Sent, Took, History}
+use Rattle.law_end.specs.{packet_of}
 use Rattle.law_rollover.specs.{first_of, position_of, Rollover}
 use Rattle.law_rollover.proofs.Rounds.{low_numbers}
 use Rattle.law_rollover.proofs.Positions.{has_number, is_near, low_is_near, read_back}
-use Rattle.law_rollover.specs.{IsNearPacket, IsLowPacket, IsTimelyPacket, AreNear, AreLow, IsTimely, packet_in, deed_with, with_number, with_position, numbers_of, positions_of, high_of}
+use Rattle.law_rollover.specs.{IsNearPacket, IsLowPacket, IsTimelyPacket, AreNear, AreLow, IsTimely, deed_with, with_number, with_position, numbers_of, positions_of, high_of}
 
 -- ---- one packet
 
@@ -40,15 +41,15 @@ packet_low r high (Error code text) low timely = refl
 
 -- ---- one deed
 
-deed_back : (f g : MachinePacket → MachinePacket) (d : Deed) → f (g (packet_in d)) ≡ packet_in d → deed_with f (deed_with g d) ≡ d
+deed_back : (f g : MachinePacket → MachinePacket) (d : Deed) → f (g (packet_of d)) ≡ packet_of d → deed_with f (deed_with g d) ≡ d
 deed_back f g (Sent p) same = ap Sent same
 deed_back f g (Took p) same = ap Took same
 
-deed_same : (f : MachinePacket → MachinePacket) (d : Deed) → f (packet_in d) ≡ packet_in d → deed_with f d ≡ d
+deed_same : (f : MachinePacket → MachinePacket) (d : Deed) → f (packet_of d) ≡ packet_of d → deed_with f d ≡ d
 deed_same f (Sent p) same = ap Sent same
 deed_same f (Took p) same = ap Took same
 
-packet_of_deed : (f : MachinePacket → MachinePacket) (d : Deed) → packet_in (deed_with f d) ≡ f (packet_in d)
+packet_of_deed : (f : MachinePacket → MachinePacket) (d : Deed) → packet_of (deed_with f d) ≡ f (packet_of d)
 packet_of_deed f (Sent p) = refl
 packet_of_deed f (Took p) = refl
 
@@ -58,13 +59,13 @@ pub read_all_back : (r : Rollover) (h : History) → AreNear r h → positions_o
 read_all_back r [] near = refl
 read_all_back r (d ∷ h) near =
     let before = read_all_back r h near.1 in
-    rw before (ap (λ x. x ∷ h) (deed_back (with_position r (high_of h)) (with_number r) d (packet_back r (high_of h) (packet_in d) near.0)))
+    rw before (ap (λ x. x ∷ h) (deed_back (with_position r (high_of h)) (with_number r) d (packet_back r (high_of h) (packet_of d) near.0)))
 
 pub all_near : (r : Rollover) (numbers : History) → AreLow numbers → AreNear r (positions_of r numbers)
 all_near r [] small = tt
 all_near r (d ∷ numbers) small =
     let high = high_of (positions_of r numbers) in
-    let near : IsNearPacket r high (packet_in (deed_with (with_position r high) d)) = rw (packet_of_deed (with_position r high) d) (packet_near r high (packet_in d) small.0) in
+    let near : IsNearPacket r high (packet_of (deed_with (with_position r high) d)) = rw (packet_of_deed (with_position r high) d) (packet_near r high (packet_of d) small.0) in
     (near, all_near r numbers small.1)
 
 pub all_numbered : (r : Rollover) (numbers : History) → AreLow numbers → numbers_of r (positions_of r numbers) ≡ numbers
@@ -72,10 +73,10 @@ all_numbered r [] small = refl
 all_numbered r (d ∷ numbers) small =
     let high = high_of (positions_of r numbers) in
     let before = all_numbered r numbers small.1 in
-    rw before (ap (λ x. x ∷ numbers) (deed_back (with_number r) (with_position r high) d (packet_numbered r high (packet_in d) small.0)))
+    rw before (ap (λ x. x ∷ numbers) (deed_back (with_number r) (with_position r high) d (packet_numbered r high (packet_of d) small.0)))
 
 pub all_low : (r : Rollover) (h : History) → AreLow h → IsTimely h → positions_of r h ≡ h
 all_low r [] low timely = refl
 all_low r (d ∷ h) low timely =
     let before = all_low r h low.1 timely.1 in
-    rw before (ap (λ x. x ∷ h) (deed_same (with_position r (high_of h)) d (packet_low r (high_of h) (packet_in d) low.0 timely.0)))
+    rw before (ap (λ x. x ∷ h) (deed_same (with_position r (high_of h)) d (packet_low r (high_of h) (packet_of d) low.0 timely.0)))

@@ -4,9 +4,10 @@ use Rattle.std.specs.List.{list_any}
 use Rattle.tftp_packet.specs.{End}
 use Rattle.law_model.specs.Model.{Meaning, windowsize_of, MachinePacket, Req, Oack, Data, Ack, Error, Deed, Sent, Took, History, IsOneSided, heard, takes_error}
 use Rattle.law_model.proofs.ModelLemmas.Members.{contains_cases, contains_later, contains_none}
+use Rattle.law_end.specs.{packet_of}
 use Rattle.law_rollover.specs.{half_round, Rollover}
 use Rattle.law_rollover.proofs.Positions.{around_is_near}
-use Rattle.law_rollover.specs.{IsNearPacket, IsTimelyPacket, AreNear, IsTimely, packet_in, high_of, higher_of}
+use Rattle.law_rollover.specs.{IsNearPacket, IsTimelyPacket, AreNear, IsTimely, high_of, higher_of}
 
 higher_more : (p : MachinePacket) (high : ℕ) → high ≤ higher_of p high
 higher_more Req high = omega arith
@@ -15,11 +16,11 @@ higher_more (Data k) high = omega arith
 higher_more (Ack j) high = omega arith
 higher_more (Error code text) high = omega arith
 
-data_below : (h : History) (d : Deed) (k : ℕ) → packet_in d ≡ Data k → Contains h d → k ≤ high_of h
+pub data_below : (h : History) (d : Deed) (k : ℕ) → packet_of d ≡ Data k → Contains h d → k ≤ high_of h
 data_below [] d k is at = absurd (contains_none d at)
 data_below (e ∷ h) d k is at = elim (contains_cases e h d at) [
-  | inl same ↦ let here : packet_in e ≡ Data k = ap packet_in same ∙ is in subst (λ p. k ≤ higher_of p (high_of h)) (sym here) (omega arith)
-  | inr before ↦ let low = data_below h d k is before in let more = higher_more (packet_in e) (high_of h) in omega arith
+  | inl same ↦ let here : packet_of e ≡ Data k = ap packet_of same ∙ is in subst (λ p. k ≤ higher_of p (high_of h)) (sym here) (omega arith)
+  | inr before ↦ let low = data_below h d k is before in let more = higher_more (packet_of e) (high_of h) in omega arith
 ]
 
 -- what was heard was done
@@ -48,7 +49,7 @@ module _ (m : Meaning) (wire : List ℕ) (e : End) where
   ack_below : (h : History) → IsOneSided m wire e h → (d : Deed) (j : ℕ) → d ≡ Sent (Ack j) ⊎ d ≡ Took (Ack j) → Contains h d → j ≤ high_of h
   ack_below [] own d j is at = absurd (contains_none d at)
   ack_below (x ∷ h) own d j is at =
-      let more = higher_more (packet_in x) (high_of h) in
+      let more = higher_more (packet_of x) (high_of h) in
       elim (contains_cases x h d at) [
         | inl same ↦ let low = ack_low x h own j (same_ack same is) in omega arith
         | inr before ↦ let low = ack_below h (earlier x h own) d j is before in omega arith
@@ -58,7 +59,7 @@ module _ (m : Meaning) (wire : List ℕ) (e : End) where
       same_ack same (inl is) = inl (same ∙ is)
       same_ack same (inr is) = inr (same ∙ is)
 
-  pub near_deed : (r : Rollover) → windowsize_of m ≤ half_round → (d : Deed) (h : History) → IsOneSided m wire e (d ∷ h) → IsTimelyPacket (high_of h) (packet_in d) → IsNearPacket r (high_of h) (packet_in d)
+  pub near_deed : (r : Rollover) → windowsize_of m ≤ half_round → (d : Deed) (h : History) → IsOneSided m wire e (d ∷ h) → IsTimelyPacket (high_of h) (packet_of d) → IsNearPacket r (high_of h) (packet_of d)
   near_deed r few (Sent Req) h own timely = tt
   near_deed r few (Took Req) h own timely = tt
   near_deed r few (Sent Oack) h own timely = tt

@@ -2,13 +2,10 @@
 use Rattle.std.specs.Prelude.{◌≡◌, ℕ, ◌+◌, ◌≤◌, max, List, [], ◌∷◌, map}
 use Rattle.tftp_packet.specs.{End}
 use Rattle.law_model.specs.Model.{Meaning, MachinePacket, Data, Ack, Req, Oack, Error, Deed, Sent, Took, History, IsView}
+use Rattle.law_end.specs.{packet_of}
 use Rattle.law_rollover.specs.Numbers.{first_of, number_of}
 use Rattle.law_rollover.specs.Reading.{IsNear, half_round, position_of}
 use Rattle.law_rollover.specs.declared.rollover.Rollover.{Rollover}
-
-abbrev pub packet_in : Deed → MachinePacket
-packet_in (Sent p) = p
-packet_in (Took p) = p
 
 abbrev pub deed_with : (MachinePacket → MachinePacket) → Deed → Deed
 deed_with f (Sent p) = Sent (f p)
@@ -39,7 +36,7 @@ higher_of (Error code text) high = high
 
 abbrev pub high_of : History → ℕ
 high_of [] = 0
-high_of (d ∷ h) = higher_of (packet_in d) (high_of h)
+high_of (d ∷ h) = higher_of (packet_of d) (high_of h)
 
 abbrev pub IsNearPacket : Rollover → (high : ℕ) → MachinePacket → Type 0
 IsNearPacket r high Req = Unit {0}
@@ -51,7 +48,7 @@ IsNearPacket r high (Error code text) = Unit {0}
 -- each block and each ACK is near when it passes
 abbrev pub AreNear : Rollover → History → Type 0
 AreNear r [] = Unit {0}
-AreNear r (d ∷ h) = IsNearPacket r (high_of h) (packet_in d) × AreNear r h
+AreNear r (d ∷ h) = IsNearPacket r (high_of h) (packet_of d) × AreNear r h
 
 -- none is more than half a round older than the highest block that has passed
 abbrev pub IsTimelyPacket : (high : ℕ) → MachinePacket → Type 0
@@ -63,7 +60,7 @@ IsTimelyPacket high (Error code text) = Unit {0}
 
 abbrev pub IsTimely : History → Type 0
 IsTimely [] = Unit {0}
-IsTimely (d ∷ h) = IsTimelyPacket (high_of h) (packet_in d) × IsTimely h
+IsTimely (d ∷ h) = IsTimelyPacket (high_of h) (packet_of d) × IsTimely h
 
 -- no block and no ACK is above 65535, so each is also a number of two bytes
 abbrev pub IsLowPacket : MachinePacket → Type 0
@@ -75,7 +72,7 @@ IsLowPacket (Error code text) = Unit {0}
 
 abbrev pub AreLow : History → Type 0
 AreLow [] = Unit {0}
-AreLow (d ∷ h) = IsLowPacket (packet_in d) × AreLow h
+AreLow (d ∷ h) = IsLowPacket (packet_of d) × AreLow h
 
 -- ---- and back
 

@@ -1,21 +1,30 @@
 //! Laws of the definitions in `specs/`. Each is the contract of a function that does nothing.
 
-ghost use Rattle.std.specs.Prelude.{◌≡◌, ◌↔◌, ℕ, ◌+◌, ◌-◌, ◌≤◌, ◌%◌, List};
-ghost use Rattle.tftp_packet.specs.{End};
+ghost use Rattle.std.specs.Prelude.{◌≡◌, ◌↔◌, ℕ, ◌+◌, ◌-◌, ◌≤◌, ◌%◌, List, false, length, reverse};
+ghost use Rattle.tftp_packet.specs.{End, Message, Spells, opcode_of};
 ghost use Rattle.law_model.specs.Model.{Meaning, History, IsOneSided, IsView, windowsize_of};
+ghost use Rattle.tftp_packet.specs.Hosts.{Datagram, Header};
+ghost use Rattle.law_end.specs.{IsLawful, IsSeen, ShowsBy};
 ghost use Rattle.law_rollover.specs.{
+  AreBytes,
   AreLow,
   AreNear,
   IsNear,
+  AreUnrolled,
+  IsLawfulByNumber,
+  IsSeenByNumber,
   IsTimely,
   Rollover,
+  ShowsByNumber,
   ShowsNumbers,
   first_of,
   half_round,
+  carries_number,
   number_of,
   numbers_of,
   position_of,
   positions_of,
+  unrolled_payload,
 };
 
 use law_model::model::laws::one_side_makes_a_run;
@@ -73,3 +82,37 @@ pub fn what_is_not_late_is_near()
 {
     one_side_makes_a_run();
 }
+
+/// A payload with a block in the place of its number says that block, and all else as it did.
+pub fn what_is_unrolled_says_its_block()
+    ensures data { (r : Rollover) (high n : ℕ) (bytes payload : List ℕ) → Spells payload (Message.Data n bytes)
+        → Spells (unrolled_payload r high payload) (Message.Data (position_of r high n) bytes) }
+    ensures ack { (r : Rollover) (high n : ℕ) (payload : List ℕ) → Spells payload (Message.Ack n)
+        → Spells (unrolled_payload r high payload) (Message.Ack (position_of r high n)) }
+    ensures others { (r : Rollover) (high : ℕ) (payload : List ℕ) → carries_number payload ≡ false
+        → unrolled_payload r high payload ≡ payload }
+    ensures opcode { (r : Rollover) (high : ℕ) (payload : List ℕ) → opcode_of (unrolled_payload r high payload) ≡ opcode_of payload }
+    ensures length { (r : Rollover) (high : ℕ) (payload : List ℕ) → length (unrolled_payload r high payload) ≡ length payload }
+{}
+
+/// A capture shows a run by numbers exactly if it shows the run with the blocks near in their place, and so is judged by the rules
+/// as they stand.
+pub fn what_is_unrolled_shows_the_run()
+    ensures seen { (r : Rollover) (h : Header) (m : Meaning) (wire : List ℕ) (datagrams : List Datagram) → AreBytes datagrams
+        → IsSeenByNumber r h m wire datagrams
+        ↔ ((unrolled : List Datagram) × AreUnrolled r h (reverse datagrams) (reverse unrolled) × IsSeen h m wire unrolled) }
+    ensures lawful { (r : Rollover) (h : Header) (datagrams : List Datagram) → AreBytes datagrams
+        → IsLawfulByNumber r h datagrams
+        ↔ ((unrolled : List Datagram) × AreUnrolled r h (reverse datagrams) (reverse unrolled) × IsLawful h unrolled) }
+    ensures shows { (r : Rollover) (h : Header) (m : Meaning) (wire : List ℕ) (datagrams : List Datagram) → AreBytes datagrams
+        → ShowsByNumber r h m wire datagrams
+        ↔ ((unrolled : List Datagram) × AreUnrolled r h (reverse datagrams) (reverse unrolled) × ShowsBy h m wire unrolled) }
+{
+    one_side_makes_a_run();
+}
+
+/// What is unrolled is so in one way.
+pub fn a_capture_is_unrolled_in_one_way()
+    ensures { (r : Rollover) (h : Header) (datagrams one other : List Datagram) → AreUnrolled r h datagrams one
+        → AreUnrolled r h datagrams other → one ≡ other }
+{}

@@ -25,3 +25,4 @@ pub mod TakenMemory
 pub mod StaysAfter
 pub mod Replied
 pub mod CameCanonical
+pub mod Taken

@@ -1,7 +1,7 @@
-ghost use Rattle.std.specs.Prelude.{◌≡◌, ◌⊎◌, ◌↔◌, IsTrue, List, ◌∷◌, Err, OnOk, OnErr};
+ghost use Rattle.std.specs.Prelude.{◌≡◌, ◌⊎◌, ◌↔◌, ◌≤◌, IsTrue, List, ◌∷◌, Err, OnOk, OnErr};
 ghost use Rattle.tftp_packet.specs.{Message, RequestParts, Spells, meaning, map_of};
 ghost use Rattle.tftp_packet.specs.Hosts.{Datagram, Header};
-ghost use Rattle.law_model.specs.Rules.{author_of};
+ghost use Rattle.law_model.specs.Rules.{author_of, IsHigh};
 ghost use Rattle.tftp_ends.specs.{IsBlockOrAck, Says};
 ghost use Rattle.law_end.specs.{TermsBreak, IsError, IsWrongKind};
 ghost use Rattle.tftp_judge.specs.Exchanges.{HasAnswer, IsNewBlockOn};
@@ -49,6 +49,18 @@ impl<D: Delivered + Drop> Exchange<D> {
             Exchange::Unanswered => Ok(()),
             Exchange::Begun(end) => Ok(end.pass(alloc, dir, packet)?),
             Exchange::Agreed(_, end) => Ok(end.pass(alloc, dir, packet)?),
+        }
+    }
+
+    /// The highest block that has passed, or 0 (RFC 1350, section 5).
+    pub fn highest(&self) -> u32
+        ensures highest { (h : Header) (asked : RequestParts) (passed : List Datagram) → IsExchange h asked passed (exchange_of self.now) → IsHigh passed result }
+        ensures low { result ≤ 65535 }
+    {
+        match self {
+            Exchange::Unanswered => 0,
+            Exchange::Begun(end) => end.highest(),
+            Exchange::Agreed(_, end) => end.highest(),
         }
     }
 

@@ -3,6 +3,7 @@ ghost use Rattle.tftp_capture.specs.{datagram_of, header_of};
 ghost use Rattle.tftp_packet.specs.{meaning};
 ghost use Rattle.law_model.specs.Rules.{is_of_transfer, route_of, transfer_of};
 ghost use Rattle.tftp_packet.specs.Hosts.{Datagram as DatagramParts, Header as HeaderParts};
+ghost use Rattle.law_rollover.specs.{IsTaken, IsUnrolled};
 ghost use Rattle.law_end.specs.{Passes, IsEnded};
 ghost use Rattle.tftp_judge.specs.Found.{Refuses};
 ghost use Rattle.tftp_judge.specs.Kept.{IsJudgeAfter};
@@ -16,6 +17,7 @@ use crate::meaning::Meaning;
 use crate::pass_error::PassError;
 use crate::refusal::Refusal;
 use crate::sent_acks::SentAcks;
+use law_rollover::Rollover;
 use std::alloc::Global;
 use std::marker::Model;
 use tftp_capture::{Datagram, Header};
@@ -95,10 +97,68 @@ impl<D: Delivered + Drop> Judge<D> {
             → OnOk result (self.new.state.of_transfer ≡ is_of_transfer (route_of h earlier (datagram_of datagram.now))) }
         ensures stays { IfErr result (λ _. self.new.state.transfer ≡ self.old.state.transfer) }
     {
+        self.take(alloc, None, datagram)
+    }
+
+    /// The same where numbers begin again after 65535 (RFC 1350, section 5, gives them two bytes and says no more): a block's number is
+    /// taken for the block near the highest that has passed.
+    pub fn feed_numbered(
+        &mut self,
+        alloc: Global,
+        rollover: Rollover,
+        datagram: &Datagram,
+    ) -> Result<(), Refusal>
+        requires few { self.old.fed < 2 ^ 40 }
+        requires short { length datagram.now.payload ≤ 65527 }
+
+        // For all datagrams that it stands for: it stands for them with this one, with a block in the place of its number.
+        ensures accepts { (h : HeaderParts) (earlier : List DatagramParts) (d : DatagramParts) → IsJudgeAfter self.old h earlier
+            → IsUnrolled rollover (transfer_of h earlier) (datagram_of datagram.now) d
+            → OnOk result (Passes h earlier d × IsJudgeAfter self.new h (d ∷ earlier)) }
+
+        // Or the first rule that it breaks so; memory runs out only where it breaks none, and is one that takes some.
+        ensures refuses { (h : HeaderParts) (earlier : List DatagramParts) (d : DatagramParts) → IsJudgeAfter self.old h earlier
+            → IsUnrolled rollover (transfer_of h earlier) (datagram_of datagram.now) d → IfErr result (Refuses h earlier d) }
+        ensures unrolls { (h : HeaderParts) (earlier : List DatagramParts) → IsJudgeAfter self.old h earlier
+            → (d : DatagramParts) × IsUnrolled rollover (transfer_of h earlier) (datagram_of datagram.now) d }
+        ensures keeps { IfErr result (λ refusal. self.new.refused ≡ Some refusal) }
+        ensures for_good { (refusal : RefusalKind) → self.old.refused ≡ Some refusal → (result ≡ Err refusal) × (self.new ≡ self.old) }
+        ensures goes_on { self.old.refused ≡ None → OnOk result (self.new.refused ≡ None) }
+        ensures counts { OnOk result (self.new.fed ≡ self.old.fed + 1) }
+        ensures counted { IfErr result (λ _. self.new.fed ≡ self.old.fed) }
+        ensures stays { IfErr result (λ _. self.new.state.transfer ≡ self.old.state.transfer) }
+    {
+        self.take(alloc, Some(rollover), datagram)
+    }
+
+    /// Takes the next datagram, whose numbers begin again or do not.
+    fn take(
+        &mut self,
+        alloc: Global,
+        rollover: Option<Rollover>,
+        datagram: &Datagram,
+    ) -> Result<(), Refusal>
+        requires few { self.old.fed < 2 ^ 40 }
+        requires short { length datagram.now.payload ≤ 65527 }
+        ensures accepts { (h : HeaderParts) (earlier : List DatagramParts) (d : DatagramParts) → IsJudgeAfter self.old h earlier
+            → IsTaken rollover (transfer_of h earlier) (datagram_of datagram.now) d
+            → OnOk result (Passes h earlier d × IsJudgeAfter self.new h (d ∷ earlier)) }
+        ensures refuses { (h : HeaderParts) (earlier : List DatagramParts) (d : DatagramParts) → IsJudgeAfter self.old h earlier
+            → IsTaken rollover (transfer_of h earlier) (datagram_of datagram.now) d → IfErr result (Refuses h earlier d) }
+        ensures keeps { IfErr result (λ refusal. self.new.refused ≡ Some refusal) }
+        ensures for_good { (refusal : RefusalKind) → self.old.refused ≡ Some refusal → (result ≡ Err refusal) × (self.new ≡ self.old) }
+        ensures goes_on { self.old.refused ≡ None → OnOk result (self.new.refused ≡ None) }
+        ensures counts { OnOk result (self.new.fed ≡ self.old.fed + 1) }
+        ensures counted { IfErr result (λ _. self.new.fed ≡ self.old.fed) }
+        ensures routed { (h : HeaderParts) (earlier : List DatagramParts) (d : DatagramParts) → IsJudgeAfter self.old h earlier
+            → IsTaken rollover (transfer_of h earlier) (datagram_of datagram.now) d
+            → OnOk result (self.new.state.of_transfer ≡ is_of_transfer (route_of h earlier d)) }
+        ensures stays { IfErr result (λ _. self.new.state.transfer ≡ self.old.state.transfer) }
+    {
         if let Some(refusal) = self.refused {
             return Err(refusal);
         }
-        if let Err(stop) = self.state.pass(alloc, datagram) {
+        if let Err(stop) = self.state.pass(alloc, rollover, datagram) {
             let refusal = match stop {
                 PassError::Broken(rule) => Refusal::Unlawful(self.fed + 1, rule),
                 PassError::Memory => Refusal::Memory(self.fed),

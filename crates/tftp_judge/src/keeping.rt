@@ -1,9 +1,11 @@
-ghost use Rattle.std.specs.Prelude.{◌≡◌, ◌↔◌, List, [], ◌∷◌, Some, true, IfErr, IsTrue, Err, OnOk, OnErr};
+ghost use Rattle.std.specs.List.{AllByRecursion};
+ghost use Rattle.std.specs.Prelude.{◌≡◌, ◌↔◌, ◌<◌, List, [], ◌∷◌, Some, true, IfErr, IsTrue, Err, OnOk, OnErr};
 ghost use Rattle.tftp_packet.specs.{Message, Spells, meaning, parts};
 ghost use Rattle.tftp_capture.specs.{datagram_of, header_of};
 ghost use Rattle.tftp_packet.specs.Hosts.{Datagram as DatagramParts, Header as HeaderParts};
 ghost use Rattle.tftp_ends.specs.{among_all};
-ghost use Rattle.law_model.specs.Rules.{route_of, is_of_transfer};
+ghost use Rattle.law_model.specs.Rules.{route_of, is_of_transfer, transfer_of};
+ghost use Rattle.law_rollover.specs.{IsTaken, IsTakenFor};
 ghost use Rattle.law_end.specs.{OneEnded};
 ghost use Rattle.tftp_judge.specs.Found.{FindsOf, error_by_port};
 ghost use Rattle.tftp_judge.specs.Kept.{HasKept, IsKept, IsTransferAfter, Transfer as TransferParts};
@@ -16,6 +18,7 @@ use crate::sent_acks::SentAcks;
 use crate::transfer::Transfer;
 use law_end::Rule;
 use law_model::rules::PortRule;
+use law_rollover::Rollover;
 use std::alloc::Global;
 use std::marker::Model;
 use tftp_capture::{Datagram, Header};
@@ -71,14 +74,21 @@ impl<D: Delivered + Drop> JudgeState<D> {
         }
     }
 
-    /// What is found of a datagram after those that have passed; where it passes it is kept.
-    pub fn pass(&mut self, alloc: Global, datagram: &Datagram) -> Result<(), PassError>
-        ensures finds { (h : HeaderParts) (earlier : List DatagramParts) → OneEnded h earlier → HasKept self.old h earlier
-            → FindsOf h earlier (datagram_of datagram.now) (HasKept self.new h (datagram_of datagram.now ∷ earlier)) result }
-        ensures memory { (h : HeaderParts) (earlier : List DatagramParts) → HasKept self.old h earlier → result ≡ Err PassErrorKind.Memory
-            → TakesMemory h earlier (datagram_of datagram.now) }
-        ensures routed { (h : HeaderParts) (earlier : List DatagramParts) → HasKept self.old h earlier
-            → OnOk result (self.new.of_transfer ≡ is_of_transfer (route_of h earlier (datagram_of datagram.now))) }
+    /// What is found of a datagram after those that have passed; where it passes it is kept. Where numbers begin again after 65535, a
+    /// number is taken for the block near the highest that has passed (RFC 1350, section 5).
+    pub fn pass(
+        &mut self,
+        alloc: Global,
+        rollover: Option<Rollover>,
+        datagram: &Datagram,
+    ) -> Result<(), PassError>
+        ensures finds { (h : HeaderParts) (earlier : List DatagramParts) (d : DatagramParts) → OneEnded h earlier → HasKept self.old h earlier
+            → IsTaken rollover (transfer_of h earlier) (datagram_of datagram.now) d → FindsOf h earlier d (HasKept self.new h (d ∷ earlier)) result }
+        ensures memory { (h : HeaderParts) (earlier : List DatagramParts) (d : DatagramParts) → HasKept self.old h earlier
+            → IsTaken rollover (transfer_of h earlier) (datagram_of datagram.now) d → result ≡ Err PassErrorKind.Memory → TakesMemory h earlier d }
+        ensures routed { (h : HeaderParts) (earlier : List DatagramParts) (d : DatagramParts) → HasKept self.old h earlier
+            → IsTaken rollover (transfer_of h earlier) (datagram_of datagram.now) d
+            → OnOk result (self.new.of_transfer ≡ is_of_transfer (route_of h earlier d)) }
         ensures err { OnErr result (self.new.transfer ≡ self.old.transfer) }
     {
         let payload = datagram.payload.as_slice();
@@ -94,7 +104,7 @@ impl<D: Delivered + Drop> JudgeState<D> {
         };
         self.of_transfer = belongs(route);
         match route {
-            Route::Request | Route::Peer => self.pass_message(alloc, route, datagram.dir, payload),
+            Route::Request | Route::Peer => self.pass_message(alloc, rollover, route, datagram.dir, payload),
             Route::StrayAnswer => {
                 if says_unknown_id(payload) {
                     Ok(())
@@ -137,47 +147,39 @@ impl<D: Delivered + Drop> JudgeState<D> {
     fn pass_message(
         &mut self,
         alloc: Global,
+        rollover: Option<Rollover>,
         route: Route,
         dir: Dir,
         payload: &[u8],
     ) -> Result<(), PassError>
         ensures finds { (h : HeaderParts) (earlier : List DatagramParts) (d : DatagramParts) → self.old.header ≡ h → OneEnded h earlier
             → IsKept h earlier self.old.transfer → among_all route ≡ route_of h earlier d → is_of_transfer (among_all route) ≡ true → d.dir ≡ dir
-            → d.payload ≡ payload.now → FindsOf h earlier d (IsKept h (d ∷ earlier) self.new.transfer) result }
+            → IsTakenFor rollover (transfer_of h earlier) payload.now d.payload → FindsOf h earlier d (IsKept h (d ∷ earlier) self.new.transfer) result }
         ensures memory { (h : HeaderParts) (earlier : List DatagramParts) (d : DatagramParts) → IsKept h earlier self.old.transfer
-            → among_all route ≡ route_of h earlier d → is_of_transfer (among_all route) ≡ true → d.dir ≡ dir → d.payload ≡ payload.now
-            → result ≡ Err PassErrorKind.Memory → TakesMemory h earlier d }
+            → among_all route ≡ route_of h earlier d → is_of_transfer (among_all route) ≡ true → d.dir ≡ dir
+            → IsTakenFor rollover (transfer_of h earlier) payload.now d.payload → result ≡ Err PassErrorKind.Memory → TakesMemory h earlier d }
         ensures header { self.new.header ≡ self.old.header }
         ensures ports { self.new.ports ≡ self.old.ports }
         ensures of_transfer { self.new.of_transfer ≡ self.old.of_transfer }
         ensures err { OnErr result (self.new.transfer ≡ self.old.transfer) }
     {
-        if let Some(transfer) = &mut self.transfer {
-            if payload == self.asked.as_slice() {
-                return transfer.pass_again(dir);
-            }
-            if transfer.has_agreed_by(payload) {
-                return transfer.pass_oack_again(dir);
-            }
-            if let Some((block, bytes)) = block_of(payload) {
-                return transfer.pass(
-                    alloc,
-                    dir,
-                    &Packet::Data {
-                        block: u32::from(block),
-                        bytes,
-                    },
-                );
-            }
-            if let Some(block) = ack_of(payload) {
-                return transfer.pass(
-                    alloc,
-                    dir,
-                    &Packet::Ack {
-                        block: u32::from(block),
-                    },
-                );
-            }
+        let Some(transfer) = &mut self.transfer else {
+            holds_bytes(payload);
+            return self.pass_read(alloc, route, dir, payload);
+        };
+        if payload == self.asked.as_slice() {
+            return transfer.pass_again(dir);
+        }
+        if transfer.has_agreed_by(payload) {
+            return transfer.pass_oack_again(dir);
+        }
+        if let Some((number, bytes)) = block_of(payload) {
+            let block = transfer.block_of(rollover, number);
+            return transfer.pass(alloc, dir, &Packet::Data { block, bytes });
+        }
+        if let Some(number) = ack_of(payload) {
+            let block = transfer.block_of(rollover, number);
+            return transfer.pass(alloc, dir, &Packet::Ack { block });
         }
         self.pass_read(alloc, route, dir, payload)
     }
@@ -246,6 +248,11 @@ impl<D: Delivered + Drop> JudgeState<D> {
         Ok(())
     }
 }
+
+/// A payload is bytes. It does nothing.
+fn holds_bytes(payload: &[u8])
+    ensures { AllByRecursion (λ b. b < 256) payload.now }
+{}
 
 /// Whether a datagram of this route is one of the transfer (RFC 1350, section 4).
 fn belongs(route: Route) -> bool

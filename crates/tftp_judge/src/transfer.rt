@@ -1,10 +1,11 @@
-ghost use Rattle.std.specs.Prelude.{◌≡◌, ◌≢◌, ◌≤◌, ◌↔◌, IsTrue, true, ℕ, List, [], ◌∷◌, length, reverse, OnOk, OnErr, IfErr, Err};
+ghost use Rattle.std.specs.Prelude.{◌≡◌, ◌≢◌, ◌≤◌, ◌↔◌, IsTrue, true, ℕ, List, [], ◌∷◌, length, reverse, None, Some, OnOk, OnErr, IfErr, Err};
 ghost use Rattle.tftp_packet.specs.{OptionMap, Message, Get, Spells, meaning, parts, map_of};
 ghost use Rattle.tftp_packet.specs.Hosts.{Datagram, Header};
 ghost use Rattle.tftp_packet.specs.{Out};
 ghost use Rattle.tftp_ends.specs.{terms_of, IsEndAfter, IsBeforeBlocks, IsBlockOrAck, Says};
-ghost use Rattle.law_model.specs.Rules.{transfer_of, author_of as author_by_way};
+ghost use Rattle.law_model.specs.Rules.{IsHigh, transfer_of, author_of as author_by_way};
 ghost use Rattle.law_model.specs.{Plain};
+ghost use Rattle.law_rollover.specs.{Rollover as Numbering, position_of};
 ghost use Rattle.law_end.specs.{MessageBreaks, FirstOackBreaks, LaterOackBreaks, OackBreaks, RequestBreaks, TermsBreak, BlockSent, AckSent, OneEnded, IsEnded, Agrees, ClientWentOn, FirstAsked, GoesOn, IsWrongKind, plain_terms as plain_terms_of, terms_after};
 ghost use Rattle.tftp_judge.specs.Found.{Finds, error_of_fault};
 ghost use Rattle.tftp_judge.specs.Exchanges.{WaitsForReply, DiffersByExchange, DiffersBySent};
@@ -26,6 +27,7 @@ use crate::refusal::Refusal;
 use crate::sent_acks::SentAcks;
 use law_end::Rule;
 use law_model::rules::{EndRule, Reply, Terms};
+use law_rollover::Rollover;
 use std::alloc::Global;
 use std::marker::Model;
 use tftp_ends::NamedEnd;
@@ -95,6 +97,18 @@ impl<D: Delivered + Drop> Transfer<D> {
             block_sent: false,
             ack_sent: false,
             errors: Errors::none(),
+        }
+    }
+
+    /// The block that a number means: the number itself, or where numbers begin again the block near the highest that has passed.
+    pub fn block_of(&self, rollover: Option<Rollover>, number: u16) -> u32
+        ensures itself { rollover ≡ None → result ≡ number }
+        ensures near { (h : Header) (passed : List Datagram) (r : Numbering) (high : ℕ) → IsTransferAfter self.now h passed
+            → rollover ≡ Some r → IsHigh passed high → result ≡ position_of r high number }
+    {
+        match rollover {
+            Some(rollover) => rollover.position(self.exchange.highest(), number),
+            None => u32::from(number),
         }
     }
 
