@@ -2,9 +2,7 @@
 use Rattle.std.specs.Prelude.{◌≡◌, ℕ, ◌+◌, ◌≤◌, max, List, [], ◌∷◌, map}
 use Rattle.tftp_packet.specs.{End}
 use Rattle.law_model.specs.Model.{Meaning, MachinePacket, Data, Ack, Req, Oack, Error, Deed, Sent, Took, History, IsView}
-use Rattle.law_rollover.specs.Numbers.{first_of, number_of}
-use Rattle.law_rollover.specs.Reading.{IsNear, half_round, position_of}
-use Rattle.law_rollover.specs.declared.rollover.Rollover.{Rollover}
+use Rattle.tftp_packet.specs.Rounds.{IsNear, Rollover, first_of, half_round, number_of, position_of}
 
 abbrev pub packet_in : Deed → MachinePacket
 packet_in (Sent p) = p

@@ -1,9 +1,3 @@
-pub mod Numbers
-pub mod Reading
 pub mod Histories
 pub mod Worked
-pub use Numbers.{after, first_of, number_of, round_of}
-pub use Reading.{IsNear, ahead, half_round, oldest_of, oldest_again, position_of}
 pub use Histories.{AreLow, AreNear, IsLowPacket, IsNearPacket, IsTimely, IsTimelyPacket, ShowsNumbers, deed_with, high_of, higher_of, numbers_of, packet_in, positions_of, with_number, with_position}
-pub use declared.rollover.Rollover.{Rollover}
-pub use declared.rollover.Rollover.TheVariants.{One, Zero}

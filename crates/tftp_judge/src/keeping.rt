@@ -231,7 +231,7 @@ impl<D: Delivered + Drop> JudgeState<D> {
     ) -> Result<(), PassError>
         requires { Spells payload.now (Message.Request (parts asked.now)) }
         ensures begins { OnOk result ((transfer : TransferParts) × (self.new.transfer ≡ Some transfer) × (transfer.asked ≡ parts asked.now)
-            × ((h : HeaderParts) (d : DatagramParts) → h.named ≡ self.old.header.named → Spells d.payload (Message.Request transfer.asked)
+            × ((h : HeaderParts) (d : DatagramParts) → h.named ≡ self.old.header.named → h.rollover ≡ self.old.header.rollover → Spells d.payload (Message.Request transfer.asked)
             → IsTransferAfter transfer h (d ∷ []))) }
         ensures wanting { IfErr result (λ stop. stop ≡ PassErrorKind.Memory) }
         ensures err { OnErr result (self.new.transfer ≡ self.old.transfer) }
@@ -242,7 +242,7 @@ impl<D: Delivered + Drop> JudgeState<D> {
         let asked = own_request(alloc, asked)?;
         self.asked = Bytes::of(Vec::from_slice(alloc, payload)?);
         // by `insert`, since an assignment has the proof of this function let go of each kind of transfer before
-        self.transfer.insert(Transfer::of(self.header.named, asked));
+        self.transfer.insert(Transfer::of(self.header.named, self.header.rollover, asked));
         Ok(())
     }
 }

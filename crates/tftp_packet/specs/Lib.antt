@@ -1,4 +1,5 @@
 pub mod Hosts
+pub mod Rounds
 pub mod OptionMaps
 pub mod Numbers
 pub mod Messages

@@ -1,5 +1,5 @@
 -- What a run says of a server's lawful capture of which each datagram passed with one client.
-use Rattle.std.proofs.Common.{◌≡◌, ℕ, zero, suc, true, false, List, [], ◌∷◌, Any, inl, inr, refl, sym, ap, subst, ◌∙◌, ◌&&◌, reverse, arith}
+use Rattle.std.proofs.Common.{◌≡◌, ℕ, zero, suc, true, false, List, [], ◌∷◌, Any, inl, inr, refl, sym, ap, subst, ◌∙◌, ◌&&◌, reverse, arith, None}
 use Rattle.std.specs.List.{list_any, AllByRecursion}
 use Rattle.std.proofs.lemmas.Bool.{false≢true, or_left, or_right, and_from, or_parts}
 use Rattle.std.proofs.lemmas.List.{reverse-reverse}
@@ -22,7 +22,7 @@ use Rattle.audit_flows.specs.Lines.Recording.{is_answer}
 use Rattle.audit_spared.proofs.SparedLemmas.Begun.{ack_0, data_1, says_ack_0, says_data_1}
 
 abbrev pub at : Header
-at = record { named = Server; service = 69 }
+at = record { named = Server; service = 69; rollover = None }
 
 -- ---- none is a stray
 

@@ -1,5 +1,5 @@
 -- The captures of the worked recordings are lawful: reads of one byte.
-use Rattle.std.proofs.Common.{ap, sym, subst, ◌≡◌, ℕ, ◌<◌, Bool, true, false, nat_lt, List, [], ◌∷◌, Any, codes, inl, inr, refl, reverse, arith}
+use Rattle.std.proofs.Common.{ap, sym, subst, ◌≡◌, ℕ, ◌<◌, Bool, true, false, nat_lt, List, [], ◌∷◌, Any, codes, inl, inr, refl, reverse, arith, None}
 use Rattle.std.proofs.lemmas.Bool.{and_parts, ltb-true, true≢false}
 use Rattle.std.specs.List.{AllByRecursion, list_all}
 use Rattle.tftp_packet.specs.{Message, OptionValue, no_options, Get, Octet, Client, Server, IsString, Spells}
@@ -121,7 +121,7 @@ module _ (name : List ℕ) where
     -- ---- at a client
 
     abbrev pub at_client : Header
-    at_client = record { named = Client; service = 69 }
+    at_client = record { named = Client; service = 69; rollover = None }
 
     pub asked : d.dir ≡ Out → d.local ≡ ids.own → d.remote ≡ 69 → d.host ≡ ids.asked → d.payload ≡ read_of name → HasLabel at_client meaning (5 ∷ []) ids earlier d (Main (Sent Req))
     asked dir own service host payload = record {
@@ -142,7 +142,7 @@ module _ (name : List ℕ) where
     -- ---- at a server
 
     abbrev pub at_server : Header
-    at_server = record { named = Server; service = 69 }
+    at_server = record { named = Server; service = 69; rollover = None }
 
     pub was_asked : d.dir ≡ In → peer_of d ≡ ids.peer → d.local ≡ 69 → d.payload ≡ read_of name → HasLabel at_server meaning (5 ∷ []) ids earlier d (Main (Took Req))
     was_asked dir peer service payload = record {
