@@ -9,7 +9,7 @@ use Rattle.law_model.specs.Model.Roles.{sender_of}
 use Rattle.law_model.specs.{EndRule}
 use Rattle.law_end.specs.{Rule}
 use Rattle.law_end.specs.declared.rule.Rule.TheVariants as rule
-use Rattle.tftp_packet.specs.Rounds.{Rollover}
+use Rattle.tftp_packet.specs.{Rollover}
 use Rattle.law_tap.specs.{TapDatagram, TapSides, AreFigures, Figures, IsFair, IsSaid, LossyBreaks}
 use Rattle.tftp_judge.specs.declared.pass_error.PassError.{PassError}
 use Rattle.tftp_judge.specs.declared.pass_error.PassError.TheVariants.{Broken as Breaks, Memory}

@@ -87,7 +87,7 @@ impl<D: Delivered + Drop> TapState<D> {
             → IsKeptAtTap s (transfer_between s earlier) self.old.transfer → self.old.ports.sides.rollover ≡ s.rollover → route ≡ tap_route s earlier (passing_of datagram)
             → FindsAtTap s earlier (passing_of datagram) (IsKeptAtTap s (transfer_between s (passing_of datagram ∷ earlier)) self.new.transfer) result }
         ensures memory { (s : TapSides) (earlier : List Passing) → AreApart s → BreaksNoTapRule s earlier
-            → IsKeptAtTap s (transfer_between s earlier) self.old.transfer → self.old.ports.sides.rollover ≡ s.rollover → route ≡ tap_route s earlier (passing_of datagram)
+            → IsKeptAtTap s (transfer_between s earlier) self.old.transfer → route ≡ tap_route s earlier (passing_of datagram)
             → result ≡ Err PassErrorKind.Memory → TakesMemoryAtTap s earlier (passing_of datagram) }
         ensures ports { self.new.ports ≡ self.old.ports }
         ensures fed { (n : ℕ) → FedWithin self.old.transfer n → OnOk result (FedWithin self.new.transfer (n + 1)) }

@@ -2,7 +2,8 @@
 use Rattle.std.specs.Prelude.{◌≡◌, ℕ, ◌≤◌, List, length, Option, Some, None, codes}
 use Rattle.std.specs.FinMap as map
 use Rattle.tftp_packet.specs.{Num, Mode, Octet, Netascii}
-use Rattle.tftp_packet.specs.Rounds.{Rollover, greatest_of}
+use Rattle.tftp_packet.specs.{Rollover}
+use Rattle.tftp_packet.specs.Rounds.{greatest_of}
 use Rattle.law_model.specs.Model.{Meaning, request_of, blksize_of, block_count}
 use Rattle.tftp_netascii.specs.{Reads, canonical_wire, file_of}
 use Rattle.tftp_nego.specs.{MayAgree}

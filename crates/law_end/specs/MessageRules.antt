@@ -4,7 +4,7 @@ use Rattle.std.specs.Prelude.{◌≡◌, ◌≢◌, ◌⊎◌, ℕ, List, Option
 use Rattle.tftp_packet.specs.{OptionMap, Message, RequestParts, Side, Get, Put, End, Client, Server}
 use Rattle.tftp_packet.specs.Hosts.{Datagram, Header}
 use Rattle.tftp_packet.specs.{Dir, Out}
-use Rattle.tftp_packet.specs.Rounds.{Rollover}
+use Rattle.tftp_packet.specs.{Rollover}
 use Rattle.law_model.specs.Rules.{author_of, Passed, EndBroken}
 use Rattle.law_model.specs.{Terms, EndRule}
 use Rattle.tftp_nego.specs.{AgreementBroken, Holds, NegoFault}

@@ -3,7 +3,7 @@
 ghost use Rattle.std.specs.Prelude.{◌≡◌, ◌≢◌, ◌≤◌, ◌↔◌, ◌⊎◌, ℕ, List, [], ◌∷◌, ◌++◌, All, Option, length};
 ghost use Rattle.tftp_packet.specs.{Mode, OptionMap, no_options, RequestParts, In, Out};
 ghost use Rattle.tftp_nego.specs.{MayAgree, Holds, NegoFault};
-ghost use Rattle.tftp_packet.specs.Rounds.{Rollover};
+ghost use Rattle.tftp_packet.specs.{Rollover};
 ghost use Rattle.law_model.specs.Model.{Meaning};
 ghost use Rattle.tftp_packet.specs.Hosts.{Datagram, Header};
 ghost use Rattle.law_end.specs.Fitting.{ReadsAs, carried_file};

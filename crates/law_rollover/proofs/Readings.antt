@@ -1,7 +1,8 @@
 -- Packets, deeds and lists of them are read back from their numbers.
 use Rattle.std.proofs.Common.{◌≡◌, ℕ, [], ◌∷◌, refl, sym, ap, ◌∙◌}
 use Rattle.law_model.specs.Model.{MachinePacket, Req, Oack, Data, Ack, Error, Deed, Sent, Took, History}
-use Rattle.tftp_packet.specs.Rounds.{first_of, position_of, Rollover}
+use Rattle.tftp_packet.specs.{Rollover}
+use Rattle.tftp_packet.specs.Rounds.{first_of, position_of}
 use Rattle.tftp_packet.proofs.RoundsLemmas.Turns.{low_numbers}
 use Rattle.tftp_packet.proofs.RoundsLemmas.Positions.{has_number, is_near, low_is_near, read_back}
 use Rattle.law_rollover.specs.{IsNearPacket, IsLowPacket, IsTimelyPacket, AreNear, AreLow, IsTimely, packet_in, deed_with, with_number, with_position, numbers_of, positions_of, high_of}

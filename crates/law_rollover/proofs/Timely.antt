@@ -4,7 +4,8 @@ use Rattle.std.specs.List.{list_any}
 use Rattle.tftp_packet.specs.{End}
 use Rattle.law_model.specs.Model.{Meaning, windowsize_of, MachinePacket, Req, Oack, Data, Ack, Error, Deed, Sent, Took, History, IsOneSided, heard, takes_error}
 use Rattle.law_model.proofs.ModelLemmas.Members.{contains_cases, contains_later, contains_none}
-use Rattle.tftp_packet.specs.Rounds.{half_round, Rollover}
+use Rattle.tftp_packet.specs.{Rollover}
+use Rattle.tftp_packet.specs.Rounds.{half_round}
 use Rattle.tftp_packet.proofs.RoundsLemmas.Positions.{around_is_near}
 use Rattle.law_rollover.specs.{IsNearPacket, IsTimelyPacket, AreNear, IsTimely, packet_in, high_of, higher_of}
 

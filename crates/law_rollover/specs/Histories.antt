@@ -2,7 +2,8 @@
 use Rattle.std.specs.Prelude.{◌≡◌, ℕ, ◌+◌, ◌≤◌, max, List, [], ◌∷◌, map}
 use Rattle.tftp_packet.specs.{End}
 use Rattle.law_model.specs.Model.{Meaning, MachinePacket, Data, Ack, Req, Oack, Error, Deed, Sent, Took, History, IsView}
-use Rattle.tftp_packet.specs.Rounds.{IsNear, Rollover, first_of, half_round, number_of, position_of}
+use Rattle.tftp_packet.specs.{Rollover}
+use Rattle.tftp_packet.specs.Rounds.{IsNear, first_of, half_round, number_of, position_of}
 
 abbrev pub packet_in : Deed → MachinePacket
 packet_in (Sent p) = p

@@ -3,7 +3,8 @@
 ghost use Rattle.std.specs.Prelude.{◌≡◌, ◌↔◌, ◌≤◌, List, ℕ};
 ghost use Rattle.tftp_packet.specs.{End};
 ghost use Rattle.law_model.specs.Model.{Meaning, History, IsOneSided, IsView, windowsize_of};
-ghost use Rattle.tftp_packet.specs.Rounds.{Rollover, half_round};
+ghost use Rattle.tftp_packet.specs.{Rollover};
+ghost use Rattle.tftp_packet.specs.Rounds.{half_round};
 ghost use Rattle.law_rollover.specs.{AreLow, AreNear, IsTimely, ShowsNumbers, numbers_of, positions_of};
 
 use law_model::model::laws::one_side_makes_a_run;

@@ -1,7 +1,7 @@
 //! Worked cases of how numbers are read, by computation. Each is the contract of a function that does nothing.
 
 ghost use Rattle.std.specs.Prelude.{◌≡◌};
-ghost use Rattle.tftp_packet.specs.Rounds.{One, Zero};
+ghost use Rattle.tftp_packet.specs.{One, Zero};
 ghost use Rattle.law_rollover.specs.{numbers_of, positions_of};
 ghost use Rattle.law_rollover.specs.Worked.{past_the_round, past_the_round_by_one, past_the_round_by_zero};
 

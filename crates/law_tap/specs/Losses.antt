@@ -3,7 +3,7 @@
 use Rattle.std.specs.Prelude.{◌≡◌, ℕ, ◌+◌, ◌<◌, List, [], ◌∷◌, Option, length, take}
 use Rattle.tftp_packet.specs.{Dir, End, Spells}
 use Rattle.tftp_packet.specs.Hosts.{Datagram, Header}
-use Rattle.tftp_packet.specs.Rounds.{Rollover}
+use Rattle.tftp_packet.specs.{Rollover}
 use Rattle.law_model.specs.Model.{Meaning, Deed, History, IsView, message_of}
 use Rattle.law_end.specs.{Fits, IsLawful, dir_of, packet_of}
 

@@ -3,7 +3,8 @@
 use Rattle.std.specs.Prelude.{◌≡◌, ◌≢◌, ◌⊎◌, ◌↔◌, ℕ, ◌+◌, ◌/◌, ◌<◌, ◌≤◌, ◌==◌, if◌then◌else◌, Bool, true, List, length, Option, Some, None, codes}
 use Rattle.std.specs.FinMap as map
 use Rattle.tftp_packet.specs.{OptionMap, Num, no_options, RequestParts, Message, Side, Get, End, Client, Mode, Octet}
-use Rattle.tftp_packet.specs.Rounds.{Rollover, greatest_of}
+use Rattle.tftp_packet.specs.{Rollover}
+use Rattle.tftp_packet.specs.Rounds.{greatest_of}
 use Rattle.tftp_nego.specs.{MayAgree}
 use Rattle.law_end.specs.{size_from}
 use Rattle.law_tap.specs.TapCapture.{TapDatagram, TapSides}

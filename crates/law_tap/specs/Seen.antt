@@ -1,7 +1,7 @@
 -- What was recorded at a tap: which end each payload came from, as the ports and hosts say it. Lists have the newest first.
 use Rattle.std.specs.Prelude.{◌≡◌, ℕ, List, [], ◌∷◌, filter_map, Option, Some, None}
 use Rattle.tftp_packet.specs.{Spells, End}
-use Rattle.tftp_packet.specs.Rounds.{Rollover}
+use Rattle.tftp_packet.specs.{Rollover}
 use Rattle.law_model.specs.Model.{Meaning, message_of}
 use Rattle.law_end.specs.{Fits, Label, Main, Stray, Labelled, Division}
 use Rattle.law_end.specs.Dress.{StrayAnswer}

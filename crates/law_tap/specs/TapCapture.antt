@@ -1,7 +1,7 @@
 -- A capture between the two ends: each datagram has two sides, where it came from and where it went (RFC 1350, section 4).
 use Rattle.std.specs.Prelude.{◌≢◌, ℕ, List, Option}
 use Rattle.tftp_packet.specs.{End, Client, Server}
-use Rattle.tftp_packet.specs.Rounds.{Rollover}
+use Rattle.tftp_packet.specs.{Rollover}
 pub use Rattle.tftp_packet.specs.Hosts.Capture.{PeerId}
 
 pub record TapDatagram : Type 0 where

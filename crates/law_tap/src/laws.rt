@@ -2,7 +2,7 @@
 
 ghost use Rattle.std.specs.Prelude.{◌≡◌, ◌≤◌, ◌↔◌, ℕ, List, ◌∷◌, Contains, reverse, Some, Option};
 ghost use Rattle.tftp_packet.specs.{End, Client, Server};
-ghost use Rattle.tftp_packet.specs.Rounds.{Rollover};
+ghost use Rattle.tftp_packet.specs.{Rollover};
 ghost use Rattle.tftp_packet.specs.Hosts.{Datagram, Header};
 ghost use Rattle.law_model.specs.Model.{Meaning, blksize_of, block_count, MachinePacket, History, IsView, IsComplete, IsOneSided};
 ghost use Rattle.law_model.specs.Model.Machines.{sender_of, receiver_of};

@@ -1,5 +1,5 @@
 -- A write, and a read with an agreed block size, as the worked captures have them.
-use Rattle.std.proofs.Common.{List, [], ◌∷◌, codes, refl, arith}
+use Rattle.std.proofs.Common.{List, [], ◌∷◌, codes, refl, arith, None}
 use Rattle.tftp_packet.specs.{Message, Server, OptionValue}
 use Rattle.law_model.specs.Model.{request_of, Sent, Took, Req, Data, Ack, History, two_bytes_written, two_bytes_written_view, two_bytes_written_steps, ten_bytes, ten_bytes_view}
 use Rattle.law_model.proofs.ModelLemmas.Defaults.{default_blksize}
@@ -20,7 +20,7 @@ use Rattle.tests_worked.proofs.Options.{eight_may_be_agreed, no_size_of_one}
 
 written_fit : Fits two_bytes_written two_bytes_written.file
 written_fit = record {
-  may_agree = nothing_may_be_agreed_by (request_of two_bytes_written);
+  may_agree = nothing_may_be_agreed_by None (request_of two_bytes_written);
   reads = refl;
   size = λ mode size e. absurd (none_there (codes "tsize") (OptionValue.Num size) e);
   numbered = omega (arith, written_one_block);

@@ -110,6 +110,7 @@ says-skip lines line (Body version header) datagrams s h p = record {
   begins = ap (λ l. l ++ line ∷ []) p.begins;
   are = said-push_nothing 2 p.after_head line h ∙ p.are;
   port = p.port;
+  plain = p.plain;
   each = p.each;
 }
 says-skip lines line (Nothing version header) datagrams s h p = absurd s
@@ -130,6 +131,7 @@ says-service version lines named port h p = record {
   begins = ap (λ l. l ++ service_line port ∷ []) p.2;
   are = said-push 2 p.0 (service_line port) refl ∙ ap (λ l. l ++ (2 + length p.0, service_line port) ∷ []) p.3;
   port = h;
+  plain = refl;
   each = tt;
 }
 
@@ -145,6 +147,7 @@ says-datagram version lines line header datagrams d h says p =
       begins = ap (λ l. l ++ line ∷ []) p.begins;
       are = said-push 2 p.after_head line h ∙ ap (λ l. l ++ (2 + length p.after_head, line) ∷ []) p.are;
       port = p.port;
+      plain = p.plain;
       each = all_zipped_more (λ (l : ℕ × List ℕ) (d : Numbered). (l.0 ≡ d.0) × SaysDatagram version l.1 d.1) p.bodies datagrams (2 + length p.after_head, line) (length lines + 1, d) p.each (number, says);
     }
 

@@ -206,7 +206,8 @@ body_walk version lines header ds p =
     let first = first_said 2 p.after_head p.at_end (end_line header.named) ((p.at_service, service_line header.service) ∷ p.bodies) p.are in
     let second = first_said (p.at_end + 1) first.rest p.at_service (service_line header.service) p.bodies first.said_rest in
     let bodies = walk_bodies version header (p.at_service + 1) second.rest p.bodies [] ds second.said_rest p.each in
-    let after_service = second.walk (ServiceLine version header.named) [] (Body version header) [] (Body version header) ds tt (inr (header.service, p.port, refl, refl, refl)) bodies in
+    let after_service = second.walk (ServiceLine version header.named) [] (Body version header) [] (Body version header) ds tt
+    (inr (header.service, p.port, refl, ap (λ r. Body version (record { named = header.named; service = header.service; rollover = r })) p.plain, refl)) bodies in
     let after_end = first.walk (EndLine version) [] (ServiceLine version header.named) [] (Body version header) ds tt (inr (header.named, refl, refl, refl)) after_service in
     subst (λ l. Walk Head 1 [] l (Body version header) ds) (sym p.begins) (EndLine version, [], (version, refl, refl, refl), after_end)
 

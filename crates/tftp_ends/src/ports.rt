@@ -1,7 +1,7 @@
 ghost use Rattle.std.specs.Prelude.{◌≡◌, ◌≢◌, ◌&&◌, not, ℕ, false, List, [], ◌∷◌, Option, Some, None, is_some, option_map, Ok, Err, OnOk, OnErr};
 ghost use Rattle.tftp_packet.specs.{opcode_of};
 ghost use Rattle.tftp_packet.specs.Hosts.{Datagram, Header, same_peer};
-ghost use Rattle.tftp_packet.specs.Rounds.{Rollover};
+ghost use Rattle.tftp_packet.specs.{Rollover};
 ghost use Rattle.law_model.specs.Rules.Ports as definitions;
 ghost use Rattle.tftp_ends.specs.Known.{
   StandsFor,

@@ -4,7 +4,7 @@ use Rattle.std.specs.Prelude.{◌≡◌, ◌⊎◌, ◌↔◌, ◌≤◌, ℕ, B
 use Rattle.tftp_packet.specs.{OptionMap, Message, RequestParts, Spells, End}
 use Rattle.tftp_packet.specs.Hosts.{Datagram, Header}
 use Rattle.tftp_packet.specs.{Dir, In, Out}
-use Rattle.tftp_packet.specs.Rounds.{Rollover}
+use Rattle.tftp_packet.specs.{Rollover}
 use Rattle.tftp_ends.specs.{KnownIds, StandsFor, NamedEnd, terms_of, IsEndAfter, has_stopped, IsBeforeBlocks}
 use Rattle.law_model.specs.Rules.{transfer_of, Passed}
 use Rattle.law_end.specs.{IsErrorBy, IsFirstError, AckSent, BlockSent, OneEnded, Answer, Agrees, Begins, FirstAnswer, FirstAsked, NotAnswered, terms_after, AbortedBy}

@@ -1,7 +1,7 @@
 -- The faults stand in one order, so the first one is one.
 use Rattle.std.proofs.Common.{◌≡◌, ℕ, ◌-◌, ◌≤◌, [], ◌∷◌, Option, get_or, refl, arith}
 use Rattle.tftp_packet.specs.{OptionMap, RequestParts}
-use Rattle.tftp_packet.specs.Rounds.{Rollover}
+use Rattle.tftp_packet.specs.{Rollover}
 use Rattle.tftp_packet.proofs.FirstOf.{first_one, Unless, first_unless}
 use Rattle.tftp_nego.specs.{NegoFault, Broken, OackEmpty, MulticastAgreed, OptionNotRequested, OptionOutsideProfile, OptionValue, BeyondBlock65535, Memory, Holds, number, FirstFault}
 

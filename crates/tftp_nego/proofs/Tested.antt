@@ -4,7 +4,7 @@ use Rattle.std.proofs.lemmas.Slice.Eq.{bytes_eq-Decides}
 use Rattle.std.specs.FinMap as map
 use Rattle.std.proofs.lemmas.Bool.{cases_lt}
 use Rattle.tftp_packet.specs.{OptionMap, OptionValue, Num, Text, no_options, lower, value_of, RequestParts, Pair, map_of, AreApart, Side, Get, Put}
-use Rattle.tftp_packet.specs.Rounds.{Rollover}
+use Rattle.tftp_packet.specs.{Rollover}
 use Rattle.tftp_nego.specs.{AgreementRule, NegoFault, MayAnswer, MayAgree, AgreementBroken, Holds, FirstFault, HasOption, IsOutsideProfile, IsWrongNumber, IsWrongValue, EachName, SomeName, IsInProfile, IsAnswered, IsUnanswered, AreNot, IsLowered, IsKept, IsSize, AllAnswered, SomeUnanswered, FitsNumbers}
 use Rattle.tftp_nego.specs.declared.fault.NegoFault.TheVariants as fault
 use Rattle.tftp_nego.specs.declared.rule.AgreementRule.TheVariants as rule

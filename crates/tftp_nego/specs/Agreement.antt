@@ -2,7 +2,8 @@
 use Rattle.std.specs.Prelude.{◌≡◌, ℕ, ◌+◌, ◌/◌, ◌≤◌, ◌⊎◌, List, Option, Some, codes}
 use Rattle.std.specs.FinMap as map
 use Rattle.tftp_packet.specs.{OptionMap, OptionValue, Num, RequestParts, Side, Put, Octet}
-use Rattle.tftp_packet.specs.Rounds.{Rollover, greatest_of}
+use Rattle.tftp_packet.specs.{Rollover}
+use Rattle.tftp_packet.specs.Rounds.{greatest_of}
 use Rattle.tftp_nego.specs.Numbers.{option_or}
 
 -- The number given may answer the number asked for. A server lowers a block size or a window and takes over a

@@ -1,6 +1,6 @@
 ghost use Rattle.std.specs.Prelude.{◌≡◌, ◌≢◌, None, Option, Some, codes};
 ghost use Rattle.tftp_packet.specs.{OptionMap, no_options, RequestParts, map_of, Side};
-ghost use Rattle.tftp_packet.specs.Rounds.{Rollover};
+ghost use Rattle.tftp_packet.specs.{Rollover};
 ghost use Rattle.tftp_nego.specs.Agreement.{MayAgree};
 ghost use Rattle.tftp_nego.specs.Faults.{AgreementBroken, FirstFault, Holds};
 ghost use Rattle.tftp_nego.specs.Worked.{asks, one};

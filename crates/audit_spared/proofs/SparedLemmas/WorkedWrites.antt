@@ -69,7 +69,7 @@ is_plan = record { something = λ e. absurd (true≢false (sym e)); nothing = λ
 
 fits : Fits meaning (5 ∷ [])
 fits = record {
-  may_agree = nothing_may_be_agreed_by (request_of meaning);
+  may_agree = nothing_may_be_agreed_by None (request_of meaning);
   reads = refl;
   size = λ mode size e. absurd (none_there (codes "tsize") (OptionValue.Num size) e);
   numbered = omega (arith, one_block);

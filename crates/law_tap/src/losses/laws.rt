@@ -2,7 +2,7 @@
 
 ghost use Rattle.std.specs.Prelude.{◌≡◌, ℕ, ◌+◌, ◌<◌, ◌≤◌, List, [], ◌∷◌, Contains, length, take, Option};
 ghost use Rattle.tftp_packet.specs.{End, Message, Out, Spells};
-ghost use Rattle.tftp_packet.specs.Rounds.{Rollover};
+ghost use Rattle.tftp_packet.specs.{Rollover};
 ghost use Rattle.tftp_packet.specs.Hosts.{Datagram, Header};
 ghost use Rattle.law_model.specs.Model.{
   Meaning,

@@ -2,7 +2,7 @@
 
 ghost use Rattle.std.specs.Prelude.{ℕ, List, [], ◌∷◌, Option};
 ghost use Rattle.tftp_packet.specs.{End, Client, Server};
-ghost use Rattle.tftp_packet.specs.Rounds.{Rollover};
+ghost use Rattle.tftp_packet.specs.{Rollover};
 ghost use Rattle.law_model.specs.Model.{Meaning, IsView, two_bytes, two_bytes_written, ten_bytes, six_blocks};
 ghost use Rattle.law_model.specs.{EndRule, PortRule};
 ghost use Rattle.law_end.specs.{Broken, Rule};
