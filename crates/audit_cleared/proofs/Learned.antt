@@ -46,7 +46,7 @@ is_plan = record { something = λ e. absurd (true≢false (sym e)); nothing = λ
 is_view : IsView read_five read_five.file Client view
 is_view = (steps, run_is read_five read_five.file one_block_plan steps is_plan refl, refl)
 
-pub fits : Fits read_five read_five.file
+pub fits : Fits None read_five read_five.file
 fits = record {
   may_agree = nothing_may_be_agreed_by None (request_of read_five);
   reads = refl;

@@ -174,7 +174,7 @@ module _ (s : TapSides) (asked : RequestParts) (tapped : List TapDatagram) (f : 
           let whole = subst (λ x. FitsTotal x total f) (sym size) t in
           none (one_option name n) total (made (one_option name n) total
           (one_may name is n small range s.rollover asked number has may (λ length at. subst (λ x. x / option_or 512 (one_option name n) (codes "blksize") + 1 ≤ greatest_of s.rollover) (sized length at)
-              (subst (λ g. total / option_or 512 (one_option name n) (codes "blksize") + 1 ≤ g) are.greatest whole.numbered)))
+          (subst (λ g. total / option_or 512 (one_option name n) (codes "blksize") + 1 ≤ g) are.greatest whole.numbered)))
           (λ some. one_spelled name is n small range) (λ e options said. absurd (none_said e options said)) (λ get at. some_option name is n small range) (λ octet length at. sized length at) whole)
 
       tail_most : FitsSize 512 f → or_zero f.tail ≤ 512

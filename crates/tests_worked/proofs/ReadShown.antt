@@ -37,7 +37,7 @@ dressed_begin = read_dressed (plain_hi ∷ []) without_ack read_without_its_ack 
 
 -- what a view of the two bytes shows that is dressed so
 pub two_shown : (h : Header) (view : History) (ds : List Datagram) → IsView two_bytes two_bytes.file h.named view → IsComplete two_bytes two_bytes.file h.named view → IsDressed h two_bytes two_bytes.file view ds → Shows h two_bytes ds
-two_shown h view ds run complete = shown_by h two_bytes two_bytes.file view ds two_bytes_fit None (omega (arith, one_block)) run complete
+two_shown h view ds run complete = shown_by h two_bytes two_bytes.file view ds (two_bytes_fit h.rollover) (omega (arith, one_block)) run complete
 
 pub read_is_shown : Shows at_client two_bytes one_block_read
 read_is_shown = two_shown at_client two_bytes_view one_block_read two_bytes_is_view two_bytes_complete dressed_read

@@ -181,7 +181,7 @@ pub record IsRun (d : Datagram) (ds : List Datagram) : Type 0 where
   pub m : Meaning
   pub wire : List ℕ
   pub ids : TransferIds
-  pub fits : Fits m wire
+  pub fits : Fits None m wire
   pub parts : AllByRecursion (IsPart m wire ids) (d ∷ ds)
   pub first : ds ≡ [] → (comes_in d ≡ true) × (begins_request d ≡ true)
   pub heard : comes_in d ≡ true → begins_request d ≡ false → list_any goes_out ds ≡ true
@@ -242,7 +242,7 @@ comes_so d came = by d.dir refl where
   by Out is = absurd (false≢true (sym (out_false d is) ∙ came))
 
 -- what asks is lawful where nothing else passed
-pub asked_alone : (m : Meaning) (wire : List ℕ) → Fits m wire → (d : Datagram) → comes_in d ≡ true → d.local ≡ 69 → Spells d.payload (message_of m wire Req) → OneEnded at (d ∷ [])
+pub asked_alone : (m : Meaning) (wire : List ℕ) → Fits None m wire → (d : Datagram) → comes_in d ≡ true → d.local ≡ 69 → Spells d.payload (message_of m wire Req) → OneEnded at (d ∷ [])
 asked_alone m wire fits d came service spells = (lawful at (d ∷ [])).0 (
   m,
   wire,

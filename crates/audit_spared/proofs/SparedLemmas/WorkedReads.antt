@@ -95,7 +95,7 @@ module _ (name : List ℕ) where
   is_plan : IsPlan meaning (5 ∷ []) plan
   is_plan = record { something = λ e. absurd (true≢false (sym e)); nothing = λ e. refl; windowsize = default_windowsize meaning refl; blocks = one_block }
 
-  fits : Fits meaning (5 ∷ [])
+  fits : Fits None meaning (5 ∷ [])
   fits = record {
     may_agree = nothing_may_be_agreed_by None (request_of meaning);
     reads = refl;
