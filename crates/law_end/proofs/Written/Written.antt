@@ -95,7 +95,7 @@ still_agreed : (rollover : Option Rollover) (m : Meaning) (wire : List ℕ) → 
 still_agreed rollover m wire fits writable = record {
   asked = fits.may_agree.asked;
   size = λ octet size agreed.
-      let long = sym (ap length (octet_wire m.mode wire m.file octet fits.reads)) ∙ fits.size octet size agreed in
+      let long : length (wire_of m) ≡ size = sym (ap length (octet_wire m.mode wire m.file octet fits.reads)) ∙ fits.size octet size agreed in
       subst (λ n. n / blksize_of m + 1 ≤ 65535) long writable;
 }
 
