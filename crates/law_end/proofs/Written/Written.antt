@@ -1,5 +1,5 @@
 -- A capture shows only meanings that can be written.
-use Rattle.std.proofs.Common.{◌≡◌, ℕ, ◌<◌, ◌≤◌, ◌⊎◌, List, [], ◌∷◌, length, reverse, All, Contains, Option, Some, Bool, true, false, ◌==◌, if◌then◌else◌, codes, inl, inr, refl, sym, subst, ap, ◌∙◌, arith, None, ◌/◌}
+use Rattle.std.proofs.Common.{◌+◌, ◌≡◌, ℕ, ◌<◌, ◌≤◌, ◌⊎◌, List, [], ◌∷◌, length, reverse, All, Contains, Option, Some, Bool, true, false, ◌==◌, if◌then◌else◌, codes, inl, inr, refl, sym, subst, ap, ◌∙◌, arith, None, ◌/◌}
 use Rattle.std.specs.List.{AllByRecursion}
 use Rattle.std.proofs.lemmas.List.Elements.{recursion_from_All}
 use Rattle.std.specs.FinMap as finite
