@@ -1,5 +1,5 @@
 -- What the client of the worked transfer at a learned port did is shown by a run, and so breaks no rule at the client.
-use Rattle.std.proofs.Common.{◌≡◌, ◌<◌, nat_lt, ℕ, true, List, [], ◌∷◌, codes, reverse, inl, inr, refl, sym, ap, subst, arith}
+use Rattle.std.proofs.Common.{◌≡◌, ◌<◌, nat_lt, ℕ, true, List, [], ◌∷◌, codes, reverse, inl, inr, refl, sym, ap, subst, arith, None}
 use Rattle.std.proofs.lemmas.Bool.{and_parts, ltb-true, true≢false}
 use Rattle.std.specs.Fmt.{digits}
 use Rattle.std.specs.List.{AllByRecursion, list_all}
@@ -46,9 +46,9 @@ is_plan = record { something = λ e. absurd (true≢false (sym e)); nothing = λ
 is_view : IsView read_five read_five.file Client view
 is_view = (steps, run_is read_five read_five.file one_block_plan steps is_plan refl, refl)
 
-pub fits : Fits read_five read_five.file
+pub fits : Fits None read_five read_five.file
 fits = record {
-  may_agree = nothing_may_be_agreed_by (request_of read_five);
+  may_agree = nothing_may_be_agreed_by None (request_of read_five);
   reads = refl;
   size = λ mode size e. absurd (none_there (codes "tsize") (Num size) e);
   numbered = omega (arith, one_block);

@@ -1,5 +1,5 @@
 -- The labels at the server, and of what it did not see those of strays and their answers, are labels between the ends.
-use Rattle.std.proofs.Common.{◌≡◌, ◌⊎◌, ℕ, Bool, true, false, cond, List, [], ◌∷◌, Any, inl, inr, refl, sym, ap, subst, ◌∙◌, map, filter}
+use Rattle.std.proofs.Common.{◌≡◌, ◌⊎◌, ℕ, Bool, true, false, cond, List, [], ◌∷◌, Any, inl, inr, refl, sym, ap, subst, ◌∙◌, map, filter, None}
 use Rattle.std.specs.List.{AllByRecursion}
 use Rattle.std.proofs.lemmas.Bool.{false≢true}
 use Rattle.tftp_packet.specs.{Message, Spells, End, Client, Server}
@@ -30,7 +30,7 @@ left_first test p qs off = ap (λ b. cond b (p ∷ filter test qs) (filter test 
 -- `server` is who served the transfer, `seen` which datagrams it saw, and `cap` how they are captured there.
 module _ (x : Transfer) (server : Endpoint) (seen : Placed → Bool) (cap : Placed → Datagram) where
   abbrev pub s : TapSides
-  s = record { client = side x.client; asked = side x.asked; server = side server }
+  s = record { client = side x.client; asked = side x.asked; server = side server; rollover = None }
 
   -- between the client and the server
   pub data AtServer (p : Placed) : Type 0 where

@@ -1,6 +1,6 @@
 -- What the server's capture shows, the capture between the ends shows, where what the client sent elsewhere only answers strays:
 -- so nothing that the server saw is the first that is refused there.
-use Rattle.std.proofs.Common.{◌≡◌, ℕ, Bool, true, false, List, [], ◌∷◌, Any, inl, inr, refl, sym, ap, subst, ◌∙◌, map, filter, reverse}
+use Rattle.std.proofs.Common.{◌≡◌, ℕ, Bool, true, false, List, [], ◌∷◌, Any, inl, inr, refl, sym, ap, subst, ◌∙◌, map, filter, reverse, None}
 use Rattle.std.specs.List.{AllByRecursion}
 use Rattle.std.proofs.lemmas.Bool.{false≢true, true≢false}
 use Rattle.std.proofs.lemmas.List.{reverse-reverse}
@@ -44,7 +44,7 @@ tapped_more (p ∷ rest) d ds e = (p, rest, refl, cc, cc)
 
 module _ (x : Transfer) (server : Endpoint) (seen : Placed → Bool) (cap : Placed → Datagram) (client_apart : side x.client ≡ side server → ⊥) where
   abbrev s : TapSides
-  s = record { client = side x.client; asked = side x.asked; server = side server }
+  s = record { client = side x.client; asked = side x.asked; server = side server; rollover = None }
 
   -- ---- what the client sent elsewhere, where nothing was refused
 

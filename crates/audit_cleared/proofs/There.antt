@@ -1,5 +1,5 @@
 -- The labels at the client are labels between the ends, and so what is lawful at the client is lawful there.
-use Rattle.std.proofs.Common.{◌≡◌, ℕ, List, [], ◌∷◌, Any, inl, inr, refl, sym, ap, subst, ◌∙◌}
+use Rattle.std.proofs.Common.{◌≡◌, ℕ, List, [], ◌∷◌, Any, inl, inr, refl, sym, ap, subst, ◌∙◌, None}
 use Rattle.std.specs.List.{AllByRecursion}
 use Rattle.tftp_packet.specs.{End, Client, Server}
 use Rattle.law_model.specs.Model.{Meaning, MachinePacket, Req, Took, Sent}
@@ -17,7 +17,7 @@ use Rattle.audit_cleared.proofs.Server.{IsNamedApart, not_from}
 
 module _ (x : Transfer) (m : Meaning) (wire : List ℕ) (ids : TransferIds) (server : Endpoint) (asked : ids.asked ≡ host_name x.asked.address) (apart : side x.client ≡ side server → ⊥) where
   abbrev s : TapSides
-  s = record { client = side x.client; asked = side x.asked; server = side server }
+  s = record { client = side x.client; asked = side x.asked; server = side server; rollover = None }
 
   -- where something came, a packet of the server's did
   answered_there : (pairs : List Pair) → Told x m wire ids pairs → Any (Came x) pairs → Any (λ p. IsMainFrom Server p.label) (division_there pairs)

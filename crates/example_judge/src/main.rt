@@ -33,6 +33,7 @@ fn tell(rt: HostRuntime) -> io::Result<()> {
     let header = Header {
         named: End::Client,
         service: 69,
+        rollover: None,
     };
     match audit(alloc, &header, &datagrams) {
         Ok(meaning) => println!(rt; "accepted, {} bytes", meaning.file_len()),

@@ -4,6 +4,7 @@ use Rattle.std.proofs.lemmas.Bool.{true≢false, cases_Bool}
 use Rattle.std.specs.FinMap as map
 use Rattle.std.specs.Ordering.{nat_cmp}
 use Rattle.tftp_packet.specs.{Message, RequestParts, Spells, meaning, Packet, End, Client, Server}
+use Rattle.tftp_packet.specs.{Rollover}
 use Rattle.tftp_packet.specs.declared.packet.Packet.TheVariants as packet
 use Rattle.tftp_packet.specs.declared.request.RequestView.{RequestView}
 use Rattle.tftp_packet.specs.Hosts.{same_peer}
@@ -55,9 +56,10 @@ begun_before s earlier d (inr (inr first)) = inl first.1
 
 -- ---- the first request
 
-pub first_notes : (s : TapSides) (earlier : List TapDatagram) (d : TapDatagram) (asked : RequestParts) (f : Figures) (errors : SaidErrors) → AreFigures f s [] → ((e : End) → error_of errors e ≡ None) → (blocks : Held) → blocks ≡ nothing_held
-    → NoneIsSaid s earlier → IsSaidBy s Client (Message.Request asked) d → AreSaidNotes (record { asked = asked; figures = f; offered = None; blocks = blocks; errors = errors }) s (d ∷ earlier)
-first_notes s earlier d asked f errors are none_kept blocks empty none says = record {
+pub first_notes : (s : TapSides) (earlier : List TapDatagram) (d : TapDatagram) (rollover : Option Rollover) → rollover ≡ s.rollover → (asked : RequestParts) (f : Figures) (errors : SaidErrors) → AreFigures f s [] → ((e : End) → error_of errors e ≡ None) → (blocks : Held) → blocks ≡ nothing_held
+    → NoneIsSaid s earlier → IsSaidBy s Client (Message.Request asked) d → AreSaidNotes (record { rollover = rollover; asked = asked; figures = f; offered = None; blocks = blocks; errors = errors }) s (d ∷ earlier)
+first_notes s earlier d rollover follows asked f errors are none_kept blocks empty none says = record {
+  rollover = follows;
   request = any_first (IsSaidBy s Client (Message.Request asked)) d earlier says;
   one_request = λ now said. elim (told Client (Message.Request now) said) [ inl is ↦ let one : asked ≡ now = cc in sym one | inr none ↦ absurd none ];
   figures = silent_figures s earlier d Client (Message.Request asked) says (λ k is. absurd (cc)) (λ k bytes is. absurd (cc)) f (none_figures s earlier none f are);
@@ -90,6 +92,7 @@ module _ (s : TapSides) (earlier : List TapDatagram) (d : TapDatagram) (out : is
 
   notes_outside : (n : SaidNotes) → AreSaidNotes n s earlier → AreSaidNotes n s (d ∷ earlier)
   notes_outside n are = record {
+    rollover = are.rollover;
     request = said_still Client _ are.request;
     one_request = λ now said. are.one_request now (said_before Client _ said);
     figures = outside_figures s earlier d out n.figures are.figures;

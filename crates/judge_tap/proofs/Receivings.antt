@@ -1,8 +1,9 @@
 -- What the end that gets the file keeps, after one more datagram, and what it finds of it.
-use Rattle.std.proofs.Common.{◌≡◌, inl, inr, ℕ, Bool, true, false, List, [], ◌∷◌, Err, refl, sym, subst, ap, ◌∙◌, ◌||◌, ◌&&◌, ◌==◌, map}
+use Rattle.std.proofs.Common.{◌≡◌, inl, inr, ℕ, Bool, true, false, List, [], ◌∷◌, Err, refl, sym, subst, ap, ◌∙◌, ◌||◌, ◌&&◌, ◌==◌, map, Option}
 use Rattle.std.specs.List.{list_any}
 use Rattle.std.proofs.lemmas.Bool.{true≢false, eqb-true, cases_Bool}
 use Rattle.tftp_packet.specs.{Side, End, Client, Server, opcode_of}
+use Rattle.tftp_packet.specs.{Rollover}
 use Rattle.tftp_packet.specs.Hosts.{Datagram}
 use Rattle.law_model.specs.Model.Roles.{receiver_of}
 use Rattle.tftp_judge.specs.{NoneBreaks, Refuses, IsJudgeAfter, Judge, TakesMemory, Refusal, Finds}
@@ -98,5 +99,6 @@ said_server b c is = rw (is) refl
 pub said_client : (b c : Bool) → b ≡ false → c ≡ (b || c)
 said_client b c is = rw (is) refl
 
-pub header_is : (s : TapSides) (side : Side) (end : End) (service : ℕ) → end ≡ receiver_of side → service ≡ s.asked.port → record { named = end; service = service } ≡ header_at s side
-header_is s side end service one other = λ i. record { named = one i; service = other i }
+pub header_is : (s : TapSides) (side : Side) (end : End) (service : ℕ) (rollover : Option Rollover) → end ≡ receiver_of side → service ≡ s.asked.port → rollover ≡ s.rollover
+    → record { named = end; service = service; rollover = rollover } ≡ header_at s side
+header_is s side end service rollover one other same = λ i. record { named = one i; service = other i; rollover = same i }

@@ -104,6 +104,7 @@ module _ (s : TapSides) (earlier : List TapDatagram) (d : TapDatagram) (e : End)
   request_again same = (
     request_breaks same,
     record {
+      rollover = are.rollover;
       request = still s earlier d e _ says Client _ are.request;
       one_request = one_later s earlier d e _ says n are (λ other is. let one : now ≡ other = cc in sym one ∙ sym same);
       figures = silent s earlier d e _ says n are (λ k is. absurd (cc)) (λ k bytes is. absurd (cc));
@@ -141,10 +142,11 @@ module _ (s : TapSides) (earlier : List TapDatagram) (d : TapDatagram) (e : End)
   ack_unfit f figures none = ack_unexplained (unfit s n.asked (d ∷ earlier) f figures n.offered ack_offer none)
 
   pub ack_taken : (f : Figures) → AreFigures f s (d ∷ earlier) → FitsSaid n.asked n.offered f
-      → FindsSaid s earlier d n.asked e (Message.Ack j) (AreSaidNotes (record { asked = n.asked; figures = f; offered = n.offered; blocks = n.blocks; errors = n.errors }) s (d ∷ earlier)) (Ok tt)
+      → FindsSaid s earlier d n.asked e (Message.Ack j) (AreSaidNotes (record { rollover = n.rollover; asked = n.asked; figures = f; offered = n.offered; blocks = n.blocks; errors = n.errors }) s (d ∷ earlier)) (Ok tt)
   ack_taken f figures fits = (
     ack_breaks (fit s n.asked (d ∷ earlier) f figures n.offered ack_offer ack_low (still s earlier d e _ says Client _ are.request) fits),
     record {
+      rollover = are.rollover;
       request = still s earlier d e _ says Client _ are.request;
       one_request = one_later s earlier d e _ says n are (λ other is. absurd (cc));
       figures = figures;
@@ -196,7 +198,7 @@ module _ (s : TapSides) (earlier : List TapDatagram) (d : TapDatagram) (e : End)
     block_breaks same _ b = absurd b
 
     abbrev after : Held → SaidNotes
-    after blocks = record { asked = n.asked; figures = f; offered = n.offered; blocks = blocks; errors = n.errors }
+    after blocks = record { rollover = n.rollover; asked = n.asked; figures = f; offered = n.offered; blocks = blocks; errors = n.errors }
 
     -- the blocks that are kept with it are those that were said
     taken : (blocks : Held) → ((other : List ℕ) → IsSaid s earlier e (Message.Data j other) → other ≡ bytes) → map.get blocks j ≡ Some bytes
@@ -204,6 +206,7 @@ module _ (s : TapSides) (earlier : List TapDatagram) (d : TapDatagram) (e : End)
     taken blocks same here there = (
       block_breaks same,
       record {
+        rollover = are.rollover;
         request = still s earlier d e _ says Client _ are.request;
         one_request = one_later s earlier d e _ says n are (λ other is. absurd (cc));
         figures = figures;
@@ -274,7 +277,7 @@ module _ (s : TapSides) (earlier : List TapDatagram) (d : TapDatagram) (e : End)
 
   module _ (apart : AreApart s) (errors : SaidErrors) (put : IsErrorPut (error_of n.errors e) (code, text) (error_of errors e) true) (others : (g : End) → (g ≡ e → ⊥) → error_of errors g ≡ error_of n.errors g) where
     abbrev noted : SaidNotes
-    noted = record { asked = n.asked; figures = n.figures; offered = n.offered; blocks = n.blocks; errors = errors }
+    noted = record { rollover = n.rollover; asked = n.asked; figures = n.figures; offered = n.offered; blocks = n.blocks; errors = errors }
 
     -- each ERROR of this end is this one, which is kept
     own : (o : Option SaidError) → error_of n.errors e ≡ o → IsErrorPut o (code, text) (error_of errors e) true
@@ -318,6 +321,7 @@ module _ (s : TapSides) (earlier : List TapDatagram) (d : TapDatagram) (e : End)
     error_taken = (
       error_breaks same_errors.0,
       record {
+        rollover = are.rollover;
         request = still s earlier d e _ says Client _ are.request;
         one_request = one_later s earlier d e _ says n are (λ other is. absurd (cc));
         figures = silent s earlier d e _ says n are (λ k is. absurd (cc)) (λ k bytes is. absurd (cc));
@@ -339,8 +343,8 @@ module _ (s : TapSides) (earlier : List TapDatagram) (d : TapDatagram) (e : End)
   by_server : (x : Message) → IsSaid s earlier Server x → IsSaid s earlier e x
   by_server x said = subst (λ g. IsSaid s earlier g x) (sym server) said
 
-  good : IsFair n.asked options → (fault : NegoFault) → Holds fault n.asked options → ⊥
-  good fair fault holds = faultless n.asked options fair.some fair.may fault holds
+  good : IsFair s.rollover n.asked options → (fault : NegoFault) → Holds s.rollover fault n.asked options → ⊥
+  good fair fault holds = faultless s.rollover n.asked options fair.some fair.may fault holds
 
   -- ---- after another one
 
@@ -354,10 +358,10 @@ module _ (s : TapSides) (earlier : List TapDatagram) (d : TapDatagram) (e : End)
     module _ (same : agreed ≡ options) where
       again_breaks : (broken : Rule) → LossyBreaks s earlier d n.asked e (Message.Oack options) broken → ⊥
       again_breaks rule.WrongKind b = right b
-      again_breaks (rule.Agreement broken) b = good (subst (IsFair n.asked) same was.0) (NegoFault.Broken broken) b
+      again_breaks (rule.Agreement broken) b = good (subst (IsFair s.rollover n.asked) same was.0) (NegoFault.Broken broken) b
       again_breaks rule.OackChanged (first, at, differs) = differs (sym same ∙ sym (was.2 e first at))
       again_breaks rule.ReplyChanged b = b.0.first agreed (by_server _ was.1)
-      again_breaks (rule.Block EndRule.BeyondBlock65535) b = good (subst (IsFair n.asked) same was.0) NegoFault.BeyondBlock65535 b
+      again_breaks (rule.Block EndRule.BeyondBlock65535) b = good (subst (IsFair s.rollover n.asked) same was.0) NegoFault.BeyondBlock65535 b
       again_breaks _ b = absurd b
 
       still_offered : IsOfferSaid s (d ∷ earlier) n.asked (Some agreed)
@@ -371,6 +375,7 @@ module _ (s : TapSides) (earlier : List TapDatagram) (d : TapDatagram) (e : End)
       oack_again = (
         again_breaks,
         record {
+          rollover = are.rollover;
           request = still s earlier d e _ says Client _ are.request;
           one_request = one_later s earlier d e _ says n are (λ other now. absurd (cc));
           figures = silent s earlier d e _ says n are (λ k now. absurd (cc)) (λ k bytes now. absurd (cc));
@@ -388,15 +393,15 @@ module _ (s : TapSides) (earlier : List TapDatagram) (d : TapDatagram) (e : End)
     none_before : (g : End) (other : OptionMap) → IsSaid s earlier g (Message.Oack other) → ⊥
     none_before = subst (IsOfferSaid s earlier n.asked) first are.offered
 
-    oack_faulty : (After : Type 0) (fault : NegoFault) → ((fault ≡ NegoFault.Memory → ⊥) → FirstFault n.asked options fault) → FindsSaid s earlier d n.asked e (Message.Oack options) After (Err (error_of_fault fault))
+    oack_faulty : (After : Type 0) (fault : NegoFault) → ((fault ≡ NegoFault.Memory → ⊥) → FirstFault s.rollover n.asked options fault) → FindsSaid s earlier d n.asked e (Message.Oack options) After (Err (error_of_fault fault))
     oack_faulty After (NegoFault.Broken broken) found = (found (λ is. absurd (cc))).0
     oack_faulty After NegoFault.BeyondBlock65535 found = (found (λ is. absurd (cc))).0
     oack_faulty After NegoFault.Memory found = none_before e
 
-    pub oack_stopped : (After : Type 0) (fault : NegoFault) (stop : PassError) → stop ≡ error_of_fault fault → ((fault ≡ NegoFault.Memory → ⊥) → FirstFault n.asked options fault) → FindsSaid s earlier d n.asked e (Message.Oack options) After (Err stop)
+    pub oack_stopped : (After : Type 0) (fault : NegoFault) (stop : PassError) → stop ≡ error_of_fault fault → ((fault ≡ NegoFault.Memory → ⊥) → FirstFault s.rollover n.asked options fault) → FindsSaid s earlier d n.asked e (Message.Oack options) After (Err stop)
     oack_stopped After fault stop is found = subst (λ r. FindsSaid s earlier d n.asked e (Message.Oack options) After (Err r)) (sym is) (oack_faulty After fault found)
 
-    module _ (fair : IsFair n.asked options) where
+    module _ (fair : IsFair s.rollover n.asked options) where
       figures_now : AreFigures n.figures s (d ∷ earlier)
       figures_now = silent s earlier d e _ says n are (λ k now. absurd (cc)) (λ k bytes now. absurd (cc))
 
@@ -423,10 +428,11 @@ module _ (s : TapSides) (earlier : List TapDatagram) (d : TapDatagram) (e : End)
         first_breaks _ b = absurd b
 
         pub oack_taken : FindsSaid s earlier d n.asked e (Message.Oack options)
-            (AreSaidNotes (record { asked = n.asked; figures = n.figures; offered = Some options; blocks = n.blocks; errors = n.errors }) s (d ∷ earlier)) (Ok tt)
+            (AreSaidNotes (record { rollover = n.rollover; asked = n.asked; figures = n.figures; offered = Some options; blocks = n.blocks; errors = n.errors }) s (d ∷ earlier)) (Ok tt)
         oack_taken = (
           first_breaks,
           record {
+            rollover = are.rollover;
             request = still s earlier d e _ says Client _ are.request;
             one_request = one_later s earlier d e _ says n are (λ other now. absurd (cc));
             figures = figures_now;

@@ -9,6 +9,7 @@ use Rattle.law_model.specs.Model.Roles.{sender_of}
 use Rattle.law_model.specs.{EndRule}
 use Rattle.law_end.specs.{Rule}
 use Rattle.law_end.specs.declared.rule.Rule.TheVariants as rule
+use Rattle.tftp_packet.specs.{Rollover}
 use Rattle.law_tap.specs.{TapDatagram, TapSides, AreFigures, Figures, IsFair, IsSaid, LossyBreaks}
 use Rattle.tftp_judge.specs.declared.pass_error.PassError.{PassError}
 use Rattle.tftp_judge.specs.declared.pass_error.PassError.TheVariants.{Broken as Breaks, Memory}
@@ -33,6 +34,7 @@ error_of errors Client = errors.client
 error_of errors Server = errors.server
 
 pub record SaidNotes : Type 0 where
+  pub rollover : Option Rollover  -- what comes after block 65535, where anything does
   pub asked : RequestParts  -- the request
   pub figures : Figures  -- of the numbers of blocks and ACKs
   pub offered : Option OptionMap  -- what the OACK agrees to, if one was seen
@@ -45,7 +47,7 @@ pub record SaidNotes : Type 0 where
 abbrev pub IsOfferSaid : TapSides → List TapDatagram → RequestParts → Option OptionMap → Type 0
 IsOfferSaid s earlier asked None = (e : End) (options : OptionMap) → IsSaid s earlier e (Message.Oack options) → ⊥
 IsOfferSaid s earlier asked (Some agreed) =
-    IsFair asked agreed × IsSaid s earlier Server (Message.Oack agreed)
+    IsFair s.rollover asked agreed × IsSaid s earlier Server (Message.Oack agreed)
     × ((e : End) (options : OptionMap) → IsSaid s earlier e (Message.Oack options) → options ≡ agreed)
 
 -- the end said no ERROR; or this one, and no other
@@ -57,6 +59,7 @@ IsErrorSaid s earlier e (Some first) =
 
 -- The notes are those of all that was said.
 pub record AreSaidNotes (n : SaidNotes) (s : TapSides) (earlier : List TapDatagram) : Type 0 where
+  pub rollover : n.rollover ≡ s.rollover
   pub request : IsSaid s earlier Client (Message.Request n.asked)
   pub one_request : (now : RequestParts) → IsSaid s earlier Client (Message.Request now) → now ≡ n.asked
   pub figures : AreFigures n.figures s earlier

@@ -10,4 +10,4 @@ lowered_request = record { side = Get; name = codes "a"; mode = Octet; options =
 
 -- block 1 of 512 bytes, and an ACK of block 2
 abbrev pub long_blocks : Figures
-long_blocks = record { reach = 2; zero = false; below = Some 512; tail = None }
+long_blocks = record { greatest = 65535; reach = 2; zero = false; below = Some 512; tail = None }

@@ -19,6 +19,7 @@ use tftp_ends::blocks::Delivered;
 use tftp_ends::says_unknown_id;
 use tftp_judge::PassError;
 use tftp_packet::hosts::{Dir, Peer};
+use tftp_packet::rounds::Rollover;
 use tftp_packet::{End, Packet, Request, opcode, own_request, read_packet};
 
 /// What is kept of the datagrams that have passed between the ends: the ways that they went, and the transfer from its first
@@ -83,7 +84,7 @@ impl<D: Delivered + Drop> TapState<D> {
         requires few { IsFewFed self.old.transfer }
         requires short { length datagram.payload ≤ 65527 }
         ensures finds { (s : TapSides) (earlier : List Passing) → AreApart s → BreaksNoTapRule s earlier
-            → IsKeptAtTap s (transfer_between s earlier) self.old.transfer → route ≡ tap_route s earlier (passing_of datagram)
+            → IsKeptAtTap s (transfer_between s earlier) self.old.transfer → self.old.ports.sides.rollover ≡ s.rollover → route ≡ tap_route s earlier (passing_of datagram)
             → FindsAtTap s earlier (passing_of datagram) (IsKeptAtTap s (transfer_between s (passing_of datagram ∷ earlier)) self.new.transfer) result }
         ensures memory { (s : TapSides) (earlier : List Passing) → AreApart s → BreaksNoTapRule s earlier
             → IsKeptAtTap s (transfer_between s earlier) self.old.transfer → route ≡ tap_route s earlier (passing_of datagram)
@@ -120,8 +121,8 @@ impl<D: Delivered + Drop> TapState<D> {
         requires few { IsFewFed self.old.transfer }
         requires short { length datagram.payload ≤ 65527 }
         ensures finds { (s : TapSides) (earlier : List Passing) → AreApart s → BreaksNoTapRule s earlier
-            → IsKeptAtTap s (transfer_between s earlier) self.old.transfer → datagram.source ≡ side_of s from
-            → is_passing (tap_route s earlier (passing_of datagram)) ≡ true
+            → IsKeptAtTap s (transfer_between s earlier) self.old.transfer → self.old.ports.sides.rollover ≡ s.rollover
+            → datagram.source ≡ side_of s from → is_passing (tap_route s earlier (passing_of datagram)) ≡ true
             → FindsAtTap s earlier (passing_of datagram) (IsKeptAtTap s (passing_of datagram ∷ transfer_between s earlier) self.new.transfer) result }
         ensures memory { (s : TapSides) (earlier : List Passing) → AreApart s → IsKeptAtTap s (transfer_between s earlier) self.old.transfer
             → datagram.source ≡ side_of s from → result ≡ Err PassErrorKind.Memory → TakesMemoryAtTap s earlier (passing_of datagram) }
@@ -134,7 +135,8 @@ impl<D: Delivered + Drop> TapState<D> {
                 transfer.pass(alloc, from, &recorded)
             }
             None => {
-                self.transfer = Some(begun(alloc, from, datagram)?);
+                let rollover = self.ports.rollover();
+                self.transfer = Some(begun(alloc, from, rollover, datagram)?);
                 Ok(())
             }
         }
@@ -152,10 +154,12 @@ impl<D: Delivered + Drop> TapState<D> {
 fn begun<D: Delivered + Drop>(
     alloc: Global,
     from: End,
+    rollover: Option<Rollover>,
     datagram: TapDatagram,
 ) -> Result<TapTransfer<D>, PassError>
     requires short { length datagram.payload ≤ 65527 }
     ensures finds { (s : TapSides) (earlier : List Passing) → AreApart s → BreaksNoTapRule s earlier → transfer_between s earlier ≡ []
+        → rollover ≡ s.rollover
         → datagram.source ≡ side_of s from → is_passing (tap_route s earlier (passing_of datagram)) ≡ true
         → BeginsAtTap s earlier (passing_of datagram) result }
     ensures fed { IfOk result (λ transfer. transfer.receiving.judge.fed ≡ 1) }
@@ -166,7 +170,7 @@ fn begun<D: Delivered + Drop>(
     let service = port_of(datagram.destination);
     let (asked, notes) = first_request(alloc, datagram.payload.as_slice())?;
     let recorded = recorded(receiver_of_file(asked.side()), from, datagram);
-    TapTransfer::begin(alloc, asked, notes, service, &recorded)
+    TapTransfer::begin(alloc, asked, notes, service, rollover, &recorded)
 }
 
 /// What a payload of the client asks for, as the first of a transfer, and what is noted of it (RFC 1350, section 5).

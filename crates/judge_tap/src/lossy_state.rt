@@ -116,7 +116,7 @@ impl LossyState {
         match (from, packet) {
             (End::Client, Packet::Request(asked)) => {
                 let asked = own_request(alloc, asked)?;
-                self.notes = Some(SaidNotes::begin(alloc, asked));
+                self.notes = Some(SaidNotes::begin(alloc, asked, self.sides.rollover));
             }
             _ => self.late = true,
         }

@@ -14,6 +14,7 @@ use std::marker::Model;
 use tftp_capture::{Datagram, Header};
 use tftp_ends::blocks::Delivered;
 use tftp_judge::{Judge, Meaning, PassError, Refusal};
+use tftp_packet::rounds::Rollover;
 use tftp_packet::{End, opcode};
 
 /// What the end that gets the file would make of a transfer, had it sent what passed from it and taken what passed towards it.
@@ -45,13 +46,14 @@ impl<D: Delivered + Drop> Receiving<D> {
         alloc: Global,
         end: End,
         service: u16,
+        rollover: Option<Rollover>,
         request: &Datagram,
     ) -> Result<Self, PassError>
         requires short { length request.now.payload ≤ 65527 }
-        ensures ok { (s : TapSides) (side : Way) (d : TapDatagram) → AreApart s → end ≡ receiver_of side → service ≡ s.asked.port
+        ensures ok { (s : TapSides) (side : Way) (d : TapDatagram) → AreApart s → end ≡ receiver_of side → service ≡ s.asked.port → rollover ≡ s.rollover
             → d.source ≡ s.client → asks_in d.payload ≡ true → IsRecorded s end d request.now
             → Passes (header_at s side) [] (recorded_at s end d) → IfOk result (λ receiving. IsReceiving receiving s side (d ∷ [])) }
-        ensures err { (s : TapSides) (side : Way) (d : TapDatagram) → end ≡ receiver_of side → service ≡ s.asked.port
+        ensures err { (s : TapSides) (side : Way) (d : TapDatagram) → end ≡ receiver_of side → service ≡ s.asked.port → rollover ≡ s.rollover
             → IsRecorded s end d request.now → Passes (header_at s side) [] (recorded_at s end d)
             → IfErr result (λ stop. stop ≡ PassErrorKind.Memory) }
         ensures fed { IfOk result (λ receiving. receiving.judge.fed ≡ 1) }
@@ -61,6 +63,7 @@ impl<D: Delivered + Drop> Receiving<D> {
             &Header {
                 named: end,
                 service,
+                rollover,
             },
         );
         if let Err(refusal) = judge.feed(alloc, request) {

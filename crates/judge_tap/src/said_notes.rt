@@ -18,12 +18,14 @@ use std::marker::Model;
 use tftp_ends::blocks::PutOutcome;
 use tftp_judge::{PassError, is_wrong_kind};
 use tftp_nego::{Agreed, NegoFault, agree};
+use tftp_packet::rounds::Rollover;
 use tftp_packet::{End, OptionsView, Packet, Request, RequestView, same_options, same_request};
 
 /// What was said of a transfer from its request on: what was asked for and agreed to, four figures of the numbers of blocks and
 /// ACKs, the blocks, and the ERROR of each end. In which order it was said counts for nothing.
 #[derive(Drop)]
 pub struct SaidNotes {
+    rollover: Option<Rollover>,
     asked: Request,
     figures: Figures,
     agreed: Option<Agreed>,
@@ -41,6 +43,7 @@ impl Model for SaidNotes {
     ghost coded = { Prim.hlevel (codes, blocks_code, options_code, parts_code) };
 
     ghost view = { λ n. record {
+      rollover = n.rollover;
       asked = n.asked;
       figures = n.figures;
       offered = n.agreed;
@@ -51,13 +54,14 @@ impl Model for SaidNotes {
 
 impl SaidNotes {
     /// The notes of a transfer whose request asks for this. Takes no memory.
-    pub fn begin(alloc: Global, asked: Request) -> Self
-        ensures { (s : TapSides) (earlier : List TapDatagram) (d : TapDatagram) → NoneIsSaid s earlier
+    pub fn begin(alloc: Global, asked: Request, rollover: Option<Rollover>) -> Self
+        ensures { (s : TapSides) (earlier : List TapDatagram) (d : TapDatagram) → rollover ≡ s.rollover → NoneIsSaid s earlier
             → IsSaidBy s Client (Message.Request asked) d → AreSaidNotes result s (d ∷ earlier) }
     {
         SaidNotes {
+            rollover,
             asked,
-            figures: Figures::none(),
+            figures: Figures::none(rollover),
             agreed: None,
             blocks: SaidBlocks::none(alloc),
             errors: SaidErrors::none(),
@@ -168,7 +172,7 @@ impl SaidNotes {
             }
             None => {}
         }
-        let agreed = match agree(alloc, &self.asked, options) {
+        let agreed = match agree(alloc, &self.asked, options, self.rollover) {
             Ok(agreed) => agreed,
             Err(fault) => return Err(stop_of(fault)),
         };

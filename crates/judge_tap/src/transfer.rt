@@ -20,6 +20,7 @@ use std::marker::Model;
 use tftp_capture::Datagram;
 use tftp_ends::blocks::Delivered;
 use tftp_judge::{Meaning, PassError, Refusal};
+use tftp_packet::rounds::Rollover;
 use tftp_packet::{End, Packet, Request, Side, read_packet};
 
 /// A transfer between its ends from its first request on: what was asked for, what the end that gets the file would make of it,
@@ -68,17 +69,19 @@ impl<D: Delivered + Drop> TapTransfer<D> {
         asked: Request,
         notes: TapNotes,
         service: u16,
+        rollover: Option<Rollover>,
         request: &Datagram,
     ) -> Result<Self, PassError>
         requires short { length request.now.payload ≤ 65527 }
-        ensures ok { (s : TapSides) (d : TapDatagram) → AreApart s → service ≡ s.asked.port → d.source ≡ s.client
+        ensures ok { (s : TapSides) (d : TapDatagram) → AreApart s → service ≡ s.asked.port → rollover ≡ s.rollover → d.source ≡ s.client
             → Spells d.payload (Message.Request asked) → AreNotes notes s (d ∷ []) → IsRecorded s (receiver_of asked.side) d request.now
             → Passes (header_at s asked.side) [] (recorded_at s (receiver_of asked.side) d) → IfOk result (λ transfer. IsTapTransfer transfer s (d ∷ [])) }
-        ensures err { (s : TapSides) (d : TapDatagram) → service ≡ s.asked.port → IsRecorded s (receiver_of asked.side) d request.now
+        ensures err { (s : TapSides) (d : TapDatagram) → service ≡ s.asked.port → rollover ≡ s.rollover → IsRecorded s (receiver_of asked.side) d request.now
             → Passes (header_at s asked.side) [] (recorded_at s (receiver_of asked.side) d) → IfErr result (λ stop. stop ≡ PassErrorKind.Memory) }
         ensures fed { IfOk result (λ transfer. transfer.receiving.judge.fed ≡ 1) }
     {
-        let receiving = Receiving::begin(alloc, receiver_of_file(asked.side()), service, request)?;
+        let end = receiver_of_file(asked.side());
+        let receiving = Receiving::begin(alloc, end, service, rollover, request)?;
         Ok(TapTransfer {
             asked,
             receiving,

@@ -10,7 +10,7 @@ use Rattle.law_end.specs.Replies.{FirstAsked, Agrees, Begins, FirstAnswer}
 
 -- the meaning and the wire are those of the first request, of the first answer and of all blocks, as far as they passed
 pub record Accords (h : Header) (m : Meaning) (wire : List ℕ) (earlier : List Datagram) : Type 0 where
-  pub fits : Fits m wire
+  pub fits : Fits h.rollover m wire
   pub asked : (asked : RequestParts) → FirstAsked h earlier asked → asked ≡ request_of m
   pub oacked : (options : OptionMap) → FirstAnswer m.side (transfer_of h earlier) (Agrees options) → m.agreed ≡ options
   pub plain : FirstAnswer m.side (transfer_of h earlier) Begins → m.agreed ≡ no_options

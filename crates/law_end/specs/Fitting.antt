@@ -1,7 +1,9 @@
 -- Which wire carries the file of a meaning (RFC 1350, section 1 and section 6; RFC 2349).
-use Rattle.std.specs.Prelude.{◌≡◌, ℕ, ◌≤◌, List, length, Some, codes}
+use Rattle.std.specs.Prelude.{◌≡◌, ℕ, ◌≤◌, List, length, Option, Some, None, codes}
 use Rattle.std.specs.FinMap as map
 use Rattle.tftp_packet.specs.{Num, Mode, Octet, Netascii}
+use Rattle.tftp_packet.specs.{Rollover}
+use Rattle.tftp_packet.specs.Rounds.{greatest_of}
 use Rattle.law_model.specs.Model.{Meaning, request_of, blksize_of, block_count}
 use Rattle.tftp_netascii.specs.{Reads, canonical_wire, file_of}
 use Rattle.tftp_nego.specs.{MayAgree}
@@ -16,17 +18,18 @@ abbrev pub carried_file : Mode → List ℕ → List ℕ
 carried_file Octet wire = wire
 carried_file Netascii wire = file_of wire
 
--- The blocks are numbered by two bytes, from 1.
-pub record Fits (m : Meaning) (wire : List ℕ) : Type 0 where
-  pub may_agree : MayAgree (request_of m) m.agreed
+-- The blocks are numbered from 1 up to the greatest, which is 65535 by two bytes (RFC 1350, section 5).
+pub record Fits (rollover : Option Rollover) (m : Meaning) (wire : List ℕ) : Type 0 where
+  pub may_agree : MayAgree rollover (request_of m) m.agreed
   pub reads : ReadsAs m.mode wire m.file
   pub size : m.mode ≡ Octet → (size : ℕ) → map.get m.agreed (codes "tsize") ≡ Some (Num size) → length wire ≡ size
-  pub numbered : block_count (blksize_of m) wire ≤ 65535
+  pub numbered : block_count (blksize_of m) wire ≤ greatest_of rollover
 
 -- the one wire of a file that is written, among those that carry it
 abbrev pub written_wire : Mode → List ℕ → List ℕ
 written_wire Octet file = file
 written_wire Netascii file = canonical_wire file
 
+-- The normal text is written without a rollover, so its blocks are numbered by two bytes.
 abbrev pub IsWritable : Meaning → Type 0
-IsWritable m = block_count (blksize_of m) (written_wire m.mode m.file) ≤ 65535
+IsWritable m = block_count (blksize_of m) (written_wire m.mode m.file) ≤ greatest_of None

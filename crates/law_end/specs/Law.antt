@@ -7,7 +7,7 @@ use Rattle.law_end.specs.Dress.{IsDressed}
 
 -- Some run of the meaning, over this wire, is seen so at the named end, as far as the capture goes.
 pub record IsSeen (header : Header) (m : Meaning) (wire : List ℕ) (datagrams : List Datagram) : Type 0 where
-  pub fits : Fits m wire
+  pub fits : Fits header.rollover m wire
   pub view : History
   pub run : IsView m wire header.named view
   pub dressed : IsDressed header m wire view datagrams

@@ -1,9 +1,10 @@
 -- The rules that a message of the transfer may break, where it is known what was asked for first: those of all messages,
 -- and those of each kind. The list `passed` has the transfer's datagrams so far, the newest first.
-use Rattle.std.specs.Prelude.{◌≡◌, ◌≢◌, ◌⊎◌, ℕ, List}
+use Rattle.std.specs.Prelude.{◌≡◌, ◌≢◌, ◌⊎◌, ℕ, List, Option}
 use Rattle.tftp_packet.specs.{OptionMap, Message, RequestParts, Side, Get, Put, End, Client, Server}
 use Rattle.tftp_packet.specs.Hosts.{Datagram, Header}
 use Rattle.tftp_packet.specs.{Dir, Out}
+use Rattle.tftp_packet.specs.{Rollover}
 use Rattle.law_model.specs.Rules.{author_of, Passed, EndBroken}
 use Rattle.law_model.specs.{Terms, EndRule}
 use Rattle.tftp_nego.specs.{AgreementBroken, Holds, NegoFault}
@@ -48,10 +49,10 @@ RequestBreaks asked passed dir now RequestAfterStart = (dir ≡ Out) × ClientWe
 RequestBreaks asked passed dir now _ = ⊥
 
 -- the first OACK: it has no option, or one that may not be agreed (RFC 2347; RFC 2348; RFC 2349; RFC 7440, section 3)
-abbrev pub FirstOackBreaks : RequestParts → OptionMap → Rule → Type 0
-FirstOackBreaks asked oack (Agreement rule) = AgreementBroken rule asked oack
-FirstOackBreaks asked oack (Block EndRule.BeyondBlock65535) = Holds NegoFault.BeyondBlock65535 asked oack
-FirstOackBreaks asked oack _ = ⊥
+abbrev pub FirstOackBreaks : Option Rollover → RequestParts → OptionMap → Rule → Type 0
+FirstOackBreaks rollover asked oack (Agreement rule) = AgreementBroken rule asked oack
+FirstOackBreaks rollover asked oack (Block EndRule.BeyondBlock65535) = Holds rollover NegoFault.BeyondBlock65535 asked oack
+FirstOackBreaks rollover asked oack _ = ⊥
 
 -- an OACK after the first one, where that one is known
 abbrev pub LaterOackBreaks : Side → List Datagram → Dir → OptionMap → OptionMap → Rule → Type 0
@@ -60,14 +61,14 @@ LaterOackBreaks side passed dir first oack OackAfterStart = (dir ≡ Out) × (si
 LaterOackBreaks side passed dir first oack _ = ⊥
 
 -- an OACK
-abbrev pub OackBreaks : RequestParts → List Datagram → Dir → OptionMap → Rule → Type 0
+abbrev pub OackBreaks : Option Rollover → RequestParts → List Datagram → Dir → OptionMap → Rule → Type 0
 -- the request was answered without one (RFC 2347)
-OackBreaks asked passed dir oack ReplyChanged = FirstAnswer asked.side passed Begins
+OackBreaks rollover asked passed dir oack ReplyChanged = FirstAnswer asked.side passed Begins
 -- it is not the first one again, or the server of a read sends it after a block (RFC 2347)
-OackBreaks asked passed dir oack OackChanged = (first : OptionMap) × FirstAnswer asked.side passed (Agrees first) × (oack ≢ first)
-OackBreaks asked passed dir oack OackAfterStart = (dir ≡ Out) × (asked.side ≡ Get) × BlockSent passed
+OackBreaks rollover asked passed dir oack OackChanged = (first : OptionMap) × FirstAnswer asked.side passed (Agrees first) × (oack ≢ first)
+OackBreaks rollover asked passed dir oack OackAfterStart = (dir ≡ Out) × (asked.side ≡ Get) × BlockSent passed
 -- it is the first one
-OackBreaks asked passed dir oack rule = NotAnswered asked.side passed × FirstOackBreaks asked oack rule
+OackBreaks rollover asked passed dir oack rule = NotAnswered asked.side passed × FirstOackBreaks rollover asked oack rule
 
 -- a block or an ACK (RFC 1350, sections 2, 4 and 5; RFC 2347; RFC 2349; RFC 7440, section 4)
 abbrev pub TermsBreak : Header → RequestParts → List Datagram → Message → Rule → Type 0
@@ -77,7 +78,7 @@ TermsBreak h asked passed m rule = (e : EndRule) × (rule ≡ Block e) × (t : T
 abbrev pub KindBreaks : Header → RequestParts → List Datagram → Dir → Message → Rule → Type 0
 KindBreaks h asked passed dir (Message.Request now) rule = RequestBreaks asked passed dir now rule
 KindBreaks h asked passed dir (Message.Error code text) rule = ⊥
-KindBreaks h asked passed dir (Message.Oack oack) rule = OackBreaks asked passed dir oack rule
+KindBreaks h asked passed dir (Message.Oack oack) rule = OackBreaks h.rollover asked passed dir oack rule
 KindBreaks h asked passed dir (Message.Data k bytes) rule = TermsBreak h asked passed (Message.Data k bytes) rule
 KindBreaks h asked passed dir (Message.Ack j) rule = TermsBreak h asked passed (Message.Ack j) rule
 

@@ -4,6 +4,7 @@ use Rattle.std.specs.Prelude.{◌≡◌, ◌⊎◌, ℕ, List, [], ◌∷◌, Op
 use Rattle.std.specs.FinMap as map
 use Rattle.tftp_packet.specs.{OptionMap, OptionValue as Value, Num, Message, RequestParts, Spells, Side, Get, Put, Mode, Octet}
 use Rattle.tftp_packet.specs.Hosts.{Datagram, Header}
+use Rattle.tftp_packet.specs.Rounds.{greatest_of}
 use Rattle.law_model.specs.Model.{option_or}
 use Rattle.law_model.specs.Rules.{asks, first_of, transfer_of}
 use Rattle.law_model.specs.{Reply, NoReply, Plain, Oacked, Terms}
@@ -45,7 +46,15 @@ size_from _ _ = None
 
 -- what is known before the first reply or after a plain one
 abbrev pub plain_terms : Header → Side → Reply → Terms
-plain_terms h side reply = record { named = h.named; side = side; reply = reply; blksize = 512; windowsize = 1; size = None }
+plain_terms h side reply = record {
+  named = h.named;
+  side = side;
+  reply = reply;
+  blksize = 512;
+  windowsize = 1;
+  greatest = greatest_of h.rollover;
+  size = None;
+}
 
 -- what is known after the first reply
 abbrev pub terms_after : Header → RequestParts → Answer → Terms
@@ -55,6 +64,7 @@ terms_after h asked (Agrees options) = record {
   reply = Oacked;
   blksize = option_or 512 options (codes "blksize");
   windowsize = option_or 1 options (codes "windowsize");
+  greatest = greatest_of h.rollover;
   size = size_from asked.mode (map.get options (codes "tsize"));
 }
 terms_after h asked Begins = plain_terms h asked.side Plain

@@ -1,8 +1,9 @@
 //! Laws of the definitions in `specs/`. Each is the contract of a function that does nothing.
 
-ghost use Rattle.std.specs.Prelude.{◌≡◌, ◌≢◌, ◌≤◌, ◌↔◌, ◌⊎◌, ℕ, List, [], ◌∷◌, ◌++◌, All, length};
+ghost use Rattle.std.specs.Prelude.{◌≡◌, ◌≢◌, ◌≤◌, ◌↔◌, ◌⊎◌, ℕ, List, [], ◌∷◌, ◌++◌, All, Option, length};
 ghost use Rattle.tftp_packet.specs.{Mode, OptionMap, no_options, RequestParts, In, Out};
 ghost use Rattle.tftp_nego.specs.{MayAgree, Holds, NegoFault};
+ghost use Rattle.tftp_packet.specs.{Rollover};
 ghost use Rattle.law_model.specs.Model.{Meaning};
 ghost use Rattle.tftp_packet.specs.Hosts.{Datagram, Header};
 ghost use Rattle.law_end.specs.Fitting.{ReadsAs, carried_file};
@@ -17,15 +18,15 @@ ghost use Rattle.law_end.specs.OneEnd.{OneEnded, IsRefused, Meant};
 
 /// Options that may be agreed have none of the faults of an OACK, where there are any (RFC 2347).
 pub fn agreed_options_have_no_fault()
-    ensures { (request : RequestParts) (oack : OptionMap) → MayAgree request oack → oack ≢ no_options
-        → (fault : NegoFault) → Holds fault request oack → ⊥ }
+    ensures { (rollover : Option Rollover) (request : RequestParts) (oack : OptionMap) → MayAgree rollover request oack
+        → oack ≢ no_options → (fault : NegoFault) → Holds rollover fault request oack → ⊥ }
 {}
 
 /// And options without a fault may be agreed.
 #[tactic(auto, using(crate::proofs::FirstBroken::Agreed::without_fault))]
 pub fn options_without_fault_may_be_agreed()
-    ensures { (request : RequestParts) (oack : OptionMap) → ((fault : NegoFault) → Holds fault request oack → ⊥)
-        → MayAgree request oack }
+    ensures { (rollover : Option Rollover) (request : RequestParts) (oack : OptionMap)
+        → ((fault : NegoFault) → Holds rollover fault request oack → ⊥) → MayAgree rollover request oack }
 {}
 
 /// A datagram has at most one first rule that it breaks, by the rule's number.

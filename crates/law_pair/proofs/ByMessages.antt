@@ -30,12 +30,12 @@ merged_by_messages client server (m, wire, x) =
 pub consistent_by_messages : (client server : Capture) → AreLawfulAndMerged client server → AreConsistent client server
 consistent_by_messages client server x =
     let (m, wire, acc_client, acc_server) = one_for_both client.header server.header (reverse client.datagrams) (reverse server.datagrams)
-    x.at_client x.at_server x.client_lawful x.server_lawful x.merged in
+    x.at_client x.at_server x.same x.client_lawful x.server_lawful x.merged in
     let a = seen client.header m wire client.datagrams x.client_lawful acc_client in
     let b = seen server.header m wire server.datagrams x.server_lawful acc_server in
     let merged = deeds_merged m m wire wire a.view b.view (passed_in client) (passed_in server)
     (seen_spelt client.header m wire client.datagrams a) (seen_spelt server.header m wire server.datagrams b) x.merged in
-    (m, wire, together m wire client server x.at_client x.at_server a b merged)
+    (m, wire, together m wire client server x.at_client x.at_server x.same a b merged)
 
 pub by_messages : (client server : Capture) → AreConsistent client server ↔ AreLawfulAndMerged client server
 by_messages client server = (
@@ -44,6 +44,7 @@ by_messages client server = (
       record {
         at_client = consistent.2.at_client;
         at_server = consistent.2.at_server;
+        same = consistent.2.same;
         client_lawful = each.0;
         server_lawful = each.1;
         merged = merged_by_messages client server consistent;

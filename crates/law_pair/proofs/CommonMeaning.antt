@@ -7,7 +7,7 @@ use Rattle.law_model.specs.Model.{Meaning, request_of, NothingAgreed, blksize_of
 use Rattle.law_model.specs.Model.Machines.{sender_of, receiver_of}
 use Rattle.law_model.specs.Rules.{asks, first_of, transfer_of, Passed, HasPassed}
 use Rattle.law_model.proofs.ModelLemmas.MadeRuns.{one_sided_view}
-use Rattle.law_end.specs.{Division, datagrams_of, view_in, dir_of, packet_of, Accords, AreRouted, Answer, Agrees, Begins, IsAnswer, NotAnswered, FirstAnswer, OneEnded}
+use Rattle.law_end.specs.{Fits, Division, datagrams_of, view_in, dir_of, packet_of, Accords, AreRouted, Answer, Agrees, Begins, IsAnswer, NotAnswered, FirstAnswer, OneEnded}
 use Rattle.law_end.proofs.Whole.TwoEnds.{some}
 use Rattle.law_end.proofs.Soundness.RulesDivide.{divides}
 use Rattle.law_end.proofs.Accord.PassedIsDone.{passed_told, told_passed}
@@ -130,7 +130,7 @@ no_zero dir (d ∷ passed) none p = elim p [ inl now ↦ none.0 Begins (Message.
 abbrev pub HaveOne : Header → List Datagram → Header → List Datagram → Type 0
 HaveOne hc client hs server = (m : Meaning) × (wire : List ℕ) × Accords hc m wire client × Accords hs m wire server
 
-module _ (hc hs : Header) (dc ds : Division) (at_client : hc.named ≡ Client) (at_server : hs.named ≡ Server)
+module _ (hc hs : Header) (dc ds : Division) (at_client : hc.named ≡ Client) (at_server : hs.named ≡ Server) (alike : hc.rollover ≡ hs.rollover)
     (lawful_client : OneEnded hc (datagrams_of dc)) (lawful_server : OneEnded hs (datagrams_of ds))
     (mc ms : Meaning) (wc ws : List ℕ) (acc_client : Accords hc mc wc (datagrams_of dc)) (acc_server : Accords hs ms ws (datagrams_of ds))
     (routed_client : AreRouted hc mc wc dc) (routed_server : AreRouted hs ms ws ds)
@@ -175,7 +175,7 @@ module _ (hc hs : Header) (dc ds : Division) (at_client : hc.named ≡ Client) (
         wc,
         acc_client,
         record {
-          fits = acc_client.fits;
+          fits = subst (λ r. Fits r mc wc) alike acc_client.fits;
           asked = λ asked first. let both : None ≡ Some first.0 = sym none ∙ first.1 in absurd (cc);
           oacked = λ options answer. absurd (subst (λ x. FirstAnswer mc.side x (Agrees options)) nothing answer);
           plain = λ answer. absurd (subst (λ x. FirstAnswer mc.side x Begins) nothing answer);
@@ -217,7 +217,7 @@ module _ (hc hs : Header) (dc ds : Division) (at_client : hc.named ≡ Client) (
       ms,
       ws,
       record {
-        fits = acc_server.fits;
+        fits = subst (λ r. Fits r ms ws) (sym alike) acc_server.fits;
         asked = λ asked first. acc_client.asked asked first ∙ same;
         oacked = λ options answer. one_oack options (oack_from ms.side pc options answer);
         plain = λ answer. read_plain get answer;
@@ -244,7 +244,7 @@ module _ (hc hs : Header) (dc ds : Division) (at_client : hc.named ≡ Client) (
       ms,
       ws,
       record {
-        fits = acc_server.fits;
+        fits = subst (λ r. Fits r ms ws) (sym alike) acc_server.fits;
         asked = λ asked first. acc_client.asked asked first ∙ same;
         oacked = λ options answer. absurd (not_both Put pc (Agrees options) none (subst (λ s. FirstAnswer s pc (Agrees options)) put answer));
         plain = λ answer. absurd (not_both Put pc Begins none (subst (λ s. FirstAnswer s pc Begins) put answer));
@@ -290,7 +290,7 @@ module _ (hc hs : Header) (dc ds : Division) (at_client : hc.named ≡ Client) (
           wc,
           acc_client,
           record {
-            fits = acc_client.fits;
+            fits = subst (λ r. Fits r mc wc) alike acc_client.fits;
             asked = λ asked ask. acc_server.asked asked ask ∙ sym same;
             oacked = λ options answer. agreed ∙ acc_server.oacked options (subst (λ s. FirstAnswer s ps (Agrees options)) same_side answer);
             plain = λ answer. agreed ∙ acc_server.plain (subst (λ s. FirstAnswer s ps Begins) same_side answer);
@@ -312,14 +312,14 @@ module _ (hc hs : Header) (dc ds : Division) (at_client : hc.named ≡ Client) (
   pub have_one : HaveOne hc (datagrams_of dc) hs (datagrams_of ds)
   have_one = by_first (first_of (asks hs) (datagrams_of ds)) refl
 
-pub one_for_both : (hc hs : Header) (client server : List Datagram) → hc.named ≡ Client → hs.named ≡ Server → OneEnded hc client → OneEnded hs server
+pub one_for_both : (hc hs : Header) (client server : List Datagram) → hc.named ≡ Client → hs.named ≡ Server → hc.rollover ≡ hs.rollover → OneEnded hc client → OneEnded hs server
     → AreMergedBy (transfer_of hc client) (transfer_of hs server) → HaveOne hc client hs server
-one_for_both hc hs client server at_client at_server lawful_client lawful_server merged =
+one_for_both hc hs client server at_client at_server alike lawful_client lawful_server merged =
     let (mc, wc, acc_client) = some hc client lawful_client in
     let (ms, ws, acc_server) = some hs server lawful_server in
     let (dc, same_client, routed_client, own_client, starts_client) = divides hc mc wc client lawful_client acc_client in
     let (ds, same_server, routed_server, own_server, starts_server) = divides hs ms ws server lawful_server acc_server in
-    let both = have_one hc hs dc ds at_client at_server
+    let both = have_one hc hs dc ds at_client at_server alike
     (subst (OneEnded hc) (sym same_client) lawful_client) (subst (OneEnded hs) (sym same_server) lawful_server)
     mc ms wc ws (subst (Accords hc mc wc) (sym same_client) acc_client) (subst (Accords hs ms ws) (sym same_server) acc_server)
     routed_client routed_server own_client own_server

@@ -135,9 +135,9 @@ matched_to_one client server i j x y one other =
 all_begun : (c : Capture) → passed_in (begun (length c.datagrams) c) ≡ passed_in c
 all_begun c = ap (λ ds. transfer_of c.header (reverse ds)) (take-length c.datagrams)
 
-pub decides_to : (client server : Capture) (i j : ℕ) → client.header.named ≡ Client → server.header.named ≡ Server → OneEnded client.header (reverse client.datagrams) → OneEnded server.header (reverse server.datagrams)
+pub decides_to : (client server : Capture) (i j : ℕ) → client.header.named ≡ Client → server.header.named ≡ Server → client.header.rollover ≡ server.header.rollover → OneEnded client.header (reverse client.datagrams) → OneEnded server.header (reverse server.datagrams)
     → AreMatchedTo client server i j → AreConsistent client server ↔ ((i ≡ length client.datagrams) × (j ≡ length server.datagrams))
-decides_to client server i j at_client at_server lawful_client lawful_server matched = (
+decides_to client server i j at_client at_server same lawful_client lawful_server matched = (
   λ consistent.
       let merged = ((by_messages client server).0 consistent).merged in
       let whole = subst (λ (h : List Datagram). AreMergedBy h (passed_in (begun (length server.datagrams) server))) (sym (all_begun client))
@@ -149,6 +149,7 @@ decides_to client server i j at_client at_server lawful_client lawful_server mat
   λ all. (by_messages client server).1 (record {
     at_client = at_client;
     at_server = at_server;
+    same = same;
     client_lawful = lawful_client;
     server_lawful = lawful_server;
     merged = subst (λ (h : List Datagram). AreMergedBy h (passed_in server)) (all_begun client)

@@ -64,18 +64,18 @@ matched_whole client server n k i j a b matched =
     subst (λ (c : Capture). AreMatchedTo c server i j) (ap (λ z. begun z client) a ∙ all_of client)
     (subst (λ (c : Capture). AreMatchedTo (begun n client) c i j) (ap (λ z. begun z server) b ∙ all_of server) matched)
 
-pub pair_decides : (client server : Capture) (n k i j : ℕ) → client.header.named ≡ Client → server.header.named ≡ Server → IsPairVerdict client server n k i j → AreConsistent client server ↔ IsWholePair client server n k i j
-pair_decides client server n k i j at_client at_server v = (
+pub pair_decides : (client server : Capture) (n k i j : ℕ) → client.header.named ≡ Client → server.header.named ≡ Server → client.header.rollover ≡ server.header.rollover → IsPairVerdict client server n k i j → AreConsistent client server ↔ IsWholePair client server n k i j
+pair_decides client server n k i j at_client at_server same v = (
   λ consistent.
       let by = (by_messages client server).0 consistent in
       let a = lawful_whole client n v.client_part by.client_lawful in
       let b = lawful_whole server k v.server_part by.server_lawful in
       let matched = matched_whole client server n k i j a b v.matched in
-      let ends = (decides_to client server i j at_client at_server by.client_lawful by.server_lawful matched).0 consistent in
+      let ends = (decides_to client server i j at_client at_server same by.client_lawful by.server_lawful matched).0 consistent in
       record { client_lawful = a; server_lawful = b; client_matched = ends.0 ∙ sym a; server_matched = ends.1 ∙ sym b },
   λ whole.
       let matched = matched_whole client server n k i j whole.client_lawful whole.server_lawful v.matched in
-      (decides_to client server i j at_client at_server
+      (decides_to client server i j at_client at_server same
       (kept_all client n whole.client_lawful v.client_part.keeps) (kept_all server k whole.server_lawful v.server_part.keeps) matched).1
       (whole.client_matched ∙ whole.client_lawful, whole.server_matched ∙ whole.server_lawful),
 )

@@ -2,7 +2,7 @@
 use Rattle.std.proofs.Common.{◌≡◌, ℕ, List, sym, subst, ap, ◌∙◌, ◌↔◌, reverse}
 use Rattle.tftp_packet.specs.{Client, Server}
 use Rattle.law_model.specs.Model.{Meaning, IsView, IsOneSided}
-use Rattle.law_end.specs.{view_in, IsSeen, OneEnded, Divides}
+use Rattle.law_end.specs.{Fits, view_in, IsSeen, OneEnded, Divides}
 use Rattle.law_end.proofs.Whole.TwoEnds.{rules, seen}
 use Rattle.law_end.proofs.Division.OneDivision.{divides_one, run_divides}
 use Rattle.law_model.proofs.ModelLemmas.OneSided.{view_one_sided}
@@ -20,7 +20,7 @@ client_seen m wire client server x = record {
 
 pub server_seen : (m : Meaning) (wire : List ℕ) (client server : Capture) → AreSeenTogether m wire client server → IsSeen server.header m wire server.datagrams
 server_seen m wire client server x = record {
-  fits = x.fits;
+  fits = subst (λ r. Fits r m wire) x.same x.fits;
   view = x.server_view;
   run = subst (λ e. IsView m wire e x.server_view) (sym x.at_server) (x.pair.steps, x.pair.run, x.pair.server_view);
   dressed = x.server_dressed;
@@ -34,11 +34,12 @@ pub seen_merged : (m : Meaning) (wire : List ℕ) (client server : Capture) (x :
 unfolding server_seen client_seen
 seen_merged m wire client server x = merged_views m wire client server x
 
-pub together : (m : Meaning) (wire : List ℕ) (client server : Capture) → client.header.named ≡ Client → server.header.named ≡ Server
+pub together : (m : Meaning) (wire : List ℕ) (client server : Capture) → client.header.named ≡ Client → server.header.named ≡ Server → client.header.rollover ≡ server.header.rollover
     → (a : IsSeen client.header m wire client.datagrams) (b : IsSeen server.header m wire server.datagrams) → AreMerged a.view b.view → AreSeenTogether m wire client server
-together m wire client server at_client at_server a b merged = record {
+together m wire client server at_client at_server same a b merged = record {
   at_client = at_client;
   at_server = at_server;
+  same = same;
   fits = a.fits;
   client_view = a.view;
   server_view = b.view;
@@ -80,6 +81,7 @@ consistent_is client server a b = (
       record {
         at_client = x.at_client;
         at_server = x.at_server;
+        same = x.same;
         client_lawful = one.0;
         server_lawful = other.0;
         meaning = m;
@@ -94,7 +96,7 @@ consistent_is client server a b = (
       let at_server = seen server.header r.meaning r.wire server.datagrams r.server_lawful r.server_accords in (
         r.meaning,
         r.wire,
-        together r.meaning r.wire client server r.at_client r.at_server at_client at_server
+        together r.meaning r.wire client server r.at_client r.at_server r.same at_client at_server
             (subst (λ v. AreMerged v at_server.view) (sym (seen_view client.header r.meaning r.wire client.datagrams at_client a))
             (subst (λ v. AreMerged (view_in a.division) v) (sym (seen_view server.header r.meaning r.wire server.datagrams at_server b)) r.merged)),
       ),

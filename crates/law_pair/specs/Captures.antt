@@ -12,11 +12,13 @@ pub record Capture : Type 0 where
   pub header : Header
   pub datagrams : List Datagram
 
--- One run of the meaning, over this wire, is seen so at both ends, as far as the captures go.
+-- One run of the meaning, over this wire, is seen so at both ends, as far as the captures go. After block 65535 the same comes at
+-- both.
 pub record AreSeenTogether (m : Meaning) (wire : List ℕ) (client server : Capture) : Type 0 where
   pub at_client : client.header.named ≡ Client
   pub at_server : server.header.named ≡ Server
-  pub fits : Fits m wire
+  pub same : client.header.rollover ≡ server.header.rollover
+  pub fits : Fits client.header.rollover m wire
   pub client_view : History
   pub server_view : History
   pub pair : ArePair m wire client_view server_view
@@ -32,6 +34,7 @@ AreConsistent client server = (m : Meaning) × (wire : List ℕ) × AreSeenToget
 pub record AreConsistentByRules (client server : Capture) (a : Divides client.header (reverse client.datagrams)) (b : Divides server.header (reverse server.datagrams)) : Type 0 where
   pub at_client : client.header.named ≡ Client
   pub at_server : server.header.named ≡ Server
+  pub same : client.header.rollover ≡ server.header.rollover
   pub client_lawful : OneEnded client.header (reverse client.datagrams)
   pub server_lawful : OneEnded server.header (reverse server.datagrams)
   pub meaning : Meaning

@@ -25,6 +25,7 @@ passed_in c = transfer_of c.header (reverse c.datagrams)
 pub record AreLawfulAndMerged (client server : Capture) : Type 0 where
   pub at_client : client.header.named ≡ Client
   pub at_server : server.header.named ≡ Server
+  pub same : client.header.rollover ≡ server.header.rollover
   pub client_lawful : OneEnded client.header (reverse client.datagrams)
   pub server_lawful : OneEnded server.header (reverse server.datagrams)
   pub merged : AreMergedBy (passed_in client) (passed_in server)

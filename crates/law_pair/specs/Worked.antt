@@ -27,7 +27,7 @@ at_the_server last = worked_datagram In acknowledged ∷ worked_datagram Out (bl
 
 -- the same lists as captures, which begin with the oldest
 abbrev pub captured_at : End → List Datagram → Capture
-captured_at e passed = record { header = record { named = e; service = 69 }; datagrams = reverse passed }
+captured_at e passed = record { header = record { named = e; service = 69; rollover = None }; datagrams = reverse passed }
 
 abbrev pub did : End → Deed → Event Deed
 did e deed = record { place = e; it = deed }

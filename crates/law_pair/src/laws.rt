@@ -33,7 +33,7 @@ pub fn consistent_is_lawful_and_merged()
     ensures merged { (m : Meaning) (wire : List ℕ) (client server : Capture) (x : AreSeenTogether m wire client server)
         → AreMerged x.client_view x.server_view }
     ensures together { (m : Meaning) (wire : List ℕ) (client server : Capture) → client.header.named ≡ Client
-        → server.header.named ≡ Server → (a : IsSeen client.header m wire client.datagrams)
+        → server.header.named ≡ Server → client.header.rollover ≡ server.header.rollover → (a : IsSeen client.header m wire client.datagrams)
         → (b : IsSeen server.header m wire server.datagrams) → AreMerged a.view b.view
         → AreSeenTogether m wire client server }
 {}
@@ -100,7 +100,7 @@ pub fn merging_captures_needs_no_choice()
 /// Two captures that break no rule are consistent exactly if they are matched to their ends.
 pub fn matching_decides()
     ensures { (client server : Capture) (i j : ℕ) → client.header.named ≡ Client → server.header.named ≡ Server
-        → OneEnded client.header (reverse client.datagrams) → OneEnded server.header (reverse server.datagrams)
+        → client.header.rollover ≡ server.header.rollover → OneEnded client.header (reverse client.datagrams) → OneEnded server.header (reverse server.datagrams)
         → AreMatchedTo client server i j → AreConsistent client server ↔ ((i ≡ length client.datagrams) × (j ≡ length server.datagrams)) }
 {}
 
@@ -110,7 +110,7 @@ pub fn verdict_on_two_is_one()
     ensures one { (client server : Capture) (n k i j x y v w : ℕ) → IsPairVerdict client server n k i j → IsPairVerdict client server x y v w
         → (n ≡ x) × (k ≡ y) × (i ≡ v) × (j ≡ w) }
     ensures decides { (client server : Capture) (n k i j : ℕ) → client.header.named ≡ Client → server.header.named ≡ Server
-        → IsPairVerdict client server n k i j → AreConsistent client server ↔ IsWholePair client server n k i j }
+        → client.header.rollover ≡ server.header.rollover → IsPairVerdict client server n k i j → AreConsistent client server ↔ IsWholePair client server n k i j }
 {}
 
 /// In an order of both ends, what an end takes the other one has sent before. So the network may lose, repeat and reorder.

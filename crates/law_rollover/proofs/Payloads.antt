@@ -4,10 +4,12 @@ use Rattle.std.specs.List.{AllByRecursion}
 use Rattle.tftp_packet.specs.{Message, OptionMap, RequestParts, Spells, Side, Get, Put, opcode_of, side_opcode}
 use Rattle.law_model.specs.Model.{Meaning, MachinePacket, Req, Oack, Data, Ack, Error, message_of, blksize_of, block}
 use Rattle.law_end.specs.{BeginsAsRequest, says_of}
-use Rattle.law_rollover.specs.{IsNear, IsNearPacket, Rollover, carries_number, first_of, number_of, position_of, says_by_number, unrolled_payload, with_place}
+use Rattle.tftp_packet.specs.{Rollover}
+use Rattle.tftp_packet.specs.Rounds.{IsNear, first_of, number_of, position_of}
+use Rattle.law_rollover.specs.{IsNearPacket, carries_number, says_by_number, unrolled_payload, with_place}
 use Rattle.std.proofs.lemmas.Bool.{cases_eq}
-use Rattle.law_rollover.proofs.Rounds.{low_numbers}
-use Rattle.law_rollover.proofs.Positions.{has_number, is_near, low_is_near, read_back}
+use Rattle.tftp_packet.proofs.RoundsLemmas.Turns.{low_numbers}
+use Rattle.tftp_packet.proofs.RoundsLemmas.Positions.{has_number, is_near, low_is_near, read_back}
 use Rattle.law_rollover.proofs.Unrolling.{data_unrolled, ack_unrolled, others_stay, opcode_stays, length_stays}
 -- ---- payloads without a number
 

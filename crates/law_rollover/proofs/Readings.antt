@@ -2,9 +2,10 @@
 use Rattle.std.proofs.Common.{◌≡◌, ℕ, [], ◌∷◌, refl, sym, ap, ◌∙◌}
 use Rattle.law_model.specs.Model.{MachinePacket, Req, Oack, Data, Ack, Error, Deed, Sent, Took, History}
 use Rattle.law_end.specs.{packet_of}
-use Rattle.law_rollover.specs.{first_of, position_of, Rollover}
-use Rattle.law_rollover.proofs.Rounds.{low_numbers}
-use Rattle.law_rollover.proofs.Positions.{has_number, is_near, low_is_near, read_back}
+use Rattle.tftp_packet.specs.{Rollover}
+use Rattle.tftp_packet.specs.Rounds.{first_of, position_of}
+use Rattle.tftp_packet.proofs.RoundsLemmas.Turns.{low_numbers}
+use Rattle.tftp_packet.proofs.RoundsLemmas.Positions.{has_number, is_near, low_is_near, read_back}
 use Rattle.law_rollover.specs.{IsNearPacket, IsLowPacket, IsTimelyPacket, AreNear, AreLow, IsTimely, deed_with, with_number, with_position, numbers_of, positions_of, high_of}
 
 -- ---- one packet

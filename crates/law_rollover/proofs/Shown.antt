@@ -14,7 +14,8 @@ use Rattle.law_end.proofs.Accord.HighestNumbers.{either_way, some_way}
 use Rattle.law_end.proofs.Accord.PassedIsDone.{passed_told, told_passed, data_only}
 use Rattle.law_end.proofs.Division.Routed.{routed_by, starts_of, told_of}
 use Rattle.law_end.proofs.Written.EachOf.{all_reverse}
-use Rattle.law_rollover.specs.{AreBytes, AreNear, AreUnrolled, IsNearPacket, IsDressedByNumber, Rollover, high_of, higher_of, says_by_number, unrolled_payload, with_payload}
+use Rattle.tftp_packet.specs.{Rollover}
+use Rattle.law_rollover.specs.{AreBytes, AreNear, AreUnrolled, IsNearPacket, IsDressedByNumber, high_of, higher_of, says_by_number, unrolled_payload, with_payload}
 use Rattle.law_rollover.proofs.Timely.{data_below}
 use Rattle.law_rollover.proofs.Dressing.{Alike, label_moves}
 use Rattle.law_rollover.proofs.Payloads.{begins_on, begins_back, error_on, error_back, says_on, says_back}

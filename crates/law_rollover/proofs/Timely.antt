@@ -5,8 +5,9 @@ use Rattle.tftp_packet.specs.{End}
 use Rattle.law_model.specs.Model.{Meaning, windowsize_of, MachinePacket, Req, Oack, Data, Ack, Error, Deed, Sent, Took, History, IsOneSided, heard, takes_error}
 use Rattle.law_model.proofs.ModelLemmas.Members.{contains_cases, contains_later, contains_none}
 use Rattle.law_end.specs.{packet_of}
-use Rattle.law_rollover.specs.{half_round, Rollover}
-use Rattle.law_rollover.proofs.Positions.{around_is_near}
+use Rattle.tftp_packet.specs.{Rollover}
+use Rattle.tftp_packet.specs.Rounds.{half_round}
+use Rattle.tftp_packet.proofs.RoundsLemmas.Positions.{around_is_near}
 use Rattle.law_rollover.specs.{IsNearPacket, IsTimelyPacket, AreNear, IsTimely, high_of, higher_of}
 
 higher_more : (p : MachinePacket) (high : ℕ) → high ≤ higher_of p high

@@ -2,7 +2,9 @@
 use Rattle.std.proofs.Common.{◌≡◌, ℕ, ◌/◌, ◌%◌, Bool, true, false, List, [], ◌∷◌, length, refl, sym, subst, ap, ◌∙◌, arith}
 use Rattle.std.specs.Prelude.{if◌then◌else◌}
 use Rattle.tftp_packet.specs.{Message, Spells, opcode_of}
-use Rattle.law_rollover.specs.{position_of, Rollover, carries_number, unrolled_payload, with_place}
+use Rattle.tftp_packet.specs.{Rollover}
+use Rattle.tftp_packet.specs.Rounds.{position_of}
+use Rattle.law_rollover.specs.{carries_number, unrolled_payload, with_place}
 -- ---- blocks and ACKs
 
 pub data_unrolled : (r : Rollover) (high n : ℕ) (bytes payload : List ℕ) → Spells payload (Message.Data n bytes)

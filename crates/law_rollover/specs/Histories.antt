@@ -3,9 +3,8 @@ use Rattle.std.specs.Prelude.{◌≡◌, ℕ, ◌+◌, ◌≤◌, max, List, [],
 use Rattle.tftp_packet.specs.{End}
 use Rattle.law_model.specs.Model.{Meaning, MachinePacket, Data, Ack, Req, Oack, Error, Deed, Sent, Took, History, IsView}
 use Rattle.law_end.specs.{packet_of}
-use Rattle.law_rollover.specs.Numbers.{first_of, number_of}
-use Rattle.law_rollover.specs.Reading.{IsNear, half_round, position_of}
-use Rattle.law_rollover.specs.declared.rollover.Rollover.{Rollover}
+use Rattle.tftp_packet.specs.{Rollover}
+use Rattle.tftp_packet.specs.Rounds.{IsNear, first_of, half_round, number_of, position_of}
 
 abbrev pub deed_with : (MachinePacket → MachinePacket) → Deed → Deed
 deed_with f (Sent p) = Sent (f p)

@@ -5,9 +5,9 @@ use Rattle.tftp_packet.specs.{Message, Spells}
 use Rattle.tftp_packet.specs.Hosts.{Datagram, Header}
 use Rattle.law_model.specs.Model.{Meaning, History, IsView, IsComplete, message_of}
 use Rattle.law_end.specs.{Division, Fits, HaveLabelsBy, Saying, TransferIds, datagrams_of, view_in}
-use Rattle.law_rollover.specs.Numbers.{first_of, number_of}
+use Rattle.tftp_packet.specs.{Rollover}
+use Rattle.tftp_packet.specs.Rounds.{first_of, number_of}
 use Rattle.law_rollover.specs.Histories.{AreNear}
-use Rattle.law_rollover.specs.declared.rollover.Rollover.{Rollover}
 
 -- the message with the number of its block
 abbrev pub by_number : Rollover → Message → Message

@@ -3,8 +3,8 @@ use Rattle.std.specs.Prelude.{◌≡◌, ℕ, ◌+◌, ◌*◌, ◌/◌, ◌%◌
 use Rattle.tftp_packet.specs.{opcode_of}
 use Rattle.tftp_packet.specs.Hosts.{Datagram, Header}
 use Rattle.law_model.specs.Rules.{IsHigh, transfer_of}
-use Rattle.law_rollover.specs.Reading.{position_of}
-use Rattle.law_rollover.specs.declared.rollover.Rollover.{Rollover}
+use Rattle.tftp_packet.specs.{Rollover}
+use Rattle.tftp_packet.specs.Rounds.{position_of}
 
 -- a DATA, or an ACK of four bytes, has a block's number (RFC 1350, section 5)
 abbrev pub carries_number : List ℕ → Bool

@@ -1,9 +1,6 @@
-//! Block numbers that begin again after 65535 (RFC 1350, section 5, gives them two bytes and says no more): which numbers
-//! blocks have, which block a number means, and when some run shows the numbers that passed at an end.
+//! Block numbers that begin again after 65535 (RFC 1350, section 5, gives them two bytes and says no more): when some run
+//! shows the numbers that passed at an end.
 #![tactic(auto)]
 
 pub mod laws;
-mod rollover;
 pub mod worked;
-
-pub use rollover::Rollover;

@@ -24,7 +24,7 @@ module _ (m : Meaning) (wire : List ℕ) (header : Header) (ids : TransferIds) w
   carried_mains [] labels = tt
   carried_mains (p ∷ division) labels = carried_label p.datagram p.label division labels.0 (carried_mains division labels.1)
 
-pub seen_at_tap : (h : Header) (m : Meaning) (wire : List ℕ) (datagrams : List Datagram) (s : IsSeen h m wire datagrams) → IsSeenAtTap m wire (mains_at h.named s.dressed.division)
+pub seen_at_tap : (h : Header) (m : Meaning) (wire : List ℕ) (datagrams : List Datagram) (s : IsSeen h m wire datagrams) → IsSeenAtTap h.rollover m wire (mains_at h.named s.dressed.division)
 seen_at_tap h m wire datagrams s = record {
   fits = s.fits;
   passed = tapped_at h.named s.view;
@@ -60,6 +60,6 @@ whole_passed h m wire datagrams s (Receives is) =
     let last = block_count (blksize_of m) wire in
     subst (λ x. Contains (tapped_at h.named s.seen.view) (record { from = x; packet = Ack last })) is (sent_passed h.named s.seen.view (Ack last) (s.complete.acknowledged is))
 
-pub shown_at_tap : (h : Header) (m : Meaning) (wire : List ℕ) (datagrams : List Datagram) (s : ShowsBy h m wire datagrams) → ShowsAtTap m wire (mains_at h.named s.seen.dressed.division)
+pub shown_at_tap : (h : Header) (m : Meaning) (wire : List ℕ) (datagrams : List Datagram) (s : ShowsBy h m wire datagrams) → ShowsAtTap h.rollover m wire (mains_at h.named s.seen.dressed.division)
 unfolding seen_at_tap
 shown_at_tap h m wire datagrams s = record { seen = seen_at_tap h m wire datagrams s.seen; whole = whole_passed h m wire datagrams s (role h.named m.side) }

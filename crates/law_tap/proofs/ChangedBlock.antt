@@ -1,8 +1,9 @@
 -- A changed block is certain: the wire has one block by each number.
-use Rattle.std.proofs.Common.{◌≡◌, ℕ, List, [], ◌∷◌, ◌++◌, Contains, reverse, inl, inr, sym, subst, ap, ◌∙◌}
+use Rattle.std.proofs.Common.{◌≡◌, ℕ, List, [], ◌∷◌, ◌++◌, Contains, reverse, inl, inr, sym, subst, ap, ◌∙◌, Option}
 use Rattle.std.proofs.lemmas.List.{reverse-append}
 use Rattle.std.proofs.lemmas.List.Elements.{Contains-append_left, Contains-push}
 use Rattle.tftp_packet.specs.{End, Message, Out, Spells}
+use Rattle.tftp_packet.specs.{Rollover}
 use Rattle.tftp_packet.specs.Hosts.{Datagram, Header}
 use Rattle.tftp_packet.proofs.Unique.{one_message}
 use Rattle.law_model.specs.Model.{Meaning, blksize_of, block, MachinePacket, Req, Oack, Data, Ack, Error, History, message_of}
@@ -38,8 +39,8 @@ says m wire (d ∷ h) (x ∷ noted) n are at = elim (contains_cases x noted n at
 says m wire [] (x ∷ noted) n are at = absurd are
 says m wire (d ∷ h) [] n are at = absurd are
 
-pub block_stays : (m : Meaning) (wire : List ℕ) (e : End) (noted : List Noted) (one other : Noted) (k : ℕ) (bytes changed : List ℕ) → IsNotedOf m wire e noted → Contains noted one → Contains noted other → Spells one.payload (Message.Data k bytes) → Spells other.payload (Message.Data k changed) → bytes ≡ changed
-block_stays m wire e noted one other k bytes changed is here there spelled again =
+pub block_stays : (rollover : Option Rollover) (m : Meaning) (wire : List ℕ) (e : End) (noted : List Noted) (one other : Noted) (k : ℕ) (bytes changed : List ℕ) → IsNotedOf rollover m wire e noted → Contains noted one → Contains noted other → Spells one.payload (Message.Data k bytes) → Spells other.payload (Message.Data k changed) → bytes ≡ changed
+block_stays rollover m wire e noted one other k bytes changed is here there spelled again =
     block_said m wire one.payload k bytes (says m wire is.seen noted one is.spelled here) spelled
     ∙ sym (block_said m wire other.payload k changed (says m wire is.seen noted other is.spelled there) again)
 

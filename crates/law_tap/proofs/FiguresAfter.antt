@@ -155,8 +155,9 @@ module _ (s : TapSides) (earlier : List TapDatagram) (d : TapDatagram) (e : End)
     λ (g, said). is.1 (elim (said_cases s earlier d e (Message.Ack j) says g (Message.Ack 0) said) [ inl now ↦ let same : j ≡ 0 = cc in inl same | inr before ↦ inr (are.zero.1 (g, before)) ]),
   )
 
-  pub low_ack : (b : Bool) → j ≤ f.reach → ((b ≡ true) ↔ ((j ≡ 0) ⊎ (f.zero ≡ true))) → AreFigures (record { reach = f.reach; zero = b; below = f.below; tail = f.tail }) s (d ∷ earlier)
+  pub low_ack : (b : Bool) → j ≤ f.reach → ((b ≡ true) ↔ ((j ≡ 0) ⊎ (f.zero ≡ true))) → AreFigures (record { greatest = f.greatest; reach = f.reach; zero = b; below = f.below; tail = f.tail }) s (d ∷ earlier)
   low_ack b low is = record {
+    greatest = are.greatest;
     highest = ack_numbers f.reach (omega arith) low;
     reached = elim are.reached [ inl none ↦ inl none | inr number ↦ inr (number_later s earlier d e (Message.Ack j) says f.reach number) ];
     zero = zero_after b is;
@@ -164,8 +165,9 @@ module _ (s : TapSides) (earlier : List TapDatagram) (d : TapDatagram) (e : End)
     tail = len_later s earlier d e (Message.Ack j) says (λ k. k ≡ f.reach) (no_block (λ k. k ≡ f.reach)) f.tail are.tail;
   }
 
-  pub high_ack : (r : Option ℕ) → f.reach < j → join_lengths f.below f.tail ≡ Some r → AreFigures (record { reach = j; zero = f.zero; below = r; tail = None }) s (d ∷ earlier)
+  pub high_ack : (r : Option ℕ) → f.reach < j → join_lengths f.below f.tail ≡ Some r → AreFigures (record { greatest = f.greatest; reach = j; zero = f.zero; below = r; tail = None }) s (d ∷ earlier)
   high_ack r up is = record {
+    greatest = are.greatest;
     highest = ack_numbers j (omega (arith, up)) (omega arith);
     reached = inr (e, inl (said_now s earlier d e (Message.Ack j) says));
     zero = zero_after f.zero (λ on. inr on, λ either. elim either [ inl none ↦ absurd (omega (arith, none, up)) | inr on ↦ on ]);
@@ -245,8 +247,9 @@ module _ (s : TapSides) (earlier : List TapDatagram) (d : TapDatagram) (e : End)
   none_of_these : (Which : ℕ → Type 0) → (Which j → ⊥) → (k : ℕ) (x : List ℕ) → Message.Data j bytes ≡ Message.Data k x → Which k → ⊥
   none_of_these Which other k x is which = let number : j ≡ k = cc in other (subst Which (sym number) which)
 
-  pub low_block : (r : Option ℕ) → j < f.reach → join_lengths f.below (Some long) ≡ Some r → AreFigures (record { reach = f.reach; zero = f.zero; below = r; tail = f.tail }) s (d ∷ earlier)
+  pub low_block : (r : Option ℕ) → j < f.reach → join_lengths f.below (Some long) ≡ Some r → AreFigures (record { greatest = f.greatest; reach = f.reach; zero = f.zero; below = r; tail = f.tail }) s (d ∷ earlier)
   low_block r low joins = record {
+    greatest = are.greatest;
     highest = block_numbers f.reach (omega arith) (omega (arith, low));
     reached = still_reached;
     zero = zero_same;
@@ -259,8 +262,9 @@ module _ (s : TapSides) (earlier : List TapDatagram) (d : TapDatagram) (e : End)
       let (other, one, two, differ) = more_none (λ k. k < f.reach) low f.below are.below joins in
       elim still_reached [ inl none ↦ absurd (omega (arith, none, low)) | inr number ↦ two_below s (d ∷ earlier) asked f.reach number other long one two differ ]
 
-  pub level_block : (r : Option ℕ) → j ≡ f.reach → join_lengths f.tail (Some long) ≡ Some r → AreFigures (record { reach = f.reach; zero = f.zero; below = f.below; tail = r }) s (d ∷ earlier)
+  pub level_block : (r : Option ℕ) → j ≡ f.reach → join_lengths f.tail (Some long) ≡ Some r → AreFigures (record { greatest = f.greatest; reach = f.reach; zero = f.zero; below = f.below; tail = r }) s (d ∷ earlier)
   level_block r at joins = record {
+    greatest = are.greatest;
     highest = block_numbers f.reach (omega arith) (omega (arith, at));
     reached = still_reached;
     zero = zero_same;
@@ -271,8 +275,9 @@ module _ (s : TapSides) (earlier : List TapDatagram) (d : TapDatagram) (e : End)
   pub no_level_block : (asked : RequestParts) → j ≡ f.reach → join_lengths f.tail (Some long) ≡ None → NothingExplains s asked (d ∷ earlier)
   no_level_block asked at joins = let (other, one, two, differ) = more_none (λ k. k ≡ f.reach) at f.tail are.tail joins in two_at s (d ∷ earlier) asked f.reach other long one two differ
 
-  pub high_block : (r : Option ℕ) → f.reach < j → join_lengths f.below f.tail ≡ Some r → AreFigures (record { reach = j; zero = f.zero; below = r; tail = Some long }) s (d ∷ earlier)
+  pub high_block : (r : Option ℕ) → f.reach < j → join_lengths f.below f.tail ≡ Some r → AreFigures (record { greatest = f.greatest; reach = j; zero = f.zero; below = r; tail = Some long }) s (d ∷ earlier)
   high_block r up joins = record {
+    greatest = are.greatest;
     highest = block_numbers j (omega (arith, up)) (omega arith);
     reached = inr (e, inr (bytes, now_block));
     zero = zero_same;

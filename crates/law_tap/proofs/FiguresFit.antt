@@ -17,7 +17,7 @@ use Rattle.law_tap.specs.SaidFigures.{Figures, AreFigures, HaveLength, FitsSize,
 
 total_fits_size : (b total : ℕ) (f : Figures) → 0 < b → FitsTotal b total f → FitsSize b f
 total_fits_size b total f some t = record { numbered = (let most = t.numbered in let high = t.reach in omega (arith, most, high)); below = t.below; tail = λ long is. by long (t.tail long is) } where
-  by : (long : ℕ) → IsBlockLength b total f.reach long → (long < b) ⊎ ((long ≡ b) × (f.reach < 65535))
+  by : (long : ℕ) → IsBlockLength b total f.reach long → (long < b) ⊎ ((long ≡ b) × (f.reach < f.greatest))
   by long (inl whole) = let up = whole.0 in let most = t.numbered in inr (whole.1, omega (arith, up, most))
   by long (inr last) = let is = last.1 in let less = mod_below total b some in inl (omega (arith, is, less))
 
@@ -58,7 +58,7 @@ module _ (s : TapSides) (asked : RequestParts) (tapped : List TapDatagram) (f : 
   some_there name value is none = let both : None ≡ Some value = sym (none_found name) ∙ ap (λ o. map.get o name) (sym none) ∙ is in absurd (cc)
 
   explained_fits : FitsTotal (block_size agreed) total f
-  explained_fits = record { numbered = x.numbered; reach = reach are.reached; below = λ long is. below long (subst (HaveLength s tapped (λ k. k < f.reach)) is are.below); tail = λ long is. tail long (subst (HaveLength s tapped (λ k. k ≡ f.reach)) is are.tail) } where
+  explained_fits = record { numbered = subst (λ g. total / block_size agreed + 1 ≤ g) (sym are.greatest) x.numbered; reach = reach are.reached; below = λ long is. below long (subst (HaveLength s tapped (λ k. k < f.reach)) is are.below); tail = λ long is. tail long (subst (HaveLength s tapped (λ k. k ≡ f.reach)) is are.tail) } where
     reach : (f.reach ≡ 0) ⊎ IsNumber s tapped f.reach → f.reach ≤ total / block_size agreed + 1
     reach (inl none) = omega (arith, none)
     reach (inr is) = x.numbers f.reach is

@@ -4,6 +4,8 @@ use Rattle.std.proofs.lemmas.Bool.{true≢false, cases_lt, le-leb}
 use Rattle.std.proofs.lemmas.Nat.{div-mul-add, mod-mul-add}
 use Rattle.std.specs.FinMap as map
 use Rattle.tftp_packet.specs.{OptionMap, OptionValue, Num, Text, no_options, range_of, is_within, RequestParts, Message, Spells, Side, Get, Put, End, Client, Mode, Octet, Netascii}
+use Rattle.tftp_packet.proofs.RoundsLemmas.Greatest.{two_bytes_within, most_blocks}
+use Rattle.tftp_packet.specs.Rounds.{greatest_of}
 use Rattle.tftp_nego.specs.{AreInRange, MayAgree, MayAnswer, number_or, option_or}
 use Rattle.tftp_nego.proofs.Numbers.{map_in_range, blksize_range, timeout_range, windowsize_range}
 use Rattle.law_end.specs.{size_from}
@@ -43,25 +45,25 @@ or_zero None = 0
 abbrev total_of : ℕ → Figures → ℕ
 total_of b f = (f.reach - 1) * b + or_zero f.tail
 
-less_fits : (b total : ℕ) (f : Figures) → FitsSize b f → total / b ≡ f.reach - 1 → ((long : ℕ) → f.tail ≡ Some long → (1 ≤ f.reach) × (long ≡ total % b)) → FitsTotal b total f
-less_fits b total f fits is tail = record {
-  numbered = (let few = fits.numbered in omega (arith, is, few));
+less_fits : (b total : ℕ) (f : Figures) → 1 ≤ f.greatest → FitsSize b f → total / b ≡ f.reach - 1 → ((long : ℕ) → f.tail ≡ Some long → (1 ≤ f.reach) × (long ≡ total % b)) → FitsTotal b total f
+less_fits b total f room fits is tail = record {
+  numbered = (let few = fits.numbered in omega (arith, is, few, room));
   reach = omega (arith, is);
   below = fits.below;
   tail = λ long at. let t = tail long at in inr (omega (arith, is, t.0), t.1);
 }
 
-size_fits_total : (b : ℕ) (f : Figures) → 0 < b → ((long : ℕ) → f.tail ≡ Some long → 1 ≤ f.reach) → FitsSize b f → FitsTotal b (total_of b f) f
-size_fits_total b f some low fits = by f.tail refl where
+size_fits_total : (b : ℕ) (f : Figures) → 0 < b → 1 ≤ f.greatest → ((long : ℕ) → f.tail ≡ Some long → 1 ≤ f.reach) → FitsSize b f → FitsTotal b (total_of b f) f
+size_fits_total b f some room low fits = by f.tail refl where
   by : (o : Option ℕ) → f.tail ≡ o → FitsTotal b ((f.reach - 1) * b + or_zero o) f
-  by None is = less_fits b ((f.reach - 1) * b + 0) f fits (div-mul-add (f.reach - 1) b 0 some) (λ long at. let both : None ≡ Some long = sym is ∙ at in absurd (cc))
+  by None is = less_fits b ((f.reach - 1) * b + 0) f room fits (div-mul-add (f.reach - 1) b 0 some) (λ long at. let both : None ≡ Some long = sym is ∙ at in absurd (cc))
   by (Some t) is = elim (fits.tail t is) [
-    | inl short ↦ less_fits b ((f.reach - 1) * b + t) f fits (div-mul-add (f.reach - 1) b t short)
+    | inl short ↦ less_fits b ((f.reach - 1) * b + t) f room fits (div-mul-add (f.reach - 1) b t short)
         (λ long at. let same : long ≡ t = (let both : Some t ≡ Some long = sym is ∙ at in sym (cc)) in (low long at, same ∙ sym (mod-mul-add (f.reach - 1) b t short)))
     | inr whole ↦ full t is whole.0 whole.1
   ]
     where
-      full : (t : ℕ) → f.tail ≡ Some t → t ≡ b → f.reach < 65535 → FitsTotal b ((f.reach - 1) * b + t) f
+      full : (t : ℕ) → f.tail ≡ Some t → t ≡ b → f.reach < f.greatest → FitsTotal b ((f.reach - 1) * b + t) f
       full t is same up =
           let first = low t is in
           let more : (f.reach - 1) * b + t ≡ f.reach * b + 0 = whole f.reach b t first same in
@@ -84,11 +86,17 @@ size_fits_total b f some low fits = by f.tail refl where
 -- ---- all that was said
 
 module _ (s : TapSides) (asked : RequestParts) (tapped : List TapDatagram) (f : Figures) (are : AreFigures f s tapped) where
+  room : 1 ≤ f.greatest
+  room = let is = are.greatest in let least = two_bytes_within s.rollover in omega (arith, is, least)
+
+  within : f.greatest ≤ 8388607
+  within = let is = are.greatest in let most = most_blocks s.rollover in omega (arith, is, most)
+
   module _ (low : (e : End) (k : ℕ) (bytes : List ℕ) → IsSaid s tapped e (Message.Data k bytes) → 1 ≤ k) where
     tail_low : (long : ℕ) → f.tail ≡ Some long → 1 ≤ f.reach
     tail_low long is = let (all, (e, k, bytes, said, at)) = subst (HaveLength s tapped (λ k. k ≡ f.reach)) is are.tail in let first = low e k bytes said in omega (arith, at, first)
 
-    module _ (agreed : OptionMap) (total : ℕ) (may : MayAgree asked agreed) (spelled : agreed ≢ no_options → (payload : List ℕ) × Spells payload (Message.Oack agreed))
+    module _ (agreed : OptionMap) (total : ℕ) (may : MayAgree s.rollover asked agreed) (spelled : agreed ≢ no_options → (payload : List ℕ) × Spells payload (Message.Oack agreed))
         (given : (e : End) (options : OptionMap) → IsSaid s tapped e (Message.Oack options) → (options ≡ agreed) × (agreed ≢ no_options))
         (nought : asked.side ≡ Get → f.zero ≡ true → agreed ≢ no_options)
         (sized : asked.mode ≡ Octet → (size : ℕ) → map.get agreed (codes "tsize") ≡ Some (Num size) → total ≡ size) (t : FitsTotal (block_size agreed) total f) where
@@ -113,14 +121,14 @@ module _ (s : TapSides) (asked : RequestParts) (tapped : List TapDatagram) (f : 
         given = given;
         zero = λ get e said. nought get (are.zero.1 (e, said));
         size = sized;
-        numbered = t.numbered;
+        numbered = subst (λ g. total / block_size agreed + 1 ≤ g) are.greatest t.numbered;
         numbers = λ k is. let top = are.highest k is in let high = t.reach in omega (arith, top, high);
         blocks = block_is;
       }
 
     -- ---- with an OACK
 
-    module _ (agreed : OptionMap) (fair : IsFair asked agreed) (from : (e : End) × IsSaid s tapped e (Message.Oack agreed)) (all : (e : End) (options : OptionMap) → IsSaid s tapped e (Message.Oack options) → options ≡ agreed) where
+    module _ (agreed : OptionMap) (fair : IsFair s.rollover asked agreed) (from : (e : End) × IsSaid s tapped e (Message.Oack agreed)) (all : (e : End) (options : OptionMap) → IsSaid s tapped e (Message.Oack options) → options ≡ agreed) where
       seen : (payload : List ℕ) × Spells payload (Message.Oack agreed)
       seen = let (d, at, is) = any_there (IsSaidBy s from.0 (Message.Oack agreed)) tapped from.1 in (d.payload, is.spells)
 
@@ -134,7 +142,7 @@ module _ (s : TapSides) (asked : RequestParts) (tapped : List TapDatagram) (f : 
       explain total sized t none = none agreed total (made agreed total fair.may (λ some. seen) (λ e options said. (all e options said, fair.some)) (λ get is. fair.some) sized t)
 
       free : FitsSize (block_size agreed) f → FitsTotal (block_size agreed) (total_of (block_size agreed) f) f
-      free fits = size_fits_total (block_size agreed) f some_size tail_low fits
+      free fits = size_fits_total (block_size agreed) f some_size room tail_low fits
 
       pub agreed_explains : FitsAgreed asked agreed f → NothingExplains s asked tapped → ⊥
       agreed_explains fits none = by (map.get agreed (codes "tsize")) refl asked.mode refl fits where
@@ -155,9 +163,9 @@ module _ (s : TapSides) (asked : RequestParts) (tapped : List TapDatagram) (f : 
       -- with nothing agreed
       plain : ((asked.side ≡ Get) → (f.zero ≡ true) → ⊥) → FitsSize 512 f → NothingExplains s asked tapped → ⊥
       plain nought fits none =
-          none no_options (total_of 512 f) (made no_options (total_of 512 f) (none_may_be_agreed asked) (λ some. absurd (some refl)) (λ e options said. absurd (none_said e options said)) (λ get is. absurd (nought get is))
+          none no_options (total_of 512 f) (made no_options (total_of 512 f) (none_may_be_agreed s.rollover asked) (λ some. absurd (some refl)) (λ e options said. absurd (none_said e options said)) (λ get is. absurd (nought get is))
           (λ octet size at. let both : None ≡ Some (Num size) = sym (none_found (codes "tsize")) ∙ at in absurd (cc))
-          (subst (λ b. FitsTotal b (total_of 512 f) f) (sym usual_size) (size_fits_total 512 f (omega arith) tail_low fits)))
+          (subst (λ b. FitsTotal b (total_of 512 f) f) (sym usual_size) (size_fits_total 512 f (omega arith) room tail_low fits)))
 
       -- with one option
       one : (name : List ℕ) (is : IsName name) (n number b total : ℕ) (small : n < 2 ^ 64) (range : is_within (range_of name) n ≡ true) → map.get asked.options name ≡ Some (Num number) → MayAnswer asked.side name number n
@@ -165,7 +173,8 @@ module _ (s : TapSides) (asked : RequestParts) (tapped : List TapDatagram) (f : 
       one name is n number b total small range has may size sized t none =
           let whole = subst (λ x. FitsTotal x total f) (sym size) t in
           none (one_option name n) total (made (one_option name n) total
-          (one_may name is n small range asked number has may (λ length at. subst (λ x. x / option_or 512 (one_option name n) (codes "blksize") + 1 ≤ 65535) (sized length at) whole.numbered))
+          (one_may name is n small range s.rollover asked number has may (λ length at. subst (λ x. x / option_or 512 (one_option name n) (codes "blksize") + 1 ≤ greatest_of s.rollover) (sized length at)
+          (subst (λ g. total / option_or 512 (one_option name n) (codes "blksize") + 1 ≤ g) are.greatest whole.numbered)))
           (λ some. one_spelled name is n small range) (λ e options said. absurd (none_said e options said)) (λ get at. some_option name is n small range) (λ octet length at. sized length at) whole)
 
       tail_most : FitsSize 512 f → or_zero f.tail ≤ 512
@@ -182,7 +191,7 @@ module _ (s : TapSides) (asked : RequestParts) (tapped : List TapDatagram) (f : 
           one (codes "windowsize") window_name n n 512 (total_of 512 f) small range has (inr (inl (refl, omega arith)))
           (ap (number_or 512) (other_none (codes "windowsize") window_name n small range (codes "blksize") (λ is. window_is_no_size (sym is))))
           (λ size at. let both : None ≡ Some (Num size) = sym (other_none (codes "windowsize") window_name n small range (codes "tsize") window_is_no_total) ∙ at in absurd (cc))
-          (size_fits_total 512 f (omega arith) tail_low fits) none
+          (size_fits_total 512 f (omega arith) room tail_low fits) none
       usual_other get (inr (inl (n, has))) fits none =
           let range = asked_range (codes "timeout") n has in
           let bounds = timeout_range n range in
@@ -190,19 +199,19 @@ module _ (s : TapSides) (asked : RequestParts) (tapped : List TapDatagram) (f : 
           one (codes "timeout") timeout_name n n 512 (total_of 512 f) small range has (inr (inr (inl (refl, refl))))
           (ap (number_or 512) (other_none (codes "timeout") timeout_name n small range (codes "blksize") (λ is. timeout_is_no_size (sym is))))
           (λ size at. let both : None ≡ Some (Num size) = sym (other_none (codes "timeout") timeout_name n small range (codes "tsize") timeout_is_no_total) ∙ at in absurd (cc))
-          (size_fits_total 512 f (omega arith) tail_low fits) none
+          (size_fits_total 512 f (omega arith) room tail_low fits) none
       usual_other get (inr (inr (number, has))) fits none =
           let n = total_of 512 f in
           let most = tail_most fits in
-          let up : n ≤ 18446744073709551615 = below_all f.reach (or_zero f.tail) fits.numbered most in
+          let up : n ≤ 18446744073709551615 = below_all f.reach (or_zero f.tail) (let few = fits.numbered in let most = within in omega (arith, few, most)) most in
           let small : n < 2 ^ 64 = omega (arith, up) in
           let range = total_within n up in
           one (codes "tsize") total_name n number 512 n small range has (inr (inr (inr (refl, λ put. let both : Get ≡ Put = sym get ∙ put in absurd (cc)))))
           (ap (number_or 512) (other_none (codes "tsize") total_name n small range (codes "blksize") (λ is. total_is_no_size (sym is))))
           (λ size at. let both : Some (Num n) ≡ Some (Num size) = sym (one_there (codes "tsize") total_name n small range) ∙ at in cc)
-          (size_fits_total 512 f (omega arith) tail_low fits) none
+          (size_fits_total 512 f (omega arith) room tail_low fits) none
         where
-          below_all : (r t : ℕ) → r ≤ 65535 → t ≤ 512 → (r - 1) * 512 + t ≤ 18446744073709551615
+          below_all : (r t : ℕ) → r ≤ 8388607 → t ≤ 512 → (r - 1) * 512 + t ≤ 18446744073709551615
           below_all r t first last = omega (arith, first, last)
 
       usual_explains : MayBeUsual asked f → FitsSize 512 f → NothingExplains s asked tapped → ⊥
@@ -220,7 +229,7 @@ module _ (s : TapSides) (asked : RequestParts) (tapped : List TapDatagram) (f : 
           one (codes "blksize") size_name b most b (total_of b f) small range has (inl (refl, up))
           (ap (number_or 512) (one_there (codes "blksize") size_name b small range))
           (λ size at. let both : None ≡ Some (Num size) = sym (other_none (codes "blksize") size_name b small range (codes "tsize") total_is_no_size) ∙ at in absurd (cc))
-          (size_fits_total b f (omega (arith, low)) tail_low fits) none
+          (size_fits_total b f (omega (arith, low)) room tail_low fits) none
 
       pub unseen_explains : FitsUnseen asked f → NothingExplains s asked tapped → ⊥
       unseen_explains (inl (may, fits)) none = usual_explains may fits none

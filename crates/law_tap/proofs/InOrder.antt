@@ -18,7 +18,7 @@ other_of Get = refl
 other_of Put = refl
 
 module _ (h : Header) (m : Meaning) (wire : List ℕ) (passed : List Pass) (datagrams : List Datagram) where
-  pub seen_in_order : Fits m wire → h.named ≡ receiver_of m.side → IsTapView m wire passed → KeepsOrderEach h.named (as_at h.named passed) → IsDressed h m wire (as_at h.named passed) datagrams → IsSeen h m wire datagrams
+  pub seen_in_order : Fits h.rollover m wire → h.named ≡ receiver_of m.side → IsTapView m wire passed → KeepsOrderEach h.named (as_at h.named passed) → IsDressed h m wire (as_at h.named passed) datagrams → IsSeen h m wire datagrams
   seen_in_order fits at view order dressed = record {
     fits = fits;
     view = as_at h.named passed;
@@ -27,7 +27,7 @@ module _ (h : Header) (m : Meaning) (wire : List ℕ) (passed : List Pass) (data
     dressed = dressed;
   }
 
-  pub breaks_none : Fits m wire → h.named ≡ receiver_of m.side → IsTapView m wire passed → KeepsOrderEach h.named (as_at h.named passed) → IsDressed h m wire (as_at h.named passed) datagrams → OneEnded h (reverse datagrams)
+  pub breaks_none : Fits h.rollover m wire → h.named ≡ receiver_of m.side → IsTapView m wire passed → KeepsOrderEach h.named (as_at h.named passed) → IsDressed h m wire (as_at h.named passed) datagrams → OneEnded h (reverse datagrams)
   breaks_none fits at view order dressed = (rules h m wire datagrams (seen_in_order fits at view order dressed)).0
 
   complete_at : (e : End) → e ≡ receiver_of m.side → IsTapView m wire passed → IsWholeAtTap m wire passed → IsComplete m wire e (as_at e passed)
@@ -37,6 +37,6 @@ module _ (h : Header) (m : Meaning) (wire : List ℕ) (passed : List Pass) (data
     was_told = λ same. absurd (not_sender m.side same);
   })
 
-  pub shown_in_order : Fits m wire → h.named ≡ receiver_of m.side → IsTapView m wire passed → KeepsOrderEach h.named (as_at h.named passed) → IsDressed h m wire (as_at h.named passed) datagrams → IsWholeAtTap m wire passed → ShowsBy h m wire datagrams
+  pub shown_in_order : Fits h.rollover m wire → h.named ≡ receiver_of m.side → IsTapView m wire passed → KeepsOrderEach h.named (as_at h.named passed) → IsDressed h m wire (as_at h.named passed) datagrams → IsWholeAtTap m wire passed → ShowsBy h m wire datagrams
   unfolding seen_in_order
   shown_in_order fits at view order dressed whole = record { seen = seen_in_order fits at view order dressed; complete = complete_at h.named at view whole }

@@ -3,6 +3,7 @@ use Rattle.std.proofs.Common.{◌≡◌, ℕ, ◌<◌, ◌≤◌, Bool, true, fa
 use Rattle.std.proofs.lemmas.Bool.{true≢false}
 use Rattle.std.proofs.lemmas.Nat.{mod_below}
 use Rattle.tftp_packet.specs.{OptionMap, RequestParts, Message, Spells, Side, Get, Put, End, Client, Server}
+use Rattle.tftp_packet.specs.Rounds.{greatest_of}
 use Rattle.tftp_packet.proofs.NoFault.{no_fault}
 use Rattle.tftp_nego.specs.{MayAgree, Holds, NegoFault}
 use Rattle.tftp_nego.proofs.Tested.{no_fault as faultless}
@@ -175,8 +176,8 @@ module _ (s : TapSides) (apart : AreApart s) (earlier : List TapDatagram) (d : T
       oacked : Oacked s apart (d ∷ earlier) k
       oacked some = subst (λ f. Has k.passed f Oack) agreed.0 told.1
 
-      good : (fault : NegoFault) → Holds fault asked options → ⊥
-      good fault holds = faultless asked options (λ none. agreed.1 (sym told.0 ∙ none)) (subst (MayAgree asked) (sym told.0) (all oacked).may) fault holds
+      good : (fault : NegoFault) → Holds s.rollover fault asked options → ⊥
+      good fault holds = faultless s.rollover asked options (λ none. agreed.1 (sym told.0 ∙ none)) (subst (MayAgree s.rollover asked) (sym told.0) (all oacked).may) fault holds
 
       by : (broken : Rule) → LossyBreaks s earlier d asked e (Message.Oack options) broken → ⊥
       by rule.WrongKind b = right_oack e asked.side options agreed.0 b
@@ -198,8 +199,8 @@ module _ (s : TapSides) (apart : AreApart s) (earlier : List TapDatagram) (d : T
       oacked : Oacked s apart (d ∷ earlier) k
       oacked = oacked_data s apart (d ∷ earlier) k e n told.1
 
-      -- the last of 65535 is short
-      short : n ≡ 65535 → length bytes < block_size k.m.agreed
+      -- the last of the greatest number is short
+      short : n ≡ greatest_of s.rollover → length bytes < block_size k.m.agreed
       short at =
           let x = all oacked in
           let low = x.numbered in

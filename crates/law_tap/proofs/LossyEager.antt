@@ -2,6 +2,7 @@
 use Rattle.std.proofs.Common.{◌≡◌, ◌⊎◌, ℕ, zero, suc, ◌-◌, ◌≤◌, List, [], ◌∷◌, Contains, inl, inr, refl, sym, subst, ap, ◌∙◌, arith}
 use Rattle.std.proofs.lemmas.Bool.{cases_lt}
 use Rattle.tftp_packet.specs.{no_options, Message, Spells, Side, Get, Put, End, Client, Server}
+use Rattle.tftp_packet.specs.Rounds.{greatest_of}
 use Rattle.law_model.specs.Model.{Meaning, NothingAgreed, SomethingAgreed, blksize_of, windowsize_of, block_count, MachinePacket, Req, Oack, Data, Ack, Error, message_of, Deed, Took, HasSent, IsAcknowledged, IsStartedOn, MayAckZeroOn, MaySendOack, MaySendData, MaySendAck}
 use Rattle.law_model.specs.Model.Machines.{sender_of, receiver_of}
 use Rattle.law_model.proofs.ModelLemmas.Members.{contains_first, contains_later, contains_cases, contains_none}
@@ -22,7 +23,7 @@ Sometime m wire e (Ack k) = (e ≡ receiver_of m.side) × (k ≤ block_count (bl
 Sometime m wire e (Error code text) = ⊥
 
 module _ (s : TapSides) (m : Meaning) (wire : List ℕ) (request : (payload : List ℕ) × Spells payload (message_of m wire Req)) (oack : SomethingAgreed m → (payload : List ℕ) × Spells payload (message_of m wire Oack))
-    (bytes : Bytes wire) (numbered : block_count (blksize_of m) wire ≤ 65535) (window : 1 ≤ windowsize_of m) (side : Side) (is : m.side ≡ side) where
+    (bytes : Bytes wire) (numbered : block_count (blksize_of m) wire ≤ greatest_of s.rollover) (window : 1 ≤ windowsize_of m) (side : Side) (is : m.side ≡ side) where
   abbrev count : ℕ
   count = block_count (blksize_of m) wire
 

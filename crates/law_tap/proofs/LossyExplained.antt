@@ -166,7 +166,7 @@ module _ (s : TapSides) (apart : AreApart s) (tapped : List TapDatagram) (k : Kn
       let mode : asked.mode ≡ k.m.mode = ap (λ (r : RequestParts). r.mode) is in
       let some = some_size oacked in
       record {
-        may = subst (λ r. MayAgree r k.m.agreed) (sym is) k.fits.may_agree;
+        may = subst (λ r. MayAgree s.rollover r k.m.agreed) (sym is) k.fits.may_agree;
         spelled = λ agreed. k.spelled (record { from = Server; packet = Oack }) (oacked agreed);
         given = λ e options said. let t = told_oack e options said in (t.0, (agrees e t.1).1);
         zero = λ get e said. zero_agreed (sym side ∙ get) e (told_ack e 0 said);

@@ -1,9 +1,12 @@
 -- What is known of a list that begins with its request and breaks no rule with losses.
-use Rattle.std.proofs.Common.{◌≡◌, ◌≢◌, ◌⊎◌, ℕ, zero, suc, ◌+◌, ◌/◌, ◌≤◌, Bool, true, false, List, [], ◌∷◌, None, Some, codes, inl, inr, refl, sym, subst, ap, ◌∙◌, arith, ◌==◌, ◌&&◌, if◌then◌else◌}
+use Rattle.std.proofs.Common.{◌≡◌, ◌≢◌, ◌⊎◌, ℕ, zero, suc, ◌+◌, ◌/◌, ◌≤◌, Bool, true, false, List, [], ◌∷◌, None, Some, codes, inl, inr, refl, sym, subst, ap, ◌∙◌, arith, ◌==◌, ◌&&◌, if◌then◌else◌, Option}
 use Rattle.std.specs.List.{AllByRecursion}
 use Rattle.std.proofs.lemmas.Bool.{true≢false, cases_Bool, cases_eq}
 use Rattle.std.proofs.lemmas.Nat.{div-add-mod'}
 use Rattle.tftp_packet.specs.{OptionMap, Num, no_options, RequestParts, Message, Spells, Side, Get, Put, End, Client, Server}
+use Rattle.tftp_packet.proofs.RoundsLemmas.Greatest.{two_bytes_within, most_blocks}
+use Rattle.tftp_packet.specs.Rounds.{greatest_of}
+use Rattle.tftp_packet.specs.{Rollover}
 use Rattle.tftp_packet.specs.Hosts.{same_peer}
 use Rattle.tftp_nego.specs.{number_or, Holds, NegoFault, AgreementRule}
 use Rattle.law_model.specs.{EndRule}
@@ -32,8 +35,8 @@ same_bytes x y none = elim (same_text x y) [ inl is ↦ is | inr other ↦ absur
 usual_size : block_size no_options ≡ 512
 usual_size = ap (λ o. number_or 512 o) (none_found (codes "blksize"))
 
-none_long : 0 / block_size no_options + 1 ≤ 65535
-none_long = subst (λ b. 0 / b + 1 ≤ 65535) (sym usual_size) (let split = div-add-mod' 0 512 in omega (arith, split))
+none_long : (rollover : Option Rollover) → 0 / block_size no_options + 1 ≤ greatest_of rollover
+none_long rollover = subst (λ b. 0 / b + 1 ≤ greatest_of rollover) (sym usual_size) (let least = two_bytes_within rollover in let split = div-add-mod' 0 512 in omega (arith, split))
 
 module _ (s : TapSides) (apart : AreApart s) where
   pub record Facts (tapped : List TapDatagram) (asked : RequestParts) : Type 0 where
@@ -203,7 +206,7 @@ module _ (s : TapSides) (apart : AreApart s) where
         as_offer : (broken : Rule) → LossyBreaks s earlier d asked e (Message.Oack options) broken → ⊥
         as_offer broken b = breaks_as e (Message.Oack options) (refl, offers) broken b
 
-        faultless : (fault : NegoFault) → Holds fault asked options → ⊥
+        faultless : (fault : NegoFault) → Holds s.rollover fault asked options → ⊥
         faultless (NegoFault.Broken broken) holds = as_offer (rule.Agreement broken) holds
         faultless NegoFault.BeyondBlock65535 holds = as_offer (rule.Block EndRule.BeyondBlock65535) holds
         faultless NegoFault.Memory holds = holds
@@ -296,12 +299,12 @@ module _ (s : TapSides) (apart : AreApart s) where
 
     nothing_yet : Explains s asked (d ∷ earlier) no_options 0
     nothing_yet = record {
-      may = none_may_be_agreed asked;
+      may = none_may_be_agreed s.rollover asked;
       spelled = λ some. absurd (some refl);
       given = λ e options said. let is = (only e (Message.Oack options) said).1 in absurd (cc);
       zero = λ get e said. absurd (no_number 0 (e, inl said));
       size = λ octet size has. let both : None ≡ Some (Num size) = sym (none_found (codes "tsize")) ∙ has in absurd (cc);
-      numbered = none_long;
+      numbered = none_long s.rollover;
       numbers = λ k is. absurd (no_number k is);
       blocks = λ e k x said. absurd (no_number k (e, inr (x, said)));
     }

@@ -50,7 +50,7 @@ goes_there s division d Client (Ack k) to known = (to, known)
 goes_there s division d Client (Error c t) to known = (to, known)
 goes_there s division d Server p to known = to
 
-module _ (s : TapSides) (apart : AreApart s) (m : Meaning) (wire : List ℕ) (fits : Fits m wire) (told : List Pass) (t : Telling s m wire told) (quiet : Quiet told)
+module _ (s : TapSides) (apart : AreApart s) (m : Meaning) (wire : List ℕ) (fits : Fits s.rollover m wire) (told : List Pass) (t : Telling s m wire told) (quiet : Quiet told)
     (all : (e : End) (p : MachinePacket) → Sometime m wire e p → Has told e p) (stop : End → ℕ × List ℕ) where
   -- ---- and each end sends an ERROR, which does not pass
 

@@ -3,6 +3,7 @@ use Rattle.std.proofs.Common.{◌≡◌, ◌⊎◌, ℕ, ◌+◌, ◌/◌, ◌<�
 use Rattle.std.specs.FinMap as map
 use Rattle.std.specs.List.{AllByRecursion}
 use Rattle.tftp_packet.specs.{OptionMap, OptionValue, Num, no_options, is_within, range_of, RequestParts, Message, Spells, but_third, Side, Get, Put, End, Client, Server}
+use Rattle.tftp_packet.specs.Rounds.{greatest_of}
 use Rattle.tftp_nego.specs.{AreInRange, number_or}
 use Rattle.tftp_nego.proofs.Numbers.{map_in_range, windowsize_range}
 use Rattle.law_model.specs.Model.{Meaning, blksize_of, windowsize_of, block, block_count, MachinePacket, Req, Oack, Data, Ack, Error, message_of}
@@ -122,10 +123,10 @@ module _ (s : TapSides) (apart : AreApart s) (tapped : List TapDatagram) (asked 
       counted : total / blksize_of m + 1 ≡ block_count (blksize_of m) wire
       counted = ap (λ n. n / blksize_of m + 1) (sym long)
 
-      few : block_count (blksize_of m) wire ≤ 65535
-      few = subst (λ n. n ≤ 65535) counted x.numbered
+      few : block_count (blksize_of m) wire ≤ greatest_of s.rollover
+      few = subst (λ n. n ≤ greatest_of s.rollover) counted x.numbered
 
-      fits : Fits m wire
+      fits : Fits s.rollover m wire
       fits = record { may_agree = x.may; reads = carried_file-reads asked.mode wire; size = λ octet size at. long ∙ x.size octet size at; numbered = few }
 
       request : (payload : List ℕ) × Spells payload (message_of m wire Req)

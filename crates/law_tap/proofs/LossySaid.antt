@@ -84,7 +84,7 @@ module _ (s : TapSides) (apart : AreApart s) where
   pub record Known (tapped : List TapDatagram) : Type 0 where
     pub m : Meaning
     pub wire : List ℕ
-    pub fits : Fits m wire
+    pub fits : Fits s.rollover m wire
     pub passed : List Pass
     pub may : MayPassEach m wire passed
     pub sent : IsSentInOneRun m wire passed

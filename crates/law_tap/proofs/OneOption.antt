@@ -8,6 +8,8 @@ use Rattle.std.proofs.lemmas.Fmt.{decimal_is_IsNumeral}
 use Rattle.std.proofs.lemmas.Slice.Eq.{bytes_eq-Decides}
 use Rattle.std.proofs.lemmas.Str.Parse.{digit_from_value}
 use Rattle.tftp_packet.specs.{OptionMap, OptionValue, Num, Text, lower, range_of, is_within, is_number, is_known_number, value_of, IsString, strings, Pair, pair_strings, map_of, text_of, RequestParts, Side, Octet, Message, Spells}
+use Rattle.tftp_packet.specs.Rounds.{greatest_of}
+use Rattle.tftp_packet.specs.{Rollover}
 use Rattle.tftp_packet.proofs.CanonicalOptions.{Bytes, strings_bytes}
 use Rattle.tftp_packet.proofs.Maps.{text_in_map}
 use Rattle.tftp_packet.proofs.Values.{number_of_numeral, bytes_eq_no}
@@ -86,9 +88,9 @@ module _ (name : List ℕ) (is : IsName name) (n : ℕ) (small : n < 2 ^ 64) (ra
         ),
       )
 
-  pub one_may : (asked : RequestParts) (number : ℕ) → map.get asked.options name ≡ Some (Num number) → MayAnswer asked.side name number n
-      → ((size : ℕ) → map.get (one_option name n) (codes "tsize") ≡ Some (Num size) → size / option_or 512 (one_option name n) (codes "blksize") + 1 ≤ 65535) → MayAgree asked (one_option name n)
-  one_may asked number has may sized = record {
+  pub one_may : (rollover : Option Rollover) (asked : RequestParts) (number : ℕ) → map.get asked.options name ≡ Some (Num number) → MayAnswer asked.side name number n
+      → ((size : ℕ) → map.get (one_option name n) (codes "tsize") ≡ Some (Num size) → size / option_or 512 (one_option name n) (codes "blksize") + 1 ≤ greatest_of rollover) → MayAgree rollover asked (one_option name n)
+  one_may rollover asked number has may sized = record {
     asked = λ key value at.
         let one = only_one key value at in
         (number, n, ap (map.get asked.options) (sym one.0) ∙ has, one.1, subst (λ k. MayAnswer asked.side k number n) one.0 may);

@@ -1,7 +1,8 @@
 -- What is whole at a tap has one meaning and one wire.
-use Rattle.std.proofs.Common.{◌≡◌, ℕ, ◌≤◌, List, [], ◌∷◌, Contains, codes, inl, inr, refl, sym, subst, ap, ◌∙◌, arith}
+use Rattle.std.proofs.Common.{◌≡◌, ℕ, ◌≤◌, List, [], ◌∷◌, Contains, codes, inl, inr, refl, sym, subst, ap, ◌∙◌, arith, Option}
 use Rattle.std.specs.FinMap as map
 use Rattle.tftp_packet.specs.{OptionMap, no_options, Message, RequestParts, Spells, Side, Get, Put, End, Client, Server}
+use Rattle.tftp_packet.specs.{Rollover}
 use Rattle.tftp_packet.proofs.Unique.{one_message}
 use Rattle.tftp_nego.specs.{number_or, AreInRange}
 use Rattle.tftp_nego.proofs.Numbers.{map_in_range, empty_in_range}
@@ -154,8 +155,8 @@ size_at_least m wire passed tapped carried oacked = from_eight (map.get m.agreed
 whole : (a b : RequestParts) (c d : OptionMap) (f g : List ℕ) → a ≡ b → c ≡ d → f ≡ g → meaning_from (a, (c, f)) ≡ meaning_from (b, (d, g))
 whole a b c d f g e p q = λ i. meaning_from (e i, (p i, q i))
 
-pub shown_one : (m n : Meaning) (wire other : List ℕ) (tapped : List Tapped) → ShowsAtTap m wire tapped → ShowsAtTap n other tapped → (m ≡ n) × (wire ≡ other)
-shown_one m n wire other tapped one two =
+pub shown_one : (rollover : Option Rollover) (m n : Meaning) (wire other : List ℕ) (tapped : List Tapped) → ShowsAtTap rollover m wire tapped → ShowsAtTap rollover n other tapped → (m ≡ n) × (wire ≡ other)
+shown_one rollover m n wire other tapped one two =
     let may = view_may_pass m wire one.seen.passed one.seen.view in
     let mayb = view_may_pass n other two.seen.passed two.seen.view in
     let blocks = blocks_passed m wire one.seen.passed may one.whole in

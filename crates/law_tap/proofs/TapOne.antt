@@ -36,7 +36,7 @@ module _ (s : TapSides) (m : Meaning) (wire : List ℕ) where
     by Stray c before = before
     by StrayAnswer c before = before
 
-  seen_as : (tapped : List TapDatagram) (x : IsSeenBetween s m wire tapped) → IsSeenAtTap m wire (carried_of x.dressed.division)
+  seen_as : (tapped : List TapDatagram) (x : IsSeenBetween s m wire tapped) → IsSeenAtTap s.rollover m wire (carried_of x.dressed.division)
   seen_as tapped x = record {
     fits = x.fits;
     passed = x.passed;
@@ -44,7 +44,7 @@ module _ (s : TapSides) (m : Meaning) (wire : List ℕ) where
     carried = subst (λ l. AreCarried m wire l (carried_of x.dressed.division)) x.dressed.main (are_carried x.dressed.division x.dressed.labels);
   }
 
-  shows_as : (tapped : List TapDatagram) (x : ShowsBetween s m wire tapped) → ShowsAtTap m wire (carried_of x.seen.dressed.division)
+  shows_as : (tapped : List TapDatagram) (x : ShowsBetween s m wire tapped) → ShowsAtTap s.rollover m wire (carried_of x.seen.dressed.division)
   unfolding seen_as
   shows_as tapped x = record { seen = seen_as tapped x.seen; whole = x.whole }
 
@@ -52,7 +52,7 @@ pub shows_one : (s : TapSides) (m n : Meaning) (wire other : List ℕ) (tapped :
 shows_one s m n wire other tapped apart one two =
     let same = one_division s apart two.seen.dressed.division one.seen.dressed.division (labels_some s n other two.seen.dressed.division two.seen.dressed.labels) (labels_some s m wire one.seen.dressed.division one.seen.dressed.labels)
     (two.seen.dressed.whole ∙ sym one.seen.dressed.whole) in
-    shown_one m n wire other (carried_of one.seen.dressed.division) (shows_as s m wire tapped one) (subst (λ d. ShowsAtTap n other (carried_of d)) same (shows_as s n other tapped two))
+    shown_one s.rollover m n wire other (carried_of one.seen.dressed.division) (shows_as s m wire tapped one) (subst (λ d. ShowsAtTap s.rollover n other (carried_of d)) same (shows_as s n other tapped two))
 
 -- ---- one rule
 

@@ -150,7 +150,7 @@ AreKnown [] = Unit {0}
 AreKnown (k ∷ ks) = Known k ks × AreKnown ks
 
 abbrev pub header_of_end : TapSides → End → Header
-header_of_end s r = record { named = r; service = s.asked.port }
+header_of_end s r = record { named = r; service = s.asked.port; rollover = s.rollover }
 
 abbrev pub ids_at : TapSides → End → TransferIds
 ids_at s r = record { own = (side_of s r).port; peer = side_of s (other_end r); asked = s.asked.host }

@@ -365,7 +365,7 @@ module _ (s : TapSides) (apart : AreApart s) (asked : RequestParts) where
   pub record Made (cs : List Carried) : Type 0 where
     pub m : Meaning
     pub wire : List ℕ
-    pub fits : Fits m wire
+    pub fits : Fits s.rollover m wire
     pub may : MayPassEach m wire (map pass_in cs)
     pub says : Each (λ c. says_of m wire c.pass.packet c.datagram.payload) cs
 

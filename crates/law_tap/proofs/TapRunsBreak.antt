@@ -96,7 +96,7 @@ module _ (m : Meaning) (wire : List ℕ) (l : List Pass) (each : MayPassEach m w
 
 -- ---- what is kept of a run is known, and breaks no rule at the receiver
 
-module _ (s : TapSides) (apart : AreApart s) (m : Meaning) (wire : List ℕ) (fits : Fits m wire) where
+module _ (s : TapSides) (apart : AreApart s) (m : Meaning) (wire : List ℕ) (fits : Fits s.rollover m wire) where
   known_next : (r : End) (c : Carried) (ks : List Carried) → MayPassEach m wire (map pass_in ks) → MayPass m wire (map pass_in ks) c.pass.from c.pass.packet → is_left_out pair_tests r c ks ≡ false → Known c ks
   known_next r c ks each may stays = by c.pass.from c.pass.packet may stays where
     asked : Has (map pass_in ks) Client Req → list_any pair_tests.asks ks ≡ true

@@ -1,6 +1,7 @@
 -- The worked recordings at an end that miss datagrams.
-use Rattle.std.proofs.Common.{◌≡◌, ℕ, ◌<◌, ◌≤◌, List, [], ◌∷◌, Contains, codes, inl, inr, refl, sym, subst, arith}
+use Rattle.std.proofs.Common.{◌≡◌, ℕ, ◌<◌, ◌≤◌, List, [], ◌∷◌, Contains, codes, inl, inr, refl, sym, subst, arith, None, Option}
 use Rattle.tftp_packet.specs.{Message, Spells, IsPlace, End, Client, Server, Out}
+use Rattle.tftp_packet.specs.{Rollover}
 use Rattle.tftp_packet.specs.Hosts.{Datagram}
 use Rattle.law_model.specs.Model.{Meaning, request_of, blksize_of, block, Deed, Sent, Took, Req, Oack, Data, Ack, History, IsView, two_bytes, two_bytes_view, two_bytes_written, two_bytes_written_view, ten_bytes, ten_bytes_view, six_blocks, six_blocks_server_view}
 use Rattle.law_model.proofs.ModelLemmas.Members.{contains_cases, contains_none}
@@ -168,7 +169,7 @@ read_lawful = (
   two_bytes,
   two_bytes.file,
   record {
-    fits = two_bytes_fit;
+    fits = two_bytes_fit None;
     view = two_bytes_view;
     run = two_bytes_is_view;
     dressed = record { ids = client_ids; division = acknowledged; whole = refl; main = refl; labels = client_labels };
@@ -201,7 +202,7 @@ begun_lawful = (
   two_bytes,
   two_bytes.file,
   record {
-    fits = two_bytes_fit;
+    fits = two_bytes_fit None;
     view = Sent (Data 1) ∷ Took Req ∷ [];
     run = earlier_view two_bytes two_bytes.file Server (Took (Ack 1)) (Sent (Data 1) ∷ Took Req ∷ []) two_bytes_is_server_view;
     dressed = record { ids = server_ids; division = sent_once; whole = refl; main = refl; labels = server_labels };
@@ -222,7 +223,7 @@ change_certain = record {
   lawful = lawful_lossy at_server (request_in ∷ hi_out ∷ []) begun_lawful;
 }
 
-pub change_unnoted : (m : Meaning) (wire : List ℕ) (e : End) → IsNotedOf m wire e changed_notes → ⊥
-change_unnoted m wire e noted =
+pub change_unnoted : (rollover : Option Rollover) (m : Meaning) (wire : List ℕ) (e : End) → IsNotedOf rollover m wire e changed_notes → ⊥
+change_unnoted rollover m wire e noted =
     apart (block_stays m wire e changed_notes (record { dir = Out; payload = hi_out.payload }) (record { dir = Out; payload = ho_out.payload }) 1 (104 ∷ 105 ∷ []) (104 ∷ 111 ∷ []) noted (1, omega arith, refl) (0, omega arith, refl)
     (first_block_says 104 105 (omega arith) (omega arith)) (first_block_says 104 111 (omega arith) (omega arith)))

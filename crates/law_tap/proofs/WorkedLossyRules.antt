@@ -80,7 +80,7 @@ hi_before = any_first (IsSaidBy worked_sides Server (Message.Data 1 (104 ∷ 105
 
 -- ---- with no option asked for a block has 512 bytes
 
-nothing_agreed : (agreed : OptionMap) → MayAgree asked agreed → agreed ≡ no_options
+nothing_agreed : (agreed : OptionMap) → MayAgree worked_sides.rollover asked agreed → agreed ≡ no_options
 nothing_agreed agreed may = same_map nat_list_cmp_total (slice_cmp-IsAntisymmetric nat_cmp-IsAntisymmetric) agreed no_options (λ name. by name (map.get agreed name) refl ∙ sym (none_found name)) where
   by : (name : List ℕ) (o : Option OptionValue) → map.get agreed name ≡ o → map.get agreed name ≡ None
   by name None is = is
@@ -89,7 +89,7 @@ nothing_agreed agreed may = same_map nat_list_cmp_total (slice_cmp-IsAntisymmetr
       let both : None ≡ Some (OptionValue.Num answer.0) = sym (none_found name) ∙ answer.2 in
       absurd (cc)
 
-plain_size : (agreed : OptionMap) → MayAgree asked agreed → block_size agreed ≡ 512
+plain_size : (agreed : OptionMap) → MayAgree worked_sides.rollover asked agreed → block_size agreed ≡ 512
 plain_size agreed may = ap block_size (nothing_agreed agreed may) ∙ ap (number_or 512) (none_found (codes "blksize"))
 
 above_unexplained : NothingExplains worked_sides asked (ack_above ∷ block_between)
@@ -168,7 +168,7 @@ ack_or_request e x said = either_says ack_passes (Message.Ack 1) ack_says e x sa
 
 pub ack_explained : Explains worked_sides asked (ack_passes ∷ request_passes ∷ []) no_options 0
 ack_explained = record {
-  may = none_may_be_agreed asked;
+  may = none_may_be_agreed None asked;
   spelled = λ some. absurd (some refl);
   given = λ e options said. elim (ack_or_request e (Message.Oack options) said) [ inl is ↦ absurd (cc) | inr is ↦ absurd (cc) ];
   zero = λ get e said. elim (ack_or_request e (Message.Ack 0) said) [ inl is ↦ let other : ◌≡◌ {A = ℕ} 0 1 = cc in absurd (omega (arith, other)) | inr is ↦ absurd (cc) ];

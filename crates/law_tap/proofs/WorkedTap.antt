@@ -1,5 +1,5 @@
 -- The worked cases of the law at a tap.
-use Rattle.std.proofs.Common.{◌≡◌, ℕ, ◌≤◌, ◌<◌, true, [], ◌∷◌, Any, Contains, codes, inl, inr, refl, sym, subst, ap, arith}
+use Rattle.std.proofs.Common.{◌≡◌, ℕ, ◌≤◌, ◌<◌, true, [], ◌∷◌, Any, Contains, codes, inl, inr, refl, sym, subst, ap, arith, None}
 use Rattle.std.proofs.lemmas.Bool.{true≢false}
 use Rattle.std.specs.FinMap as map
 use Rattle.tftp_packet.specs.{Message, Spells, IsPair, IsPlace, Client, Server, End}
@@ -188,7 +188,7 @@ labels = (
 
 seen : IsSeenBetween worked_sides two_bytes two_bytes.file read_between
 seen = record {
-  fits = two_bytes_fit;
+  fits = two_bytes_fit None;
   passed = tapped_at Client two_bytes_view;
   view = view_is_tapped two_bytes two_bytes.file Client two_bytes_view two_bytes_is_view;
   dressed = record { division = divided; whole = refl; main = refl; labels = labels };

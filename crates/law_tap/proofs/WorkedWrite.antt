@@ -1,5 +1,5 @@
 -- The worked recording of a write that misses its block.
-use Rattle.std.proofs.Common.{◌≡◌, ℕ, false, List, [], ◌∷◌, Any, codes, inl, inr, refl, sym, subst, arith}
+use Rattle.std.proofs.Common.{◌≡◌, ℕ, false, List, [], ◌∷◌, Any, codes, inl, inr, refl, sym, subst, arith, None}
 use Rattle.tftp_packet.specs.{Message, Spells, OptionValue, Client, Server, Put, In}
 use Rattle.tftp_packet.specs.Hosts.{Datagram}
 use Rattle.law_model.specs.{EndRule, PortRule}
@@ -50,9 +50,9 @@ write_view = (
   refl,
 )
 
-write_fits : Fits two_bytes_written two_bytes_written.file
+write_fits : Fits None two_bytes_written two_bytes_written.file
 write_fits = record {
-  may_agree = nothing_may_be_agreed_by (request_of two_bytes_written);
+  may_agree = nothing_may_be_agreed_by None (request_of two_bytes_written);
   reads = refl;
   size = λ mode size e. absurd (none_there (codes "tsize") (OptionValue.Num size) e);
   numbered = omega (arith, written_one_block);

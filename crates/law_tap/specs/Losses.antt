@@ -1,8 +1,9 @@
 -- What is lawful at an end where the recorder may have missed datagrams: what is left of a lawful list once some of it is left
 -- out. Histories and notes have the newest first, datagrams the oldest.
-use Rattle.std.specs.Prelude.{◌≡◌, ℕ, ◌+◌, ◌<◌, List, [], ◌∷◌, length, take}
+use Rattle.std.specs.Prelude.{◌≡◌, ℕ, ◌+◌, ◌<◌, List, [], ◌∷◌, Option, length, take}
 use Rattle.tftp_packet.specs.{Dir, End, Spells}
 use Rattle.tftp_packet.specs.Hosts.{Datagram, Header}
+use Rattle.tftp_packet.specs.{Rollover}
 use Rattle.law_model.specs.Model.{Meaning, Deed, History, IsView, message_of}
 use Rattle.law_end.specs.{Fits, IsLawful, dir_of, packet_of}
 
@@ -30,8 +31,8 @@ AreNoted m wire (d ∷ h) (n ∷ noted) = (n.dir ≡ dir_of d) × Spells n.paylo
 AreNoted m wire _ _ = ⊥
 
 -- Some run of this meaning, over this wire, has these payloads at the end, and perhaps more.
-pub record IsNotedOf (m : Meaning) (wire : List ℕ) (e : End) (noted : List Noted) : Type 0 where
-  pub fits : Fits m wire
+pub record IsNotedOf (rollover : Option Rollover) (m : Meaning) (wire : List ℕ) (e : End) (noted : List Noted) : Type 0 where
+  pub fits : Fits rollover m wire
   pub seen : History
   pub run : IsSeenOf m wire e seen
   pub spelled : AreNoted m wire seen noted

@@ -5,6 +5,7 @@ use Rattle.std.specs.FinMap as map
 use Rattle.std.specs.List.{AllByRecursion}
 use Rattle.tftp_packet.specs.{OptionMap, Num, no_options, Message, RequestParts, Spells, FirstFault, Get, Octet, End, Client}
 use Rattle.tftp_packet.specs.Hosts.{same_peer}
+use Rattle.tftp_packet.specs.Rounds.{greatest_of}
 use Rattle.tftp_nego.specs.{MayAgree, AgreementBroken, Holds, NegoFault, option_or}
 use Rattle.law_model.specs.{EndRule, PortRule}
 use Rattle.law_end.specs.{IsWrongKind, Rule}
@@ -67,12 +68,12 @@ IsBlockLength b total k long = ((k ≤ total / b) × (long ≡ b)) ⊎ ((k ≡ t
 -- no OACK, and no ACK 0 of a read; what an OACK agrees to it can spell. The size that was agreed is that of a file in octet
 -- mode (RFC 1350, sections 4 to 6; RFC 2347; RFC 2348; RFC 2349).
 pub record Explains (s : TapSides) (asked : RequestParts) (tapped : List TapDatagram) (agreed : OptionMap) (total : ℕ) : Type 0 where
-  pub may : MayAgree asked agreed
+  pub may : MayAgree s.rollover asked agreed
   pub spelled : agreed ≢ no_options → (payload : List ℕ) × Spells payload (Message.Oack agreed)
   pub given : (e : End) (options : OptionMap) → IsSaid s tapped e (Message.Oack options) → (options ≡ agreed) × (agreed ≢ no_options)
   pub zero : asked.side ≡ Get → (e : End) → IsSaid s tapped e (Message.Ack 0) → agreed ≢ no_options
   pub size : asked.mode ≡ Octet → (size : ℕ) → map.get agreed (codes "tsize") ≡ Some (Num size) → total ≡ size
-  pub numbered : total / block_size agreed + 1 ≤ 65535
+  pub numbered : total / block_size agreed + 1 ≤ greatest_of s.rollover
   pub numbers : (k : ℕ) → IsNumber s tapped k → k ≤ total / block_size agreed + 1
   pub blocks : (e : End) (k : ℕ) (bytes : List ℕ) → IsSaid s tapped e (Message.Data k bytes) → IsBlockLength (block_size agreed) total k (length bytes)
 
@@ -82,7 +83,7 @@ NothingExplains s asked tapped = (agreed : OptionMap) (total : ℕ) → Explains
 
 -- the options of an OACK may be agreed to, and no OACK was seen before
 pub record IsFirstOffer (s : TapSides) (earlier : List TapDatagram) (asked : RequestParts) (e : End) (options : OptionMap) : Type 0 where
-  pub may : MayAgree asked options
+  pub may : MayAgree s.rollover asked options
   pub some : options ≢ no_options
   pub first : (other : OptionMap) → IsSaid s earlier e (Message.Oack other) → ⊥
 
@@ -104,10 +105,11 @@ LossyBreaks s earlier d asked e (Message.Oack options) rule.OackChanged =
     (first : OptionMap) × IsSaid s earlier e (Message.Oack first) × (options ≢ first)
 -- the first OACK that was seen, where what was said before does not fit it (RFC 2347)
 LossyBreaks s earlier d asked e (Message.Oack options) rule.ReplyChanged = IsFirstOffer s earlier asked e options × NothingExplains s asked (d ∷ earlier)
--- blocks are numbered from 1, by two bytes (RFC 1350, section 5)
-LossyBreaks s earlier d asked e (Message.Oack options) (rule.Block EndRule.BeyondBlock65535) = Holds NegoFault.BeyondBlock65535 asked options
+-- blocks are numbered from 1 up to the greatest, which is 65535 by two bytes (RFC 1350, section 5)
+LossyBreaks s earlier d asked e (Message.Oack options) (rule.Block EndRule.BeyondBlock65535) = Holds s.rollover NegoFault.BeyondBlock65535 asked options
 LossyBreaks s earlier d asked e (Message.Data k bytes) (rule.Block EndRule.BeyondBlock65535) =
-    (65535 < k) ⊎ ((k ≡ 65535) × ((agreed : OptionMap) (total : ℕ) → Explains s asked earlier agreed total → block_size agreed ≤ length bytes))
+    (greatest_of s.rollover < k)
+    ⊎ ((k ≡ greatest_of s.rollover) × ((agreed : OptionMap) (total : ℕ) → Explains s asked earlier agreed total → block_size agreed ≤ length bytes))
 LossyBreaks s earlier d asked e (Message.Data k bytes) (rule.Block EndRule.BlockZero) = k ≡ 0
 -- a block that no block size fits, nor the other blocks and ACKs (RFC 1350, section 6; RFC 2348)
 LossyBreaks s earlier d asked e (Message.Data k bytes) (rule.Block EndRule.BlockLength) = NothingExplains s asked (d ∷ earlier)

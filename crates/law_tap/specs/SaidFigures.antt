@@ -1,14 +1,17 @@
--- What was said of the numbers of blocks and ACKs, in four figures, and which block sizes fit them. Whether one transfer explains
+-- What was said of the numbers of blocks and ACKs, in four figures beside the greatest block, and which block sizes fit them. Whether one transfer explains
 -- all that was said is decided by these, by the request and by the OACK.
 use Rattle.std.specs.Prelude.{◌≡◌, ◌≢◌, ◌⊎◌, ◌↔◌, ℕ, ◌+◌, ◌/◌, ◌<◌, ◌≤◌, ◌==◌, if◌then◌else◌, Bool, true, List, length, Option, Some, None, codes}
 use Rattle.std.specs.FinMap as map
 use Rattle.tftp_packet.specs.{OptionMap, Num, no_options, RequestParts, Message, Side, Get, End, Client, Mode, Octet}
+use Rattle.tftp_packet.specs.{Rollover}
+use Rattle.tftp_packet.specs.Rounds.{greatest_of}
 use Rattle.tftp_nego.specs.{MayAgree}
 use Rattle.law_end.specs.{size_from}
 use Rattle.law_tap.specs.TapCapture.{TapDatagram, TapSides}
 use Rattle.law_tap.specs.LossyRules.{IsSaid, IsNumber, IsBlockLength, Explains, block_size}
 
 pub record Figures : Type 0 where
+  pub greatest : ℕ  -- the greatest block, 65535 by two bytes (RFC 1350, section 5)
   pub reach : ℕ  -- the highest number of a block or an ACK, or 0
   pub zero : Bool  -- whether an ACK 0 was said
   pub below : Option ℕ  -- how many bytes the blocks below the highest number have, where some were seen
@@ -23,6 +26,7 @@ HaveLength s tapped Which (Some long) =
 
 -- the figures are those of all that was said
 pub record AreFigures (f : Figures) (s : TapSides) (tapped : List TapDatagram) : Type 0 where
+  pub greatest : f.greatest ≡ greatest_of s.rollover
   pub highest : (k : ℕ) → IsNumber s tapped k → k ≤ f.reach
   pub reached : (f.reach ≡ 0) ⊎ IsNumber s tapped f.reach
   pub zero : (f.zero ≡ true) ↔ ((e : End) × IsSaid s tapped e (Message.Ack 0))
@@ -37,15 +41,15 @@ join_lengths (Some long) (Some other) = if long == other then Some (Some long) e
 
 -- ---- block sizes
 
--- Blocks of b bytes fit: what is below the highest number is whole, and block 65535 is the last one (RFC 1350, sections 5 and 6).
+-- Blocks of b bytes fit: what is below the highest number is whole, and the greatest block is the last one (RFC 1350, sections 5 and 6).
 pub record FitsSize (b : ℕ) (f : Figures) : Type 0 where
-  pub numbered : f.reach ≤ 65535
+  pub numbered : f.reach ≤ f.greatest
   pub below : (long : ℕ) → f.below ≡ Some long → long ≡ b
-  pub tail : (long : ℕ) → f.tail ≡ Some long → (long < b) ⊎ ((long ≡ b) × (f.reach < 65535))
+  pub tail : (long : ℕ) → f.tail ≡ Some long → (long < b) ⊎ ((long ≡ b) × (f.reach < f.greatest))
 
 -- and so they do where there are so many bytes (RFC 2349)
 pub record FitsTotal (b total : ℕ) (f : Figures) : Type 0 where
-  pub numbered : total / b + 1 ≤ 65535
+  pub numbered : total / b + 1 ≤ f.greatest
   pub reach : f.reach ≤ total / b + 1
   pub below : (long : ℕ) → f.below ≡ Some long → long ≡ b
   pub tail : (long : ℕ) → f.tail ≡ Some long → IsBlockLength b total f.reach long
@@ -83,8 +87,8 @@ FitsSaid asked None f = FitsUnseen asked f
 FitsSaid asked (Some agreed) f = FitsAgreed asked agreed f
 
 -- the options of an OACK may be agreed to, and are some (RFC 2347)
-pub record IsFair (asked : RequestParts) (agreed : OptionMap) : Type 0 where
-  pub may : MayAgree asked agreed
+pub record IsFair (rollover : Option Rollover) (asked : RequestParts) (agreed : OptionMap) : Type 0 where
+  pub may : MayAgree rollover asked agreed
   pub some : agreed ≢ no_options
 
 -- the OACK that was seen, or none was

@@ -1,6 +1,7 @@
 -- What was recorded at a tap: which end each payload came from, as the ports and hosts say it. Lists have the newest first.
 use Rattle.std.specs.Prelude.{◌≡◌, ℕ, List, [], ◌∷◌, filter_map, Option, Some, None}
 use Rattle.tftp_packet.specs.{Spells, End}
+use Rattle.tftp_packet.specs.{Rollover}
 use Rattle.law_model.specs.Model.{Meaning, message_of}
 use Rattle.law_end.specs.{Fits, Label, Main, Stray, Labelled, Division}
 use Rattle.law_end.specs.Dress.{StrayAnswer}
@@ -17,15 +18,15 @@ AreCarried m wire (x ∷ passed) (t ∷ tapped) = (t.from ≡ x.from) × Spells 
 AreCarried m wire _ _ = ⊥
 
 -- Some run of the meaning, over this wire, passes a tap so.
-pub record IsSeenAtTap (m : Meaning) (wire : List ℕ) (tapped : List Tapped) : Type 0 where
-  pub fits : Fits m wire
+pub record IsSeenAtTap (rollover : Option Rollover) (m : Meaning) (wire : List ℕ) (tapped : List Tapped) : Type 0 where
+  pub fits : Fits rollover m wire
   pub passed : List Pass
   pub view : IsTapView m wire passed
   pub carried : AreCarried m wire passed tapped
 
 -- and the last ACK has passed
-pub record ShowsAtTap (m : Meaning) (wire : List ℕ) (tapped : List Tapped) : Type 0 where
-  pub seen : IsSeenAtTap m wire tapped
+pub record ShowsAtTap (rollover : Option Rollover) (m : Meaning) (wire : List ℕ) (tapped : List Tapped) : Type 0 where
+  pub seen : IsSeenAtTap rollover m wire tapped
   pub whole : IsWholeAtTap m wire seen.passed
 
 -- the main datagrams of a capture at an end, as a tap beside that end would have them

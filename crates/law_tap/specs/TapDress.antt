@@ -80,7 +80,7 @@ pub record IsTapDressed (s : TapSides) (m : Meaning) (wire : List ℕ) (passed :
 
 -- Some run of the meaning, over this wire, passes a tap between its two ends so.
 pub record IsSeenBetween (s : TapSides) (m : Meaning) (wire : List ℕ) (tapped : List TapDatagram) : Type 0 where
-  pub fits : Fits m wire
+  pub fits : Fits s.rollover m wire
   pub passed : List Pass
   pub view : IsTapView m wire passed
   pub dressed : IsTapDressed s m wire passed tapped

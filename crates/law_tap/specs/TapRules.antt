@@ -23,7 +23,7 @@ recorded_at s e d =
 
 -- the end that gets the file, as a place where a capture is taken
 abbrev pub header_at : TapSides → Side → Header
-header_at s side = record { named = receiver_of side; service = s.asked.port }
+header_at s side = record { named = receiver_of side; service = s.asked.port; rollover = s.rollover }
 
 -- what that end would have recorded of what is kept
 abbrev pub kept_between : TapSides → Side → List TapDatagram → List Datagram

@@ -1,6 +1,6 @@
 -- Small recordings that miss datagrams. Datagrams at an end have the oldest first, what an end did and what passed between the
 -- ends the newest.
-use Rattle.std.specs.Prelude.{false, List, [], ◌∷◌, Some, codes}
+use Rattle.std.specs.Prelude.{false, List, [], ◌∷◌, Some, codes, None}
 use Rattle.std.specs.FinMap as map
 use Rattle.tftp_packet.specs.{Num, RequestParts, Get, Octet, Client, Server, In, Out}
 use Rattle.tftp_packet.specs.Hosts.{Datagram, Header}
@@ -14,7 +14,7 @@ use Rattle.law_tap.specs.SaidFigures.{Figures}
 -- ---- a read of two bytes, at the client
 
 abbrev pub at_client : Header
-at_client = record { named = Client; service = 69 }
+at_client = record { named = Client; service = 69; rollover = None }
 
 -- RRQ "a" in mode "octet"
 abbrev pub request_out : Datagram
@@ -38,7 +38,7 @@ read_without_block = request_out ∷ ack_out ∷ []
 -- ---- and at the server
 
 abbrev pub at_server : Header
-at_server = record { named = Server; service = 69 }
+at_server = record { named = Server; service = 69; rollover = None }
 
 abbrev pub request_in : Datagram
 request_in = record { dir = In; local = 69; host = codes "10.0.0.2"; remote = 40000; payload = request_passes.payload }
@@ -149,4 +149,4 @@ oack_of_nothing = record { from = Server; packet = Oack } ∷ []
 
 -- blocks 1 and 2 of 8 and 3 bytes
 abbrev pub two_blocks : Figures
-two_blocks = record { reach = 2; zero = false; below = Some 8; tail = Some 3 }
+two_blocks = record { greatest = 65535; reach = 2; zero = false; below = Some 8; tail = Some 3 }

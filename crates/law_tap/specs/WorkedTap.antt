@@ -1,5 +1,5 @@
 -- Small transfers, as they pass a point between their ends. Lists have the newest first.
-use Rattle.std.specs.Prelude.{List, [], ◌∷◌, codes}
+use Rattle.std.specs.Prelude.{List, [], ◌∷◌, codes, None}
 use Rattle.tftp_packet.specs.{Client, Server}
 use Rattle.law_model.specs.Model.{Req, Oack, Data, Ack}
 use Rattle.law_tap.specs.Tap.{Pass}
@@ -20,7 +20,7 @@ abbrev pub other_side : PeerId
 other_side = record { host = codes "10.0.0.1"; port = 42000 }
 
 abbrev pub worked_sides : TapSides
-worked_sides = record { client = client_side; asked = service_side; server = server_side }
+worked_sides = record { client = client_side; asked = service_side; server = server_side; rollover = None }
 
 -- RRQ "a" in mode "octet"
 abbrev pub request_passes : TapDatagram

@@ -9,15 +9,15 @@ ghost use Rattle.law_tap.specs.SaidFigures.{AreFigures, FitsAgreed, FitsSize, Fi
 
 use std::marker::Model;
 use tftp_nego::Agreed;
+use tftp_packet::rounds::{Rollover, greatest_block};
 use tftp_packet::{Mode, Request, Side, Value};
 
-/// The greatest number that a block may have (RFC 1350, section 5).
-const GREATEST_BLOCK: u32 = 65_535;
-
-/// Four figures of the blocks and ACKs between the ends of a transfer, of which any number may be missing, in any order. They
-/// decide whether one transfer can have said all of it (RFC 1350, sections 5 and 6).
+/// The greatest block, and four figures of the blocks and ACKs between the ends of a transfer, of which any number may be
+/// missing, in any order. They decide whether one transfer can have said all of it (RFC 1350, sections 5 and 6).
 #[derive(Clone, Copy)]
 pub struct Figures {
+    /// The greatest block: 65535 (RFC 1350, section 5), and 8388607 where numbers begin again.
+    greatest: u32,
     /// The highest number of a block or an ACK, or 0.
     reach: u32,
     /// Whether an ACK 0 was said.
@@ -33,17 +33,18 @@ impl Model for Figures {
 
     ghost Value = { Figures };
 
-    ghost view = { λ f. record { reach = f.reach; zero = f.zero; below = f.below; tail = f.tail } };
+    ghost view = { λ f. record { greatest = f.greatest; reach = f.reach; zero = f.zero; below = f.below; tail = f.tail } };
 
-    ghost inverse = { λ v. record { reach = v.reach; zero = v.zero; below = v.below; tail = v.tail } };
+    ghost inverse = { λ v. record { greatest = v.greatest; reach = v.reach; zero = v.zero; below = v.below; tail = v.tail } };
 }
 
 impl Figures {
     /// Before anything was said.
-    pub fn none() -> Self
-        ensures { (s : TapSides) → AreFigures result s [] }
+    pub fn none(rollover: Option<Rollover>) -> Self
+        ensures { (s : TapSides) → rollover ≡ s.rollover → AreFigures result s [] }
     {
         Figures {
+            greatest: greatest_block(rollover),
             reach: 0,
             zero: false,
             below: None,
@@ -66,6 +67,7 @@ impl Figures {
         }
         let below = joined(self.below, self.tail)?;
         Some(Figures {
+            greatest: self.greatest,
             reach: number,
             zero: self.zero,
             below,
@@ -90,6 +92,7 @@ impl Figures {
         }
         let below = joined(self.below, self.tail)?;
         Some(Figures {
+            greatest: self.greatest,
             reach: number,
             zero: self.zero,
             below,
@@ -106,10 +109,10 @@ impl Figures {
             None => true,
         };
         let last = match self.tail {
-            Some(length) => length < size || (length == size && self.reach < GREATEST_BLOCK),
+            Some(length) => length < size || (length == size && self.reach < self.greatest),
             None => true,
         };
-        self.reach <= GREATEST_BLOCK && whole && last
+        self.reach <= self.greatest && whole && last
     }
 
     /// Whether blocks of this size fit, in a file of so many bytes (RFC 1350, sections 5 and 6; RFC 2349).
@@ -118,7 +121,7 @@ impl Figures {
         ensures { IsTrue result ↔ FitsTotal size total self.now }
     {
         let whole = total / size as u64;
-        if whole >= 65_535 || u64::from(self.reach) > whole + 1 {
+        if whole >= u64::from(self.greatest) || u64::from(self.reach) > whole + 1 {
             return false;
         }
         let below = match self.below {

@@ -1,7 +1,8 @@
 //! Laws of the definitions in `specs/`. Each is the contract of a function that does nothing.
 
-ghost use Rattle.std.specs.Prelude.{◌≡◌, ◌≤◌, ◌↔◌, ℕ, List, ◌∷◌, Contains, reverse, Some};
+ghost use Rattle.std.specs.Prelude.{◌≡◌, ◌≤◌, ◌↔◌, ℕ, List, ◌∷◌, Contains, reverse, Some, Option};
 ghost use Rattle.tftp_packet.specs.{End, Client, Server};
+ghost use Rattle.tftp_packet.specs.{Rollover};
 ghost use Rattle.tftp_packet.specs.Hosts.{Datagram, Header};
 ghost use Rattle.law_model.specs.Model.{Meaning, blksize_of, block_count, MachinePacket, History, IsView, IsComplete, IsOneSided};
 ghost use Rattle.law_model.specs.Model.Machines.{sender_of, receiver_of};
@@ -65,9 +66,9 @@ pub fn what_an_end_sees_is_tapped()
 /// that is whole there they are whole here.
 pub fn lawful_at_an_end_is_lawful_at_a_tap()
     ensures seen { (h : Header) (m : Meaning) (wire : List ℕ) (datagrams : List Datagram) (s : IsSeen h m wire datagrams)
-        → IsSeenAtTap m wire (mains_at h.named s.dressed.division) }
+        → IsSeenAtTap h.rollover m wire (mains_at h.named s.dressed.division) }
     ensures whole { (h : Header) (m : Meaning) (wire : List ℕ) (datagrams : List Datagram) (s : ShowsBy h m wire datagrams)
-        → ShowsAtTap m wire (mains_at h.named s.seen.dressed.division) }
+        → ShowsAtTap h.rollover m wire (mains_at h.named s.seen.dressed.division) }
 {}
 
 /// Where the ACK of the last block has passed, each block has; the receiver has all of them and has acknowledged the last in
@@ -86,7 +87,8 @@ pub fn whole_at_a_tap_is_complete()
 
 /// What is whole at a tap means one transfer, over one wire.
 pub fn whole_at_a_tap_has_one_meaning()
-    ensures { (m n : Meaning) (wire other : List ℕ) (tapped : List Tapped) → ShowsAtTap m wire tapped → ShowsAtTap n other tapped
+    ensures { (rollover : Option Rollover) (m n : Meaning) (wire other : List ℕ) (tapped : List Tapped)
+        → ShowsAtTap rollover m wire tapped → ShowsAtTap rollover n other tapped
         → (m ≡ n) × (wire ≡ other) }
 {}
 
@@ -101,10 +103,10 @@ pub fn the_receiver_is_a_tap_in_order()
 /// So what passed a tap, dressed as a capture at the receiver, breaks none of the rules there, if the receiver's part keeps its
 /// order; and what is whole at the tap is whole there.
 pub fn a_tap_in_order_breaks_no_rule()
-    ensures rules { (h : Header) (m : Meaning) (wire : List ℕ) (passed : List Pass) (datagrams : List Datagram) → Fits m wire
+    ensures rules { (h : Header) (m : Meaning) (wire : List ℕ) (passed : List Pass) (datagrams : List Datagram) → Fits h.rollover m wire
         → h.named ≡ receiver_of m.side → IsTapView m wire passed → KeepsOrderEach h.named (as_at h.named passed)
         → IsDressed h m wire (as_at h.named passed) datagrams → OneEnded h (reverse datagrams) }
-    ensures whole { (h : Header) (m : Meaning) (wire : List ℕ) (passed : List Pass) (datagrams : List Datagram) → Fits m wire
+    ensures whole { (h : Header) (m : Meaning) (wire : List ℕ) (passed : List Pass) (datagrams : List Datagram) → Fits h.rollover m wire
         → h.named ≡ receiver_of m.side → IsTapView m wire passed → KeepsOrderEach h.named (as_at h.named passed)
         → IsDressed h m wire (as_at h.named passed) datagrams → IsWholeAtTap m wire passed → ShowsBy h m wire datagrams }
 {}

@@ -10,6 +10,7 @@ use crate::ways::{Way, Ways};
 use std::alloc::{AllocError, Global};
 use std::marker::Model;
 use tftp_packet::hosts::Peer;
+use tftp_packet::rounds::Rollover;
 
 /// The ports of a tap: the sides of one transfer, and from where to where datagrams have gone (RFC 1350, section 4).
 #[derive(Drop)]
@@ -35,6 +36,13 @@ impl TapPorts {
             sides,
             ways: Ways::new(alloc),
         }
+    }
+
+    /// What comes after block 65535, where anything does.
+    pub fn rollover(&self) -> Option<Rollover>
+        ensures { result ≡ self.now.sides.rollover }
+    {
+        self.sides.rollover
     }
 
     /// Where a datagram belongs that goes from here to there, after those that have passed; its opcode is the first two bytes of

@@ -7,6 +7,7 @@ ghost use Rattle.law_tap.specs.TapRoutes.{asks_in, ends_in, has_gone, route_astr
 use crate::route::TapRoute;
 use std::marker::Model;
 use tftp_packet::hosts::Peer;
+use tftp_packet::rounds::Rollover;
 
 /// The sides of one transfer, as a tap is told them: who asks, where, and who goes on with it (RFC 1350, section 4).
 #[derive(Clone, Copy)]
@@ -17,6 +18,8 @@ pub struct Sides {
     pub asked: Peer,
     /// Where the server goes on.
     pub server: Peer,
+    /// What comes after block 65535, where anything does.
+    pub rollover: Option<Rollover>,
 }
 
 impl Model for Sides {
@@ -24,9 +27,9 @@ impl Model for Sides {
 
     ghost Value = { TapSides };
 
-    ghost view = { λ s. record { client = s.client; asked = s.asked; server = s.server } };
+    ghost view = { λ s. record { client = s.client; asked = s.asked; server = s.server; rollover = s.rollover } };
 
-    ghost inverse = { λ v. record { client = v.client; asked = v.asked; server = v.server } };
+    ghost inverse = { λ v. record { client = v.client; asked = v.asked; server = v.server; rollover = v.rollover } };
 }
 
 /// A datagram that passes, as far as its route goes: its two sides, the opcode of its payload, and whether anything has gone

@@ -167,6 +167,7 @@ fn write_datagrams<R: Read, W: Write + Drop>(
     let header = Header {
         named: End::Client,
         service: 69,
+        rollover: None,
     };
     let Ok(mut capture) = CaptureWriter::begin(&mut writer, &header) else {
         return Err(io::Error::from(ErrorKind::Other));

@@ -62,7 +62,7 @@ module _ (h : Header) (b : Start h) (asked : RequestParts) (oacks : Datagram) (g
   abbrev offer : Spelled
   offer = (oacks, Message.Oack given)
 
-  abbrev pub answered : (size window length : Option OptionValue) → map.get given blksize ≡ size → map.get given windowsize ≡ window → map.get given tsize ≡ length → OackFine asked given past_all
+  abbrev pub answered : (size window length : Option OptionValue) → map.get given blksize ≡ size → map.get given windowsize ≡ window → map.get given tsize ≡ length → OackFine h.rollover asked given past_all
       → asked_by (first_asked h b.es) ≡ Some (Message.Request asked) → first_answer asked.side (main_of h b.es) ≡ None → passes_by h (terms_of h b.es) b.es offer ≡ true
       → IsFixed h (offer ∷ b.es) asked (Agrees given) → Start h
   answered size window length sized windowed long fine first none test fixed = record {
@@ -83,7 +83,7 @@ module _ (h : Header) (b : Start h) (side : Side) (oacks : Datagram) where
       let asked = asks_for side options in
       let get = found blksize windowsize 8 w in
       answered h b asked oacks options agrees (Some (Num 8)) (Some (Num w)) None (get blksize) (get windowsize) (get tsize)
-      (fine past_all asked options (two_answer asked blksize windowsize 8 w 8 w refl (get blksize) (get windowsize) (inl (refl, omega arith)) may) (not_empty options blksize 8 (get blksize)) (λ _. no_size asked options (get tsize)))
+      (fine h.rollover past_all asked options (two_answer asked blksize windowsize 8 w 8 w refl (get blksize) (get windowsize) (inl (refl, omega arith)) may) (not_empty options blksize 8 (get blksize)) (λ _. no_size h.rollover asked options (get tsize)))
 
   -- to blocks of eight
   abbrev pub agreed_to_eight : Spells oacks.payload (Message.Oack eight_a_block) → asked_by (first_asked h b.es) ≡ Some (Message.Request (asks_for side eight_a_block)) → first_answer side (main_of h b.es) ≡ None
@@ -92,7 +92,7 @@ module _ (h : Header) (b : Start h) (side : Side) (oacks : Datagram) where
       let asked = asks_for side eight_a_block in
       let get = map.get-from_entries nat_list_cmp_total ((blksize, Num 8) ∷ []) in
       answered h b asked oacks eight_a_block agrees (Some (Num 8)) None None (get blksize) (get windowsize) (get tsize)
-      (fine past_all asked eight_a_block (eight_may_be_agreed asked refl).asked (not_empty eight_a_block blksize 8 eight_for_blksize) (λ _. no_size asked eight_a_block (get tsize)))
+      (fine h.rollover past_all asked eight_a_block (eight_may_be_agreed h.rollover asked refl).asked (not_empty eight_a_block blksize 8 eight_for_blksize) (λ _. no_size h.rollover asked eight_a_block (get tsize)))
 
 -- ---- in blocks of eight, in windows of four, two and 65535
 
@@ -139,12 +139,12 @@ size_asked = request_alone at_client (asks (request 1 (sized (codes "0"))), Mess
 abbrev pub size_answer : OptionMap
 size_answer = eight_and_size 10
 
-pub size_fine : OackFine (asks_for Get (eight_and_size 0)) size_answer past_all
+pub size_fine : OackFine None (asks_for Get (eight_and_size 0)) size_answer past_all
 size_fine =
     let asked : RequestParts = asks_for Get (eight_and_size 0) in
     let get = found blksize tsize 8 10 in
-    fine past_all asked size_answer (two_answer asked blksize tsize 8 0 8 10 refl (found blksize tsize 8 0 blksize) (found blksize tsize 8 0 tsize) (inl (refl, omega arith)) (inr (inr (inr (refl, λ put. absurd (cc))))))
-    (not_empty size_answer blksize 8 (get blksize)) (λ _. small_size asked size_answer 10 8 (get tsize) (ap (number_or 512) (get blksize)) (omega arith))
+    fine None past_all asked size_answer (two_answer asked blksize tsize 8 0 8 10 refl (found blksize tsize 8 0 blksize) (found blksize tsize 8 0 tsize) (inl (refl, omega arith)) (inr (inr (inr (refl, λ put. absurd (cc))))))
+    (not_empty size_answer blksize 8 (get blksize)) (λ _. small_size None asked size_answer 10 8 (get tsize) (ap (number_or 512) (get blksize)) (omega arith))
 
 abbrev pub read_of_ten : Start at_client
 read_of_ten =

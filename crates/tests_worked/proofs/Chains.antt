@@ -2,6 +2,7 @@
 use Rattle.std.proofs.Common.{◌≡◌, ℕ, ◌<◌, ◌&&◌, Bool, true, false, List, [], ◌∷◌, ◌++◌, Option, Some, None, refl, sym, subst, ap, ◌∙◌, append_assoc}
 use Rattle.std.proofs.lemmas.Bool.{and_parts, false≢true}
 use Rattle.tftp_packet.specs.{OptionMap, Message, RequestParts, Spells, Side}
+use Rattle.tftp_packet.specs.{Rollover}
 use Rattle.tftp_packet.specs.Hosts.{Header}
 use Rattle.law_model.specs.Rules.{or_this, asks, route_of, is_of_transfer, transfer_of, EndBroken}
 use Rattle.law_model.specs.{Terms, EndRule}
@@ -35,9 +36,9 @@ none_under n h t es e s here is other test =
 -- ---- the first OACK
 
 -- its faults below n
-pub record OackFine (asked : RequestParts) (oack : OptionMap) (n : ℕ) : Type 0 where
+pub record OackFine (rollover : Option Rollover) (asked : RequestParts) (oack : OptionMap) (n : ℕ) : Type 0 where
   pub agreement : (broken : AgreementRule) → agreement_number broken < n → AgreementBroken broken asked oack → ⊥
-  pub beyond : 20 < n → Holds NegoFault.BeyondBlock65535 asked oack → ⊥
+  pub beyond : 20 < n → Holds rollover NegoFault.BeyondBlock65535 asked oack → ⊥
 
 same_request : (a b : RequestParts) → Some (Message.Request a) ≡ Some (Message.Request b) → a ≡ b
 same_request a b e = cc
@@ -46,29 +47,29 @@ pub same_oack : (a b : OptionMap) → Message.Oack a ≡ Message.Oack b → a �
 same_oack a b e = cc
 
 oack_fault : (h : Header) (es : List Spelled) (e : Spelled) (s : AllSpelled es) (here : Spells e.0.payload e.1) (asked : RequestParts) (oack : OptionMap)
-    → asked_by (first_asked h es) ≡ Some (Message.Request asked) → e.1 ≡ Message.Oack oack → (fault : NegoFault) → FirstOack h es e s here fault → Holds fault asked oack
+    → asked_by (first_asked h es) ≡ Some (Message.Request asked) → e.1 ≡ Message.Oack oack → (fault : NegoFault) → FirstOack h es e s here fault → Holds h.rollover fault asked oack
 oack_fault h es e s here asked oack is says fault first =
     let request : first.asked ≡ asked = same_request first.asked asked (sym (asked_is h es first.asked s first.first) ∙ is) in
     let options : first.oack ≡ oack = same_oack first.oack oack (sym first.says ∙ says) in
-    subst (λ r. Holds fault r oack) request (subst (λ o. Holds fault first.asked o) options first.wrong)
+    subst (λ r. Holds h.rollover fault r oack) request (subst (λ o. Holds h.rollover fault first.asked o) options first.wrong)
 
-no_fault_below : (asked : RequestParts) (oack : OptionMap) (n : ℕ) → OackFine asked oack n → (fault : NegoFault) → number fault < n → Holds fault asked oack → ⊥
-no_fault_below asked oack n fine (NegoFault.Broken broken) low holds = fine.agreement broken low holds
-no_fault_below asked oack n fine NegoFault.BeyondBlock65535 low holds = fine.beyond low holds
-no_fault_below asked oack n fine NegoFault.Memory low holds = holds
+no_fault_below : (rollover : Option Rollover) (asked : RequestParts) (oack : OptionMap) (n : ℕ) → OackFine rollover asked oack n → (fault : NegoFault) → number fault < n → Holds rollover fault asked oack → ⊥
+no_fault_below rollover asked oack n fine (NegoFault.Broken broken) low holds = fine.agreement broken low holds
+no_fault_below rollover asked oack n fine NegoFault.BeyondBlock65535 low holds = fine.beyond low holds
+no_fault_below rollover asked oack n fine NegoFault.Memory low holds = holds
 
 pub first_oack_keeps : (h : Header) (es : List Spelled) (e : Spelled) (s : AllSpelled es) (here : Spells e.0.payload e.1) (t : Option Terms)
     (known : (u : Terms) → AreTerms h (datagrams es) u → t ≡ Some u) (n : ℕ) (asked : RequestParts) (oack : OptionMap)
-    → asked_by (first_asked h es) ≡ Some (Message.Request asked) → first_answer asked.side (main_of h es) ≡ None → e.1 ≡ Message.Oack oack → OackFine asked oack n
+    → asked_by (first_asked h es) ≡ Some (Message.Request asked) → first_answer asked.side (main_of h es) ≡ None → e.1 ≡ Message.Oack oack → OackFine h.rollover asked oack n
     → OackKeeps h es e s here t known n
 first_oack_keeps h es e s here t known n asked oack is none says fine = record {
-  first = λ fault low first. no_fault_below asked oack n fine fault low (oack_fault h es e s here asked oack is says fault first);
+  first = λ fault low first. no_fault_below h.rollover asked oack n fine fault low (oack_fault h es e s here asked oack is says fault first);
   changed = λ low. not_answered h es e s here asked is none;
 }
 
 -- the first OACK passes, where its options are fine
 pub first_oack : (h : Header) (t : Option Terms) (es : List Spelled) (e : Spelled) (asked : RequestParts) (oack : OptionMap) → AllSpelled es → Spells e.0.payload e.1 → t ≡ terms_of h es
-    → asked_by (first_asked h es) ≡ Some (Message.Request asked) → first_answer asked.side (main_of h es) ≡ None → e.1 ≡ Message.Oack oack → OackFine asked oack past_all
+    → asked_by (first_asked h es) ≡ Some (Message.Request asked) → first_answer asked.side (main_of h es) ≡ None → e.1 ≡ Message.Oack oack → OackFine h.rollover asked oack past_all
     → passes_by h t es e ≡ true → OneEnded h (datagrams es) → OneEnded h (datagrams (e ∷ es))
 first_oack h t es e asked oack s here is request none says fine test before =
     let known = known_by h es s t is in

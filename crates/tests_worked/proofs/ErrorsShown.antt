@@ -1,5 +1,5 @@
 -- Captures in which an ERROR is sent: the runs that they show, and those that no run has.
-use Rattle.std.proofs.Common.{◌≡◌, ◌⊎◌, ℕ, ◌+◌, ◌≤◌, nat_le, Bool, true, List, [], ◌∷◌, ◌++◌, Any, codes, inl, inr, refl, sym, subst, ap, ◌∙◌, arith}
+use Rattle.std.proofs.Common.{◌≡◌, ◌⊎◌, ℕ, ◌+◌, ◌≤◌, nat_le, Bool, true, List, [], ◌∷◌, ◌++◌, Any, codes, inl, inr, refl, sym, subst, ap, ◌∙◌, arith, None}
 use Rattle.std.proofs.lemmas.Bool.{leb-true}
 use Rattle.tftp_packet.specs.{Message, Get, Client}
 use Rattle.tftp_packet.specs.Hosts.{Datagram}
@@ -34,7 +34,7 @@ refuses = Error 1 (codes "File not found")
 
 -- what a view of the two bytes, dressed as these datagrams, shows
 two_lawful : (view : History) (ds : List Datagram) → IsView two_bytes two_bytes.file Client view → IsDressed at_client two_bytes two_bytes.file view ds → IsLawful at_client ds
-two_lawful view ds run dressed = (two_bytes, two_bytes.file, record { fits = two_bytes_fit; view = view; run = run; dressed = dressed })
+two_lawful view ds run dressed = (two_bytes, two_bytes.file, record { fits = two_bytes_fit None; view = view; run = run; dressed = dressed })
 
 pub refused_lawful : IsLawful at_client read_refused
 refused_lawful = two_lawful read_refused_view read_refused read_refused_is_view (read_dressed (not_found ∷ []) read_refused_view read_refused refl refl refl)

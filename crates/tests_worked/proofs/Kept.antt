@@ -212,12 +212,12 @@ module _ (h : Header) (es : List Spelled) (e : Spelled) (s : AllSpelled es) (her
   block_kept u k bytes EndRule.NotStarted t b = started used used_spelled u.side u.reply t (subst (BlocksWait u.side u.reply) (sym used_are) b)
   block_kept u k bytes EndRule.BlockZero t b = differs k 0 t b
   block_kept u k bytes EndRule.BeyondBlock65535 t b =
-      let parts = and_parts (nat_le k 65535) (not (k == 65535) || nat_lt (length bytes) u.blksize) t in
-      let few = leb-true k 65535 parts.0 in
+      let parts = and_parts (nat_le k u.greatest) (not (k == u.greatest) || nat_lt (length bytes) u.blksize) t in
+      let few = leb-true k u.greatest parts.0 in
       elim b [
         | inl above ↦ omega (arith, above, few)
-        | inr last ↦ elim (or_cases (not (k == 65535)) (nat_lt (length bytes) u.blksize) parts.1) [
-          | inl other ↦ differs k 65535 other last.0
+        | inr last ↦ elim (or_cases (not (k == u.greatest)) (nat_lt (length bytes) u.blksize) parts.1) [
+          | inl other ↦ differs k u.greatest other last.0
           | inr short ↦ let less = ltb-true (length bytes) u.blksize short in let most = last.1 in omega (arith, less, most)
         ]
       ]
@@ -328,7 +328,7 @@ module _ (h : Header) (es : List Spelled) (e : Spelled) (s : AllSpelled es) (her
     pub oack : OptionMap
     pub says : e.1 ≡ Message.Oack oack
     pub unanswered : NotAnswered asked.side passed
-    pub wrong : Holds fault asked oack
+    pub wrong : Holds h.rollover fault asked oack
 
   pub record OtherOack : Type 0 where
     pub asked : RequestParts
@@ -400,7 +400,7 @@ module _ (h : Header) (es : List Spelled) (e : Spelled) (s : AllSpelled es) (her
           of_end m says r below (f, is, u, after, broken) =
               end_kept f b.says.routed (ends f (subst (λ x. IsEarly n (number_of x)) is below)) u (b.asked, b.first, after) (subst (λ x. EndBroken u passed x f) (sym says) broken)
 
-          of_first : (oack : OptionMap) → e.1 ≡ Message.Oack oack → (fault : NegoFault) → number fault ≤ rule_count → IsEarly n (number fault) → NotAnswered b.asked.side passed × Holds fault b.asked oack → ⊥
+          of_first : (oack : OptionMap) → e.1 ≡ Message.Oack oack → (fault : NegoFault) → number fault ≤ rule_count → IsEarly n (number fault) → NotAnswered b.asked.side passed × Holds h.rollover fault b.asked oack → ⊥
           of_first oack says fault few below is = o.first fault (early n (number fault) few below) (record { asked = b.asked; first = b.first; oack = oack; says = says; unanswered = is.0; wrong = is.1 })
 
           of_kind : (m : Message) → e.1 ≡ m → (r : Rule) → IsEarly n (number_of r) → KindBreaks h b.asked passed e.0.dir m r → ⊥

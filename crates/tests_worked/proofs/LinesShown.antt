@@ -1,5 +1,5 @@
 -- The worked reads in netascii are shown.
-use Rattle.std.proofs.Common.{◌≡◌, ◌≢◌, ℕ, ◌++◌, true, not, ◌==◌, List, [], ◌∷◌, codes, refl, subst, ap, ◌∙◌, arith}
+use Rattle.std.proofs.Common.{◌≡◌, ◌≢◌, ℕ, ◌++◌, true, not, ◌==◌, List, [], ◌∷◌, codes, refl, subst, ap, ◌∙◌, arith, None}
 use Rattle.std.proofs.lemmas.Bool.{true≢false, false≢true}
 use Rattle.std.proofs.lemmas.List.Elements.{All-from_recursion}
 use Rattle.tftp_packet.specs.{Message, Spells, Get, Netascii, Client}
@@ -33,9 +33,9 @@ module _ (wire : List ℕ) (reads : Reads wire line_end_cut.file) (two : block_c
     blocks = ap (λ b. block_count b wire) blocks_of_eight ∙ two;
   }
 
-  fit : Fits line_end_cut wire
+  fit : Fits None line_end_cut wire
   fit = record {
-    may_agree = eight_may_be_agreed (request_of line_end_cut) refl;
+    may_agree = eight_may_be_agreed None (request_of line_end_cut) refl;
     reads = reads;
     size = λ mode size e. absurd (cc);
     numbered = omega (arith, ap (λ b. block_count b wire) blocks_of_eight, two);

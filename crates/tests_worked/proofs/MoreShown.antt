@@ -1,5 +1,5 @@
 -- A write, and a read with an agreed block size, as the worked captures have them.
-use Rattle.std.proofs.Common.{List, [], ◌∷◌, codes, refl, arith}
+use Rattle.std.proofs.Common.{List, [], ◌∷◌, codes, refl, arith, None}
 use Rattle.tftp_packet.specs.{Message, Server, OptionValue}
 use Rattle.law_model.specs.Model.{request_of, Sent, Took, Req, Data, Ack, History, two_bytes_written, two_bytes_written_view, two_bytes_written_steps, ten_bytes, ten_bytes_view}
 use Rattle.law_model.proofs.ModelLemmas.Defaults.{default_blksize}
@@ -18,9 +18,9 @@ use Rattle.tests_worked.proofs.Options.{eight_may_be_agreed, no_size_of_one}
 
 -- ---- a write
 
-written_fit : Fits two_bytes_written two_bytes_written.file
+written_fit : Fits None two_bytes_written two_bytes_written.file
 written_fit = record {
-  may_agree = nothing_may_be_agreed_by (request_of two_bytes_written);
+  may_agree = nothing_may_be_agreed_by None (request_of two_bytes_written);
   reads = refl;
   size = λ mode size e. absurd (none_there (codes "tsize") (OptionValue.Num size) e);
   numbered = omega (arith, written_one_block);
@@ -50,9 +50,9 @@ write_at_server_is_shown =
 
 -- ---- a read in blocks of eight
 
-pub eights_fit : Fits ten_bytes ten_bytes.file
+pub eights_fit : Fits None ten_bytes ten_bytes.file
 eights_fit = record {
-  may_agree = eight_may_be_agreed (request_of ten_bytes) refl;
+  may_agree = eight_may_be_agreed None (request_of ten_bytes) refl;
   reads = refl;
   size = λ mode size e. absurd (no_size_of_one size e);
   numbered = omega (arith, two_blocks);

@@ -80,9 +80,9 @@ module _ (dq dr : Datagram) (r : RequestParts) (options : OptionMap) (asks_it : 
   t = Some (plain_terms at_client Get NoReply)
 
   -- it breaks a rule by a fault of its options, and none before it
-  pub offer_refused : (rule : Rule) (fault : NegoFault) → (NotAnswered r.side (transfer_of at_client (dq ∷ [])) × Holds fault r options → OackBreaks r (transfer_of at_client (dq ∷ [])) dr.dir options rule) → OneEnded at_client (dq ∷ []) → t ≡ terms_of at_client es
+  pub offer_refused : (rule : Rule) (fault : NegoFault) → (NotAnswered r.side (transfer_of at_client (dq ∷ [])) × Holds None fault r options → OackBreaks None r (transfer_of at_client (dq ∷ [])) dr.dir options rule) → OneEnded at_client (dq ∷ []) → t ≡ terms_of at_client es
       → asked_by (first_asked at_client es) ≡ Some (Message.Request r) → first_asked at_client es ≡ Some (dq, Message.Request r) → first_answer r.side (main_of at_client es) ≡ None
-      → is_of_transfer (route_of at_client (dq ∷ []) dr) ≡ true → keeps_below (number_of rule) at_client t es e ≡ true → Holds fault r options → OackFine r options (number_of rule)
+      → is_of_transfer (route_of at_client (dq ∷ []) dr) ≡ true → keeps_below (number_of rule) at_client t es e ≡ true → Holds None fault r options → OackFine None r options (number_of rule)
       → IsRefused at_client (dq ∷ []) dr rule
   offer_refused rule fault breaks lawful known asked_is first none routed keeps wrong fine = record {
     lawful = lawful;
@@ -157,7 +157,7 @@ module _ (name : List ℕ) (a b : OptionValue) (r : RequestParts) (has : map.get
 
   -- the rules before that of the value, of a name that is not "multicast"
   pub offer_fine : (n : ℕ) → n ≤ 15 → map.get (single name b) name ≡ Some b → map.get (single name b) (codes "multicast") ≡ None
-      → (14 < n → AgreementBroken AgreementRule.OptionOutsideProfile r (single name b) → ⊥) → OackFine r (single name b) n
+      → (14 < n → AgreementBroken AgreementRule.OptionOutsideProfile r (single name b) → ⊥) → OackFine None r (single name b) n
   offer_fine n few there none inside = record {
     agreement = kept;
     beyond = λ low. absurd (omega arith);

@@ -4,6 +4,9 @@ use Rattle.std.specs.FinMap as map
 use Rattle.std.specs.Ordering.{nat_cmp, eq_by_cmp}
 use Rattle.std.specs.Cmp.Lexicographic.{slice_cmp, nat_list_cmp_total}
 use Rattle.tftp_packet.specs.{OptionMap, OptionValue, Num, no_options, RequestParts}
+use Rattle.tftp_packet.proofs.RoundsLemmas.Greatest.{two_bytes_within}
+use Rattle.tftp_packet.specs.Rounds.{greatest_of}
+use Rattle.tftp_packet.specs.{Rollover}
 use Rattle.tftp_packet.specs.Hosts.{Header}
 use Rattle.law_model.specs.Model.{number_or, option_or, eight_a_block, eight_by_four}
 use Rattle.law_model.proofs.ModelLemmas.Worked.{eight_for_blksize}
@@ -38,8 +41,8 @@ two_answer r one other a b c d is first second may also name value e = elim (onl
 pub not_empty : (options : OptionMap) (name : List ℕ) (a : ℕ) → map.get options name ≡ Some (Num a) → options ≢ no_options
 not_empty options name a = has_some options name (Num a)
 
-pub fine : (n : ℕ) (asked : RequestParts) (oack : OptionMap) → AllAsked asked oack → oack ≢ no_options → (20 < n → Holds NegoFault.BeyondBlock65535 asked oack → ⊥) → OackFine asked oack n
-fine n asked oack all there few = record {
+pub fine : (rollover : Option Rollover) (n : ℕ) (asked : RequestParts) (oack : OptionMap) → AllAsked asked oack → oack ≢ no_options → (20 < n → Holds rollover NegoFault.BeyondBlock65535 asked oack → ⊥) → OackFine rollover asked oack n
+fine rollover n asked oack all there few = record {
   agreement = λ broken low. agreement_kept asked oack there all broken;
   beyond = few;
 }
@@ -51,6 +54,7 @@ terms h asked size window length = record {
   reply = Oacked;
   blksize = number_or 512 size;
   windowsize = number_or 1 window;
+  greatest = greatest_of h.rollover;
   size = size_from asked.mode length;
 }
 
@@ -63,16 +67,17 @@ pub found : (one other : List ℕ) (a b : ℕ) (name : List ℕ) → map.get (tw
 found one other a b name = map.get-from_entries nat_list_cmp_total ((one, Num a) ∷ (other, Num b) ∷ []) name
 
 -- without a size no size is too great
-pub no_size : (asked : RequestParts) (options : OptionMap) → map.get options (codes "tsize") ≡ None → Holds NegoFault.BeyondBlock65535 asked options → ⊥
-no_size asked options none (size, octet, get, many) = let both : None ≡ Some (Num size) = sym none ∙ get in absurd (cc)
+pub no_size : (rollover : Option Rollover) (asked : RequestParts) (options : OptionMap) → map.get options (codes "tsize") ≡ None → Holds rollover NegoFault.BeyondBlock65535 asked options → ⊥
+no_size rollover asked options none (size, octet, get, many) = let both : None ≡ Some (Num size) = sym none ∙ get in absurd (cc)
 
 -- nor is a small one
-pub small_size : (asked : RequestParts) (options : OptionMap) (size b : ℕ) → map.get options (codes "tsize") ≡ Some (Num size) → option_or 512 options (codes "blksize") ≡ b → size / b + 1 ≤ 65535
-    → Holds NegoFault.BeyondBlock65535 asked options → ⊥
-small_size asked options size b is blksize few (other, octet, get, many) =
+pub small_size : (rollover : Option Rollover) (asked : RequestParts) (options : OptionMap) (size b : ℕ) → map.get options (codes "tsize") ≡ Some (Num size) → option_or 512 options (codes "blksize") ≡ b → size / b + 1 ≤ 65535
+    → Holds rollover NegoFault.BeyondBlock65535 asked options → ⊥
+small_size rollover asked options size b is blksize few (other, octet, get, many) =
     let both : Some (Num size) ≡ Some (Num other) = sym is ∙ get in
     let same : size ≡ other = cc in
-    let less : 65535 < size / b + 1 = subst (λ n. 65535 < size / n + 1) blksize (subst (λ n. 65535 < n / option_or 512 options (codes "blksize") + 1) (sym same) many) in
+    let least = two_bytes_within rollover in
+    let less : greatest_of rollover < size / b + 1 = subst (λ n. greatest_of rollover < size / n + 1) blksize (subst (λ n. greatest_of rollover < n / option_or 512 options (codes "blksize") + 1) (sym same) many) in
     omega arith
 
 -- ---- blocks of eight, alone and in a window of four
@@ -92,14 +97,14 @@ no_size_of_both size e = let none = found blksize windowsize 8 4 tsize in absurd
 pub no_size_of_one : (size : ℕ) → map.get eight_a_block tsize ≡ Some (Num size) → ⊥
 no_size_of_one size e = let none = found_single blksize (Num 8) tsize in absurd (cc)
 
-pub both_may_be_agreed : (r : RequestParts) → r.options ≡ eight_by_four → MayAgree r eight_by_four
-both_may_be_agreed r is = record {
+pub both_may_be_agreed : (rollover : Option Rollover) (r : RequestParts) → r.options ≡ eight_by_four → MayAgree rollover r eight_by_four
+both_may_be_agreed rollover r is = record {
   asked = two_answer r blksize windowsize 8 4 8 4 is (found blksize windowsize 8 4 blksize) (found blksize windowsize 8 4 windowsize) (inl (refl, omega arith)) (inr (inl (refl, omega arith)));
   size = λ mode size e. absurd (no_size_of_both size e);
 }
 
-pub eight_may_be_agreed : (r : RequestParts) → r.options ≡ eight_a_block → MayAgree r eight_a_block
-eight_may_be_agreed r is = record {
+pub eight_may_be_agreed : (rollover : Option Rollover) (r : RequestParts) → r.options ≡ eight_a_block → MayAgree rollover r eight_a_block
+eight_may_be_agreed rollover r is = record {
   asked = λ name value e.
       let size = only_single blksize (Num 8) name value e in
       (8, 8, subst (λ o. map.get o name ≡ Some (Num 8)) (sym is) (subst (λ n. map.get eight_a_block n ≡ Some (Num 8)) (sym size.0) eight_for_blksize), size.1, inl (size.0, omega arith));

@@ -1,5 +1,5 @@
 -- What the runs of the worked read have in common.
-use Rattle.std.proofs.Common.{◌≡◌, ◌≢◌, ℕ, ◌≤◌, ◌⊎◌, List, [], ◌∷◌, Contains, length, take, codes, inl, inr, sym, subst, ap, ◌∙◌, arith, length-take, take_all}
+use Rattle.std.proofs.Common.{◌≡◌, ◌≢◌, ℕ, ◌≤◌, ◌⊎◌, List, [], ◌∷◌, Contains, length, take, codes, inl, inr, sym, subst, ap, ◌∙◌, arith, length-take, take_all, None}
 use Rattle.tftp_packet.specs.{Get, Client, Server}
 use Rattle.law_model.specs.Model.{Meaning, request_of, NothingAgreed, blksize_of, block, block_count, Deed, Sent, Took, Req, Data, Ack, History, HasSent, HasTaken, IsStartedOn, Step, view_of, IsRun, IsView, two_bytes}
 use Rattle.law_model.proofs.ModelLemmas.Members.{contains_first, contains_later, contains_cases, contains_none}
@@ -40,7 +40,7 @@ wire_is_hi m wire none e = short_wire wire (subst (λ b. block b wire 1 ≡ code
 pub side_is_get : (m : Meaning) → request_of m ≡ request_of two_bytes → m.side ≡ Get
 side_is_get m e = ap (λ r. r.side) e
 
-pub file_is_wire : (m : Meaning) (wire : List ℕ) → request_of m ≡ request_of two_bytes → Fits m wire → wire ≡ m.file
+pub file_is_wire : (m : Meaning) (wire : List ℕ) → request_of m ≡ request_of two_bytes → Fits None m wire → wire ≡ m.file
 file_is_wire m wire e fits = subst (λ mode. ReadsAs mode wire m.file) (ap (λ r. r.mode) e) fits.reads
 
 pub meaning_is : (m : Meaning) → request_of m ≡ request_of two_bytes → NothingAgreed m → m.file ≡ codes "hi" → m ≡ two_bytes

@@ -1,5 +1,5 @@
 -- The worked captures: what they show, and what they cannot.
-use Rattle.std.proofs.Common.{◌≡◌, ◌≢◌, ℕ, ◌≤◌, ◌&&◌, true, List, [], ◌∷◌, ◌++◌, codes, reverse, inl, inr, refl, sym, subst, ap, ◌∙◌, arith}
+use Rattle.std.proofs.Common.{◌≡◌, ◌≢◌, ℕ, ◌≤◌, ◌&&◌, true, List, [], ◌∷◌, ◌++◌, codes, reverse, inl, inr, refl, sym, subst, ap, ◌∙◌, arith, None}
 use Rattle.tftp_packet.specs.{Message, Client, Server}
 use Rattle.tftp_packet.specs.Hosts.{Datagram, Header}
 use Rattle.law_model.specs.Model.{Meaning, NothingAgreed, blksize_of, block_count, Deed, Sent, Took, Req, Data, Ack, History, HasSent, HasTaken, Step, IsView, IsComplete, two_bytes, two_bytes_view}
@@ -37,7 +37,7 @@ dressed_begin = read_dressed (plain_hi ∷ []) without_ack read_without_its_ack 
 
 -- what a view of the two bytes shows that is dressed so
 pub two_shown : (h : Header) (view : History) (ds : List Datagram) → IsView two_bytes two_bytes.file h.named view → IsComplete two_bytes two_bytes.file h.named view → IsDressed h two_bytes two_bytes.file view ds → Shows h two_bytes ds
-two_shown h view ds run complete = shown_by h two_bytes two_bytes.file view ds two_bytes_fit (omega (arith, one_block)) run complete
+two_shown h view ds run complete = shown_by h two_bytes two_bytes.file view ds (two_bytes_fit h.rollover) (omega (arith, one_block)) run complete
 
 pub read_is_shown : Shows at_client two_bytes one_block_read
 read_is_shown = two_shown at_client two_bytes_view one_block_read two_bytes_is_view two_bytes_complete dressed_read
@@ -55,7 +55,7 @@ unfolding begin_steps
 begin_is_view = (begin_steps, two_bytes_run.1.1, refl)
 
 pub begin_is_lawful : IsLawful at_client read_without_its_ack
-begin_is_lawful = (two_bytes, two_bytes.file, record { fits = two_bytes_fit; view = without_ack; run = begin_is_view; dressed = dressed_begin })
+begin_is_lawful = (two_bytes, two_bytes.file, record { fits = two_bytes_fit None; view = without_ack; run = begin_is_view; dressed = dressed_begin })
 
 none_agreed_after : (m : Meaning) (wire : List ℕ) (view : History) (deed : Deed) → deed ≢ Sent (Ack 0) → IsView m wire Client view → Followed m wire (deed ∷ Took (Data 1) ∷ Sent Req ∷ []) view → NothingAgreed m
 none_agreed_after m wire view deed differs run f =

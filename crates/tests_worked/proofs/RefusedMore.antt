@@ -74,7 +74,7 @@ too_many : Broken at_client (datagrams size_asked.es) too_many_blocks (Rule.Bloc
 too_many =
     let here = oack_spells (sized (codes "524280")) (eight_and_size 524280) refl many_is in
     let unanswered = unanswered_there at_client Get size_asked.es size_asked.spelled refl in
-    let wrong : Holds NegoFault.BeyondBlock65535 (asks_for Get (eight_and_size 0)) (eight_and_size 524280)
+    let wrong : Holds None NegoFault.BeyondBlock65535 (asks_for Get (eight_and_size 0)) (eight_and_size 524280)
     = (524280, refl, found blksize tsize 8 524280 tsize, subst (λ b. 65535 < 524280 / b + 1) (sym (ap (number_or 512) (found blksize tsize 8 524280 blksize))) (omega arith)) in
     breaks_so at_client size_asked (too_many_blocks, Message.Oack (eight_and_size 524280)) (asks_for Get (eight_and_size 0)) (Rule.Block EndRule.BeyondBlock65535) here refl refl (inr (inr (unanswered, wrong)))
 
@@ -86,7 +86,7 @@ many_refused =
     let t = size_asked.known [] in
     let known = known_by at_client size_asked.es size_asked.spelled t refl in
     let keeps = first_oack_keeps at_client size_asked.es offer size_asked.spelled here t known 20 request (eight_and_size 524280) refl refl refl
-    (fine 20 request (eight_and_size 524280) (two_answer request blksize tsize 8 0 8 524280 refl (found blksize tsize 8 0 blksize) (found blksize tsize 8 0 tsize) (inl (refl, omega arith)) (inr (inr (inr (refl, λ put. absurd (cc))))))
+    (fine None 20 request (eight_and_size 524280) (two_answer request blksize tsize 8 0 8 524280 refl (found blksize tsize 8 0 blksize) (found blksize tsize 8 0 tsize) (inl (refl, omega arith)) (inr (inr (inr (refl, λ put. absurd (cc))))))
     (not_empty (eight_and_size 524280) blksize 8 (found blksize tsize 8 524280 blksize)) (λ low. absurd (omega arith))) in
     record { lawful = size_asked.lawful; broken = (too_many, none_below 20 at_client t size_asked.es offer size_asked.spelled here known keeps refl) }
 

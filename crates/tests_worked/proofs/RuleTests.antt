@@ -194,7 +194,7 @@ taken_up_to ts (suc j) = some (is_taken (suc j)) ts && taken_up_to ts j
 abbrev pub block_keeps : Terms → List Spelled → ℕ → List ℕ → EndRule → Bool
 block_keeps t ts k bytes EndRule.NotStarted = may_start t.side t.reply (used_of ts)
 block_keeps t ts k bytes EndRule.BlockZero = not (k == 0)
-block_keeps t ts k bytes EndRule.BeyondBlock65535 = nat_le k 65535 && (not (k == 65535) || nat_lt (length bytes) t.blksize)
+block_keeps t ts k bytes EndRule.BeyondBlock65535 = nat_le k t.greatest && (not (k == t.greatest) || nat_lt (length bytes) t.blksize)
 block_keeps t ts k bytes EndRule.BlockLength = length_fits t ts k (length bytes)
 block_keeps t ts k bytes EndRule.WindowOverrun = in_window t (used_of ts) k
 block_keeps t ts k bytes EndRule.BlockSkipped = not (is_sender t) || (nat_le k 1 || some (is_next k) ts)

@@ -48,7 +48,7 @@ said : (k : ℕ) (text : List ℕ) → AllByRecursion (λ b. b < 256) (block k (
     → IsCapture text worked_header (numbered 4 (read_of k))
 said k text bytes is short =
     subst (λ t. IsCapture t worked_header (numbered 4 (read_of k))) is
-    (canonical_is_read worked_header (read_of k) (lit≤ tt, lit≤ tt)
+    (canonical_is_read worked_header (read_of k) (lit≤ tt, lit≤ tt) refl
     (three IsLawful k (lawful Out 69 asks.payload (lit≤ tt, lit≤ tt) request_spelled.0 (lit≤ tt)) (lawful In 41000 (block k (codes "hi")) (lit≤ tt, lit≤ tt) bytes (lit≤ tt)) (lawful Out 41000 acknowledges.payload (lit≤ tt, lit≤ tt) ack_spelled.0 (lit≤ tt)))
     (three NamesNoHost k refl refl refl)
     (subst (λ t. length t ≤ 2 ^ 40) (sym is) short))

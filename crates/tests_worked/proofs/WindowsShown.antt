@@ -1,5 +1,5 @@
 -- The worked captures with agreed options are shown.
-use Rattle.std.proofs.Common.{[], refl, arith}
+use Rattle.std.proofs.Common.{[], refl, arith, None}
 use Rattle.law_model.specs.Model.{request_of, six_blocks, six_blocks_view, six_blocks_server_view, block_repeated, block_repeated_view, window_repeated, window_repeated_view}
 use Rattle.law_model.proofs.ModelLemmas.Worked.{six_size, six_count, six_view, six_complete, six_server_view, six_server_complete, repeated_size, repeated_count, repeated_view, repeated_complete, window_size, window_count, window_view, window_complete}
 use Rattle.law_end.specs.{Fits, TransferIds, IsDressed, Shows}
@@ -13,9 +13,9 @@ use Rattle.tests_worked.proofs.Bases.{read_by_four, served_by_four, write_by_eig
 
 -- ---- a read in a window of four, at its client and at its server
 
-six_fit : Fits six_blocks six_blocks.file
+six_fit : Fits None six_blocks six_blocks.file
 six_fit = record {
-  may_agree = both_may_be_agreed (request_of six_blocks) refl;
+  may_agree = both_may_be_agreed None (request_of six_blocks) refl;
   reads = refl;
   size = λ mode size e. absurd (no_size_of_both size e);
   numbered = omega (arith, six_count);
@@ -38,9 +38,9 @@ six_server_shown = shown_by at_service six_blocks six_blocks.file six_blocks_ser
 
 -- ---- a write in lock step
 
-repeated_fit : Fits block_repeated block_repeated.file
+repeated_fit : Fits None block_repeated block_repeated.file
 repeated_fit = record {
-  may_agree = eight_may_be_agreed (request_of block_repeated) refl;
+  may_agree = eight_may_be_agreed None (request_of block_repeated) refl;
   reads = refl;
   size = λ mode size e. absurd (no_size_of_one size e);
   numbered = omega (arith, repeated_count);
@@ -52,9 +52,9 @@ repeated_shown = shown_by at_client block_repeated block_repeated.file block_rep
 
 -- ---- a write in a window of four
 
-window_fit : Fits window_repeated window_repeated.file
+window_fit : Fits None window_repeated window_repeated.file
 window_fit = record {
-  may_agree = both_may_be_agreed (request_of window_repeated) refl;
+  may_agree = both_may_be_agreed None (request_of window_repeated) refl;
   reads = refl;
   size = λ mode size e. absurd (no_size_of_both size e);
   numbered = omega (arith, window_count);

@@ -1,11 +1,11 @@
 -- Captures of small transfers, recorded at the client and at the server.
-use Rattle.std.specs.Prelude.{ℕ, List, [], ◌∷◌, ◌++◌, codes}
+use Rattle.std.specs.Prelude.{ℕ, List, [], ◌∷◌, ◌++◌, codes, None}
 use Rattle.tftp_packet.specs.{Client, Server}
 use Rattle.tftp_packet.specs.Hosts.{Datagram, Header}
 use Rattle.tftp_packet.specs.{In, Out}
 
 abbrev pub at_client : Header
-at_client = record { named = Client; service = 69 }
+at_client = record { named = Client; service = 69; rollover = None }
 
 -- the hosts of the two ends: a capture names that of the other end
 abbrev pub server_host : List ℕ
@@ -51,7 +51,7 @@ read_with_a_stray = asks_for_a ∷ brings_hi ∷ comes_astray ∷ answers_stray 
 
 -- a server whose requests come to port 6969, and which goes on from port 3000
 abbrev pub at_server : Header
-at_server = record { named = Server; service = 6969 }
+at_server = record { named = Server; service = 6969; rollover = None }
 
 abbrev pub is_asked_for_a : Datagram
 is_asked_for_a = record { dir = In; local = 6969; host = client_host; remote = 2000; payload = asks_for_a.payload }

@@ -1,5 +1,5 @@
 -- Captures with agreed options, and captures that break a rule.
-use Rattle.std.specs.Prelude.{ℕ, List, [], ◌∷◌, ◌++◌, codes}
+use Rattle.std.specs.Prelude.{ℕ, List, [], ◌∷◌, ◌++◌, codes, None}
 use Rattle.tftp_packet.specs.{Pair, strings, pair_strings, Server}
 use Rattle.tftp_packet.specs.Hosts.{Datagram, Header}
 use Rattle.tftp_packet.specs.{In, Out}
@@ -70,7 +70,7 @@ window_out_of_order =
 
 -- the same read as its server sees it
 abbrev pub at_service : Header
-at_service = record { named = Server; service = 69 }
+at_service = record { named = Server; service = 69; rollover = None }
 
 abbrev pub answers : List ℕ → Datagram
 answers payload = record { dir = Out; local = 41000; host = client_host; remote = 40000; payload = payload }

@@ -1,5 +1,5 @@
 -- The canonical text has no fault, and says its header and datagrams.
-use Rattle.std.proofs.Common.{◌≡◌, ◌≢◌, ℕ, suc, lit≤, not, ◌&&◌, ◌+◌, ◌^◌, ◌<◌, ◌≤◌, ◌==◌, Bool, true, false, List, [], ◌∷◌, ◌++◌, length, map, All, codes, decimal, Ok, inl, inr, refl, ap, ◌∙◌, arith, append_assoc, length-append, ne_eqb}
+use Rattle.std.proofs.Common.{◌≡◌, ◌≢◌, ℕ, suc, lit≤, not, ◌&&◌, ◌+◌, ◌^◌, ◌<◌, ◌≤◌, ◌==◌, Bool, true, false, List, [], ◌∷◌, ◌++◌, length, map, All, codes, decimal, Ok, inl, inr, refl, ap, ◌∙◌, arith, append_assoc, length-append, ne_eqb, None}
 use Rattle.std.specs.List.{AllByRecursion, AllZip, list_all}
 use Rattle.std.specs.Str.Parse.{AllDigits}
 use Rattle.std.proofs.lemmas.Bool.Decides.{nat_tests, Decides-and, Decides-by_and, Decides-eqb, Decides-not}
@@ -287,10 +287,10 @@ module _ (version : Version) (line : Datagram → List ℕ) where
   lines_whole [] h = All-nil (IsWholeLine (longest_line version))
   lines_whole (d ∷ ds) h = All-cons (IsWholeLine (longest_line version)) (line d) (map line ds) (All-head (IsCanonical version line) d ds h).whole (lines_whole ds (All-tail (IsCanonical version line) d ds h))
 
-  whole_is_read : (header : Header) (ds : List Datagram) → IsPort header.service → All (IsCanonical version line) ds
+  whole_is_read : (header : Header) (ds : List Datagram) → IsPort header.service → header.rollover ≡ None → All (IsCanonical version line) ds
       → length (whole_lines (head_line version ∷ end_line header.named ∷ service_line header.service ∷ (map line ds ++ total_line (length ds) ∷ []))) ≤ 2 ^ 40
       → IsCapture (whole_lines (head_line version ∷ end_line header.named ∷ service_line header.service ∷ (map line ds ++ total_line (length ds) ∷ []))) header (numbered 4 ds)
-  whole_is_read header ds port canonical short =
+  whole_is_read header ds port plain canonical short =
       let count = length-numbered 4 ds in
       let P = IsWholeLine (longest_line version) in
       let bodies_last = map line ds ++ total_line (length ds) ∷ [] in
@@ -304,6 +304,7 @@ module _ (version : Version) (line : Datagram → List ℕ) where
         begins = refl;
         are = refl;
         port = port;
+        plain = plain;
         each = bodies 4 ds canonical;
       } in (
         version,
@@ -318,8 +319,8 @@ module _ (version : Version) (line : Datagram → List ℕ) where
             (head_line version ∷ end_line header.named ∷ service_line header.service ∷ map line ds, rw count refl, says),
       )
 
-pub canonical_is_read : (header : Header) (ds : List Datagram) → IsPort header.service → All IsLawful ds → All NamesNoHost ds → length (text_of header ds) ≤ 2 ^ 40 → IsCapture (text_of header ds) header (numbered 4 ds)
-canonical_is_read header ds port lawful unnamed short = whole_is_read One datagram_line header ds port (lines_in_one ds lawful unnamed) short
+pub canonical_is_read : (header : Header) (ds : List Datagram) → IsPort header.service → header.rollover ≡ None → All IsLawful ds → All NamesNoHost ds → length (text_of header ds) ≤ 2 ^ 40 → IsCapture (text_of header ds) header (numbered 4 ds)
+canonical_is_read header ds port plain lawful unnamed short = whole_is_read One datagram_line header ds port plain (lines_in_one ds lawful unnamed) short
 
-pub hosts_are_read : (header : Header) (ds : List Datagram) → IsPort header.service → All IsLawful ds → length (text_with_hosts header ds) ≤ 2 ^ 40 → IsCapture (text_with_hosts header ds) header (numbered 4 ds)
-hosts_are_read header ds port lawful short = whole_is_read Two line_with_host header ds port (lines_in_two ds lawful) short
+pub hosts_are_read : (header : Header) (ds : List Datagram) → IsPort header.service → header.rollover ≡ None → All IsLawful ds → length (text_with_hosts header ds) ≤ 2 ^ 40 → IsCapture (text_with_hosts header ds) header (numbered 4 ds)
+hosts_are_read header ds port plain lawful short = whole_is_read Two line_with_host header ds port plain (lines_in_two ds lawful) short

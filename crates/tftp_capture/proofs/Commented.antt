@@ -1,5 +1,5 @@
 -- A text with comments has no fault, and says its header and its datagrams.
-use Rattle.std.proofs.Common.{◌≡◌, ◌≢◌, ℕ, suc, lit≤, ◌+◌, ◌^◌, ◌<◌, ◌≤◌, List, [], ◌∷◌, ◌++◌, length, map, All, codes, refl, ap, arith, length-append}
+use Rattle.std.proofs.Common.{◌≡◌, ◌≢◌, ℕ, suc, lit≤, ◌+◌, ◌^◌, ◌<◌, ◌≤◌, List, [], ◌∷◌, ◌++◌, length, map, All, codes, refl, ap, arith, length-append, None}
 use Rattle.std.specs.List.{AllZip}
 use Rattle.std.proofs.lemmas.List.{length-map}
 use Rattle.std.proofs.lemmas.List.Elements.{All-append, All-cons, All-head, All-nil, All-tail}
@@ -43,9 +43,9 @@ bodies n (Passed d ∷ es) h =
     let lawful = All-head IsEntry (Passed d) es h in
     rw (host_said d lawful) ((refl, host_says d lawful), bodies (n + 1) es (All-tail IsEntry (Passed d) es h))
 
-pub commented_is_read : (header : Header) (entries : List Entry) → IsPort header.service → All IsEntry entries → length (commented_text header entries) ≤ 2 ^ 40
+pub commented_is_read : (header : Header) (entries : List Entry) → IsPort header.service → header.rollover ≡ None → All IsEntry entries → length (commented_text header entries) ≤ 2 ^ 40
     → IsCapture (commented_text header entries) header (numbered_in 4 entries)
-commented_is_read header entries port held short =
+commented_is_read header entries port plain held short =
     let count = length-numbered_in 4 entries in
     let P = IsWholeLine 131116 in
     let total = total_line (length (said_in entries)) in
@@ -61,6 +61,7 @@ commented_is_read header entries port held short =
       begins = refl;
       are = refl;
       port = port;
+      plain = plain;
       each = bodies 4 entries held;
     } in (
       Two,

@@ -140,14 +140,14 @@ service_bad k0 k1 k2 version old new named begun reach other =
     }
 
 pub service_ok : (k0 k1 k2 : Option (List ℕ)) (version : Version) (old new : LineState) (named : End) (port : ℕ) → Begun k0 k1 old (ServiceLine version named) → ReachesLine {T = Unit {0}} (Ok tt) old new k1 k2 → IsPort port → new.line ≡ service_line port
-    → Begun k0 k2 new (Body version (record { named = named; service = port }))
+    → Begun k0 k2 new (Body version (record { named = named; service = port; rollover = None }))
 service_ok k0 k1 k2 version old new named port begun reach h is =
-    next_begun k0 k1 k2 old new (ServiceLine version named) tt begun reach (Body version (record { named = named; service = port })) refl
+    next_begun k0 k1 k2 old new (ServiceLine version named) tt begun reach (Body version (record { named = named; service = port; rollover = None })) refl
     (rw is (says-service version (begun.lines ++ reach.skipped) named port h (says_before k0 k1 k2 old new (ServiceLine version named) tt begun reach)))
 
 -- the third line stands where it was read
 pub service_at : (k0 k1 k2 : Option (List ℕ)) (version : Version) (old new : LineState) (named : End) (port : ℕ) (begun : Begun k0 k1 old (ServiceLine version named)) (reach : ReachesLine {T = Unit {0}} (Ok tt) old new k1 k2) (h : IsPort port) (is : new.line ≡ service_line port)
-    → HasService (service_ok k0 k1 k2 version old new named port begun reach h is).text (record { named = named; service = port }) new.count
+    → HasService (service_ok k0 k1 k2 version old new named port begun reach h is).text (record { named = named; service = port; rollover = None }) new.count
 unfolding service_ok next_begun
 service_at k0 k1 k2 version old new named port begun reach h is =
     let before = says_before k0 k1 k2 old new (ServiceLine version named) tt begun reach in

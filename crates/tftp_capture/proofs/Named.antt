@@ -96,6 +96,7 @@ says = record {
   begins = refl;
   are = refl;
   port = (lit≤ tt, lit≤ tt);
+  plain = refl;
   each = ((refl, request_said), ((refl, data_said), ((refl, ack_said), tt)));
 }
 

@@ -1,5 +1,5 @@
 -- How a text goes on after one of which no byte is wrong.
-use Rattle.std.proofs.Common.{◌≡◌, ◌≢◌, ℕ, ◌+◌, ◌-◌, ◌^◌, ◌<◌, ◌≤◌, ◌==◌, true, false, cond, List, [], ◌∷◌, ◌++◌, length, All, refl, sym, ap, ◌∙◌, arith, append_assoc, append-nil, length-append, ne_eqb}
+use Rattle.std.proofs.Common.{◌≡◌, ◌≢◌, ℕ, ◌+◌, ◌-◌, ◌^◌, ◌<◌, ◌≤◌, ◌==◌, true, false, cond, List, [], ◌∷◌, ◌++◌, length, All, refl, sym, ap, ◌∙◌, arith, append_assoc, append-nil, length-append, ne_eqb, None}
 use Rattle.std.specs.List.{slice_split, onto_first}
 use Rattle.std.proofs.lemmas.List.Elements.{All-weaker, All-push, All-head, All-tail}
 use Rattle.std.proofs.lemmas.List.Splits.{slice_split_at, slice_split_none}
@@ -110,6 +110,7 @@ says-skip lines line (Body version header) datagrams s h p = record {
   begins = ap (λ l. l ++ line ∷ []) p.begins;
   are = said-push_nothing 2 p.after_head line h ∙ p.are;
   port = p.port;
+  plain = p.plain;
   each = p.each;
 }
 says-skip lines line (Nothing version header) datagrams s h p = absurd s
@@ -121,7 +122,7 @@ pub says-end : (version : Version) (lines : List (List ℕ)) (named : End) → S
 says-end version lines named p = (p.0 ++ end_line named ∷ [], 2 + length p.0, ap (λ l. l ++ end_line named ∷ []) p.1, said-push 2 p.0 (end_line named) refl ∙ ap (λ l. l ++ (2 + length p.0, end_line named) ∷ []) p.2, refl)
 
 pub says-service : (version : Version) (lines : List (List ℕ)) (named : End) (port : ℕ) → IsPort port → Says lines (ServiceLine version named) []
-    → Says (lines ++ service_line port ∷ []) (Body version (record { named = named; service = port })) []
+    → Says (lines ++ service_line port ∷ []) (Body version (record { named = named; service = port; rollover = None })) []
 says-service version lines named port h p = record {
   after_head = p.0 ++ service_line port ∷ [];
   at_end = p.1;
@@ -130,6 +131,7 @@ says-service version lines named port h p = record {
   begins = ap (λ l. l ++ service_line port ∷ []) p.2;
   are = said-push 2 p.0 (service_line port) refl ∙ ap (λ l. l ++ (2 + length p.0, service_line port) ∷ []) p.3;
   port = h;
+  plain = refl;
   each = tt;
 }
 
@@ -145,6 +147,7 @@ says-datagram version lines line header datagrams d h says p =
       begins = ap (λ l. l ++ line ∷ []) p.begins;
       are = said-push 2 p.after_head line h ∙ ap (λ l. l ++ (2 + length p.after_head, line) ∷ []) p.are;
       port = p.port;
+      plain = p.plain;
       each = all_zipped_more (λ (l : ℕ × List ℕ) (d : Numbered). (l.0 ≡ d.0) × SaysDatagram version l.1 d.1) p.bodies datagrams (2 + length p.after_head, line) (length lines + 1, d) p.each (number, says);
     }
 

@@ -120,6 +120,7 @@ lines_say lines header ds p = record {
       ∙ ap (λ l. (p.at_end, l) ∷ (p.at_service, line_in_two (service_line header.service)) ∷ map numbered_in_two p.bodies) (end_stays header.named)
       ∙ ap (λ l. (p.at_end, end_line header.named) ∷ (p.at_service, l) ∷ map numbered_in_two p.bodies) (service_stays header.service);
   port = p.port;
+  plain = p.plain;
   each = each_in_two p.bodies ds p.each;
 }
 

@@ -1,5 +1,5 @@
 -- Lines one after another: what may come next, and that lines say one thing only.
-use Rattle.std.proofs.Common.{◌≡◌, ℕ, ◌+◌, ◌≤◌, ◌⊎◌, inl, inr, Bool, true, false, cond, true≢false, List, [], ◌∷◌, ◌++◌, length, get_or, codes, decimal, Ok, Err, refl, sym, ap, ◌∙◌, subst, arith, lit≤, append_assoc, append-nil, length-append}
+use Rattle.std.proofs.Common.{◌≡◌, ℕ, ◌+◌, ◌≤◌, ◌⊎◌, inl, inr, Bool, true, false, cond, true≢false, List, [], ◌∷◌, ◌++◌, length, get_or, codes, decimal, Ok, Err, refl, sym, ap, ◌∙◌, subst, arith, lit≤, append_assoc, append-nil, length-append, None}
 use Rattle.std.specs.List.{AllZip}
 use Rattle.std.proofs.lemmas.Fmt.{decimal_injective}
 use Rattle.hex.specs.Hex.{decode_of}
@@ -76,7 +76,7 @@ Step Head n ds line due after = (version : Version) × (line ≡ head_line versi
 Step (EndLine version) n ds line due after =
     ((says_nothing line ≡ true) × (due ≡ EndLine version) × (after ≡ ds)) ⊎ ((named : End) × (line ≡ end_line named) × (due ≡ ServiceLine version named) × (after ≡ ds))
 Step (ServiceLine version named) n ds line due after =
-    ((says_nothing line ≡ true) × (due ≡ ServiceLine version named) × (after ≡ ds)) ⊎ ((port : ℕ) × IsPort port × (line ≡ service_line port) × (due ≡ Body version (record { named = named; service = port })) × (after ≡ ds))
+    ((says_nothing line ≡ true) × (due ≡ ServiceLine version named) × (after ≡ ds)) ⊎ ((port : ℕ) × IsPort port × (line ≡ service_line port) × (due ≡ Body version (record { named = named; service = port; rollover = None })) × (after ≡ ds))
 Step (Body version header) n ds line due after =
     ((says_nothing line ≡ true) × (due ≡ Body version header) × (after ≡ ds))
     ⊎ (((d : Datagram) × (says_nothing line ≡ false) × SaysDatagram version line d × (due ≡ Body version header) × (after ≡ ds ++ (n, d) ∷ []))
@@ -100,7 +100,7 @@ step_same (ServiceLine version named) n ds line m1 m2 a1 a2 (inl p) (inl q) = (p
 step_same (ServiceLine version named) n ds line m1 m2 a1 a2 (inl p) (inr q) = clash line (service_line q.0) p.0 q.2 refl
 step_same (ServiceLine version named) n ds line m1 m2 a1 a2 (inr p) (inl q) = clash line (service_line p.0) q.0 p.2 refl
 step_same (ServiceLine version named) n ds line m1 m2 a1 a2 (inr p) (inr q) =
-    (p.3 ∙ ap (λ s. Body version (record { named = named; service = s })) (service_same p.0 q.0 p.1 q.1 (sym p.2 ∙ q.2)) ∙ sym q.3, p.4 ∙ sym q.4)
+    (p.3 ∙ ap (λ s. Body version (record { named = named; service = s; rollover = None })) (service_same p.0 q.0 p.1 q.1 (sym p.2 ∙ q.2)) ∙ sym q.3, p.4 ∙ sym q.4)
 step_same (Body version header) n ds line m1 m2 a1 a2 (inl p) (inl q) = (p.1 ∙ sym q.1, p.2 ∙ sym q.2)
 step_same (Body version header) n ds line m1 m2 a1 a2 (inl p) (inr (inl q)) = absurd (true≢false (sym p.0 ∙ q.1))
 step_same (Body version header) n ds line m1 m2 a1 a2 (inl p) (inr (inr q)) = clash line (total_line (length ds)) p.0 q.0 refl
@@ -206,7 +206,8 @@ body_walk version lines header ds p =
     let first = first_said 2 p.after_head p.at_end (end_line header.named) ((p.at_service, service_line header.service) ∷ p.bodies) p.are in
     let second = first_said (p.at_end + 1) first.rest p.at_service (service_line header.service) p.bodies first.said_rest in
     let bodies = walk_bodies version header (p.at_service + 1) second.rest p.bodies [] ds second.said_rest p.each in
-    let after_service = second.walk (ServiceLine version header.named) [] (Body version header) [] (Body version header) ds tt (inr (header.service, p.port, refl, refl, refl)) bodies in
+    let after_service = second.walk (ServiceLine version header.named) [] (Body version header) [] (Body version header) ds tt
+    (inr (header.service, p.port, refl, ap (λ r. Body version (record { named = header.named; service = header.service; rollover = r })) p.plain, refl)) bodies in
     let after_end = first.walk (EndLine version) [] (ServiceLine version header.named) [] (Body version header) ds tt (inr (header.named, refl, refl, refl)) after_service in
     subst (λ l. Walk Head 1 [] l (Body version header) ds) (sym p.begins) (EndLine version, [], (version, refl, refl, refl), after_end)
 
@@ -257,7 +258,7 @@ step_longest Head k ds line mid after h p = absurd h
 step_longest (EndLine version) k ds line mid after h (inl p) = alike (EndLine version) mid p.1 tt
 step_longest (EndLine version) k ds line mid after h (inr p) = alike (ServiceLine version p.0) mid p.2 tt
 step_longest (ServiceLine version named) k ds line mid after h (inl p) = alike (ServiceLine version named) mid p.1 tt
-step_longest (ServiceLine version named) k ds line mid after h (inr p) = alike (Body version (record { named = named; service = p.0 })) mid p.3 tt
+step_longest (ServiceLine version named) k ds line mid after h (inr p) = alike (Body version (record { named = named; service = p.0; rollover = None })) mid p.3 tt
 step_longest (Body version header) k ds line mid after h (inl p) = alike (Body version header) mid p.1 tt
 step_longest (Body version header) k ds line mid after h (inr (inl p)) = alike (Body version header) mid p.3 tt
 step_longest (Body version header) k ds line mid after h (inr (inr p)) = alike (Nothing version header) mid p.1 tt

@@ -1,7 +1,7 @@
 -- The capture text: which bytes stand for a header and datagrams, and what is wrong with any other text. In version 2 a
 -- line of a datagram names the other host, in version 1 it does not.
 -- The whole text is divided at LF; what its lines say is said of whole lines.
-use Rattle.std.specs.Prelude.{◌≡◌, ◌≢◌, ℕ, ◌+◌, ◌^◌, ◌<◌, ◌≤◌, Bool, true, false, ◌⊎◌, ◌==◌, if◌then◌else◌, List, [], ◌∷◌, ◌++◌, length, map, All, flat_map, Ok, codes, decimal}
+use Rattle.std.specs.Prelude.{◌≡◌, ◌≢◌, ℕ, ◌+◌, ◌^◌, ◌<◌, ◌≤◌, Bool, true, false, ◌⊎◌, ◌==◌, if◌then◌else◌, List, [], ◌∷◌, ◌++◌, length, map, All, flat_map, None, Ok, codes, decimal}
 use Rattle.std.specs.List.{slice_split, join_with_byte, AllZip}
 use Rattle.hex.specs.Hex.{encode_lower, decode_of, IsBytes}
 pub use Rattle.tftp_packet.specs.Hosts.Capture.{Datagram, Header}
@@ -147,7 +147,8 @@ longest (ServiceLine version named) = longest_line version
 longest (Body version header) = longest_line version
 longest (Nothing version header) = longest_line version
 
--- the lines said after the first are the end line, the service line, and a line for each datagram
+-- The lines said after the first are the end line, the service line, and a line for each datagram. What comes after block 65535
+-- no line says.
 pub record SaysDatagrams (version : Version) (lines : List (List ℕ)) (header : Header) (datagrams : List Numbered) : Type 0 where
   pub after_head : List (List ℕ)
   pub at_end : ℕ
@@ -156,6 +157,7 @@ pub record SaysDatagrams (version : Version) (lines : List (List ℕ)) (header :
   pub begins : lines ≡ head_line version ∷ after_head
   pub are : said 2 after_head ≡ (at_end, end_line header.named) ∷ (at_service, service_line header.service) ∷ bodies
   pub port : IsPort header.service
+  pub plain : header.rollover ≡ None
   pub each : AllZip (λ line d. (line.0 ≡ d.0) × SaysDatagram version line.1 d.1) bodies datagrams
 
 -- the whole lines say the datagrams, and this is due after them

@@ -16,7 +16,7 @@ datagram_of d = record { dir = d.dir; local = d.local_port; host = d.remote_host
 
 -- the header that a value in memory is
 abbrev pub header_of : OwnedHeader → Header
-header_of h = record { named = h.named; service = h.service }
+header_of h = record { named = h.named; service = h.service; rollover = h.rollover }
 
 -- the answer of a call that fills what the caller holds: a success answers what is held then
 abbrev pub filled : {T E : Type 0} → Result (Unit {0}) E → T → Result T E

@@ -1,6 +1,6 @@
 -- A read of the file `a`, which holds `hi`, as it was recorded at the client: in version 1, the same in version 2, and
 -- with the hosts named.
-use Rattle.std.specs.Prelude.{ℕ, List, [], ◌∷◌, ◌++◌, codes}
+use Rattle.std.specs.Prelude.{ℕ, List, [], ◌∷◌, ◌++◌, codes, None}
 use Rattle.tftp_packet.specs.Hosts.{no_host}
 use Rattle.tftp_packet.specs.{In, Out}
 use Rattle.tftp_packet.specs.{Client}
@@ -9,7 +9,7 @@ use Rattle.tftp_capture.specs.Heads.{HeadState}
 use Rattle.tftp_capture.specs.declared.version.Version.TheVariants.{One}
 
 abbrev pub worked_header : Header
-worked_header = record { named = Client; service = 69 }
+worked_header = record { named = Client; service = 69; rollover = None }
 
 abbrev pub worked_datagrams : List Datagram
 worked_datagrams =

@@ -2,6 +2,7 @@ ghost use Rattle.std.specs.Prelude.{◌≡◌, []};
 
 use std::alloc::Global;
 use tftp_packet::hosts::{Dir, Host};
+use tftp_packet::rounds::Rollover;
 use tftp_packet::{Bytes, End};
 
 /// Whose capture it is.
@@ -11,6 +12,9 @@ pub struct Header {
     pub named: End,
     /// The port at which the server is asked, 1 to 65535 (69 by RFC 1350, section 4).
     pub service: u16,
+    /// What comes after block 65535, where anything does. RFC 1350, section 5, gives a block's number two bytes and says no
+    /// more.
+    pub rollover: Option<Rollover>,
 }
 
 /// One datagram, as it passed the named end.

@@ -1,4 +1,4 @@
-ghost use Rattle.std.specs.Prelude.{◌≡◌, ◌≢◌, ◌^◌, ◌≤◌, ◌⊎◌, ◌++◌, ◌∷◌, [], ℕ, List, All, length, map};
+ghost use Rattle.std.specs.Prelude.{◌≡◌, ◌≢◌, ◌^◌, ◌≤◌, ◌⊎◌, ◌++◌, ◌∷◌, [], ℕ, List, All, length, map, None};
 ghost use Rattle.tftp_capture.specs.Commented.{Entry, IsEntry, commented_text, numbered_in, said_in};
 ghost use Rattle.tftp_capture.specs.Commented.Entry.{Passed};
 ghost use Rattle.tftp_capture.specs.CaptureText.{text_of, text_with_hosts, Begins, BeginsWith, Datagram, Due, HasFault, Header, IsCapture, IsLawful, IsPort, Numbered, NamesNoHost, Reading, Reads, Unfinished, numbered};
@@ -22,16 +22,16 @@ pub fn worked_text_with_hosts_is_canonical()
 /// A canonical text has no fault, and says its header and its datagrams, the first on line 4: in version 1 of datagrams
 /// that name no host, in version 2 of datagrams with any hosts.
 pub fn canonical_text_is_read()
-    ensures one { (header : Header) (datagrams : List Datagram) → IsPort header.service → All IsLawful datagrams → All NamesNoHost datagrams → length (text_of header datagrams) ≤ 2 ^ 40
+    ensures one { (header : Header) (datagrams : List Datagram) → IsPort header.service → header.rollover ≡ None → All IsLawful datagrams → All NamesNoHost datagrams → length (text_of header datagrams) ≤ 2 ^ 40
         → IsCapture (text_of header datagrams) header (numbered 4 datagrams) }
-    ensures two { (header : Header) (datagrams : List Datagram) → IsPort header.service → All IsLawful datagrams → length (text_with_hosts header datagrams) ≤ 2 ^ 40
+    ensures two { (header : Header) (datagrams : List Datagram) → IsPort header.service → header.rollover ≡ None → All IsLawful datagrams → length (text_with_hosts header datagrams) ≤ 2 ^ 40
         → IsCapture (text_with_hosts header datagrams) header (numbered 4 datagrams) }
 {}
 
 /// A text with comments has no fault, and says its header and its datagrams on the lines where they stand; without
 /// comments it is the canonical text of version 2.
 pub fn commented_text_is_read()
-    ensures read { (header : Header) (entries : List Entry) → IsPort header.service → All IsEntry entries → length (commented_text header entries) ≤ 2 ^ 40
+    ensures read { (header : Header) (entries : List Entry) → IsPort header.service → header.rollover ≡ None → All IsEntry entries → length (commented_text header entries) ≤ 2 ^ 40
         → IsCapture (commented_text header entries) header (numbered_in 4 entries) }
     ensures datagrams { (entries : List Entry) (n : ℕ) → map (λ (d : Numbered). d.1) (numbered_in n entries) ≡ said_in entries }
     ensures plain { (header : Header) (datagrams : List Datagram) → commented_text header (map Passed datagrams) ≡ text_with_hosts header datagrams }

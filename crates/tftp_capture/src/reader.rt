@@ -82,7 +82,11 @@ impl CaptureReader {
             return Err(CaptureFault::Text(handed, TextFault::BadService));
         };
         Ok(CaptureReader {
-            header: Header { named, service },
+            header: Header {
+                named,
+                service,
+                rollover: None,
+            },
             lines,
             heads: Heads::new(alloc),
             count: 0,

@@ -98,7 +98,7 @@ memory_of read left failed said judged = said_of read said judged.is_said
 
 empty_captured : IsCapture empty_text worked_header []
 unfolding digits
-empty_captured = canonical_is_read worked_header [] (lit≤ tt, lit≤ tt) (All-nil IsLawful) (All-nil NamesNoHost) (lit≤ tt)
+empty_captured = canonical_is_read worked_header [] (lit≤ tt, lit≤ tt) refl (All-nil IsLawful) (All-nil NamesNoHost) (lit≤ tt)
 
 none_first : (ds rest : List Numbered) (last : Numbered) → [] ≡ (ds ++ last ∷ []) ++ rest → ⊥
 none_first [] rest last e = cc

@@ -17,7 +17,7 @@ high_of_held passed held high blocks highest = record {
   most = λ n p. highest.most n p.0 ((blocks n p.0).0 p.1);
 }
 
-pub low_of_held : (t : Terms) (held : Held) (high : ℕ) → IsSound t held → IsHighest held high → high ≤ 65535
+pub low_of_held : (t : Terms) (held : Held) (high : ℕ) → IsSound t held → IsHighest held high → high ≤ t.greatest
 low_of_held t held high sound highest = elim (cases_lt 0 high) [
   | inl some ↦ sound.numbers high (highest.held_there some)
   | inr none ↦ omega arith

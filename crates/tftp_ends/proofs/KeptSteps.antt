@@ -2,6 +2,7 @@
 use Rattle.std.proofs.Common.{◌≡◌, ◌⊎◌, inl, inr, ℕ, Bool, true, false, List, ◌∷◌, Option, Some, None, refl, sym, ap, subst, ◌∙◌, if◌then◌else◌, ◌==◌, ◌&&◌, ◌||◌, not, is_some, option_map, Ok, Err}
 use Rattle.std.proofs.lemmas.Bool.{false≢true, and_parts}
 use Rattle.tftp_packet.specs.Hosts.{Datagram, Header, PeerId, peer_of, same_peer}
+use Rattle.tftp_packet.specs.{Rollover}
 use Rattle.tftp_packet.specs.{Dir}
 use Rattle.tftp_packet.specs.{End, Client, Server}
 use Rattle.law_model.specs.Rules.{Route, goes_out, comes_in, asks, begins_request, first_of, has_come_from, is_from_client, port_of_server, route_before, route_at_client, route_at_server, route_of}
@@ -30,26 +31,33 @@ first_asked h known earlier stands sides is = map_some (first_of (asks h) earlie
 
 -- ---- the route after the first request
 
-at_client : (service : ℕ) (known : KnownIds) (earlier : List Datagram) (d : Datagram) → StandsFor known (client.at service) earlier → (sides : Sides) → known.asked ≡ Some sides
-    → route_at_client sides.local sides.peer (option_map (λ s. s.peer) known.answered) earlier d ≡ route_of (client.at service) earlier d
-at_client service known earlier d stands sides is =
-    let (first, some, same) = first_asked (client.at service) known earlier stands sides is in
-    let whence = ap (option_map (λ s. s.peer)) (answered_is (client.at service) known earlier stands d first some) ∙ map_peer (first_of comes_in earlier) in
-    let route : route_of (client.at service) earlier d ≡ route_at_client first.local (peer_of first) (option_map peer_of (first_of comes_in earlier)) earlier d = rw some refl in
+at_client : (service : ℕ) (rollover : Option Rollover) (known : KnownIds) (earlier : List Datagram) (d : Datagram) → StandsFor known (client.at service rollover) earlier → (sides : Sides) → known.asked ≡ Some sides
+    → route_at_client sides.local sides.peer (option_map (λ s. s.peer) known.answered) earlier d ≡ route_of (client.at service rollover) earlier d
+at_client service rollover known earlier d stands sides is =
+    let (first, some, same) = first_asked (client.at service rollover) known earlier stands sides is in
+    let whence = ap (option_map (λ s. s.peer)) (answered_is (client.at service rollover) known earlier stands d first some) ∙ map_peer (first_of comes_in earlier) in
+    let route : route_of (client.at service rollover) earlier d ≡ route_at_client first.local (peer_of first) (option_map peer_of (first_of comes_in earlier)) earlier d = rw some refl in
     (let back = sym same in λ i. route_at_client (back i).local (back i).peer (whence i) earlier d) ∙ sym route
 
-at_server : (service : ℕ) (known : KnownIds) (earlier : List Datagram) (d : Datagram) → StandsFor known (server.at service) earlier → (sides : Sides) → known.asked ≡ Some sides
-    → route_at_server known.header sides.peer (option_map (λ s. s.local) known.answered) earlier d ≡ route_of (server.at service) earlier d
-at_server service known earlier d stands sides is =
-    let (first, some, same) = first_asked (server.at service) known earlier stands sides is in
-    let own = ap (option_map (λ s. s.local)) (answered_is (server.at service) known earlier stands d first some) ∙ map_local (first_of (answers Server first) earlier) in
-    let route : route_of (server.at service) earlier d ≡ route_at_server (server.at service) (peer_of first) (option_map (λ d. d.local) (first_of (answers Server first) earlier)) earlier d = rw some refl in
+-- the route at a server is the same, whatever comes after block 65535
+whatever_comes : (service : ℕ) (rollover : Option Rollover) (client : PeerId) (own : Option ℕ) (earlier : List Datagram) (d : Datagram)
+    → route_at_server (server.at service None) client own earlier d ≡ route_at_server (server.at service rollover) client own earlier d
+whatever_comes service rollover client None earlier d = refl
+whatever_comes service rollover client (Some own) earlier d = refl
+
+at_server : (service : ℕ) (rollover : Option Rollover) (known : KnownIds) (earlier : List Datagram) (d : Datagram) → StandsFor known (server.at service rollover) earlier → (sides : Sides) → known.asked ≡ Some sides
+    → route_at_server known.header sides.peer (option_map (λ s. s.local) known.answered) earlier d ≡ route_of (server.at service rollover) earlier d
+at_server service rollover known earlier d stands sides is =
+    let (first, some, same) = first_asked (server.at service rollover) known earlier stands sides is in
+    let own = ap (option_map (λ s. s.local)) (answered_is (server.at service rollover) known earlier stands d first some) ∙ map_local (first_of (answers Server first) earlier) in
+    let route : route_of (server.at service rollover) earlier d ≡ route_at_server (server.at service rollover) (peer_of first) (option_map (λ d. d.local) (first_of (answers Server first) earlier)) earlier d = rw some refl in
     let back = sym same in
     let header = stands.header in
-    (λ i. route_at_server (header i) (back i).peer (own i) earlier d) ∙ sym route
+    (λ i. route_at_server (header i) (back i).peer (own i) earlier d)
+    ∙ whatever_comes service rollover (peer_of first) (option_map (λ d. d.local) (first_of (answers Server first) earlier)) earlier d ∙ sym route
 
-is_named : (named : End) (h : Header) → h.named ≡ named → record { named = named; service = h.service } ≡ h
-is_named named h e = let back = sym e in λ i. record { named = back i; service = h.service }
+is_named : (named : End) (h : Header) → h.named ≡ named → record { named = named; service = h.service; rollover = h.rollover } ≡ h
+is_named named h e = let back = sym e in λ i. record { named = back i; service = h.service; rollover = h.rollover }
 
 module _ (h : Header) (known : KnownIds) (earlier : List Datagram) (stands : StandsFor known h earlier) (d : Datagram) (sides : Sides) (asked : known.asked ≡ Some sides) where
   named_is : (named : End) → known.header.named ≡ named → h.named ≡ named
@@ -58,7 +66,7 @@ module _ (h : Header) (known : KnownIds) (earlier : List Datagram) (stands : Sta
   pub routed_at_client : known.header.named ≡ Client → route_at_client sides.local sides.peer (option_map (λ s. s.peer) known.answered) earlier d ≡ route_of h earlier d
   routed_at_client e =
       let is = is_named Client h (named_is Client e) in
-      at_client h.service known earlier d (subst (λ x. StandsFor known x earlier) (sym is) stands) sides asked ∙ ap (λ x. route_of x earlier d) is
+      at_client h.service h.rollover known earlier d (subst (λ x. StandsFor known x earlier) (sym is) stands) sides asked ∙ ap (λ x. route_of x earlier d) is
 
   pub notes_at_client : known.header.named ≡ Client → NotesStrays known.strays (option_map (λ s. s.peer) known.answered) earlier
   notes_at_client e = subst (λ n. NotesStrays known.strays (other_end n known.asked known.answered) earlier) (named_is Client e) stands.strays
@@ -66,7 +74,7 @@ module _ (h : Header) (known : KnownIds) (earlier : List Datagram) (stands : Sta
   pub routed_at_server : known.header.named ≡ Server → route_at_server known.header sides.peer (option_map (λ s. s.local) known.answered) earlier d ≡ route_of h earlier d
   routed_at_server e =
       let is = is_named Server h (named_is Server e) in
-      at_server h.service known earlier d (subst (λ x. StandsFor known x earlier) (sym is) stands) sides asked ∙ ap (λ x. route_of x earlier d) is
+      at_server h.service h.rollover known earlier d (subst (λ x. StandsFor known x earlier) (sym is) stands) sides asked ∙ ap (λ x. route_of x earlier d) is
 
   pub notes_at_server : known.header.named ≡ Server → NotesStrays known.strays (Some sides.peer) earlier
   notes_at_server e = subst (λ o. NotesStrays known.strays (option_map (λ s. s.peer) o) earlier) asked
@@ -91,41 +99,41 @@ is_none None e = refl
 is_none (Some x) e = absurd (false≢true e)
 
 module _ (known : KnownIds) (earlier : List Datagram) (d : Datagram) where
-  abbrev at : End → ℕ → Header
-  at named service = record { named = named; service = service }
+  abbrev at : End → ℕ → Option Rollover → Header
+  at named service rollover = record { named = named; service = service; rollover = rollover }
 
-  request_by : (named : End) (service : ℕ) → StandsFor known (at named service) earlier → (first : Datagram) → first_of (asks (at named service)) earlier ≡ Some first
-      → Request ≡ route_of (at named service) earlier d → StandsFor known (at named service) (d ∷ earlier)
-  request_by Client service stands first some is = client.request_stands service known earlier stands d first some is
-  request_by Server service stands first some is = server.request_stands service known earlier stands d first some is
+  request_by : (named : End) (service : ℕ) (rollover : Option Rollover) → StandsFor known (at named service rollover) earlier → (first : Datagram) → first_of (asks (at named service rollover)) earlier ≡ Some first
+      → Request ≡ route_of (at named service rollover) earlier d → StandsFor known (at named service rollover) (d ∷ earlier)
+  request_by Client service rollover stands first some is = client.request_stands service rollover known earlier stands d first some is
+  request_by Server service rollover stands first some is = server.request_stands service rollover known earlier stands d first some is
 
-  error_by : (named : End) (service : ℕ) → StandsFor known (at named service) earlier → (first : Datagram) → first_of (asks (at named service)) earlier ≡ Some first
-      → StrayAnswer ≡ route_of (at named service) earlier d → StandsFor known (at named service) (d ∷ earlier)
-  error_by Client service stands first some is = client.error_stands service known earlier stands d first some is
-  error_by Server service stands first some is = server.error_stands service known earlier stands d first some is
+  error_by : (named : End) (service : ℕ) (rollover : Option Rollover) → StandsFor known (at named service rollover) earlier → (first : Datagram) → first_of (asks (at named service rollover)) earlier ≡ Some first
+      → StrayAnswer ≡ route_of (at named service rollover) earlier d → StandsFor known (at named service rollover) (d ∷ earlier)
+  error_by Client service rollover stands first some is = client.error_stands service rollover known earlier stands d first some is
+  error_by Server service rollover stands first some is = server.error_stands service rollover known earlier stands d first some is
 
-  peer_by : (named : End) (service : ℕ) → StandsFor known (at named service) earlier → (first : Datagram) → first_of (asks (at named service)) earlier ≡ Some first
-      → Peer ≡ route_of (at named service) earlier d → ComesFirst known named d ≡ false → StandsFor known (at named service) (d ∷ earlier)
-  peer_by Client service stands first some is later = client.peer_stands service known earlier stands d first some is later
-  peer_by Server service stands first some is later = server.peer_stands service known earlier stands d first some is later
+  peer_by : (named : End) (service : ℕ) (rollover : Option Rollover) → StandsFor known (at named service rollover) earlier → (first : Datagram) → first_of (asks (at named service rollover)) earlier ≡ Some first
+      → Peer ≡ route_of (at named service rollover) earlier d → ComesFirst known named d ≡ false → StandsFor known (at named service rollover) (d ∷ earlier)
+  peer_by Client service rollover stands first some is later = client.peer_stands service rollover known earlier stands d first some is later
+  peer_by Server service rollover stands first some is later = server.peer_stands service rollover known earlier stands d first some is later
 
-  stray_by : (named : End) (service : ℕ) → StandsFor known (at named service) earlier → (first : Datagram) → first_of (asks (at named service)) earlier ≡ Some first
-      → (more : List PeerId) → Stray ≡ route_of (at named service) earlier d
+  stray_by : (named : End) (service : ℕ) (rollover : Option Rollover) → StandsFor known (at named service rollover) earlier → (first : Datagram) → first_of (asks (at named service rollover)) earlier ≡ Some first
+      → (more : List PeerId) → Stray ≡ route_of (at named service rollover) earlier d
       → ((peer : PeerId) → is_noted peer more ≡ (same_peer (peer_of d) peer || is_noted peer known.strays))
-      → StandsFor (record { header = known.header; asked = known.asked; answered = known.answered; strays = more }) (at named service) (d ∷ earlier)
-  stray_by Client service stands first some more is adds = client.stray_stands service known earlier stands d first some more is adds
-  stray_by Server service stands first some more is adds = server.stray_stands service known earlier stands d first some more is adds
+      → StandsFor (record { header = known.header; asked = known.asked; answered = known.answered; strays = more }) (at named service rollover) (d ∷ earlier)
+  stray_by Client service rollover stands first some more is adds = client.stray_stands service rollover known earlier stands d first some more is adds
+  stray_by Server service rollover stands first some more is adds = server.stray_stands service rollover known earlier stands d first some more is adds
 
-  answer_by : (named : End) (service : ℕ) → StandsFor known (at named service) earlier → (first : Datagram) → first_of (asks (at named service)) earlier ≡ Some first
-      → Peer ≡ route_of (at named service) earlier d → not (is_from_client named d) ≡ true → known.answered ≡ None
-      → StandsFor (record { header = known.header; asked = known.asked; answered = Some (sides_of d); strays = known.strays }) (at named service) (d ∷ earlier)
-  answer_by Client service stands first some is back none = client.answer_stands service known earlier stands d first some is (is_false (goes_out d) back) none
-  answer_by Server service stands first some is out none = server.answer_stands service known earlier stands d first some is (is_true (goes_out d) out) none
+  answer_by : (named : End) (service : ℕ) (rollover : Option Rollover) → StandsFor known (at named service rollover) earlier → (first : Datagram) → first_of (asks (at named service rollover)) earlier ≡ Some first
+      → Peer ≡ route_of (at named service rollover) earlier d → not (is_from_client named d) ≡ true → known.answered ≡ None
+      → StandsFor (record { header = known.header; asked = known.asked; answered = Some (sides_of d); strays = known.strays }) (at named service rollover) (d ∷ earlier)
+  answer_by Client service rollover stands first some is back none = client.answer_stands service rollover known earlier stands d first some is (is_false (goes_out d) back) none
+  answer_by Server service rollover stands first some is out none = server.answer_stands service rollover known earlier stands d first some is (is_true (goes_out d) out) none
 
-  apart_by : (named : End) (service : ℕ) → StandsFor known (at named service) earlier → (first : Datagram) → first_of (asks (at named service)) earlier ≡ Some first
-      → Stray ≡ route_of (at named service) earlier d → is_other (peer_of d) (other_end named known.asked known.answered) ≡ false
-  apart_by Client service stands first some is = client.stray_apart service known earlier stands d first some is
-  apart_by Server service stands first some is = server.stray_apart service known earlier stands d first some is
+  apart_by : (named : End) (service : ℕ) (rollover : Option Rollover) → StandsFor known (at named service rollover) earlier → (first : Datagram) → first_of (asks (at named service rollover)) earlier ≡ Some first
+      → Stray ≡ route_of (at named service rollover) earlier d → is_other (peer_of d) (other_end named known.asked known.answered) ≡ false
+  apart_by Client service rollover stands first some is = client.stray_apart service rollover known earlier stands d first some is
+  apart_by Server service rollover stands first some is = server.stray_apart service rollover known earlier stands d first some is
 
 -- till the first request there are no strays
 no_strays : (b c : Bool) (r : Route) → r ≡ (if b then (if c then Request else WrongPort) else Peer) → (r ≡ Stray) ⊎ (r ≡ StrayAnswer) → ⊥
@@ -162,22 +170,22 @@ module _ (h : Header) (known : KnownIds) (earlier : List Datagram) (stands : Sta
   pub request_stands : Request ≡ route_of h earlier d → is_some known.asked ≡ true → StandsFor known h (d ∷ earlier)
   request_stands is asked = elim (two_ways (first_of (asks h) earlier)) [
     | inl none ↦ absurd (false≢true (ap is_some (sym (asked_none none)) ∙ asked))
-    | inr some ↦ request_by known earlier d h.named h.service stands some.0 some.1 is
+    | inr some ↦ request_by known earlier d h.named h.service h.rollover stands some.0 some.1 is
   ]
 
   pub peer_stands : Peer ≡ route_of h earlier d → (HasNoRequest h earlier d → ⊥) → ComesFirst known known.header.named d ≡ false → StandsFor known h (d ∷ earlier)
   peer_stands is has later = elim (two_ways (first_of (asks h) earlier)) [
     | inl none ↦ absurd (has (none, sym is))
-    | inr some ↦ peer_by known earlier d h.named h.service stands some.0 some.1 is (first_here ∙ later)
+    | inr some ↦ peer_by known earlier d h.named h.service h.rollover stands some.0 some.1 is (first_here ∙ later)
   ]
 
   pub error_stands : StrayAnswer ≡ route_of h earlier d → StandsFor known h (d ∷ earlier)
-  error_stands is = let some = begun StrayAnswer is (inr refl) in error_by known earlier d h.named h.service stands some.0 some.1 is
+  error_stands is = let some = begun StrayAnswer is (inr refl) in error_by known earlier d h.named h.service h.rollover stands some.0 some.1 is
 
   pub stray_stands : (more : List PeerId) → Stray ≡ route_of h earlier d
       → ((peer : PeerId) → is_noted peer more ≡ (same_peer (peer_of d) peer || is_noted peer known.strays))
       → StandsFor (record { header = known.header; asked = known.asked; answered = known.answered; strays = more }) h (d ∷ earlier)
-  stray_stands more is adds = let some = begun Stray is (inl refl) in stray_by known earlier d h.named h.service stands some.0 some.1 more is adds
+  stray_stands more is adds = let some = begun Stray is (inl refl) in stray_by known earlier d h.named h.service h.rollover stands some.0 some.1 more is adds
 
   pub answer_stands : Peer ≡ route_of h earlier d → ComesFirst known known.header.named d ≡ true
       → StandsFor (record { header = known.header; asked = known.asked; answered = Some (sides_of d); strays = known.strays }) h (d ∷ earlier)
@@ -186,14 +194,14 @@ module _ (h : Header) (known : KnownIds) (earlier : List Datagram) (stands : Sta
       let more = and_parts (is_some known.asked) (not (is_some known.answered)) parts.0 in
       elim (two_ways (first_of (asks h) earlier)) [
         | inl none ↦ absurd (false≢true (ap is_some (sym (asked_none none)) ∙ more.0))
-        | inr some ↦ answer_by known earlier d h.named h.service stands some.0 some.1 is parts.1 (is_none known.answered more.1)
+        | inr some ↦ answer_by known earlier d h.named h.service h.rollover stands some.0 some.1 is parts.1 (is_none known.answered more.1)
       ]
 
   -- a stray that was not noted is from where nothing has come
   pub new_stray : Stray ≡ route_of h earlier d → is_noted (peer_of d) known.strays ≡ false → has_come_from (peer_of d) earlier ≡ false
   new_stray is new =
       let some = begun Stray is (inl refl) in
-      let apart = apart_by known earlier d h.named h.service stands some.0 some.1 is in
+      let apart = apart_by known earlier d h.named h.service h.rollover stands some.0 some.1 is in
       and_true (has_come_from (peer_of d) earlier) ∙ ap (λ b. has_come_from (peer_of d) earlier && not b) (sym apart) ∙ sym (stands.strays (peer_of d)) ∙ new
 
 -- ---- a datagram with these numbers

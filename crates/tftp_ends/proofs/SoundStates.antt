@@ -37,7 +37,7 @@ module _ (old new : Held) (k : ℕ) (bytes : List ℕ) (placing : Placing) (plac
 abbrev pub IsSized : Terms → ℕ → ℕ → Type 0
 IsSized t k long = (size : ℕ) → t.size ≡ Some size → HasLengthBySize t.blksize size k long
 
-pub sound_more : (t : Terms) (old new : Held) (k : ℕ) (bytes : List ℕ) (placing : Placing) → IsSound t old → 1 ≤ k → k ≤ 65535 → IsSized t k (length bytes) → Places old new k bytes placing
+pub sound_more : (t : Terms) (old new : Held) (k : ℕ) (bytes : List ℕ) (placing : Placing) → IsSound t old → 1 ≤ k → k ≤ t.greatest → IsSized t k (length bytes) → Places old new k bytes placing
     → ((other : List ℕ) → map.get old k ≡ Some other → other ≡ bytes) → IsSound t new
 sound_more t old new k bytes placing sound one small sized places same = record {
   blksize = sound.blksize;
@@ -53,7 +53,7 @@ sound_more t old new k bytes placing sound one small sized places same = record 
   ];
 }
 
-pub sound_sent : (s : Sender) (new : Held) (k top : ℕ) (bytes : List ℕ) (placing : Placing) → IsSoundSender s → 1 ≤ k → k ≤ 65535 → IsSized s.terms k (length bytes)
+pub sound_sent : (s : Sender) (new : Held) (k top : ℕ) (bytes : List ℕ) (placing : Placing) → IsSoundSender s → 1 ≤ k → k ≤ s.terms.greatest → IsSized s.terms k (length bytes)
     → ((n : ℕ) → 1 ≤ n → n < k → IsHeld s.held n) → Places s.held new k bytes placing → ((other : List ℕ) → map.get s.held k ≡ Some other → other ≡ bytes)
     → (top ≡ s.usable_top) ⊎ (top ≡ max s.usable_top k)
     → IsSoundSender (record { terms = s.terms; held = new; answered = s.answered; zero = s.zero; usable_top = top; stopped = s.stopped })
@@ -82,7 +82,7 @@ sound_sent s new k top bytes placing sound one small sized below places same eit
   kept : top ≡ s.usable_top → (top ≡ 0) ⊎ IsHeld new top
   kept is = elim sound.sent [ inl none ↦ inl (is ∙ none) | inr held ↦ inr (subst (IsHeld new) (sym is) (still s.usable_top held)) ]
 
-pub sound_taken : (r : Receiver) (new : Held) (k : ℕ) (bytes : List ℕ) (placing : Placing) → IsSoundReceiver r → 1 ≤ k → k ≤ 65535 → IsSized r.terms k (length bytes) → Places r.held new k bytes placing
+pub sound_taken : (r : Receiver) (new : Held) (k : ℕ) (bytes : List ℕ) (placing : Placing) → IsSoundReceiver r → 1 ≤ k → k ≤ r.terms.greatest → IsSized r.terms k (length bytes) → Places r.held new k bytes placing
     → ((other : List ℕ) → map.get r.held k ≡ Some other → other ≡ bytes)
     → IsSoundReceiver (record { terms = r.terms; held = new; acked = r.acked; usable_acked = r.usable_acked; zero = r.zero; stopped = r.stopped })
 sound_taken r new k bytes placing sound one small sized places same = record {
@@ -125,8 +125,8 @@ front_below held (suc n) = elim (front_below held n) [
   ])
 
 pub has_front : (t : Terms) (held : Held) → IsSound t held → (front : ℕ) × IsHeldFront held front
-has_front t held sound = elim (front_below held 65536) [
-  | inl all ↦ let small = sound.numbers 65536 (all 65536 (omega arith) (omega arith)) in absurd (omega arith)
+has_front t held sound = elim (front_below held (t.greatest + 1)) [
+  | inl all ↦ let small = sound.numbers (t.greatest + 1) (all (t.greatest + 1) (omega arith) (omega arith)) in absurd (omega (arith, small))
   | inr there ↦ there
 ]
 

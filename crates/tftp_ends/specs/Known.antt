@@ -29,7 +29,7 @@ peer_as seen = record { host = seen.host.now; port = seen.remote }
 abbrev pub datagram_as : Seen → List ℕ → Datagram
 datagram_as seen payload = record { dir = seen.dir; local = seen.local; host = seen.host.now; remote = seen.remote; payload = payload }
 
--- where the capture was taken; the sides of the first request, and of the first datagram from the server's side; and
+-- where the capture was taken, whatever comes after block 65535; the sides of the first request, and of the first datagram from the server's side; and
 -- where strays came from
 pub record KnownIds : Type 0 where
   pub header : Header
@@ -63,7 +63,7 @@ NotesStrays strays other earlier = (peer : PeerId) → is_noted peer strays ≡ 
 -- These ids and strays are those of the datagrams that have passed. None has passed before the first request, since
 -- till then only a request may.
 pub record StandsFor (known : KnownIds) (h : Header) (earlier : List Datagram) : Type 0 where
-  pub header : known.header ≡ h
+  pub header : known.header ≡ record { named = h.named; service = h.service; rollover = None }
   pub asked : known.asked ≡ option_map sides_of (first_of (asks h) earlier)
   pub answered : known.answered ≡ option_map sides_of (first_answer h.named earlier (first_of (asks h) earlier))
   pub strays : NotesStrays known.strays (other_end h.named known.asked known.answered) earlier

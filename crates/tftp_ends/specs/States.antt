@@ -73,7 +73,7 @@ stopped_receiver r = record { terms = r.terms; held = r.held; acked = r.acked; u
 
 -- the same terms, with this reply
 abbrev pub replied : Reply → Terms → Terms
-replied reply t = record { named = t.named; side = t.side; reply = reply; blksize = t.blksize; windowsize = t.windowsize; size = t.size }
+replied reply t = record { named = t.named; side = t.side; reply = reply; blksize = t.blksize; windowsize = t.windowsize; greatest = t.greatest; size = t.size }
 
 -- ---- what passes
 

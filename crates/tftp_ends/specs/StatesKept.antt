@@ -13,12 +13,12 @@ use Rattle.tftp_ends.specs.States.{Sender, Receiver, AreBlocks, IsHeld, HasLengt
 abbrev pub AreSized : Terms → Held → Type 0
 AreSized t held = (size k : ℕ) (bytes : List ℕ) → t.size ≡ Some size → map.get held k ≡ Some bytes → HasLengthBySize t.blksize size k (length bytes)
 
--- Blocks are numbered from 1, by two bytes (RFC 1350, section 5).
+-- Blocks are numbered from 1 up to the greatest (RFC 1350, section 5).
 pub record IsSound (t : Terms) (held : Held) : Type 0 where
   pub blksize : 8 ≤ t.blksize
   pub windowsize : 1 ≤ t.windowsize
   pub from_one : map.get held 0 ≡ None
-  pub numbers : (k : ℕ) → IsHeld held k → k ≤ 65535
+  pub numbers : (k : ℕ) → IsHeld held k → k ≤ t.greatest
   pub sized : AreSized t held
 
 -- The sender leaves no block out, and what was acknowledged it had sent.
@@ -123,10 +123,10 @@ reply_back Oacked = refl
 
 abbrev pub terms_code : Coded Terms
 terms_code =
-    code_by (End × (Side × (Reply × (ℕ × (ℕ × Option ℕ)))))
-    (coded× (code_by ℕ coded_ℕ number_of_end end_from end_back) (coded× side_code (coded× (code_by ℕ coded_ℕ reply_number reply_from reply_back) (coded× coded_ℕ (coded× coded_ℕ (coded_option coded_ℕ))))))
-    (λ t. (t.named, (t.side, (t.reply, (t.blksize, (t.windowsize, t.size))))))
-    (λ p. record { named = p.0; side = p.1.0; reply = p.1.1.0; blksize = p.1.1.1.0; windowsize = p.1.1.1.1.0; size = p.1.1.1.1.1 })
+    code_by (End × (Side × (Reply × (ℕ × (ℕ × (ℕ × Option ℕ))))))
+    (coded× (code_by ℕ coded_ℕ number_of_end end_from end_back) (coded× side_code (coded× (code_by ℕ coded_ℕ reply_number reply_from reply_back) (coded× coded_ℕ (coded× coded_ℕ (coded× coded_ℕ (coded_option coded_ℕ)))))))
+    (λ t. (t.named, (t.side, (t.reply, (t.blksize, (t.windowsize, (t.greatest, t.size)))))))
+    (λ p. record { named = p.0; side = p.1.0; reply = p.1.1.0; blksize = p.1.1.1.0; windowsize = p.1.1.1.1.0; greatest = p.1.1.1.1.1.0; size = p.1.1.1.1.1.1 })
     (λ _. refl)
 
 abbrev pub held_code : Coded Held

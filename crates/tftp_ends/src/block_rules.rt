@@ -16,9 +16,6 @@ use law_model::rules::{EndRule, Reply, Terms};
 use std::alloc::Global;
 use tftp_packet::Side;
 
-/// The greatest number that a block may have (RFC 1350, section 5).
-const GREATEST_BLOCK: u32 = 65_535;
-
 /// Whether blocks wait for an ACK 0 (RFC 1350, section 4; RFC 2347). `zero` tells whether one has passed.
 fn blocks_wait(terms: &Terms, zero: bool) -> bool
     ensures { (passed : List Datagram) → ((zero ≡ true) ↔ HasPassed (Ack 0) passed)
@@ -143,11 +140,11 @@ fn has_wrong_length<D: Delivered>(
     }
 }
 
-/// Whether it is a block above 65535, or that block and not the last (RFC 1350, section 5).
+/// Whether it is a block above the greatest, or that block and not the last (RFC 1350, section 5).
 fn is_beyond(terms: &Terms, number: u32, len: usize) -> bool
-    ensures { IsTrue result ↔ ((65535 < number) ⊎ ((number ≡ 65535) × (terms.now.blksize ≤ len))) }
+    ensures { IsTrue result ↔ ((terms.now.greatest < number) ⊎ ((number ≡ terms.now.greatest) × (terms.now.blksize ≤ len))) }
 {
-    number > GREATEST_BLOCK || (number == GREATEST_BLOCK && usize::from(terms.blksize) <= len)
+    number > terms.greatest || (number == terms.greatest && usize::from(terms.blksize) <= len)
 }
 
 /// The first rule that a block of this length breaks, of those that are the same at both ends and do not compare its
@@ -173,7 +170,7 @@ pub(crate) fn may_open<D: Delivered>(
         → IfErr result (FirstEndBroken terms.now passed (Data number bytes)) }
     ensures takes { OnOk result (Takes terms.now.blksize terms.now.windowsize (D.held store.now) number len) }
     ensures sized { OnOk result ((size : ℕ) → terms.now.size ≡ Some size → HasLengthBySize terms.now.blksize size number len) }
-    ensures low { OnOk result (number ≤ 65535) }
+    ensures low { OnOk result (number ≤ terms.now.greatest) }
 {
     if blocks_wait(terms, zero) {
         return Err(EndRule::NotStarted);

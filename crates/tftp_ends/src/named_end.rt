@@ -96,7 +96,7 @@ impl<D: Delivered> NamedEnd<D> {
     /// The highest block that has passed, or 0.
     pub fn highest(&self) -> u32
         ensures highest { (passed : List Datagram) → IsEndAfter self.now passed → IsHigh passed result }
-        ensures low { result ≤ 65535 }
+        ensures low { result ≤ (terms_of self.now).greatest }
     {
         match &self.role {
             Role::Sends(sender) => sender.highest(),

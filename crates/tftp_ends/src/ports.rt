@@ -1,6 +1,7 @@
-ghost use Rattle.std.specs.Prelude.{◌≡◌, ◌≢◌, ◌&&◌, not, ℕ, false, List, [], ◌∷◌, Some, None, is_some, option_map, Ok, Err, OnOk, OnErr};
+ghost use Rattle.std.specs.Prelude.{◌≡◌, ◌≢◌, ◌&&◌, not, ℕ, false, List, [], ◌∷◌, Option, Some, None, is_some, option_map, Ok, Err, OnOk, OnErr};
 ghost use Rattle.tftp_packet.specs.{opcode_of};
 ghost use Rattle.tftp_packet.specs.Hosts.{Datagram, Header, same_peer};
+ghost use Rattle.tftp_packet.specs.{Rollover};
 ghost use Rattle.law_model.specs.Rules.Ports as definitions;
 ghost use Rattle.tftp_ends.specs.Known.{
   StandsFor,
@@ -136,12 +137,13 @@ pub struct Ports {
 }
 
 impl Model for Ports {
+    ghost use Rattle.std.specs.Prelude.{None};
     ghost use Rattle.tftp_ends.specs.Known.{KnownIds};
 
     ghost Value = { KnownIds };
 
     ghost view = { λ p. record {
-      header = record { named = p.named; service = p.service };
+      header = record { named = p.named; service = p.service; rollover = None };
       asked = p.asked;
       answered = p.answered;
       strays = p.strays;
@@ -151,7 +153,7 @@ impl Model for Ports {
 impl Ports {
     /// The ports of a transfer that nothing has passed of. Takes no memory.
     pub fn new(alloc: Global, end: End, service: u16) -> Self
-        ensures { StandsFor result (record { named = end; service = service }) [] }
+        ensures { (rollover : Option Rollover) → StandsFor result (record { named = end; service = service; rollover = rollover }) [] }
     {
         Ports {
             named: end,

@@ -189,7 +189,7 @@ impl<D: Delivered> ReceiverState<D> {
     /// The highest block that came in, or 0.
     pub fn highest(&self) -> u32
         ensures highest { (passed : List Datagram) → IsReceiverAfter self.now passed → IsHigh passed result }
-        ensures low { result ≤ 65535 }
+        ensures low { result ≤ self.now.terms.greatest }
     {
         self.store.highest()
     }

@@ -205,7 +205,7 @@ impl<D: Delivered> SenderState<D> {
     /// The highest block that went out, or 0.
     pub fn highest(&self) -> u32
         ensures highest { (passed : List Datagram) → IsSenderAfter self.now passed → IsHigh passed result }
-        ensures low { result ≤ 65535 }
+        ensures low { result ≤ self.now.terms.greatest }
     {
         self.store.highest()
     }

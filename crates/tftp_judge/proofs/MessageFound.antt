@@ -1,7 +1,8 @@
 -- What is found of a message, by its kind, is the first rule that it breaks.
-use Rattle.std.proofs.Common.{◌≡◌, ◌≢◌, ℕ, ◌<◌, Bool, true, false, List, Ok, Err, inl, inr, refl, sym, subst, ap, ◌∙◌, arith, Result, OnOk, IfErr}
+use Rattle.std.proofs.Common.{◌≡◌, ◌≢◌, ℕ, ◌<◌, Bool, true, false, List, Ok, Err, inl, inr, refl, sym, subst, ap, ◌∙◌, arith, Result, OnOk, IfErr, Option}
 use Rattle.std.proofs.lemmas.Bool.{false≢true}
 use Rattle.tftp_packet.specs.{OptionMap, no_options, Message, RequestParts, Side, Get, End, Client, Server}
+use Rattle.tftp_packet.specs.{Rollover}
 use Rattle.tftp_packet.specs.Hosts.{Datagram, Header}
 use Rattle.tftp_packet.specs.{Dir, Out}
 use Rattle.tftp_ends.specs.{IsBlockOrAck, Rejection}
@@ -59,43 +60,43 @@ module _ (asked : RequestParts) (passed : List Datagram) (dir : Dir) (now : Requ
 
 -- ---- the first OACK
 
-module _ (asked : RequestParts) (oack : OptionMap) where
-  fault_first : (f : NegoFault) → FirstFault asked oack f → (other : Rule) → number_of other < number f → FirstOackBreaks asked oack other → ⊥
+module _ (rollover : Option Rollover) (asked : RequestParts) (oack : OptionMap) where
+  fault_first : (f : NegoFault) → FirstFault rollover asked oack f → (other : Rule) → number_of other < number f → FirstOackBreaks rollover asked oack other → ⊥
   fault_first f first (Rule.Agreement broken) low b = first.1 (NegoFault.Broken broken) low b
   fault_first f first (Rule.Block EndRule.BeyondBlock65535) low b = first.1 NegoFault.BeyondBlock65535 low b
   fault_first f first other low b = absurd b
 
-  pub fault_found : (A : Type 0) (f : NegoFault) → (f ≢ NegoFault.Memory → FirstFault asked oack f) → (f ≡ NegoFault.Memory → NoneBreaks (FirstOackBreaks asked oack)) → Finds (FirstOackBreaks asked oack) A (Err (error_of_fault f))
+  pub fault_found : (A : Type 0) (f : NegoFault) → (f ≢ NegoFault.Memory → FirstFault rollover asked oack f) → (f ≡ NegoFault.Memory → NoneBreaks (FirstOackBreaks rollover asked oack)) → Finds (FirstOackBreaks rollover asked oack) A (Err (error_of_fault f))
   fault_found A (NegoFault.Broken broken) first none = let is = first (λ e. cc) in (is.0, fault_first (NegoFault.Broken broken) is)
   fault_found A NegoFault.BeyondBlock65535 first none = let is = first (λ e. cc) in (is.0, fault_first NegoFault.BeyondBlock65535 is)
   fault_found A NegoFault.Memory first none = none refl
 
-  pub none_of_agreed : oack ≢ no_options → MayAgree asked oack → NoneBreaks (FirstOackBreaks asked oack)
-  none_of_agreed some may (Rule.Agreement broken) b = no_fault asked oack some may (NegoFault.Broken broken) b
-  none_of_agreed some may (Rule.Block EndRule.BeyondBlock65535) b = no_fault asked oack some may NegoFault.BeyondBlock65535 b
+  pub none_of_agreed : oack ≢ no_options → MayAgree rollover asked oack → NoneBreaks (FirstOackBreaks rollover asked oack)
+  none_of_agreed some may (Rule.Agreement broken) b = no_fault rollover asked oack some may (NegoFault.Broken broken) b
+  none_of_agreed some may (Rule.Block EndRule.BeyondBlock65535) b = no_fault rollover asked oack some may NegoFault.BeyondBlock65535 b
   none_of_agreed some may rule b = absurd b
 
 -- ---- an OACK, by how the request was answered
 
-module _ (asked : RequestParts) (passed : List Datagram) (dir : Dir) (oack : OptionMap) where
+module _ (rollover : Option Rollover) (asked : RequestParts) (passed : List Datagram) (dir : Dir) (oack : OptionMap) where
   module _ (none : NotAnswered asked.side passed) where
-    first_there : (rule : Rule) → FirstOackBreaks asked oack rule → OackBreaks asked passed dir oack rule
+    first_there : (rule : Rule) → FirstOackBreaks rollover asked oack rule → OackBreaks rollover asked passed dir oack rule
     first_there Rule.ReplyChanged b = absurd b
     first_there Rule.OackChanged b = absurd b
     first_there Rule.OackAfterStart b = absurd b
     first_there rule b = (none, b)
 
-    first_back : (rule : Rule) → OackBreaks asked passed dir oack rule → FirstOackBreaks asked oack rule
+    first_back : (rule : Rule) → OackBreaks rollover asked passed dir oack rule → FirstOackBreaks rollover asked oack rule
     first_back Rule.ReplyChanged b = not_both asked.side passed Begins none b
     first_back Rule.OackChanged (first, answered, apart) = not_both asked.side passed (Agrees first) none answered
     first_back Rule.OackAfterStart (out, get, (k, bytes, sent)) = block_answers Out k bytes passed sent (subst (λ side. NotAnswered side passed) get none)
     first_back rule b = b.1
 
-    pub first_oack_finds : (A : Type 0) (r : Result (Unit {0}) PassError) → Finds (FirstOackBreaks asked oack) A r → Finds (OackBreaks asked passed dir oack) A r
-    first_oack_finds A = finds_by (FirstOackBreaks asked oack) (OackBreaks asked passed dir oack) A A first_there first_back (λ a. a)
+    pub first_oack_finds : (A : Type 0) (r : Result (Unit {0}) PassError) → Finds (FirstOackBreaks rollover asked oack) A r → Finds (OackBreaks rollover asked passed dir oack) A r
+    first_oack_finds A = finds_by (FirstOackBreaks rollover asked oack) (OackBreaks rollover asked passed dir oack) A A first_there first_back (λ a. a)
 
   module _ (first : OptionMap) (answered : FirstAnswer asked.side passed (Agrees first)) where
-    later_there : (rule : Rule) → LaterOackBreaks asked.side passed dir first oack rule → OackBreaks asked passed dir oack rule
+    later_there : (rule : Rule) → LaterOackBreaks asked.side passed dir first oack rule → OackBreaks rollover asked passed dir oack rule
     later_there Rule.OackChanged b = (first, answered, b)
     later_there Rule.OackAfterStart b = b
     later_there rule b = absurd b
@@ -103,14 +104,14 @@ module _ (asked : RequestParts) (passed : List Datagram) (dir : Dir) (oack : Opt
     agreed_once : (was : OptionMap) → FirstAnswer asked.side passed (Agrees was) → was ≡ first
     agreed_once was is = let same : Agrees was ≡ Agrees first = first_one asked.side passed (Agrees was) (Agrees first) is answered in cc
 
-    later_back : (rule : Rule) → OackBreaks asked passed dir oack rule → LaterOackBreaks asked.side passed dir first oack rule
+    later_back : (rule : Rule) → OackBreaks rollover asked passed dir oack rule → LaterOackBreaks asked.side passed dir first oack rule
     later_back Rule.ReplyChanged b = let same : Begins ≡ Agrees first = first_one asked.side passed Begins (Agrees first) b answered in absurd (cc)
     later_back Rule.OackChanged (was, is, apart) = λ same. apart (same ∙ sym (agreed_once was is))
     later_back Rule.OackAfterStart b = b
     later_back rule b = absurd (not_both asked.side passed (Agrees first) b.0 answered)
 
-    pub later_oack_finds : (A B : Type 0) → (A → B) → (r : Result (Unit {0}) PassError) → Finds (LaterOackBreaks asked.side passed dir first oack) A r → Finds (OackBreaks asked passed dir oack) B r
-    later_oack_finds A B = finds_by (LaterOackBreaks asked.side passed dir first oack) (OackBreaks asked passed dir oack) A B later_there later_back
+    pub later_oack_finds : (A B : Type 0) → (A → B) → (r : Result (Unit {0}) PassError) → Finds (LaterOackBreaks asked.side passed dir first oack) A r → Finds (OackBreaks rollover asked passed dir oack) B r
+    later_oack_finds A B = finds_by (LaterOackBreaks asked.side passed dir first oack) (OackBreaks rollover asked passed dir oack) A B later_there later_back
 
 -- ---- a block or an ACK
 
@@ -237,7 +238,7 @@ module _ (h : Header) (asked : RequestParts) (passed : List Datagram) (dir : Dir
     module _ (first : FirstAnswer asked.side passed (Agrees oack)) (stays : GoesOn passed dir (Message.Oack oack) → ⊥) where
       oack_found : (r : Result (Unit {0}) PassError) → Finds (LaterOackBreaks asked.side passed dir oack oack) (Unit {0}) r → Finds OackAgain (Unit {0}) r
       oack_found r found = kind_finds h asked passed dir (Message.Oack oack) (oack_right_by (author_of h.named dir) other) stays (Unit {0}) r
-          (later_oack_finds asked passed dir oack oack first (Unit {0}) (Unit {0}) (λ a. a) r found)
+          (later_oack_finds h.rollover asked passed dir oack oack first (Unit {0}) (Unit {0}) (λ a. a) r found)
 
       pub oack_again_late : (dir ≡ Out) × (asked.side ≡ Get) × BlockSent passed → IsFirstOf OackAgain Rule.OackAfterStart
       oack_again_late late = oack_found (Err (PassError.Broken Rule.OackAfterStart)) (later_late asked.side passed dir oack oack refl late)

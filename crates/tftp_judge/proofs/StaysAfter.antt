@@ -82,6 +82,7 @@ pub transfer_aside : (t : Transfer) (h : Header) (passed : List Datagram) (d : D
     → (t.exchange ≡ Unanswered → AnswersNothing t.asked.side m) → IsTransferAfter t h (d ∷ passed)
 transfer_aside t h passed d m after spells is no_error other = record {
   named = after.named;
+  rollover = after.rollover;
   exchange = exchange_aside h t.asked passed d m spells is t.exchange other after.exchange;
   block_sent = block_flag_kept d d.dir m passed (refl, spells) t.block_sent (aside_no_block d.dir m is) after.block_sent;
   ack_sent = ack_flag_kept d d.dir m passed (refl, spells) t.ack_sent (aside_no_ack d.dir m is) after.ack_sent;
@@ -138,6 +139,7 @@ pub transfer_kept : (old kept new : Transfer) (h : Header) (passed : List Datagr
     → IsTransferAfter new h (d ∷ passed)
 transfer_kept old kept new h passed d m after spells is by_exchange by_sent exchange block_sent ack_sent = record {
   named = by_sent.0 ∙ by_exchange.0 ∙ after.named;
+  rollover = by_sent.4 ∙ by_exchange.5 ∙ after.rollover;
   exchange = subst (λ (a : RequestParts). IsExchange h a (d ∷ passed) new.exchange) (sym (by_sent.1 ∙ by_exchange.1)) (subst (IsExchange h old.asked (d ∷ passed)) (sym by_sent.2) exchange);
   block_sent = block_sent (subst (λ (b : Bool). (b ≡ true) ↔ BlockSent passed) (sym by_exchange.2) after.block_sent);
   ack_sent = ack_sent (subst (λ (b : Bool). (b ≡ true) ↔ AckSent passed) (sym by_exchange.3) after.ack_sent);
@@ -148,11 +150,12 @@ transfer_kept old kept new h passed d m after spells is by_exchange by_sent exch
 
 pub transfer_agreed : (old : Transfer) (h : Header) (passed : List Datagram) (d : Datagram) (oack agreed : OptionMap) (end : NamedEnd) → IsTransferAfter old h passed → old.exchange ≡ Unanswered
     → Spells d.payload (Message.Oack oack) → agreed ≡ oack → terms_of end ≡ terms_after h old.asked (Agrees agreed) → (IsBeforeBlocks passed → IsEndAfter end passed)
-    → IsTransferAfter (record { named = old.named; asked = old.asked; exchange = Agreed agreed end; block_sent = old.block_sent; ack_sent = old.ack_sent; errors = old.errors }) h (d ∷ passed)
+    → IsTransferAfter (record { named = old.named; rollover = old.rollover; asked = old.asked; exchange = Agreed agreed end; block_sent = old.block_sent; ack_sent = old.ack_sent; errors = old.errors }) h (d ∷ passed)
 transfer_agreed old h passed d oack agreed end after unanswered spells same terms begun =
     let kept = subst (IsExchange h old.asked passed) unanswered after.exchange in
     record {
       named = after.named;
+      rollover = after.rollover;
       exchange = record {
         answered = inr (kept.0, (Message.Oack oack, spells, sym same));
         terms = terms;
@@ -173,9 +176,10 @@ error_is_right Server Put code text wrong = wrong
 
 pub transfer_with_error : (old : Transfer) (h : Header) (passed : List Datagram) (d : Datagram) (dir : Dir) (code : ℕ) (text : List ℕ) (exchange : Exchange) (errors : Errors) → IsTransferAfter old h passed
     → Says d dir (Message.Error code text) → IsExchange h old.asked (d ∷ passed) exchange → AreErrors errors (d ∷ passed)
-    → IsTransferAfter (record { named = old.named; asked = old.asked; exchange = exchange; block_sent = old.block_sent; ack_sent = old.ack_sent; errors = errors }) h (d ∷ passed)
+    → IsTransferAfter (record { named = old.named; rollover = old.rollover; asked = old.asked; exchange = exchange; block_sent = old.block_sent; ack_sent = old.ack_sent; errors = errors }) h (d ∷ passed)
 transfer_with_error old h passed d dir code text exchange errors after says now are = record {
   named = after.named;
+  rollover = after.rollover;
   exchange = now;
   block_sent = block_flag_kept d dir (Message.Error code text) passed says old.block_sent (λ k bytes e. absurd (cc)) after.block_sent;
   ack_sent = ack_flag_kept d dir (Message.Error code text) passed says old.ack_sent (λ j e. absurd (cc)) after.ack_sent;

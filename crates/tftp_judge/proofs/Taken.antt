@@ -2,11 +2,13 @@
 use Rattle.std.proofs.Common.{◌≡◌, ◌≢◌, ℕ, ◌+◌, ◌<◌, ◌≤◌, List, [], ◌∷◌, Option, Some, None, length, inl, inr, refl, sym, subst, ap, ◌∙◌, arith}
 use Rattle.std.specs.List.{AllByRecursion}
 use Rattle.tftp_packet.specs.{Message, OptionMap, RequestParts, Spells, opcode_of}
+use Rattle.tftp_packet.specs.{Rollover}
+use Rattle.tftp_packet.specs.Rounds.{position_of}
 use Rattle.tftp_packet.specs.Hosts.{Datagram, Header}
 use Rattle.law_model.specs.Rules.{IsHigh, transfer_of}
 use Rattle.law_end.specs.{OneEnded, Passes}
 use Rattle.law_end.proofs.Accord.HighestNumbers.{high_of, transfer_spelled}
-use Rattle.law_rollover.specs.{IsTaken, IsTakenFor, IsUnrolled, Rollover, position_of, unrolled_payload, with_payload}
+use Rattle.law_rollover.specs.{IsTaken, IsTakenFor, IsUnrolled, unrolled_payload, with_payload}
 use Rattle.law_rollover.proofs.Payloads.{error_back, error_on, first_stays, neither_stays, oack_stays, request_stays}
 use Rattle.law_rollover.proofs.Shown.{one_greatest}
 use Rattle.std.proofs.lemmas.List.Elements.{All-cons}

@@ -25,7 +25,10 @@ WaitsForReply _ _ = ⊥
 abbrev pub DiffersByExchange : Transfer → Transfer → Type 0
 DiffersByExchange old new =
     (new.named ≡ old.named) × (new.asked ≡ old.asked) × (new.block_sent ≡ old.block_sent) × (new.ack_sent ≡ old.ack_sent) × (new.errors ≡ old.errors)
+    × (new.rollover ≡ old.rollover)
 
 -- only what the named end has sent has changed
 abbrev pub DiffersBySent : Transfer → Transfer → Type 0
-DiffersBySent old new = (new.named ≡ old.named) × (new.asked ≡ old.asked) × (new.exchange ≡ old.exchange) × (new.errors ≡ old.errors)
+DiffersBySent old new =
+    (new.named ≡ old.named) × (new.asked ≡ old.asked) × (new.exchange ≡ old.exchange) × (new.errors ≡ old.errors)
+    × (new.rollover ≡ old.rollover)

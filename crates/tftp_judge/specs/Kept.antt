@@ -4,6 +4,7 @@ use Rattle.std.specs.Prelude.{◌≡◌, ◌⊎◌, ◌↔◌, ◌≤◌, ℕ, B
 use Rattle.tftp_packet.specs.{OptionMap, Message, RequestParts, Spells, End}
 use Rattle.tftp_packet.specs.Hosts.{Datagram, Header}
 use Rattle.tftp_packet.specs.{Dir, In, Out}
+use Rattle.tftp_packet.specs.{Rollover}
 use Rattle.tftp_ends.specs.{KnownIds, StandsFor, NamedEnd, terms_of, IsEndAfter, has_stopped, IsBeforeBlocks}
 use Rattle.law_model.specs.Rules.{transfer_of, Passed}
 use Rattle.law_end.specs.{IsErrorBy, IsFirstError, AckSent, BlockSent, OneEnded, Answer, Agrees, Begins, FirstAnswer, FirstAsked, NotAnswered, terms_after, AbortedBy}
@@ -43,6 +44,7 @@ pub data Exchange : Type 0 where
 
 pub record Transfer : Type 0 where
   pub named : End
+  pub rollover : Option Rollover  -- what comes after block 65535, where anything does
   pub asked : RequestParts  -- the first request
   pub exchange : Exchange
   pub block_sent : Bool  -- the named end has sent a block
@@ -63,6 +65,7 @@ IsExchange h asked passed (Agreed options end) = HasBegun h asked passed (Agrees
 -- The transfer stands for these datagrams of it.
 pub record IsTransferAfter (t : Transfer) (h : Header) (passed : List Datagram) : Type 0 where
   pub named : t.named ≡ h.named
+  pub rollover : t.rollover ≡ h.rollover
   pub exchange : IsExchange h t.asked passed t.exchange
   pub block_sent : (t.block_sent ≡ true) ↔ BlockSent passed
   pub ack_sent : (t.ack_sent ≡ true) ↔ AckSent passed

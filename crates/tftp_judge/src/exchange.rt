@@ -1,6 +1,7 @@
 ghost use Rattle.std.specs.Prelude.{◌≡◌, ◌⊎◌, ◌↔◌, ◌≤◌, IsTrue, List, ◌∷◌, Err, OnOk, OnErr};
 ghost use Rattle.tftp_packet.specs.{Message, RequestParts, Spells, meaning, map_of};
 ghost use Rattle.tftp_packet.specs.Hosts.{Datagram, Header};
+ghost use Rattle.tftp_packet.specs.Rounds.{greatest_of};
 ghost use Rattle.law_model.specs.Rules.{author_of, IsHigh};
 ghost use Rattle.tftp_ends.specs.{IsBlockOrAck, Says};
 ghost use Rattle.law_end.specs.{TermsBreak, IsError, IsWrongKind};
@@ -55,7 +56,8 @@ impl<D: Delivered + Drop> Exchange<D> {
     /// The highest block that has passed, or 0 (RFC 1350, section 5).
     pub fn highest(&self) -> u32
         ensures highest { (h : Header) (asked : RequestParts) (passed : List Datagram) → IsExchange h asked passed (exchange_of self.now) → IsHigh passed result }
-        ensures low { result ≤ 65535 }
+        ensures within { (h : Header) (asked : RequestParts) (passed : List Datagram) → IsExchange h asked passed (exchange_of self.now)
+            → result ≤ greatest_of h.rollover }
     {
         match self {
             Exchange::Unanswered => 0,

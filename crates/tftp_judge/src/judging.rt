@@ -17,12 +17,12 @@ use crate::meaning::Meaning;
 use crate::pass_error::PassError;
 use crate::refusal::Refusal;
 use crate::sent_acks::SentAcks;
-use law_rollover::Rollover;
 use std::alloc::Global;
 use std::marker::Model;
 use tftp_capture::{Datagram, Header};
 use tftp_ends::blocks::Delivered;
 use tftp_packet::Packet;
+use tftp_packet::rounds::Rollover;
 
 /// The judge of a capture, datagram by datagram (RFC 1350; RFC 2347; RFC 7440). It keeps no list of datagrams: what
 /// it keeps are the transfer ids, the first request, what was agreed, a few numbers and the blocks.

@@ -18,13 +18,13 @@ use crate::sent_acks::SentAcks;
 use crate::transfer::Transfer;
 use law_end::Rule;
 use law_model::rules::PortRule;
-use law_rollover::Rollover;
 use std::alloc::Global;
 use std::marker::Model;
 use tftp_capture::{Datagram, Header};
 use tftp_ends::blocks::Delivered;
 use tftp_ends::{PortFault, Ports, Route, says_unknown_id};
 use tftp_packet::hosts::Dir;
+use tftp_packet::rounds::Rollover;
 use tftp_packet::{Bytes, Packet, RequestView, ack_of, block_of, opcode, own_request, read_packet};
 
 /// What is kept of the datagrams that have passed: the transfer ids, and the transfer from its first request on.
@@ -233,7 +233,7 @@ impl<D: Delivered + Drop> JudgeState<D> {
     ) -> Result<(), PassError>
         requires { Spells payload.now (Message.Request (parts asked.now)) }
         ensures begins { OnOk result ((transfer : TransferParts) × (self.new.transfer ≡ Some transfer) × (transfer.asked ≡ parts asked.now)
-            × ((h : HeaderParts) (d : DatagramParts) → h.named ≡ self.old.header.named → Spells d.payload (Message.Request transfer.asked)
+            × ((h : HeaderParts) (d : DatagramParts) → h.named ≡ self.old.header.named → h.rollover ≡ self.old.header.rollover → Spells d.payload (Message.Request transfer.asked)
             → IsTransferAfter transfer h (d ∷ []))) }
         ensures wanting { IfErr result (λ stop. stop ≡ PassErrorKind.Memory) }
         ensures err { OnErr result (self.new.transfer ≡ self.old.transfer) }
@@ -244,7 +244,7 @@ impl<D: Delivered + Drop> JudgeState<D> {
         let asked = own_request(alloc, asked)?;
         self.asked = Bytes::of(Vec::from_slice(alloc, payload)?);
         // by `insert`, since an assignment has the proof of this function let go of each kind of transfer before
-        self.transfer.insert(Transfer::of(self.header.named, asked));
+        self.transfer.insert(Transfer::of(self.header.named, self.header.rollover, asked));
         Ok(())
     }
 }

@@ -5,7 +5,8 @@ ghost use Rattle.tftp_packet.specs.{Out};
 ghost use Rattle.tftp_ends.specs.{terms_of, IsEndAfter, IsBeforeBlocks, IsBlockOrAck, Says};
 ghost use Rattle.law_model.specs.Rules.{IsHigh, transfer_of, author_of as author_by_way};
 ghost use Rattle.law_model.specs.{Plain};
-ghost use Rattle.law_rollover.specs.{Rollover as Numbering, position_of};
+ghost use Rattle.tftp_packet.specs.{Rollover as Numbering};
+ghost use Rattle.tftp_packet.specs.Rounds.{position_of};
 ghost use Rattle.law_end.specs.{MessageBreaks, FirstOackBreaks, LaterOackBreaks, OackBreaks, RequestBreaks, TermsBreak, BlockSent, AckSent, OneEnded, IsEnded, Agrees, ClientWentOn, FirstAsked, GoesOn, IsWrongKind, plain_terms as plain_terms_of, terms_after};
 ghost use Rattle.tftp_judge.specs.Found.{Finds, error_of_fault};
 ghost use Rattle.tftp_judge.specs.Exchanges.{WaitsForReply, DiffersByExchange, DiffersBySent};
@@ -27,13 +28,14 @@ use crate::refusal::Refusal;
 use crate::sent_acks::SentAcks;
 use law_end::Rule;
 use law_model::rules::{EndRule, Reply, Terms};
-use law_rollover::Rollover;
 use std::alloc::Global;
 use std::marker::Model;
 use tftp_ends::NamedEnd;
 use tftp_ends::blocks::Delivered;
 use tftp_nego::{Agreed, NegoFault, agree, nothing_agreed};
 use tftp_packet::hosts::Dir;
+use tftp_packet::rounds::{Rollover, greatest_block};
+use tftp_packet::rounds::{Rollover, greatest_block};
 use tftp_packet::{
     End, Mode, OptionsView, Packet, Request, RequestView, Side, same_options, same_request,
 };
@@ -41,6 +43,7 @@ use tftp_packet::{
 /// The transfer from its first request on: what was asked for and answered, the named end, and what it has sent.
 pub struct Transfer<D: Delivered + Drop> {
     named: End,
+    rollover: Option<Rollover>,
     asked: Request,
     exchange: Exchange<D>,
     block_sent: bool,
@@ -53,6 +56,7 @@ impl<D: Delivered + Drop> Drop for Transfer<D> {
     fn drop(self) {
         let Transfer {
             named: _,
+            rollover: _,
             asked: _,
             exchange: _,
             block_sent: _,
@@ -75,6 +79,7 @@ impl<D: Delivered + Drop> Model for Transfer<D> {
 
     ghost view = { λ t. record {
       named = t.named;
+      rollover = t.rollover;
       asked = t.asked;
       exchange = exchange_of t.exchange;
       block_sent = t.block_sent;
@@ -85,13 +90,14 @@ impl<D: Delivered + Drop> Model for Transfer<D> {
 
 impl<D: Delivered + Drop> Transfer<D> {
     /// After the first request of a transfer that is captured at this end (RFC 1350, section 4). Takes no memory.
-    pub fn of(named: End, asked: Request) -> Self
+    pub fn of(named: End, rollover: Option<Rollover>, asked: Request) -> Self
         ensures asked { result.asked ≡ asked }
-        ensures after { (h : Header) (d : Datagram) → h.named ≡ named → Spells d.payload (Message.Request asked)
+        ensures after { (h : Header) (d : Datagram) → h.named ≡ named → h.rollover ≡ rollover → Spells d.payload (Message.Request asked)
             → IsTransferAfter result h (d ∷ []) }
     {
         Transfer {
             named,
+            rollover,
             asked,
             exchange: Exchange::Unanswered,
             block_sent: false,
@@ -107,7 +113,10 @@ impl<D: Delivered + Drop> Transfer<D> {
             → rollover ≡ Some r → IsHigh passed high → result ≡ position_of r high number }
     {
         match rollover {
-            Some(rollover) => rollover.position(self.exchange.highest(), number),
+            Some(rollover) => {
+                let highest = self.exchange.highest().min(greatest_block(Some(rollover)));
+                rollover.position(highest, number)
+            }
             None => u32::from(number),
         }
     }
@@ -240,7 +249,7 @@ impl<D: Delivered + Drop> Transfer<D> {
     ) -> Result<(), PassError>
         ensures finds { (h : Header) (passed : List Datagram) (d : Datagram) → IsTransferAfter self.old h passed
             → Says d dir (Message.Oack (map_of oack.now))
-            → Finds (OackBreaks self.old.asked passed dir (map_of oack.now)) (IsTransferAfter self.new h (d ∷ passed)) result }
+            → Finds (OackBreaks h.rollover self.old.asked passed dir (map_of oack.now)) (IsTransferAfter self.new h (d ∷ passed)) result }
         ensures memory { (h : Header) (passed : List Datagram) → IsTransferAfter self.old h passed → result ≡ Err PassErrorKind.Memory
             → IsNew passed dir (Message.Oack (map_of oack.now)) }
         ensures asked { self.new.asked ≡ self.old.asked }
@@ -306,15 +315,15 @@ impl<D: Delivered + Drop> Transfer<D> {
         requires { self.old.exchange ≡ Unanswered }
         ensures finds { (h : Header) (passed : List Datagram) (d : Datagram) → IsTransferAfter self.old h passed
             → Spells d.payload (Message.Oack (map_of oack.now))
-            → Finds (FirstOackBreaks self.old.asked (map_of oack.now)) (IsTransferAfter self.new h (d ∷ passed)) result }
+            → Finds (FirstOackBreaks h.rollover self.old.asked (map_of oack.now)) (IsTransferAfter self.new h (d ∷ passed)) result }
         ensures asked { self.new.asked ≡ self.old.asked }
         ensures err { OnErr result (self.new ≡ self.old) }
     {
-        let agreed = match agree(alloc, &self.asked, oack) {
+        let agreed = match agree(alloc, &self.asked, oack, self.rollover) {
             Ok(agreed) => agreed,
             Err(fault) => return Err(stop_of(fault)),
         };
-        let end = self.begin(alloc, agreed_terms(self.named, &self.asked, &agreed));
+        let end = self.begin(alloc, self.agreed_terms(&agreed));
         self.exchange = Exchange::Agreed(FirstOack::of(alloc, agreed), end);
         Ok(())
     }
@@ -328,6 +337,45 @@ impl<D: Delivered + Drop> Transfer<D> {
     {
         let store = D::new(alloc, terms.blksize, terms.windowsize);
         NamedEnd::new(terms, store, self.errors.has_heard())
+    }
+
+    /// What is known where nothing is agreed (RFC 1350, section 2).
+    fn plain_terms(&self) -> Terms
+        ensures are { (h : Header) → h.named ≡ self.now.named → h.rollover ≡ self.now.rollover
+            → result ≡ plain_terms_of h self.now.asked.side Plain }
+        ensures blksize { 8 ≤ result.blksize }
+        ensures windowsize { 1 ≤ result.windowsize }
+    {
+        Terms {
+            named: self.named,
+            side: self.asked.side(),
+            reply: Reply::Plain,
+            blksize: 512,
+            windowsize: 1,
+            greatest: greatest_block(self.rollover),
+            size: None,
+        }
+    }
+
+    /// What is known where these options are agreed (RFC 2348; RFC 2349; RFC 7440).
+    fn agreed_terms(&self, agreed: &Agreed) -> Terms
+        ensures are { (h : Header) → h.named ≡ self.now.named → h.rollover ≡ self.now.rollover
+            → result ≡ terms_after h self.now.asked (Agrees agreed.now) }
+        ensures blksize { 8 ≤ result.blksize }
+        ensures windowsize { 1 ≤ result.windowsize }
+    {
+        Terms {
+            named: self.named,
+            side: self.asked.side(),
+            reply: Reply::Oacked,
+            blksize: agreed.blksize(),
+            windowsize: agreed.windowsize(),
+            greatest: greatest_block(self.rollover),
+            size: match self.asked.mode() {
+                Mode::Octet => agreed.tsize(),
+                Mode::Netascii => None,
+            },
+        }
     }
 
     /// A block or an ACK, by the rules of these (RFC 1350, sections 2, 4 and 5; RFC 7440, section 4).
@@ -385,7 +433,7 @@ impl<D: Delivered + Drop> Transfer<D> {
         if waits_for_reply(self.asked.side(), packet) {
             return Err(PassError::Broken(Rule::Block(EndRule::NotStarted)));
         }
-        let mut end = self.begin(alloc, plain_terms(self.named, self.asked.side()));
+        let mut end = self.begin(alloc, self.plain_terms());
         end.pass(alloc, dir, packet)?;
         self.exchange = Exchange::Begun(end);
         Ok(())
@@ -419,6 +467,7 @@ impl<D: Delivered + Drop> Transfer<D> {
             exchange,
             errors,
             named: _,
+            rollover: _,
             block_sent: _,
             ack_sent: _,
         } = self;
@@ -462,41 +511,6 @@ impl<D: Delivered + Drop> Transfer<D> {
                 _ => {}
             }
         }
-    }
-}
-
-/// What is known where nothing is agreed (RFC 1350, section 2).
-fn plain_terms(named: End, side: Side) -> Terms
-    ensures are { (h : Header) → h.named ≡ named → result ≡ plain_terms_of h side Plain }
-    ensures blksize { 8 ≤ result.blksize }
-    ensures windowsize { 1 ≤ result.windowsize }
-{
-    Terms {
-        named,
-        side,
-        reply: Reply::Plain,
-        blksize: 512,
-        windowsize: 1,
-        size: None,
-    }
-}
-
-/// What is known where these options are agreed (RFC 2348; RFC 2349; RFC 7440).
-fn agreed_terms(named: End, asked: &Request, agreed: &Agreed) -> Terms
-    ensures are { (h : Header) → h.named ≡ named → result ≡ terms_after h asked.now (Agrees agreed.now) }
-    ensures blksize { 8 ≤ result.blksize }
-    ensures windowsize { 1 ≤ result.windowsize }
-{
-    Terms {
-        named,
-        side: asked.side(),
-        reply: Reply::Oacked,
-        blksize: agreed.blksize(),
-        windowsize: agreed.windowsize(),
-        size: match asked.mode() {
-            Mode::Octet => agreed.tsize(),
-            Mode::Netascii => None,
-        },
     }
 }
 

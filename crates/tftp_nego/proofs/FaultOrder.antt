@@ -1,6 +1,7 @@
 -- The faults stand in one order, so the first one is one.
-use Rattle.std.proofs.Common.{◌≡◌, ℕ, ◌-◌, ◌≤◌, [], ◌∷◌, get_or, refl, arith}
+use Rattle.std.proofs.Common.{◌≡◌, ℕ, ◌-◌, ◌≤◌, [], ◌∷◌, Option, get_or, refl, arith}
 use Rattle.tftp_packet.specs.{OptionMap, RequestParts}
+use Rattle.tftp_packet.specs.{Rollover}
 use Rattle.tftp_packet.proofs.FirstOf.{first_one, Unless, first_unless}
 use Rattle.tftp_nego.specs.{NegoFault, Broken, OackEmpty, MulticastAgreed, OptionNotRequested, OptionOutsideProfile, OptionValue, BeyondBlock65535, Memory, Holds, number, FirstFault}
 
@@ -18,13 +19,13 @@ from_eleven (Broken OackEmpty) = omega arith
 from_eleven (Broken _) = omega arith
 from_eleven _ = omega arith
 
-module _ (request : RequestParts) (agreed : OptionMap) where
+module _ (rollover : Option Rollover) (request : RequestParts) (agreed : OptionMap) where
   abbrev pub HoldsOfIt : NegoFault → Type 0
-  HoldsOfIt f = Holds f request agreed
+  HoldsOfIt f = Holds rollover f request agreed
 
-  pub first_fault_unique : (f g : NegoFault) → FirstFault request agreed f → FirstFault request agreed g → f ≡ g
+  pub first_fault_unique : (f g : NegoFault) → FirstFault rollover request agreed f → FirstFault rollover request agreed g → f ≡ g
   first_fault_unique = first_one number HoldsOfIt fault_at fault_is
 
   -- a fault that holds is the first, unless one that stands before it does
-  pub first_fault : (f : NegoFault) → Holds f request agreed → Unless number HoldsOfIt fault_at fault_is (number f - 11) 11 (FirstFault request agreed f)
+  pub first_fault : (f : NegoFault) → Holds rollover f request agreed → Unless number HoldsOfIt fault_at fault_is (number f - 11) 11 (FirstFault rollover request agreed f)
   first_fault = first_unless number HoldsOfIt fault_at fault_is 11 from_eleven

@@ -1,9 +1,10 @@
 -- From the tests of an OACK, one by one, to its agreement or its first fault.
-use Rattle.std.proofs.Common.{Bool, true, false, cond, ◌≡◌, ◌≢◌, inl, inr, ℕ, ◌<◌, ◌≤◌, List, [], ◌∷◌, get_or, Some, None, refl, sym, ap, subst, ◌∙◌, arith, codes, bytes_eq}
+use Rattle.std.proofs.Common.{Bool, true, false, cond, ◌≡◌, ◌≢◌, inl, inr, ℕ, ◌<◌, ◌≤◌, List, [], ◌∷◌, get_or, Option, Some, None, refl, sym, ap, subst, ◌∙◌, arith, codes, bytes_eq}
 use Rattle.std.proofs.lemmas.Slice.Eq.{bytes_eq-Decides}
 use Rattle.std.specs.FinMap as map
 use Rattle.std.proofs.lemmas.Bool.{cases_lt}
 use Rattle.tftp_packet.specs.{OptionMap, OptionValue, Num, Text, no_options, lower, value_of, RequestParts, Pair, map_of, AreApart, Side, Get, Put}
+use Rattle.tftp_packet.specs.{Rollover}
 use Rattle.tftp_nego.specs.{AgreementRule, NegoFault, MayAnswer, MayAgree, AgreementBroken, Holds, FirstFault, HasOption, IsOutsideProfile, IsWrongNumber, IsWrongValue, EachName, SomeName, IsInProfile, IsAnswered, IsUnanswered, AreNot, IsLowered, IsKept, IsSize, AllAnswered, SomeUnanswered, FitsNumbers}
 use Rattle.tftp_nego.specs.declared.fault.NegoFault.TheVariants as fault
 use Rattle.tftp_nego.specs.declared.rule.AgreementRule.TheVariants as rule
@@ -81,8 +82,8 @@ all_asked request pairs known all name value has = elim (each_in_map IsInProfile
   | inr (inr (inr e)) ↦ answer_at IsLowered request.options (map_of pairs) request.side (codes "windowsize") name value (λ n a may. inr (inl (e, may))) all.2 e has
 ]
 
-pub may_agree : (request : RequestParts) (agreed : OptionMap) → AllAsked request agreed → FitsNumbers request agreed → MayAgree request agreed
-may_agree request agreed all fits = record { asked = all; size = fits }
+pub may_agree : (rollover : Option Rollover) (request : RequestParts) (agreed : OptionMap) → AllAsked request agreed → FitsNumbers rollover request agreed → MayAgree rollover request agreed
+may_agree rollover request agreed all fits = record { asked = all; size = fits }
 
 -- ---- what each test excludes
 pub all_requested_no_fault : (request : RequestParts) (pairs : List Pair) → EachName (HasOption request.options) pairs → AgreementBroken rule.OptionNotRequested request (map_of pairs) → ⊥
@@ -107,8 +108,8 @@ all_asked_no_fault request agreed all (name, asked, given, had, has, wrong) =
     may_not_wrong request.side name n a may
     (subst (λ v. IsWrongValue request.side name v (Num a)) same (subst (λ v. IsWrongValue request.side name asked v) is wrong))
 
-fits_no_fault : (request : RequestParts) (agreed : OptionMap) → MayAgree request agreed → Holds fault.BeyondBlock65535 request agreed → ⊥
-fits_no_fault request agreed may (size, octet, has, beyond) = let fits = may.size octet size has in omega (arith, fits, beyond)
+fits_no_fault : (rollover : Option Rollover) (request : RequestParts) (agreed : OptionMap) → MayAgree rollover request agreed → Holds rollover fault.BeyondBlock65535 request agreed → ⊥
+fits_no_fault rollover request agreed may (size, octet, has, beyond) = let fits = may.size octet size has in omega (arith, fits, beyond)
 
 -- where each option was asked for and may be given, and there is one, no rule is broken
 pub agreement_kept : (request : RequestParts) (agreed : OptionMap) → agreed ≢ no_options → AllAsked request agreed → (broken : AgreementRule) → AgreementBroken broken request agreed → ⊥
@@ -123,10 +124,10 @@ agreement_kept request agreed some all rule.OptionOutsideProfile (name, (value, 
 agreement_kept request agreed some all rule.OptionValue h = all_asked_no_fault request agreed all h
 
 -- what may be agreed has no fault
-pub no_fault : (request : RequestParts) (agreed : OptionMap) → agreed ≢ no_options → MayAgree request agreed → (f : NegoFault) → Holds f request agreed → ⊥
-no_fault request agreed some may (fault.Broken broken) h = agreement_kept request agreed some may.asked broken h
-no_fault request agreed some may fault.BeyondBlock65535 h = fits_no_fault request agreed may h
-no_fault request agreed some may fault.Memory h = h
+pub no_fault : (rollover : Option Rollover) (request : RequestParts) (agreed : OptionMap) → agreed ≢ no_options → MayAgree rollover request agreed → (f : NegoFault) → Holds rollover f request agreed → ⊥
+no_fault rollover request agreed some may (fault.Broken broken) h = agreement_kept request agreed some may.asked broken h
+no_fault rollover request agreed some may fault.BeyondBlock65535 h = fits_no_fault rollover request agreed may h
+no_fault rollover request agreed some may fault.Memory h = h
 
 -- ---- a value that does not answer
 wrong_value : (May : ℕ → ℕ → Type 0) (side : Side) (name : List ℕ) → ((n a : ℕ) → (May n a → ⊥) → IsWrongNumber side name n a) → (was value : OptionValue) → AreNot May was value → IsWrongValue side name was value
@@ -159,45 +160,45 @@ pub unanswered_fault : (request : RequestParts) (pairs : List Pair) → EachName
 unanswered_fault request pairs each some = some_unanswered request (map_of pairs) (λ name has. each_in_map (HasOption request.options) pairs each name has) some
 
 -- ---- the first fault, where the tests before it passed
-pub first_multicast : (request : RequestParts) (pairs : List Pair) → AgreementBroken rule.MulticastAgreed request (map_of pairs) → FirstFault request (map_of pairs) (fault.Broken rule.MulticastAgreed)
-first_multicast request pairs has = first_fault request (map_of pairs) (fault.Broken rule.MulticastAgreed) has (has_not_empty (map_of pairs) (codes "multicast") has)
+pub first_multicast : (rollover : Option Rollover) (request : RequestParts) (pairs : List Pair) → AgreementBroken rule.MulticastAgreed request (map_of pairs) → FirstFault rollover request (map_of pairs) (fault.Broken rule.MulticastAgreed)
+first_multicast rollover request pairs has = first_fault rollover request (map_of pairs) (fault.Broken rule.MulticastAgreed) has (has_not_empty (map_of pairs) (codes "multicast") has)
 
-pub first_not_requested : (request : RequestParts) (pairs : List Pair) → AreApart pairs → pairs ≢ [] → (AgreementBroken rule.MulticastAgreed request (map_of pairs) → ⊥)
-    → SomeName (λ name. map.get request.options name ≡ None) pairs → FirstFault request (map_of pairs) (fault.Broken rule.OptionNotRequested)
-first_not_requested request pairs apart some single found =
-    first_fault request (map_of pairs) (fault.Broken rule.OptionNotRequested) (some_in_map (λ name. map.get request.options name ≡ None) pairs apart found) (some_not_empty pairs apart some) single
+pub first_not_requested : (rollover : Option Rollover) (request : RequestParts) (pairs : List Pair) → AreApart pairs → pairs ≢ [] → (AgreementBroken rule.MulticastAgreed request (map_of pairs) → ⊥)
+    → SomeName (λ name. map.get request.options name ≡ None) pairs → FirstFault rollover request (map_of pairs) (fault.Broken rule.OptionNotRequested)
+first_not_requested rollover request pairs apart some single found =
+    first_fault rollover request (map_of pairs) (fault.Broken rule.OptionNotRequested) (some_in_map (λ name. map.get request.options name ≡ None) pairs apart found) (some_not_empty pairs apart some) single
 
-pub first_outside : (request : RequestParts) (pairs : List Pair) → AreApart pairs → pairs ≢ [] → (AgreementBroken rule.MulticastAgreed request (map_of pairs) → ⊥)
-    → EachName (HasOption request.options) pairs → SomeName IsOutsideProfile pairs → FirstFault request (map_of pairs) (fault.Broken rule.OptionOutsideProfile)
-first_outside request pairs apart some single requested found =
-    first_fault request (map_of pairs) (fault.Broken rule.OptionOutsideProfile) (some_in_map IsOutsideProfile pairs apart found) (some_not_empty pairs apart some) single (all_requested_no_fault request pairs requested)
+pub first_outside : (rollover : Option Rollover) (request : RequestParts) (pairs : List Pair) → AreApart pairs → pairs ≢ [] → (AgreementBroken rule.MulticastAgreed request (map_of pairs) → ⊥)
+    → EachName (HasOption request.options) pairs → SomeName IsOutsideProfile pairs → FirstFault rollover request (map_of pairs) (fault.Broken rule.OptionOutsideProfile)
+first_outside rollover request pairs apart some single requested found =
+    first_fault rollover request (map_of pairs) (fault.Broken rule.OptionOutsideProfile) (some_in_map IsOutsideProfile pairs apart found) (some_not_empty pairs apart some) single (all_requested_no_fault request pairs requested)
 
-pub first_wrong_value : (request : RequestParts) (pairs : List Pair) → AreApart pairs → pairs ≢ [] → (AgreementBroken rule.MulticastAgreed request (map_of pairs) → ⊥)
-    → EachName (HasOption request.options) pairs → EachName IsInProfile pairs → SomeUnanswered request (map_of pairs) → FirstFault request (map_of pairs) (fault.Broken rule.OptionValue)
-first_wrong_value request pairs apart some single requested known found =
-    first_fault request (map_of pairs) (fault.Broken rule.OptionValue) (unanswered_fault request pairs requested found) (some_not_empty pairs apart some) single
+pub first_wrong_value : (rollover : Option Rollover) (request : RequestParts) (pairs : List Pair) → AreApart pairs → pairs ≢ [] → (AgreementBroken rule.MulticastAgreed request (map_of pairs) → ⊥)
+    → EachName (HasOption request.options) pairs → EachName IsInProfile pairs → SomeUnanswered request (map_of pairs) → FirstFault rollover request (map_of pairs) (fault.Broken rule.OptionValue)
+first_wrong_value rollover request pairs apart some single requested known found =
+    first_fault rollover request (map_of pairs) (fault.Broken rule.OptionValue) (unanswered_fault request pairs requested found) (some_not_empty pairs apart some) single
     (all_requested_no_fault request pairs requested) (all_known_no_fault request pairs known)
 
-pub first_beyond : (request : RequestParts) (pairs : List Pair) → AreApart pairs → pairs ≢ [] → (AgreementBroken rule.MulticastAgreed request (map_of pairs) → ⊥)
-    → EachName (HasOption request.options) pairs → EachName IsInProfile pairs → AllAnswered request (map_of pairs) → Holds fault.BeyondBlock65535 request (map_of pairs)
-    → FirstFault request (map_of pairs) fault.BeyondBlock65535
-first_beyond request pairs apart some single requested known all found =
-    first_fault request (map_of pairs) fault.BeyondBlock65535 found (some_not_empty pairs apart some) single
+pub first_beyond : (rollover : Option Rollover) (request : RequestParts) (pairs : List Pair) → AreApart pairs → pairs ≢ [] → (AgreementBroken rule.MulticastAgreed request (map_of pairs) → ⊥)
+    → EachName (HasOption request.options) pairs → EachName IsInProfile pairs → AllAnswered request (map_of pairs) → Holds rollover fault.BeyondBlock65535 request (map_of pairs)
+    → FirstFault rollover request (map_of pairs) fault.BeyondBlock65535
+first_beyond rollover request pairs apart some single requested known all found =
+    first_fault rollover request (map_of pairs) fault.BeyondBlock65535 found (some_not_empty pairs apart some) single
     (all_requested_no_fault request pairs requested) (all_known_no_fault request pairs known) (all_asked_no_fault request (map_of pairs) (all_asked request pairs known all))
     (λ h. h) (λ h. h) (λ h. h) (λ h. h)
 
-pub tested_agrees : (request : RequestParts) (pairs : List Pair) → AreApart pairs → pairs ≢ [] → EachName IsInProfile pairs → AllAnswered request (map_of pairs) → FitsNumbers request (map_of pairs)
-    → (map_of pairs ≢ no_options) × MayAgree request (map_of pairs)
-tested_agrees request pairs apart some known all fits = (some_not_empty pairs apart some, may_agree request (map_of pairs) (all_asked request pairs known all) fits)
+pub tested_agrees : (rollover : Option Rollover) (request : RequestParts) (pairs : List Pair) → AreApart pairs → pairs ≢ [] → EachName IsInProfile pairs → AllAnswered request (map_of pairs) → FitsNumbers rollover request (map_of pairs)
+    → (map_of pairs ≢ no_options) × MayAgree rollover request (map_of pairs)
+tested_agrees rollover request pairs apart some known all fits = (some_not_empty pairs apart some, may_agree rollover request (map_of pairs) (all_asked request pairs known all) fits)
 
 -- ---- an OACK of one option
 only_one : (b : Bool) (key name text found : List ℕ) → bytes_eq key name ≡ b → cond b (Some text) None ≡ Some found → (key ≡ name) × (text ≡ found)
 only_one true key name text found same at = ((bytes_eq-Decides key name).0 same, cc)
 only_one false key name text found same at = absurd (let x : ⊥ = cc in x)
 
-pub agree_on_one : (request : RequestParts) (key text : List ℕ) (asked given : ℕ) → value_of (lower key) text ≡ Num given → map.get request.options (lower key) ≡ Some (Num asked)
-    → MayAnswer request.side (lower key) asked given → FitsNumbers request (map_of ((key, text) ∷ [])) → MayAgree request (map_of ((key, text) ∷ []))
-agree_on_one request key text asked given is had may fits = record { asked = all; size = fits }
+pub agree_on_one : (rollover : Option Rollover) (request : RequestParts) (key text : List ℕ) (asked given : ℕ) → value_of (lower key) text ≡ Num given → map.get request.options (lower key) ≡ Some (Num asked)
+    → MayAnswer request.side (lower key) asked given → FitsNumbers rollover request (map_of ((key, text) ∷ [])) → MayAgree rollover request (map_of ((key, text) ∷ []))
+agree_on_one rollover request key text asked given is had may fits = record { asked = all; size = fits }
   where
     all : (name : List ℕ) (value : OptionValue) → map.get (map_of ((key, text) ∷ [])) name ≡ Some value
         → (n a : ℕ) × (map.get request.options name ≡ Some (Num n)) × (value ≡ Num a) × MayAnswer request.side name n a

@@ -3,6 +3,8 @@ use Rattle.std.specs.Prelude.{◌≡◌, ◌⊎◌, ℕ, ◌+◌, ◌/◌, ◌�
 use Rattle.std.specs.List.{AllByRecursion}
 use Rattle.std.specs.FinMap as map
 use Rattle.tftp_packet.specs.{OptionMap, OptionValue, Num, Text, lower, range_of, is_within, number_in, RequestParts, Side, Put, Octet, Pair, AnyOf}
+use Rattle.tftp_packet.specs.{Rollover}
+use Rattle.tftp_packet.specs.Rounds.{greatest_of}
 use Rattle.tftp_nego.specs.Numbers.{option_or}
 
 -- each number is in the range of its option
@@ -68,9 +70,10 @@ SomeUnanswered request given =
     IsUnanswered IsLowered request.options given (codes "blksize") ⊎ (IsUnanswered IsKept request.options given (codes "timeout")
     ⊎ (IsUnanswered IsLowered request.options given (codes "windowsize") ⊎ IsUnanswered (IsSize request.side) request.options given (codes "tsize")))
 
--- the blocks of the size that is given are numbered up to 65535 (RFC 1350, section 5)
-abbrev pub Fits : OptionMap → ℕ → Type 0
-Fits given size = size / option_or 512 given (codes "blksize") + 1 ≤ 65535
+-- the blocks of the size that is given are numbered up to the greatest one (RFC 1350, section 5)
+abbrev pub Fits : Option Rollover → OptionMap → ℕ → Type 0
+Fits rollover given size = size / option_or 512 given (codes "blksize") + 1 ≤ greatest_of rollover
 
-abbrev pub FitsNumbers : RequestParts → OptionMap → Type 0
-FitsNumbers request given = request.mode ≡ Octet → (size : ℕ) → map.get given (codes "tsize") ≡ Some (Num size) → Fits given size
+abbrev pub FitsNumbers : Option Rollover → RequestParts → OptionMap → Type 0
+FitsNumbers rollover request given =
+    request.mode ≡ Octet → (size : ℕ) → map.get given (codes "tsize") ≡ Some (Num size) → Fits rollover given size

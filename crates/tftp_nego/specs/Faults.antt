@@ -1,8 +1,10 @@
 -- Why an OACK may not be agreed to. The rules and the other faults stand in the order in which they are tested (RFC 2347;
 -- RFC 2348; RFC 2349; RFC 7440, section 3).
-use Rattle.std.specs.Prelude.{◌≡◌, ◌≢◌, ◌⊎◌, ℕ, ◌+◌, ◌/◌, ◌<◌, List, Some, None, codes}
+use Rattle.std.specs.Prelude.{◌≡◌, ◌≢◌, ◌⊎◌, ℕ, ◌+◌, ◌/◌, ◌<◌, List, Option, Some, None, codes}
 use Rattle.std.specs.FinMap as map
 use Rattle.tftp_packet.specs.{IsFirst, OptionMap, OptionValue, Num, Text, no_options, RequestParts, Side, Put, Octet}
+use Rattle.tftp_packet.specs.{Rollover}
+use Rattle.tftp_packet.specs.Rounds.{greatest_of}
 use Rattle.tftp_nego.specs.declared.fault.NegoFault.{NegoFault}
 use Rattle.tftp_nego.specs.declared.fault.NegoFault.TheVariants as fault
 use Rattle.tftp_nego.specs.declared.rule.AgreementRule.{AgreementRule}
@@ -42,11 +44,11 @@ AgreementBroken BadValue request agreed = (name : List ℕ) × (asked given : Op
     × (map.get agreed name ≡ Some given) × IsWrongValue request.side name asked given
 
 -- what each fault says of the request and of the OACK's options; being out of memory says nothing of them
-abbrev pub Holds : NegoFault → RequestParts → OptionMap → Type 0
-Holds (fault.Broken rule) request agreed = AgreementBroken rule request agreed
-Holds fault.BeyondBlock65535 request agreed = (size : ℕ) × (request.mode ≡ Octet) × (map.get agreed (codes "tsize") ≡ Some (Num size))
-    × (65535 < size / option_or 512 agreed (codes "blksize") + 1)
-Holds fault.Memory request agreed = ⊥
+abbrev pub Holds : Option Rollover → NegoFault → RequestParts → OptionMap → Type 0
+Holds rollover (fault.Broken rule) request agreed = AgreementBroken rule request agreed
+Holds rollover fault.BeyondBlock65535 request agreed = (size : ℕ) × (request.mode ≡ Octet) × (map.get agreed (codes "tsize") ≡ Some (Num size))
+    × (greatest_of rollover < size / option_or 512 agreed (codes "blksize") + 1)
+Holds rollover fault.Memory request agreed = ⊥
 
 -- the number of the rule that a fault breaks, which is its place in the order; being out of memory breaks none and comes last
 abbrev pub number : NegoFault → ℕ
@@ -55,5 +57,5 @@ number fault.BeyondBlock65535 = 20
 number fault.Memory = 21
 
 -- the fault holds, and none that stands before it does
-abbrev pub FirstFault : RequestParts → OptionMap → NegoFault → Type 0
-FirstFault request agreed f = IsFirst number (λ g. Holds g request agreed) f
+abbrev pub FirstFault : Option Rollover → RequestParts → OptionMap → NegoFault → Type 0
+FirstFault rollover request agreed f = IsFirst number (λ g. Holds rollover g request agreed) f

@@ -7,7 +7,7 @@ pub enum NegoFault {
     /// The first rule on what may be agreed that it breaks.
     #[error("{0}")]
     Broken(AgreementRule),
-    /// A file in octet mode whose size needs a block above 65535.
+    /// A file in octet mode whose size needs a block above the greatest: 65535, and 8388607 where numbers begin again.
     #[error("a file of more than 65535 blocks")]
     BeyondBlock65535,
     /// A growth was refused.

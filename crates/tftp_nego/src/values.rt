@@ -6,6 +6,7 @@ ghost use Rattle.tftp_nego.specs.Agreed.{AllAnswered, SomeUnanswered, IsAnswered
 ghost use Rattle.tftp_nego.specs.Faults.{Holds};
 ghost use Rattle.tftp_nego.specs.Numbers.{option_or};
 
+use tftp_packet::rounds::{Rollover, greatest_block};
 use tftp_packet::{Mode, OptionsView, Request, Side, Value};
 
 /// Whether each of the four options of an OACK answers the number that was asked for (RFC 2348, RFC 2349, RFC 7440).
@@ -72,16 +73,20 @@ fn numbers(request: &Request, oack: &OptionsView<'_>, name: &[u8]) -> Option<(u6
     }
 }
 
-/// Whether the file of an OACK's size in octet mode has no block above 65535, where it tells the size.
-pub fn fits_block_numbers(request: &Request, oack: &OptionsView<'_>) -> bool
-    ensures yes { IsTrue result → FitsNumbers request.now (map_of oack.now) }
-    ensures no { result ≡ false → Holds NegoFault.BeyondBlock65535 request.now (map_of oack.now) }
+/// Whether the file of an OACK's size in octet mode has no block above the greatest, where it tells the size.
+pub fn fits_block_numbers(
+    request: &Request,
+    oack: &OptionsView<'_>,
+    rollover: Option<Rollover>,
+) -> bool
+    ensures yes { IsTrue result → FitsNumbers rollover request.now (map_of oack.now) }
+    ensures no { result ≡ false → Holds rollover NegoFault.BeyondBlock65535 request.now (map_of oack.now) }
 {
     if request.mode() == Mode::Netascii {
         return true;
     }
     match oack.number(b"tsize") {
-        Some(size) => size / block_size(oack) < 65535,
+        Some(size) => size / block_size(oack) < u64::from(greatest_block(rollover)),
         None => true,
     }
 }

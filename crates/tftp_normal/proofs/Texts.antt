@@ -59,7 +59,7 @@ module _ (m : Meaning) (can : CanBeWritten m) where
 
   pub normal_says : IsCapture (normal_text m) normal_header (numbered 4 (normal_datagrams m))
   normal_says =
-      canonical_is_read normal_header (normal_datagrams m) (omega arith, omega arith) normal_lawful normal_unnamed normal_fits
+      canonical_is_read normal_header (normal_datagrams m) (omega arith, omega arith) refl normal_lawful normal_unnamed normal_fits
 
   pub is_accepted : IsAccepted (normal_text m) m
   is_accepted = (normal_header, numbered 4 (normal_datagrams m), normal_says, subst (Shows normal_header m) (sym (unnumbered_again 4 (normal_datagrams m))) (shows m can))

@@ -74,7 +74,7 @@ normal_datagram m p = record {
 }
 
 abbrev pub normal_header : Header
-normal_header = record { named = Client; service = 69 }
+normal_header = record { named = Client; service = 69; rollover = None }
 
 abbrev pub normal_datagrams : Meaning → List Datagram
 normal_datagrams m = each (normal_datagram m) (normal_packets m)

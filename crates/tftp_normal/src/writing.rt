@@ -216,6 +216,7 @@ fn write_capture<W: Write>(
     let header = Header {
         named: End::Client,
         service: SERVICE_PORT,
+        rollover: None,
     };
     let mut capture = CaptureWriter::begin(writer, &header)?;
     put_opening(transfer, request, oack, &mut capture, writer)?;

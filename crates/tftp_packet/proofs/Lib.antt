@@ -1,4 +1,5 @@
 pub mod HostsLemmas
+pub mod RoundsLemmas
 pub mod Strings
 pub mod FirstOf
 pub mod FaultOrder

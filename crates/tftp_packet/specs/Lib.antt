@@ -1,4 +1,5 @@
 pub mod Hosts
+pub mod Rounds
 pub mod OptionMaps
 pub mod Numbers
 pub mod Messages
@@ -45,3 +46,5 @@ pub use declared.owned_options.Entry.{Entry}
 pub use declared.packet.Packet.{Packet}
 pub use declared.hosts.dir.Dir.{Dir}
 pub use declared.hosts.dir.Dir.TheVariants.{In, Out}
+pub use declared.rounds.rollover.Rollover.{Rollover}
+pub use declared.rounds.rollover.Rollover.TheVariants.{One, Zero}

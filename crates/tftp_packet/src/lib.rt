@@ -14,6 +14,7 @@ mod owned_options;
 mod owned_request;
 mod packet;
 mod request;
+pub mod rounds;
 mod same;
 mod text;
 mod value;

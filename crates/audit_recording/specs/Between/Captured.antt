@@ -27,7 +27,7 @@ server_or_asked x None = x.asked
 server_or_asked x (Some s) = s
 
 abbrev pub sides_with : Transfer → Option Endpoint → TapSides
-sides_with x server = record { client = peer_of x.client; asked = peer_of x.asked; server = peer_of (server_or_asked x server) }
+sides_with x server = record { client = peer_of x.client; asked = peer_of x.asked; server = peer_of (server_or_asked x server); rollover = None }
 
 -- by the whole recording
 abbrev pub sides_of : Transfer → List Placed → TapSides

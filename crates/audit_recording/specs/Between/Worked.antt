@@ -1,5 +1,5 @@
 -- What passes between the ends of the worked recordings.
-use Rattle.std.specs.Prelude.{List, [], ◌∷◌, codes, false}
+use Rattle.std.specs.Prelude.{List, [], ◌∷◌, codes, false, None}
 use Rattle.law_tap.specs.{PeerId, TapDatagram, TapSides}
 use Rattle.audit_flows.specs.{Transfer}
 use Rattle.audit_flows.specs.Transfers.{client, service, ack_of, data_of, read_of}
@@ -32,4 +32,4 @@ asked_twice_between =
 
 -- the server is who went on with it, and no side is the client's
 abbrev pub asked_twice_sides : TapSides
-asked_twice_sides = record { client = at_client; asked = at_service; server = at_server }
+asked_twice_sides = record { client = at_client; asked = at_service; server = at_server; rollover = None }

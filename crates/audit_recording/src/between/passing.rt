@@ -31,6 +31,7 @@ pub fn sides_of(transfer: &Transfer, ends: &TransferEnds) -> Sides
         client: peer_of(transfer.client),
         asked: peer_of(transfer.asked),
         server: peer_of(server),
+        rollover: None,
     }
 }
 

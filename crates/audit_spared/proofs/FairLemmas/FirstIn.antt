@@ -43,7 +43,7 @@ none_some division none found = let both : None ≡ Some found.0 = sym none ∙ 
 
 module _ (service : ℕ) (says : Saying) (told : IsTold says) (ids : TransferIds) where
   abbrev pub at : End → Header
-  at e = record { named = e; service = service }
+  at e = record { named = e; service = service; rollover = None }
 
   -- at a server something has come in before whatever passes
   server_some : (p : Labelled) (earlier : Division) → HaveLabelsBy (at Server) says ids (p ∷ earlier) → Starts Server (view_in (p ∷ earlier)) → SomeIn (p ∷ earlier)

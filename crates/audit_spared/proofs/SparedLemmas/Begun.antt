@@ -1,5 +1,5 @@
 -- What a run says of a client's lawful capture: when it asks again, and what comes to it first.
-use Rattle.std.proofs.Common.{◌≡◌, ◌≤◌, ◌+◌, ℕ, zero, suc, Bool, true, false, List, [], ◌∷◌, Any, Contains, inl, inr, refl, sym, ap, subst, ◌∙◌, ◌&&◌, ◌||◌, not, reverse, arith}
+use Rattle.std.proofs.Common.{◌≡◌, ◌≤◌, ◌+◌, ℕ, zero, suc, Bool, true, false, List, [], ◌∷◌, Any, Contains, inl, inr, refl, sym, ap, subst, ◌∙◌, ◌&&◌, ◌||◌, not, reverse, arith, None}
 use Rattle.std.specs.List.{list_any, AllByRecursion}
 use Rattle.std.proofs.lemmas.Bool.{false≢true, or_left, or_right, and_parts, or_parts}
 use Rattle.std.proofs.lemmas.List.{reverse-reverse}
@@ -28,7 +28,7 @@ use Rattle.audit_flows.proofs.LinesLemmas.Lines.{by_test}
 
 module _ (service : ℕ) where
   abbrev at : Header
-  at = record { named = Client; service = service }
+  at = record { named = Client; service = service; rollover = None }
 
   -- the newest of a lawful capture, by some run
   record Newest (d : Datagram) (ds : List Datagram) : Type 0 where

@@ -168,7 +168,7 @@ module _ (peer : PeerId) (d : Datagram) (whole part : List Datagram) (nx : IsNew
       no_option : {A : Type 0} (name : List ℕ) (value : OptionValue) → map.get no_options name ≡ Some value → A
       no_option name value get = let both : None ≡ Some value = sym (map.get-empty (slice_cmp nat_cmp) name) ∙ get in absurd (cc)
 
-      fits : Fits plainly nx.wire
+      fits : Fits None plainly nx.wire
       fits = record {
         may_agree = record { asked = λ name value get. no_option name value get; size = λ octet size get. no_option (codes "tsize") (Num size) get };
         reads = nx.fits.reads;

@@ -1,5 +1,5 @@
 -- What may pass next at a server after a part of a lawful capture, where all passed with one client.
-use Rattle.std.proofs.Common.{◌≡◌, ◌≢◌, ◌⊎◌, ℕ, zero, suc, ◌+◌, ◌-◌, ◌≤◌, Bool, true, false, if◌then◌else◌, List, [], ◌∷◌, Any, Contains, Some, inl, inr, refl, sym, ap, subst, ◌∙◌, false, reverse, arith}
+use Rattle.std.proofs.Common.{◌≡◌, ◌≢◌, ◌⊎◌, ℕ, zero, suc, ◌+◌, ◌-◌, ◌≤◌, Bool, true, false, if◌then◌else◌, List, [], ◌∷◌, Any, Contains, Some, inl, inr, refl, sym, ap, subst, ◌∙◌, false, reverse, arith, None}
 use Rattle.std.specs.List.{AllByRecursion}
 use Rattle.std.proofs.lemmas.List.{reverse-reverse}
 use Rattle.tftp_packet.specs.{OptionMap, Message, RequestParts, Side, Get, Put, Server, Spells}
@@ -181,7 +181,7 @@ divided_main m wire ds accords peer passes from =
       mains = all_main m wire ids peer division labels (peers_of peer division ds same from);
     }
 
-module _ (m : Meaning) (wire : List ℕ) (fits : Fits m wire) (whole part : List Datagram) (a : AreMain m wire whole) (back : (dir : Dir) (x : Message) → Passed dir x part → Passed dir x whole) where
+module _ (m : Meaning) (wire : List ℕ) (fits : Fits None m wire) (whole part : List Datagram) (a : AreMain m wire whole) (back : (dir : Dir) (x : Message) → Passed dir x part → Passed dir x whole) where
   pub request_only : (q : MachinePacket) (asked : RequestParts) → message_of m wire q ≡ Message.Request asked → asked ≡ request_of m
   request_only Req asked e = request_same asked (request_of m) (sym e)
   request_only _ asked e = absurd (cc)
@@ -249,7 +249,7 @@ all_done m wire ds a = subst (AllByRecursion (IsDone m wire (view_in a.division)
 pub record IsNewest (d : Datagram) (ds : List Datagram) : Type 0 where
   pub m : Meaning
   pub wire : List ℕ
-  pub fits : Fits m wire
+  pub fits : Fits None m wire
   pub before : AreMain m wire ds
   pub deed : Deed
   pub has : HasLabel at m wire before.ids before.division d (Main deed)
@@ -453,7 +453,7 @@ module _ (m : Meaning) (wire : List ℕ) (o : Meaning) (wire_o : List ℕ) (side
 
 -- ---- it passes after the part: by a meaning of the part
 
-module _ (peer : PeerId) (d : Datagram) (whole part : List Datagram) (nx : IsNewest d whole) (o : Meaning) (wire_o : List ℕ) (fits_o : Fits o wire_o) (of_part : AreMain o wire_o part)
+module _ (peer : PeerId) (d : Datagram) (whole part : List Datagram) (nx : IsNewest d whole) (o : Meaning) (wire_o : List ℕ) (fits_o : Fits None o wire_o) (of_part : AreMain o wire_o part)
     (side : nx.m.side ≡ o.side) (single : windowsize_of nx.m ≡ 1) (single_o : windowsize_of o ≡ 1)
     (from : AllByRecursion (λ e. peer_of e ≡ peer) part) (from_d : peer_of d ≡ peer)
     (port : ℕ) (ports : AllByRecursion (λ e. begins_request e ≡ false → e.local ≡ port) part) (port_d : d.local ≡ port)

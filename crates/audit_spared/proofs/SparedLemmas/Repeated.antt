@@ -1,5 +1,5 @@
 -- A lawful capture at either end stays so where its first request passed once more at once.
-use Rattle.std.proofs.Common.{◌≡◌, ℕ, false, List, [], ◌∷◌, ◌++◌, Any, Contains, inl, inr, refl, sym, subst, ap, ◌∙◌, ◌||◌, reverse, if◌then◌else◌}
+use Rattle.std.proofs.Common.{◌≡◌, ℕ, false, List, [], ◌∷◌, ◌++◌, Any, Contains, inl, inr, refl, sym, subst, ap, ◌∙◌, ◌||◌, reverse, if◌then◌else◌, None}
 use Rattle.std.specs.List.{list_any}
 use Rattle.std.proofs.lemmas.List.{reverse-reverse}
 use Rattle.std.proofs.lemmas.List.Elements.{filter_map-append}
@@ -220,7 +220,7 @@ module _ (named : End) where
 
   module _ (service : ℕ) (m : Meaning) (wire : List ℕ) (ids : TransferIds) where
     abbrev at : Header
-    at = record { named = named; service = service }
+    at = record { named = named; service = service; rollover = None }
 
     label_more : (earlier more : Division) (d : Datagram) (label : Label) → HasLabel at m wire ids earlier d label → HasLabel at m wire ids (earlier ++ more) d label
     label_more earlier more d (Main (Sent Req)) has = record { dir = has.dir; client = has.client; server = has.server; spells = has.spells }
@@ -282,13 +282,13 @@ module _ (named : End) where
 
   -- ---- the capture
 
-  repeated : (service : ℕ) (s : Datagram) (ds : List Datagram) → EndsWith s ds → IsLawful (record { named = named; service = service }) (reverse ds)
-      → IsLawful (record { named = named; service = service }) (reverse (ds ++ s ∷ []))
+  repeated : (service : ℕ) (s : Datagram) (ds : List Datagram) → EndsWith s ds → IsLawful (record { named = named; service = service; rollover = None }) (reverse ds)
+      → IsLawful (record { named = named; service = service; rollover = None }) (reverse (ds ++ s ∷ []))
   repeated service s ds ends (m, wire, seen) =
       let dress = seen.dressed in
       let whole : datagrams_of dress.division ≡ ds = dress.whole ∙ reverse-reverse ds in
       let own : IsOneSided m wire named (view_in dress.division) = subst (IsOneSided m wire named) (sym dress.main) (view_one_sided m wire named seen.view seen.run) in
-      let starts = starts_of (record { named = named; service = service }) m wire dress.ids dress.division dress.labels own in
+      let starts = starts_of (record { named = named; service = service; rollover = None }) m wire dress.ids dress.division dress.labels own in
       let bottom = bottomed service m wire dress.ids s dress.division (subst (EndsWith s) (sym whole) ends) dress.labels starts in (
         m,
         wire,
@@ -307,9 +307,9 @@ module _ (named : End) where
       )
 
   -- a lawful capture stays so where its oldest datagram passed once more at once
-  pub repeated_passes : (service : ℕ) (s : Datagram) (ds : List Datagram) → EndsWith s ds → OneEnded (record { named = named; service = service }) ds → OneEnded (record { named = named; service = service }) (ds ++ s ∷ [])
+  pub repeated_passes : (service : ℕ) (s : Datagram) (ds : List Datagram) → EndsWith s ds → OneEnded (record { named = named; service = service; rollover = None }) ds → OneEnded (record { named = named; service = service; rollover = None }) (ds ++ s ∷ [])
   repeated_passes service s ds ends passes =
-      let h : Header = record { named = named; service = service } in
-      subst (OneEnded (record { named = named; service = service })) (reverse-reverse (ds ++ s ∷ []))
-      ((lawful (record { named = named; service = service }) (reverse (ds ++ s ∷ []))).0
-      (repeated service s ds ends ((lawful (record { named = named; service = service }) (reverse ds)).1 (subst (OneEnded (record { named = named; service = service })) (sym (reverse-reverse ds)) passes))))
+      let h : Header = record { named = named; service = service; rollover = None } in
+      subst (OneEnded (record { named = named; service = service; rollover = None })) (reverse-reverse (ds ++ s ∷ []))
+      ((lawful (record { named = named; service = service; rollover = None }) (reverse (ds ++ s ∷ []))).0
+      (repeated service s ds ends ((lawful (record { named = named; service = service; rollover = None }) (reverse ds)).1 (subst (OneEnded (record { named = named; service = service; rollover = None })) (sym (reverse-reverse ds)) passes))))

@@ -1,5 +1,5 @@
 -- What a run says of a server's lawful capture of which each datagram passed with one client.
-use Rattle.std.proofs.Common.{◌≡◌, ℕ, zero, suc, true, false, List, [], ◌∷◌, Any, inl, inr, refl, sym, ap, subst, ◌∙◌, ◌&&◌, reverse, arith}
+use Rattle.std.proofs.Common.{◌≡◌, ℕ, zero, suc, true, false, List, [], ◌∷◌, Any, inl, inr, refl, sym, ap, subst, ◌∙◌, ◌&&◌, reverse, arith, None}
 use Rattle.std.specs.List.{list_any, AllByRecursion}
 use Rattle.std.proofs.lemmas.Bool.{false≢true, or_left, or_right, and_from, or_parts}
 use Rattle.std.proofs.lemmas.List.{reverse-reverse}
@@ -22,7 +22,7 @@ use Rattle.audit_flows.specs.Lines.Recording.{is_answer}
 use Rattle.audit_spared.proofs.SparedLemmas.Begun.{ack_0, data_1, says_ack_0, says_data_1}
 
 abbrev pub at : Header
-at = record { named = Server; service = 69 }
+at = record { named = Server; service = 69; rollover = None }
 
 -- ---- none is a stray
 
@@ -181,7 +181,7 @@ pub record IsRun (d : Datagram) (ds : List Datagram) : Type 0 where
   pub m : Meaning
   pub wire : List ℕ
   pub ids : TransferIds
-  pub fits : Fits m wire
+  pub fits : Fits None m wire
   pub parts : AllByRecursion (IsPart m wire ids) (d ∷ ds)
   pub first : ds ≡ [] → (comes_in d ≡ true) × (begins_request d ≡ true)
   pub heard : comes_in d ≡ true → begins_request d ≡ false → list_any goes_out ds ≡ true
@@ -242,7 +242,7 @@ comes_so d came = by d.dir refl where
   by Out is = absurd (false≢true (sym (out_false d is) ∙ came))
 
 -- what asks is lawful where nothing else passed
-pub asked_alone : (m : Meaning) (wire : List ℕ) → Fits m wire → (d : Datagram) → comes_in d ≡ true → d.local ≡ 69 → Spells d.payload (message_of m wire Req) → OneEnded at (d ∷ [])
+pub asked_alone : (m : Meaning) (wire : List ℕ) → Fits None m wire → (d : Datagram) → comes_in d ≡ true → d.local ≡ 69 → Spells d.payload (message_of m wire Req) → OneEnded at (d ∷ [])
 asked_alone m wire fits d came service spells = (lawful at (d ∷ [])).0 (
   m,
   wire,

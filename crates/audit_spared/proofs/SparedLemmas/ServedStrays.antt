@@ -43,7 +43,7 @@ none_of false r s one other = other
 
 module _ (service : ℕ) (client : PeerId) where
   abbrev pub at : Header
-  at = record { named = Server; service = service }
+  at = record { named = Server; service = service; rollover = None }
 
   abbrev pub keeps : Datagram → Bool
   keeps d = same_peer (peer_of d) client

@@ -1,5 +1,5 @@
 -- The captures of the worked recordings are lawful: reads of one byte.
-use Rattle.std.proofs.Common.{ap, sym, subst, ◌≡◌, ℕ, ◌<◌, Bool, true, false, nat_lt, List, [], ◌∷◌, Any, codes, inl, inr, refl, reverse, arith}
+use Rattle.std.proofs.Common.{ap, sym, subst, ◌≡◌, ℕ, ◌<◌, Bool, true, false, nat_lt, List, [], ◌∷◌, Any, codes, inl, inr, refl, reverse, arith, None}
 use Rattle.std.proofs.lemmas.Bool.{and_parts, ltb-true, true≢false}
 use Rattle.std.specs.List.{AllByRecursion, list_all}
 use Rattle.tftp_packet.specs.{Message, OptionValue, no_options, Get, Octet, Client, Server, IsString, Spells}
@@ -95,9 +95,9 @@ module _ (name : List ℕ) where
   is_plan : IsPlan meaning (5 ∷ []) plan
   is_plan = record { something = λ e. absurd (true≢false (sym e)); nothing = λ e. refl; windowsize = default_windowsize meaning refl; blocks = one_block }
 
-  fits : Fits meaning (5 ∷ [])
+  fits : Fits None meaning (5 ∷ [])
   fits = record {
-    may_agree = nothing_may_be_agreed_by (request_of meaning);
+    may_agree = nothing_may_be_agreed_by None (request_of meaning);
     reads = refl;
     size = λ mode size e. absurd (none_there (codes "tsize") (OptionValue.Num size) e);
     numbered = omega (arith, one_block);
@@ -121,7 +121,7 @@ module _ (name : List ℕ) where
     -- ---- at a client
 
     abbrev pub at_client : Header
-    at_client = record { named = Client; service = 69 }
+    at_client = record { named = Client; service = 69; rollover = None }
 
     pub asked : d.dir ≡ Out → d.local ≡ ids.own → d.remote ≡ 69 → d.host ≡ ids.asked → d.payload ≡ read_of name → HasLabel at_client meaning (5 ∷ []) ids earlier d (Main (Sent Req))
     asked dir own service host payload = record {
@@ -142,7 +142,7 @@ module _ (name : List ℕ) where
     -- ---- at a server
 
     abbrev pub at_server : Header
-    at_server = record { named = Server; service = 69 }
+    at_server = record { named = Server; service = 69; rollover = None }
 
     pub was_asked : d.dir ≡ In → peer_of d ≡ ids.peer → d.local ≡ 69 → d.payload ≡ read_of name → HasLabel at_server meaning (5 ∷ []) ids earlier d (Main (Took Req))
     was_asked dir peer service payload = record {

@@ -67,9 +67,9 @@ says_block = subst (λ b. Spells (data_of 1) (Message.Data 1 b)) first_block blo
 is_plan : IsPlan meaning (5 ∷ []) plan
 is_plan = record { something = λ e. absurd (true≢false (sym e)); nothing = λ e. refl; windowsize = default_windowsize meaning refl; blocks = one_block }
 
-fits : Fits meaning (5 ∷ [])
+fits : Fits None meaning (5 ∷ [])
 fits = record {
-  may_agree = nothing_may_be_agreed_by (request_of meaning);
+  may_agree = nothing_may_be_agreed_by None (request_of meaning);
   reads = refl;
   size = λ mode size e. absurd (none_there (codes "tsize") (OptionValue.Num size) e);
   numbered = omega (arith, one_block);

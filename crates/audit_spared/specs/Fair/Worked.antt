@@ -1,11 +1,11 @@
 -- A read of one byte at its client, and a stray that is told so, the oldest first.
-use Rattle.std.specs.Prelude.{ℕ, List, [], ◌∷◌, ◌++◌, codes}
+use Rattle.std.specs.Prelude.{ℕ, List, [], ◌∷◌, ◌++◌, codes, None}
 use Rattle.tftp_packet.specs.Hosts.{Datagram, Header, PeerId}
 use Rattle.tftp_packet.specs.{Dir, In, Out}
 use Rattle.tftp_packet.specs.{Client}
 
 abbrev pub at_client : Header
-at_client = record { named = Client; service = 69 }
+at_client = record { named = Client; service = 69; rollover = None }
 
 abbrev pub stray : PeerId
 stray = record { host = 192 ∷ 0 ∷ 2 ∷ 9 ∷ []; port = 41000 }

@@ -1,5 +1,5 @@
 -- Datagrams of a recording as a client's own capture has them. Lists have the newest first.
-use Rattle.std.specs.Prelude.{◌≤◌, ℕ, ◌+◌, ◌||◌, Bool, List, [], ◌∷◌, if◌then◌else◌}
+use Rattle.std.specs.Prelude.{◌≤◌, ℕ, ◌+◌, ◌||◌, Bool, List, [], ◌∷◌, if◌then◌else◌, None}
 use Rattle.tftp_packet.specs.Hosts.{Datagram, Header}
 use Rattle.tftp_packet.specs.{In, Out}
 use Rattle.tftp_packet.specs.{Client}
@@ -17,7 +17,7 @@ as_seen_by write c d =
     else record { dir = In; local = d.target.port; host = write d.source.address; remote = d.source.port; payload = d.payload }
 
 abbrev pub at_client_of : ℕ → Header
-at_client_of port = record { named = Client; service = port }
+at_client_of port = record { named = Client; service = port; rollover = None }
 
 -- no two neighbours are more than 300 s apart, and the times do not go back
 abbrev pub HasNoSilence : List Recorded → Type 0

@@ -19,7 +19,7 @@ use Rattle.audit_spared.specs.Spared.Spared.{AskersAreElsewhere, FollowOneAnothe
 -- ---- one capture
 
 abbrev pub at_server_of : ℕ → Header
-at_server_of port = record { named = Server; service = port }
+at_server_of port = record { named = Server; service = port; rollover = None }
 
 -- as a capture at a server has it, whether it went out or came in; `write` names a host
 abbrev pub captured_there : (Address → List ℕ) → Bool → Recorded → Datagram

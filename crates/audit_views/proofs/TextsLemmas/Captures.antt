@@ -1,5 +1,5 @@
 -- What an end saw, from the oldest datagram on.
-use Rattle.std.proofs.Common.{◌≡◌, ℕ, Bool, true, false, cond, List, [], ◌∷◌, ◌++◌, map, reverse, refl, sym, ap, ◌∙◌, filter}
+use Rattle.std.proofs.Common.{◌≡◌, ℕ, Bool, true, false, cond, List, [], ◌∷◌, ◌++◌, map, reverse, refl, sym, ap, ◌∙◌, filter, None}
 use Rattle.std.proofs.lemmas.List.{map-append, reverse-append}
 use Rattle.std.proofs.lemmas.List.Elements.{filter-append}
 use Rattle.tftp_packet.specs.{End, Client, Server}
@@ -10,7 +10,7 @@ use Rattle.audit_flows.proofs.TransfersLemmas.OwnDatagrams.{about_none, filter_k
 use Rattle.audit_views.specs.Views.{Naming}
 use Rattle.audit_views.specs.Texts.{capture_at, captured_at, header_at, is_seen}
 
-pub header_is : (end : End) (x : Transfer) → record { named = end; service = x.asked.port } ≡ header_at end x
+pub header_is : (end : End) (x : Transfer) → record { named = end; service = x.asked.port; rollover = None } ≡ header_at end x
 header_is Client x = refl
 header_is Server x = refl
 

@@ -30,10 +30,10 @@ module _ (text : List ℕ) (h : Header) (ds : List Numbered) (capture : IsCaptur
   text_verdict (Err (Memory count)) of is = absurd of
   text_verdict _ of is = (h, ds, capture, is)
 
-module _ (text : List ℕ) (h : Header) (given : List Datagram) (t : IsTextOf text h given) (port : IsPort h.service) (lawful : All IsLawful (reverse given)) (short : length text ≤ 2 ^ 40) where
+module _ (text : List ℕ) (h : Header) (given : List Datagram) (t : IsTextOf text h given) (port : IsPort h.service) (plain : h.rollover ≡ None) (lawful : All IsLawful (reverse given)) (short : length text ≤ 2 ^ 40) where
   pub is_read : IsCapture text h (numbered_in 4 t.entries)
   is_read =
-      rw t.are (commented_is_read h t.entries port (can_stand t.entries t.comments (subst (All IsLawful) (sym t.says) lawful)) (subst (λ l. length l ≤ 2 ^ 40) t.are short))
+      rw t.are (commented_is_read h t.entries port plain (can_stand t.entries t.comments (subst (All IsLawful) (sym t.says) lawful)) (subst (λ l. length l ≤ 2 ^ 40) t.are short))
 
   pub said_so : unnumbered (numbered_in 4 t.entries) ≡ reverse given
   said_so = unnumbered-in 4 t.entries ∙ t.says

@@ -94,7 +94,7 @@ module _ (h : Header) (ds : List Datagram) (capture : IsCapture (text_with_hosts
 
 pub said_of_text : (h : Header) (given : List Datagram) (said : Result Meaning Refusal) → AreWritten h given → IsSaid said → IsVerdict h (reverse given) said
     → IsTextVerdict (text_with_hosts h (reverse given)) (of_text said)
-said_of_text h given said written of is = text_verdict h (reverse given) (hosts_are_read h (reverse given) written.service written.lawful written.short) said of is
+said_of_text h given said written of is = text_verdict h (reverse given) (hosts_are_read h (reverse given) written.service written.plain written.lawful written.short) said of is
 
 pub judged_with : (h : Header) (given : List Datagram) (said : Result Meaning Refusal) → (IsSaid said → IsVerdict h (reverse given) said) → IsSaid said → IsJudged h given said
 judged_with h given said is of = record { verdict = is of; text = λ written. said_of_text h given said written of (is of) }

@@ -1,5 +1,5 @@
 -- What is captured of a transfer at each end, by a recording. Lists have the newest first; `name` names each host.
-use Rattle.std.specs.Prelude.{ℕ, List, filter, map, if◌then◌else◌}
+use Rattle.std.specs.Prelude.{ℕ, List, filter, map, if◌then◌else◌, None}
 use Rattle.tftp_packet.specs.Hosts.{Datagram, Header}
 use Rattle.tftp_packet.specs.{Dir, In, Out}
 use Rattle.tftp_packet.specs.{Client, Server}
@@ -33,7 +33,7 @@ abbrev pub client_capture : Naming → Transfer → List Placed → List Datagra
 client_capture name x placed = map (captured_at_client name x) (client_view x.number placed)
 
 abbrev pub client_header : Transfer → Header
-client_header x = record { named = Client; service = x.asked.port }
+client_header x = record { named = Client; service = x.asked.port; rollover = None }
 
 -- Of a talk what the client sent comes in at the server, and of what passed beside what did not come from the server. A
 -- request comes in. Who the server is, all datagrams tell.
@@ -52,4 +52,4 @@ abbrev pub server_capture : Naming → Transfer → List Placed → List Placed 
 server_capture name x whole part = map (captured_at_server name x whole) (filter (is_at_server x.number whole) part)
 
 abbrev pub server_header : Transfer → Header
-server_header x = record { named = Server; service = x.asked.port }
+server_header x = record { named = Server; service = x.asked.port; rollover = None }

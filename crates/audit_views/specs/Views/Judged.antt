@@ -31,6 +31,7 @@ of_text (Err refusal) = Err (Refused refusal)
 -- the datagrams can be written, the oldest first, with their hosts
 pub record AreWritten (h : Header) (given : List Datagram) : Type 0 where
   pub service : IsPort h.service
+  pub plain : h.rollover ≡ None
   pub lawful : All IsLawful (reverse given)
   pub short : length (text_with_hosts h (reverse given)) ≤ 2 ^ 40
 

@@ -1,6 +1,6 @@
 //! Laws of the definitions in `specs/`. Each is the contract of a function that does nothing.
 
-ghost use Rattle.std.specs.Prelude.{◌≡◌, ◌^◌, ◌≤◌, ℕ, List, Result, All, length, reverse};
+ghost use Rattle.std.specs.Prelude.{◌≡◌, ◌^◌, ◌≤◌, ℕ, List, None, Result, All, length, reverse};
 ghost use Rattle.tftp_capture.specs.{IsCapture, IsLawful, IsPort, Numbered};
 ghost use Rattle.tftp_packet.specs.Hosts.{Datagram, Header};
 ghost use Rattle.law_model.specs.Model.{Meaning};
@@ -13,9 +13,9 @@ ghost use Rattle.audit_views.specs.Texts.Views.{IsTextOf, capture_at};
 
 /// A text of datagrams that can stand in one is a capture of just these; and what there is to say of them is its verdict.
 pub fn a_text_of_datagrams_is_their_capture()
-    ensures read { (text : List ℕ) (h : Header) (given : List Datagram) → IsTextOf text h given → IsPort h.service → All IsLawful (reverse given) → length text ≤ 2 ^ 40
+    ensures read { (text : List ℕ) (h : Header) (given : List Datagram) → IsTextOf text h given → IsPort h.service → h.rollover ≡ None → All IsLawful (reverse given) → length text ≤ 2 ^ 40
         → (datagrams : List Numbered) × IsCapture text h datagrams × (unnumbered datagrams ≡ reverse given) }
-    ensures verdict { (text : List ℕ) (h : Header) (given : List Datagram) → IsTextOf text h given → IsPort h.service → All IsLawful (reverse given) → length text ≤ 2 ^ 40
+    ensures verdict { (text : List ℕ) (h : Header) (given : List Datagram) → IsTextOf text h given → IsPort h.service → h.rollover ≡ None → All IsLawful (reverse given) → length text ≤ 2 ^ 40
         → (said : Result Meaning Refusal) → IsSaid said → IsVerdict h (reverse given) said → IsTextVerdict text (of_text said) }
 {}
 

@@ -111,6 +111,7 @@ impl TransferText {
         let header = Header {
             named: end,
             service: self.transfer.asked.port,
+            rollover: None,
         };
         let mut capture = HostCaptureWriter::begin(writer, &header)?;
         capture.comment(writer, heading.words())?;

@@ -51,6 +51,7 @@ impl<D: Delivered + Drop> ClientJudge<D> {
         let header = Header {
             named: End::Client,
             service: transfer.asked.port,
+            rollover: None,
         };
         ClientJudge {
             transfer,

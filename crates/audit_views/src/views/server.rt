@@ -56,6 +56,7 @@ impl<D: Delivered + Drop> ServerJudge<D> {
         let header = Header {
             named: End::Server,
             service: transfer.asked.port,
+            rollover: None,
         };
         ServerJudge {
             transfer,

@@ -1,5 +1,5 @@
 -- Two captures are said to be matched exactly if one run has both.
-use Rattle.std.proofs.Common.{◌≡◌, ◌⊎◌, ◌↔◌, inl, inr, ℕ, Bool, false, true≢false, List, Option, Some, Result, Ok, Err, sym, ◌∙◌, subst}
+use Rattle.std.proofs.Common.{◌≡◌, ◌⊎◌, ◌↔◌, inl, inr, ℕ, Bool, false, true≢false, List, Option, Some, Result, Ok, Err, sym, ◌∙◌, subst, None}
 use Rattle.tftp_packet.specs.{Client, Server}
 use Rattle.tftp_capture.specs.{IsCapture, Numbered}
 use Rattle.tftp_capture.specs.CaptureText.Reading.{Capture as Says}
@@ -50,6 +50,10 @@ not_faulty : (text : List ℕ) (h : Header) (ds : List Numbered) (r : Result Mea
 not_faulty text h ds (Err (Capture (Text line why))) capture is fault = captured_or_faulty text h ds is.0.0 line why capture is.0.1
 not_faulty text h ds _ capture is fault = fault
 
+-- a text says nothing of what comes after block 65535
+plain_of : (text : List ℕ) (h : Header) (ds : List Numbered) → IsCapture text h ds → h.rollover ≡ None
+plain_of text h ds (version, lines, stands) = let (before, are, says) = stands.says in says.plain
+
 -- ---- two captures
 
 module _ (before after other_before other_after : Option (List ℕ)) (failed other_failed : Bool) (c s : Result Meaning Verdict) (text other : List ℕ) (is : before ≡ Some text) (other_is : other_before ≡ Some other) (clean : failed ≡ false) (other_clean : other_failed ≡ false)
@@ -62,7 +66,7 @@ module _ (before after other_before other_after : Option (List ℕ)) (failed oth
       let (named, other_named, verdict, whys, carried) = pair.numbers text other is other_is h k ds es (has_all text h ds capture) (has_all other k es other_capture) in
       let mine = all_lawful text h ds c capture of (pair.at_client.whole text is clean) in
       let theirs = all_lawful other k es s other_capture other_of (pair.at_server.whole other other_is other_clean) in
-      let decides = pair_decides (capture_of h ds) (capture_of k es) m.client_lawful m.server_lawful m.client_matched m.server_matched named other_named verdict in (
+      let decides = pair_decides (capture_of h ds) (capture_of k es) m.client_lawful m.server_lawful m.client_matched m.server_matched named other_named (plain_of text h ds capture ∙ sym (plain_of other k es other_capture)) verdict in (
         λ matched. decides.1 (record {
           client_lawful = lawful_whole (capture_of h ds) m.client_lawful verdict.client_part ((lawful h (unnumbered ds)).0 (mine.0 matched.0));
           server_lawful = lawful_whole (capture_of k es) m.server_lawful verdict.server_part ((lawful k (unnumbered es)).0 (theirs.0 matched.1));

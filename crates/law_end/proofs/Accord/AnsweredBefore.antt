@@ -1,7 +1,8 @@
 -- What a server had sent when an ERROR came: it had answered, since before that the ERROR has no route.
-use Rattle.std.proofs.Common.{◌≡◌, ℕ, true, List, [], ◌∷◌, Any, inl, inr, sym, subst, ◌∙◌}
+use Rattle.std.proofs.Common.{◌≡◌, ℕ, true, List, [], ◌∷◌, Any, inl, inr, sym, subst, ◌∙◌, Option}
 use Rattle.std.proofs.lemmas.Bool.{false≢true}
 use Rattle.tftp_packet.specs.{Put, Server}
+use Rattle.tftp_packet.specs.{Rollover}
 use Rattle.tftp_packet.specs.Hosts.{Datagram, Header}
 use Rattle.tftp_packet.specs.{In, Out}
 use Rattle.law_model.specs.Model.{Meaning, NothingAgreed, SomethingAgreed, MachinePacket, Oack, Ack, Error, Sent, Took, History, HasSent, heard, IsOneSided}
@@ -16,9 +17,9 @@ use Rattle.law_end.proofs.Division.Routed.{named_is, told_of}
 use Rattle.law_end.proofs.Division.Parted.{parts_of}
 use Rattle.law_end.proofs.Accord.HeardAnswer.{oack_heard, zero_heard}
 
-module _ (service : ℕ) (says : Saying) (told : IsTold says) (ids : TransferIds) where
+module _ (service : ℕ) (rollover : Option Rollover) (says : Saying) (told : IsTold says) (ids : TransferIds) where
   abbrev at : Header
-  at = record { named = Server; service = service }
+  at = record { named = Server; service = service; rollover = rollover }
 
   abbrev MainOut : Labelled → Type 0
   MainOut p = IsMain p.label × (p.datagram.dir ≡ Out)
@@ -46,7 +47,7 @@ module _ (service : ℕ) (says : Saying) (told : IsTold says) (ids : TransferIds
   sent_first : (d : Datagram) (earlier : Division) (code : ℕ) (text : List ℕ) → HaveLabelsBy at says ids earlier → Carries at says ids earlier d (Took (Error code text)) → (q : MachinePacket) × HasSent (view_in earlier) q
   sent_first d earlier code text labels c = elim c.server.1 [
     | inl way ↦ let both : In ≡ Out = sym c.dir ∙ way in absurd (cc)
-    | inr any ↦ some_sent earlier labels (any_main_out service says ids earlier labels any)
+    | inr any ↦ some_sent earlier labels (any_main_out service rollover says ids earlier labels any)
   ]
 
   abbrev SomeHeard : History → Type 0
@@ -73,7 +74,7 @@ module _ (h : Header) (m : Meaning) (wire : List ℕ) (division : Division) (rou
   some_heard : h.named ≡ Server → stopped view ≡ true → (q : MachinePacket) × HasSent (heard view) q
   some_heard server over =
       let p = parts_of h m wire division routed starts in
-      heard_first h.service (says_of m wire) (told_of m wire) p.0 division (subst (λ (x : Header). HaveLabelsBy x (says_of m wire) p.0 division) (named_is h Server server) p.1) over
+      heard_first h.service h.rollover (says_of m wire) (told_of m wire) p.0 division (subst (λ (x : Header). HaveLabelsBy x (says_of m wire) p.0 division) (named_is h Server server) p.1) over
 
   server_own : h.named ≡ Server → IsOneSided m wire Server view
   server_own server = subst (λ e. IsOneSided m wire e view) server own

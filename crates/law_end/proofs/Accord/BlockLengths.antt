@@ -9,7 +9,7 @@ use Rattle.law_model.specs.Rules.{HasPassed, IsLast, BlockBreaks, HasWrongLength
 use Rattle.law_model.specs.{EndRule, Terms}
 use Rattle.law_model.proofs.RulesLemmas.Joined.{length_block, whole_block, last_block}
 
-module _ (wire : List ℕ) (t : Terms) (some : 0 < t.blksize) (numbered : block_count t.blksize wire ≤ 65535) (size : (size : ℕ) → t.size ≡ Some size → length wire ≡ size)
+module _ (wire : List ℕ) (t : Terms) (some : 0 < t.blksize) (numbered : block_count t.blksize wire ≤ t.greatest) (size : (size : ℕ) → t.size ≡ Some size → length wire ≡ size)
     (passed : List Datagram) (blocks : (k : ℕ) (bytes : List ℕ) → HasPassed (Message.Data k bytes) passed → (1 ≤ k) × (k ≤ block_count t.blksize wire) × (bytes ≡ block t.blksize wire k)) where
   abbrev count : ℕ
   count = block_count t.blksize wire

@@ -2,6 +2,7 @@
 use Rattle.std.proofs.Common.{◌≡◌, ◌⊎◌, ℕ, ◌<◌, ◌≤◌, List, [], ◌∷◌, Contains, length, Some, None, codes, inl, inr, refl, sym, subst, ap, ◌∙◌, arith}
 use Rattle.std.specs.FinMap as map
 use Rattle.tftp_packet.specs.{Message, Side, Get, Put}
+use Rattle.tftp_packet.specs.Rounds.{greatest_of}
 use Rattle.tftp_packet.specs.Hosts.{Datagram, Header}
 use Rattle.tftp_packet.specs.{Dir, In, Out}
 use Rattle.tftp_nego.specs.{AreInRange}
@@ -18,7 +19,7 @@ use Rattle.law_end.proofs.Accord.PassedIsDone.{Told as Heard, usable_in, usable_
 use Rattle.law_end.proofs.Accord.FirstReply.{used_start, no_oack, Told, data_out, data_in, reply_is}
 use Rattle.law_end.proofs.Accord.FirstSpelled.{numbered}
 
-module _ (h : Header) (m : Meaning) (wire : List ℕ) (fits : Fits m wire)
+module _ (h : Header) (m : Meaning) (wire : List ℕ) (fits : Fits h.rollover m wire)
     (division : Division) (routed : AreRouted h m wire division) (own : IsOneSided m wire h.named (view_in division)) where
   abbrev through : List Datagram
   through = transfer_of h (datagrams_of division)
@@ -73,20 +74,22 @@ module _ (h : Header) (m : Meaning) (wire : List ℕ) (fits : Fits m wire)
     pub some : 0 < t.blksize
     pub blksize : t.blksize ≡ blksize_of m
     pub windowsize : t.windowsize ≡ windowsize_of m
+    pub greatest : t.greatest ≡ greatest_of h.rollover
     pub size : (size : ℕ) → t.size ≡ Some size → length wire ≡ size
 
-  plain_numbers : (t : Terms) → NothingAgreed m → t.blksize ≡ 512 → t.windowsize ≡ 1 → t.size ≡ None → Numbers t
-  plain_numbers t nothing b w none = record {
+  plain_numbers : (t : Terms) → NothingAgreed m → t.blksize ≡ 512 → t.windowsize ≡ 1 → t.greatest ≡ greatest_of h.rollover → t.size ≡ None → Numbers t
+  plain_numbers t nothing b w g none = record {
     some = omega (arith, b);
     blksize = b ∙ sym (default_blksize m nothing);
     windowsize = w ∙ sym (default_windowsize m nothing);
+    greatest = g;
     size = λ size is. let both : None ≡ Some size = sym none ∙ is in absurd (cc);
   }
 
   -- so the numbers of the terms are known
   pub numbers : (NotAnswered m.side through → NothingAgreed m) → (t : Terms) → State t → Numbers t
-  numbers plain t (inl x) = plain_numbers t (plain x.0) (ap (λ (u : Terms). u.blksize) x.1) (ap (λ (u : Terms). u.windowsize) x.1) (ap (λ (u : Terms). u.size) x.1)
-  numbers plain t (inr (inr x)) = plain_numbers t x.0 (ap (λ (u : Terms). u.blksize) x.1) (ap (λ (u : Terms). u.windowsize) x.1) (ap (λ (u : Terms). u.size) x.1)
+  numbers plain t (inl x) = plain_numbers t (plain x.0) (ap (λ (u : Terms). u.blksize) x.1) (ap (λ (u : Terms). u.windowsize) x.1) (ap (λ (u : Terms). u.greatest) x.1) (ap (λ (u : Terms). u.size) x.1)
+  numbers plain t (inr (inr x)) = plain_numbers t x.0 (ap (λ (u : Terms). u.blksize) x.1) (ap (λ (u : Terms). u.windowsize) x.1) (ap (λ (u : Terms). u.greatest) x.1) (ap (λ (u : Terms). u.size) x.1)
   numbers plain t (inr (inl (something, first, is))) =
       let (d, s) = answer_spelled m.side through m.agreed first in
       let eight : 8 ≤ blksize_of m = from_eight (map.get m.agreed (codes "blksize")) (subst AreInRange (sym s.1.map) (map_in_range s.1.pairs) (codes "blksize")) in
@@ -95,6 +98,7 @@ module _ (h : Header) (m : Meaning) (wire : List ℕ) (fits : Fits m wire)
         some = omega (arith, b, eight);
         blksize = b;
         windowsize = ap (λ (u : Terms). u.windowsize) is;
+        greatest = ap (λ (u : Terms). u.greatest) is;
         size = λ size at. let (octet, get) = size_is m.mode (map.get m.agreed (codes "tsize")) size (sym (ap (λ (u : Terms). u.size) is) ∙ at) in fits.size octet size get;
       }
 

@@ -2,6 +2,7 @@
 -- no rule.
 use Rattle.std.proofs.Common.{◌≡◌, ◌⊎◌, ℕ, ◌+◌, ◌-◌, ◌<◌, ◌≤◌, List, ◌∷◌, inl, inr, refl, sym, subst, ◌∙◌, arith}
 use Rattle.tftp_packet.specs.{Message, Side, Get, Put, End, Client, Server}
+use Rattle.tftp_packet.specs.Rounds.{greatest_of}
 use Rattle.tftp_packet.specs.Hosts.{Datagram, Header}
 use Rattle.tftp_packet.specs.{Dir, In, Out}
 use Rattle.tftp_nego.specs.{NegoFault}
@@ -19,7 +20,7 @@ use Rattle.law_end.proofs.Accord.WhoSends.{request_kind, oack_kind, data_kind_ou
 use Rattle.law_end.proofs.Accord.AfterError.{stays_silent}
 use Rattle.law_end.proofs.Accord.KnownTerms.{used_any, passed_by, State, state, sends, takes, Numbers, numbers, blocks_are, Begun, begun_out, begun_in, no_oack_yet, plain_yet, not_waiting}
 
-module _ (h : Header) (m : Meaning) (wire : List ℕ) (fits : Fits m wire)
+module _ (h : Header) (m : Meaning) (wire : List ℕ) (fits : Fits h.rollover m wire)
     (division : Division) (routed : AreRouted h m wire division) (own : IsOneSided m wire h.named (view_in division)) where
   abbrev through : List Datagram
   through = transfer_of h (datagrams_of division)
@@ -33,9 +34,10 @@ module _ (h : Header) (m : Meaning) (wire : List ℕ) (fits : Fits m wire)
 
   -- the rules that both ends keep alike
   module _ (t : Terms) (n : Numbers h m wire fits division routed own t) where
-    -- the blocks of the wire have numbers of two bytes
-    pub few : block_count t.blksize wire ≤ 65535
-    few = subst (λ b. block_count b wire ≤ 65535) (sym n.blksize) fits.numbered
+    -- no block of the wire is above the greatest
+    pub few : block_count t.blksize wire ≤ t.greatest
+    few = subst (λ g. block_count t.blksize wire ≤ g) (sym n.greatest)
+        (subst (λ b. block_count b wire ≤ greatest_of h.rollover) (sym n.blksize) fits.numbered)
 
     -- what has passed as a block is one, by the block size of the terms
     pub as_blocks : (k : ℕ) (bytes : List ℕ) → HasPassed (Message.Data k bytes) through → (1 ≤ k) × (k ≤ block_count t.blksize wire) × (bytes ≡ block t.blksize wire k)
@@ -153,7 +155,7 @@ module _ (h : Header) (m : Meaning) (wire : List ℕ) (fits : Fits m wire)
 
   -- ---- OACKs
 
-  oack_keeps : (dir : Dir) → SomethingAgreed m → (dir ≡ Out → m.side ≡ Get → (k : ℕ) (bytes : List ℕ) → Passed Out (Message.Data k bytes) through → ⊥) → (rule : Rule) → OackBreaks (request_of m) through dir m.agreed rule → ⊥
+  oack_keeps : (dir : Dir) → SomethingAgreed m → (dir ≡ Out → m.side ≡ Get → (k : ℕ) (bytes : List ℕ) → Passed Out (Message.Data k bytes) through → ⊥) → (rule : Rule) → OackBreaks h.rollover (request_of m) through dir m.agreed rule → ⊥
   oack_keeps dir something early rule = by rule where
     first_is : (a : Answer) → FirstAnswer m.side through a → a ≡ Agrees m.agreed
     first_is a first = elim (reply_is h m wire division routed own) [
@@ -161,12 +163,12 @@ module _ (h : Header) (m : Meaning) (wire : List ℕ) (fits : Fits m wire)
       | inr some ↦ elim some [ inl x ↦ first_one m.side through a (Agrees m.agreed) first x.1 | inr x ↦ absurd (something x.0) ]
     ]
 
-    by : (rule : Rule) → OackBreaks (request_of m) through dir m.agreed rule → ⊥
+    by : (rule : Rule) → OackBreaks h.rollover (request_of m) through dir m.agreed rule → ⊥
     by Rule.ReplyChanged b = let e = first_is Begins b in cc
     by Rule.OackChanged (was, first, differs) = let e = first_is (Agrees was) first in differs (cc)
     by Rule.OackAfterStart (out, get, (k, bytes, p)) = early out get k bytes p
     by (Rule.Agreement broken) b = agreement_kept (request_of m) m.agreed something fits.may_agree.asked broken b.1
-    by (Rule.Block EndRule.BeyondBlock65535) b = no_fault (request_of m) m.agreed something fits.may_agree NegoFault.BeyondBlock65535 b.1
+    by (Rule.Block EndRule.BeyondBlock65535) b = no_fault h.rollover (request_of m) m.agreed something fits.may_agree NegoFault.BeyondBlock65535 b.1
     by rule b = b.1
 
   by_author : (dir : Dir) (e : End) (x : Message) → h.named ≡ e → IsWrongKind (author_of h.named dir) m.side x → IsWrongKind (author_of e dir) m.side x

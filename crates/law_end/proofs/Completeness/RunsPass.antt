@@ -54,7 +54,7 @@ module _ (h : Header) (earlier : List Datagram) (d : Datagram) where
 
 -- ---- all datagrams
 
-module _ (h : Header) (m : Meaning) (wire : List ℕ) (fits : Fits m wire) where
+module _ (h : Header) (m : Meaning) (wire : List ℕ) (fits : Fits h.rollover m wire) where
   main_read : (q : MachinePacket) (d : Datagram) → Spells d.payload (message_of m wire q) → IsRead (packet_route q) d
   main_read Req d s = (message_of m wire Req, s)
   main_read Oack d s = (message_of m wire Oack, s)

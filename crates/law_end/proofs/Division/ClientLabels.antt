@@ -2,6 +2,7 @@
 use Rattle.std.proofs.Common.{◌≡◌, ◌⊎◌, ℕ, true, List, [], ◌∷◌, Option, Some, option_map, Any, inl, inr, refl, sym, ap, ◌∙◌, ◌&&◌, ◌==◌}
 use Rattle.std.proofs.lemmas.Bool.{and_parts, eqb-true}
 use Rattle.tftp_packet.specs.{Client}
+use Rattle.tftp_packet.specs.{Rollover}
 use Rattle.tftp_packet.specs.Hosts.{Datagram, Header, PeerId, peer_of}
 use Rattle.tftp_packet.specs.{In, Out}
 use Rattle.law_model.specs.Model.{Req, Oack, Data, Ack, Deed, Sent, Took, Error}
@@ -17,9 +18,9 @@ use Rattle.law_end.proofs.Division.Placing.{one, starts_before, CameIn, MainIn}
 
 -- ---- at the client
 
-module _ (service : ℕ) (says : Saying) (ids : TransferIds) where
+module _ (service : ℕ) (rollover : Option Rollover) (says : Saying) (ids : TransferIds) where
   abbrev ch : Header
-  ch = record { named = Client; service = service }
+  ch = record { named = Client; service = service; rollover = rollover }
 
   -- the ids are those of the list
   pub record ClientIds (ds : List Datagram) : Type 0 where

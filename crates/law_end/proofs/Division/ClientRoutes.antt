@@ -1,7 +1,8 @@
 -- At the client the labels of a division have their routes.
-use Rattle.std.proofs.Common.{◌≡◌, ◌⊎◌, ℕ, true, false, List, [], ◌∷◌, Some, None, Any, inl, inr, refl, sym, subst, ◌∙◌, ◌==◌, ◌&&◌}
+use Rattle.std.proofs.Common.{◌≡◌, ◌⊎◌, ℕ, true, false, List, [], ◌∷◌, Some, None, Any, inl, inr, refl, sym, subst, ◌∙◌, ◌==◌, ◌&&◌, Option}
 use Rattle.std.proofs.lemmas.Bool.{false≢true, and_from, and_parts, eqb-true}
 use Rattle.tftp_packet.specs.{Client}
+use Rattle.tftp_packet.specs.{Rollover}
 use Rattle.tftp_packet.specs.Hosts.{Datagram, Header, peer_of, same_peer}
 use Rattle.tftp_packet.specs.{In, Out}
 use Rattle.law_model.specs.Model.{MachinePacket, Req, Oack, Data, Ack, Deed, Sent, Took, History, Error}
@@ -15,9 +16,9 @@ use Rattle.law_end.proofs.Division.Placing.{starts_before, CameIn, MainIn, Asked
 
 -- ---- routes at the client
 
-module _ (service : ℕ) where
+module _ (service : ℕ) (rollover : Option Rollover) where
   abbrev at : Header
-  at = record { named = Client; service = service }
+  at = record { named = Client; service = service; rollover = rollover }
 
   first_request : (ds : List Datagram) (d : Datagram) → first_of (asks at) ds ≡ None → goes_out d ≡ true → begins_request d ≡ true → (d.remote == service) ≡ true → route_of at ds d ≡ Route.Request
   first_request ds d none out begins there = rw (none, out, begins, there) refl
@@ -47,9 +48,9 @@ module _ (service : ℕ) where
 
 -- ---- the labels at the client
 
-module _ (service : ℕ) (says : Saying) (told : IsTold says) (ids : TransferIds) where
+module _ (service : ℕ) (rollover : Option Rollover) (says : Saying) (told : IsTold says) (ids : TransferIds) where
   abbrev pub here : Header
-  here = at service
+  here = at service rollover
 
   own_port : (earlier : Division) (d : Datagram) (label : Label) → HasLabelBy here says ids earlier d label → d.local ≡ ids.own
   own_port earlier d (Main deed) p = p.client
@@ -145,8 +146,8 @@ module _ (service : ℕ) (says : Saying) (told : IsTold says) (ids : TransferIds
         let begins = told.request d.payload p.spells in
         let there = same_true d.remote service p.server.0 in
         elim (two_ways (first_of (asks here) (datagrams_of earlier))) [
-          | inl none ↦ first_request service (datagrams_of earlier) d none out begins there
-          | inr some ↦ later_request service (datagrams_of earlier) d some.0 some.1 (local_is d some.0 p.client some.1) out begins (asked_is d some.0 p.server some.1)
+          | inl none ↦ first_request service rollover (datagrams_of earlier) d none out begins there
+          | inr some ↦ later_request service rollover (datagrams_of earlier) d some.0 some.1 (local_is d some.0 p.client some.1) out begins (asked_is d some.0 p.server some.1)
         ]
 
     -- something was asked before
@@ -160,12 +161,12 @@ module _ (service : ℕ) (says : Saying) (told : IsTold says) (ids : TransferIds
         → Asked here earlier → route_of here (datagrams_of earlier) d ≡ Route.Peer
     route_sent d q other p goes asked =
         let back = some_in earlier (elim goes.1 [ inl way ↦ absurd (let e : Out ≡ In = sym p.dir ∙ way in cc) | inr before ↦ before ]) in
-        out_peer service (datagrams_of earlier) d asked.0 back.0 asked.1 back.1 (local_is d asked.0 p.client asked.1) (out_true d p.dir) (told.other q other d.payload p.spells) (remote_is d back.0 goes.0 back.1)
+        out_peer service rollover (datagrams_of earlier) d asked.0 back.0 asked.1 back.1 (local_is d asked.0 p.client asked.1) (out_true d p.dir) (told.other q other d.payload p.spells) (remote_is d back.0 goes.0 back.1)
 
     route_took : (d : Datagram) (q : MachinePacket) → Carries here says ids earlier d (Took q) → HasServerId Client ids d → Asked here earlier → route_of here (datagrams_of earlier) d ≡ Route.Peer
     route_took d q p from asked = elim (two_ways (first_of comes_in (datagrams_of earlier))) [
-      | inl none ↦ in_first service (datagrams_of earlier) d asked.0 asked.1 none (local_is d asked.0 p.client asked.1) (in_false d p.dir)
-      | inr some ↦ in_peer service (datagrams_of earlier) d asked.0 some.0 asked.1 some.1 (local_is d asked.0 p.client asked.1) (in_false d p.dir) (remote_is d some.0 from some.1)
+      | inl none ↦ in_first service rollover (datagrams_of earlier) d asked.0 asked.1 none (local_is d asked.0 p.client asked.1) (in_false d p.dir)
+      | inr some ↦ in_peer service rollover (datagrams_of earlier) d asked.0 some.0 asked.1 some.1 (local_is d asked.0 p.client asked.1) (in_false d p.dir) (remote_is d some.0 from some.1)
     ]
 
     route_main : (d : Datagram) (deed : Deed) → Carries here says ids earlier d deed → Starts Client (deed ∷ view_in earlier) → route_of here (datagrams_of earlier) d ≡ packet_route (packet_of deed)
@@ -187,7 +188,7 @@ module _ (service : ℕ) (says : Saying) (told : IsTold says) (ids : TransferIds
     route_stray d p =
         let asked = asked_by_main p.after in
         let came = some_in earlier (main_in earlier p.after) in
-        in_stray service (datagrams_of earlier) d asked.0 came.0 asked.1 came.1 (local_is d asked.0 p.here asked.1) (in_false d p.dir) (remote_not d came.0 p.elsewhere came.1)
+        in_stray service rollover (datagrams_of earlier) d asked.0 came.0 asked.1 came.1 (local_is d asked.0 p.here asked.1) (in_false d p.dir) (remote_not d came.0 p.elsewhere came.1)
 
     route_answer : (d : Datagram) → AnswersStray here ids earlier d → route_of here (datagrams_of earlier) d ≡ Route.StrayAnswer
     route_answer d p =
@@ -195,7 +196,7 @@ module _ (service : ℕ) (says : Saying) (told : IsTold says) (ids : TransferIds
         let asked = asked_by_main stray.0 in
         let came = some_in earlier (main_in earlier stray.0) in
         let error = error_begins d 5 p.spells.0 p.spells.1 in
-        out_answer service (datagrams_of earlier) d asked.0 came.0 asked.1 came.1 (local_is d asked.0 p.here asked.1) (out_true d p.dir) error.0 (remote_not d came.0 stray.2 came.1) stray.1 error.1
+        out_answer service rollover (datagrams_of earlier) d asked.0 came.0 asked.1 came.1 (local_is d asked.0 p.here asked.1) (out_true d p.dir) error.0 (remote_not d came.0 stray.2 came.1) stray.1 error.1
 
     step : (d : Datagram) (label : Label) → HasLabelBy here says ids earlier d label → Starts Client (view_in (record { datagram = d; label = label } ∷ earlier))
         → (route_of here (datagrams_of earlier) d ≡ label_route label) × SaysAsBy says d label

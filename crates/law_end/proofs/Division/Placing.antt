@@ -1,6 +1,7 @@
 -- What stands where in a division.
-use Rattle.std.proofs.Common.{◌≡◌, ℕ, [], ◌∷◌, Any, inl, inr, refl, sym, subst, ◌∙◌, true, Some}
+use Rattle.std.proofs.Common.{◌≡◌, ℕ, [], ◌∷◌, Any, inl, inr, refl, sym, subst, ◌∙◌, true, Some, Option}
 use Rattle.tftp_packet.specs.{End, Server}
+use Rattle.tftp_packet.specs.{Rollover}
 use Rattle.tftp_packet.specs.Hosts.{Datagram, Header, PeerId, peer_of}
 use Rattle.tftp_packet.specs.{In, Out, Dir}
 use Rattle.law_end.specs.Dress.{StrayAnswer}
@@ -93,9 +94,9 @@ module _ (h : Header) (says : Saying) (ids : TransferIds) where
 
 -- ---- at the server something that went out has a main datagram before it, or is one
 
-module _ (service : ℕ) (says : Saying) (ids : TransferIds) where
+module _ (service : ℕ) (rollover : Option Rollover) (says : Saying) (ids : TransferIds) where
   abbrev at_server : Header
-  at_server = record { named = Server; service = service }
+  at_server = record { named = Server; service = service; rollover = rollover }
 
   -- what answers a stray has one before it, and that a main one
   pub stray_main : (division : Division) (peer : PeerId) → HaveLabelsBy at_server says ids division → Any (StrayFrom peer) division → Any MainOut division

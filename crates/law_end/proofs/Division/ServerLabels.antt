@@ -2,6 +2,7 @@
 use Rattle.std.proofs.Common.{◌≡◌, ◌⊎◌, ℕ, Bool, List, [], ◌∷◌, Option, Some, option_map, Any, inl, inr, refl, sym, ◌∙◌, ◌&&◌, ◌==◌}
 use Rattle.std.proofs.lemmas.Bool.{false≢true, and_from, and_parts, eqb-true, eq-eqb}
 use Rattle.tftp_packet.specs.{Server}
+use Rattle.tftp_packet.specs.{Rollover}
 use Rattle.tftp_packet.specs.Hosts.{Datagram, Header, peer_of, same_peer}
 use Rattle.tftp_packet.specs.{In, Out}
 use Rattle.law_model.specs.Model.{Req, Oack, Data, Ack, Deed, Sent, Took, Error}
@@ -16,9 +17,9 @@ use Rattle.law_end.proofs.Division.Placing.{one, starts_before, WentOut, any_mai
 
 -- ---- at the server
 
-module _ (service : ℕ) (says : Saying) (ids : TransferIds) where
+module _ (service : ℕ) (rollover : Option Rollover) (says : Saying) (ids : TransferIds) where
   abbrev sh : Header
-  sh = record { named = Server; service = service }
+  sh = record { named = Server; service = service; rollover = rollover }
 
   abbrev to_client : Datagram → Datagram → Bool
   to_client first a = goes_out a && same_peer (peer_of a) (peer_of first)
@@ -112,7 +113,7 @@ module _ (service : ℕ) (says : Saying) (ids : TransferIds) where
             dir = dir_in d out;
             here = local ∙ b.0;
             elsewhere = λ e. apart (e ∙ sym (s_ids.peer some.0 some.1));
-            after = any_main_out service says ids earlier labels b.1;
+            after = any_main_out service rollover says ids earlier labels b.1;
             no_request = λ at_server same begins. false≢true (sym no_request ∙ and_from _ _ (begins_byte d begins) (eq-eqb d.local service (local ∙ b.0 ∙ same)));
           }
     ]

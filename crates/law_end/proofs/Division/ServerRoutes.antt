@@ -2,6 +2,7 @@
 use Rattle.std.proofs.Common.{◌≡◌, ◌⊎◌, ℕ, ◌+◌, ◌*◌, Bool, true, false, List, [], ◌∷◌, Option, Some, None, Any, inl, inr, refl, sym, subst, ◌∙◌, arith, ◌&&◌, ◌||◌, ◌==◌}
 use Rattle.std.proofs.lemmas.Bool.{false≢true, and_from, and_parts, eqb-true, false_from_ne_true, or_cases}
 use Rattle.tftp_packet.specs.{opcode_of, Server}
+use Rattle.tftp_packet.specs.{Rollover}
 use Rattle.tftp_packet.specs.Hosts.{Datagram, Header, peer_of, same_peer}
 use Rattle.tftp_packet.specs.{In, Out}
 use Rattle.law_model.specs.Model.{MachinePacket, Req, Oack, Data, Ack, Deed, Sent, Took, History, Error}
@@ -24,9 +25,9 @@ byte_begins (x ∷ y ∷ rest) e = elim (or_cases (256 * x + y == 1) (256 * x + 
   | inr two ↦ let is = eqb-true (256 * x + y) 2 two in let a : x ≡ 0 = omega arith in let b : y ≡ 2 = omega arith in (rest, inr (cc))
 ]
 
-module _ (service : ℕ) where
+module _ (service : ℕ) (rollover : Option Rollover) where
   abbrev home : Header
-  home = record { named = Server; service = service }
+  home = record { named = Server; service = service; rollover = rollover }
 
   abbrev to_client : Datagram → Datagram → Bool
   to_client first a = goes_out a && same_peer (peer_of a) (peer_of first)
@@ -61,9 +62,9 @@ module _ (service : ℕ) where
       → has_come_from (peer_of d) ds ≡ true → begins_error d ≡ true → route_of home ds d ≡ Route.StrayAnswer
   s_answer ds d first other some was out own to noted error = rw (some, was, out, own, to, noted, error) refl
 
-module _ (service : ℕ) (says : Saying) (told : IsTold says) (ids : TransferIds) where
+module _ (service : ℕ) (rollover : Option Rollover) (says : Saying) (told : IsTold says) (ids : TransferIds) where
   abbrev hh : Header
-  hh = home service
+  hh = home service rollover
 
   abbrev Parts : Division → Type 0
   Parts division = HaveLabelsBy hh says ids division
@@ -101,9 +102,9 @@ module _ (service : ℕ) (says : Saying) (told : IsTold says) (ids : TransferIds
   s_out_own earlier d StrayAnswer p own t = p.here
   s_out_own earlier d _ p own t = p.server.0
 
-  s_first_own : (division : Division) → Parts division → Own division → (first x : Datagram) → first_of (to_client service first) (datagrams_of division) ≡ Some x → x.local ≡ ids.own
+  s_first_own : (division : Division) → Parts division → Own division → (first x : Datagram) → first_of (to_client service rollover first) (datagrams_of division) ≡ Some x → x.local ≡ ids.own
   s_first_own [] labels own first x e = absurd (cc)
-  s_first_own (p ∷ earlier) labels own first x e = elim (or_some (first_of (to_client service first) (datagrams_of earlier)) (to_client service first p.datagram) p.datagram x e) [
+  s_first_own (p ∷ earlier) labels own first x e = elim (or_some (first_of (to_client service rollover first) (datagrams_of earlier)) (to_client service rollover first p.datagram) p.datagram x e) [
     | inl before ↦ s_first_own earlier labels.1 (starts_before Server p.datagram p.label earlier own) first x before
     | inr this ↦ subst (λ (d : Datagram). d.local ≡ ids.own) this.2 (s_out_own earlier p.datagram p.label labels.0 own (and_parts (goes_out p.datagram) (same_peer (peer_of p.datagram) (peer_of first)) this.1).0)
   ]
@@ -114,12 +115,12 @@ module _ (service : ℕ) (says : Saying) (told : IsTold says) (ids : TransferIds
   s_main_peer d StrayAnswer earlier p (deed, is) = absurd (cc)
 
   -- so a main one went to the client
-  s_some_out : (division : Division) → Parts division → (first : Datagram) → peer_of first ≡ ids.peer → Any MainOut division → (x : Datagram) × (first_of (to_client service first) (datagrams_of division) ≡ Some x)
+  s_some_out : (division : Division) → Parts division → (first : Datagram) → peer_of first ≡ ids.peer → Any MainOut division → (x : Datagram) × (first_of (to_client service rollover first) (datagrams_of division) ≡ Some x)
   s_some_out [] labels first is any = absurd (any_none MainOut any)
   s_some_out (p ∷ earlier) labels first is any = elim (any_cases MainOut p earlier any) [
-    | inl this ↦ now (to_client service first) p.datagram (datagrams_of earlier)
+    | inl this ↦ now (to_client service rollover first) p.datagram (datagrams_of earlier)
         (and_from _ _ (out_true p.datagram this.1) (same_is (peer_of p.datagram) (peer_of first) (s_main_peer p.datagram p.label earlier labels.0 this.0 ∙ sym is)))
-    | inr before ↦ let found = s_some_out earlier labels.1 first is before in (found.0, first_stays (to_client service first) p.datagram found.0 (datagrams_of earlier) found.1)
+    | inr before ↦ let found = s_some_out earlier labels.1 first is before in (found.0, first_stays (to_client service rollover first) p.datagram found.0 (datagrams_of earlier) found.1)
   ]
 
   s_asks_there : (earlier : Division) (d : Datagram) → Carries hh says ids earlier d (Took Req) → asks hh d ≡ true
@@ -138,7 +139,7 @@ module _ (service : ℕ) (says : Saying) (told : IsTold says) (ids : TransferIds
     s_remote_not : (d first : Datagram) → (peer_of d ≡ ids.peer → ⊥) → first_of (asks hh) ds ≡ Some first → same_peer (peer_of d) (peer_of first) ≡ false
     s_remote_not d first apart some = other_peer (peer_of d) (peer_of first) (λ same. apart (same ∙ s_first_peer earlier labels first some))
 
-    s_local_is : (d first other : Datagram) → d.local ≡ ids.own → first_of (to_client service first) ds ≡ Some other → (d.local == other.local) ≡ true
+    s_local_is : (d first other : Datagram) → d.local ≡ ids.own → first_of (to_client service rollover first) ds ≡ Some other → (d.local == other.local) ≡ true
     s_local_is d first other is some = same_true d.local other.local (is ∙ sym (s_first_own earlier labels own first other some))
 
     s_route_request : (d : Datagram) → Carries hh says ids earlier d (Took Req) → route_of hh ds d ≡ Route.Request
@@ -147,8 +148,8 @@ module _ (service : ℕ) (says : Saying) (told : IsTold says) (ids : TransferIds
         let begins = told.request d.payload p.spells in
         let there = same_true d.local service p.server.0 in
         elim (two_ways (first_of (asks hh) ds)) [
-          | inl none ↦ s_first_request service ds d none out begins there
-          | inr some ↦ s_later_request service ds d some.0 some.1 out begins there (s_remote_is d some.0 p.client some.1) (first_of (to_client service some.0) ds) refl (λ x e. (d.local == x.local, refl))
+          | inl none ↦ s_first_request service rollover ds d none out begins there
+          | inr some ↦ s_later_request service rollover ds d some.0 some.1 out begins there (s_remote_is d some.0 p.client some.1) (first_of (to_client service rollover some.0) ds) refl (λ x e. (d.local == x.local, refl))
         ]
 
     s_asked_before : (deed : Deed) → (deed ≡ Took Req → ⊥) → Starts Server (deed ∷ view_in earlier) → Asked hh earlier
@@ -158,16 +159,16 @@ module _ (service : ℕ) (says : Saying) (told : IsTold says) (ids : TransferIds
       by [] is = absurd (other (all.0.first is))
 
     s_route_sent : (d : Datagram) (q : MachinePacket) → Carries hh says ids earlier d (Sent q) → HasServerId Server ids d → Asked hh earlier → route_of hh ds d ≡ Route.Peer
-    s_route_sent d q p at_own asked = elim (two_ways (first_of (to_client service asked.0) ds)) [
-      | inl none ↦ s_out_first service ds d asked.0 asked.1 none (out_true d p.dir) (s_remote_is d asked.0 p.client asked.1)
-      | inr some ↦ s_out_later service ds d asked.0 some.0 asked.1 some.1 (out_true d p.dir) (s_local_is d asked.0 some.0 at_own some.1) (s_remote_is d asked.0 p.client asked.1)
+    s_route_sent d q p at_own asked = elim (two_ways (first_of (to_client service rollover asked.0) ds)) [
+      | inl none ↦ s_out_first service rollover ds d asked.0 asked.1 none (out_true d p.dir) (s_remote_is d asked.0 p.client asked.1)
+      | inr some ↦ s_out_later service rollover ds d asked.0 some.0 asked.1 some.1 (out_true d p.dir) (s_local_is d asked.0 some.0 at_own some.1) (s_remote_is d asked.0 p.client asked.1)
     ]
 
     s_route_took : (d : Datagram) (q : MachinePacket) → (q ≡ Req → ⊥) → Carries hh says ids earlier d (Took q) → HasServerId Server ids d × ((d.dir ≡ Out) ⊎ Any WentOut earlier) → Asked hh earlier → route_of hh ds d ≡ Route.Peer
     s_route_took d q other p goes asked =
-        let went = any_main_out service says ids earlier labels (elim goes.1 [ inl way ↦ absurd (let e : In ≡ Out = sym p.dir ∙ way in cc) | inr before ↦ before ]) in
+        let went = any_main_out service rollover says ids earlier labels (elim goes.1 [ inl way ↦ absurd (let e : In ≡ Out = sym p.dir ∙ way in cc) | inr before ↦ before ]) in
         let some = s_some_out earlier labels asked.0 (s_first_peer earlier labels asked.0 asked.1) went in
-        s_in_peer service ds d asked.0 some.0 asked.1 some.1 (in_false d p.dir) (s_local_is d asked.0 some.0 goes.0 some.1) (told.other q other d.payload p.spells) (s_remote_is d asked.0 p.client asked.1)
+        s_in_peer service rollover ds d asked.0 some.0 asked.1 some.1 (in_false d p.dir) (s_local_is d asked.0 some.0 goes.0 some.1) (told.other q other d.payload p.spells) (s_remote_is d asked.0 p.client asked.1)
 
     s_route_main : (d : Datagram) (deed : Deed) → Carries hh says ids earlier d deed → Starts Server (deed ∷ view_in earlier) → route_of hh ds d ≡ packet_route (packet_of deed)
     s_route_main d (Took Req) p all = s_route_request d p
@@ -188,7 +189,7 @@ module _ (service : ℕ) (says : Saying) (told : IsTold says) (ids : TransferIds
     s_route_stray d p =
         let asked = s_asked_by_main p.after in
         let some = s_some_out earlier labels asked.0 (s_first_peer earlier labels asked.0 asked.1) p.after in
-        s_in_stray service ds d asked.0 some.0 asked.1 some.1 (in_false d p.dir) (s_local_is d asked.0 some.0 p.here some.1)
+        s_in_stray service rollover ds d asked.0 some.0 asked.1 some.1 (in_false d p.dir) (s_local_is d asked.0 some.0 p.here some.1)
         (false_from_ne_true (begins_request d && (d.local == service)) (λ t. let a = and_parts (begins_request d) (d.local == service) t in p.no_request refl (sym p.here ∙ eqb-true d.local service a.1) (byte_begins d.payload a.0)))
         (s_remote_not d asked.0 p.elsewhere asked.1)
 
@@ -198,7 +199,7 @@ module _ (service : ℕ) (says : Saying) (told : IsTold says) (ids : TransferIds
         let asked = s_asked_by_main stray.0 in
         let some = s_some_out earlier labels asked.0 (s_first_peer earlier labels asked.0 asked.1) stray.0 in
         let error = error_begins d 5 p.spells.0 p.spells.1 in
-        s_answer service ds d asked.0 some.0 asked.1 some.1 (out_true d p.dir) (s_local_is d asked.0 some.0 p.here some.1) (s_remote_not d asked.0 stray.2 asked.1) stray.1 error.1
+        s_answer service rollover ds d asked.0 some.0 asked.1 some.1 (out_true d p.dir) (s_local_is d asked.0 some.0 p.here some.1) (s_remote_not d asked.0 stray.2 asked.1) stray.1 error.1
 
     s_step : (d : Datagram) (label : Label) → Part1 earlier d label → Own (one d label earlier) → (route_of hh ds d ≡ label_route label) × SaysAsBy says d label
     s_step d (Main deed) p all = (s_route_main d deed p all, (p.dir, p.spells))
@@ -209,7 +210,7 @@ module _ (service : ℕ) (says : Saying) (told : IsTold says) (ids : TransferIds
   s_error_later : (d : Datagram) (earlier : Division) → Parts earlier → view_in earlier ≡ [] → (code : ℕ) (text : List ℕ) → Carries hh says ids earlier d (Took (Error code text)) → ⊥
   s_error_later d earlier labels empty code text c = elim c.server.1 [
     | inl way ↦ let both : In ≡ Out = sym c.dir ∙ way in absurd (cc)
-    | inr any ↦ let some = view_some Out earlier (any_main_out service says ids earlier labels any) in let both : [] ≡ some.0 ∷ some.1 = sym empty ∙ some.2 in absurd (cc)
+    | inr any ↦ let some = view_some Out earlier (any_main_out service rollover says ids earlier labels any) in let both : [] ≡ some.0 ∷ some.1 = sym empty ∙ some.2 in absurd (cc)
   ]
 
   s_later : (d : Datagram) (label : Label) (earlier : Division) → Part1 earlier d label → Parts earlier → NoErrorFirst (view_in earlier) → NoErrorFirst (view_in (one d label earlier))

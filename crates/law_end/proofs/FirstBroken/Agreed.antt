@@ -5,6 +5,8 @@ use Rattle.std.proofs.lemmas.Slice.Eq.{bytes_eq-Decides}
 use Rattle.std.specs.Str.{bytes_eq}
 use Rattle.std.specs.FinMap as map
 use Rattle.tftp_packet.specs.{OptionMap, OptionValue, Num, Text, RequestParts, Side}
+use Rattle.tftp_packet.specs.{Rollover}
+use Rattle.tftp_packet.specs.Rounds.{greatest_of}
 use Rattle.law_model.specs.Model.{option_or}
 use Rattle.tftp_nego.specs.{MayAnswer, MayAgree, IsOutsideProfile, IsWrongNumber, Holds, NegoFault, Broken, OptionNotRequested, OptionOutsideProfile, OptionValue as BadValue, BeyondBlock65535}
 
@@ -35,21 +37,21 @@ good_number side name asked given (inr (inr (inr is))) bad = elim (cases_eq give
   | inr differs ↦ inr (inr (inr (is, λ put. absurd (bad (inr (inr (inr (is, put, differs))))))))
 ]
 
-answer_found : (request : RequestParts) (oack : OptionMap) → ((fault : NegoFault) → Holds fault request oack → ⊥) → (name : List ℕ) (given : OptionValue) → map.get oack name ≡ Some given → IsKnown name
+answer_found : (rollover : Option Rollover) (request : RequestParts) (oack : OptionMap) → ((fault : NegoFault) → Holds rollover fault request oack → ⊥) → (name : List ℕ) (given : OptionValue) → map.get oack name ≡ Some given → IsKnown name
     → (o : Option OptionValue) → map.get request.options name ≡ o → (asked number : ℕ) × (map.get request.options name ≡ Some (Num asked)) × (given ≡ Num number) × MayAnswer request.side name asked number
-answer_found request oack none name given get known None is = absurd (none (Broken OptionNotRequested) (name, (given, get), is))
-answer_found request oack none name given get known (Some (Text asked)) is = absurd (none (Broken BadValue) (name, Text asked, given, is, get, tt))
-answer_found request oack none name (Text given) get known (Some (Num asked)) is = absurd (none (Broken BadValue) (name, Num asked, Text given, is, get, tt))
-answer_found request oack none name (Num given) get known (Some (Num asked)) is =
+answer_found rollover request oack none name given get known None is = absurd (none (Broken OptionNotRequested) (name, (given, get), is))
+answer_found rollover request oack none name given get known (Some (Text asked)) is = absurd (none (Broken BadValue) (name, Text asked, given, is, get, tt))
+answer_found rollover request oack none name (Text given) get known (Some (Num asked)) is = absurd (none (Broken BadValue) (name, Num asked, Text given, is, get, tt))
+answer_found rollover request oack none name (Num given) get known (Some (Num asked)) is =
     (asked, given, is, refl, good_number request.side name asked given known (λ bad. none (Broken BadValue) (name, Num asked, Num given, is, get, bad)))
 
-pub without_fault : (request : RequestParts) (oack : OptionMap) → ((fault : NegoFault) → Holds fault request oack → ⊥) → MayAgree request oack
-without_fault request oack none = record {
+pub without_fault : (rollover : Option Rollover) (request : RequestParts) (oack : OptionMap) → ((fault : NegoFault) → Holds rollover fault request oack → ⊥) → MayAgree rollover request oack
+without_fault rollover request oack none = record {
   asked = λ name value get. elim (is_known name) [
-    | inl known ↦ answer_found request oack none name value get known (map.get request.options name) refl
+    | inl known ↦ answer_found rollover request oack none name value get known (map.get request.options name) refl
     | inr unknown ↦ absurd (none (Broken OptionOutsideProfile) (name, (value, get), unknown))
   ];
-  size = λ octet size get. elim (cases_lt 65535 (size / option_or 512 oack (codes "blksize") + 1)) [
+  size = λ octet size get. elim (cases_lt (greatest_of rollover) (size / option_or 512 oack (codes "blksize") + 1)) [
     | inl many ↦ absurd (none BeyondBlock65535 (size, octet, get, many))
     | inr few ↦ few
   ];

@@ -29,7 +29,7 @@ module _ (h : Header) (asked : RequestParts) (passed : List Datagram) (dir : Dir
   request_from now Rule.RequestAfterStart b = omega arith
   request_from now rule b = absurd b
 
-  oack_from : (oack : OptionMap) (rule : Rule) → OackBreaks asked passed dir oack rule → 8 ≤ number_of rule
+  oack_from : (oack : OptionMap) (rule : Rule) → OackBreaks h.rollover asked passed dir oack rule → 8 ≤ number_of rule
   oack_from oack Rule.ReplyChanged b = omega arith
   oack_from oack Rule.OackChanged b = omega arith
   oack_from oack Rule.OackAfterStart b = omega arith

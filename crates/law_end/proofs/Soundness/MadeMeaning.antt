@@ -5,6 +5,8 @@ use Rattle.std.specs.Ordering.{nat_cmp}
 use Rattle.std.specs.Cmp.Lexicographic.{slice_cmp}
 use Rattle.std.proofs.lemmas.Bool.{leb-true, and_parts}
 use Rattle.tftp_packet.specs.{OptionMap, OptionValue, Num, Text, no_options, is_within, range_of, Message, RequestParts, Spells, Side, Get, Put, Mode, Octet, Netascii}
+use Rattle.tftp_packet.specs.{Rollover}
+use Rattle.tftp_packet.specs.Rounds.{greatest_of}
 use Rattle.tftp_nego.specs.{number_or, option_or, MayAgree, AreInRange, Holds, NegoFault}
 use Rattle.tftp_packet.specs.Hosts.{Datagram, Header}
 use Rattle.law_model.specs.Model.{Meaning, request_of, block, block_count}
@@ -13,6 +15,7 @@ use Rattle.law_model.specs.{NoReply, Plain, Terms, EndRule}
 use Rattle.tftp_nego.proofs.Numbers.{map_in_range}
 use Rattle.tftp_netascii.proofs.DecoderLemmas.{Reads-exists}
 use Rattle.law_end.specs.{ReadsAs, FirstAsked, Answer, Agrees, Begins, IsAnswer, Answers, NotAnswered, FirstAnswer, size_from, plain_terms, terms_after, OackBreaks, Rule, Passes, OneEnded, Accords, AreTermsAfter}
+use Rattle.tftp_packet.proofs.RoundsLemmas.Greatest.{two_bytes_within}
 use Rattle.law_end.proofs.Spelled.{spelled_once}
 use Rattle.law_end.proofs.FirstBroken.Answering.{answer_of, answer_is, answer_there}
 use Rattle.law_end.proofs.FirstBroken.FirstRequests.{first_asks, some_same, first_stays, asked_once, none_before}
@@ -50,10 +53,10 @@ oack_spelled side d options (m, s, is) = subst (Spells d.payload) (oack_answer s
 
 module _ (h : Header) (earlier : List Datagram) (d : Datagram) (passes : Passes h earlier d) (asked : RequestParts) (options : OptionMap)
     (main : is_of_transfer (route_of h earlier d) ≡ true) (spells : Spells d.payload (Message.Oack options)) (first : FirstAsked h earlier asked) (none : NotAnswered asked.side (transfer_of h earlier)) where
-  keeps : (rule : Rule) → OackBreaks asked (transfer_of h earlier) d.dir options rule → ⊥
+  keeps : (rule : Rule) → OackBreaks h.rollover asked (transfer_of h earlier) d.dir options rule → ⊥
   keeps rule b = none_by h earlier d (Message.Oack options) asked main spells first passes.lawful rule (inr (inr b))
 
-  no_fault : (fault : NegoFault) → Holds fault asked options → ⊥
+  no_fault : (fault : NegoFault) → Holds h.rollover fault asked options → ⊥
   no_fault (NegoFault.Broken broken) holds = keeps (Rule.Agreement broken) (none, holds)
   no_fault NegoFault.BeyondBlock65535 holds = keeps (Rule.Block EndRule.BeyondBlock65535) (none, holds)
   no_fault NegoFault.Memory holds = holds
@@ -65,14 +68,14 @@ module _ (h : Header) where
 
   -- one datagram more
   may_step : (earlier : List Datagram) (d : Datagram) → Passes h earlier d → OneEnded h earlier → (asked : RequestParts) → FirstAsked h (d ∷ earlier) asked → (options : OptionMap)
-      → (FirstAsked h earlier asked → FirstAnswer asked.side (transfer_of h earlier) (Agrees options) → MayAgree asked options)
+      → (FirstAsked h earlier asked → FirstAnswer asked.side (transfer_of h earlier) (Agrees options) → MayAgree h.rollover asked options)
       → (o : Option Datagram) → first_of (asks h) earlier ≡ o → (b : Bool) → is_of_transfer (route_of h earlier d) ≡ b
-      → FirstAnswer asked.side (transfer_of h (d ∷ earlier)) (Agrees options) → MayAgree asked options
+      → FirstAnswer asked.side (transfer_of h (d ∷ earlier)) (Agrees options) → MayAgree h.rollover asked options
   may_step earlier d passes lawful asked first options before (Some was) is true main answer =
       let stays = same_first earlier d asked was is first in
       elim (subst (λ ds. FirstAnswer asked.side ds (Agrees options)) (main_some (is_of_transfer (route_of h earlier d)) d (transfer_of h earlier) main) answer) [
         | inl old ↦ before stays old
-        | inr now ↦ without_fault asked options (no_fault h earlier d passes asked options main (oack_spelled asked.side d options now.1) stays now.0)
+        | inr now ↦ without_fault h.rollover asked options (no_fault h earlier d passes asked options main (oack_spelled asked.side d options now.1) stays now.0)
       ]
   may_step earlier d passes lawful asked first options before (Some was) is false main answer =
       before (same_first earlier d asked was is first) (subst (λ ds. FirstAnswer asked.side ds (Agrees options)) (main_none (is_of_transfer (route_of h earlier d)) d (transfer_of h earlier) main) answer)
@@ -88,7 +91,7 @@ module _ (h : Header) where
       absurd (subst (λ ds. FirstAnswer asked.side ds (Agrees options)) (main_none (is_of_transfer (route_of h earlier d)) d (transfer_of h earlier) main ∙ none_before h earlier is lawful) answer)
 
   pub may_be_agreed : (earlier : List Datagram) → OneEnded h earlier → (asked : RequestParts) → FirstAsked h earlier asked → (options : OptionMap)
-      → FirstAnswer asked.side (transfer_of h earlier) (Agrees options) → MayAgree asked options
+      → FirstAnswer asked.side (transfer_of h earlier) (Agrees options) → MayAgree h.rollover asked options
   may_be_agreed [] lawful asked first options answer = absurd answer
   may_be_agreed (d ∷ earlier) lawful asked first options answer =
       may_step earlier d lawful.0 lawful.1 asked first options (λ stays old. may_be_agreed earlier lawful.1 asked stays options old) (first_of (asks h) earlier) refl (is_of_transfer (route_of h earlier d)) refl answer
@@ -98,8 +101,8 @@ module _ (h : Header) where
 pub none_found : (name : List ℕ) → map.get no_options name ≡ None
 none_found name = map.get-empty (slice_cmp nat_cmp) name
 
-pub none_may_be_agreed : (asked : RequestParts) → MayAgree asked no_options
-none_may_be_agreed asked = record {
+pub none_may_be_agreed : (rollover : Option Rollover) (asked : RequestParts) → MayAgree rollover asked no_options
+none_may_be_agreed rollover asked = record {
   asked = λ name value get. let both : None ≡ Some value = sym (none_found name) ∙ get in absurd (cc);
   size = λ octet size get. let both : None ≡ Some (Num size) = sym (none_found (codes "tsize")) ∙ get in absurd (cc);
 }
@@ -139,7 +142,8 @@ answer_spelled side (d ∷ passed) options first = elim first [ inl before ↦ a
 -- what is agreed, beside the terms that are known
 record IsAgreedWith (h : Header) (earlier : List Datagram) (asked : RequestParts) (t : Terms) (agreed : OptionMap) : Type 0 where
   pub known : AreTermsAfter h asked (transfer_of h earlier) t
-  pub may : MayAgree asked agreed
+  pub may : MayAgree h.rollover asked agreed
+  pub greatest : t.greatest ≡ greatest_of h.rollover
   pub some : 0 < t.blksize
   pub same : t.blksize ≡ option_or 512 agreed (codes "blksize")
   pub sized : asked.mode ≡ Octet → (size : ℕ) → map.get agreed (codes "tsize") ≡ Some (Num size) → t.size ≡ Some size
@@ -158,8 +162,9 @@ made : (h : Header) (earlier : List Datagram) → OneEnded h earlier → (asked 
 made h earlier lawful asked first t agreed a =
     let passed = transfer_of h earlier in
     let s = settled h earlier lawful asked first t (asked, first, a.known) in
-    let limit : (size : ℕ) → t.size ≡ Some size → size / t.blksize + 1 ≤ 65535 = λ size is. let (octet, get) = a.back size is in subst (λ b. size / b + 1 ≤ 65535) (sym a.same) (a.may.size octet size get) in
-    let (wire, c) = carried asked.side t passed s (transfer_spelled h earlier lawful) a.some limit in
+    let limit : (size : ℕ) → t.size ≡ Some size → size / t.blksize + 1 ≤ t.greatest = λ size is.
+    (let (octet, get) = a.back size is in subst (λ g. size / t.blksize + 1 ≤ g) (sym a.greatest) (subst (λ b. size / b + 1 ≤ greatest_of h.rollover) (sym a.same) (a.may.size octet size get))) in
+    let (wire, c) = carried asked.side t passed s (transfer_spelled h earlier lawful) a.some (let least = two_bytes_within h.rollover in let is = a.greatest in omega arith) limit in
     let (file, r) = read_as asked.mode wire in (
       record { side = asked.side; name = asked.name; mode = asked.mode; requested = asked.options; agreed = agreed; file = file },
       wire,
@@ -168,7 +173,7 @@ made h earlier lawful asked first t agreed a =
           may_agree = a.may;
           reads = r;
           size = λ octet size get. c.size size (a.sized octet size get);
-          numbered = subst (λ b. block_count b wire ≤ 65535) a.same c.numbered;
+          numbered = subst (λ b. block_count b wire ≤ greatest_of h.rollover) a.same (subst (λ g. block_count t.blksize wire ≤ g) a.greatest c.numbered);
         };
         asked = λ other also. asked_once h earlier other asked also first;
         oacked = a.oacked;
@@ -178,11 +183,12 @@ made h earlier lawful asked first t agreed a =
     )
 
 -- with nothing agreed
-plainly : (h : Header) (earlier : List Datagram) (asked : RequestParts) (t : Terms) → AreTermsAfter h asked (transfer_of h earlier) t → t.blksize ≡ 512 → t.size ≡ None
+plainly : (h : Header) (earlier : List Datagram) (asked : RequestParts) (t : Terms) → AreTermsAfter h asked (transfer_of h earlier) t → t.blksize ≡ 512 → t.greatest ≡ greatest_of h.rollover → t.size ≡ None
     → ((options : OptionMap) → FirstAnswer asked.side (transfer_of h earlier) (Agrees options) → ⊥) → IsAgreedWith h earlier asked t no_options
-plainly h earlier asked t known usual unsized none = record {
+plainly h earlier asked t known usual greatest unsized none = record {
   known = known;
-  may = none_may_be_agreed asked;
+  may = none_may_be_agreed h.rollover asked;
+  greatest = greatest;
   some = omega (arith, usual);
   same = usual ∙ sym usual_size;
   sized = λ octet size get. let both : None ≡ Some (Num size) = sym (none_found (codes "tsize")) ∙ get in absurd (cc);
@@ -200,6 +206,7 @@ agrees h earlier lawful asked first options answer =
     record {
       known = inr (Agrees options, answer, refl);
       may = may_be_agreed h earlier lawful asked first options answer;
+      greatest = refl;
       some = omega (arith, eight);
       same = refl;
       sized = λ octet size get. is_size asked.mode (map.get options (codes "tsize")) size octet get;
@@ -211,14 +218,14 @@ agrees h earlier lawful asked first options answer =
 of_request : (h : Header) (earlier : List Datagram) → OneEnded h earlier → (asked : RequestParts) → FirstAsked h earlier asked → Some_accord h earlier
 of_request h earlier lawful asked first = elim (answer_cases asked.side (transfer_of h earlier) (transfer_spelled h earlier lawful)) [
   | inl none ↦ made h earlier lawful asked first (plain_terms h asked.side NoReply) no_options
-      (plainly h earlier asked (plain_terms h asked.side NoReply) (inl (none, refl)) refl refl (λ options answer. not_both asked.side (transfer_of h earlier) (Agrees options) none answer))
+      (plainly h earlier asked (plain_terms h asked.side NoReply) (inl (none, refl)) refl refl refl (λ options answer. not_both asked.side (transfer_of h earlier) (Agrees options) none answer))
   | inr some ↦ by some.0 some.1
 ]
   where
     by : (a : Answer) → FirstAnswer asked.side (transfer_of h earlier) a → Some_accord h earlier
     by (Agrees options) answer = made h earlier lawful asked first (terms_after h asked (Agrees options)) options (agrees h earlier lawful asked first options answer)
     by Begins answer = made h earlier lawful asked first (plain_terms h asked.side Plain) no_options
-        (plainly h earlier asked (plain_terms h asked.side Plain) (inr (Begins, answer, refl)) refl refl (λ options other. let e : Agrees options ≡ Begins = first_one asked.side (transfer_of h earlier) (Agrees options) Begins other answer in absurd (cc)))
+        (plainly h earlier asked (plain_terms h asked.side Plain) (inr (Begins, answer, refl)) refl refl refl (λ options other. let e : Agrees options ≡ Begins = first_one asked.side (transfer_of h earlier) (Agrees options) Begins other answer in absurd (cc)))
 
 -- before the first request any meaning will do
 abbrev empty : Meaning
@@ -231,10 +238,10 @@ of_none h earlier lawful none =
       [],
       record {
         fits = record {
-          may_agree = none_may_be_agreed (request_of empty);
+          may_agree = none_may_be_agreed h.rollover (request_of empty);
           reads = refl;
           size = λ octet size get. let both : None ≡ Some (Num size) = sym (none_found (codes "tsize")) ∙ get in absurd (cc);
-          numbered = subst (λ b. block_count b [] ≤ 65535) (sym usual_size) (omega arith);
+          numbered = subst (λ b. block_count b [] ≤ greatest_of h.rollover) (sym usual_size) (let least = two_bytes_within h.rollover in omega arith);
         };
         asked = λ asked first. let both : None ≡ Some first.0 = sym none ∙ first.1 in absurd (cc);
         oacked = λ options answer. absurd (subst (λ ds. FirstAnswer Get ds (Agrees options)) nothing answer);

@@ -16,7 +16,7 @@ use Rattle.law_end.proofs.Soundness.Settled.{Settled, known_last, last_one}
 
 -- the blocks that have passed are those of the wire
 pub record Carries (t : Terms) (passed : List Datagram) (wire : List ℕ) : Type 0 where
-  pub numbered : block_count t.blksize wire ≤ 65535
+  pub numbered : block_count t.blksize wire ≤ t.greatest
   pub blocks : (k : ℕ) (bytes : List ℕ) → HasPassed (Message.Data k bytes) passed → (k ≤ block_count t.blksize wire) × (bytes ≡ block t.blksize wire k)
   pub size : (size : ℕ) → t.size ≡ Some size → length wire ≡ size
 
@@ -66,16 +66,16 @@ module _ (side : Side) (t : Terms) (passed : List Datagram) (s : Settled side t 
   counted n w x whole short = ap (λ l. l / t.blksize + 1) (length-append w x ∙ ap (λ l. l + length x) whole) ∙ ap (λ i. i + 1) (div-mul-add n t.blksize (length x) short)
 
   -- where the last block is unknown, the wire ends after the highest one
-  open_wire : 0 < t.blksize → LastIsUnknown t passed → (wire : List ℕ) × Carries t passed wire
-  open_wire some unknown =
+  open_wire : 0 < t.blksize → 1 ≤ t.greatest → LastIsUnknown t passed → (wire : List ℕ) × Carries t passed wire
+  open_wire some room unknown =
       let (high, most) = high_of passed all in
       let (w, f) = fill high (λ k bytes p up. let a = unknown.all_whole k bytes p in let b = s.within k bytes p in omega arith) in
       let count : block_count t.blksize w ≡ high + 1 = ap (λ l. l / t.blksize + 1) (f.whole ∙ plus_none (high * t.blksize)) ∙ ap (λ i. i + 1) (div-mul-add high t.blksize 0 some) in (
         w,
         record {
-          numbered = subst (λ n. n ≤ 65535) (sym count) (elim most.member [
+          numbered = subst (λ n. n ≤ t.greatest) (sym count) (elim most.member [
             | inl none ↦ omega (arith, none)
-            | inr p ↦ elim (cases_eq high 65535) [
+            | inr p ↦ elim (cases_eq high t.greatest) [
               | inl is ↦
                   let short = s.ended p.0 (subst (λ i. HasPassed (Message.Data i p.0) passed) is p.1) in
                   let whole = unknown.all_whole high p.0 p.1 in
@@ -112,11 +112,11 @@ module _ (side : Side) (t : Terms) (passed : List Datagram) (s : Settled side t 
   tail_by some None is last (inr (size, also, at)) = let both : None ≡ Some size = sym is ∙ also in absurd (cc)
 
   -- the last block is among those that are numbered, if that of the size is
-  last_small : ((size : ℕ) → t.size ≡ Some size → size / t.blksize + 1 ≤ 65535) → (last : ℕ) → IsLast t passed last → (1 ≤ last) × (last ≤ 65535)
+  last_small : ((size : ℕ) → t.size ≡ Some size → size / t.blksize + 1 ≤ t.greatest) → (last : ℕ) → IsLast t passed last → (1 ≤ last) × (last ≤ t.greatest)
   last_small limit last (inl (bytes, p, short)) = (s.numbered last bytes p, s.low last bytes p)
   last_small limit last (inr (size, is, at)) = let low = limit size is in (omega (arith, at), omega (arith, at, low))
 
-  ended_wire : 0 < t.blksize → ((size : ℕ) → t.size ≡ Some size → size / t.blksize + 1 ≤ 65535) → (n : ℕ) → IsLast t passed (suc n) → (wire : List ℕ) × Carries t passed wire
+  ended_wire : 0 < t.blksize → ((size : ℕ) → t.size ≡ Some size → size / t.blksize + 1 ≤ t.greatest) → (n : ℕ) → IsLast t passed (suc n) → (wire : List ℕ) × Carries t passed wire
   ended_wire some limit n known =
       let (w, f) = fill n (λ k bytes p up. elim (cases_eq (length bytes) t.blksize) [
         | inl same ↦ same
@@ -126,7 +126,7 @@ module _ (side : Side) (t : Terms) (passed : List Datagram) (s : Settled side t 
       let count = counted n w x f.whole short in (
         w ++ x,
         record {
-          numbered = let few = (last_small limit (suc n) known).1 in subst (λ i. i ≤ 65535) (sym count) (omega (arith, few));
+          numbered = let few = (last_small limit (suc n) known).1 in subst (λ i. i ≤ t.greatest) (sym count) (omega (arith, few));
           blocks = λ k bytes p.
               let up : k ≤ suc n = elim (cases_lt (suc n) k) [ inl past ↦ absurd (s.placed k (suc n) bytes p known (inl past)) | inr within ↦ within ] in
               (subst (λ i. k ≤ i) (sym count) (omega (arith, up)), appended n w x f (omega (arith, short)) is k bytes p up);
@@ -137,9 +137,9 @@ module _ (side : Side) (t : Terms) (passed : List Datagram) (s : Settled side t 
         },
       )
 
-  pub carried : 0 < t.blksize → ((size : ℕ) → t.size ≡ Some size → size / t.blksize + 1 ≤ 65535) → (wire : List ℕ) × Carries t passed wire
-  carried some limit = elim (known_last t passed all) [
-    | inl unknown ↦ open_wire some unknown
+  pub carried : 0 < t.blksize → 1 ≤ t.greatest → ((size : ℕ) → t.size ≡ Some size → size / t.blksize + 1 ≤ t.greatest) → (wire : List ℕ) × Carries t passed wire
+  carried some room limit = elim (known_last t passed all) [
+    | inl unknown ↦ open_wire some room unknown
     | inr known ↦ by known.0 known.1
   ]
     where

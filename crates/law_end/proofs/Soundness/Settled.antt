@@ -4,6 +4,7 @@ use Rattle.std.proofs.lemmas.Bool.{false≢true, cases_lt, cases_eq}
 use Rattle.std.proofs.lemmas.Slice.Eq.{bytes_eq-Decides}
 use Rattle.std.specs.Str.{bytes_eq}
 use Rattle.tftp_packet.specs.{OptionMap, Message, RequestParts, Spells, Side, Get, Put}
+use Rattle.tftp_packet.specs.Rounds.{greatest_of}
 use Rattle.tftp_packet.specs.Hosts.{Datagram, Header}
 use Rattle.law_model.specs.Rules.{or_this, first_of, asks, route_of, is_of_transfer, transfer_of, HasPassed, IsLast, LastIsUnknown, IsNotLengthOf, BlocksWait, EndBroken, usable}
 use Rattle.law_model.specs.{NoReply, Terms, EndRule}
@@ -27,8 +28,8 @@ pub record Settled (side : Side) (t : Terms) (passed : List Datagram) : Type 0 w
   pub sized : (size k : ℕ) (bytes : List ℕ) → t.size ≡ Some size → HasPassed (Message.Data k bytes) passed → length bytes < t.blksize → k ≡ size / t.blksize + 1
   pub numbered : (k : ℕ) (bytes : List ℕ) → HasPassed (Message.Data k bytes) passed → 1 ≤ k
   pub within : (k : ℕ) (bytes : List ℕ) → HasPassed (Message.Data k bytes) passed → length bytes ≤ t.blksize
-  pub ended : (bytes : List ℕ) → HasPassed (Message.Data 65535 bytes) passed → length bytes < t.blksize
-  pub low : (k : ℕ) (bytes : List ℕ) → HasPassed (Message.Data k bytes) passed → k ≤ 65535
+  pub ended : (bytes : List ℕ) → HasPassed (Message.Data t.greatest bytes) passed → length bytes < t.blksize
+  pub low : (k : ℕ) (bytes : List ℕ) → HasPassed (Message.Data k bytes) passed → k ≤ t.greatest
   pub placed : (k last : ℕ) (bytes : List ℕ) → HasPassed (Message.Data k bytes) passed → IsLast t passed last → IsNotLengthOf t last k (length bytes) → ⊥
 
 none_settled : (side : Side) (t : Terms) (passed : List Datagram) → NoBlock passed → Settled side t passed
@@ -39,7 +40,7 @@ none_settled side t passed none = record {
   sized = λ size k bytes is p. absurd (none k bytes p);
   numbered = λ k bytes p. absurd (none k bytes p);
   within = λ k bytes p. absurd (none k bytes p);
-  ended = λ bytes p. absurd (none 65535 bytes p);
+  ended = λ bytes p. absurd (none t.greatest bytes p);
   low = λ k bytes p. absurd (none k bytes p);
   placed = λ k last bytes p. absurd (none k bytes p);
 }
@@ -62,8 +63,8 @@ record Fits (t : Terms) (d : Datagram) (passed : List Datagram) : Type 0 where
   pub placed : (k last : ℕ) (bytes : List ℕ) → Spells d.payload (Message.Data k bytes) → length bytes < t.blksize → IsLast t passed last → k ≡ last
   pub numbered : (k : ℕ) (bytes : List ℕ) → Spells d.payload (Message.Data k bytes) → 1 ≤ k
   pub within : (k : ℕ) (bytes : List ℕ) → Spells d.payload (Message.Data k bytes) → length bytes ≤ t.blksize
-  pub ended : (bytes : List ℕ) → Spells d.payload (Message.Data 65535 bytes) → length bytes < t.blksize
-  pub low : (k : ℕ) (bytes : List ℕ) → Spells d.payload (Message.Data k bytes) → k ≤ 65535
+  pub ended : (bytes : List ℕ) → Spells d.payload (Message.Data t.greatest bytes) → length bytes < t.blksize
+  pub low : (k : ℕ) (bytes : List ℕ) → Spells d.payload (Message.Data k bytes) → k ≤ t.greatest
   pub right : (k last : ℕ) (bytes : List ℕ) → Spells d.payload (Message.Data k bytes) → IsLast t passed last → IsNotLengthOf t last k (length bytes) → ⊥
   pub opens : (k : ℕ) (bytes : List ℕ) → Spells d.payload (Message.Data k bytes) → LastIsUnknown t passed → length bytes < t.blksize
       → (j : ℕ) (other : List ℕ) → HasPassed (Message.Data j other) passed → j < k
@@ -162,7 +163,7 @@ extended side t d passed s f answered = record {
   ];
   numbered = λ k bytes p. elim (either (Message.Data k bytes) d passed p) [ inl x ↦ f.numbered k bytes x | inr x ↦ s.numbered k bytes x ];
   within = λ k bytes p. elim (either (Message.Data k bytes) d passed p) [ inl x ↦ f.within k bytes x | inr x ↦ s.within k bytes x ];
-  ended = λ bytes p. elim (either (Message.Data 65535 bytes) d passed p) [ inl x ↦ f.ended bytes x | inr x ↦ s.ended bytes x ];
+  ended = λ bytes p. elim (either (Message.Data t.greatest bytes) d passed p) [ inl x ↦ f.ended bytes x | inr x ↦ s.ended bytes x ];
   low = λ k bytes p. elim (either (Message.Data k bytes) d passed p) [ inl x ↦ f.low k bytes x | inr x ↦ s.low k bytes x ];
   placed = all_placed side t d passed s f;
 }
@@ -188,16 +189,16 @@ module _ (h : Header) (earlier : List Datagram) (d : Datagram) (lawful : OneEnde
     | inr fits ↦ fits
   ]
 
-  low_enough : (t : Terms) → AreTerms h earlier t → (k : ℕ) (bytes : List ℕ) → Spells d.payload (Message.Data k bytes) → k ≤ 65535
-  low_enough t known k bytes s = elim (cases_lt 65535 k) [
+  low_enough : (t : Terms) → AreTerms h earlier t → (k : ℕ) (bytes : List ℕ) → Spells d.payload (Message.Data k bytes) → k ≤ t.greatest
+  low_enough t known k bytes s = elim (cases_lt t.greatest k) [
     | inl above ↦ absurd (keeps t known (Message.Data k bytes) s EndRule.BeyondBlock65535 (inl above))
     | inr within ↦ within
   ]
 
-  short_end : (t : Terms) → AreTerms h earlier t → (bytes : List ℕ) → Spells d.payload (Message.Data 65535 bytes) → length bytes < t.blksize
+  short_end : (t : Terms) → AreTerms h earlier t → (bytes : List ℕ) → Spells d.payload (Message.Data t.greatest bytes) → length bytes < t.blksize
   short_end t known bytes s = elim (cases_lt (length bytes) t.blksize) [
     | inl short ↦ short
-    | inr whole ↦ absurd (keeps t known (Message.Data 65535 bytes) s EndRule.BeyondBlock65535 (inr (refl, whole)))
+    | inr whole ↦ absurd (keeps t known (Message.Data t.greatest bytes) s EndRule.BeyondBlock65535 (inr (refl, whole)))
   ]
 
   -- after these terms
@@ -246,16 +247,16 @@ module _ (h : Header) (earlier : List Datagram) (d : Datagram) (lawful : OneEnde
         by Get is k bytes s = none.0 Begins (subst (λ (x : Side). Answers x d Begins) (sym is) (Message.Data k bytes, s, tt))
         by Put is k bytes s = not_started (plain_terms h asked.side NoReply) (asked, first, inl (none.1, refl)) k bytes s (subst (λ (x : Side). BlocksWait x NoReply (usable passed)) (sym is) tt)
 
-    one_block : (t : Terms) → t.blksize ≡ 512 → t.size ≡ None → NotAnswered asked.side passed → (NotAnswered asked.side (d ∷ passed) → ⊥) → Settled asked.side t (d ∷ passed)
-    one_block t usual unsized none answered = extended asked.side t d passed (none_settled asked.side t passed (no_block_before none)) fit answered where
+    one_block : (t : Terms) → t.blksize ≡ 512 → t.greatest ≡ greatest_of h.rollover → t.size ≡ None → NotAnswered asked.side passed → (NotAnswered asked.side (d ∷ passed) → ⊥) → Settled asked.side t (d ∷ passed)
+    one_block t usual same unsized none answered = extended asked.side t d passed (none_settled asked.side t passed (no_block_before none)) fit answered where
       fit : Fits t d passed
       fit = record {
         same = λ k bytes other s p. absurd (no_block_before none k other p);
         placed = λ k last bytes s short is. absurd (no_last last is);
         numbered = one_or_more before_it asks_it;
         within = λ k bytes s. subst (λ b. length bytes ≤ b) (sym usual) (no_longer before_it asks_it k bytes s);
-        ended = λ bytes s. subst (λ b. length bytes < b) (sym usual) (short_end before_it asks_it bytes s);
-        low = low_enough before_it asks_it;
+        ended = λ bytes s. subst (λ b. length bytes < b) (sym usual) (short_end before_it asks_it bytes (subst (λ k. Spells d.payload (Message.Data k bytes)) same s));
+        low = λ k bytes s. subst (λ g. k ≤ g) (sym same) (low_enough before_it asks_it k bytes s);
         right = λ k last bytes s is wrong. no_last last is;
         opens = λ k bytes s unknown less j other p. absurd (no_block_before none j other p);
         known = inl (record { no_size = unsized; all_whole = λ k bytes p. absurd (no_block_before none k bytes p) });
@@ -291,7 +292,7 @@ module _ (h : Header) (earlier : List Datagram) (d : Datagram) (lawful : OneEnde
     now_settled t (inr (a, inl earlier_answer, is)) =
         let known : AreTermsAfter h asked passed t = inr (a, earlier_answer, is) in
         extended asked.side t d passed (before t known) (fits t (asked, first, known)) (λ none. not_both asked.side passed a none.1 earlier_answer)
-    now_settled t (inr (Begins, inr now, is)) = one_block t (ap (λ (u : Terms). u.blksize) is) (ap (λ (u : Terms). u.size) is) now.0 (λ none. none.0 Begins now.1)
+    now_settled t (inr (Begins, inr now, is)) = one_block t (ap (λ (u : Terms). u.blksize) is) (ap (λ (u : Terms). u.greatest) is) (ap (λ (u : Terms). u.size) is) now.0 (λ none. none.0 Begins now.1)
     now_settled t (inr (Agrees options, inr now, is)) = oack_first t options now.0 now.1
 
 -- ---- all of them

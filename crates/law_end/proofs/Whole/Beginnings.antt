@@ -15,7 +15,7 @@ empty_is_lawful header = (
   two_bytes,
   two_bytes.file,
   record {
-    fits = two_bytes_fit;
+    fits = two_bytes_fit header.rollover;
     view = [];
     run = ([], tt, refl);
     dressed = record { ids = record { own = 0; peer = record { host = []; port = 0 }; asked = [] }; division = []; whole = refl; main = refl; labels = tt };

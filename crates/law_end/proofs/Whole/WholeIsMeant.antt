@@ -43,7 +43,7 @@ module _ (m : Meaning) (wire : List ℕ) (e : End) where
     | inr before ↦ more_heard m.side (Sent p) v (took_heard k v own.1 before)
   ]
 
-module _ (h : Header) (m : Meaning) (wire : List ℕ) (fits : Fits m wire)
+module _ (h : Header) (m : Meaning) (wire : List ℕ) (fits : Fits h.rollover m wire)
     (division : Division) (routed : AreRouted h m wire division) (own : IsOneSided m wire h.named (view_in division)) (starts : Starts h.named (view_in division)) (complete : IsComplete m wire h.named (view_in division)) where
   abbrev ds : List Datagram
   ds = datagrams_of division

@@ -1,13 +1,14 @@
 -- A capture shows only meanings that can be written.
-use Rattle.std.proofs.Common.{◌≡◌, ℕ, ◌<◌, ◌≤◌, ◌⊎◌, List, [], ◌∷◌, length, reverse, All, Contains, Option, Some, Bool, true, false, ◌==◌, if◌then◌else◌, codes, inl, inr, refl, sym, subst, ap, ◌∙◌, arith}
+use Rattle.std.proofs.Common.{◌+◌, ◌≡◌, ℕ, ◌<◌, ◌≤◌, ◌⊎◌, List, [], ◌∷◌, length, reverse, All, Contains, Option, Some, Bool, true, false, ◌==◌, if◌then◌else◌, codes, inl, inr, refl, sym, subst, ap, ◌∙◌, arith, None, ◌/◌}
 use Rattle.std.specs.List.{AllByRecursion}
 use Rattle.std.proofs.lemmas.List.Elements.{recursion_from_All}
 use Rattle.std.specs.FinMap as finite
 use Rattle.tftp_packet.specs.{OptionValue, Num, range_of, is_within, Spells, Mode, Octet, Netascii, Side, Get, Put, End, but_third}
+use Rattle.tftp_packet.specs.{Rollover}
 use Rattle.tftp_netascii.specs.{nul, lf, cr, canonical_bytes, canonical_wire}
-use Rattle.tftp_nego.specs.{AreInRange, number_or}
+use Rattle.tftp_nego.specs.{MayAgree, AreInRange, number_or}
 use Rattle.tftp_packet.specs.Hosts.{Datagram, Header}
-use Rattle.law_model.specs.Model.{Meaning, NothingAgreed, blksize_of, MachinePacket, Req, Oack, Data, Deed, Sent, Took, History, message_of, IsOneSided, block, block_count}
+use Rattle.law_model.specs.Model.{request_of, Meaning, NothingAgreed, blksize_of, MachinePacket, Req, Oack, Data, Deed, Sent, Took, History, message_of, IsOneSided, block, block_count}
 use Rattle.law_model.proofs.ModelLemmas.Defaults.{default_blksize}
 use Rattle.law_model.proofs.ModelLemmas.Members.{contains_first, contains_later, contains_cases, contains_none}
 use Rattle.law_model.proofs.ModelLemmas.OneSided.{view_one_sided}
@@ -89,9 +90,18 @@ octet_wire : (mode : Mode) (wire file : List ℕ) → mode ≡ Octet → ReadsAs
 octet_wire Octet wire file is reads = reads
 octet_wire Netascii wire file is reads = absurd (cc)
 
-own_fits : (m : Meaning) (wire : List ℕ) → Fits m wire → IsWritable m → Fits m (wire_of m)
-own_fits m wire fits writable = record {
-  may_agree = fits.may_agree;
+-- what is agreed may be agreed without a rollover too, where the wire has few enough blocks: a size that is agreed is its length
+still_agreed : (rollover : Option Rollover) (m : Meaning) (wire : List ℕ) → Fits rollover m wire → IsWritable m → MayAgree None (request_of m) m.agreed
+still_agreed rollover m wire fits writable = record {
+  asked = fits.may_agree.asked;
+  size = λ octet size agreed.
+      let long : length (wire_of m) ≡ size = sym (ap length (octet_wire m.mode wire m.file octet fits.reads)) ∙ fits.size octet size agreed in
+      subst (λ n. n / blksize_of m + 1 ≤ 65535) long writable;
+}
+
+own_fits : (rollover : Option Rollover) (m : Meaning) (wire : List ℕ) → Fits rollover m wire → IsWritable m → Fits None m (wire_of m)
+own_fits rollover m wire fits writable = record {
+  may_agree = still_agreed rollover m wire fits writable;
   reads = reads_own m.mode m.file;
   size = λ octet size agreed. sym (ap length (octet_wire m.mode wire m.file octet fits.reads)) ∙ fits.size octet size agreed;
   numbered = writable;
@@ -122,7 +132,7 @@ can_be_written h m datagrams short shows =
     let payload : (p : MachinePacket) → HasPassed seen.view p → HasPayload (message_of m shows.wire p) = λ p passed.
     (let (d, at, spells) = spelled p passed in let less = canonical_shortest d.payload (message_of m shows.wire p) spells in let limit = all_contains (λ (d : Datagram). length d.payload ≤ 65527) (reverse datagrams) d (all_reverse (λ (d : Datagram). length d.payload ≤ 65527) datagrams short) at in (spells_again d.payload (message_of m shows.wire p) spells, omega (arith, less, limit))) in
     record {
-      fits = own_fits m shows.wire seen.fits shows.writable;
+      fits = own_fits h.rollover m shows.wire seen.fits shows.writable;
       bytes = written_bytes m.mode m.file bytes;
       request = payload Req asked;
       oack = λ some. elim answer [ inl none ↦ absurd (some none) | inr passed ↦ payload Oack passed ];

@@ -140,9 +140,9 @@ rule_count = 17 + length end_rules
 abbrev pub BlockBreaks : Terms → List Datagram → ℕ → List ℕ → EndRule → Type 0
 -- it comes before the request is answered, or the answer is taken (RFC 1350, section 4; RFC 2347)
 BlockBreaks t passed k bytes NotStarted = BlocksWait t.side t.reply (usable passed)
--- blocks are numbered from 1, by two bytes (RFC 1350, section 5)
+-- blocks are numbered from 1 up to the greatest, which is 65535 by two bytes (RFC 1350, section 5)
 BlockBreaks t passed k bytes BlockZero = k ≡ 0
-BlockBreaks t passed k bytes BeyondBlock65535 = (65535 < k) ⊎ ((k ≡ 65535) × (t.blksize ≤ length bytes))
+BlockBreaks t passed k bytes BeyondBlock65535 = (t.greatest < k) ⊎ ((k ≡ t.greatest) × (t.blksize ≤ length bytes))
 -- a block shorter than the others is the last (RFC 1350, section 2; RFC 2348; RFC 2349)
 BlockBreaks t passed k bytes BlockLength = HasWrongLength t passed k (length bytes)
 -- no more than a window goes ahead of what was acknowledged (RFC 7440, section 4; a window of 1 is RFC 1350, section 2)

@@ -9,7 +9,7 @@ pub enum EndRule {
     NotStarted,
     /// Blocks are numbered from 1 (RFC 1350, section 5).
     BlockZero,
-    /// A block 65535 that is not the last (RFC 1350, section 5).
+    /// The greatest block, 65535 by two bytes (RFC 1350, section 5), and it is not the last; or a block above it.
     BeyondBlock65535,
     /// A length that the block can't have at its place (RFC 1350, section 2; RFC 2348; RFC 2349).
     BlockLength,

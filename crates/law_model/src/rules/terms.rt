@@ -24,6 +24,8 @@ pub struct Terms {
     pub blksize: u16,
     /// How many blocks may be sent after an acknowledged one, from 1 (RFC 7440).
     pub windowsize: u16,
+    /// The greatest block: 65535 (RFC 1350, section 5), and 8388607 where numbers begin again.
+    pub greatest: u32,
     /// How many bytes the whole wire has, where that was agreed (RFC 2349).
     pub size: Option<u64>,
 }

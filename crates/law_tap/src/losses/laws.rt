@@ -1,7 +1,8 @@
 //! Laws of the definitions in `specs/Losses.antt`. Each is the contract of a function that does nothing.
 
-ghost use Rattle.std.specs.Prelude.{◌≡◌, ℕ, ◌+◌, ◌<◌, ◌≤◌, List, [], ◌∷◌, Contains, length, take};
+ghost use Rattle.std.specs.Prelude.{◌≡◌, ℕ, ◌+◌, ◌<◌, ◌≤◌, List, [], ◌∷◌, Contains, length, take, Option};
 ghost use Rattle.tftp_packet.specs.{End, Message, Out, Spells};
+ghost use Rattle.tftp_packet.specs.{Rollover};
 ghost use Rattle.tftp_packet.specs.Hosts.{Datagram, Header};
 ghost use Rattle.law_model.specs.Model.{
   Meaning,
@@ -95,8 +96,8 @@ pub fn the_request_comes_first_with_losses()
 /// A changed block is certain: two payloads of one end that spell one block have the same bytes, whatever is missing. So have
 /// two datagrams that its end sent.
 pub fn a_changed_block_is_certain()
-    ensures noted { (m : Meaning) (wire : List ℕ) (e : End) (noted : List Noted) (one other : Noted) (k : ℕ) (bytes changed : List ℕ)
-        → IsNotedOf m wire e noted → Contains noted one → Contains noted other
+    ensures noted { (rollover : Option Rollover) (m : Meaning) (wire : List ℕ) (e : End) (noted : List Noted) (one other : Noted) (k : ℕ) (bytes changed : List ℕ)
+        → IsNotedOf rollover m wire e noted → Contains noted one → Contains noted other
         → Spells one.payload (Message.Data k bytes) → Spells other.payload (Message.Data k changed) → bytes ≡ changed }
     ensures sent { (header : Header) (datagrams : List Datagram) (one other : Datagram) (k : ℕ) (bytes changed : List ℕ)
         → IsLawfulWithLosses header datagrams → Contains datagrams one → Contains datagrams other → one.dir ≡ Out → other.dir ≡ Out

@@ -1,7 +1,8 @@
 //! Worked cases of recordings at an end that miss datagrams. Each is the contract of a function that does nothing.
 
-ghost use Rattle.std.specs.Prelude.{ℕ, List, [], ◌∷◌};
+ghost use Rattle.std.specs.Prelude.{ℕ, List, [], ◌∷◌, Option};
 ghost use Rattle.tftp_packet.specs.{End, Client, Server};
+ghost use Rattle.tftp_packet.specs.{Rollover};
 ghost use Rattle.law_model.specs.Model.{Meaning, IsView, two_bytes, two_bytes_written, ten_bytes, six_blocks};
 ghost use Rattle.law_model.specs.{EndRule, PortRule};
 ghost use Rattle.law_end.specs.{Broken, Rule};
@@ -49,7 +50,7 @@ pub fn a_server_that_changes_a_block_is_certain()
 
 /// In no run does an end note both.
 pub fn a_block_and_a_changed_one_are_not_noted()
-    ensures { (m : Meaning) (wire : List ℕ) (e : End) → IsNotedOf m wire e changed_notes → ⊥ }
+    ensures { (rollover : Option Rollover) (m : Meaning) (wire : List ℕ) (e : End) → IsNotedOf rollover m wire e changed_notes → ⊥ }
 {}
 
 /// A block that a client sends before an answer was seen (rule 18) is not certain: the answer may have been missed.

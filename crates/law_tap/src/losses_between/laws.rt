@@ -96,7 +96,7 @@ pub fn what_fits_no_size_is_not_explained()
 /// And where one fits, one does.
 pub fn what_fits_a_size_is_explained()
     ensures agreed { (s : TapSides) (asked : RequestParts) (tapped : List TapDatagram) (f : Figures) (agreed : OptionMap) → AreFigures f s tapped
-        → ((e : End) (k : ℕ) (bytes : List ℕ) → IsSaid s tapped e (Message.Data k bytes) → 1 ≤ k) → IsFair asked agreed
+        → ((e : End) (k : ℕ) (bytes : List ℕ) → IsSaid s tapped e (Message.Data k bytes) → 1 ≤ k) → IsFair s.rollover asked agreed
         → ((e : End) × IsSaid s tapped e (Message.Oack agreed)) → ((e : End) (options : OptionMap) → IsSaid s tapped e (Message.Oack options) → options ≡ agreed)
         → FitsAgreed asked agreed f → NothingExplains s asked tapped → ⊥ }
     ensures unseen { (s : TapSides) (asked : RequestParts) (tapped : List TapDatagram) (f : Figures) → AreFigures f s tapped

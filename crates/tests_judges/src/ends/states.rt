@@ -422,6 +422,7 @@ fn terms_of(named: End, start: Start) -> Option<Terms>
         reply: reply_of(oacked),
         blksize,
         windowsize,
+        greatest: 65_535,
         size,
     })
 }

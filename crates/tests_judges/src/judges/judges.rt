@@ -129,6 +129,7 @@ impl End {
 const HEADER: Header = Header {
     named: Side::Client,
     service: 69,
+    rollover: None,
 };
 
 /// Payloads: a read of the file `a`, block 1 with `hi`, block 2 with `22`, and their ACKs (RFC 1350, section 5).

@@ -61,6 +61,7 @@ fn refused(
         client: peer(CLIENT),
         asked: peer(69),
         server: peer(SERVER),
+        rollover: None,
     });
     feed(&mut judge, alloc, (CLIENT, 69, request))?;
     for passing in rest {

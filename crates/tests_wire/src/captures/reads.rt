@@ -24,6 +24,7 @@ fn a_header_is_read(rt: HostRuntime) -> Result<(), Fail> {
     let header = Header {
         named: End::Client,
         service: 69,
+        rollover: None,
     };
     let found = header_of(&rt, READ.as_bytes());
     is_so(found == Some((header, 3)), "another header")

@@ -15,7 +15,7 @@ fn answer(
 ) -> Result<Result<Agreed, NegoFault>, Fail> {
     let request = owned_request_of(rt, request)?;
     let options = oack_of(oack)?;
-    Ok(agree(rt.alloc(), &request, &options))
+    Ok(agree(rt.alloc(), &request, &options, None))
 }
 
 /// The block size, the window, the timeout and the size.

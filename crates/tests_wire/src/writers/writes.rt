@@ -15,6 +15,7 @@ use tftp_packet::hosts::Dir;
 pub const HEADER: Header = Header {
     named: End::Client,
     service: 69,
+    rollover: None,
 };
 
 /// Their datagrams.
@@ -73,6 +74,7 @@ fn each_write_fails_in_turn(rt: HostRuntime) -> Result<(), Fail> {
 const AT_SERVER: Header = Header {
     named: End::Server,
     service: 6969,
+    rollover: None,
 };
 
 /// How a text begins there of an empty payload and one of bytes `ab`.

@@ -1,16 +1,18 @@
 -- A capture: where it was taken, and what passed there (RFC 1350, section 4).
-use Rattle.std.specs.Prelude.{ℕ, ◌==◌, ◌&&◌, Bool, List}
+use Rattle.std.specs.Prelude.{ℕ, ◌==◌, ◌&&◌, Bool, List, Option}
 use Rattle.std.specs.Str.{bytes_eq}
 use Rattle.std.specs.declared.cmp.Ordering.{Ordering}
 use Rattle.std.specs.Ordering.{nat_cmp, on, then_cmp}
 use Rattle.std.specs.Cmp.Lexicographic.{slice_cmp}
 use Rattle.tftp_packet.specs.declared.hosts.dir.Dir.{Dir}
 use Rattle.tftp_packet.specs.{End}
+use Rattle.tftp_packet.specs.declared.rounds.rollover.Rollover.{Rollover}
 
--- whose capture it is, and the port at which a server is asked
+-- whose capture it is, the port at which a server is asked, and what comes after block 65535, where anything does
 pub record Header : Type 0 where
   pub named : End
   pub service : ℕ
+  pub rollover : Option Rollover
 
 -- which way, between which ports, to or from which host and with which payload a datagram passed
 pub record Datagram : Type 0 where

@@ -1,7 +1,8 @@
 use Rattle.std.proofs.Common.{◌≡◌, List, [], ◌∷◌, refl, ap, sym, ◌∙◌, subst}
 use Rattle.tftp_packet.specs.Hosts.{Datagram, Header}
 use Rattle.law_model.specs.Rules.{transfer_of, IsHigh}
-use Rattle.law_rollover.specs.{AreUnrolled, Rollover, with_payload, unrolled_payload}
+use Rattle.tftp_packet.specs.{Rollover}
+use Rattle.law_rollover.specs.{AreUnrolled, with_payload, unrolled_payload}
 use Rattle.law_rollover.proofs.laws.a_capture_is_unrolled_in_one_way.Goals as goal
 use Rattle.law_rollover.proofs.Shown.{one_greatest}
 

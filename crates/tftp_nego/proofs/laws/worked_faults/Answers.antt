@@ -32,3 +32,10 @@ returns-clause-beyond c =
     let given = text_in_map (one (codes "tsize") (codes "33553920")) in
     let block : option_or 512 (map_of (one (codes "tsize") (codes "33553920"))) (codes "blksize") ≡ 512 = ap (number_or 512) (given (codes "blksize")) in
     (33553920, refl, given (codes "tsize"), rw block (omega arith))
+
+pub returns-clause-beyond_again : goal.returns-clause-beyond_again
+unfolding value_of is_known_number is_number range_of
+returns-clause-beyond_again c rollover =
+    let given = text_in_map (one (codes "tsize") (codes "4294966784")) in
+    let block : option_or 512 (map_of (one (codes "tsize") (codes "4294966784"))) (codes "blksize") ≡ 512 = ap (number_or 512) (given (codes "blksize")) in
+    (4294966784, refl, given (codes "tsize"), rw block (omega arith))

@@ -6,7 +6,7 @@ use Rattle.judge_tap.proofs.StateFound.{message_found}
 use Rattle.judge_tap.proofs.keeping.TapState.pass_message.Goals as goal
 
 pub returns-in-Some-clause-finds : goal.returns-in-Some-clause-finds
-returns-in-Some-clause-finds g c = λ s earlier apart lawful kept source passing.
+returns-in-Some-clause-finds g c = λ s earlier apart lawful kept same source passing.
     let d = passing_of c.args.datagram in
     let passed = transfer_between s earlier in
     let there : c.args.self.now.transfer ≡ Some c.in-Some.transfer = sym (ap (λ (k : TapState). k.transfer) c.self.view_is) ∙ c.in-Some.is in

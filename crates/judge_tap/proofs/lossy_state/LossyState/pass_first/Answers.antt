@@ -1,6 +1,6 @@
 use Rattle.std.proofs.Common.{◌≡◌, Some, None, true, false, refl, sym, subst, ap, ◌∙◌}
 use Rattle.tftp_packet.specs.{Message, RequestParts, meaning, End, Client, Server}
-use Rattle.law_tap.specs.{IsSaidBy}
+use Rattle.law_tap.specs.{IsSaidBy, TapSides}
 use Rattle.judge_tap.specs.{IsKeptWithLosses, LossyState}
 use Rattle.judge_tap.proofs.LossyFound.{no_request, other_found, request_found}
 use Rattle.judge_tap.proofs.lossy_state.LossyState.pass_first.Goals as goal
@@ -14,7 +14,7 @@ returns-in_ok-asked-in-Client-Request c = λ s earlier d apart kept none early s
     let request : IsSaidBy s Client (Message.Request asked) d = subst (λ m. IsSaidBy s Client m d) (ap meaning c.in-Client-Request.is-1 ∙ ap Message.Request (sym c.in_ok-asked-in-Client-Request.ensures))
     (subst (λ (e : End). IsSaidBy s e (meaning c.args.packet.now) d) c.in-Client-Request.is-0 says) in
     request_found s earlier d asked request first.0 first.1 c.begin.result state (ap (λ (k : LossyState). k.sides) c.self.view_is ∙ kept.sides) (ap (λ (k : LossyState). k.late) c.self.view_is ∙ early) refl
-    (c.begin.ensures s earlier d first.1 request)
+    (c.begin.ensures s earlier d (ap (λ (x : TapSides). x.rollover) (ap (λ (k : LossyState). k.sides) c.self.view_is ∙ kept.sides)) first.1 request)
 
 pub returns-in_default : goal.returns-in_default
 returns-in_default c = λ s earlier d apart kept none early says.

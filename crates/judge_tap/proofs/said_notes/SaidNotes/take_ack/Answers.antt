@@ -24,7 +24,7 @@ returns-then-not-fits c = λ s earlier d e are says right.
 pub returns : goal.returns
 returns c = λ s earlier d e are says right.
     let number = c.args.number in
-    let after : SaidNotes = record { asked = c.self.inside.asked; figures = c.in-Some.figures; offered = c.self.inside.agreed; blocks = c.self.inside.blocks; errors = c.self.inside.errors } in
+    let after : SaidNotes = record { rollover = c.self.inside.rollover; asked = c.self.inside.asked; figures = c.in-Some.figures; offered = c.self.inside.agreed; blocks = c.self.inside.blocks; errors = c.self.inside.errors } in
     subst (λ (n : SaidNotes). AreSaidNotes n s earlier → (IsWrongKind e n.asked.side (Message.Ack number) → ⊥) → FitsSaid n.asked n.offered c.in-Some.figures → FindsSaid s earlier d n.asked e (Message.Ack number) (AreSaidNotes after s (d ∷ earlier)) (Ok tt)) c.self.view_is
     (λ was kind fits. ack_taken s earlier d e number says _ was kind c.in-Some.figures (c.in-Some.ensures.some s earlier d e was.figures says) fits) are right
     (c.fits.ensures.0 c.if-not-fits.false)

@@ -39,7 +39,7 @@ pub returns : goal.returns
 returns c = λ s earlier d e are says right.
     let number = c.args.number in
     let bytes = c.args.bytes.now in
-    let after : SaidNotes = record { asked = c.self.inside.asked; figures = c.in-Some.figures; offered = c.self.inside.agreed; blocks = c.put.new.self; errors = c.self.inside.errors } in
+    let after : SaidNotes = record { rollover = c.self.inside.rollover; asked = c.self.inside.asked; figures = c.in-Some.figures; offered = c.self.inside.agreed; blocks = c.put.new.self; errors = c.self.inside.errors } in
     let low : 1 ≤ number = search rules in
     elim c.match-branch-2.branch [
       | in-New w ↦

@@ -14,7 +14,7 @@ returns-in_err-put c = λ s earlier d apart are says right.
 pub returns : goal.returns
 returns c = λ s earlier d apart are says right.
     let said = Message.Error c.args.code c.args.message.now in
-    let after : SaidNotes = record { asked = c.self.inside.asked; figures = c.self.inside.figures; offered = c.self.inside.agreed; blocks = c.self.inside.blocks; errors = c.put.new.self } in
+    let after : SaidNotes = record { rollover = c.self.inside.rollover; asked = c.self.inside.asked; figures = c.self.inside.figures; offered = c.self.inside.agreed; blocks = c.self.inside.blocks; errors = c.put.new.self } in
     elim c.if-branch.branch [
       | then-branch w ↦
           subst (λ (n : SaidNotes). AreSaidNotes n s earlier → (IsWrongKind c.args.end n.asked.side said → ⊥) → FindsSaid s earlier d n.asked c.args.end said (AreSaidNotes after s (d ∷ earlier)) c.if-branch.result) c.self.view_is

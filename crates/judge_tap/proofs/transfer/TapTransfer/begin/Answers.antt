@@ -9,12 +9,12 @@ use Rattle.judge_tap.proofs.TransferFound.{asked_first, request_no_error}
 use Rattle.judge_tap.proofs.transfer.TapTransfer.begin.Goals as goal
 
 pub returns-clause-ok : goal.returns-clause-ok
-returns-clause-ok g c = λ s d apart service source says noted recorded passes.
+returns-clause-ok g c = λ s d apart service follows source says noted recorded passes.
     let end : c.receiver_of_file.result ≡ receiver_of c.args.asked.side = c.receiver_of_file.ensures ∙ ap receiver_of c.side.ensures in
     let asks = asks_says d.payload (Message.Request c.args.asked) says in
     record {
       asked = asked_first s d c.args.asked source says;
-      receiving = c.in_ok-receiving.ensures.ok s c.args.asked.side d apart end service source asks (subst (λ (e : End). IsRecorded s e d c.args.request.now) (sym end) recorded)
+      receiving = c.in_ok-receiving.ensures.ok s c.args.asked.side d apart end service follows source asks (subst (λ (e : End). IsRecorded s e d c.args.request.now) (sym end) recorded)
           (subst (λ (e : End). Passes (header_at s c.args.asked.side) [] (recorded_at s e d)) (sym end) passes);
       notes = noted;
       first_error = request_no_error s d c.args.asked says;

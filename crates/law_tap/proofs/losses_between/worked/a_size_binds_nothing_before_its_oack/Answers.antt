@@ -7,7 +7,7 @@ use Rattle.law_tap.proofs.losses_between.worked.a_size_binds_nothing_before_its_
 
 pub returns : goal.returns
 returns c = record {
-  may = none_may_be_agreed sized_request;
+  may = none_may_be_agreed None sized_request;
   spelled = λ some. absurd (some refl);
   given = hi_given;
   zero = λ get e said. hi_zero e said;

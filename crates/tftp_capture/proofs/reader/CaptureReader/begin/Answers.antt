@@ -1,4 +1,4 @@
-use Rattle.std.proofs.Common.{◌≡◌, [], Err, ap, sym, refl, ◌∙◌, subst}
+use Rattle.std.proofs.Common.{◌≡◌, [], Err, ap, sym, refl, ◌∙◌, subst, None}
 use Rattle.tftp_capture.specs.{Stands, head_line, HasService, LineState}
 use Rattle.tftp_capture.specs.CaptureText.Due.{Body, EndLine, ServiceLine}
 use Rattle.tftp_capture.proofs.Headers.{at_end_rest, at_read, at_text_end, consumed_nil, end_bad, end_ok, fails_to_begin, head_bad, head_ok, head_stop, refused_at_once, said_stop, service_at, service_bad, service_ok}
@@ -93,7 +93,7 @@ returns-clause-ok g c =
       consumed_nil (g.R.Read.remaining c.args.reader.now.0) _ begun.text begun.consumed,
       record {
         lines = begun.lines;
-        stands = subst (λ v. Stands begun.text begun.lines [] (Body v (record { named = c.in-Some-end_of.named; service = c.in-Some-service_of.service })) []) (sym version) begun.stands;
+        stands = subst (λ v. Stands begun.text begun.lines [] (Body v (record { named = c.in-Some-end_of.named; service = c.in-Some-service_of.service; rollover = None })) []) (sym version) begun.stands;
         line_count = begun.line_count;
         byte_count = begun.byte_count;
         datagram_count = refl;

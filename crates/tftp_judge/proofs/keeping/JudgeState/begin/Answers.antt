@@ -11,6 +11,7 @@ returns-clause-begins g c =
       c.insert.result.now,
       refl,
       asked ∙ own,
-      λ h d named spells. subst (λ (t : Transfer). IsTransferAfter t h (d ∷ [])) (sym is)
-          (c.of-2.ensures.after h d (named ∙ sym (ap (λ (k : JudgeState). k.header.named) c.self.view_is)) (subst (λ (r : RequestParts). Spells d.payload (Message.Request r)) asked spells)),
+      λ h d named same spells. subst (λ (t : Transfer). IsTransferAfter t h (d ∷ [])) (sym is)
+          (c.of-2.ensures.after h d (named ∙ sym (ap (λ (k : JudgeState). k.header.named) c.self.view_is))
+          (same ∙ sym (ap (λ (k : JudgeState). k.header.rollover) c.self.view_is)) (subst (λ (r : RequestParts). Spells d.payload (Message.Request r)) asked spells)),
     )

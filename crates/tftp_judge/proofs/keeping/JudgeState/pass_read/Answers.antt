@@ -1,6 +1,7 @@
 use Rattle.std.proofs.Common.{◌≡◌, true, List, [], ◌∷◌, Option, Some, None, Result, Ok, Err, OnOk, IfErr, inr, refl, rules, sym, subst, ap, ◌∙◌}
 use Rattle.std.proofs.lemmas.Bool.{false≢true}
 use Rattle.tftp_packet.specs.{End, Message, RequestParts, meaning, Spells, parts, Packet}
+use Rattle.tftp_packet.specs.{Rollover}
 use Rattle.tftp_packet.specs.Hosts.{Datagram, Header}
 use Rattle.law_model.specs.Rules.{Route, route_of, is_of_transfer, transfer_of}
 use Rattle.tftp_ends.specs.declared.route.Route.TheVariants as may
@@ -12,14 +13,14 @@ use Rattle.tftp_judge.proofs.keeping.JudgeState.pass_read.Goals as goal
 use Rattle.tftp_judge.proofs.keeping.JudgeState.pass_read.Goals.{else-is_none-via-then-is_none+else-eq, else-is_none-via-else-is_none}
 
 -- what is found of the first request, by whether there was memory for it
-began : (h : Header) (earlier : List Datagram) (d : Datagram) (named : End) (asked : RequestParts) (after : Option Transfer) (r : Result (Unit {0}) PassError) → h.named ≡ named → OneEnded h earlier → earlier ≡ []
+began : (h : Header) (earlier : List Datagram) (d : Datagram) (named : End) (rollover : Option Rollover) (asked : RequestParts) (after : Option Transfer) (r : Result (Unit {0}) PassError) → h.named ≡ named → h.rollover ≡ rollover → OneEnded h earlier → earlier ≡ []
     → is_of_transfer (route_of h earlier d) ≡ true → (route_of h earlier d ≡ Route.Peer → ⊥) → Spells d.payload (Message.Request asked)
-    → OnOk r ((t : Transfer) × (after ≡ Some t) × (t.asked ≡ asked) × ((i : Header) (e : Datagram) → i.named ≡ named → Spells e.payload (Message.Request t.asked) → IsTransferAfter t i (e ∷ [])))
+    → OnOk r ((t : Transfer) × (after ≡ Some t) × (t.asked ≡ asked) × ((i : Header) (e : Datagram) → i.named ≡ named → i.rollover ≡ rollover → Spells e.payload (Message.Request t.asked) → IsTransferAfter t i (e ∷ [])))
     → IfErr r (λ stop. stop ≡ PassError.Memory) → FindsOf h earlier d (IsKept h (d ∷ earlier) after) r
-began h earlier d named asked after (Ok _) at one none on other spells (t, is, same, begins) wanting =
+began h earlier d named rollover asked after (Ok _) at follows one none on other spells (t, is, same, begins) wanting =
     let said : Spells d.payload (Message.Request t.asked) = subst (λ (r : RequestParts). Spells d.payload (Message.Request r)) (sym same) spells in
-    subst (λ (o : Option Transfer). Passes h earlier d × IsKept h (d ∷ earlier) o) (sym is) (request_found h earlier d t one none on other said (begins h d at said))
-began h earlier d named asked after (Err stop) at one none on other spells begins wanting =
+    subst (λ (o : Option Transfer). Passes h earlier d × IsKept h (d ∷ earlier) o) (sym is) (request_found h earlier d t one none on other said (begins h d at follows said))
+began h earlier d named rollover asked after (Err stop) at follows one none on other spells begins wanting =
     subst (λ (s : PassError). FindsOf h earlier d (IsKept h (d ∷ earlier) after) (Err s)) (sym wanting) (first_passes h earlier d (Message.Request asked) none on other spells one)
 
 pub returns-in_err-pass-clause-finds : goal.returns-in_err-pass-clause-finds
@@ -58,7 +59,8 @@ returns-in-Request-clause-finds g c = λ h earlier d at one kept is on dir paylo
       | else-is_none-via-else-is_none w ↦ search rules
     ] in
     let named : h.named ≡ c.self.inside.header.named = ap (λ (x : Header). x.named) (sym at) ∙ sym (ap (λ (k : JudgeState). k.header.named) c.self.view_is) in
-    began h earlier d c.self.inside.header.named (parts c.in-Request.asked) c.begin.new.self.transfer c.begin.result named one none routed other spells c.begin.ensures.begins c.begin.ensures.wanting
+    let follows : h.rollover ≡ c.self.inside.header.rollover = ap (λ (x : Header). x.rollover) (sym at) ∙ sym (ap (λ (k : JudgeState). k.header.rollover) c.self.view_is) in
+    began h earlier d c.self.inside.header.named c.self.inside.header.rollover (parts c.in-Request.asked) c.begin.new.self.transfer c.begin.result named follows one none routed other spells c.begin.ensures.begins c.begin.ensures.wanting
 
 -- ---- being out of memory
 

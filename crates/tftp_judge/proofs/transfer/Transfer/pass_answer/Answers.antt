@@ -24,8 +24,7 @@ returns-in_err-pass-clause-finds g c = λ h passed d after says right.
     let other : WaitsForReply asked.side (meaning c.args.packet.now) → ⊥ =
     λ waits. false≢true (sym c.if-waits_for_reply.false ∙ c.waits_for_reply.ensures.1 (subst (λ (s : Side). WaitsForReply s (meaning c.args.packet.now)) (sym side) waits)) in
     let terms : terms_of c.begin-end.result ≡ plain_terms h asked.side Plain =
-    c.begin-end.ensures.terms ∙ c.plain_terms.ensures.are h (sym after.named ∙ sym (ap (λ (t : Transfer). t.named) c.self.view_is))
-    ∙ ap (λ (s : Side). plain_terms h s Plain) (c.side-2.ensures ∙ ap (λ (t : Transfer). t.asked.side) c.self.view_is) in
+    c.begin-end.ensures.terms ∙ c.plain_terms.ensures.are h (sym after.named) (sym after.rollover) in
     finds_rejected _ _ c.in_err-pass.field-0.0 c.from_residual.result (err_from_is_err_and c.from_residual.result c.from_residual.ensures.1)
     (not_begun h asked passed kept.0 kept.1 (meaning c.args.packet.now) c.requires.kind other (terms_of c.begin-end.result) terms (IsExchange h asked (d ∷ passed) c.args.self.now.exchange) c.in_err-pass.field-0.0
     (c.in_err-pass.ensures.found passed (c.begin-end.ensures.before passed after.errors kept.1)))
@@ -38,8 +37,7 @@ returns-clause-finds g c = λ h passed d after says right.
     let other : WaitsForReply asked.side (meaning c.args.packet.now) → ⊥ =
     λ waits. false≢true (sym c.if-waits_for_reply.false ∙ c.waits_for_reply.ensures.1 (subst (λ (s : Side). WaitsForReply s (meaning c.args.packet.now)) (sym side) waits)) in
     let terms : terms_of c.begin-end.result ≡ plain_terms h asked.side Plain =
-    c.begin-end.ensures.terms ∙ c.plain_terms.ensures.are h (sym after.named ∙ sym (ap (λ (t : Transfer). t.named) c.self.view_is))
-    ∙ ap (λ (s : Side). plain_terms h s Plain) (c.side-2.ensures ∙ ap (λ (t : Transfer). t.asked.side) c.self.view_is) in
+    c.begin-end.ensures.terms ∙ c.plain_terms.ensures.are h (sym after.named) (sym after.rollover) in
     let begun = c.begin-end.ensures.before passed after.errors kept.1 in
     let lawful = c.in_ok-pass.ensures.found passed begun in (
       none_broken h asked passed kept.0 kept.1 (meaning c.args.packet.now) c.requires.kind other (terms_of c.begin-end.result) terms lawful,

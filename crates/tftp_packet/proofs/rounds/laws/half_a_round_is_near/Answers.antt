@@ -1,5 +1,5 @@
-use Rattle.law_rollover.proofs.laws.half_a_round_is_near.Goals as goal
-use Rattle.law_rollover.proofs.Positions.{around_is_near, low_is_near}
+use Rattle.tftp_packet.proofs.rounds.laws.half_a_round_is_near.Goals as goal
+use Rattle.tftp_packet.proofs.RoundsLemmas.Positions.{around_is_near, low_is_near}
 
 pub returns-clause-around : goal.returns-clause-around
 returns-clause-around c r high k old new = around_is_near r high k old new

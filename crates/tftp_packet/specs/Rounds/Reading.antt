@@ -2,9 +2,9 @@
 -- has passed, and less than a round newer than what is so old. So serial numbers are compared (RFC 1982, section 3.2), and
 -- half a round is as far as there, less one for a round of 65535.
 use Rattle.std.specs.Prelude.{◌⊎◌, ℕ, zero, suc, ◌+◌, ◌-◌, ◌%◌, ◌<◌, ◌≤◌, max}
-use Rattle.law_rollover.specs.Numbers.{round_of}
-use Rattle.law_rollover.specs.declared.rollover.Rollover.{Rollover}
-use Rattle.law_rollover.specs.declared.rollover.Rollover.TheVariants.{Zero, One}
+use Rattle.tftp_packet.specs.Rounds.Numbers.{round_of}
+use Rattle.tftp_packet.specs.declared.rounds.rollover.Rollover.{Rollover}
+use Rattle.tftp_packet.specs.declared.rounds.rollover.Rollover.TheVariants.{Zero, One}
 
 abbrev pub half_round : ℕ
 half_round = 32767

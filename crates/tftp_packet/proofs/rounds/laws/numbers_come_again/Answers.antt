@@ -1,7 +1,7 @@
 use Rattle.std.proofs.Common.{zero, suc, ◌∙◌, arith}
-use Rattle.law_rollover.proofs.laws.numbers_come_again.Goals as goal
-use Rattle.law_rollover.proofs.Rounds.{low_numbers, numbers_by_zero, numbers_by_one}
-use Rattle.law_rollover.proofs.Positions.{number_is_small}
+use Rattle.tftp_packet.proofs.rounds.laws.numbers_come_again.Goals as goal
+use Rattle.tftp_packet.proofs.RoundsLemmas.Turns.{low_numbers, numbers_by_zero, numbers_by_one}
+use Rattle.tftp_packet.proofs.RoundsLemmas.Positions.{number_is_small}
 
 pub returns-clause-low : goal.returns-clause-low
 returns-clause-low c first k below = low_numbers first k below

@@ -1,6 +1,6 @@
 -- The numbers in closed form, and the one block near that has a number.
 use Rattle.std.proofs.Common.{◌≡◌, ℕ, zero, suc, ◌+◌, ◌-◌, ◌%◌, ◌<◌, ◌≤◌, ◌⊎◌, inl, inr, refl, sym, ap, ◌∙◌, arith}
-use Rattle.law_rollover.specs.{after, number_of, IsNear, ahead}
+use Rattle.tftp_packet.specs.Rounds.{after, number_of, IsNear, ahead}
 
 -- ---- closed forms
 

@@ -1,5 +1,5 @@
-use Rattle.law_rollover.proofs.laws.one_block_is_near.Goals as goal
-use Rattle.law_rollover.proofs.Positions.{is_near, has_number, read_back}
+use Rattle.tftp_packet.proofs.rounds.laws.one_block_is_near.Goals as goal
+use Rattle.tftp_packet.proofs.RoundsLemmas.Positions.{is_near, has_number, read_back}
 
 pub returns-clause-near : goal.returns-clause-near
 returns-clause-near c r high n small = is_near r high n small

@@ -1,5 +1,5 @@
 ghost use Rattle.std.specs.Prelude.{◌≡◌, ◌<◌, ◌^◌};
-ghost use Rattle.law_rollover.specs.Reading.{position_of};
+ghost use Rattle.tftp_packet.specs.Rounds.Reading.{position_of};
 
 /// Half a round: how many blocks late a block or an ACK may pass.
 const HALF_ROUND: u32 = 32_767;

@@ -1,8 +1,8 @@
 -- The numbers of blocks that begin again. A block's number has two bytes, and no RFC says what comes after 65535
 -- (RFC 1350, section 5). Software goes on with 0 or with 1.
 use Rattle.std.specs.Prelude.{ℕ, zero, suc, ◌+◌, ◌-◌, ◌==◌, if◌then◌else◌}
-use Rattle.law_rollover.specs.declared.rollover.Rollover.{Rollover}
-use Rattle.law_rollover.specs.declared.rollover.Rollover.TheVariants.{Zero, One}
+use Rattle.tftp_packet.specs.declared.rounds.rollover.Rollover.{Rollover}
+use Rattle.tftp_packet.specs.declared.rounds.rollover.Rollover.TheVariants.{Zero, One}
 
 -- what comes after 65535
 abbrev pub first_of : Rollover → ℕ

@@ -1,7 +1,7 @@
 -- Each number has one block near.
 use Rattle.std.proofs.Common.{◌≡◌, ℕ, zero, suc, ◌+◌, ◌-◌, ◌%◌, ◌≤◌, inl, inr, refl, ◌∙◌, arith}
-use Rattle.law_rollover.specs.{number_of, oldest_of, IsNear, half_round, Rollover, Zero, One, first_of, position_of}
-use Rattle.law_rollover.proofs.Rounds.{at_zero, at_one, found_by_zero, found_by_one, one_near_by_zero, one_near_by_one, numbers_by_zero, numbers_by_one}
+use Rattle.tftp_packet.specs.Rounds.{number_of, oldest_of, IsNear, half_round, Rollover, Zero, One, first_of, position_of}
+use Rattle.tftp_packet.proofs.RoundsLemmas.Turns.{at_zero, at_one, found_by_zero, found_by_one, one_near_by_zero, one_near_by_one, numbers_by_zero, numbers_by_one}
 
 pub is_near : (r : Rollover) (high n : ℕ) → n ≤ 65535 → IsNear (first_of r) high (position_of r high n)
 is_near Zero high n small = found_by_zero high (oldest_of high) n refl (omega arith)
