@@ -105,6 +105,7 @@ module _ (s : TapSides) (earlier : List TapDatagram) (d : TapDatagram) where
 
   pub silent_figures : (e : End) (n : Message) → IsSaidBy s e n d → ((k : ℕ) → n ≡ Message.Ack k → ⊥) → ((k : ℕ) (bytes : List ℕ) → n ≡ Message.Data k bytes → ⊥) → (f : Figures) → AreFigures f s earlier → AreFigures f s (d ∷ earlier)
   silent_figures e n says no_ack no_data f are = record {
+    greatest = are.greatest;
     highest = λ k is. are.highest k (back k is);
     reached = elim are.reached [ inl none ↦ inl none | inr number ↦ inr (number_later s earlier d e n says f.reach number) ];
     zero = (
@@ -121,6 +122,7 @@ module _ (s : TapSides) (earlier : List TapDatagram) (d : TapDatagram) where
 
   pub outside_figures : is_passing (lossy_route s d) ≡ false → (f : Figures) → AreFigures f s earlier → AreFigures f s (d ∷ earlier)
   outside_figures out f are = record {
+    greatest = are.greatest;
     highest = λ k is. are.highest k (back k is);
     reached = elim are.reached [ inl none ↦ inl none | inr number ↦ inr (on_number f.reach number) ];
     zero = (λ on. let (g, said) = are.zero.0 on in (g, on_said g (Message.Ack 0) said), λ (g, said). are.zero.1 (g, before g (Message.Ack 0) said));

@@ -239,7 +239,7 @@ module _ (s : TapSides) (apart : AreApart s) where
         offered : NothingExplains s asked (d ∷ earlier) → ⊥
         offered nothing = as_offer rule.ReplyChanged (
           record {
-            may = without_fault asked options faultless;
+            may = without_fault s.rollover asked options faultless;
             some = λ empty. as_offer (rule.Agreement AgreementRule.OackEmpty) empty;
             first = λ other said. elim (same_options options other) [
               | inr differs ↦ as_offer rule.OackChanged (other, said, differs)

@@ -225,5 +225,5 @@ change_certain = record {
 
 pub change_unnoted : (rollover : Option Rollover) (m : Meaning) (wire : List ℕ) (e : End) → IsNotedOf rollover m wire e changed_notes → ⊥
 change_unnoted rollover m wire e noted =
-    apart (block_stays m wire e changed_notes (record { dir = Out; payload = hi_out.payload }) (record { dir = Out; payload = ho_out.payload }) 1 (104 ∷ 105 ∷ []) (104 ∷ 111 ∷ []) noted (1, omega arith, refl) (0, omega arith, refl)
+    apart (block_stays rollover m wire e changed_notes (record { dir = Out; payload = hi_out.payload }) (record { dir = Out; payload = ho_out.payload }) 1 (104 ∷ 105 ∷ []) (104 ∷ 111 ∷ []) noted (1, omega arith, refl) (0, omega arith, refl)
     (first_block_says 104 105 (omega arith) (omega arith)) (first_block_says 104 111 (omega arith) (omega arith)))

@@ -1,6 +1,6 @@
-use Rattle.std.proofs.Common.{ℕ, List, subst}
+use Rattle.std.proofs.Common.{ℕ, ◌≤◌, List, subst}
 use Rattle.law_model.specs.Rules.{IsHigh}
-use Rattle.tftp_ends.specs.{IsReceiverAfter}
+use Rattle.tftp_ends.specs.{IsReceiverAfter, Receiver}
 use Rattle.tftp_ends.proofs.Highest.{high_of_held, low_of_held}
 use Rattle.tftp_ends.proofs.receiver_state.ReceiverState.highest.Goals as goal
 
@@ -9,4 +9,4 @@ returns-clause-highest g c = λ passed.
     subst (λ s. IsReceiverAfter s passed → IsHigh passed c.highest.result) c.self.view_is (λ after. high_of_held passed _ _ after.blocks c.highest.ensures.highest)
 
 pub returns-clause-low : goal.returns-clause-low
-returns-clause-low g c = low_of_held _ _ _ c.self.invariant.0.sound c.highest.ensures.highest
+returns-clause-low g c = subst (λ (s : Receiver). c.highest.result ≤ s.terms.greatest) c.self.view_is (low_of_held _ _ _ c.self.invariant.0.sound c.highest.ensures.highest)
