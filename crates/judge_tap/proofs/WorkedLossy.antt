@@ -82,7 +82,7 @@ ack_takes_none (counted, (e, m, says, new)) =
     subst (λ x. IsNewlySaid worked_sides (request_passes ∷ []) e x) message new
 
 pub usual_fits : FitsSaid lowered_request None long_blocks
-usual_fits = inl (λ get zero. absurd (true≢false (sym zero)), record { below = λ long is. let same : 512 ≡ long = cc in sym same; tail = λ long is. absurd (cc) })
+usual_fits = inl (λ get zero. absurd (true≢false (sym zero)), record { numbered = omega (arith); below = λ long is. let same : 512 ≡ long = cc in sym same; tail = λ long is. absurd (cc) })
 
 pub eight_do_not : FitsSize 8 long_blocks → ⊥
 eight_do_not fits = let is = fits.below 512 refl in omega (arith, is)

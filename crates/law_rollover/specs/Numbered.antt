@@ -36,7 +36,7 @@ pub record IsDressedByNumber (r : Rollover) (header : Header) (m : Meaning) (wir
 -- Some run of the meaning, over this wire, is seen so at the named end, as far as the capture goes, and no block and no ACK far
 -- from the highest block there.
 pub record IsSeenByNumber (r : Rollover) (header : Header) (m : Meaning) (wire : List ℕ) (datagrams : List Datagram) : Type 0 where
-  pub fits : Fits m wire
+  pub fits : Fits header.rollover m wire
   pub view : History
   pub run : IsView m wire header.named view
   pub near : AreNear r view

@@ -35,7 +35,6 @@ use tftp_ends::blocks::Delivered;
 use tftp_nego::{Agreed, NegoFault, agree, nothing_agreed};
 use tftp_packet::hosts::Dir;
 use tftp_packet::rounds::{Rollover, greatest_block};
-use tftp_packet::rounds::{Rollover, greatest_block};
 use tftp_packet::{
     End, Mode, OptionsView, Packet, Request, RequestView, Side, same_options, same_request,
 };

@@ -1,4 +1,4 @@
-use Rattle.std.proofs.Common.{◌≡◌, ◌≤◌, min, Option, Some, None, sym, subst, ap, ◌∙◌, arith}
+use Rattle.std.proofs.Common.{◌≡◌, ◌≤◌, Option, Some, None, sym, subst, ap, ◌∙◌, arith}
 use Rattle.tftp_packet.specs.{Rollover}
 use Rattle.tftp_packet.specs.Rounds.{greatest_of, position_of}
 use Rattle.law_model.specs.Rules.{IsHigh}
@@ -15,4 +15,11 @@ returns-in-Some-clause-near g c = λ h passed r high after is top.
     let kept = subst (λ (t : Transfer). IsTransferAfter t h passed) (sym c.self.view_is) after in
     let found : IsHigh passed c.highest.result = c.highest.ensures.highest h c.self.inside.asked passed kept.exchange in
     let same : c.highest.result ≡ high = one_greatest _ c.highest.result high found top in
-    ?near
+    let low = c.highest.ensures.within h c.self.inside.asked passed kept.exchange in
+    let bound = most h.rollover in
+    let least = c.min-highest.ensures in
+    let all = c.greatest_block.ensures in
+    let near : c.min-highest.result ≡ high = omega (arith, same, low, bound, least, all) in
+    let both : Some c.in-Some.rollover ≡ Some r = sym c.in-Some.is ∙ is in
+    let by : c.in-Some.rollover ≡ r = cc in
+    c.position.ensures ∙ ap (λ k. position_of c.in-Some.rollover k c.args.number) near ∙ ap (λ x. position_of x high c.args.number) by
