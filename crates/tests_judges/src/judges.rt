@@ -7,4 +7,6 @@ mod judges;
 #[cfg(test)]
 mod lossy;
 #[cfg(test)]
+mod rollover;
+#[cfg(test)]
 mod verdicts;

@@ -1,0 +1,121 @@
+//! The judge where block numbers begin again after 65535.
+
+use law_model::rules::EndRule;
+use std::alloc::{AllocError, Global};
+use std::test::Fail;
+use tests_trials::comparing::is_so;
+use tftp_capture::{Datagram, Header};
+use tftp_ends::blocks::RingDelivered;
+use tftp_judge::{Judge, Refusal, Rule};
+use tftp_packet::hosts::{Dir, Host};
+use tftp_packet::rounds::Rollover;
+use tftp_packet::{Bytes, End};
+
+/// How many blocks the file has; the last one is empty.
+const BLOCKS: u32 = 65_541;
+
+const REQUEST: &[u8] = b"\x00\x01a\x00octet\x00blksize\x008\x00";
+
+const OACK: &[u8] = b"\x00\x06blksize\x008\x00";
+
+/// The index of the DATA of block 65536: behind a request, an OACK and its ACK, and 65,535 blocks with theirs.
+const PAST: u64 = 131_074;
+
+/// A client's capture of a read in blocks of 8 bytes.
+#[derive(Drop)]
+struct Reading {
+    judge: Judge<RingDelivered>,
+    rollover: Option<Rollover>,
+}
+
+impl Reading {
+    fn begin(alloc: Global, rollover: Option<Rollover>) -> Self {
+        let header = Header {
+            named: End::Client,
+            service: 69,
+            rollover,
+        };
+        Reading {
+            judge: Judge::new(alloc, &header),
+            rollover,
+        }
+    }
+
+    /// Feeds a judge that has not yet accepted 2^40 datagrams.
+    fn feed(&mut self, alloc: Global, dir: Dir, payload: &[u8]) -> Result<(), Fail> {
+        let datagram = datagram(alloc, dir, payload)?;
+        if self.judge.fed() >= 1 << 40 || payload.len() > 512 {
+            return Err(Fail::new("too much"));
+        }
+        let _ = match self.rollover {
+            Some(rollover) => self.judge.feed_numbered(alloc, rollover, &datagram),
+            None => self.judge.feed(alloc, &datagram),
+        };
+        Ok(())
+    }
+
+    /// The request, its answer, and the blocks, of which block 65536 has the number `first`; each is acknowledged.
+    fn read(&mut self, alloc: Global, first: u16) -> Result<(), Fail> {
+        self.feed(alloc, Dir::Out, REQUEST)?;
+        self.feed(alloc, Dir::In, OACK)?;
+        self.feed(alloc, Dir::Out, b"\x00\x04\x00\x00")?;
+        let mut number = 0;
+        for block in 1..=BLOCKS {
+            number = if number == u16::MAX { first } else { number + 1 };
+            let length = if block < BLOCKS { 12 } else { 4 };
+            let [high, low] = number.to_be_bytes();
+            let data = [0, 3, high, low, 1, 2, 3, 4, 5, 6, 7, 8];
+            self.feed(alloc, Dir::In, &data[..length])?;
+            self.feed(alloc, Dir::Out, &[0, 4, high, low])?;
+        }
+        Ok(())
+    }
+}
+
+fn datagram(alloc: Global, dir: Dir, payload: &[u8]) -> Result<Datagram, AllocError> {
+    Ok(Datagram {
+        dir,
+        local_port: 40_000,
+        remote_host: Host::none(),
+        remote_port: if payload.starts_with(b"\x00\x01") { 69 } else { 41_000 },
+        payload: Bytes::of(Vec::from_slice(alloc, payload)?),
+    })
+}
+
+/// What a judge says of a read whose block 65536 has this number.
+fn said(alloc: Global, rollover: Option<Rollover>, first: u16) -> Result<Option<Refusal>, Fail> {
+    let mut reading = Reading::begin(alloc, rollover);
+    reading.read(alloc, first)?;
+    let Reading { judge, .. } = reading;
+    Ok(judge.finish(alloc).err())
+}
+
+/// A transfer of more blocks than have numbers of their own is whole by the rollover that it has, and only too long to be written
+/// as a normal text.
+#[test]
+fn numbers_are_read_by_the_rollover(rt: HostRuntime) -> Result<(), Fail> {
+    for (rollover, first) in [(Rollover::Zero, 0), (Rollover::One, 1)] {
+        let found = said(rt.alloc(), Some(rollover), first)?;
+        is_so(found == Some(Refusal::NormalTooLong), "it is not whole")?;
+    }
+    Ok(())
+}
+
+/// By the other rollover it is refused at block 65536.
+#[test]
+fn another_rollover_is_found_at_the_wrap(rt: HostRuntime) -> Result<(), Fail> {
+    let zero = said(rt.alloc(), Some(Rollover::One), 0)?;
+    let start = Refusal::Unlawful(PAST, Rule::Block(EndRule::BlockZero));
+    is_so(zero == Some(start), "0 is not the start")?;
+    let one = said(rt.alloc(), Some(Rollover::Zero), 1)?;
+    let ahead = Refusal::Unlawful(PAST, Rule::Block(EndRule::WindowOverrun));
+    is_so(one == Some(ahead), "1 is not block 65537")
+}
+
+/// And without one at block 65535, since that is not the last.
+#[test]
+fn numbers_end_where_none_begin_again(rt: HostRuntime) -> Result<(), Fail> {
+    let found = said(rt.alloc(), None, 0)?;
+    let beyond = Refusal::Unlawful(PAST - 2, Rule::Block(EndRule::BeyondBlock65535));
+    is_so(found == Some(beyond), "another refusal")
+}
