@@ -30,5 +30,6 @@ returns-clause-finds g c = λ h passed d after spells.
           (subst (λ (r : Option Rollover). MayAgree r c.args.self.now.asked (map_of c.args.oack.now)) rollover_is
           (subst (λ (asked : RequestParts). MayAgree c.self.inside.rollover asked (map_of c.args.oack.now)) asked_is (subst (λ (o : OptionMap). MayAgree c.self.inside.rollover c.self.inside.asked o) ok.0 ok.2))),
       transfer_agreed _ h passed d (map_of c.args.oack.now) c.of.result c.begin-end.result was (ap (λ (t : Transfer). t.exchange) c.self.view_is ∙ c.requires) spells (c.of.ensures ∙ ok.0)
-          (c.begin-end.ensures.terms ∙ c.agreed_terms.ensures.are h (sym was.named) (sym was.rollover) ∙ ap (λ (o : OptionMap). terms_after h c.self.inside.asked (Agrees o)) (sym c.of.ensures)) (c.begin-end.ensures.before passed after.errors),
+          (c.begin-end.ensures.terms ∙ c.agreed_terms.ensures.are h (sym after.named) (sym after.rollover)
+          ∙ ap (λ (a : RequestParts). terms_after h a (Agrees c.in-Ok.agreed)) (sym asked_is) ∙ ap (λ (o : OptionMap). terms_after h c.self.inside.asked (Agrees o)) (sym c.of.ensures)) (c.begin-end.ensures.before passed after.errors),
     )
