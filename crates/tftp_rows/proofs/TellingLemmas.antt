@@ -3,6 +3,10 @@ use Rattle.std.proofs.Common.{◌+◌, ◌<◌, length, take, drop, get_or, leng
 use Rattle.std.proofs.lemmas.List.{take_more}
 use Rattle.audit_recording.specs.Rows.Told.{depends_on_place, row_of, rows_told}
 use Rattle.audit_recording.specs.declared.rows.row.Point.TheVariants.{Between}
+use Rattle.audit_recording.specs.Losses.Noted.{IsFirst, IsMissingOf}
+use Rattle.audit_recording.specs.Session.Noted.{Noticed}
+use Rattle.audit_recording.specs.declared.blame.trail.Trail.{Trail}
+use Rattle.audit_recording.specs.declared.blame.missing.Missing.{Missing}
 use Rattle.audit_recording.specs.declared.rows.row.Row.{Row}
 use Rattle.audit_rows.specs.Judging.{said_there}
 use Rattle.audit_rows.specs.Viewing.{said_in}
@@ -227,3 +231,17 @@ none_told contents s j = record { rows = []; are = refl; tells = tells_none cont
 pub statuses_then : {A E : Type 0} (r : Result A E) (j : Judged) (a b c d : ℕ) (ps qs os : List Row) → b ≡ max a (worst_at j ps) → c ≡ max b (worst_at j qs) → OnOk r (d ≡ max c (worst_at j os)) → OnOk r (d ≡ max a (worst_at j (ps ++ (qs ++ os))))
 statuses_then (Err e) j a b c d ps qs os p q s = tt
 statuses_then (Ok x) j a b c d ps qs os p q s = s ∙ ap (λ n. max n (worst_at j os)) q ∙ worst_both j b qs os ∙ ap (λ n. max n (worst_at j (qs ++ os))) p ∙ worst_both j a ps (qs ++ os)
+
+-- a transfer's rows have the number that it was told with
+pub numbered : {W : Type 0} (contents : W → Option (List ℕ)) (s t : Teller W) (n : ℕ) (j : Judged) (ps : List Row) → TellsRowsAt contents (record s { told = n }) t j ps → TellsRowsAt contents (record s { told = t.told }) t j ps
+numbered contents s t n j ps p = subst (λ k. TellsRowsAt contents (record s { told = k }) t j ps) (sym p.tells.told) p
+
+pub told_with : {W : Type 0} (contents : W → Option (List ℕ)) (s t : Teller W) (n : ℕ) (j : Judged) (ps : List Row) → TellsRowsAt contents (record s { told = n }) t j ps → t.told ≡ n
+told_with contents s t n j ps p = p.tells.told
+
+-- what is missing of a transfer is so of what there is to say of it
+pub missing_there : (j : Judged) (t : Trail) (m : Missing) (s : Noticed) → j.trail ≡ t → j.doubted.missing ≡ m → IsFirst (IsMissingOf t.transfer.client.address s.events) m.first
+    → IsFirst (IsMissingOf j.trail.transfer.client.address s.events) j.doubted.missing.first
+missing_there j t m s e f p =
+    subst (λ (u : Trail). IsFirst (IsMissingOf u.transfer.client.address s.events) j.doubted.missing.first) (sym e)
+      (subst (λ (v : Missing). IsFirst (IsMissingOf t.transfer.client.address s.events) v.first) (sym f) p)

@@ -1,11 +1,17 @@
 -- What is told of transfers: the rows of their verdicts. Lists of what a recording has have the newest first; rows stand in the order in which
 -- they are told.
-use Rattle.std.specs.Prelude.{◌≡◌, ℕ, max, List, [], ◌∷◌, ◌++◌, Option, Some, None, IsSome, Result, Ok, Err, codes, string_bytes}
+use Rattle.std.specs.Prelude.{◌≡◌, ◌+◌, ◌-◌, ◌^◌, ◌≤◌, ℕ, false, max, min, List, [], ◌∷◌, ◌++◌, Option, Some, None, IsSome, Result, Ok, Err, codes, string_bytes}
+use Rattle.net_udp.specs.Recording.{Step}
 use Rattle.audit_flows.specs.{Transfer}
 use Rattle.audit_recording.specs.Blame.Frames.{Carried, whole_of}
+use Rattle.audit_recording.specs.Judges.{is_among, opened}
+use Rattle.audit_recording.specs.Losses.Noted.{IsFirst, IsMissingOf}
 use Rattle.audit_recording.specs.Rows.Told.{refused_frame, rows_told, status_of}
+use Rattle.audit_recording.specs.Session.Kept.{IsSessionAfter}
+use Rattle.audit_recording.specs.Session.Noted.{Noticed}
 use Rattle.audit_recording.specs.declared.judges.judging.Judging.{Judging}
 use Rattle.audit_recording.specs.declared.rows.row.Row.{Row}
+use Rattle.audit_recording.specs.declared.session.session.Session.{Session}
 use Rattle.audit_rows.specs.{IsJudgedOf}
 use Rattle.audit_rows.specs.Charging.{IsChargeOf, dropped_reasons, unless_listed}
 use Rattle.audit_rows.specs.Judging.{IsToldOf, are_alike, said_there, view_at}
@@ -135,3 +141,24 @@ Tells contents old new (Err e) rows = TellsPart contents old new rows
 abbrev pub TellsPlaces : {W A E : Type 0} → (W → Option (List ℕ)) → Teller W → Teller W → Result A E → Judged → List Row → Type 0
 TellsPlaces contents old new (Ok _) j places = TellsRowsAt contents old new j places
 TellsPlaces contents old new (Err e) j places = TellsPartAt contents old new j places
+
+-- ---- which transfer is told
+
+-- Of the transfers that requests have opened and that were not told it is the oldest.
+pub record IsNext (x : Transfer) (named out : List ℕ) (carried : List Carried) : Type 0 where
+  pub opens : opened x.number (whole_of named carried) ≡ Some x
+  pub first_time : is_among x.number out ≡ false
+  pub oldest : (n : ℕ) → IsSome (opened n (whole_of named carried)) → is_among n out ≡ false → x.number ≤ n
+
+-- The next transfer was told, and not again: the rows of its verdicts, by what there is to say of it, come next. The recording may lack
+-- these frames of its client's.
+pub record TellsNext {W : Type 0} (contents : W → Option (List ℕ)) (old new : Teller W) (before after : Session) (named out : List ℕ) (history : List Step) (carried : List Carried) (s : Noticed) : Type 0 where
+  pub transfer : Transfer
+  pub next : IsNext transfer named out carried
+  pub judged : Judged
+  pub of : IsJudgedOf judged before.audit.judge.judging transfer named carried
+  pub missing : IsFirst (IsMissingOf judged.trail.transfer.client.address s.events) judged.doubted.missing.first
+  pub rows : TellsRowsAt contents (record old { told = new.told }) new judged (places_of judged)
+  pub number : new.told ≡ min (old.told + 1) (2 ^ 64 - 1)
+  pub status : new.status ≡ max old.status (worst_at judged (places_of judged))
+  pub handed_out : IsSessionAfter after named (transfer.number ∷ out) history carried s

@@ -1,19 +1,24 @@
 //! The verdicts on transfers are told, each in a row.
 
-ghost use Rattle.std.specs.Prelude.{◌≡◌, ◌≢◌, ◌∷◌, [], OnOk, false, max, option_to_list, true};
+ghost use Rattle.std.specs.Prelude.{◌≡◌, ◌≢◌, ◌⊎◌, ◌∷◌, [], ℕ, List, None, Ok, OnOk, false, max, option_to_list, true};
+ghost use Rattle.net_udp.specs.Recording.{Step};
+ghost use Rattle.audit_recording.specs.Blame.Frames.{Carried, whole_of};
+ghost use Rattle.audit_recording.specs.Judges.{is_among, opened};
 ghost use Rattle.audit_recording.specs.Rows.Told.{status_of};
+ghost use Rattle.audit_recording.specs.Session.Kept.{IsSessionAfter};
+ghost use Rattle.audit_recording.specs.Session.Noted.{Noticed};
+ghost use Rattle.audit_recording.specs.Session.Over.{IsOldestOver};
 ghost use Rattle.audit_recording.specs.declared.rows.row.Row.{Row as RowKind};
 ghost use Rattle.audit_rows.specs.Judging.{IsToldOf};
 ghost use Rattle.audit_rows.specs.Viewing.{said_in};
-ghost use Rattle.tftp_rows.specs.Telling.{AreJudgedAt, PrintsWith, Tells, TellsPlaces, places_of, worst_at};
+ghost use Rattle.tftp_rows.specs.Telling.{AreJudgedAt, PrintsWith, Tells, TellsNext, TellsPlaces, places_of, worst_at};
 
 use crate::printing::{Form, PrintFault, RowPrinter};
 use crate::row::VerdictRow;
 use crate::verdict::has_same_words;
-use audit_recording::blame::Missing;
 use audit_recording::progress::read_until;
 use audit_recording::rows::Row;
-use audit_recording::session::{Ended, Session};
+use audit_recording::session::Session;
 use audit_rows::{Judged, Told};
 use std::alloc::Global;
 use std::io::Write;
@@ -60,12 +65,29 @@ impl<'a, W: Write + Drop> Teller<'a, W> {
     pub fn tell_over(&mut self, alloc: Global, session: &mut Session) -> Result<(), PrintFault> {
         self.may_lose = session.notes.may_lose;
         for _ in 0..session.count() {
-            if !session.is_first_over() {
+            if !self.tell_first_over(alloc, session)? {
                 return Ok(());
             }
-            self.tell_oldest(alloc, session)?;
         }
         Ok(())
+    }
+
+    /// Tells the oldest transfer, if nothing that comes later changes what is told of it; whether it did.
+    fn tell_first_over(
+        &mut self,
+        alloc: Global,
+        session: &mut Session,
+    ) -> Result<bool, PrintFault>
+        ensures over { (named out : List ℕ) (history : List Step) (carried : List Carried) (s : Noticed) → IsSessionAfter session.old named out history carried s
+            → IsOldestOver session.old named carried s ⊎ ((result ≡ Ok false) × (self.new ≡ self.old) × (session.new ≡ session.old)) }
+        ensures told { (named out : List ℕ) (history : List Step) (carried : List Carried) (s : Noticed) → IsSessionAfter session.old named out history carried s
+            → result ≡ Ok true → TellsNext W.Write.contents self.old self.new session.old session.new named out history carried s }
+        ensures nothing { result ≡ Ok false → self.new ≡ self.old }
+    {
+        if !session.is_first_over() {
+            return Ok(false);
+        }
+        self.tell_oldest(alloc, session)
     }
 
     /// Tells what was held back, where the recording is read no further and its recorder has lost so many packets.
@@ -86,35 +108,31 @@ impl<'a, W: Write + Drop> Teller<'a, W> {
     /// Tells all transfers that were not told, where the recording has ended.
     pub fn tell_all(&mut self, alloc: Global, session: &mut Session) -> Result<(), PrintFault> {
         for _ in 0..session.count() {
-            self.tell_oldest(alloc, session)?;
+            if !self.tell_oldest(alloc, session)? {
+                return Ok(());
+            }
         }
         Ok(())
     }
 
-    /// Tells the oldest transfer, if there is one. It stays a call, since the room of a transfer that is handed out would be
-    /// cleared for each datagram after which none is over.
+    /// Tells the oldest transfer, if there is one; whether there was. It stays a call, since the room of a transfer that is handed
+    /// out would be cleared for each datagram after which none is over.
     #[inline(never)]
-    fn tell_oldest(&mut self, alloc: Global, session: &mut Session) -> Result<(), PrintFault> {
-        match session.pop() {
-            Some(ended) => {
-                let (missing, now) = (session.missing_of(&ended), read_until(session));
-                self.tell(alloc, ended, missing, now)
-            }
-            None => Ok(()),
-        }
-    }
-
-    /// Tells a transfer, of whose client's datagrams these may be missing, by a recording that was read up to now.
-    fn tell(
-        &mut self,
-        alloc: Global,
-        ended: Ended,
-        missing: Missing,
-        now: u64,
-    ) -> Result<(), PrintFault> {
+    fn tell_oldest(&mut self, alloc: Global, session: &mut Session) -> Result<bool, PrintFault>
+        ensures told { (named out : List ℕ) (history : List Step) (carried : List Carried) (s : Noticed) → IsSessionAfter session.old named out history carried s
+            → result ≡ Ok true → TellsNext W.Write.contents self.old self.new session.old session.new named out history carried s }
+        ensures nothing { result ≡ Ok false → self.new ≡ self.old }
+        ensures all { (named out : List ℕ) (history : List Step) (carried : List Carried) (s : Noticed) → IsSessionAfter session.old named out history carried s
+            → result ≡ Ok false → (n : ℕ) → (opened n (whole_of named carried) ≡ None) ⊎ (is_among n out ≡ true) }
+    {
+        let Some(ended) = session.pop() else {
+            return Ok(false);
+        };
+        let (missing, now) = (session.missing_of(&ended), read_until(session));
         self.told = self.told.saturating_add(1);
         let judged = Judged::new(alloc, ended, missing, now);
-        self.tell_judged(alloc, &judged)
+        self.tell_judged(alloc, &judged)?;
+        Ok(true)
     }
 
     /// Tells the verdicts on a transfer.
