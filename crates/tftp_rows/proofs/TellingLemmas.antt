@@ -3,6 +3,10 @@ use Rattle.std.proofs.Common.{◌+◌, ◌<◌, length, take, drop, get_or, leng
 use Rattle.std.proofs.lemmas.List.{take_more}
 use Rattle.audit_recording.specs.Rows.Told.{depends_on_place, row_of, rows_told}
 use Rattle.audit_recording.specs.declared.rows.row.Point.TheVariants.{Between}
+use Rattle.net_udp.specs.Recording.{Step}
+use Rattle.audit_recording.specs.Blame.Frames.{Carried}
+use Rattle.audit_recording.specs.Session.Kept.{IsSessionAfter}
+use Rattle.audit_recording.specs.declared.session.session.Session.{Session}
 use Rattle.audit_recording.specs.Losses.Noted.{IsFirst, IsMissingOf}
 use Rattle.audit_recording.specs.Session.Noted.{Noticed}
 use Rattle.audit_recording.specs.declared.blame.trail.Trail.{Trail}
@@ -13,7 +17,7 @@ use Rattle.audit_rows.specs.Viewing.{said_in}
 use Rattle.audit_rows.specs.declared.judged.Judged.{Judged}
 use Rattle.audit_rows.specs.declared.viewed.Viewed.{Viewed}
 use Rattle.tftp_rows.specs.Printing.{Prints, PrintsAll, PrintsPart}
-use Rattle.tftp_rows.specs.Telling.{AreJudgedAt, AreRowsAt, AreRowsWith, IsRowAt, IsRowWith, PrintsAllWith, PrintsPartWith, PrintsWith, Tells, TellsAll, TellsPart, TellsPartAt, TellsPlaces, TellsRowsAt, worst_at}
+use Rattle.tftp_rows.specs.Telling.{AreJudgedAt, AreRowsAt, AreRowsWith, IsRowAt, IsRowWith, PrintsAllWith, PrintsPartWith, PrintsWith, Tells, TellsAll, TellsInTurn, TellsNext, TellsPart, TellsPartAt, TellsPlaces, TellsRowsAt, TellsTurns, worst_at}
 use Rattle.tftp_rows.specs.declared.printing.RowPrinter.{RowPrinter}
 use Rattle.tftp_rows.specs.declared.row.VerdictRow.{VerdictRow}
 use Rattle.tftp_rows.specs.declared.teller.Teller.{Teller}
@@ -245,3 +249,37 @@ pub missing_there : (j : Judged) (t : Trail) (m : Missing) (s : Noticed) → j.t
 missing_there j t m s e f p =
     subst (λ (u : Trail). IsFirst (IsMissingOf u.transfer.client.address s.events) j.doubted.missing.first) (sym e)
       (subst (λ (v : Missing). IsFirst (IsMissingOf t.transfer.client.address s.events) v.first) (sym f) p)
+
+-- nothing was told
+pub no_turn : {W : Type 0} (contents : W → Option (List ℕ)) (Holds : Session → Type 0) (t : Teller W) (b : Session) (named out : List ℕ) (history : List Step) (carried : List Carried) (s : Noticed) → IsSessionAfter b named out history carried s → TellsTurns contents Holds t t b named out history carried s
+no_turn contents Holds t b named out history carried s is = record { told = []; left = out; turns = (refl, refl); handed_out = is }
+
+turn_more : {W : Type 0} (contents : W → Option (List ℕ)) (Holds : Session → Type 0) (named : List ℕ) (history : List Step) (carried : List Carried) (s : Noticed) (js : List Judged) (t u v : Teller W) (d e : Session) (out left : List ℕ)
+    → TellsInTurn contents Holds named history carried s js t u out left → IsSessionAfter d named left history carried s → Holds d → (step : TellsNext contents u v d e named left history carried s)
+    → TellsInTurn contents Holds named history carried s (js ++ step.judged ∷ []) t v out (step.transfer.number ∷ left)
+turn_more {W} contents Holds named history carried s [] t u v d e out left p is holds step =
+    subst (λ (k : List ℕ). TellsInTurn contents Holds named history carried s (step.judged ∷ []) t v k (step.transfer.number ∷ left)) p.1
+      (subst (λ (k : Teller W). TellsInTurn contents Holds named history carried s (step.judged ∷ []) k v left (step.transfer.number ∷ left)) p.0
+        (v, d, e, is, holds, step, refl, (refl, refl)))
+turn_more contents Holds named history carried s (j ∷ js) t u v d e out left p is holds step =
+    (p.0, p.1, p.2, p.3, p.4, p.5, p.6, turn_more contents Holds named history carried s js p.0 u v d e (p.5.transfer.number ∷ out) left p.7 is holds step)
+
+-- one transfer more was told
+pub turns_more : {W : Type 0} (contents : W → Option (List ℕ)) (Holds : Session → Type 0) (t u v : Teller W) (d e : Session) (named out : List ℕ) (history : List Step) (carried : List Carried) (s : Noticed)
+    → (p : TellsTurns contents Holds t u d named out history carried s) → Holds d → TellsNext contents u v d e named p.left history carried s → TellsTurns contents Holds t v e named out history carried s
+turns_more contents Holds t u v d e named out history carried s p holds step = record {
+  told = p.told ++ step.judged ∷ [];
+  left = step.transfer.number ∷ p.left;
+  turns = turn_more contents Holds named history carried s p.told t u v d e out p.left p.turns p.handed_out holds step;
+  handed_out = step.handed_out;
+}
+
+-- and then no more was told
+abbrev pub turns_kept : {W : Type 0} (contents : W → Option (List ℕ)) (Holds : Session → Type 0) (t u v : Teller W) (d e : Session) (named out : List ℕ) (history : List Step) (carried : List Carried) (s : Noticed)
+    → (p : TellsTurns contents Holds t u d named out history carried s) → v ≡ u → IsSessionAfter e named p.left history carried s → TellsTurns contents Holds t v e named out history carried s
+turns_kept {W} contents Holds t u v d e named out history carried s p kept is = record {
+  told = p.told;
+  left = p.left;
+  turns = subst (λ (k : Teller W). TellsInTurn contents Holds named history carried s p.told t k out p.left) (sym kept) p.turns;
+  handed_out = is;
+}

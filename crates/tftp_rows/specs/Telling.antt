@@ -162,3 +162,19 @@ pub record TellsNext {W : Type 0} (contents : W → Option (List ℕ)) (old new 
   pub number : new.told ≡ min (old.told + 1) (2 ^ 64 - 1)
   pub status : new.status ≡ max old.status (worst_at judged (places_of judged))
   pub handed_out : IsSessionAfter after named (transfer.number ∷ out) history carried s
+
+-- What there is to say of these transfers was told, one after another: each was the next one then, and this held of the session from which
+-- it was handed out.
+abbrev pub TellsInTurn : {W : Type 0} → (W → Option (List ℕ)) → (Session → Type 0) → List ℕ → List Step → List Carried → Noticed → List Judged → Teller W → Teller W → List ℕ → List ℕ → Type 0
+TellsInTurn contents Holds named history carried s [] old new out left = (new ≡ old) × (left ≡ out)
+TellsInTurn {W} contents Holds named history carried s (j ∷ more) old new out left =
+    (mid : Teller W) × (before : Session) × (after : Session) × IsSessionAfter before named out history carried s × Holds before
+    × (step : TellsNext contents old mid before after named out history carried s) × (step.judged ≡ j)
+    × TellsInTurn contents Holds named history carried s more mid new (step.transfer.number ∷ out) left
+
+-- Transfers were told in turn, and nothing else; the session is left without them.
+pub record TellsTurns {W : Type 0} (contents : W → Option (List ℕ)) (Holds : Session → Type 0) (old new : Teller W) (after : Session) (named out : List ℕ) (history : List Step) (carried : List Carried) (s : Noticed) : Type 0 where
+  pub told : List Judged
+  pub left : List ℕ
+  pub turns : TellsInTurn contents Holds named history carried s told old new out left
+  pub handed_out : IsSessionAfter after named left history carried s

@@ -33,6 +33,9 @@ pub enum PrintFault {
     /// There is no JSON of it, since memory was refused.
     #[error(transparent)]
     Json(#[from] serde_json::Error),
+    /// There are more transfers than can be counted.
+    #[error("too many transfers")]
+    TooMany,
     /// A write failed.
     #[error(transparent)]
     Write(#[from] io::Error),

@@ -11,7 +11,7 @@ ghost use Rattle.audit_recording.specs.Session.Over.{IsOldestOver};
 ghost use Rattle.audit_recording.specs.declared.rows.row.Row.{Row as RowKind};
 ghost use Rattle.audit_rows.specs.Judging.{IsToldOf};
 ghost use Rattle.audit_rows.specs.Viewing.{said_in};
-ghost use Rattle.tftp_rows.specs.Telling.{AreJudgedAt, PrintsWith, Tells, TellsNext, TellsPlaces, places_of, worst_at};
+ghost use Rattle.tftp_rows.specs.Telling.{AreJudgedAt, PrintsWith, Tells, TellsNext, TellsPlaces, TellsTurns, places_of, worst_at};
 
 use crate::printing::{Form, PrintFault, RowPrinter};
 use crate::row::VerdictRow;
@@ -62,7 +62,10 @@ impl<'a, W: Write + Drop> Teller<'a, W> {
     }
 
     /// Tells the transfers of which all is known, from the oldest on.
-    pub fn tell_over(&mut self, alloc: Global, session: &mut Session) -> Result<(), PrintFault> {
+    pub fn tell_over(&mut self, alloc: Global, session: &mut Session) -> Result<(), PrintFault>
+        ensures { (named out : List ℕ) (history : List Step) (carried : List Carried) (s : Noticed) → IsSessionAfter session.old named out history carried s
+            → OnOk result (TellsTurns W.Write.contents (λ before. IsOldestOver before named carried s) (record self.old { may_lose = session.old.notes.may_lose }) self.new session.new named out history carried s) }
+    {
         self.may_lose = session.notes.may_lose;
         for _ in 0..session.count() {
             if !self.tell_first_over(alloc, session)? {
@@ -81,8 +84,10 @@ impl<'a, W: Write + Drop> Teller<'a, W> {
         ensures over { (named out : List ℕ) (history : List Step) (carried : List Carried) (s : Noticed) → IsSessionAfter session.old named out history carried s
             → IsOldestOver session.old named carried s ⊎ ((result ≡ Ok false) × (self.new ≡ self.old) × (session.new ≡ session.old)) }
         ensures told { (named out : List ℕ) (history : List Step) (carried : List Carried) (s : Noticed) → IsSessionAfter session.old named out history carried s
-            → result ≡ Ok true → TellsNext W.Write.contents self.old self.new session.old session.new named out history carried s }
+            → result ≡ Ok true → IsOldestOver session.old named carried s × TellsNext W.Write.contents self.old self.new session.old session.new named out history carried s }
         ensures nothing { result ≡ Ok false → self.new ≡ self.old }
+        ensures same_session { (named out : List ℕ) (history : List Step) (carried : List Carried) (s : Noticed) → IsSessionAfter session.old named out history carried s
+            → result ≡ Ok false → IsSessionAfter session.new named out history carried s }
     {
         if !session.is_first_over() {
             return Ok(false);
@@ -106,13 +111,17 @@ impl<'a, W: Write + Drop> Teller<'a, W> {
     }
 
     /// Tells all transfers that were not told, where the recording has ended.
-    pub fn tell_all(&mut self, alloc: Global, session: &mut Session) -> Result<(), PrintFault> {
-        for _ in 0..session.count() {
+    pub fn tell_all(&mut self, alloc: Global, session: &mut Session) -> Result<(), PrintFault>
+        ensures { (named out : List ℕ) (history : List Step) (carried : List Carried) (s : Noticed) → IsSessionAfter session.old named out history carried s
+            → OnOk result ((turns : TellsTurns W.Write.contents (λ before. Unit {0}) self.old self.new session.new named out history carried s)
+            × ((n : ℕ) → (opened n (whole_of named carried) ≡ None) ⊎ (is_among n turns.left ≡ true))) }
+    {
+        for _ in 0..u64::MAX {
             if !self.tell_oldest(alloc, session)? {
                 return Ok(());
             }
         }
-        Ok(())
+        Err(PrintFault::TooMany)
     }
 
     /// Tells the oldest transfer, if there is one; whether there was. It stays a call, since the room of a transfer that is handed
@@ -122,6 +131,8 @@ impl<'a, W: Write + Drop> Teller<'a, W> {
         ensures told { (named out : List ℕ) (history : List Step) (carried : List Carried) (s : Noticed) → IsSessionAfter session.old named out history carried s
             → result ≡ Ok true → TellsNext W.Write.contents self.old self.new session.old session.new named out history carried s }
         ensures nothing { result ≡ Ok false → self.new ≡ self.old }
+        ensures same_session { (named out : List ℕ) (history : List Step) (carried : List Carried) (s : Noticed) → IsSessionAfter session.old named out history carried s
+            → result ≡ Ok false → IsSessionAfter session.new named out history carried s }
         ensures all { (named out : List ℕ) (history : List Step) (carried : List Carried) (s : Noticed) → IsSessionAfter session.old named out history carried s
             → result ≡ Ok false → (n : ℕ) → (opened n (whole_of named carried) ≡ None) ⊎ (is_among n out ≡ true) }
     {

@@ -5,6 +5,9 @@ use Rattle.tftp_rows.proofs.teller.Teller.tell_oldest.Goals as goal
 pub returns-in_default-clause-all : goal.returns-in_default-clause-all
 returns-in_default-clause-all g c named out history carried s is e = c.pop.ensures.all named out history carried s is c.in_default.is
 
+pub returns-in_default-clause-same_session : goal.returns-in_default-clause-same_session
+returns-in_default-clause-same_session g c named out history carried s is e = c.pop.ensures.none named out history carried s is c.in_default.is
+
 pub returns-clause-told : goal.returns-clause-told
 returns-clause-told g c named out history carried s is e =
     let watched = c.in-Some.ensures.watched named out history carried s is in
