@@ -42,7 +42,11 @@ pub struct Teller<'a, W: Drop> {
 
 impl<'a, W: Write + Drop> Teller<'a, W> {
     /// Nothing was told.
-    pub fn new(alloc: Global, writer: W, form: Form) -> Self {
+    pub fn new(alloc: Global, writer: W, form: Form) -> Self
+        ensures printer { result.printer ≡ record { writer = writer; form = form; is_headed = false } }
+        ensures held { result.held.items ≡ [] }
+        ensures status { result.status ≡ 0 }
+    {
         Teller {
             printer: RowPrinter::new(writer, form),
             file: "",
@@ -55,7 +59,9 @@ impl<'a, W: Write + Drop> Teller<'a, W> {
     }
 
     /// Begins with a file.
-    pub fn begin(&mut self, file: &'a str) {
+    pub fn begin(&mut self, file: &'a str)
+        ensures { self.new ≡ record self.old { file = file.entry; told = 0; dropped = 0 } }
+    {
         self.file = file;
         self.told = 0;
         self.dropped = 0;
@@ -89,10 +95,10 @@ impl<'a, W: Write + Drop> Teller<'a, W> {
         ensures same_session { (named out : List ℕ) (history : List Step) (carried : List Carried) (s : Noticed) → IsSessionAfter session.old named out history carried s
             → result ≡ Ok false → IsSessionAfter session.new named out history carried s }
     {
-        if !session.is_first_over() {
-            return Ok(false);
+        if session.is_first_over() {
+            return self.tell_oldest(alloc, session);
         }
-        self.tell_oldest(alloc, session)
+        Ok(false)
     }
 
     /// Tells what was held back, where the recording is read no further and its recorder has lost so many packets.
