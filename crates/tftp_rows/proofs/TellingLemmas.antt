@@ -248,7 +248,7 @@ pub missing_there : (j : Judged) (t : Trail) (m : Missing) (s : Noticed) → j.t
     → IsFirst (IsMissingOf j.trail.transfer.client.address s.events) j.doubted.missing.first
 missing_there j t m s e f p =
     subst (λ (u : Trail). IsFirst (IsMissingOf u.transfer.client.address s.events) j.doubted.missing.first) (sym e)
-      (subst (λ (v : Missing). IsFirst (IsMissingOf t.transfer.client.address s.events) v.first) (sym f) p)
+    (subst (λ (v : Missing). IsFirst (IsMissingOf t.transfer.client.address s.events) v.first) (sym f) p)
 
 -- nothing was told
 pub no_turn : {W : Type 0} (contents : W → Option (List ℕ)) (Holds : Session → Type 0) (t : Teller W) (b : Session) (named out : List ℕ) (history : List Step) (carried : List Carried) (s : Noticed) → IsSessionAfter b named out history carried s → TellsTurns contents Holds t t b named out history carried s
@@ -259,8 +259,8 @@ turn_more : {W : Type 0} (contents : W → Option (List ℕ)) (Holds : Session �
     → TellsInTurn contents Holds named history carried s (js ++ step.judged ∷ []) t v out (step.transfer.number ∷ left)
 turn_more {W} contents Holds named history carried s [] t u v d e out left p is holds step =
     subst (λ (k : List ℕ). TellsInTurn contents Holds named history carried s (step.judged ∷ []) t v k (step.transfer.number ∷ left)) p.1
-      (subst (λ (k : Teller W). TellsInTurn contents Holds named history carried s (step.judged ∷ []) k v left (step.transfer.number ∷ left)) p.0
-        (v, d, e, is, holds, step, refl, (refl, refl)))
+    (subst (λ (k : Teller W). TellsInTurn contents Holds named history carried s (step.judged ∷ []) k v left (step.transfer.number ∷ left)) p.0
+    (v, d, e, is, holds, step, refl, (refl, refl)))
 turn_more contents Holds named history carried s (j ∷ js) t u v d e out left p is holds step =
     (p.0, p.1, p.2, p.3, p.4, p.5, p.6, turn_more contents Holds named history carried s js p.0 u v d e (p.5.transfer.number ∷ out) left p.7 is holds step)
 

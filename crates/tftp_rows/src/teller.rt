@@ -82,11 +82,7 @@ impl<'a, W: Write + Drop> Teller<'a, W> {
     }
 
     /// Tells the oldest transfer, if nothing that comes later changes what is told of it; whether it did.
-    fn tell_first_over(
-        &mut self,
-        alloc: Global,
-        session: &mut Session,
-    ) -> Result<bool, PrintFault>
+    fn tell_first_over(&mut self, alloc: Global, session: &mut Session) -> Result<bool, PrintFault>
         ensures over { (named out : List ℕ) (history : List Step) (carried : List Carried) (s : Noticed) → IsSessionAfter session.old named out history carried s
             → IsOldestOver session.old named carried s ⊎ ((result ≡ Ok false) × (self.new ≡ self.old) × (session.new ≡ session.old)) }
         ensures told { (named out : List ℕ) (history : List Step) (carried : List Carried) (s : Noticed) → IsSessionAfter session.old named out history carried s

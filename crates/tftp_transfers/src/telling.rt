@@ -29,11 +29,7 @@ impl<W: Write + Drop> Telling for Teller<'_, W> {
     }
 
     fn tell_held(&mut self, rt: HostRuntime, session: &Session) -> Result<()> {
-        Ok(Teller::tell_held(
-            self,
-            rt.alloc(),
-            session.notes.dropped,
-        )?)
+        Ok(Teller::tell_held(self, rt.alloc(), session.notes.dropped)?)
     }
 
     fn tell_all(&mut self, rt: HostRuntime, session: &mut Session) -> Result<()> {

@@ -12,7 +12,7 @@ returns-in_err-lines g c = prints_err g.W.Write.contents _ _ c.from_residual.res
 pub returns-in_err-write_whole : goal.returns-in_err-write_whole
 returns-in_err-write_whole g c =
     prints_err g.W.Write.contents _ _ c.from_residual-in_err-write_whole.result _ c.from_residual-in_err-write_whole.ensures.0
-      (prints_short g.W.Write.contents _ _ _ c.as_bytes.result.now (rw c.as_bytes.ensures.value c.in_ok-lines.ensures) refl c.in_err-write_whole.ensures)
+    (prints_short g.W.Write.contents _ _ _ c.as_bytes.result.now (rw c.as_bytes.ensures.value c.in_ok-lines.ensures) refl c.in_err-write_whole.ensures)
 
 pub returns : goal.returns
 returns g c = record {

@@ -7,11 +7,12 @@ loop-init g c named out history carried s is = no_turn g.W.Write.contents (λ be
 
 pub returns-then-not-branch : goal.returns-then-not-branch
 returns-then-not-branch g c named out history carried s is =
-    let turns = c.loop.invariant named out history carried s is in
-    (turns_kept g.W.Write.contents (λ before. Unit {0}) _ c.loop.self c.tell_oldest.new.self c.loop.session c.tell_oldest.new.session named out history carried s turns
-      (c.in_ok-tell_oldest.ensures.nothing (ap Ok c.if-not-branch.true))
-      (c.in_ok-tell_oldest.ensures.same_session named turns.left history carried s turns.handed_out (ap Ok c.if-not-branch.true)),
-    c.in_ok-tell_oldest.ensures.all named turns.left history carried s turns.handed_out (ap Ok c.if-not-branch.true))
+    let turns = c.loop.invariant named out history carried s is in (
+      turns_kept g.W.Write.contents (λ before. Unit {0}) _ c.loop.self c.tell_oldest.new.self c.loop.session c.tell_oldest.new.session named out history carried s turns
+          (c.in_ok-tell_oldest.ensures.nothing (ap Ok c.if-not-branch.true))
+          (c.in_ok-tell_oldest.ensures.same_session named turns.left history carried s turns.handed_out (ap Ok c.if-not-branch.true)),
+      c.in_ok-tell_oldest.ensures.all named turns.left history carried s turns.handed_out (ap Ok c.if-not-branch.true),
+    )
 
 pub loop-preserved : goal.loop-preserved
 loop-preserved g c named out history carried s is =

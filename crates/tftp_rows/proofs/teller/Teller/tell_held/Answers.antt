@@ -23,6 +23,6 @@ returns-in_err-print-clause-prints g c =
     let part = all_part g.W.Write.contents c.args.dropped _ _ _ c.loop-row.yielded (c.in-Some.row ∷ []) c.loop-row.invariant.printed
     (rw (ap (λ t. t.dropped) c.loop-row.invariant.rest) at c.in_err-print.ensures.prints) in
     with_err g.W.Write.contents c.args.dropped _ _ c.from_residual.result _ c.from_residual.ensures.0
-      (subst (PrintsPartWith g.W.Write.contents c.args.dropped c.args.self.now.printer c.print.new.self.printer)
-        (first_and_others c.loop-row.yielded c.args.self.now.held.items c.in-Some.row c.loop-row.invariant.first turn)
-        (part_more g.W.Write.contents c.args.dropped _ _ _ (drop (length (c.loop-row.yielded ++ c.in-Some.row ∷ [])) c.args.self.now.held.items) part))
+    (subst (PrintsPartWith g.W.Write.contents c.args.dropped c.args.self.now.printer c.print.new.self.printer)
+    (first_and_others c.loop-row.yielded c.args.self.now.held.items c.in-Some.row c.loop-row.invariant.first turn)
+    (part_more g.W.Write.contents c.args.dropped _ _ _ (drop (length (c.loop-row.yielded ++ c.in-Some.row ∷ [])) c.args.self.now.held.items) part))

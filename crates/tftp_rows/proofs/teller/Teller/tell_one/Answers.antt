@@ -7,8 +7,10 @@ returns-in_err-row-clause-rows g c place told = places_err g.W.Write.contents _ 
 
 pub returns-clause-rows : goal.returns-clause-rows
 returns-clause-rows g c place told =
-    row_told g.W.Write.contents c.args.self.now _ _ c.put.result _ place c.in_ok-row.row refl refl refl refl refl
-      (c.args.told.now, told, record {
+    row_told g.W.Write.contents c.args.self.now _ _ c.put.result _ place c.in_ok-row.row refl refl refl refl refl (
+      c.args.told.now,
+      told,
+      record {
         file = c.in_ok-row.ensures.file;
         number = c.in_ok-row.ensures.number;
         place = c.in_ok-row.ensures.place;
@@ -18,5 +20,6 @@ returns-clause-rows g c place told =
         ended = c.in_ok-row.ensures.ended;
         stands = c.in_ok-row.ensures.stands;
         times = c.in_ok-row.ensures.times;
-      })
-      c.put.ensures.rows
+      },
+    )
+    c.put.ensures.rows

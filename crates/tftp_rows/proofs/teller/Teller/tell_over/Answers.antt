@@ -10,8 +10,8 @@ pub returns-then-not-branch : goal.returns-then-not-branch
 returns-then-not-branch g c named out history carried s is =
     let turns = c.loop.invariant named out history carried s is in
     turns_kept g.W.Write.contents (λ before. IsOldestOver before named carried s) _ c.loop.self c.tell_first_over.new.self c.loop.session c.tell_first_over.new.session named out history carried s turns
-      (c.in_ok-tell_first_over.ensures.nothing (ap Ok c.if-not-branch.true))
-      (c.in_ok-tell_first_over.ensures.same_session named turns.left history carried s turns.handed_out (ap Ok c.if-not-branch.true))
+    (c.in_ok-tell_first_over.ensures.nothing (ap Ok c.if-not-branch.true))
+    (c.in_ok-tell_first_over.ensures.same_session named turns.left history carried s turns.handed_out (ap Ok c.if-not-branch.true))
 
 pub loop-preserved : goal.loop-preserved
 loop-preserved g c named out history carried s is =
