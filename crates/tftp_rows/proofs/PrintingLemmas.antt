@@ -1,6 +1,5 @@
 -- Rows that are printed one after another.
 use Rattle.std.proofs.Common.{◌≡◌, ◌∷◌, ◌++◌, ◌||◌, [], ℕ, Bool, true, false, List, Option, Result, Ok, Err, IsErr, refl, sym, ap, ◌∙◌, true≢false, append_assoc, append-nil, subst}
-use Rattle.std.specs.Io.KnownBytes.{Appends}
 use Rattle.std.proofs.KnownBytes.{Appends-nil, Appends-trans}
 use Rattle.net_streams.specs.Streams.{AppendsPrefix}
 use Rattle.tftp_rows.specs.Printing.{ArePrinted, IsPrinted, Prints, PrintsAll, PrintsPart, is_some_row}

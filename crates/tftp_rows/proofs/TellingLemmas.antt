@@ -1,5 +1,5 @@
 -- What is told one after another.
-use Rattle.std.proofs.Common.{◌+◌, ◌<◌, length, take, drop, get_or, length-append, take-append-drop, ◌≡◌, ◌∷◌, ◌++◌, ◌&&◌, ◌||◌, not, [], ℕ, max, Bool, true, false, List, Option, Some, None, IfSome, IsSome, OnOk, Result, Ok, Err, IsErr, refl, sym, ap, ◌∙◌, true≢false, append_assoc, append-nil, subst, arith, if◌then◌else◌, is_some}
+use Rattle.std.proofs.Common.{◌<◌, length, take, drop, get_or, length-append, take-append-drop, ◌≡◌, ◌∷◌, ◌++◌, ◌||◌, not, [], ℕ, max, Bool, true, false, List, Option, Some, None, IfSome, IsSome, OnOk, Result, Ok, Err, IsErr, refl, sym, ap, ◌∙◌, true≢false, append_assoc, append-nil, subst, arith, if◌then◌else◌}
 use Rattle.std.proofs.lemmas.List.{take_more}
 use Rattle.audit_recording.specs.Rows.Told.{depends_on_place, row_of, rows_told}
 use Rattle.audit_recording.specs.declared.rows.row.Point.TheVariants.{Between}
@@ -16,7 +16,7 @@ use Rattle.audit_rows.specs.Judging.{said_there}
 use Rattle.audit_rows.specs.Viewing.{said_in}
 use Rattle.audit_rows.specs.declared.judged.Judged.{Judged}
 use Rattle.audit_rows.specs.declared.viewed.Viewed.{Viewed}
-use Rattle.tftp_rows.specs.Printing.{Prints, PrintsAll, PrintsPart}
+use Rattle.tftp_rows.specs.Printing.{Prints}
 use Rattle.tftp_rows.specs.Telling.{AreJudgedAt, AreRowsAt, AreRowsWith, IsRowAt, IsRowWith, PrintsAllWith, PrintsPartWith, PrintsWith, Tells, TellsAll, TellsInTurn, TellsNext, TellsPart, TellsPartAt, TellsPlaces, TellsRowsAt, TellsTurns, worst_at}
 use Rattle.tftp_rows.specs.declared.printing.RowPrinter.{RowPrinter}
 use Rattle.tftp_rows.specs.declared.row.VerdictRow.{VerdictRow}

@@ -1,6 +1,3 @@
-use Rattle.std.proofs.Common.{Result, Ok, Err, refl, ◌∷◌, []}
-use Rattle.tftp_rows.specs.Printing.{Prints}
-use Rattle.tftp_rows.specs.Telling.{PrintsWith}
 use Rattle.tftp_rows.proofs.TellingLemmas.{printed_with}
 use Rattle.tftp_rows.proofs.teller.Teller.print.Goals as goal
 

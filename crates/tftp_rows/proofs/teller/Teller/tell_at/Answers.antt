@@ -1,4 +1,3 @@
-use Rattle.std.proofs.Common.{refl, ◌≡◌, option_to_list}
 use Rattle.tftp_rows.proofs.TellingLemmas.{none_told}
 use Rattle.tftp_rows.proofs.teller.Teller.tell_at.Goals as goal
 

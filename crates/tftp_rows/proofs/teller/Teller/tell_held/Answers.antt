@@ -1,4 +1,4 @@
-use Rattle.std.proofs.Common.{rules, ap, ◌∙◌, ◌∷◌, ◌++◌, [], drop, length, subst, false}
+use Rattle.std.proofs.Common.{rules, ap, ◌∷◌, ◌++◌, [], drop, length, subst, false}
 use Rattle.std.proofs.lemmas.Iterator.Adapters.{YieldsList-from_vec}
 use Rattle.std.proofs.lemmas.Iterator.Consumers.{YieldsList-turn}
 use Rattle.tftp_rows.specs.Telling.{PrintsPartWith}

@@ -1,4 +1,4 @@
-use Rattle.std.proofs.Common.{◌≡◌, length, take, false}
+use Rattle.std.proofs.Common.{◌≡◌, length, take}
 use Rattle.tftp_rows.specs.Telling.{PrintsAllWith}
 use Rattle.tftp_rows.proofs.teller.Teller.tell_held.Given as goal
 

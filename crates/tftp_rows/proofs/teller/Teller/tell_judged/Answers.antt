@@ -1,4 +1,4 @@
-use Rattle.std.proofs.Common.{refl, sym, ap, ◌∙◌, ◌≡◌, ◌++◌, max, option_to_list, OnOk, subst, append_assoc}
+use Rattle.std.proofs.Common.{sym, ap, ◌∙◌, ◌≡◌, ◌++◌, max, option_to_list, OnOk, subst, append_assoc}
 use Rattle.audit_recording.specs.Rows.Told.{rows_of, rows_told}
 use Rattle.audit_rows.specs.Judging.{are_alike, said_there}
 use Rattle.tftp_rows.specs.Telling.{AreJudgedAt, TellsPlaces, places_of, worst_at}

@@ -1,4 +1,4 @@
-use Rattle.std.proofs.Common.{refl, rules}
+use Rattle.std.proofs.Common.{refl}
 use Rattle.tftp_rows.proofs.TellingLemmas.{places_err, places_none, row_told}
 use Rattle.tftp_rows.proofs.teller.Teller.tell_one.Goals as goal
 
