@@ -1,5 +1,5 @@
 -- A block of two bytes and its ACK, as they passed at the two ends of a read.
-use Rattle.std.specs.Prelude.{ℕ, List, [], ◌∷◌, reverse}
+use Rattle.std.specs.Prelude.{ℕ, List, [], ◌∷◌, None, reverse}
 use Rattle.tftp_packet.specs.{End}
 use Rattle.tftp_packet.specs.Hosts.{Datagram}
 use Rattle.tftp_packet.specs.{Dir, In, Out}

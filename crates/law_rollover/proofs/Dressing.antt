@@ -7,6 +7,7 @@ use Rattle.law_end.specs.Dress.{StrayAnswer}
 use Rattle.law_end.specs.{BeginsAsRequest, Label, IsMain, Main, Stray, Labelled, Division, GoesToServer, HasClientId, HasServerId, HasLabelBy, Saying, TransferIds, packet_of, from_server, server_port}
 use Rattle.law_end.proofs.Division.Divided.{any_none, any_cases, any_first, any_later}
 use Rattle.law_rollover.specs.{with_payload}
+
 -- the labels are the same, and the datagrams but for what they carry
 abbrev pub Alike : Division → Division → Type 0
 Alike [] [] = Unit {0}

@@ -11,6 +11,7 @@ use Rattle.std.proofs.lemmas.Bool.{cases_eq}
 use Rattle.tftp_packet.proofs.RoundsLemmas.Turns.{low_numbers}
 use Rattle.tftp_packet.proofs.RoundsLemmas.Positions.{has_number, is_near, low_is_near, read_back}
 use Rattle.law_rollover.proofs.Unrolling.{data_unrolled, ack_unrolled, others_stay, opcode_stays, length_stays}
+
 -- ---- payloads without a number
 
 no_number : (payload : List ℕ) (o : ℕ) → opcode_of payload ≡ o → ((o == 3) || ((o == 4) && (length payload == 4))) ≡ false → carries_number payload ≡ false
@@ -37,8 +38,7 @@ module _ (r : Rollover) (high : ℕ) where
       let last = all.1.1.1.0 in
       let small : n ≤ 65535 = omega (arith, low, last) in
       let whole = place.1 in
-      let same : k ≡ j = omega (arith, third, fourth, whole) in
-      (
+      let same : k ≡ j = omega (arith, third, fourth, whole) in (
         ((all.0, (all.1.0, (last, all.1.1.1.1))), (c, e, (last, ap (number_of (first_of r)) same ∙ has_number r high n small), ap (λ b. 0 ∷ 3 ∷ c ∷ e ∷ b) after)),
         subst (IsNear (first_of r) high) (sym same) (is_near r high n small),
       )
@@ -58,9 +58,9 @@ module _ (r : Rollover) (high : ℕ) where
       let first : a ≡ 0 = omega (arith, opcode, low) in
       let second : b ≡ 3 = omega (arith, opcode, first) in
       subst (λ a. AllByRecursion (λ b. b < 256) (a ∷ b ∷ c ∷ e ∷ rest) → Spells (unrolled_payload r high (a ∷ b ∷ c ∷ e ∷ rest)) (Message.Data k bytes)
-          → Spells (a ∷ b ∷ c ∷ e ∷ rest) (Message.Data (number_of (first_of r) k) bytes) × IsNear (first_of r) high k) (sym first)
+      → Spells (a ∷ b ∷ c ∷ e ∷ rest) (Message.Data (number_of (first_of r) k) bytes) × IsNear (first_of r) high k) (sym first)
       (subst (λ b. AllByRecursion (λ b. b < 256) (0 ∷ b ∷ c ∷ e ∷ rest) → Spells (unrolled_payload r high (0 ∷ b ∷ c ∷ e ∷ rest)) (Message.Data k bytes)
-          → Spells (0 ∷ b ∷ c ∷ e ∷ rest) (Message.Data (number_of (first_of r) k) bytes) × IsNear (first_of r) high k) (sym second)
+      → Spells (0 ∷ b ∷ c ∷ e ∷ rest) (Message.Data (number_of (first_of r) k) bytes) × IsNear (first_of r) high k) (sym second)
       (λ all spells. data_of c e rest all k bytes spells)) all (some, (x, y, place, layout))
 
   ack_of : (c e : ℕ) → AllByRecursion (λ b. b < 256) (0 ∷ 4 ∷ c ∷ e ∷ []) → (k : ℕ)
@@ -76,8 +76,7 @@ module _ (r : Rollover) (high : ℕ) where
       let last = all.1.1.1.0 in
       let small : n ≤ 65535 = omega (arith, low, last) in
       let whole = place.1 in
-      let same : k ≡ j = omega (arith, third, fourth, whole) in
-      (
+      let same : k ≡ j = omega (arith, third, fourth, whole) in (
         ((all.0, (all.1.0, (last, all.1.1.1.1))), (c, e, (last, ap (number_of (first_of r)) same ∙ has_number r high n small), refl)),
         subst (IsNear (first_of r) high) (sym same) (is_near r high n small),
       )
@@ -99,9 +98,9 @@ module _ (r : Rollover) (high : ℕ) where
       let first : a ≡ 0 = omega (arith, opcode, low) in
       let second : b ≡ 4 = omega (arith, opcode, first) in
       subst (λ a. AllByRecursion (λ b. b < 256) (a ∷ b ∷ c ∷ e ∷ []) → Spells (unrolled_payload r high (a ∷ b ∷ c ∷ e ∷ [])) (Message.Ack k)
-          → Spells (a ∷ b ∷ c ∷ e ∷ []) (Message.Ack (number_of (first_of r) k)) × IsNear (first_of r) high k) (sym first)
+      → Spells (a ∷ b ∷ c ∷ e ∷ []) (Message.Ack (number_of (first_of r) k)) × IsNear (first_of r) high k) (sym first)
       (subst (λ b. AllByRecursion (λ b. b < 256) (0 ∷ b ∷ c ∷ e ∷ []) → Spells (unrolled_payload r high (0 ∷ b ∷ c ∷ e ∷ [])) (Message.Ack k)
-          → Spells (0 ∷ b ∷ c ∷ e ∷ []) (Message.Ack (number_of (first_of r) k)) × IsNear (first_of r) high k) (sym second)
+      → Spells (0 ∷ b ∷ c ∷ e ∷ []) (Message.Ack (number_of (first_of r) k)) × IsNear (first_of r) high k) (sym second)
       (λ all spells. ack_of c e all k spells)) all (some, (x, y, place, layout))
 
 module _ (r : Rollover) (high : ℕ) (payload : List ℕ) where

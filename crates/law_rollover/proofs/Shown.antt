@@ -19,6 +19,7 @@ use Rattle.law_rollover.specs.{AreBytes, AreNear, AreUnrolled, IsNearPacket, IsD
 use Rattle.law_rollover.proofs.Timely.{data_below}
 use Rattle.law_rollover.proofs.Dressing.{Alike, label_moves}
 use Rattle.law_rollover.proofs.Payloads.{begins_on, begins_back, error_on, error_back, says_on, says_back}
+
 -- ---- the highest block
 
 pub one_greatest : (P : ℕ → Type 0) (a b : ℕ) → IsGreatest P a → IsGreatest P b → a ≡ b
@@ -55,9 +56,9 @@ module _ (r : Rollover) (h : Header) (m : Meaning) (wire : List ℕ) where
       | inr (d, at, is) ↦ inr (block (blksize_of m) wire (high_of (view_in division)), either_way (dir_of d) (Message.Data (high_of (view_in division)) (block (blksize_of m) wire (high_of (view_in division)))) _ (rw (sym (ap (message_of m wire) is)) (told_passed h m wire division routed d at)))
     ];
     most = λ n some.
-      let (dir, passed) = some_way (Message.Data n some.0) _ some.1 in
-      let (deed, at, way, said) = passed_told h m wire division routed dir (Message.Data n some.0) passed in
-      data_below (view_in division) deed n (data_only h m wire (packet_of deed) n some.0 said).0 at;
+        let (dir, passed) = some_way (Message.Data n some.0) _ some.1 in
+        let (deed, at, way, said) = passed_told h m wire division routed dir (Message.Data n some.0) passed in
+        data_below (view_in division) deed n (data_only h m wire (packet_of deed) n some.0 said).0 at;
   }
 
   -- ---- from numbers to blocks
@@ -94,9 +95,9 @@ module _ (r : Rollover) (h : Header) (m : Meaning) (wire : List ℕ) where
   labels_on ids [] near labels = tt
   labels_on ids (p ∷ earlier) near labels = (
     label_moves h ids earlier (unroll earlier) (alike earlier) p.datagram (payload_at earlier p.datagram) (says_by_number r m wire) (says_of m wire) p.label labels.0
-    (λ deed is says. says_on r (high_of (view_in earlier)) p.datagram.payload m wire (packet_of deed) (near_main p.datagram p.label earlier deed is near) says)
-    (begins_back r (high_of (view_in earlier)) p.datagram.payload)
-    (λ text spells. error_on r (high_of (view_in earlier)) p.datagram.payload 5 text spells),
+        (λ deed is says. says_on r (high_of (view_in earlier)) p.datagram.payload m wire (packet_of deed) (near_main p.datagram p.label earlier deed is near) says)
+        (begins_back r (high_of (view_in earlier)) p.datagram.payload)
+        (λ text spells. error_on r (high_of (view_in earlier)) p.datagram.payload 5 text spells),
     labels_on ids earlier (near_before p.datagram p.label earlier near) labels.1,
   )
 
@@ -154,12 +155,11 @@ module _ (r : Rollover) (h : Header) (m : Meaning) (wire : List ℕ) where
       let top : high ≡ high_of (view_in rest) = one_greatest _ high (high_of (view_in rest)) is_high (high_is rest routed.2) in
       let others = labels_back ids ds rest bytes.1 are.1 routed.2 labels.1 in
       let says = λ (deed : Deed) (spells : says_of m wire (packet_of deed) p.datagram.payload).
-          says_back r high d.payload m wire bytes.0 (packet_of deed) (subst (says_of m wire (packet_of deed)) payload_is spells) in
+      says_back r high d.payload m wire bytes.0 (packet_of deed) (subst (says_of m wire (packet_of deed)) payload_is spells) in
       let moved = label_moves h ids rest (roll ds rest) (rolled_alike ds rest are.1) p.datagram d.payload (says_of m wire) (says_by_number r m wire) p.label labels.0
-          (λ deed is spells. (says deed spells).0)
-          (λ begins. subst BeginsAsRequest (sym payload_is) (begins_on r high d.payload begins))
-          (λ text spells. error_back r high d.payload 5 text (subst (λ payload. Spells payload (Message.Error 5 text)) payload_is spells)) in
-      (
+      (λ deed is spells. (says deed spells).0)
+      (λ begins. subst BeginsAsRequest (sym payload_is) (begins_on r high d.payload begins))
+      (λ text spells. error_back r high d.payload 5 text (subst (λ payload. Spells payload (Message.Error 5 text)) payload_is spells)) in (
         (subst (λ x. HasLabelBy h (says_by_number r m wire) ids (roll ds rest) x p.label) (ap (λ x. with_payload x d.payload) same) moved, others.0),
         more_near p.datagram p.label rest others.1 (λ deed is. subst (λ x. IsNearPacket r x (packet_of deed)) top (says deed (main_says deed is labels.0)).1),
       )
@@ -183,8 +183,7 @@ module _ (r : Rollover) (h : Header) (m : Meaning) (wire : List ℕ) where
         let labels = labels_on dressed.ids division (subst (AreNear r) (sym dressed.main) near) dressed.labels in
         let main : view_in (unroll division) ≡ view = view_same division ∙ dressed.main in
         let are = unrolled_are division (routed dressed.ids (unroll division) view main run labels) in
-        let back : reverse (reverse (datagrams_of (unroll division))) ≡ datagrams_of (unroll division) = reverse-reverse (datagrams_of (unroll division)) in
-        (
+        let back : reverse (reverse (datagrams_of (unroll division))) ≡ datagrams_of (unroll division) = reverse-reverse (datagrams_of (unroll division)) in (
           reverse (datagrams_of (unroll division)),
           subst (λ us. AreUnrolled r h (reverse datagrams) us) (sym back) (subst (λ ds. AreUnrolled r h ds (datagrams_of (unroll division))) dressed.whole are),
           record { ids = dressed.ids; division = unroll division; whole = sym back; main = main; labels = labels },
@@ -196,8 +195,7 @@ module _ (r : Rollover) (h : Header) (m : Meaning) (wire : List ℕ) where
         let division = dressed.division in
         let are = subst (λ us. AreUnrolled r h (reverse datagrams) us) (sym dressed.whole) all in
         let by_routes = routed dressed.ids division view dressed.main run dressed.labels in
-        let labels = labels_back dressed.ids (reverse datagrams) division (all_reverse (λ (d : Datagram). AllByRecursion (λ b. b < 256) d.payload) datagrams bytes) are by_routes dressed.labels in
-        (
+        let labels = labels_back dressed.ids (reverse datagrams) division (all_reverse (λ (d : Datagram). AllByRecursion (λ b. b < 256) d.payload) datagrams bytes) are by_routes dressed.labels in (
           subst (AreNear r) dressed.main labels.1,
           record {
             ids = dressed.ids;

@@ -5,6 +5,7 @@ use Rattle.tftp_packet.specs.{Message, Spells, opcode_of}
 use Rattle.tftp_packet.specs.{Rollover}
 use Rattle.tftp_packet.specs.Rounds.{position_of}
 use Rattle.law_rollover.specs.{carries_number, unrolled_payload, with_place}
+
 -- ---- blocks and ACKs
 
 pub data_unrolled : (r : Rollover) (high n : ℕ) (bytes payload : List ℕ) → Spells payload (Message.Data n bytes)
@@ -13,9 +14,9 @@ data_unrolled r high n bytes payload (all, (x, y, place, layout)) =
     let k = position_of r high n in
     let bytes_of = subst (λ (p : List ℕ). Spells p (Message.Data n bytes)) layout (all, (x, y, place, layout)) in
     let there : Spells (0 ∷ 3 ∷ k / 256 ∷ k % 256 ∷ bytes) (Message.Data k bytes) =
-        ((bytes_of.0.0, (bytes_of.0.1.0, (omega (arith), bytes_of.0.1.1.1))), (k / 256, k % 256, (omega (arith), omega (arith)), refl)) in
+    ((bytes_of.0.0, (bytes_of.0.1.0, (omega (arith), bytes_of.0.1.1.1))), (k / 256, k % 256, (omega (arith), omega (arith)), refl)) in
     let is : unrolled_payload r high (0 ∷ 3 ∷ x ∷ y ∷ bytes) ≡ 0 ∷ 3 ∷ k / 256 ∷ k % 256 ∷ bytes =
-        ap (λ m. 0 ∷ 3 ∷ position_of r high m / 256 ∷ position_of r high m % 256 ∷ bytes) (sym place.1) in
+    ap (λ m. 0 ∷ 3 ∷ position_of r high m / 256 ∷ position_of r high m % 256 ∷ bytes) (sym place.1) in
     subst (λ p. Spells p (Message.Data k bytes)) (sym (ap (unrolled_payload r high) layout ∙ is)) there
 
 pub ack_unrolled : (r : Rollover) (high n : ℕ) (payload : List ℕ) → Spells payload (Message.Ack n)
@@ -24,9 +25,9 @@ ack_unrolled r high n payload (all, (x, y, place, layout)) =
     let k = position_of r high n in
     let bytes_of = subst (λ (p : List ℕ). Spells p (Message.Ack n)) layout (all, (x, y, place, layout)) in
     let there : Spells (0 ∷ 4 ∷ k / 256 ∷ k % 256 ∷ []) (Message.Ack k) =
-        ((bytes_of.0.0, (bytes_of.0.1.0, (omega (arith), tt))), (k / 256, k % 256, (omega (arith), omega (arith)), refl)) in
+    ((bytes_of.0.0, (bytes_of.0.1.0, (omega (arith), tt))), (k / 256, k % 256, (omega (arith), omega (arith)), refl)) in
     let is : unrolled_payload r high (0 ∷ 4 ∷ x ∷ y ∷ []) ≡ 0 ∷ 4 ∷ k / 256 ∷ k % 256 ∷ [] =
-        ap (λ m. 0 ∷ 4 ∷ position_of r high m / 256 ∷ position_of r high m % 256 ∷ []) (sym place.1) in
+    ap (λ m. 0 ∷ 4 ∷ position_of r high m / 256 ∷ position_of r high m % 256 ∷ []) (sym place.1) in
     subst (λ p. Spells p (Message.Ack k)) (sym (ap (unrolled_payload r high) layout ∙ is)) there
 
 -- ---- what stays

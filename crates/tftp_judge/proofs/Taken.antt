@@ -14,6 +14,7 @@ use Rattle.law_rollover.proofs.Shown.{one_greatest}
 use Rattle.std.proofs.lemmas.List.Elements.{All-cons}
 use Rattle.tftp_judge.specs.{HasKept, IsJudgeAfter, Judge}
 use Rattle.law_rollover.proofs.Unrolling.{ack_unrolled, data_unrolled, length_stays, opcode_stays}
+
 module _ (passed : List Datagram) (payload now : List ℕ) where
   pub data_taken : (rollover : Option Rollover) → IsTakenFor rollover passed payload now → (n : ℕ) (bytes : List ℕ) → Spells payload (Message.Data n bytes)
       → (k : ℕ) → (rollover ≡ None → k ≡ n) → ((r : Rollover) (high : ℕ) → rollover ≡ Some r → IsHigh passed high → k ≡ position_of r high n)
@@ -88,10 +89,13 @@ as_taken r passed d now (high, top, is) = (is ∙ ap (with_payload d) (sym (ap (
 pub one_more : (j k : Judge) (h : Header) (earlier : List Datagram) (rollover : Option Rollover) (d now : Datagram) → IsJudgeAfter j h earlier
     → IsTaken rollover (transfer_of h earlier) d now → length d.payload ≤ 65527 → Passes h earlier now × HasKept k.state h (now ∷ earlier)
     → k.fed ≡ j.fed + 1 → k.refused ≡ None → Passes h earlier now × IsJudgeAfter k h (now ∷ earlier)
-one_more j k h earlier rollover d now after taken short found fed goes_on = (found.0, record {
-  lawful = (found.0, after.lawful);
-  short = All-cons (λ (x : Datagram). length x.payload ≤ 65527) now earlier (let same = length_taken (transfer_of h earlier) d.payload now.payload rollover taken.1 in omega (arith, same, short)) after.short;
-  has_kept = found.1;
-  fed = (let old = after.fed in omega (arith, fed, old));
-  goes_on = goes_on;
-})
+one_more j k h earlier rollover d now after taken short found fed goes_on = (
+  found.0,
+  record {
+    lawful = (found.0, after.lawful);
+    short = All-cons (λ (x : Datagram). length x.payload ≤ 65527) now earlier (let same = length_taken (transfer_of h earlier) d.payload now.payload rollover taken.1 in omega (arith, same, short)) after.short;
+    has_kept = found.1;
+    fed = (let old = after.fed in omega (arith, fed, old));
+    goes_on = goes_on;
+  },
+)

@@ -104,7 +104,13 @@ impl<D: Delivered + Drop> JudgeState<D> {
         };
         self.of_transfer = belongs(route);
         match route {
-            Route::Request | Route::Peer => self.pass_message(alloc, rollover, route, datagram.dir, payload),
+            Route::Request | Route::Peer => self.pass_message(
+                alloc,
+                rollover,
+                route,
+                datagram.dir,
+                payload,
+            ),
             Route::StrayAnswer => {
                 if says_unknown_id(payload) {
                     Ok(())

@@ -93,27 +93,25 @@ module _ (m : Meaning) (can : CanBeWritten m) where
   numbered = can.fits.numbered
 
   pub data_spells : (k : ℕ) → k ≤ n → Spells (canonical (message_of m wire (Data k))) (message_of m wire (Data k))
-  data_spells k low =
+  data_spells k low = (
+    (
+      omega arith,
       (
+        omega arith,
         (
           omega arith,
-          (
-            omega arith,
-            (
-              omega arith,
-              all_take (λ b. b < 256) (blksize_of m) (drop ((k - 1) * blksize_of m) wire) (all_drop (λ b. b < 256) ((k - 1) * blksize_of m) wire can.bytes),
-            ),
-          ),
+          all_take (λ b. b < 256) (blksize_of m) (drop ((k - 1) * blksize_of m) wire) (all_drop (λ b. b < 256) ((k - 1) * blksize_of m) wire can.bytes),
         ),
-        (k / 256, k % 256, (omega arith, omega arith), refl),
-      )
+      ),
+    ),
+    (k / 256, k % 256, (omega arith, omega arith), refl),
+  )
 
   pub ack_spells : (j : ℕ) → j ≤ n → Spells (canonical (message_of m wire (Ack j))) (message_of m wire (Ack j))
-  ack_spells j low =
-      (
-        (omega arith, (omega arith, (omega arith, tt))),
-        (j / 256, j % 256, (omega arith, omega arith), refl),
-      )
+  ack_spells j low = (
+    (omega arith, (omega arith, (omega arith, tt))),
+    (j / 256, j % 256, (omega arith, omega arith), refl),
+  )
 
   -- all that the client did can have been heard of
   all_heard : (side : Side) (a k : ℕ) (division : Division) → Going m side a k division → heard (view_in division) ≡ view_in division

@@ -61,7 +61,11 @@ impl Reading {
         self.feed(alloc, Dir::Out, b"\x00\x04\x00\x00")?;
         let mut number = 0;
         for block in 1..=BLOCKS {
-            number = if number == u16::MAX { first } else { number + 1 };
+            number = if number == u16::MAX {
+                first
+            } else {
+                number + 1
+            };
             let length = if block < BLOCKS { 12 } else { 4 };
             let [high, low] = number.to_be_bytes();
             let data = [0, 3, high, low, 1, 2, 3, 4, 5, 6, 7, 8];
@@ -77,7 +81,11 @@ fn datagram(alloc: Global, dir: Dir, payload: &[u8]) -> Result<Datagram, AllocEr
         dir,
         local_port: 40_000,
         remote_host: Host::none(),
-        remote_port: if payload.starts_with(b"\x00\x01") { 69 } else { 41_000 },
+        remote_port: if payload.starts_with(b"\x00\x01") {
+            69
+        } else {
+            41_000
+        },
         payload: Bytes::of(Vec::from_slice(alloc, payload)?),
     })
 }
