@@ -1,6 +1,6 @@
 -- The one capture that is written for a meaning: taken at the client, nothing lost, repeated or out of order, and an
 -- ACK only where the next window, or the end, needs one (RFC 1350, sections 2, 4 and 6; RFC 2347; RFC 7440, section 4).
-use Rattle.std.specs.Prelude.{ℕ, zero, suc, ◌+◌, ◌-◌, ◌/◌, min, List, [], ◌∷◌, ◌++◌, map as each}
+use Rattle.std.specs.Prelude.{ℕ, zero, suc, ◌+◌, ◌-◌, ◌/◌, min, List, [], ◌∷◌, ◌++◌, map as each, None}
 use Rattle.std.specs.FinMap as map
 use Rattle.tftp_packet.specs.Hosts.{no_host, Datagram, Header}
 use Rattle.tftp_packet.specs.{Side, Get, Put, End, Client, Server, canonical}
