@@ -231,7 +231,7 @@ module _ (x : Transfer) (server : Endpoint) (seen : Placed → Bool) (cap : Plac
       with_to_server source target asks_not at t = by t.packet t.is t.carried where
         went_out : (In ≡ Out) ⊎ Any WentOut rest → Any MainOut rest
         went_out (inl is) = absurd (cc)
-        went_out (inr before) = any_main_out x.asked.port (says_of m wire) ids rest labels before
+        went_out (inr before) = any_main_out x.asked.port None (says_of m wire) ids rest labels before
 
         more : (q : MachinePacket) → (q ≡ Req → ⊥) → l.label ≡ Main (Took q) → says_of m wire q p.datagram.payload → (In ≡ Out) ⊎ Any WentOut rest → Merged (p ∷ qs) (l ∷ rest)
         more q other is says before = with_both p qs l rest (Took q) of is r (record {

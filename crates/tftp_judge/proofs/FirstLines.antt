@@ -82,6 +82,7 @@ says_front version lines h ds es rest says is =
         begins = refl;
         are = after.3;
         port = says.port;
+        plain = says.plain;
         each = each.3;
       },
     )

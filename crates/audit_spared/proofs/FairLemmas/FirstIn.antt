@@ -1,10 +1,10 @@
 -- At either end, the first datagram that comes in is the other end's, and so no main datagram is left out with others.
-use Rattle.std.proofs.Common.{◌≡◌, ◌⊎◌, ℕ, Bool, true, false, [], ◌∷◌, Some, None, Any, inl, inr, refl, sym, subst, ap, ◌∙◌, ◌||◌, ◌&&◌, not}
+use Rattle.std.proofs.Common.{◌≡◌, ◌⊎◌, ℕ, Bool, true, false, [], ◌∷◌, Option, Some, None, Any, inl, inr, refl, sym, subst, ap, ◌∙◌, ◌||◌, ◌&&◌, not}
 use Rattle.std.specs.List.{AllByRecursion}
 use Rattle.std.proofs.lemmas.Bool.{false≢true, and_from, or_right}
 use Rattle.tftp_packet.specs.{End, Client, Server}
 use Rattle.tftp_packet.specs.Hosts.{Datagram, Header, PeerId, peer_of}
-use Rattle.tftp_packet.specs.{In, Out}
+use Rattle.tftp_packet.specs.{In, Out, Rollover}
 use Rattle.law_model.specs.Model.{Req, Oack, Data, Ack, Error, Deed, Sent, Took}
 use Rattle.law_model.specs.Rules.{goes_out, comes_in, begins_request, first_of}
 use Rattle.law_end.specs.Dress.{StrayAnswer}
@@ -41,9 +41,9 @@ main_in (p ∷ earlier) any = elim (any_cases (MainGoing In) p earlier any) [
 none_some : {P : Type 0} (division : Division) → first_of comes_in (datagrams_of division) ≡ None → SomeIn division → P
 none_some division none found = let both : None ≡ Some found.0 = sym none ∙ found.1 in absurd (cc)
 
-module _ (service : ℕ) (says : Saying) (told : IsTold says) (ids : TransferIds) where
+module _ (service : ℕ) (rollover : Option Rollover) (says : Saying) (told : IsTold says) (ids : TransferIds) where
   abbrev pub at : End → Header
-  at e = record { named = e; service = service; rollover = None }
+  at e = record { named = e; service = service; rollover = rollover }
 
   -- at a server something has come in before whatever passes
   server_some : (p : Labelled) (earlier : Division) → HaveLabelsBy (at Server) says ids (p ∷ earlier) → Starts Server (view_in (p ∷ earlier)) → SomeIn (p ∷ earlier)

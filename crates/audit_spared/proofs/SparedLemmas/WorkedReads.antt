@@ -1,11 +1,12 @@
 -- The captures of the worked recordings are lawful: reads of one byte.
-use Rattle.std.proofs.Common.{ap, sym, subst, ◌≡◌, ℕ, ◌<◌, Bool, true, false, nat_lt, List, [], ◌∷◌, Any, codes, inl, inr, refl, reverse, arith, None}
+use Rattle.std.proofs.Common.{ap, sym, subst, ◌≡◌, ℕ, ◌<◌, Bool, true, false, nat_lt, List, [], ◌∷◌, Any, codes, inl, inr, refl, reverse, arith, None, Option}
 use Rattle.std.proofs.lemmas.Bool.{and_parts, ltb-true, true≢false}
 use Rattle.std.specs.List.{AllByRecursion, list_all}
 use Rattle.tftp_packet.specs.{Message, OptionValue, no_options, Get, Octet, Client, Server, IsString, Spells}
 use Rattle.tftp_packet.specs.Spelling.{octet_read}
 use Rattle.tftp_packet.specs.Hosts.{Datagram, Header, peer_of}
-use Rattle.tftp_packet.specs.{In, Out}
+use Rattle.tftp_packet.specs.{In, Out, Rollover}
+use Rattle.tftp_packet.proofs.RoundsLemmas.Greatest.{two_bytes_within}
 use Rattle.law_model.specs.Model.{Meaning, request_of, block, block_count, blksize_of, Req, Data, Ack, Error, Sent, Took, message_of, Step, view_of}
 use Rattle.law_model.proofs.ModelLemmas.Computed.{Plan, IsPlan, is_run, run_is}
 use Rattle.law_model.proofs.ModelLemmas.Defaults.{default_blksize, default_windowsize}
@@ -95,12 +96,12 @@ module _ (name : List ℕ) where
   is_plan : IsPlan meaning (5 ∷ []) plan
   is_plan = record { something = λ e. absurd (true≢false (sym e)); nothing = λ e. refl; windowsize = default_windowsize meaning refl; blocks = one_block }
 
-  fits : Fits None meaning (5 ∷ [])
-  fits = record {
-    may_agree = nothing_may_be_agreed_by None (request_of meaning);
+  fits : (rollover : Option Rollover) → Fits rollover meaning (5 ∷ [])
+  fits rollover = record {
+    may_agree = nothing_may_be_agreed_by rollover (request_of meaning);
     reads = refl;
     size = λ mode size e. absurd (none_there (codes "tsize") (OptionValue.Num size) e);
-    numbered = omega (arith, one_block);
+    numbered = let least = two_bytes_within rollover in omega (arith, one_block);
   }
 
   -- so datagrams with such labels are lawful
@@ -110,7 +111,7 @@ module _ (name : List ℕ) where
     meaning,
     5 ∷ [],
     record {
-      fits = fits;
+      fits = fits h.rollover;
       view = view_of h.named steps;
       run = (steps, run_is meaning (5 ∷ []) plan steps is_plan run, refl);
       dressed = record { ids = ids; division = division; whole = whole; main = view; labels = labels };
