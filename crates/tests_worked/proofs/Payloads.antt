@@ -40,7 +40,7 @@ abbrev pub are_apart : List Pair → Bool
 are_apart [] = true
 are_apart (pair ∷ pairs) = list_all (λ later. not (bytes_eq (lower pair.0) (lower later.0))) pairs && are_apart pairs
 
-bytes_are : (xs : List ℕ) → all_bytes xs ≡ true → AllByRecursion (λ b. b < 256) xs
+pub bytes_are : (xs : List ℕ) → all_bytes xs ≡ true → AllByRecursion (λ b. b < 256) xs
 bytes_are = all_from (λ b. nat_lt b 256) (λ b. b < 256) (λ b e. ltb-true b 256 e)
 
 string_is : (s : List ℕ) → is_string s ≡ true → IsString s

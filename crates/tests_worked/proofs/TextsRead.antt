@@ -12,8 +12,8 @@ use Rattle.tftp_capture.specs.{text_of, head_line, numbered, IsCapture, IsLawful
 use Rattle.tftp_capture.specs.CaptureText.Due.{Head}
 use Rattle.tftp_capture.proofs.Canonical.{canonical_is_read}
 use Rattle.tests_worked.specs.{asks_for_a, acknowledges_hi, block, overrun_text, unversioned_text}
-use Rattle.tests_worked.proofs.Payloads.{data_spells}
-use Rattle.tests_worked.proofs.Spelled.{request_spelled, ack_spelled}
+use Rattle.tests_worked.proofs.Payloads.{bytes_are}
+use Rattle.tests_worked.proofs.Spelled.{request_spelled}
 use Rattle.tftp_normal.proofs.Lawful.{at_each}
 
 -- ---- the datagrams, which name no host
@@ -49,17 +49,17 @@ said : (k : ℕ) (text : List ℕ) → AllByRecursion (λ b. b < 256) (block k (
 said k text bytes is short =
     subst (λ t. IsCapture t worked_header (numbered 4 (read_of k))) is
     (canonical_is_read worked_header (read_of k) (lit≤ tt, lit≤ tt) refl
-    (three IsLawful k (lawful Out 69 asks.payload (lit≤ tt, lit≤ tt) request_spelled.0 (lit≤ tt)) (lawful In 41000 (block k (codes "hi")) (lit≤ tt, lit≤ tt) bytes (lit≤ tt)) (lawful Out 41000 acknowledges.payload (lit≤ tt, lit≤ tt) ack_spelled.0 (lit≤ tt)))
+    (three IsLawful k (lawful Out 69 asks.payload (lit≤ tt, lit≤ tt) request_spelled.0 (lit≤ tt)) (lawful In 41000 (block k (codes "hi")) (lit≤ tt, lit≤ tt) bytes (lit≤ tt)) (lawful Out 41000 acknowledges.payload (lit≤ tt, lit≤ tt) (bytes_are acknowledges.payload refl) (lit≤ tt)))
     (three NamesNoHost k refl refl refl)
     (subst (λ t. length t ≤ 2 ^ 40) (sym is) short))
 
 pub read_said : IsCapture worked_text worked_header (numbered 4 (read_of 1))
 unfolding digits encode_with
-read_said = said 1 worked_text (data_spells 1 (codes "hi") refl).0 refl (lit≤ tt)
+read_said = said 1 worked_text (bytes_are (block 1 (codes "hi")) refl) refl (lit≤ tt)
 
 pub overrun_said : IsCapture overrun_text worked_header (numbered 4 (read_of 2))
 unfolding digits encode_with
-overrun_said = said 2 overrun_text (data_spells 2 (codes "hi") refl).0 refl (lit≤ tt)
+overrun_said = said 2 overrun_text (bytes_are (block 2 (codes "hi")) refl) refl (lit≤ tt)
 
 -- ---- a first line that is of no version
 

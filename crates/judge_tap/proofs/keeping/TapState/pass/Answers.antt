@@ -14,7 +14,7 @@ returns-clause-finds g c = λ s earlier apart lawful has.
     let stands = subst (λ (k : KnownWays). StandsForTap k s earlier) (sym (ap (λ (k : TapState). k.ports) c.self-2.view_is ∙ c.pass_by.ensures.ports)) has.ports in
     let before = subst (λ (k : KnownWays). StandsForTap k s earlier) (sym (ap (λ (k : TapState). k.ports) c.self.view_is)) has.ports in
     let route = c.route-route.ensures s earlier d.payload before (sym (c.opcode-number.ensures ∙ ap opcode_of c.as_slice.ensures)) in
-    let told = c.in_ok-pass_by.ensures.finds s earlier apart lawful has.kept (ap (λ (x : TapSides). x.rollover) before.sides) route in (
+    let told = c.in_ok-pass_by.ensures.finds s earlier apart lawful has.kept (ap (λ (x : TapSides). x.rollover) has.ports.sides) route in (
       told.0,
       record {
         ports = c.in_ok-note.ensures.ok s earlier d.payload stands;

@@ -10,7 +10,7 @@ use Rattle.judge_tap.proofs.transfer.TapTransfer.begin.Goals as goal
 
 pub returns-clause-ok : goal.returns-clause-ok
 returns-clause-ok g c = λ s d apart service follows source says noted recorded passes.
-    let end : c.receiver_of_file.result ≡ receiver_of c.args.asked.side = c.receiver_of_file.ensures ∙ ap receiver_of c.side.ensures in
+    let end : c.receiver_of_file-end.result ≡ receiver_of c.args.asked.side = c.receiver_of_file-end.ensures ∙ ap receiver_of c.side.ensures in
     let asks = asks_says d.payload (Message.Request c.args.asked) says in
     record {
       asked = asked_first s d c.args.asked source says;
