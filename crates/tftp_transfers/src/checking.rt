@@ -1,31 +1,24 @@
 //! The verdict on each transfer of recordings.
 
 use crate::PROGRAM;
-use crate::reading::tell_session;
+use crate::reading::read_file;
+use crate::teller::{Teller, What};
 use anyhow::Result;
 use audit_recording::judges::Judging;
-use audit_recording::session::{Kept, Session, Wanted, told};
-use std::io;
-use std::io::Write;
-use tftp_rows::{Form, Teller};
+use audit_recording::session::{Kept, Session, Wanted, tell_asked, tell_notes, told};
 use tftp_words::{CheckRequest, Point};
 
-/// Judges the transfers of recordings. A recording that can't be read does not end it. The status is 3 where nothing else is to
-/// be told by it, and a file had no transfer to judge.
+/// Judges the transfers of recordings. A recording that can't be read does not end it.
 pub fn check(rt: HostRuntime, asked: &CheckRequest<'_>) -> Result<u8> {
-    let mut teller = Teller::new(rt.alloc(), io::writer(&rt), form_of(asked));
-    let mut has_none = false;
+    let width = widest(asked.files.as_slice());
+    let mut teller = Teller::new(rt.alloc(), What::Check, asked.json, width);
     for file in asked.files.iter() {
         let checked = check_file(rt, *file, asked, &mut teller);
-        match told(rt, PROGRAM, *file, checked)? {
-            Some(()) => has_none = has_none || teller.told == 0,
-            None => teller.status = 2,
+        if told(rt, PROGRAM, *file, checked)?.is_none() {
+            teller.status = 2;
         }
     }
-    if teller.status == 0 && has_none {
-        return Ok(3);
-    }
-    Ok(teller.status)
+    Ok(teller.verdict_status())
 }
 
 /// Where transfers are judged, where the recordings were made there, if that is said.
@@ -38,23 +31,19 @@ fn judging_at(point: Option<Point>) -> Judging {
     }
 }
 
-/// How the rows are printed: the column of files is as wide as the longest name.
-fn form_of(asked: &CheckRequest<'_>) -> Form {
-    if asked.json {
-        return Form::Json;
-    }
+fn widest(files: &[&str]) -> usize {
     let mut widest = 4;
-    for file in asked.files.iter() {
+    for file in files {
         widest = widest.max(file.len());
     }
-    Form::Words(widest)
+    widest
 }
 
-fn check_file<'a, W: Write + Drop>(
+fn check_file<'a>(
     rt: HostRuntime,
     file: &'a str,
     asked: &CheckRequest<'_>,
-    teller: &mut Teller<'a, W>,
+    teller: &mut Teller<'a>,
 ) -> Result<()> {
     let (services, judging) = (asked.services.as_slice(), judging_at(asked.end));
     let kept = Kept::new(rt.alloc(), Wanted::Nothing);
@@ -63,4 +52,25 @@ fn check_file<'a, W: Write + Drop>(
     let told = tell_session(rt, file, &mut session, teller);
     session.let_go();
     told
+}
+
+/// Reads a recording, and tells all that there is to tell of it.
+pub fn tell_session(
+    rt: HostRuntime,
+    file: &str,
+    session: &mut Session,
+    teller: &mut Teller<'_>,
+) -> Result<()> {
+    let read = read_file(rt, file, session, teller);
+    teller.tell_held(rt, session)?;
+    read?;
+    teller.tell_all(rt, session)?;
+    tell_notes(rt, PROGRAM, file, &session.notes)?;
+    if !session.notes.is_whole() {
+        teller.status = 2;
+    }
+    if teller.told == 0 {
+        tell_asked(rt, PROGRAM, file, &session.notes)?;
+    }
+    teller.tell_none(rt, PROGRAM)
 }

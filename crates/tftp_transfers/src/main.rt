@@ -2,11 +2,10 @@
 #![tactic(auto)]
 
 mod checking;
-mod lister;
 mod listing;
 mod reading;
 mod reasoned;
-mod telling;
+mod teller;
 mod texts;
 
 use crate::checking::check;
