@@ -155,6 +155,7 @@ first_stands = record {
     begins = refl;
     are = refl;
     port = (lit≤ tt, lit≤ tt);
+    plain = refl;
     each = ((refl, first_datagram_said), tt);
   };
   short = lit≤ tt;
