@@ -44,7 +44,7 @@ impl Reading {
     /// Feeds a judge that has not yet accepted 2^40 datagrams.
     fn feed(&mut self, alloc: Global, dir: Dir, payload: &[u8]) -> Result<(), Fail> {
         let datagram = datagram(alloc, dir, payload)?;
-        if self.judge.fed() >= 1 << 40 || payload.len() > 512 {
+        if self.judge.fed() >= 1 << 40 || datagram.payload.as_slice().len() > 65_527 {
             return Err(Fail::new("too much"));
         }
         let _ = match self.rollover {
