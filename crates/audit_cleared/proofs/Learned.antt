@@ -85,10 +85,10 @@ asks = (
 
 pub brings : Spells (data_of 1) (Message.Data 1 (block (blksize_of read_five) read_five.file 1))
 brings = subst (λ size. Spells (data_of 1) (Message.Data 1 (block size read_five.file 1))) (sym (default_blksize read_five refl))
-    (bytes_are (data_of 1) refl, (0, 1, (omega arith, omega arith, omega arith), refl))
+    (bytes_are (0 ∷ 3 ∷ 1 ∷ 5 ∷ []) refl, (0, 1, (omega arith, omega arith), refl))
 
 acknowledges : Spells (ack_of 1) (Message.Ack 1)
-acknowledges = (bytes_are (ack_of 1) refl, (0, 1, (omega arith, omega arith, omega arith), refl))
+acknowledges = (bytes_are (0 ∷ 4 ∷ 1 ∷ []) refl, (0, 1, (omega arith, omega arith), refl))
 
 -- ---- how it is carried
 
