@@ -79,13 +79,13 @@ def drawn(chance: random.Random, seed: int) -> bytes:
         return chance.choice(sorted(EXAMPLES.glob("*.pcap"))).read_bytes()
     if kind < 0.7:
         return chance.choice((made_pcap, made_pcapng))(chance).file
-    recording = chance.choice(list(world_of(seed, tuple(KINDS)).recordings()))
-    return framed(recording, drawn_frame_kinds(seed), seed).file
+    recordings = list(world_of(seed, tuple(KINDS)).recordings())
+    return framed(chance.choice(recordings), drawn_frame_kinds(seed), seed).file if recordings else made_pcap(chance).file
 
 
 def why_wrong(ended: Ended) -> str:
     """What is not as it should be, or nothing. A program that panics or finds no memory ends by a signal."""
-    if ended.status not in (0, 1, 2):
+    if ended.status not in (0, 1, 2, 3):
         return f"status {ended.status}, {ended.errors}"
     return "nothing is said of status 2" if ended.status == 2 and not ended.errors else ""
 
