@@ -206,7 +206,7 @@ impl Judged {
     }
 
     /// Why what a row tells is doubtful, and whom it accuses. Where no reason is listed it takes no memory, so that an accusation
-    /// is told whatever memory there is.
+    /// is known whatever memory there is.
     pub fn charge(&self, alloc: Global, told: &Told<'_>) -> Result<Charge, AllocError>
         ensures charged { (judging : JudgingKind) (x : Transfer) (named : List ℕ) (carried : List Carried) → IsJudgedOf self.now judging x named carried
             → IfOk result (λ charge. IsChargeOf charge x (whole_of named carried) self.now.doubted told.now.telling told.now.view.now) }

@@ -1,3 +1,5 @@
 pub mod VerdictLines
 pub mod FoundLines
 pub mod TimesLemmas
+pub mod PrintingLemmas
+pub mod TellingLemmas

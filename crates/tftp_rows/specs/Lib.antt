@@ -7,6 +7,8 @@ pub mod Times
 pub mod Verdicts
 pub mod Rows
 pub mod Objects
+pub mod Printing
+pub mod Telling
 pub mod Worked
 pub use Cells.{cell}
 pub use Endings.{before_text, ended_text, fault_text}

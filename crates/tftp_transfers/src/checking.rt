@@ -1,24 +1,31 @@
 //! The verdict on each transfer of recordings.
 
 use crate::PROGRAM;
-use crate::reading::read_file;
-use crate::teller::{Teller, What};
+use crate::reading::tell_session;
 use anyhow::Result;
 use audit_recording::judges::Judging;
-use audit_recording::session::{Kept, Session, Wanted, tell_asked, tell_notes, told};
+use audit_recording::session::{Kept, Session, Wanted, told};
+use std::io;
+use std::io::Write;
+use tftp_rows::{Form, Teller};
 use tftp_words::{CheckRequest, Point};
 
-/// Judges the transfers of recordings. A recording that can't be read does not end it.
+/// Judges the transfers of recordings. A recording that can't be read does not end it. The status is 3 where nothing else is to
+/// be told by it, and a file had no transfer to judge.
 pub fn check(rt: HostRuntime, asked: &CheckRequest<'_>) -> Result<u8> {
-    let width = widest(asked.files.as_slice());
-    let mut teller = Teller::new(rt.alloc(), What::Check, asked.json, width);
+    let mut teller = Teller::new(rt.alloc(), io::writer(&rt), form_of(asked));
+    let mut has_none = false;
     for file in asked.files.iter() {
         let checked = check_file(rt, *file, asked, &mut teller);
-        if told(rt, PROGRAM, *file, checked)?.is_none() {
-            teller.status = 2;
+        match told(rt, PROGRAM, *file, checked)? {
+            Some(()) => has_none = has_none || teller.told == 0,
+            None => teller.status = 2,
         }
     }
-    Ok(teller.verdict_status())
+    if teller.status == 0 && has_none {
+        return Ok(3);
+    }
+    Ok(teller.status)
 }
 
 /// Where transfers are judged, where the recordings were made there, if that is said.
@@ -31,19 +38,23 @@ fn judging_at(point: Option<Point>) -> Judging {
     }
 }
 
-fn widest(files: &[&str]) -> usize {
+/// How the rows are printed: the column of files is as wide as the longest name.
+fn form_of(asked: &CheckRequest<'_>) -> Form {
+    if asked.json {
+        return Form::Json;
+    }
     let mut widest = 4;
-    for file in files {
+    for file in asked.files.iter() {
         widest = widest.max(file.len());
     }
-    widest
+    Form::Words(widest)
 }
 
-fn check_file<'a>(
+fn check_file<'a, W: Write + Drop>(
     rt: HostRuntime,
     file: &'a str,
     asked: &CheckRequest<'_>,
-    teller: &mut Teller<'a>,
+    teller: &mut Teller<'a, W>,
 ) -> Result<()> {
     let (services, judging) = (asked.services.as_slice(), judging_at(asked.end));
     let kept = Kept::new(rt.alloc(), Wanted::Nothing);
@@ -52,25 +63,4 @@ fn check_file<'a>(
     let told = tell_session(rt, file, &mut session, teller);
     session.let_go();
     told
-}
-
-/// Reads a recording, and tells all that there is to tell of it.
-pub fn tell_session(
-    rt: HostRuntime,
-    file: &str,
-    session: &mut Session,
-    teller: &mut Teller<'_>,
-) -> Result<()> {
-    let read = read_file(rt, file, session, teller);
-    teller.tell_held(rt, session)?;
-    read?;
-    teller.tell_all(rt, session)?;
-    tell_notes(rt, PROGRAM, file, &session.notes)?;
-    if !session.notes.is_whole() {
-        teller.status = 2;
-    }
-    if teller.told == 0 {
-        tell_asked(rt, PROGRAM, file, &session.notes)?;
-    }
-    teller.tell_none(rt, PROGRAM)
 }

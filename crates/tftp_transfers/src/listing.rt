@@ -1,7 +1,7 @@
 //! The transfers of a recording, a line each.
 
-use crate::checking::tell_session;
-use crate::teller::{Teller, What};
+use crate::lister::Lister;
+use crate::reading::tell_session;
 use anyhow::Result;
 use audit_recording::blame::{Trail, Undelivered};
 use audit_recording::judges::Judging;
@@ -51,11 +51,11 @@ pub fn list(rt: HostRuntime, asked: &ListRequest<'_>) -> Result<u8> {
     let services = asked.services.as_slice();
     let kept = Kept::new(rt.alloc(), Wanted::Nothing);
     let mut session = Session::new(rt.alloc(), services, Judging::Nowhere, kept)?;
-    let mut teller = Teller::new(rt.alloc(), What::List, asked.json, 0);
-    let told = tell_session(rt, asked.file, &mut session, &mut teller);
+    let mut lister = Lister::new(asked.json);
+    let told = tell_session(rt, asked.file, &mut session, &mut lister);
     session.let_go();
     told?;
-    Ok(teller.status)
+    Ok(lister.status)
 }
 
 impl ListRow {

@@ -2,10 +2,11 @@
 #![tactic(auto)]
 
 mod checking;
+mod lister;
 mod listing;
 mod reading;
 mod reasoned;
-mod teller;
+mod telling;
 mod texts;
 
 use crate::checking::check;

@@ -1,0 +1,30 @@
+use Rattle.std.proofs.Common.{◌∙◌}
+use Rattle.tftp_rows.proofs.TellingLemmas.{missing_there, numbered, told_with}
+use Rattle.tftp_rows.proofs.teller.Teller.tell_oldest.Goals as goal
+
+pub returns-in_default-clause-all : goal.returns-in_default-clause-all
+returns-in_default-clause-all g c named out history carried s is e = c.pop.ensures.all named out history carried s is c.in_default.is
+
+pub returns-in_default-clause-same_session : goal.returns-in_default-clause-same_session
+returns-in_default-clause-same_session g c named out history carried s is e = c.pop.ensures.none named out history carried s is c.in_default.is
+
+pub returns-clause-told : goal.returns-clause-told
+returns-clause-told g c named out history carried s is e =
+    let watched = c.in-Some.ensures.watched named out history carried s is in
+    let stands = c.in-Some.ensures.stands named out history carried s is in
+    let rows = c.in_ok-tell_judged.ensures.rows in
+    record {
+      transfer = c.in-Some.ended.watched.transfer;
+      next = record {
+        opens = watched.0;
+        first_time = c.in-Some.ensures.once named out history carried s is;
+        oldest = λ n opened left. c.in-Some.ensures.first named out history carried s n is opened left;
+      };
+      judged = c.new-judged.result;
+      of = c.new-judged.ensures.judged _ _ named carried (c.in-Some.ensures.trail named out history carried s is) watched.1;
+      missing = missing_there c.new-judged.result c.in-Some.ended.trail c.missing_of-missing.result s c.new-judged.ensures.trail c.new-judged.ensures.missing (c.missing_of-missing.ensures.first s stands.notes);
+      rows = numbered g.W.Write.contents c.args.self.now c.tell_judged.new.self c.saturating_add-self.result _ _ rows;
+      number = told_with g.W.Write.contents c.args.self.now c.tell_judged.new.self c.saturating_add-self.result _ _ rows ∙ c.saturating_add-self.ensures;
+      status = c.in_ok-tell_judged.ensures.status;
+      handed_out = stands;
+    }

@@ -1,0 +1,46 @@
+//! What tells the transfers of a recording, while it is read.
+
+use anyhow::Result;
+use audit_recording::session::Session;
+use std::io::Write;
+use tftp_rows::Teller;
+
+/// Tells transfers, each as soon as nothing that comes later changes what is told of it.
+pub trait Telling {
+    /// Tells the transfers of which all is known, from the oldest on.
+    fn tell_over(&mut self, rt: HostRuntime, session: &mut Session) -> Result<()>;
+
+    /// Tells what was held back, where the recording is read no further.
+    fn tell_held(&mut self, rt: HostRuntime, session: &Session) -> Result<()>;
+
+    /// Tells all transfers that were not told, where the recording has ended.
+    fn tell_all(&mut self, rt: HostRuntime, session: &mut Session) -> Result<()>;
+
+    /// How many transfers of the file were told.
+    fn told(&self) -> u64;
+
+    /// The recording was not read whole.
+    fn fail(&mut self);
+}
+
+impl<W: Write + Drop> Telling for Teller<'_, W> {
+    fn tell_over(&mut self, rt: HostRuntime, session: &mut Session) -> Result<()> {
+        Ok(Teller::tell_over(self, rt.alloc(), session)?)
+    }
+
+    fn tell_held(&mut self, rt: HostRuntime, session: &Session) -> Result<()> {
+        Ok(Teller::tell_held(self, rt.alloc(), session.notes.dropped)?)
+    }
+
+    fn tell_all(&mut self, rt: HostRuntime, session: &mut Session) -> Result<()> {
+        Ok(Teller::tell_all(self, rt.alloc(), session)?)
+    }
+
+    fn told(&self) -> u64 {
+        self.told
+    }
+
+    fn fail(&mut self) {
+        self.status = 2;
+    }
+}
