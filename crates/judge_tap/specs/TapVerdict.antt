@@ -25,11 +25,11 @@ IsWholeThere s tapped =
 
 -- Memory is wanting, after all datagrams, only where they are a whole transfer. What is not lawful was refused before.
 abbrev pub IsTapVerdict : TapSides → List TapDatagram → Result Meaning TapRefusal → Type 0
-IsTapVerdict s tapped (Ok m) = IsLawfulBetween s tapped × IsShown s tapped m × IsWritable m
+IsTapVerdict s tapped (Ok m) = IsLawfulBetween s tapped × IsShown s tapped m × IsWritable s.rollover m
 IsTapVerdict s tapped (Err (Unlawful index rule)) = ⊥
 IsTapVerdict s tapped (Err (Aborted end code)) = IsLawfulBetween s tapped × NoneShown s tapped × FirstErrorBy (IsErrorAtTap s) (transfer_between s tapped) end code
 IsTapVerdict s tapped (Err (Incomplete count)) = IsLawfulBetween s tapped × NoneShown s tapped × NoErrorBy (IsErrorAtTap s) (transfer_between s tapped) × (count ≡ length tapped)
-IsTapVerdict s tapped (Err NormalTooLong) = IsLawfulBetween s tapped × ((m : Meaning) × IsShown s tapped m) × ((m : Meaning) → IsShown s tapped m → IsWritable m → ⊥)
+IsTapVerdict s tapped (Err NormalTooLong) = IsLawfulBetween s tapped × ((m : Meaning) × IsShown s tapped m) × ((m : Meaning) → IsShown s tapped m → IsWritable s.rollover m → ⊥)
 IsTapVerdict s tapped (Err (Memory count)) = IsLawfulBetween s tapped × IsWholeThere s tapped × (count ≡ length tapped)
 
 -- ---- of what is said at the end that gets the file

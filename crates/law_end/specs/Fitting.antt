@@ -1,5 +1,5 @@
 -- Which wire carries the file of a meaning (RFC 1350, section 1 and section 6; RFC 2349).
-use Rattle.std.specs.Prelude.{◌≡◌, ℕ, ◌≤◌, List, length, Option, Some, None, codes}
+use Rattle.std.specs.Prelude.{◌≡◌, ℕ, ◌≤◌, List, length, Option, Some, codes}
 use Rattle.std.specs.FinMap as map
 use Rattle.tftp_packet.specs.{Num, Mode, Octet, Netascii}
 use Rattle.tftp_packet.specs.{Rollover}
@@ -30,6 +30,6 @@ abbrev pub written_wire : Mode → List ℕ → List ℕ
 written_wire Octet file = file
 written_wire Netascii file = canonical_wire file
 
--- The normal text is written without a rollover, so its blocks are numbered by two bytes.
-abbrev pub IsWritable : Meaning → Type 0
-IsWritable m = block_count (blksize_of m) (written_wire m.mode m.file) ≤ greatest_of None
+-- the blocks of that wire are numbered up to the greatest too
+abbrev pub IsWritable : Option Rollover → Meaning → Type 0
+IsWritable rollover m = block_count (blksize_of m) (written_wire m.mode m.file) ≤ greatest_of rollover

@@ -22,7 +22,7 @@ pub record ShowsBy (header : Header) (m : Meaning) (wire : List ℕ) (datagrams 
   pub complete : IsComplete m wire header.named seen.view
 
 pub record Shows (header : Header) (m : Meaning) (datagrams : List Datagram) : Type 0 where
-  pub writable : IsWritable m
+  pub writable : IsWritable header.rollover m
   pub wire : List ℕ
   pub shown : ShowsBy header m wire datagrams
 

@@ -25,7 +25,7 @@ pub use Aborted.{FirstError, FirstErrorBy, IsAborted, IsErrorBy, IsFirstError, I
 pub use Owned.{meaning_from}
 pub use Accord.{Accords, AreRouted, AreRoutedBy, SaysAs, SaysAsBy, Stands, Starts, packet_route, label_route, request_at, request_back}
 pub use Divisions.{Divides, FindPlaces, FindsPlace, packet_in, says_some}
-pub use Writable.{CanBeWritten, HasPayload, blocks_of, wire_of}
+pub use Writable.{CanBeNumbered, CanBeWritten, HasPayload, blocks_of, wire_of}
 pub use declared.aborted_by.AbortedBy.{AbortedBy}
 pub use declared.aborted_by.AbortedBy.TheVariants.{Local, Peer}
 pub use declared.rule.Rule.{Rule}

@@ -1,13 +1,13 @@
 //! Laws of the definitions in `specs/`. Each is the contract of a function that does nothing.
 
-ghost use Rattle.std.specs.Prelude.{◌≡◌, ◌≢◌, ◌≤◌, ◌↔◌, ◌⊎◌, ℕ, List, [], ◌∷◌, ◌++◌, All, Option, length};
+ghost use Rattle.std.specs.Prelude.{◌≡◌, ◌≢◌, ◌≤◌, ◌↔◌, ◌⊎◌, ℕ, List, [], ◌∷◌, ◌++◌, All, None, Option, length};
 ghost use Rattle.tftp_packet.specs.{Mode, OptionMap, no_options, RequestParts, In, Out};
 ghost use Rattle.tftp_nego.specs.{MayAgree, Holds, NegoFault};
 ghost use Rattle.tftp_packet.specs.{Rollover};
 ghost use Rattle.law_model.specs.Model.{Meaning};
 ghost use Rattle.tftp_packet.specs.Hosts.{Datagram, Header};
-ghost use Rattle.law_end.specs.Fitting.{ReadsAs, carried_file};
-ghost use Rattle.law_end.specs.Writable.{CanBeWritten};
+ghost use Rattle.law_end.specs.Fitting.{IsWritable, ReadsAs, carried_file};
+ghost use Rattle.law_end.specs.Writable.{CanBeNumbered, CanBeWritten};
 ghost use Rattle.law_end.specs.Law.{Shows, IsLawful, IsLawfulUpTo};
 ghost use Rattle.law_end.specs.Rules.{number_of, FirstBroken};
 ghost use Rattle.law_end.specs.declared.rule.Rule.{Rule};
@@ -98,5 +98,11 @@ pub fn first_unlawful_datagram_is_one()
 /// Whatever a capture shows can be written, where no payload is longer than a packet of UDP holds.
 pub fn shown_meaning_can_be_written()
     ensures { (h : Header) (m : Meaning) (datagrams : List Datagram) → All (λ (d : Datagram). length d.payload ≤ 65527) datagrams
-        → Shows h m datagrams → CanBeWritten m }
+        → Shows h m datagrams → CanBeWritten h.rollover m }
+{}
+
+/// What can be written with numbers that begin again can be written without, where it has few enough blocks.
+#[tactic(auto, using(crate::proofs::Written::Written::by_two_bytes))]
+pub fn few_blocks_need_no_rollover()
+    ensures { (m : Meaning) → CanBeNumbered m → IsWritable None m → CanBeWritten None m }
 {}

@@ -62,7 +62,7 @@ fn is_written(
 /// What `judge_text` answers to a text.
 fn verdict_of(rt: &HostRuntime, text: &[u8]) -> Result<Meaning, Verdict> {
     let mut reader = Latched::new(DripReader::new(text, usize::MAX, 0, None));
-    judge_text(rt.alloc(), &mut reader)
+    judge_text(rt.alloc(), None, &mut reader)
 }
 
 /// Whether `normal_capture` writes this for the meaning of a text, and `normal_count` counts so many.

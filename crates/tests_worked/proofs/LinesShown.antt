@@ -41,7 +41,7 @@ module _ (wire : List ℕ) (reads : Reads wire line_end_cut.file) (two : block_c
     numbered = omega (arith, ap (λ b. block_count b wire) blocks_of_eight, two);
   }
 
-  writable : IsWritable line_end_cut
+  writable : IsWritable None line_end_cut
   writable = omega (arith, ap (λ b. block_count b (codes "abcdefg" ++ 13 ∷ 10 ∷ codes "h")) blocks_of_eight)
 
   run : IsView line_end_cut wire Client ten_bytes_view

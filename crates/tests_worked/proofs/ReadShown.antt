@@ -2,6 +2,7 @@
 use Rattle.std.proofs.Common.{◌≡◌, ◌≢◌, ℕ, ◌≤◌, ◌&&◌, true, List, [], ◌∷◌, ◌++◌, codes, reverse, inl, inr, refl, sym, subst, ap, ◌∙◌, arith, None}
 use Rattle.tftp_packet.specs.{Message, Client, Server}
 use Rattle.tftp_packet.specs.Hosts.{Datagram, Header}
+use Rattle.tftp_packet.proofs.RoundsLemmas.Greatest.{two_bytes_within}
 use Rattle.law_model.specs.Model.{Meaning, NothingAgreed, blksize_of, block_count, Deed, Sent, Took, Req, Data, Ack, History, HasSent, HasTaken, Step, IsView, IsComplete, two_bytes, two_bytes_view}
 use Rattle.law_model.specs.Model.Machines.{receiver_of}
 use Rattle.law_model.proofs.ModelLemmas.Members.{contains_first, contains_cases, contains_none}
@@ -37,7 +38,7 @@ dressed_begin = read_dressed (plain_hi ∷ []) without_ack read_without_its_ack 
 
 -- what a view of the two bytes shows that is dressed so
 pub two_shown : (h : Header) (view : History) (ds : List Datagram) → IsView two_bytes two_bytes.file h.named view → IsComplete two_bytes two_bytes.file h.named view → IsDressed h two_bytes two_bytes.file view ds → Shows h two_bytes ds
-two_shown h view ds run complete = shown_by h two_bytes two_bytes.file view ds (two_bytes_fit h.rollover) (omega (arith, one_block)) run complete
+two_shown h view ds run complete = shown_by h two_bytes two_bytes.file view ds (two_bytes_fit h.rollover) (let least = two_bytes_within h.rollover in omega (arith, one_block, least)) run complete
 
 pub read_is_shown : Shows at_client two_bytes one_block_read
 read_is_shown = two_shown at_client two_bytes_view one_block_read two_bytes_is_view two_bytes_complete dressed_read

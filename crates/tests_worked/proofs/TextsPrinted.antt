@@ -1,5 +1,5 @@
 -- What the commands write of the worked texts.
-use Rattle.std.proofs.Common.{◌≡◌, ℕ, ◌+◌, ◌++◌, true, false, List, [], Ok, Err, codes, decimal, inl, refl, sym, ap, ◌∙◌, ◌↔◌}
+use Rattle.std.proofs.Common.{◌≡◌, ℕ, ◌+◌, ◌++◌, true, false, List, [], Ok, Err, codes, decimal, inl, refl, sym, ap, ◌∙◌, ◌↔◌, None}
 use Rattle.std.proofs.lemmas.Bool.{false≢true}
 use Rattle.std.specs.Ordering.{nat_cmp}
 use Rattle.std.specs.Cmp.Lexicographic.{slice_cmp}
@@ -28,13 +28,13 @@ use Rattle.tests_worked.proofs.TextVerdicts.{read_accepted, overrun_refused_at, 
 pub no_failure : {P : Type 0} → (P → ⊥) → P ↔ (false ≡ true)
 no_failure none = (λ p. absurd (none p), λ e. absurd (false≢true e))
 
-read_judged : IsJudged (given worked_text) (Ok two_bytes)
+read_judged : IsJudged None (given worked_text) (Ok two_bytes)
 read_judged = record { is_said = read_accepted; at_end = λ _. refl; failed = no_failure (λ p. p) }
 
-overrun_judged : IsJudged (given overrun_text) (Err (Refused (Unlawful 2 (Rule.Block EndRule.WindowOverrun))))
+overrun_judged : IsJudged None (given overrun_text) (Err (Refused (Unlawful 2 (Rule.Block EndRule.WindowOverrun))))
 overrun_judged = record { is_said = overrun_refused_at; at_end = λ none. absurd none; failed = no_failure (λ p. p) }
 
-unversioned_judged : IsJudged (given unversioned_text) (Err (Capture (Text 1 BadHeader)))
+unversioned_judged : IsJudged None (given unversioned_text) (Err (Capture (Text 1 BadHeader)))
 unversioned_judged = record { is_said = no_version_faulty; at_end = λ _. refl; failed = no_failure (λ p. p) }
 
 -- ---- check
@@ -47,14 +47,14 @@ line_of_read : with_success (line_by 1) ≡ with_success (line (codes "accepted 
 unfolding digits
 line_of_read = refl
 
-pub read_checked : IsChecked (given worked_text) (with_success (line (codes "accepted get octet blocks 1 bytes 2")))
+pub read_checked : IsChecked None (given worked_text) (with_success (line (codes "accepted get octet blocks 1 bytes 2")))
 read_checked = record { said = Ok two_bytes; judged = read_judged; is = sym (ap (λ n. with_success (line_by n)) one_block ∙ line_of_read) }
 
-pub overrun_checked : IsChecked (given overrun_text) (with_refusal (line (codes "refused datagram 2 rule 22 WindowOverrun")))
+pub overrun_checked : IsChecked None (given overrun_text) (with_refusal (line (codes "refused datagram 2 rule 22 WindowOverrun")))
 unfolding digits
 overrun_checked = record { said = Err (Refused (Unlawful 2 (Rule.Block EndRule.WindowOverrun))); judged = overrun_judged; is = refl }
 
-pub unversioned_checked : IsChecked (given unversioned_text) (with_fault (line (codes "fault line 1 BadHeader")))
+pub unversioned_checked : IsChecked None (given unversioned_text) (with_fault (line (codes "fault line 1 BadHeader")))
 unfolding digits
 unversioned_checked = record { said = Err (Capture (Text 1 BadHeader)); judged = unversioned_judged; is = refl }
 
@@ -88,7 +88,7 @@ read_shown = record {
 
 -- ---- extract, normal and count
 
-pub read_extracted : IsExtracted (given worked_text) (with_success (codes "hi"))
+pub read_extracted : IsExtracted None (given worked_text) (with_success (codes "hi"))
 read_extracted = record { said = Ok two_bytes; judged = read_judged; is = refl }
 
 pub read_normalised : IsNormalised (given worked_text) (with_success two_bytes_text)
@@ -106,5 +106,5 @@ line_of_count : with_success (counted_by 3) ≡ with_success (line (codes "norma
 unfolding digits
 line_of_count = refl
 
-pub read_counted : IsCounted (given worked_text) (with_success (line (codes "normal datagrams 3")))
+pub read_counted : IsCounted None (given worked_text) (with_success (line (codes "normal datagrams 3")))
 read_counted = record { said = Ok two_bytes; judged = read_judged; is = sym (ap (λ n. with_success (counted_by n)) three ∙ line_of_count) }

@@ -1,7 +1,7 @@
 //! Worked cases of whole texts: what there is to say of each, and what the commands write of it. Each is the
 //! contract of a function that does nothing.
 
-ghost use Rattle.std.specs.Prelude.{[], ◌∷◌, ◌++◌, false, Ok, Err, codes};
+ghost use Rattle.std.specs.Prelude.{[], ◌∷◌, ◌++◌, false, None, Ok, Err, codes};
 ghost use Rattle.net_streams.specs.Digits.{AreNibbles, IsNibble};
 ghost use Rattle.tftp_capture.specs.{line, worked_text, BadHeader};
 ghost use Rattle.tftp_capture.specs.declared.fault.CaptureFault.TheVariants.{Text};
@@ -23,9 +23,9 @@ pub fn texts_have_their_verdicts()
 
 /// What `check` prints of each, where the text was read whole.
 pub fn texts_are_checked()
-    ensures accepted { IsChecked (given worked_text) (with_success (line (codes "accepted get octet blocks 1 bytes 2"))) }
-    ensures refused { IsChecked (given overrun_text) (with_refusal (line (codes "refused datagram 2 rule 22 WindowOverrun"))) }
-    ensures fault { IsChecked (given unversioned_text) (with_fault (line (codes "fault line 1 BadHeader"))) }
+    ensures accepted { IsChecked None (given worked_text) (with_success (line (codes "accepted get octet blocks 1 bytes 2"))) }
+    ensures refused { IsChecked None (given overrun_text) (with_refusal (line (codes "refused datagram 2 rule 22 WindowOverrun"))) }
+    ensures fault { IsChecked None (given unversioned_text) (with_fault (line (codes "fault line 1 BadHeader"))) }
 {}
 
 /// What `show` prints of the read, where no write failed: a line for each datagram.
@@ -37,7 +37,7 @@ pub fn read_is_shown_by_lines()
 /// What `extract` writes of the read is its file.
 #[tactic(auto, using(crate::proofs::TextsPrinted::read_extracted))]
 pub fn file_of_the_read_is_extracted()
-    ensures { IsExtracted (given worked_text) (with_success (codes "hi")) }
+    ensures { IsExtracted None (given worked_text) (with_success (codes "hi")) }
 {}
 
 /// What `normal` writes of the read is the same capture between the ports 50000 and 50001.
@@ -49,15 +49,15 @@ pub fn read_is_normalised()
 /// What `count` prints of the read: its normal capture has as many datagrams as it has.
 #[tactic(auto, using(crate::proofs::TextsPrinted::read_counted))]
 pub fn read_is_counted()
-    ensures { IsCounted (given worked_text) (with_success (line (codes "normal datagrams 3"))) }
+    ensures { IsCounted None (given worked_text) (with_success (line (codes "normal datagrams 3"))) }
 {}
 
 /// Of a read in netascii `extract` writes the file, in which LF alone ends a line; `normal` writes a line end by CR LF,
 /// and of this text itself.
 pub fn lines_are_read_as_their_file()
     ensures verdict { IsTextVerdict lines_text (Ok line_end_cut) }
-    ensures checked { IsChecked (given lines_text) (with_success (line (codes "accepted get netascii blocks 2 bytes 9"))) }
-    ensures extracted { IsExtracted (given lines_text) (with_success (codes "abcdefg" ++ 10 ∷ codes "h")) }
+    ensures checked { IsChecked None (given lines_text) (with_success (line (codes "accepted get netascii blocks 2 bytes 9"))) }
+    ensures extracted { IsExtracted None (given lines_text) (with_success (codes "abcdefg" ++ 10 ∷ codes "h")) }
     ensures normalised { IsNormalised (given lines_text) (with_success lines_text) }
 {}
 

@@ -1,5 +1,5 @@
 -- When a transfer is whole by what the named end keeps.
-use Rattle.std.proofs.Common.{◌≡◌, ◌↔◌, ◌⊎◌, ℕ, ◌+◌, ◌*◌, ◌/◌, ◌<◌, ◌≤◌, zero, suc, List, [], ◌∷◌, length, All, Option, Some, None, Ok, Err, codes, inl, inr, refl, sym, subst, ap, ◌∙◌, arith, reverse}
+use Rattle.std.proofs.Common.{◌≡◌, ◌↔◌, ◌⊎◌, ℕ, ◌+◌, ◌*◌, ◌/◌, ◌≤◌, zero, suc, List, [], ◌∷◌, length, All, Option, Some, None, Ok, Err, codes, inl, inr, refl, sym, subst, ap, ◌∙◌, arith, reverse}
 use Rattle.std.specs.FinMap as map
 use Rattle.std.proofs.lemmas.List.{reverse-reverse, length-reverse}
 use Rattle.std.proofs.lemmas.List.Elements.{All-from_recursion, recursion_from_All}
@@ -203,31 +203,31 @@ pub held_file : (held other : Held) (mode wanted : Mode) (file : List ℕ) → h
 held_file held other mode wanted file is same holds = subst (λ x. HoldsFile x wanted file) is (subst (λ x. HoldsFile held x file) same holds)
 
 -- the blocks of a file fit by its length
-pub fits_by : (mode wanted : Mode) (size : ℕ) (agreed : OptionMap) (file written : List ℕ) → mode ≡ wanted → size ≡ option_or 512 agreed (codes "blksize") → file ≡ written
-    → (length (written_wire mode file) / size + 1 ≤ 65535) ↔ (length (written_wire wanted written) / option_or 512 agreed (codes "blksize") + 1 ≤ 65535)
-fits_by mode wanted size agreed file written is sized same =
+pub fits_by : (greatest : ℕ) (mode wanted : Mode) (size : ℕ) (agreed : OptionMap) (file written : List ℕ) → mode ≡ wanted → size ≡ option_or 512 agreed (codes "blksize") → file ≡ written
+    → (length (written_wire mode file) / size + 1 ≤ greatest) ↔ (length (written_wire wanted written) / option_or 512 agreed (codes "blksize") + 1 ≤ greatest)
+fits_by greatest mode wanted size agreed file written is sized same =
     let count : length (written_wire mode file) / size + 1 ≡ length (written_wire wanted written) / option_or 512 agreed (codes "blksize") + 1 =
     ap (λ x. length (written_wire x file) / size + 1) is ∙ ap (λ x. length (written_wire wanted x) / size + 1) same ∙ ap (λ x. length (written_wire wanted written) / x + 1) sized in
-    ((λ few. subst (λ n. n ≤ 65535) count few), (λ few. subst (λ n. n ≤ 65535) (sym count) few))
+    ((λ few. subst (λ n. n ≤ greatest) count few), (λ few. subst (λ n. n ≤ greatest) (sym count) few))
 
 -- ---- what is answered
 
 -- what is meant, of payloads that go into packets of UDP, is shown by a run, and so it can be written
-pub can_be_written : (h : Header) (earlier : List Datagram) (m : Meaning) → All (λ (d : Datagram). length d.payload ≤ 65527) earlier → Meant h earlier m → IsWritable m → CanBeWritten m
+pub can_be_written : (h : Header) (earlier : List Datagram) (m : Meaning) → All (λ (d : Datagram). length d.payload ≤ 65527) earlier → Meant h earlier m → IsWritable h.rollover m → CanBeWritten h.rollover m
 can_be_written h earlier m short meant fits =
     let (wire, shown) = (whole h m (reverse earlier)).0 (subst (λ ds. Meant h ds m) (sym (reverse-reverse earlier)) meant) in
     shown_can_be_written h m (reverse earlier) (All-from_recursion (λ (d : Datagram). length d.payload ≤ 65527) (reverse earlier) (all_reverse (λ (d : Datagram). length d.payload ≤ 65527) earlier (recursion_from_All (λ (d : Datagram). length d.payload ≤ 65527) earlier short)))
     (record { writable = fits; wire = wire; shown = shown })
 
-pub meant_verdict : (h : Header) (earlier : List Datagram) (m : Meaning) → OneEnded h earlier → Meant h earlier m → IsWritable m → IsVerdictByRules h (reverse earlier) (Ok m)
+pub meant_verdict : (h : Header) (earlier : List Datagram) (m : Meaning) → OneEnded h earlier → Meant h earlier m → IsWritable h.rollover m → IsVerdictByRules h (reverse earlier) (Ok m)
 meant_verdict h earlier m lawful meant fits =
     (subst (OneEnded h) (sym (reverse-reverse earlier)) lawful, subst (λ ds. Meant h ds m) (sym (reverse-reverse earlier)) meant, fits)
 
-pub long_verdict : (h : Header) (earlier : List Datagram) (m : Meaning) → OneEnded h earlier → Meant h earlier m → (IsWritable m → ⊥) → IsVerdictByRules h (reverse earlier) (Err NormalTooLong)
+pub long_verdict : (h : Header) (earlier : List Datagram) (m : Meaning) → OneEnded h earlier → Meant h earlier m → (IsWritable h.rollover m → ⊥) → IsVerdictByRules h (reverse earlier) (Err NormalTooLong)
 long_verdict h earlier m lawful meant long = (
   subst (OneEnded h) back lawful,
   (m, subst (λ ds. Meant h ds m) back meant),
-  λ other also fits. long (subst IsWritable (one_meaning h earlier other m (subst (λ ds. Meant h ds other) (reverse-reverse earlier) also) meant) fits),
+  λ other also fits. long (subst (IsWritable h.rollover) (one_meaning h earlier other m (subst (λ ds. Meant h ds other) (reverse-reverse earlier) also) meant) fits),
 )
   where
     back : earlier ≡ reverse (reverse earlier)

@@ -26,3 +26,5 @@ pub mod StaysAfter
 pub mod Replied
 pub mod CameCanonical
 pub mod Taken
+pub mod TakenText
+mod ByNumbers

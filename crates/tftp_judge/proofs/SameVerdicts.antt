@@ -1,5 +1,5 @@
 -- Two texts that are the same capture, in as many lines, have the same verdicts; so have a text and the same in version 2.
-use Rattle.std.proofs.Common.{◌≡◌, ℕ, ◌+◌, ◌^◌, ◌≤◌, ◌==◌, ◌↔◌, lit≤, inl, inr, List, [], ◌∷◌, ◌++◌, All, reverse, length, map as each, Result, Ok, Err, refl, sym, ap, ◌∙◌, subst, arith, append_assoc, append-nil, length-append}
+use Rattle.std.proofs.Common.{◌≡◌, ℕ, ◌+◌, ◌^◌, ◌≤◌, ◌==◌, ◌↔◌, lit≤, inl, inr, List, [], ◌∷◌, ◌++◌, All, length, map as each, Option, Result, Ok, Err, refl, sym, ap, ◌∙◌, subst, arith, append_assoc, append-nil, length-append}
 use Rattle.std.specs.List.{join_with_byte, slice_split}
 use Rattle.std.proofs.lemmas.List.{length-map}
 use Rattle.std.proofs.lemmas.List.Elements.{All-cons, All-tail}
@@ -14,39 +14,39 @@ use Rattle.tftp_capture.proofs.TwoTexts.{map_whole, says_the_same}
 use Rattle.tftp_capture.proofs.Readings.{reads_same}
 use Rattle.tftp_packet.specs.Hosts.{Header}
 use Rattle.law_model.specs.Model.{Meaning}
-use Rattle.law_end.specs.{IsLawful}
-use Rattle.tftp_judge.specs.{AllLawful, IsCaptureBy, IsTextVerdict, LawfulBefore, MayWantAt, WantsToJudge, unnumbered, TakesMemory, IsVerdict, Verdict, Refusal, Unlawful, Aborted, Incomplete, NormalTooLong}
+use Rattle.tftp_packet.specs.{Rollover}
+use Rattle.tftp_judge.specs.{AllLawful, HoldsBy, IsCaptureBy, IsLawfulBy, IsSaidBy, IsTextVerdictBy, LawfulBefore, MayWantAt, TakesForLast, WantsToJudge, unnumbered, Verdict, Refusal, Unlawful, Aborted, Incomplete, NormalTooLong}
 use Rattle.tftp_judge.specs.declared.verdict.Verdict.TheVariants as verdict
 use Rattle.tftp_judge.specs.declared.refusal.Refusal.TheVariants.{Memory as NoMemory}
 use Rattle.tftp_judge.proofs.FirstLines.{capture_begins_front}
-use Rattle.tftp_judge.proofs.OneTextVerdict.{captured_or_faulty, front_lawful, longer_unlawful}
+use Rattle.tftp_judge.proofs.OneTextVerdict.{captured_or_faulty, front_lawful}
 
 -- the lines of a text, and what is left after its last LF
 abbrev pub line_count : List ℕ → ℕ
 line_count text = length (slice_split (λ b. b == 10) text)
 
-module _ (one two : List ℕ) (h : Header) (ds : List Numbered) (first : IsCapture one h ds) (second : IsCapture two h ds) where
+module _ (rollover : Option Rollover) (one two : List ℕ) (h : Header) (ds : List Numbered) (first : IsCapture one h ds) (second : IsCapture two h ds) where
   -- what each begins with is lawful, if all are
-  all_lawful : AllLawful one → AllLawful two
+  all_lawful : AllLawful rollover one → AllLawful rollover two
   all_lawful lawful k es begins =
       let front = capture_has two h k ds es second begins in
-      subst (λ x. IsLawful x (unnumbered es)) (sym front.0) (front_lawful h ds es (lawful h ds (capture_begins one h ds first)) front.1)
+      subst (λ x. IsLawfulBy rollover x (unnumbered es)) (sym front.0) (front_lawful rollover h ds es (lawful h ds (capture_begins one h ds first)) front.1)
 
   -- what one begins with, the other begins with
   both_begin : (k : Header) (es : List Numbered) → Begins two k es → (k ≡ h) × Begins one h es
   both_begin k es begins = let front = capture_has two h k ds es second begins in (front.0, capture_begins_front one h ds es first front.1)
 
-  before_both : (line : ℕ) → LawfulBefore one line → LawfulBefore two line
+  before_both : (line : ℕ) → LawfulBefore rollover one line → LawfulBefore rollover two line
   before_both line lawful k es begins before =
       let both = both_begin k es begins in
-      subst (λ x. IsLawful x (unnumbered es)) (sym both.0) (lawful h es both.1 before)
+      subst (λ x. IsLawfulBy rollover x (unnumbered es)) (sym both.0) (lawful h es both.1 before)
 
-  by_both : (v : Result Meaning Refusal) → IsCaptureBy one v → IsCaptureBy two v
+  by_both : (v : Result Meaning Refusal) → IsCaptureBy rollover one v → IsCaptureBy rollover two v
   by_both v (k, es, capture, is) =
       let same = reads_same one (Capture k es) (Capture h ds) capture first in
       let header : k ≡ h = cc in
       let list : es ≡ ds = cc in
-      (h, ds, second, subst (λ x. IsVerdict h (unnumbered x) v) list (subst (λ x. IsVerdict x (unnumbered es) v) header is))
+      (h, ds, second, subst (λ x. IsSaidBy rollover v h (unnumbered x)) list (subst (λ x. IsSaidBy rollover v x (unnumbered es)) header is))
 
   -- where memory may be wanting in one, it may be in the other
   wanted_both : (line : ℕ) → MayWantAt one line → MayWantAt two line
@@ -56,7 +56,7 @@ module _ (one two : List ℕ) (h : Header) (ds : List Numbered) (first : IsCaptu
       inr (h, es, d, capture_begins_front two h ds all second (capture_has one h k ds all first begins).1)
 
   -- memory ran out for the same datagram
-  wants_both : (count : ℕ) (read more : List ℕ) → one ≡ read ++ more → WantsToJudge read count → (read more : List ℕ) × (two ≡ read ++ more) × WantsToJudge read count
+  wants_both : (count : ℕ) (read more : List ℕ) → one ≡ read ++ more → WantsToJudge rollover read count → (read more : List ℕ) × (two ≡ read ++ more) × WantsToJudge rollover read count
   wants_both count read more are wants =
       let all = wants.datagrams ++ wants.last ∷ [] in
       let begins : Begins one wants.header all = record {
@@ -82,16 +82,16 @@ module _ (one two : List ℕ) (h : Header) (ds : List Numbered) (first : IsCaptu
           last = wants.last;
           stands = other.stands.1;
           count_is = wants.count_is;
-          lawful = subst (λ x. IsLawful x (unnumbered all)) front.0 wants.lawful;
-          takes = subst (λ x. TakesMemory x (reverse (unnumbered wants.datagrams)) wants.last.1) front.0 wants.takes;
+          lawful = subst (λ x. IsLawfulBy rollover x (unnumbered all)) front.0 wants.lawful;
+          takes = subst (λ x. HoldsBy rollover TakesForLast x (unnumbered all)) front.0 wants.takes;
         },
       )
 
-  pub same_verdict : line_count one ≡ line_count two → (v : Result Meaning Verdict) → IsTextVerdict one v → IsTextVerdict two v
+  pub same_verdict : line_count one ≡ line_count two → (v : Result Meaning Verdict) → IsTextVerdictBy rollover one v → IsTextVerdictBy rollover two v
   same_verdict lines (Ok m) is = by_both (Ok m) is
   same_verdict lines (Err (verdict.Refused (Unlawful index rule))) (k, es, begins, is) =
       let front = capture_has one h k ds es first begins in
-      (h, ds, capture_begins two h ds second, longer_unlawful h ds es index rule front.1 (subst (λ x. IsVerdict x (unnumbered es) (Err (Unlawful index rule))) front.0 is))
+      (h, es, capture_begins_front two h ds es second front.1, subst (λ x. IsSaidBy rollover (Err (Unlawful index rule)) x (unnumbered es)) front.0 is)
   same_verdict lines (Err (verdict.Refused (Aborted by code))) is = by_both (Err (Aborted by code)) is
   same_verdict lines (Err (verdict.Refused (Incomplete count))) is = by_both (Err (Incomplete count)) is
   same_verdict lines (Err (verdict.Refused NormalTooLong)) is = by_both (Err NormalTooLong) is
@@ -118,8 +118,8 @@ lines_stay text h ds capture =
     let count : line_count text ≡ length capture.1 + 1 = ap length capture.2.divided ∙ length-append capture.1 ([] ∷ []) in
     as_many (slice_split (λ b. b == 10) text) (omega arith) (parts_lack 10 text)
 
-pub same_in_two : (text : List ℕ) (h : Header) (ds : List Numbered) (v : Result Meaning Verdict) → IsCapture text h ds → length (in_version_two text) ≤ 2 ^ 40 → IsTextVerdict text v ↔ IsTextVerdict (in_version_two text) v
-same_in_two text h ds v capture short =
+pub same_in_two : (rollover : Option Rollover) (text : List ℕ) (h : Header) (ds : List Numbered) (v : Result Meaning Verdict) → IsCapture text h ds → length (in_version_two text) ≤ 2 ^ 40 → IsTextVerdictBy rollover text v ↔ IsTextVerdictBy rollover (in_version_two text) v
+same_in_two rollover text h ds v capture short =
     let two = says_the_same text h ds capture short in
     let lines = lines_stay text h ds capture in
-    (same_verdict text (in_version_two text) h ds capture two (sym lines) v, same_verdict (in_version_two text) text h ds two capture lines v)
+    (same_verdict rollover text (in_version_two text) h ds capture two (sym lines) v, same_verdict rollover (in_version_two text) text h ds two capture lines v)

@@ -5,8 +5,9 @@ use Rattle.tftp_capture.specs.{Numbered, FailsToBegin, FaultTells, IsAtTextEnd, 
 use Rattle.net_streams.specs.Streams.{most_ahead}
 use Rattle.tftp_capture.specs.declared.fault.CaptureFault.TheVariants.{Text, Read, Memory}
 use Rattle.tftp_capture.proofs.Headers.{at_end_rest}
+use Rattle.tftp_packet.specs.{Rollover}
 use Rattle.law_model.specs.Model.{Meaning}
-use Rattle.tftp_judge.specs.{EndsText, IsOfText, IsReadVerdict, IsTextVerdict, SaysReadFailed, WantsMemory, Verdict, Capture, Refused}
+use Rattle.tftp_judge.specs.{EndsText, IsOfText, IsReadVerdictBy, IsTextVerdictBy, SaysReadFailed, WantsMemory, Verdict, Capture, Refused}
 use Rattle.tftp_judge.specs.declared.refusal.Refusal.TheVariants as refusal
 use Rattle.tftp_judge.proofs.FirstFaults.{LawfulIn, Wants, fault_alone, fault_here, fault_kinds, fault_longer, fault_read, none_in, wants_first}
 use Rattle.tftp_judge.proofs.OneTextVerdict.{one_text_verdict}
@@ -37,23 +38,23 @@ closed (Some x) (Some y) taken ahead AtEnd Drained consumed end drained = record
 }
 
 -- what is said of the bytes that were taken stays, whatever follows; and it is said of all that was read
-pub record Stays (taken ahead : List ℕ) (r : Result Meaning Verdict) : Type 0 where
-  pub longer : (more : List ℕ) → IsTextVerdict (taken ++ more) r
-  pub read : IsReadVerdict (taken ++ ahead) r
+pub record Stays (rollover : Option Rollover) (taken ahead : List ℕ) (r : Result Meaning Verdict) : Type 0 where
+  pub longer : (more : List ℕ) → IsTextVerdictBy rollover (taken ++ more) r
+  pub read : IsReadVerdictBy rollover (taken ++ ahead) r
 
 -- what is said is said of the bytes that were taken alone, which are all; they are the text, or a read failed
-pub record Ends (after : Option (List ℕ)) (taken ahead : List ℕ) (r : Result Meaning Verdict) : Type 0 where
+pub record Ends (rollover : Option Rollover) (after : Option (List ℕ)) (taken ahead : List ℕ) (r : Result Meaning Verdict) : Type 0 where
   pub all : ahead ≡ []
-  pub is : IsTextVerdict taken r
-  pub read : IsReadVerdict taken r
+  pub is : IsTextVerdictBy rollover taken r
+  pub read : IsReadVerdictBy rollover taken r
   pub why : IsAtEnd after ⊎ SaysReadFailed r
 
 -- what is said of the bytes that were read, and whether a read failed
-pub record Found (before after : Option (List ℕ)) (failed : Bool) (r : Result Meaning Verdict) : Type 0 where
+pub record Found (rollover : Option Rollover) (before after : Option (List ℕ)) (failed : Bool) (r : Result Meaning Verdict) : Type 0 where
   pub taken : List ℕ
   pub ahead : List ℕ
   pub consumed : Consumes before after (taken ++ ahead)
-  pub said : Stays taken ahead r ⊎ Ends after taken ahead r
+  pub said : Stays rollover taken ahead r ⊎ Ends rollover after taken ahead r
   pub ended : EndsText r → IsAtEnd after
   pub failing : SaysReadFailed r → failed ≡ true
   pub latched : failed ≡ true → SaysReadFailed r
@@ -69,9 +70,9 @@ pub rest_of : (b : Option (List ℕ)) (text bytes : List ℕ) → Consumes (Some
 rest_of None text bytes c = absurd c
 rest_of (Some rest) text bytes c = (rest, refl, c)
 
-module _ (before after : Option (List ℕ)) (failed : Bool) (r : Result Meaning Verdict) (found : Found before after failed r) where
-  pub found_judged : (read : List ℕ) × Consumes before after read × IsReadVerdict read r
-  found_judged = elim found.said as (λ _. (read : List ℕ) × Consumes before after read × IsReadVerdict read r) [
+module _ (rollover : Option Rollover) (before after : Option (List ℕ)) (failed : Bool) (r : Result Meaning Verdict) (found : Found rollover before after failed r) where
+  pub found_judged : (read : List ℕ) × Consumes before after read × IsReadVerdictBy rollover read r
+  found_judged = elim found.said as (λ _. (read : List ℕ) × Consumes before after read × IsReadVerdictBy rollover read r) [
     | inl stays ↦ (found.taken ++ found.ahead, found.consumed, stays.read)
     | inr ends ↦ (found.taken, subst (Consumes before after) (ap (λ l. found.taken ++ l) ends.all ∙ append-nil found.taken) found.consumed, ends.read)
   ]
@@ -82,23 +83,23 @@ module _ (before after : Option (List ℕ)) (failed : Bool) (r : Result Meaning 
   pub found_tally : failed ≡ true → SaysReadFailed r
   found_tally = found.latched
 
-  pub found_whole : (text : List ℕ) → before ≡ Some text → failed ≡ false → IsTextVerdict text r
+  pub found_whole : (text : List ℕ) → before ≡ Some text → failed ≡ false → IsTextVerdictBy rollover text r
   found_whole text all clean =
       let (rest, left, are) = rest_of after text (found.taken ++ found.ahead) (subst (λ b. Consumes b after (found.taken ++ found.ahead)) all found.consumed) in
-      elim found.said as (λ _. IsTextVerdict text r) [
-        | inl stays ↦ subst (λ t. IsTextVerdict t r) (sym (are ∙ append_assoc found.taken found.ahead rest)) (stays.longer (found.ahead ++ rest))
-        | inr ends ↦ elim ends.why as (λ _. IsTextVerdict text r) [
+      elim found.said as (λ _. IsTextVerdictBy rollover text r) [
+        | inl stays ↦ subst (λ t. IsTextVerdictBy rollover t r) (sym (are ∙ append_assoc found.taken found.ahead rest)) (stays.longer (found.ahead ++ rest))
+        | inr ends ↦ elim ends.why as (λ _. IsTextVerdictBy rollover text r) [
           | inl over ↦
               let none : rest ≡ [] = subst IsAtEnd left over in
               let whole : text ≡ found.taken = are ∙ ap (λ l. (found.taken ++ l) ++ rest) ends.all ∙ ap (λ l. l ++ rest) (append-nil found.taken) ∙ ap (λ l. found.taken ++ l) none ∙ append-nil found.taken in
-              subst (λ t. IsTextVerdict t r) (sym whole) ends.is
+              subst (λ t. IsTextVerdictBy rollover t r) (sym whole) ends.is
           | inr reads ↦ absurd (true≢false (sym (found.failing reads) ∙ clean))
         ]
       ]
 
-  pub found_exact : (text : List ℕ) (v : Result Meaning Verdict) → before ≡ Some text → failed ≡ false → IsOfText v → IsTextVerdict text v → (r ≡ v) ⊎ WantsMemory r
+  pub found_exact : (text : List ℕ) (v : Result Meaning Verdict) → before ≡ Some text → failed ≡ false → IsOfText v → IsTextVerdictBy rollover text v → (r ≡ v) ⊎ WantsMemory r
   found_exact text v all clean of is = elim (answers r) as (λ _. (r ≡ v) ⊎ WantsMemory r) [
-    | inl also ↦ inl (one_text_verdict text r v also of (found_whole text all clean) is)
+    | inl also ↦ inl (one_text_verdict rollover text r v also of (found_whole text all clean) is)
     | inr (inl reads) ↦ absurd (true≢false (sym (found.failing reads) ∙ clean))
     | inr (inr wants) ↦ inr wants
   ]
@@ -106,16 +107,16 @@ module _ (before after : Option (List ℕ)) (failed : Bool) (r : Result Meaning 
 -- ---- the kinds of faults
 
 -- a fault that stays whatever follows, or that is said of the bytes that were taken alone
-pub found_by_fault : (after : Option (List ℕ)) (text ahead : List ℕ) (ds : List Numbered) (fault : CaptureFault) → FaultTells fault text ds → Wants fault text ahead ds → length ahead ≤ most_ahead
-    → (IsAtTextEnd fault → (ahead ≡ []) × IsAtEnd after) → (IsReadFault fault → ahead ≡ []) → ((more : List ℕ) → LawfulIn (text ++ more) ds) → Stays text ahead (Err (Capture fault)) ⊎ Ends after text ahead (Err (Capture fault))
-found_by_fault after text ahead ds fault tells wants near end drained lawful = elim (fault_kinds fault) as (λ _. Stays text ahead (Err (Capture fault)) ⊎ Ends after text ahead (Err (Capture fault))) [
-  | inl may ↦ inl (record { longer = λ more. fault_longer text ahead ds fault tells wants more may (lawful more); read = fault_read text ahead ds fault tells wants may near (lawful ahead) })
-  | inr (inl ends) ↦ inr (record { all = (end ends).0; is = here; read = fault_alone text fault here (inl ends); why = inl (end ends).1 })
-  | inr (inr reads) ↦ inr (record { all = drained reads; is = here; read = fault_alone text fault here (inr reads); why = inr reads })
+pub found_by_fault : (rollover : Option Rollover) (after : Option (List ℕ)) (text ahead : List ℕ) (ds : List Numbered) (fault : CaptureFault) → FaultTells fault text ds → Wants fault text ahead ds → length ahead ≤ most_ahead
+    → (IsAtTextEnd fault → (ahead ≡ []) × IsAtEnd after) → (IsReadFault fault → ahead ≡ []) → ((more : List ℕ) → LawfulIn rollover (text ++ more) ds) → Stays rollover text ahead (Err (Capture fault)) ⊎ Ends rollover after text ahead (Err (Capture fault))
+found_by_fault rollover after text ahead ds fault tells wants near end drained lawful = elim (fault_kinds fault) as (λ _. Stays rollover text ahead (Err (Capture fault)) ⊎ Ends rollover after text ahead (Err (Capture fault))) [
+  | inl may ↦ inl (record { longer = λ more. fault_longer rollover text ahead ds fault tells wants more may (lawful more); read = fault_read rollover text ahead ds fault tells wants may near (lawful ahead) })
+  | inr (inl ends) ↦ inr (record { all = (end ends).0; is = here; read = fault_alone rollover text fault here (inl ends); why = inl (end ends).1 })
+  | inr (inr reads) ↦ inr (record { all = drained reads; is = here; read = fault_alone rollover text fault here (inr reads); why = inr reads })
 ]
   where
-    here : IsTextVerdict text (Err (Capture fault))
-    here = fault_here text ahead ds fault tells wants (subst (λ t. LawfulIn t ds) (append-nil text) (lawful []))
+    here : IsTextVerdictBy rollover text (Err (Capture fault))
+    here = fault_here rollover text ahead ds fault tells wants (subst (λ t. LawfulIn rollover t ds) (append-nil text) (lawful []))
 
 -- ---- a text whose header is not read
 
@@ -125,13 +126,13 @@ failed_or (Text line fault) failed clean is = absurd (true≢false (sym is ∙ c
 failed_or (Read line) failed clean is = tt
 failed_or (Memory line) failed clean is = absurd (true≢false (sym is ∙ clean (λ x. x)))
 
-pub found_no_header : (before after : Option (List ℕ)) (failed : Bool) (fault : CaptureFault) → FailsToBegin before after fault → (EndsText (Err (Capture fault)) → IsAtEnd after) → (IsReadFault fault → failed ≡ true)
-    → ((IsReadFault fault → ⊥) → failed ≡ false) → Found before after failed (Err (Capture fault))
-found_no_header before after failed fault fails end read clean = record {
+pub found_no_header : (rollover : Option Rollover) (before after : Option (List ℕ)) (failed : Bool) (fault : CaptureFault) → FailsToBegin before after fault → (EndsText (Err (Capture fault)) → IsAtEnd after) → (IsReadFault fault → failed ≡ true)
+    → ((IsReadFault fault → ⊥) → failed ≡ false) → Found rollover before after failed (Err (Capture fault))
+found_no_header rollover before after failed fault fails end read clean = record {
   taken = fails.taken;
   ahead = fails.ahead;
   consumed = fails.consumed;
-  said = found_by_fault after fails.taken fails.ahead [] fault fails.tells (wants_first fails.taken fails.ahead [] fault fails.memory) fails.near (λ h. (fails.ended h, end h)) fails.drained (λ more. none_in (fails.taken ++ more));
+  said = found_by_fault rollover after fails.taken fails.ahead [] fault fails.tells (wants_first fails.taken fails.ahead [] fault fails.memory) fails.near (λ h. (fails.ended h, end h)) fails.drained (λ more. none_in rollover (fails.taken ++ more));
   ended = end;
   failing = λ h. read h;
   latched = failed_or fault failed clean;

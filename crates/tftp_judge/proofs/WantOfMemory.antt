@@ -1,12 +1,15 @@
 -- Which datagrams stand on the lines before the one for which memory ran out: those that were given.
-use Rattle.std.proofs.Common.{◌≡◌, ℕ, ◌+◌, ◌<◌, ◌≤◌, ◌⊎◌, inl, inr, List, [], ◌∷◌, ◌++◌, ◌==◌, length, length-append, All, refl, sym, ap, ◌∙◌, subst, arith, append_assoc, append-nil}
+use Rattle.std.proofs.Common.{◌≡◌, ℕ, ◌+◌, ◌<◌, ◌≤◌, ◌⊎◌, inl, inr, List, [], ◌∷◌, ◌++◌, ◌==◌, length, length-append, All, Option, refl, sym, ap, ◌∙◌, subst, arith, append_assoc, append-nil}
 use Rattle.std.proofs.lemmas.List.Elements.{All-cons, All-head, All-nil, All-tail, All-weaker}
 use Rattle.tftp_capture.specs.CaptureText.{Datagram, Header}
 use Rattle.tftp_capture.specs.{Begins, BeginsWith, Due, Numbered, Stands, SaysOneMore, TextFault}
 use Rattle.tftp_capture.specs.CaptureText.Due.{Head, EndLine, ServiceLine, Body, Nothing}
 use Rattle.std.specs.List.{slice_split}
 use Rattle.law_end.proofs.Whole.Beginnings.{empty_is_lawful}
-use Rattle.tftp_judge.specs.{LawfulBefore, MayWantAt, NoFaultBefore}
+use Rattle.law_end.specs.{IsLawful}
+use Rattle.tftp_packet.specs.{Rollover}
+use Rattle.tftp_judge.specs.{LawfulBefore, MayWantAt, NoFaultBefore, header_by}
+use Rattle.tftp_judge.proofs.TakenText.{holds_of, none_taken}
 use Rattle.tftp_capture.proofs.Readings.{FaultIs, fault_is}
 use Rattle.tftp_capture.proofs.Readings.FaultIs.{cut, wrong}
 use Rattle.tftp_capture.proofs.Beginnings.{agree, before_or_past, begins_more}
@@ -108,13 +111,13 @@ no_fault_before text more ds line said es at fault has =
     omega (arith, said.at_line, fault_past text more said.lines [] (Body said.version said.header) (ds ++ (line, said.datagram) ∷ []) es at fault said.stands (fault_is (text ++ more) es at fault has))
 
 -- every text may have a first line for which memory ran out
-pub wants_first_line : (text : List ℕ) → MayWantAt text 1 × NoFaultBefore text 1 × LawfulBefore text 1
-wants_first_line text = (inl refl, no_fault, none) where
+pub wants_first_line : (rollover : Option Rollover) (text : List ℕ) → MayWantAt text 1 × NoFaultBefore text 1 × LawfulBefore rollover text 1
+wants_first_line rollover text = (inl refl, no_fault, none) where
   no_fault : NoFaultBefore text 1
   no_fault es at fault has = omega (arith, fault_past [] text [] [] Head [] es at fault stands-nothing (fault_is text es at fault has))
 
-  none : LawfulBefore text 1
-  none h [] begins before = empty_is_lawful h
+  none : LawfulBefore rollover text 1
+  none h [] begins before = holds_of rollover IsLawful h [] [] (none_taken rollover h) (empty_is_lawful (header_by rollover h))
   none h (d ∷ es) begins before =
       let (more, is, from) = walk_adds Head 1 [] begins.lines (Body begins.stands.0 h) (d ∷ es) (says_walk begins.lines (Body begins.stands.0 h) (d ∷ es) begins.stands.1.says) in
       let first = All-head (IsFrom 1) d es (subst (All (IsFrom 1)) (sym is) from) in

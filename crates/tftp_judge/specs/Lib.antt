@@ -1,4 +1,5 @@
 pub mod Verdicts
+pub mod TakenAs
 pub mod TextVerdict
 pub mod Ending
 pub mod Kept
@@ -10,7 +11,8 @@ pub mod Extracted
 pub mod Exchanges
 pub mod Contents
 pub use Verdicts.{IsSaid, IsUnlawfulAt, IsVerdict, IsVerdictBy, IsVerdictByRules}
-pub use TextVerdict.{AllLawful, BeginsBy, EndsText, IsCaptureBy, IsFaultOf, IsOfText, IsReadVerdict, IsTextVerdict, LawfulBefore, MayWantAt, NoFaultBefore, SaysReadFailed, WantsMemory, WantsToJudge, WantsToRead, unnumbered}
+pub use TakenAs.{AreTakenAs, HoldsBy, header_by}
+pub use TextVerdict.{AllLawful, BeginsBy, EndsText, IsCaptureBy, IsFaultOf, IsLawfulBy, IsOfText, IsReadVerdict, IsReadVerdictBy, IsSaidBy, IsTextVerdict, IsTextVerdictBy, LawfulBefore, MayWantAt, NoFaultBefore, SaysReadFailed, TakesForLast, WantsMemory, WantsToJudge, WantsToRead, unnumbered}
 pub use Ending.{IsUnfinished}
 pub use Kept.{Agreed, AreBytesOf, AreErrors, Begun, ErrorText, Errors, HasBegun, HasKept, IsExchange, IsErrorOf, IsJudgeAfter, IsKept, IsTransferAfter, IsTransferOf, Judge, JudgeState, Transfer, Unanswered}
 pub use SentByKept.{AreFlags, HasAgreed, HasBlock, HasSentBy, HasSentIn, IsAgreedBy, flags_of}

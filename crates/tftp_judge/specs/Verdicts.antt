@@ -21,12 +21,12 @@ pub record IsUnlawfulAt (Lawful : List Datagram → Type 0) (header : Header) (d
 
 -- Memory is wanting, after all datagrams, only where they are a whole transfer.
 abbrev pub IsVerdictBy : (List Datagram → Type 0) → (Meaning → List Datagram → Type 0) → Header → List Datagram → Result Meaning Refusal → Type 0
-IsVerdictBy Lawful Shown header datagrams (Ok m) = Lawful datagrams × Shown m datagrams × IsWritable m
+IsVerdictBy Lawful Shown header datagrams (Ok m) = Lawful datagrams × Shown m datagrams × IsWritable header.rollover m
 IsVerdictBy Lawful Shown header datagrams (Err (Unlawful index rule)) = IsUnlawfulAt Lawful header datagrams index rule
 IsVerdictBy Lawful Shown header datagrams (Err (Aborted by code)) = Lawful datagrams × ((m : Meaning) → Shown m datagrams → ⊥) × IsAborted header (reverse datagrams) by code
 IsVerdictBy Lawful Shown header datagrams (Err (Incomplete count)) =
     Lawful datagrams × ((m : Meaning) → Shown m datagrams → ⊥) × IsNotAborted header (reverse datagrams) × (count ≡ length datagrams)
-IsVerdictBy Lawful Shown header datagrams (Err NormalTooLong) = Lawful datagrams × ((m : Meaning) × Shown m datagrams) × ((m : Meaning) → Shown m datagrams → IsWritable m → ⊥)
+IsVerdictBy Lawful Shown header datagrams (Err NormalTooLong) = Lawful datagrams × ((m : Meaning) × Shown m datagrams) × ((m : Meaning) → Shown m datagrams → IsWritable header.rollover m → ⊥)
 IsVerdictBy Lawful Shown header datagrams (Err (Memory count)) = Lawful datagrams × IsEnded header (reverse datagrams) × (count ≡ length datagrams)
 
 -- the verdict by the runs of two ends

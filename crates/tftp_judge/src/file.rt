@@ -121,15 +121,15 @@ pub fn file_of<D: Delivered + Drop>(
     Ok(CarriedFile::of(mode, store.into_wire(alloc)?))
 }
 
-/// The number of blocks of the one wire that is written for a file; none where it is above 65535 (RFC 1350, section 5).
-pub fn written_blocks(blksize: u16, file: &CarriedFile) -> Option<u32>
+/// The number of blocks of the one wire that is written for a file; none where it is above the greatest (RFC 1350, section 5).
+pub fn written_blocks(blksize: u16, greatest: u32, file: &CarriedFile) -> Option<u32>
     requires sized { 1 ≤ blksize }
-    ensures { MatchOption result (length (written_wire file.now.0 file.now.1) / blksize + 1 ≤ 65535 → ⊥)
+    ensures { MatchOption result (length (written_wire file.now.0 file.now.1) / blksize + 1 ≤ greatest → ⊥)
         (λ blocks. (blocks ≡ length (written_wire file.now.0 file.now.1) / blksize + 1)
-        × (length (written_wire file.now.0 file.now.1) / blksize + 1 ≤ 65535)) }
+        × (length (written_wire file.now.0 file.now.1) / blksize + 1 ≤ greatest)) }
 {
     let full = file.written_len() / u64::from(blksize);
-    if full < 65535 {
+    if full < u64::from(greatest) {
         Some(full as u32 + 1)
     } else {
         None

@@ -126,13 +126,18 @@ impl<D: Delivered + Drop> Judge<D> {
         ensures goes_on { self.old.refused ≡ None → OnOk result (self.new.refused ≡ None) }
         ensures counts { OnOk result (self.new.fed ≡ self.old.fed + 1) }
         ensures counted { IfErr result (λ _. self.new.fed ≡ self.old.fed) }
+
+        // Where the datagram belongs, as above.
+        ensures routed { (h : HeaderParts) (earlier : List DatagramParts) (d : DatagramParts) → IsJudgeAfter self.old h earlier
+            → IsUnrolled rollover (transfer_of h earlier) (datagram_of datagram.now) d
+            → OnOk result (self.new.state.of_transfer ≡ is_of_transfer (route_of h earlier d)) }
         ensures stays { IfErr result (λ _. self.new.state.transfer ≡ self.old.state.transfer) }
     {
         self.take(alloc, Some(rollover), datagram)
     }
 
     /// Takes the next datagram, whose numbers begin again or do not.
-    fn take(
+    pub(crate) fn take(
         &mut self,
         alloc: Global,
         rollover: Option<Rollover>,

@@ -1,16 +1,21 @@
 //! Laws of the definitions in `specs/`. Each is the contract of a function that does nothing.
 
-ghost use Rattle.std.specs.Prelude.{◌≡◌, ◌↔◌, ◌^◌, ◌≤◌, ℕ, List, Result, length, true};
+ghost use Rattle.std.specs.Prelude.{◌≡◌, ◌↔◌, ◌^◌, ◌≤◌, ℕ, List, Option, Some, Result, Ok, length, true};
 ghost use Rattle.tftp_capture.specs.{IsCapture, Numbered, in_version_two};
 ghost use Rattle.tftp_packet.specs.Hosts.{Datagram, Header};
-ghost use Rattle.tftp_packet.specs.{Message, Spells};
+ghost use Rattle.tftp_packet.specs.{Message, Rollover, Spells};
 ghost use Rattle.law_model.specs.Model.{Meaning};
 ghost use Rattle.law_model.specs.Rules.{is_of_transfer, route_of, transfer_of, HasPassed, Passed};
 ghost use Rattle.tftp_judge.specs.Memory.{TakesMemory};
-ghost use Rattle.tftp_judge.specs.TextVerdict.{IsOfText, IsTextVerdict};
+ghost use Rattle.law_end.specs.{IsWritable};
+ghost use Rattle.law_rollover.specs.{ShowsByNumber};
+ghost use Rattle.tftp_judge.specs.TakenAs.{header_by};
+ghost use Rattle.tftp_judge.specs.TextVerdict.{IsOfText, IsTextVerdictBy, unnumbered};
 ghost use Rattle.tftp_judge.specs.Verdicts.{IsSaid, IsVerdict, IsVerdictByRules};
 ghost use Rattle.tftp_judge.specs.declared.refusal.Refusal.{Refusal};
 ghost use Rattle.tftp_judge.specs.declared.verdict.Verdict.{Verdict};
+
+use law_rollover::laws::what_is_unrolled_shows_the_run;
 
 /// What there is to say by the runs of two ends is what there is by the rules at one.
 #[tactic(auto, using(crate::proofs::ByRuns::verdict))]
@@ -30,15 +35,26 @@ pub fn verdict_is_one()
 /// of memory, are the same.
 #[tactic(auto, using(crate::proofs::OneTextVerdict::one_text_verdict))]
 pub fn text_has_one_verdict()
-    ensures { (text : List ℕ) (v w : Result Meaning Verdict) → IsOfText v → IsOfText w → IsTextVerdict text v
-        → IsTextVerdict text w → v ≡ w }
+    ensures { (rollover : Option Rollover) (text : List ℕ) (v w : Result Meaning Verdict) → IsOfText v → IsOfText w
+        → IsTextVerdictBy rollover text v → IsTextVerdictBy rollover text w → v ≡ w }
 {}
+
+/// Where numbers begin again a text is accepted with a meaning exactly if some run of the two ends shows its numbers at the named
+/// end as that whole transfer, no block and no ACK far from the highest block there.
+pub fn texts_mean_what_runs_show_by_numbers()
+    ensures { (r : Rollover) (text : List ℕ) (m : Meaning) → IsTextVerdictBy (Some r) text (Ok m)
+        ↔ ((header : Header) × (datagrams : List Numbered) × IsCapture text header datagrams × IsWritable (Some r) m
+        × (wire : List ℕ) × ShowsByNumber r (header_by (Some r) header) m wire (unnumbered datagrams)) }
+{
+    what_is_unrolled_shows_the_run();
+}
 
 /// A text of version 1 without a fault, and the same text in version 2 with `-` as each host, have the same verdicts,
 /// where the second has at most 2^40 bytes.
 pub fn text_in_version_two_has_the_same_verdicts()
-    ensures { (text : List ℕ) (header : Header) (datagrams : List Numbered) (v : Result Meaning Verdict) → IsCapture text header datagrams
-        → length (in_version_two text) ≤ 2 ^ 40 → IsTextVerdict text v ↔ IsTextVerdict (in_version_two text) v }
+    ensures { (rollover : Option Rollover) (text : List ℕ) (header : Header) (datagrams : List Numbered) (v : Result Meaning Verdict)
+        → IsCapture text header datagrams → length (in_version_two text) ≤ 2 ^ 40
+        → IsTextVerdictBy rollover text v ↔ IsTextVerdictBy rollover (in_version_two text) v }
 {}
 
 /// Of the datagrams of a transfer, an ACK takes no memory, nor does a block whose number has passed, or an ERROR after the

@@ -28,7 +28,7 @@ pub struct MeaningParts {
 impl Model for Meaning {
     ghost use Rattle.std.specs.Prelude.{◌≡◌};
     ghost use Rattle.law_model.specs.Model.Meanings.{Meaning as Parts};
-    ghost use Rattle.law_end.specs.Writable.{blocks_of, CanBeWritten};
+    ghost use Rattle.law_end.specs.Writable.{blocks_of, CanBeNumbered};
     ghost use Rattle.law_end.specs.Owned.{meaning_code, meaning_from};
 
     ghost Value = { Parts };
@@ -37,19 +37,19 @@ impl Model for Meaning {
 
     ghost view = { λ m. meaning_from (m.request, (m.agreed, m.file.1)) };
 
-    ghost invariant = { λ m. CanBeWritten (meaning_from (m.request, (m.agreed, m.file.1))) × (m.blocks ≡ blocks_of (meaning_from (m.request, (m.agreed, m.file.1)))) × (m.file.0 ≡ m.request.mode) };
+    ghost invariant = { λ m. CanBeNumbered (meaning_from (m.request, (m.agreed, m.file.1))) × (m.blocks ≡ blocks_of (meaning_from (m.request, (m.agreed, m.file.1)))) × (m.file.0 ≡ m.request.mode) };
 }
 
 impl Meaning {
     ghost use Rattle.std.specs.Prelude.{◌≡◌, length};
     ghost use Rattle.law_model.specs.Model.Meanings.{request_of};
-    ghost use Rattle.law_end.specs.Writable.{blocks_of, CanBeWritten};
+    ghost use Rattle.law_end.specs.Writable.{blocks_of, CanBeNumbered};
     ghost use Rattle.law_end.specs.Owned.{meaning_from};
     ghost use Rattle.tftp_judge.specs.Contents.{file_in, IsCanonical};
 
     /// Takes the parts over, and no memory. The number of the blocks is that of the canonical wire.
     pub(crate) fn of(request: Request, agreed: Options, file: CarriedFile, blocks: u32) -> Self
-        requires can { CanBeWritten (meaning_from (request, (agreed, file.1))) }
+        requires can { CanBeNumbered (meaning_from (request, (agreed, file.1))) }
         requires counted { blocks ≡ blocks_of (meaning_from (request, (agreed, file.1))) }
         requires mode { file.0 ≡ request.mode }
         ensures { result ≡ meaning_from (request, (agreed, file.1)) }
@@ -101,7 +101,7 @@ impl Meaning {
         ensures parts { meaning_from (result.request, (result.agreed, file_in result.request.mode result.file)) ≡ self }
         ensures canonical { IsCanonical result.request.mode result.file }
         ensures count { result.blocks ≡ blocks_of self }
-        ensures can { CanBeWritten self }
+        ensures can { CanBeNumbered self }
     {
         let Meaning {
             request,
@@ -123,7 +123,7 @@ impl Meaning {
     #[inline]
     pub fn blocks(&self) -> u32
         ensures count { result ≡ blocks_of self.now }
-        ensures can { CanBeWritten self.now }
+        ensures can { CanBeNumbered self.now }
     {
         self.blocks
     }

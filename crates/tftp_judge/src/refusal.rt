@@ -11,8 +11,8 @@ pub enum Refusal {
     Aborted(AbortedBy, u16),
     /// A run shows them, and none as a whole transfer, which no ERROR ended; how many they are.
     Incomplete(u64),
-    /// A run shows them as a whole transfer, of a text whose canonical form has more than 65535 blocks (RFC 1350, section
-    /// 5).
+    /// A run shows them as a whole transfer, of a text whose canonical form has more blocks than may be numbered (RFC 1350,
+    /// section 5).
     NormalTooLong,
     /// A growth was refused, after so many datagrams, which are lawful: for the next one, which breaks no rule, or for the
     /// meaning of all.

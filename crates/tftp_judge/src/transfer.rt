@@ -465,8 +465,8 @@ impl<D: Delivered + Drop> Transfer<D> {
             asked,
             exchange,
             errors,
+            rollover,
             named: _,
-            rollover: _,
             block_sent: _,
             ack_sent: _,
         } = self;
@@ -482,7 +482,8 @@ impl<D: Delivered + Drop> Transfer<D> {
             Ok(file) => file,
             Err(_) => return Err(Refusal::Memory(count)),
         };
-        let Some(blocks) = written_blocks(agreed.blksize(), &file) else {
+        let greatest = greatest_block(rollover);
+        let Some(blocks) = written_blocks(agreed.blksize(), greatest, &file) else {
             return Err(Refusal::NormalTooLong);
         };
         Ok(Meaning::of(asked, agreed.into_options(), file, blocks))

@@ -1,5 +1,5 @@
 -- The packets of the normal capture, one after another, as labels of a dressed one-sided history.
-use Rattle.std.proofs.Common.{◌≡◌, ℕ, zero, suc, ◌+◌, ◌-◌, ◌*◌, ◌/◌, ◌%◌, ◌<◌, ◌≤◌, ◌⊎◌, true, false, min, List, [], ◌∷◌, ◌++◌, drop, Contains, inl, inr, refl, sym, subst, ap, ◌∙◌, arith, suc-mul, zero-mul, Any}
+use Rattle.std.proofs.Common.{◌≡◌, ℕ, zero, suc, ◌+◌, ◌-◌, ◌*◌, ◌/◌, ◌%◌, ◌<◌, ◌≤◌, ◌⊎◌, true, false, min, List, [], ◌∷◌, ◌++◌, drop, Contains, inl, inr, refl, sym, subst, ap, ◌∙◌, arith, suc-mul, zero-mul, Any, None}
 use Rattle.std.proofs.lemmas.Bool.{cases_lt}
 use Rattle.tftp_packet.specs.{Spells, canonical, Side, Get, Put, End, Client, Server}
 use Rattle.tftp_packet.specs.Hosts.{no_host}
@@ -79,7 +79,7 @@ data_number k i same = cc
 not_ack : (k i : ℕ) → Ack k ≡ Data i → ⊥
 not_ack k i same = cc
 
-module _ (m : Meaning) (can : CanBeWritten m) where
+module _ (m : Meaning) (can : CanBeWritten None m) where
   abbrev wire : List ℕ
   wire = wire_of m
 

@@ -1,5 +1,5 @@
 -- Each datagram of the normal capture can stand in a text, and they are few.
-use Rattle.std.proofs.Common.{◌≡◌, ℕ, zero, suc, ◌+◌, ◌-◌, ◌*◌, ◌<◌, ◌≤◌, min, List, [], ◌∷◌, length, length-take, drop, refl, ap, ◌∙◌, arith, suc-mul, div-lt_iff_lt-mul, le-mul_of_pos_right}
+use Rattle.std.proofs.Common.{◌≡◌, ℕ, zero, suc, ◌+◌, ◌-◌, ◌*◌, ◌<◌, ◌≤◌, min, List, [], ◌∷◌, length, length-take, drop, refl, ap, ◌∙◌, arith, suc-mul, div-lt_iff_lt-mul, le-mul_of_pos_right, None}
 use Rattle.std.specs.List.{AllByRecursion}
 use Rattle.std.specs.FinMap as finite
 use Rattle.std.specs.FinMap.{len-empty}
@@ -23,7 +23,7 @@ at_each (b ∷ bytes) all (suc i) = at_each bytes all.1 i
 dash_is_host : IsHost no_host
 dash_is_host = record { some = omega arith; few = omega arith; signs = ((omega arith, omega arith), tt) }
 
-module _ (m : Meaning) (can : CanBeWritten m) where
+module _ (m : Meaning) (can : CanBeWritten None m) where
   abbrev n : ℕ
   n = blocks_of m
 

@@ -1,5 +1,5 @@
 -- The normal capture shows its meaning at the client, so it determines it.
-use Rattle.std.proofs.Common.{◌≡◌, ℕ, zero, suc, List, [], ◌∷◌, ◌++◌, map as each, reverse, append_assoc, append-nil, inl, inr, refl, sym, subst, ap, ◌∙◌, arith}
+use Rattle.std.proofs.Common.{◌≡◌, ℕ, zero, suc, List, [], ◌∷◌, ◌++◌, map as each, reverse, append_assoc, append-nil, inl, inr, refl, sym, subst, ap, ◌∙◌, arith, None}
 use Rattle.std.proofs.lemmas.List.{reverse-append}
 use Rattle.std.specs.FinMap as finite
 use Rattle.std.specs.FinMap.{len-empty, empty_of_len}
@@ -17,7 +17,7 @@ use Rattle.tftp_normal.specs.{windows_of, opening_on, opening, windows_after, no
 use Rattle.tftp_normal.proofs.Shortest.{windows_hold}
 use Rattle.tftp_normal.proofs.Going.{ids, place, after, after_both, Going, windows, ack_spells, answer_first}
 
-module _ (m : Meaning) (can : CanBeWritten m) where
+module _ (m : Meaning) (can : CanBeWritten None m) where
   asks : MaySendReq Client []
   asks = record { client = refl; no_error = none_sent [] refl; no_data = λ k at. contains_none (Sent (Data k)) at; no_ack = λ j at. contains_none (Sent (Ack j)) at }
 
@@ -162,5 +162,5 @@ module _ (m : Meaning) (can : CanBeWritten m) where
   shows = record { writable = can.fits.numbered; wire = wire_of m; shown = shown }
 
 -- a capture shows one meaning, so the normal one determines its meaning
-pub injective : (m o : Meaning) → CanBeWritten m → CanBeWritten o → normal_datagrams m ≡ normal_datagrams o → m ≡ o
+pub injective : (m o : Meaning) → CanBeWritten None m → CanBeWritten None o → normal_datagrams m ≡ normal_datagrams o → m ≡ o
 injective m o can other same = one normal_header (normal_datagrams m) m o (shows m can) (subst (Shows normal_header o) (sym same) (shows o other))

@@ -1,5 +1,5 @@
 -- What a text says that is accepted, and what its normal text says.
-use Rattle.std.proofs.Common.{◌≡◌, ℕ, ◌+◌, ◌^◌, ◌≤◌, ◌↔◌, List, [], ◌∷◌, map as each, length, All, refl, sym, subst, ap, arith}
+use Rattle.std.proofs.Common.{◌≡◌, ℕ, ◌+◌, ◌^◌, ◌≤◌, ◌↔◌, List, [], ◌∷◌, map as each, length, All, refl, sym, subst, ap, arith, None}
 use Rattle.std.proofs.lemmas.List.Elements.{All-from_recursion}
 use Rattle.std.specs.List.{AllByRecursion, AllZip}
 use Rattle.tftp_capture.specs.CaptureText.{Header}
@@ -37,14 +37,18 @@ said_fit version (line ∷ bodies) [] all = tt
 capture_fits : (text : List ℕ) (header : Header) (datagrams : List Numbered) → IsCapture text header datagrams → AllByRecursion (λ (d : Datagram). length d.payload ≤ 65527) (unnumbered datagrams)
 capture_fits text header datagrams (version, lines, stands) = let (before, are, says) = stands.says in said_fit version says.bodies datagrams says.each
 
-pub accepted_can : (text : List ℕ) (m : Meaning) → IsAccepted text m → CanBeWritten m
-accepted_can text m (header, datagrams, says, shown) = can_be_written header m (unnumbered datagrams) (capture_fits text header datagrams says) shown
+pub capture_plain : (text : List ℕ) (header : Header) (datagrams : List Numbered) → IsCapture text header datagrams → header.rollover ≡ None
+capture_plain text header datagrams (version, lines, stands) = stands.says.2.plain
+
+pub accepted_can : (text : List ℕ) (m : Meaning) → IsAccepted text m → CanBeWritten None m
+accepted_can text m (header, datagrams, says, shown) =
+    subst (λ r. CanBeWritten r m) (capture_plain text header datagrams says) (can_be_written header m (unnumbered datagrams) (capture_fits text header datagrams says) shown)
 
 no_hosts : (m : Meaning) (packets : List MachinePacket) → AllByRecursion NamesNoHost (each (normal_datagram m) packets)
 no_hosts m [] = tt
 no_hosts m (p ∷ packets) = (refl, no_hosts m packets)
 
-module _ (m : Meaning) (can : CanBeWritten m) where
+module _ (m : Meaning) (can : CanBeWritten None m) where
   few_datagrams : length (normal_datagrams m) ≤ 131073
   few_datagrams = let count = counted m can.window_size in let most = few m can in omega (arith, count, most)
 

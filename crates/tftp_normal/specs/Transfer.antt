@@ -11,7 +11,7 @@ meaning_in t = meaning_from (t.request.now, (t.agreed.now, file_in t.request.now
 
 -- it can be written, and has so many blocks; a wire is kept only where it is the one that is written
 pub record IsToBeWritten (t : transfer.Inside) : Type 0 where
-  pub can : CanBeWritten (meaning_in t)
+  pub can : CanBeWritten None (meaning_in t)
   pub counted : t.blocks ≡ blocks_of (meaning_in t)
   pub canonical : IsCanonical t.request.now.mode t.file.now
 

@@ -1,6 +1,6 @@
 //! What holds of the normal capture. Each law is the contract of a function that does nothing.
 
-ghost use Rattle.std.specs.Prelude.{◌≡◌, ◌^◌, ◌≤◌, ◌↔◌, ℕ, List, All, Ok, length};
+ghost use Rattle.std.specs.Prelude.{◌≡◌, ◌^◌, ◌≤◌, ◌↔◌, ℕ, List, All, Ok, length, None};
 ghost use Rattle.tftp_capture.specs.CaptureText.{Datagram, Header};
 ghost use Rattle.tftp_capture.specs.{IsCapture, IsLawful as IsLawfulDatagram, NamesNoHost, numbered};
 ghost use Rattle.law_model.specs.Model.{Meaning, windowsize_of};
@@ -23,34 +23,34 @@ pub fn normal_capture_is_shortest()
 
 /// The normal capture shows its meaning at the client, over the wire that is written for it.
 pub fn normal_capture_shows_its_meaning()
-    ensures over_its_wire { (m : Meaning) → CanBeWritten m → ShowsBy normal_header m (wire_of m) (normal_datagrams m) }
-    ensures shows { (m : Meaning) → CanBeWritten m → Shows normal_header m (normal_datagrams m) }
+    ensures over_its_wire { (m : Meaning) → CanBeWritten None m → ShowsBy normal_header m (wire_of m) (normal_datagrams m) }
+    ensures shows { (m : Meaning) → CanBeWritten None m → Shows normal_header m (normal_datagrams m) }
 {}
 
 /// So two meanings have two normal captures.
 #[tactic(auto, using(crate::proofs::Shown::injective))]
 pub fn normal_capture_has_one_meaning()
-    ensures { (m o : Meaning) → CanBeWritten m → CanBeWritten o → normal_datagrams m ≡ normal_datagrams o → m ≡ o }
+    ensures { (m o : Meaning) → CanBeWritten None m → CanBeWritten None o → normal_datagrams m ≡ normal_datagrams o → m ≡ o }
 {}
 
 /// The normal text is a capture text: each datagram can stand in one and names no host, the text is within its limit, and
 /// it says the normal capture, the first datagram on line 4.
 pub fn normal_text_says_the_normal_capture()
-    ensures lawful { (m : Meaning) → CanBeWritten m → All IsLawfulDatagram (normal_datagrams m) × All NamesNoHost (normal_datagrams m) }
-    ensures fits { (m : Meaning) → CanBeWritten m → length (normal_text m) ≤ 2 ^ 40 }
-    ensures says { (m : Meaning) → CanBeWritten m → IsCapture (normal_text m) normal_header (numbered 4 (normal_datagrams m)) }
+    ensures lawful { (m : Meaning) → CanBeWritten None m → All IsLawfulDatagram (normal_datagrams m) × All NamesNoHost (normal_datagrams m) }
+    ensures fits { (m : Meaning) → CanBeWritten None m → length (normal_text m) ≤ 2 ^ 40 }
+    ensures says { (m : Meaning) → CanBeWritten None m → IsCapture (normal_text m) normal_header (numbered 4 (normal_datagrams m)) }
 {}
 
 /// The normal text of a meaning that can be written is accepted with it; so is that of a text which is accepted.
 pub fn normal_text_is_accepted()
-    ensures of_meaning { (m : Meaning) → CanBeWritten m → IsAccepted (normal_text m) m }
+    ensures of_meaning { (m : Meaning) → CanBeWritten None m → IsAccepted (normal_text m) m }
     ensures of_text { (text : List ℕ) (m : Meaning) → IsAccepted text m → IsAccepted (normal_text m) m }
 {}
 
 /// A text is accepted with one meaning, which can be written.
 pub fn accepted_text_has_one_meaning()
     ensures one { (text : List ℕ) (m o : Meaning) → IsAccepted text m → IsAccepted text o → m ≡ o }
-    ensures written { (text : List ℕ) (m : Meaning) → IsAccepted text m → CanBeWritten m }
+    ensures written { (text : List ℕ) (m : Meaning) → IsAccepted text m → CanBeWritten None m }
 {}
 
 /// A normal text is its own normal text: to normalise twice is to normalise once.

@@ -1,13 +1,15 @@
 //! The calls that write normal texts, and the one that counts.
 
-ghost use Rattle.std.specs.Prelude.{◌≡◌, ◌++◌, ℕ, List, Some, length, true, false, Result, Ok, OnOk};
+ghost use Rattle.std.specs.Prelude.{◌≡◌, ◌++◌, ℕ, List, Some, length, true, false, None, Result, Ok, Err, OnOk};
 ghost use Rattle.std.specs.FinMap as map;
 ghost use Rattle.std.specs.Io.KnownBytes.{Appends, Consumes, IsAtEnd};
 ghost use Rattle.law_model.specs.Model.{Meaning as Parts};
-ghost use Rattle.tftp_judge.specs.{EndsText, IsReadVerdict, IsTextVerdict, SaysReadFailed, Verdict};
+ghost use Rattle.law_end.specs.{IsWritable};
+ghost use Rattle.tftp_judge.specs.{EndsText, IsReadVerdict, IsTextVerdict, NormalTooLong, Refused, SaysReadFailed, Verdict as VerdictKind};
 ghost use Rattle.tftp_normal.specs.Accepted.{IsAccepted};
 ghost use Rattle.tftp_normal.specs.Normal.{normal_count as count_of, normal_datagrams, normal_text, opening_count};
 ghost use Rattle.tftp_normal.specs.Normalised.{Normalises, WritesNormal};
+ghost use Rattle.tftp_normal.specs.{NormalFault as NormalFaultKind};
 
 use crate::fault::NormalFault;
 use crate::transfer::{Transfer, window_size_of};
@@ -15,17 +17,19 @@ use crate::writing::write_normal;
 use net_streams::streams::{Latched, LineWriter};
 use std::alloc::Global;
 use std::io::{Read, Write};
-use tftp_judge::{Meaning, MeaningParts, judge_text};
+use tftp_judge::{Meaning, MeaningParts, Refusal, Verdict, judge_text};
 use tftp_packet::Side;
 
 /// Writes the normal text of a meaning, and nothing else. It takes all memory that it needs before it writes, so with
-/// `Memory` nothing was written; it never answers `Verdict`.
+/// `Memory` nothing was written. It answers `Verdict` only of a meaning of more than 65535 blocks, which a text numbers
+/// in two bytes.
 pub fn normal_capture<W: Write>(
     alloc: Global,
     meaning: Meaning,
     writer: &mut LineWriter<W>,
 ) -> Result<(), NormalFault>
-    ensures normalises { Normalises W.contents writer.old writer.new (Ok meaning) result }
+    ensures normalises { IsWritable None meaning → Normalises W.contents writer.old writer.new (Ok meaning) result }
+    ensures too_long { (IsWritable None meaning → ⊥) → (result ≡ Err (NormalFaultKind.Verdict (Refused NormalTooLong))) × (writer.new ≡ writer.old) }
 {
     let MeaningParts {
         request,
@@ -33,6 +37,9 @@ pub fn normal_capture<W: Write>(
         file,
         blocks,
     } = meaning.into_parts();
+    if blocks > 65535 {
+        return Err(NormalFault::Verdict(Verdict::Refused(Refusal::NormalTooLong)));
+    }
     let transfer = Transfer::of(&request, &agreed, &file, blocks);
     write_normal(alloc, &transfer, writer)
 }
@@ -45,17 +52,17 @@ pub fn normalise<R: Read, W: Write>(
     writer: &mut LineWriter<W>,
 ) -> Result<(), NormalFault>
     requires reading { reader.old.1 ≡ false }
-    ensures normalises { (read : List ℕ) × (said : Result Parts Verdict) × Consumes (R.remaining reader.old.0) (R.remaining reader.new.0) read
+    ensures normalises { (read : List ℕ) × (said : Result Parts VerdictKind) × Consumes (R.remaining reader.old.0) (R.remaining reader.new.0) read
         × IsReadVerdict read said × (EndsText said → IsAtEnd (R.remaining reader.new.0)) × (SaysReadFailed said → reader.new.1 ≡ true)
         × (reader.new.1 ≡ true → SaysReadFailed said) × Normalises W.contents writer.old writer.new said result }
     ensures whole { (text : List ℕ) → R.remaining reader.old.0 ≡ Some text → reader.new.1 ≡ false
-        → (said : Result Parts Verdict) × IsTextVerdict text said × Normalises W.contents writer.old writer.new said result }
+        → (said : Result Parts VerdictKind) × IsTextVerdict text said × Normalises W.contents writer.old writer.new said result }
     ensures accepted { (text : List ℕ) → R.remaining reader.old.0 ≡ Some text
         → OnOk result ((m : Parts) × IsAccepted text m × Appends (W.contents writer.old.inner) (W.contents writer.new.inner) (writer.old.waits ++ normal_text m)) }
     ensures exact { (text : List ℕ) (m : Parts) → R.remaining reader.old.0 ≡ Some text → reader.new.1 ≡ false → IsAccepted text m
         → WritesNormal W.contents writer.old writer.new m result }
 {
-    let meaning = judge_text(alloc, reader)?;
+    let meaning = judge_text(alloc, None, reader)?;
     normal_capture(alloc, meaning, writer)
 }
 

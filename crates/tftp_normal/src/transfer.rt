@@ -33,7 +33,7 @@ impl<'a> Model for Transfer<'a> {
 }
 
 impl<'a> Transfer<'a> {
-    ghost use Rattle.std.specs.Prelude.{◌≡◌, ◌≢◌, ◌↔◌, ◌+◌, ◌≤◌, min, length, IfOk, IsTrue};
+    ghost use Rattle.std.specs.Prelude.{◌≡◌, ◌≢◌, ◌↔◌, ◌+◌, ◌≤◌, min, length, None, IfOk, IsTrue};
     ghost use Rattle.std.specs.FinMap as map;
     ghost use Rattle.tftp_packet.specs.Messages.{Message};
     ghost use Rattle.tftp_packet.specs.Canonical.{canonical};
@@ -51,7 +51,7 @@ impl<'a> Transfer<'a> {
         file: &'a FileBytes,
         blocks: u32,
     ) -> Self
-        requires can { CanBeWritten (meaning_from (request.now, (agreed.now, file_in request.now.mode file.now))) }
+        requires can { CanBeWritten None (meaning_from (request.now, (agreed.now, file_in request.now.mode file.now))) }
         requires counted { blocks ≡ blocks_of (meaning_from (request.now, (agreed.now, file_in request.now.mode file.now))) }
         requires canonical { IsCanonical request.now.mode file.now }
         ensures { result ≡ meaning_from (request.now, (agreed.now, file_in request.now.mode file.now)) }

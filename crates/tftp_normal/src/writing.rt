@@ -1,6 +1,6 @@
 //! The normal capture, written datagram by datagram.
 
-ghost use Rattle.std.specs.Prelude.{◌≡◌, ◌≢◌, ◌+◌, ◌-◌, ◌*◌, ◌^◌, ◌≤◌, [], ◌∷◌, ◌++◌, length, drop, true, false, Ok, OnOk};
+ghost use Rattle.std.specs.Prelude.{◌≡◌, ◌≢◌, ◌+◌, ◌-◌, ◌*◌, ◌^◌, ◌≤◌, [], ◌∷◌, ◌++◌, length, drop, true, false, Ok, OnOk, None};
 ghost use Rattle.std.specs.FinMap as map;
 ghost use Rattle.tftp_packet.specs.{Message, canonical, End};
 ghost use Rattle.net_streams.specs.Streams.{Writes};
@@ -230,7 +230,7 @@ pub(crate) fn write_normal<W: Write>(
     transfer: &Transfer<'_>,
     writer: &mut LineWriter<W>,
 ) -> Result<(), NormalFault>
-    requires can { CanBeWritten transfer.now }
+    requires can { CanBeWritten None transfer.now }
     ensures normalises { Normalises W.contents writer.old writer.new (Ok transfer.now) result }
 {
     let request = transfer.request_payload(alloc)?;

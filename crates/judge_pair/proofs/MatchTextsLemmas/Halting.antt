@@ -17,6 +17,7 @@ use Rattle.tftp_judge.specs.{Refuses, IsJudgeAfter, Judge, IsOfText, IsReadVerdi
 use Rattle.tftp_judge.specs.declared.refusal.Refusal.TheVariants.{Memory}
 use Rattle.tftp_judge.proofs.FirstFaults.{begins_longer, fault_kinds}
 use Rattle.tftp_judge.proofs.Follows.{Follows, found_fault, found_refused, clean_says}
+use Rattle.tftp_judge.proofs.TakenText.{itself_taken}
 use Rattle.tftp_judge.proofs.TextFound.{Closed, Found, closed, found_ended, found_exact, found_judged, found_tally, found_whole, rest_of}
 use Rattle.tftp_capture.specs.CaptureText.Due.{Body}
 use Rattle.law_pair.specs.{IsLawfulTo}
@@ -27,14 +28,14 @@ use Rattle.judge_pair.proofs.MatchTextsLemmas.Fronts.{all_of, front_in, has_befo
 
 -- ---- what was found is what there is to say
 
-pub judged_of : (before after : Option (List ℕ)) (failed : Bool) (r : Result Meaning Verdict) → Found before after failed r → IsJudged before after failed r
+pub judged_of : (before after : Option (List ℕ)) (failed : Bool) (r : Result Meaning Verdict) → Found None before after failed r → IsJudged before after failed r
 judged_of before after failed r found = record {
-  judged = found_judged before after failed r found;
-  ended = found_ended before after failed r found;
+  judged = found_judged None before after failed r found;
+  ended = found_ended None before after failed r found;
   read = found.failing;
-  tally = found_tally before after failed r found;
-  whole = found_whole before after failed r found;
-  exact = found_exact before after failed r found;
+  tally = found_tally None before after failed r found;
+  whole = found_whole None before after failed r found;
+  exact = found_exact None before after failed r found;
 }
 
 -- of the whole text that is over
@@ -53,13 +54,15 @@ module _ (before now after : Option (List ℕ)) (old new : ReaderState) (judge :
   abbrev pub Goes : Result (Option Owned) CaptureFault → Type 0
   Goes result = (t : List ℕ) (ds : List Numbered) → StandsFor old t ds → Continues old new now rest result t ds
 
-  abbrev follows : Follows before now old judge
+  abbrev follows : Follows None before now old judge
   follows = record {
-    taken = has.taken;
+    read = has.taken;
     datagrams = has.datagrams;
     consumed = has.consumed;
     goes_on = has.goes_on;
-    accepted = subst (IsJudgeAfter judge old.header) (sym has.is) accepted;
+    passed = read;
+    taken = sym has.is;
+    accepted = accepted;
   }
 
   stood : StandsFor old has.taken has.datagrams
@@ -102,7 +105,7 @@ module _ (before now after : Option (List ℕ)) (old new : ReaderState) (judge :
   pub halted_fault : (fault : CaptureFault) (failed : Bool) → Goes (Err fault) → new.standing ≡ Failed fault → length new.lines.ahead ≤ most_ahead → (IsAtTextEnd fault → IsAtEnd rest) → (IsReadFault fault → new.lines.ahead ≡ [])
       → (IsReadFault fault → failed ≡ true) → IsReadFault fault ⊎ (failed ≡ false) → IsHalted before after failed (Fault fault) None old.header read
   halted_fault fault failed goes is near end drained reads tally = record {
-    says = λ r finished. judged_of before after failed (Err (Capture fault)) (found_fault before now after old new judge ready follows fault failed goes is near end drained reads tally);
+    says = λ r finished. judged_of before after failed (Err (Capture fault)) (found_fault None before now after old new judge ready follows fault failed goes is near end drained reads tally);
     counts = λ r finished of text same k es datagrams. by fault goes is end of text same k es datagrams;
   }
     where
@@ -134,7 +137,7 @@ module _ (before now after : Option (List ℕ)) (old new : ReaderState) (judge :
     is_refused : (refusal : Refusal) → Refuses old.header read (datagram_of d) refusal → IsHalted before after failed Refused (Some refusal) old.header read
     is_refused refusal refuses = record {
       says = λ r finished. subst (λ x. IsJudged before after failed (said_by Refused x)) (sym finished)
-          (judged_of before after failed (Err (RefusedFor refusal)) (found_refused before now after old new judge ready follows d goes still same refusal failed clean near (subst (λ l. Refuses old.header l (datagram_of d) refusal) (sym has.is) refuses)));
+          (judged_of before after failed (Err (RefusedFor refusal)) (found_refused None before now after old new judge ready follows d goes still same refusal failed clean near (λ now_taken is. subst (λ x. Refuses old.header read x refusal) (sym (itself_taken read (datagram_of d) now_taken is)) refuses)));
       counts = λ r finished of text is k es datagrams. by refusal refuses (subst (λ x. IsOfText (said_by Refused x)) finished of) text is k es datagrams;
     }
       where

@@ -84,7 +84,7 @@ fn judge_both<R: Read, S: Read>(
         Err(fault) => {
             return PairSaid {
                 client: Err(Verdict::Capture(fault)),
-                server: judge_text(alloc, server),
+                server: judge_text(alloc, None, server),
                 together: Err(Apart::Stopped),
             };
         }

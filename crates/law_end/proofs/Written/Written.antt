@@ -13,7 +13,7 @@ use Rattle.law_model.proofs.ModelLemmas.Defaults.{default_blksize}
 use Rattle.law_model.proofs.ModelLemmas.Members.{contains_first, contains_later, contains_cases, contains_none}
 use Rattle.law_model.proofs.ModelLemmas.OneSided.{view_one_sided}
 use Rattle.law_end.specs.Dress.{StrayAnswer}
-use Rattle.law_end.specs.{Label, Main, Stray, Division, TransferIds, view_in, datagrams_of, packet_of, HasLabel, HaveLabels, Fits, ReadsAs, written_wire, IsWritable, Shows, wire_of, HasPayload, CanBeWritten}
+use Rattle.law_end.specs.{Label, Main, Stray, Division, TransferIds, view_in, datagrams_of, packet_of, HasLabel, HaveLabels, Fits, ReadsAs, written_wire, IsWritable, Shows, wire_of, HasPayload, CanBeNumbered, CanBeWritten}
 use Rattle.tftp_packet.proofs.CanonicalLaws.{spells_again, shortest as canonical_shortest}
 use Rattle.tftp_netascii.proofs.CanonicalLemmas.{Reads-canonical}
 use Rattle.tftp_nego.proofs.Numbers.{map_in_range, blksize_range}
@@ -91,7 +91,7 @@ octet_wire Octet wire file is reads = reads
 octet_wire Netascii wire file is reads = absurd (cc)
 
 -- what is agreed may be agreed without a rollover too, where the wire has few enough blocks: a size that is agreed is its length
-still_agreed : (rollover : Option Rollover) (m : Meaning) (wire : List ℕ) → Fits rollover m wire → IsWritable m → MayAgree None (request_of m) m.agreed
+still_agreed : (rollover : Option Rollover) (m : Meaning) (wire : List ℕ) → Fits rollover m wire → IsWritable None m → MayAgree None (request_of m) m.agreed
 still_agreed rollover m wire fits writable = record {
   asked = fits.may_agree.asked;
   size = λ octet size agreed.
@@ -99,16 +99,26 @@ still_agreed rollover m wire fits writable = record {
       subst (λ n. n / blksize_of m + 1 ≤ 65535) long writable;
 }
 
-own_fits : (rollover : Option Rollover) (m : Meaning) (wire : List ℕ) → Fits rollover m wire → IsWritable m → Fits None m (wire_of m)
+pub by_two_bytes : (m : Meaning) → CanBeNumbered m → IsWritable None m → CanBeWritten None m
+by_two_bytes m (rollover, can) few = record {
+  fits = record { may_agree = still_agreed rollover m (wire_of m) can.fits few; reads = can.fits.reads; size = can.fits.size; numbered = few };
+  bytes = can.bytes;
+  request = can.request;
+  oack = can.oack;
+  block_size = can.block_size;
+  window_size = can.window_size;
+}
+
+own_fits : (rollover : Option Rollover) (m : Meaning) (wire : List ℕ) → Fits rollover m wire → IsWritable rollover m → Fits rollover m (wire_of m)
 own_fits rollover m wire fits writable = record {
-  may_agree = still_agreed rollover m wire fits writable;
+  may_agree = fits.may_agree;
   reads = reads_own m.mode m.file;
   size = λ octet size agreed. sym (ap length (octet_wire m.mode wire m.file octet fits.reads)) ∙ fits.size octet size agreed;
   numbered = writable;
 }
 
 pub can_be_written : (h : Header) (m : Meaning) (datagrams : List Datagram) → AllByRecursion (λ (d : Datagram). length d.payload ≤ 65527) datagrams
-    → Shows h m datagrams → CanBeWritten m
+    → Shows h m datagrams → CanBeWritten h.rollover m
 can_be_written h m datagrams short shows =
     let shown = shows.shown in
     let seen = shown.seen in
@@ -145,5 +155,5 @@ can_be_written h m datagrams short shows =
       window_size = some_window h m shows.wire datagrams shown;
     }
 
-pub shown_can_be_written : (h : Header) (m : Meaning) (datagrams : List Datagram) → All (λ (d : Datagram). length d.payload ≤ 65527) datagrams → Shows h m datagrams → CanBeWritten m
+pub shown_can_be_written : (h : Header) (m : Meaning) (datagrams : List Datagram) → All (λ (d : Datagram). length d.payload ≤ 65527) datagrams → Shows h m datagrams → CanBeWritten h.rollover m
 shown_can_be_written h m datagrams short shows = can_be_written h m datagrams (recursion_from_All (λ (d : Datagram). length d.payload ≤ 65527) datagrams short) shows

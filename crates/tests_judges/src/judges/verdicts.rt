@@ -114,7 +114,7 @@ fn verdict_of(
     fails_at: u64,
 ) -> Result<Meaning, Verdict> {
     let mut reader = Latched::new(DripReader::new(text, piece, fails_at, None));
-    judge_text(rt.alloc(), &mut reader)
+    judge_text(rt.alloc(), None, &mut reader)
 }
 
 /// The line of that answer.

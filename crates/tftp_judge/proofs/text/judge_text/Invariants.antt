@@ -10,7 +10,7 @@ invariant-loop-datagram g l = record {
   goes : l.capture.standing ≡ Standing.Open;
   clean : l.reader.1 ≡ false;
   lines : l.judge.fed < l.capture.handed;
-  follows : Follows (g.R.Read.remaining l.fn.reader.0) (prepend_known l.capture.lines.ahead (g.R.Read.remaining l.reader.0)) l.capture l.judge;
+  follows : Follows l.fn.rollover (g.R.Read.remaining l.fn.reader.0) (prepend_known l.capture.lines.ahead (g.R.Read.remaining l.reader.0)) l.capture l.judge;
 }
 
 abbrev pub decreases-loop-datagram : goal.decreases-loop-datagram

@@ -16,3 +16,7 @@ pub returns-clause-unrolls : goal.returns-clause-unrolls
 returns-clause-unrolls g c = λ h earlier after.
     let (now, taken) = taken_there (Some c.args.rollover) h earlier (datagram_of c.args.datagram.now) after.lawful in
     (now, as_unrolled c.args.rollover (transfer_of h earlier) (datagram_of c.args.datagram.now) now taken)
+
+pub returns-clause-routed : goal.returns-clause-routed
+returns-clause-routed g c = λ h earlier d after is.
+    c.take.ensures.routed h earlier d after (as_taken c.args.rollover (transfer_of h earlier) (datagram_of c.args.datagram.now) d is)

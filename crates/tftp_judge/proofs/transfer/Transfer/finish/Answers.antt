@@ -1,10 +1,11 @@
 use Rattle.std.proofs.Common.{◌≡◌, ◌↔◌, ◌+◌, ◌/◌, ◌≤◌, List, length, Ok, refl, true≢false, sym, subst, ap, ◌∙◌, reverse}
 use Rattle.tftp_packet.specs.{OptionMap, RequestParts}
 use Rattle.tftp_packet.specs.Hosts.{Datagram, Header}
+use Rattle.tftp_packet.specs.Rounds.{greatest_of}
 use Rattle.law_model.specs.Model.{Meaning}
 use Rattle.tftp_ends.specs.{held_of}
 use Rattle.law_model.specs.Rules.{transfer_of}
-use Rattle.law_end.specs.{CanBeWritten, IsWritable, written_wire, OneEnded, Meant, meaning_from, FirstAsked}
+use Rattle.law_end.specs.{CanBeNumbered, IsWritable, written_wire, OneEnded, Meant, meaning_from, FirstAsked}
 use Rattle.tftp_judge.specs.{Agreed, Transfer, AreErrors, IsTransferAfter, IsVerdictByRules, exchange_of}
 use Rattle.tftp_judge.proofs.EndedTransfer.{BeganBy, begun_by, agreed_to, unanswered_by, held_file, fits_by, unanswered_not_meant, undone_not_meant, ended_by, meant_by, can_be_written, meant_verdict, long_verdict, memory_verdict, unfinished_verdict}
 use Rattle.tftp_judge.proofs.NewMessages.{blocks_of}
@@ -31,10 +32,12 @@ meant g c h earlier lawful first begun =
     meant_by h earlier lawful c.args.self.asked first c.match-exchange.agreed.1 begun.0 begun.1 c.match-exchange.agreed.0 c.in-Ok.file.1
     ((c.done.ensures.done (transfer_of h earlier) begun.1.after).0 c.if-not-done.false) (c.done.ensures.whole (transfer_of h earlier) begun.1.after c.if-not-done.false) begun.2 file
 
-fits : (g : Over) (c : After-written_blocks g) → (length (written_wire c.in-Ok.file.0 c.in-Ok.file.1) / c.blksize.result + 1 ≤ 65535) ↔ IsWritable (meaning g c)
-fits g c =
-    fits_by c.in-Ok.file.0 c.args.self.asked.mode c.blksize.result c.match-exchange.agreed.0 c.in-Ok.file.1 c.in-Ok.file.1
-    (c.in-Ok.ensures.mode ∙ c.mode.ensures ∙ ap (λ (t : Transfer). t.asked.mode) c.self.view_is) c.blksize.ensures.value refl
+fits : (g : Over) (c : After-written_blocks g) (h : Header) → c.args.self.rollover ≡ h.rollover
+    → (length (written_wire c.in-Ok.file.0 c.in-Ok.file.1) / c.blksize.result + 1 ≤ c.greatest_block-greatest.result) ↔ IsWritable h.rollover (meaning g c)
+fits g c h same =
+    rw (c.greatest_block-greatest.ensures ∙ ap (λ (t : Transfer). greatest_of t.rollover) c.self.view_is ∙ ap greatest_of same)
+    (fits_by (greatest_of h.rollover) c.in-Ok.file.0 c.args.self.asked.mode c.blksize.result c.match-exchange.agreed.0 c.in-Ok.file.1 c.in-Ok.file.1
+    (c.in-Ok.ensures.mode ∙ c.mode.ensures ∙ ap (λ (t : Transfer). t.asked.mode) c.self.view_is) c.blksize.ensures.value refl)
 
 made : (g : Over) (c : After-into_options g) → meaning_from (c.args.self.asked, (c.match-exchange.agreed.0, c.in-Ok.file.1)) ≡ meaning_from (c.self.inside.asked, (c.into_options.result, c.in-Ok.file.1))
 made g c =
@@ -75,19 +78,19 @@ pub returns-in_default-clause-verdict : goal.returns-in_default-clause-verdict
 returns-in_default-clause-verdict g c h earlier lawful first after counts =
     let at = (goal.at.returns-in_default-clause-verdict g c).After-written_blocks in
     let begun = began g (goal.at.returns-in_default-clause-verdict g c).After-done h (transfer_of h earlier) after in
-    long_verdict h earlier (meaning g at) lawful (meant g at h earlier lawful first begun) (λ few. c.in_default.ensures ((fits g at).1 few))
+    long_verdict h earlier (meaning g at) lawful (meant g at h earlier lawful first begun) (λ few. c.in_default.ensures ((fits g at h after.rollover).1 few))
 
 pub of-requires-clause-can : goal.of-requires-clause-can
 of-requires-clause-can g c =
     let (h, earlier, of) = c.requires.some in
     let at = (goal.at.of-requires-clause-can g c).After-written_blocks in
     let begun = began g (goal.at.of-requires-clause-can g c).After-done h (transfer_of h earlier) of.after in
-    subst CanBeWritten (made g (goal.at.of-requires-clause-can g c).After-into_options)
-    (can_be_written h earlier (meaning g at) of.short (meant g at h earlier of.lawful of.asked begun) ((fits g at).0 c.in-Some.ensures.1))
+    subst CanBeNumbered (made g (goal.at.of-requires-clause-can g c).After-into_options)
+    (h.rollover, can_be_written h earlier (meaning g at) of.short (meant g at h earlier of.lawful of.asked begun) ((fits g at h of.after.rollover).0 c.in-Some.ensures.1))
 
 pub returns-clause-verdict : goal.returns-clause-verdict
 returns-clause-verdict g c h earlier lawful first after counts =
     let at = (goal.at.returns-clause-verdict g c).After-written_blocks in
     let begun = began g (goal.at.returns-clause-verdict g c).After-done h (transfer_of h earlier) after in
     let is : meaning g at ≡ c.of.result = made g (goal.at.returns-clause-verdict g c).After-into_options ∙ sym c.of.ensures in
-    subst (λ m. IsVerdictByRules h (reverse earlier) (Ok m)) is (meant_verdict h earlier (meaning g at) lawful (meant g at h earlier lawful first begun) ((fits g at).0 c.in-Some.ensures.1))
+    subst (λ m. IsVerdictByRules h (reverse earlier) (Ok m)) is (meant_verdict h earlier (meaning g at) lawful (meant g at h earlier lawful first begun) ((fits g at h after.rollover).0 c.in-Some.ensures.1))
