@@ -48,7 +48,7 @@ help() {
     cat <<'END_OF_HELP'
 Whether a recorded TFTP transfer was lawful, and if not, which datagram broke which rule
 
-Usage: tftp-audit <COMMAND> [FILE]
+Usage: tftp-audit <COMMAND> [--rollover <N>] [FILE]
 
 Commands:
   check    The verdict, in one line
@@ -61,8 +61,10 @@ Arguments:
   [FILE]  The capture text of one transfer; without it, or with -, standard input
 
 Options:
-  -h, --help     Print help
-  -V, --version  Print version
+      --rollover <N>  What check, extract and count take to come after block 65535: 0 or 1.
+                      Without it nothing does, and such a block is refused
+  -h, --help          Print help
+  -V, --version       Print version
 
 Status: 0 where the capture is accepted or was shown; 1 where it is refused, aborted, incomplete
 or too long when normal; 2 where it is no capture text, or could not be read or judged.
@@ -99,10 +101,28 @@ warn_of_recording() {
     esac
 }
 
-# Answers an option and ends; refuses a file that cannot be read, and an option of a command. What else is wrong with the
+# Whether a command goes by what comes after block 65535.
+is_judging() {
+    case $1 in
+        check | extract | count) ;;
+        *) false ;;
+    esac
+}
+
+# Takes the number that comes after block 65535.
+take_rollover() {
+    is_judging "$command" || refuse "'$command' takes no --rollover: check, extract and count do"
+    case $1 in
+        0 | 1) rollover=$1 ;;
+        *) refuse "--rollover takes 0 or 1, not '$1'" ;;
+    esac
+}
+
+# Answers an option and ends; refuses a file that cannot be read, and an option that there is not. What else is wrong with the
 # words is the program's to tell, and here it is told how it is called. Behind the word -- a file may begin with a -.
 take_words() {
     is_wrong=no
+    rollover=
     case $#:${1-}:${2-} in
         1:-h: | 1:--help: | 2:*:-h | 2:*:--help) write_out "$(help)" && exit ;;
         1:-V: | 1:--version:) write_out "$name $version" && exit ;;
@@ -113,6 +133,16 @@ take_words() {
     fi
     command=$1
     shift
+    case ${1-} in
+        --rollover)
+            take_rollover "${2-}"
+            shift 2
+            ;;
+        --rollover=*)
+            take_rollover "${1#*=}"
+            shift
+            ;;
+    esac
     case ${1-} in
         --) shift ;;
         -?*) refuse_option "${1%%=*}" ;;
@@ -133,6 +163,6 @@ ask_for_large_pages() {
 run_command() {
     ask_for_large_pages
     is_command "$@" || exec "$program" "$@"
-    [ "$file" = - ] || exec "$program" "$command" <"$file"
-    exec "$program" "$command"
+    [ "$file" = - ] || exec "$program" "$command" ${rollover:+--rollover "$rollover"} <"$file"
+    exec "$program" "$command" ${rollover:+--rollover "$rollover"}
 }

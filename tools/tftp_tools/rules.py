@@ -113,7 +113,8 @@ class Rule(enum.Enum):
     BEYOND_BLOCK_65535 = (
         20, "BeyondBlock65535", "a transfer has at most 65,535 blocks", f"{PROFILE}: the block number of RFC 1350,"
         " section 5, has two bytes, and no RFC says what comes after the last",
-        "a large file in small blocks: nearly all software goes on with block 0 or 1; ask for a larger blksize",
+        "a large file in small blocks: nearly all software goes on with block 0 or 1, which tftp-audit check --rollover"
+        " judges; ask for a larger blksize",
     )
     BLOCK_LENGTH = (
         21, "BlockLength", "each block but the last is whole, and the last is shorter, as long as an agreed size"

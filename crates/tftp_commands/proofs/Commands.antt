@@ -1,7 +1,8 @@
 -- What is printed, by the words.
-use Rattle.std.proofs.Common.{◌≡◌, ◌≢◌, ◌⊎◌, inl, inr, ℕ, List, [], ◌∷◌, Bool, false, Some, Result, Ok, Err, codes, nat_eq, if◌then◌else◌, refl, sym, ap, ◌∙◌, subst}
+use Rattle.std.proofs.Common.{◌≡◌, ◌⊎◌, inl, inr, ℕ, List, [], ◌∷◌, Bool, false, Option, None, Some, Result, Ok, Err, nat_eq, if◌then◌else◌, refl, sym, ap, ◌∙◌, subst}
+use Rattle.tftp_packet.specs.{Rollover, Zero, One}
 use Rattle.tftp_commands.specs.declared.status.Status.TheVariants as status
-use Rattle.tftp_commands.specs.{Action, Check, Extract, Normal, Show, Count, UsageFault, Output, memory_line, usage_line, IsOutput, IsOutputOf, Source, IsCommand, IsNoCommand, IsUnread, memory_fault, name_of}
+use Rattle.tftp_commands.specs.{Action, Check, Extract, Normal, Show, Count, UsageFault, Output, memory_line, usage_line, IsOutput, IsOutputOf, Source, IsCommand, IsNoCommand, IsUnread, memory_fault, name_of, option_words, rollover_of}
 use Rattle.tftp_commands.specs.declared.words.UsageFault.TheVariants as usage
 use Rattle.tftp_commands.proofs.Memory.{memory_said, silent_said}
 
@@ -19,18 +20,37 @@ third (a ∷ []) = 0
 third (a ∷ b ∷ []) = 0
 third (a ∷ b ∷ c ∷ word) = c
 
-abbrev by_third : ℕ → Action
-by_third letter = if nat_eq letter 101 then Check else if nat_eq letter 116 then Extract else if nat_eq letter 114 then Normal else if nat_eq letter 111 then Show else Count
+abbrev by_third : ℕ → Option Rollover → Action
+by_third letter rollover =
+    if nat_eq letter 101 then Check rollover else if nat_eq letter 116 then Extract rollover else if nat_eq letter 114 then Normal else if nat_eq letter 111 then Show else Count rollover
 
-told_by_third : (a : Action) → by_third (third (name_of a)) ≡ a
-told_by_third Check = refl
-told_by_third Extract = refl
-told_by_third Normal = refl
-told_by_third Show = refl
-told_by_third Count = refl
+-- the digits differ
+abbrev first : List ℕ → ℕ
+first [] = 0
+first (a ∷ word) = a
+
+abbrev by_words : List (List ℕ) → Option Rollover
+by_words (program ∷ name ∷ option ∷ digit ∷ words) = Some (if nat_eq (first digit) 48 then Zero else One)
+by_words _ = None
+
+abbrev action_by : List (List ℕ) → Action
+action_by words = by_third (third (second words)) (by_words words)
+
+told_by_words : (a : Action) (program : List ℕ) → action_by (program ∷ name_of a ∷ option_words (rollover_of a)) ≡ a
+told_by_words (Check None) program = refl
+told_by_words (Check (Some Zero)) program = refl
+told_by_words (Check (Some One)) program = refl
+told_by_words (Extract None) program = refl
+told_by_words (Extract (Some Zero)) program = refl
+told_by_words (Extract (Some One)) program = refl
+told_by_words Normal program = refl
+told_by_words Show program = refl
+told_by_words (Count None) program = refl
+told_by_words (Count (Some Zero)) program = refl
+told_by_words (Count (Some One)) program = refl
 
 pub one_command : (words : List (List ℕ)) (a b : Action) → IsCommand a words → IsCommand b words → a ≡ b
-one_command words a b one two = sym (told_by_third a) ∙ ap (λ ws. by_third (third (second ws))) (sym one.1 ∙ two.1) ∙ told_by_third b
+one_command words a b one two = sym (told_by_words a one.0) ∙ ap action_by (sym one.1 ∙ two.1) ∙ told_by_words b two.0
 
 -- ---- the output
 
@@ -58,11 +78,11 @@ Only words r = (a : Action) → IsCommand a words → (r ≡ Ok a) ⊎ (r ≡ Er
 
 -- a fault of the words never says that memory ran out
 no_memory : (a : Action) → usage.Usage ≡ memory_fault a → ⊥
-no_memory Check e = cc
-no_memory Extract e = cc
+no_memory (Check rollover) e = cc
+no_memory (Extract rollover) e = cc
 no_memory Normal e = cc
 no_memory Show e = cc
-no_memory Count e = cc
+no_memory (Count rollover) e = cc
 
 one_fault : (r : Result Action UsageFault) (f g : UsageFault) → r ≡ Err f → r ≡ Err g → f ≡ g
 one_fault r f g one other = cc
@@ -83,14 +103,3 @@ only_named a words is b other = inl (ap Ok (one_command words a b is other))
 
 pub some_named : (a : Action) (words : List (List ℕ)) → IsCommand a words → (b : Action) → IsCommand b words → Some a ≡ Some b
 some_named a words is b other = ap Some (one_command words a b is other)
-
--- a word that is no command's name
-pub no_name : (a : Action) (word : List ℕ) → word ≡ name_of a → word ≢ codes "check" → word ≢ codes "extract" → word ≢ codes "normal" → word ≢ codes "show" → word ≢ codes "count" → ⊥
-no_name Check word is check extract normal show count = check is
-no_name Extract word is check extract normal show count = extract is
-no_name Normal word is check extract normal show count = normal is
-no_name Show word is check extract normal show count = show is
-no_name Count word is check extract normal show count = count is
-
-pub same_word : (words : List (List ℕ)) (p q x y : List ℕ) → words ≡ p ∷ x ∷ [] → words ≡ q ∷ y ∷ [] → x ≡ y
-same_word words p q x y one other = cc

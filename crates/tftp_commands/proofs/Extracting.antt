@@ -2,8 +2,9 @@
 use Rattle.std.proofs.Common.{◌≡◌, ℕ, List, Bool, true, false, true≢false, Option, Some, Result, Ok, Err, refl, sym, ap, ◌∙◌, subst}
 use Rattle.std.specs.Io.KnownBytes.{Consumes, IsAtEnd}
 use Rattle.net_streams.specs.Streams.{IsFresh, Sink}
+use Rattle.tftp_packet.specs.{Rollover}
 use Rattle.law_model.specs.Model.{Meaning}
-use Rattle.tftp_judge.specs.{Extracts, EndsText, IsReadVerdict, IsTextVerdict, SaysReadFailed, OutFault, Verdict}
+use Rattle.tftp_judge.specs.{Extracts, EndsText, IsReadVerdictBy, IsTextVerdictBy, SaysReadFailed, OutFault, Verdict}
 use Rattle.tftp_judge.specs.declared.extraction.OutFault.TheVariants as fault
 use Rattle.tftp_commands.specs.{Status, verdict_status, IsExtracted, extracted, Output, Prints, Runs, given, so_far}
 use Rattle.tftp_commands.specs.declared.status.Status.TheVariants as status
@@ -14,7 +15,7 @@ status_after (Ok done) = status.Success
 status_after (Err fault.Write) = status.Fault
 status_after (Err (fault.Verdict verdict)) = verdict_status verdict
 
-module _ {W : Type 0} (contents : W → Option (List ℕ)) (old new : Sink W) where
+module _ (rollover : Option Rollover) {W : Type 0} (contents : W → Option (List ℕ)) (old new : Sink W) where
   written : (said : Result Meaning Verdict) (result : Result (Unit {0}) OutFault) → IsFresh old → Extracts contents old new said result → Prints contents old new (extracted said) (status_after result)
   written (Ok m) (Ok done) fresh is = printed_fresh contents old new m.file status.Success fresh is
   written (Ok m) (Err fault.Write) fresh is = cut_fresh contents old new m.file status.Success fresh is
@@ -37,10 +38,10 @@ module _ {W : Type 0} (contents : W → Option (List ℕ)) (old new : Sink W) wh
     -- what was said of what was read, as `extract` of the judge tells it
     abbrev pub Told : Type 0
     Told =
-        (read : List ℕ) × (said : Result Meaning Verdict) × Consumes before after read × IsReadVerdict read said × (EndsText said → IsAtEnd after) × (SaysReadFailed said → failed ≡ true) × (failed ≡ true → SaysReadFailed said)
+        (read : List ℕ) × (said : Result Meaning Verdict) × Consumes before after read × IsReadVerdictBy rollover read said × (EndsText said → IsAtEnd after) × (SaysReadFailed said → failed ≡ true) × (failed ≡ true → SaysReadFailed said)
         × Extracts contents old new said result
 
-    extracted_said : Told → (read : List ℕ) × (output : Output) × Consumes before after read × IsExtracted (so_far read after failed) output
+    extracted_said : Told → (read : List ℕ) × (output : Output) × Consumes before after read × IsExtracted rollover (so_far read after failed) output
         × Prints contents old new output (status_after result)
     extracted_said (read, said, consumed, is_said, at_end, reads, tally, is) = (
       read,
@@ -50,8 +51,8 @@ module _ {W : Type 0} (contents : W → Option (List ℕ)) (old new : Sink W) wh
       written said result fresh is,
     )
 
-    extracted_whole : Told → failed ≡ false → (text : List ℕ) → (said : Result Meaning Verdict) × IsTextVerdict text said × Extracts contents old new said result
-        → (output : Output) × IsExtracted (given text) output × Prints contents old new output (status_after result)
+    extracted_whole : Told → failed ≡ false → (text : List ℕ) → (said : Result Meaning Verdict) × IsTextVerdictBy rollover text said × Extracts contents old new said result
+        → (output : Output) × IsExtracted rollover (given text) output × Prints contents old new output (status_after result)
     extracted_whole (read, one, consumed, is_said, at_end, reads, tally, was) sound text (said, is_text, is) = (
       extracted said,
       record {
@@ -67,8 +68,8 @@ module _ {W : Type 0} (contents : W → Option (List ℕ)) (old new : Sink W) wh
     )
 
   pub extracted_runs : {R : Type 0} (remaining : R → Option (List ℕ)) (r0 r1 : R × Bool) (result : Result (Unit {0}) OutFault) (fresh : IsFresh old) → Told (remaining r0.0) (remaining r1.0) r1.1 result fresh
-      → ((text : List ℕ) → remaining r0.0 ≡ Some text → r1.1 ≡ false → (said : Result Meaning Verdict) × IsTextVerdict text said × Extracts contents old new said result)
-      → Runs remaining contents IsExtracted r0 r1 old new (status_after result)
+      → ((text : List ℕ) → remaining r0.0 ≡ Some text → r1.1 ≡ false → (said : Result Meaning Verdict) × IsTextVerdictBy rollover text said × Extracts contents old new said result)
+      → Runs remaining contents (IsExtracted rollover) r0 r1 old new (status_after result)
   extracted_runs remaining r0 r1 result fresh told whole = record {
     said = extracted_said (remaining r0.0) (remaining r1.0) r1.1 result fresh told;
     whole = λ text tells sound. extracted_whole (remaining r0.0) (remaining r1.0) r1.1 result fresh told sound text (whole text tells sound);

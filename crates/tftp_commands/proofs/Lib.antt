@@ -13,3 +13,4 @@ pub mod Normalising
 pub mod OneOutput
 pub mod OneShown
 pub mod OneRun
+mod WordsNamed

@@ -1,5 +1,5 @@
 -- Of what being out of memory may be said: before any byte was read, or for a datagram.
-use Rattle.std.proofs.Common.{◌≡◌, ◌≤◌, ◌⊎◌, lit≤, ℕ, List, [], ◌∷◌, ◌++◌, All, length, codes, Bool, false, true≢false, Option, Some, Ok, Err, Result, refl, sym, ◌∙◌, subst, inl, inr}
+use Rattle.std.proofs.Common.{◌≡◌, ◌≤◌, ◌⊎◌, lit≤, ℕ, List, [], ◌∷◌, ◌++◌, All, length, codes, Bool, false, true≢false, Option, None, Some, Ok, Err, Result, refl, sym, ◌∙◌, subst, inl, inr}
 use Rattle.std.specs.Fmt.{digits}
 use Rattle.std.specs.List.{AllByRecursion}
 use Rattle.std.proofs.lemmas.List.Elements.{All-cons, All-nil}
@@ -9,7 +9,8 @@ use Rattle.tftp_capture.specs.declared.fault.CaptureFault.TheVariants.{Text, Rea
 use Rattle.tftp_capture.proofs.Beginnings.{begins_more, capture_has}
 use Rattle.tftp_capture.proofs.Canonical.{canonical_is_read}
 use Rattle.law_model.specs.Model.{Meaning}
-use Rattle.tftp_judge.specs.{Capture, IsReadVerdict, Refused, Verdict, WantsToJudge, WantsToRead}
+use Rattle.tftp_packet.specs.{Rollover}
+use Rattle.tftp_judge.specs.{Capture, IsReadVerdictBy, Refused, Verdict, WantsToJudge, WantsToRead}
 use Rattle.tftp_judge.specs.declared.refusal.Refusal.TheVariants as refusal
 use Rattle.tftp_judge.proofs.WantOfMemory.{wants_first_line}
 use Rattle.tftp_commands.specs.declared.status.Status.TheVariants as status
@@ -18,26 +19,26 @@ use Rattle.tftp_commands.specs.declared.words.UsageFault.TheVariants as usage
 
 -- ---- before any byte was read
 
-first_said : (extent : Extent) (read : List ℕ) → HasRead extent read [] → IsSaid extent read (Err (Capture (Memory 1)))
-first_said AsRead read none =
-    subst (λ r. IsReadVerdict r (Err (Capture (Memory 1)))) (sym none) (record { taken = []; ahead = []; datagrams = []; to = (refl, lit≤ tt); wants = inl (refl, refl) }, (wants_first_line []).2)
-first_said AsGiven text none = wants_first_line text
+first_said : (rollover : Option Rollover) (extent : Extent) (read : List ℕ) → HasRead extent read [] → IsSaid rollover extent read (Err (Capture (Memory 1)))
+first_said rollover AsRead read none =
+    subst (λ r. IsReadVerdictBy rollover r (Err (Capture (Memory 1)))) (sym none) (record { taken = []; ahead = []; datagrams = []; to = (refl, lit≤ tt); wants = inl (refl, refl) }, (wants_first_line rollover []).2)
+first_said rollover AsGiven text none = wants_first_line rollover text
 
 first_wanted : WantsToShow [] [] 1
 first_wanted = record { taken = []; ahead = []; to = (refl, lit≤ tt); wants = inl (refl, refl, refl) }
 
 module _ (source : Source) (unread : IsUnread source) (clean : source.failed ≡ false) where
-  memory_judged : IsJudged source (Err (Capture (Memory 1)))
-  memory_judged = record {
-    is_said = first_said source.extent source.read unread;
+  memory_judged : (rollover : Option Rollover) → IsJudged rollover source (Err (Capture (Memory 1)))
+  memory_judged rollover = record {
+    is_said = first_said rollover source.extent source.read unread;
     at_end = λ h. absurd h;
     failed = (λ h. absurd h, λ is. absurd (true≢false (sym is ∙ clean)));
   }
 
   -- the commands that say it
   pub memory_said : (a : Action) (cut : Bool) → memory_fault a ≡ usage.Memory → IsOutputOf a source cut (record { bytes = memory_line; status = status.Fault })
-  memory_said Check cut told = record { said = Err (Capture (Memory 1)); judged = memory_judged; is = refl }
-  memory_said Extract cut told = absurd (cc)
+  memory_said (Check rollover) cut told = record { said = Err (Capture (Memory 1)); judged = memory_judged rollover; is = refl }
+  memory_said (Extract rollover) cut told = absurd (cc)
   memory_said Normal cut told = absurd (cc)
   memory_said Show cut told = record {
     datagrams = [];
@@ -47,23 +48,23 @@ module _ (source : Source) (unread : IsUnread source) (clean : source.failed ≡
     ends = (inl refl, clean, ([], unread, first_wanted));
     is = refl;
   }
-  memory_said Count cut told = record { said = Err (Capture (Memory 1)); judged = memory_judged; is = refl }
+  memory_said (Count rollover) cut told = record { said = Err (Capture (Memory 1)); judged = memory_judged rollover; is = refl }
 
   -- and those that write nothing
   pub silent_said : (a : Action) (cut : Bool) → memory_fault a ≡ usage.Silent → IsOutputOf a source cut (record { bytes = []; status = status.Fault })
-  silent_said Check cut told = absurd (cc)
-  silent_said Extract cut told = record { said = Err (Capture (Memory 1)); judged = memory_judged; is = refl }
-  silent_said Normal cut told = inl (record { said = Err (Capture (Memory 1)); judged = memory_judged; is = refl })
+  silent_said (Check rollover) cut told = absurd (cc)
+  silent_said (Extract rollover) cut told = record { said = Err (Capture (Memory 1)); judged = memory_judged rollover; is = refl }
+  silent_said Normal cut told = inl (record { said = Err (Capture (Memory 1)); judged = memory_judged None; is = refl })
   silent_said Show cut told = absurd (cc)
-  silent_said Count cut told = absurd (cc)
+  silent_said (Count rollover) cut told = absurd (cc)
 
   -- each of them
   pub memory_first : (a : Action) (cut : Bool) → (output : Output) × IsMemoryOutput a output × IsOutputOf a source cut output
-  memory_first Check cut = (record { bytes = memory_line; status = status.Fault }, refl, memory_said Check cut refl)
-  memory_first Extract cut = (record { bytes = []; status = status.Fault }, refl, silent_said Extract cut refl)
+  memory_first (Check rollover) cut = (record { bytes = memory_line; status = status.Fault }, refl, memory_said (Check rollover) cut refl)
+  memory_first (Extract rollover) cut = (record { bytes = []; status = status.Fault }, refl, silent_said (Extract rollover) cut refl)
   memory_first Normal cut = (record { bytes = []; status = status.Fault }, refl, silent_said Normal cut refl)
   memory_first Show cut = (record { bytes = memory_line; status = status.Fault }, ([], refl), memory_said Show cut refl)
-  memory_first Count cut = (record { bytes = memory_line; status = status.Fault }, refl, memory_said Count cut refl)
+  memory_first (Count rollover) cut = (record { bytes = memory_line; status = status.Fault }, refl, memory_said (Count rollover) cut refl)
 
 -- ---- once bytes were read
 
@@ -75,24 +76,24 @@ line_wanted read line want = elim want.wants as (λ _. (read ≡ []) ⊎ HasData
       inr (said.header, want.datagrams, (line, said.datagram), subst (λ t. Begins t said.header all) (sym want.to.0) (begins_more want.taken want.ahead said.lines said.header all said.stands))
 ]
 
-datagram_wanted : (read : List ℕ) (count : ℕ) → WantsToJudge read count → HasDatagram read
-datagram_wanted read count want =
+datagram_wanted : (rollover : Option Rollover) (read : List ℕ) (count : ℕ) → WantsToJudge rollover read count → HasDatagram read
+datagram_wanted rollover read count want =
     let all = want.datagrams ++ want.last ∷ [] in
     (want.header, want.datagrams, want.last, subst (λ t. Begins t want.header all) (sym want.to.0) (begins_more want.taken want.ahead want.lines want.header all want.stands))
 
-said_of : (read : List ℕ) (said : Result Meaning Verdict) → IsReadVerdict read said → SaysNoMemory said ⊎ (read ≡ []) ⊎ HasDatagram read
-said_of read (Ok m) is = inl (inl tt)
-said_of read (Err (Refused (refusal.Unlawful index rule))) is = inl (inl tt)
-said_of read (Err (Refused (refusal.Aborted by code))) is = inl (inl tt)
-said_of read (Err (Refused (refusal.Incomplete count))) is = inl (inl tt)
-said_of read (Err (Refused refusal.NormalTooLong)) is = inl (inl tt)
-said_of read (Err (Refused (refusal.Memory count))) is = inr (inr (datagram_wanted read count is))
-said_of read (Err (Capture (Text line fault))) is = inl (inl tt)
-said_of read (Err (Capture (Read line))) is = inl (inr tt)
-said_of read (Err (Capture (Memory line))) is = inr (line_wanted read line is.0)
+said_of : (rollover : Option Rollover) (read : List ℕ) (said : Result Meaning Verdict) → IsReadVerdictBy rollover read said → SaysNoMemory said ⊎ (read ≡ []) ⊎ HasDatagram read
+said_of rollover read (Ok m) is = inl (inl tt)
+said_of rollover read (Err (Refused (refusal.Unlawful index rule))) is = inl (inl tt)
+said_of rollover read (Err (Refused (refusal.Aborted by code))) is = inl (inl tt)
+said_of rollover read (Err (Refused (refusal.Incomplete count))) is = inl (inl tt)
+said_of rollover read (Err (Refused refusal.NormalTooLong)) is = inl (inl tt)
+said_of rollover read (Err (Refused (refusal.Memory count))) is = inr (inr (datagram_wanted rollover read count is))
+said_of rollover read (Err (Capture (Text line fault))) is = inl (inl tt)
+said_of rollover read (Err (Capture (Read line))) is = inl (inr tt)
+said_of rollover read (Err (Capture (Memory line))) is = inr (line_wanted read line is.0)
 
-pub memory_of : (read : List ℕ) (left : Option (List ℕ)) (failed : Bool) (said : Result Meaning Verdict) → IsJudged (so_far read left failed) said → SaysNoMemory said ⊎ (read ≡ []) ⊎ HasDatagram read
-memory_of read left failed said judged = said_of read said judged.is_said
+pub memory_of : (rollover : Option Rollover) (read : List ℕ) (left : Option (List ℕ)) (failed : Bool) (said : Result Meaning Verdict) → IsJudged rollover (so_far read left failed) said → SaysNoMemory said ⊎ (read ≡ []) ⊎ HasDatagram read
+memory_of rollover read left failed said judged = said_of rollover read said judged.is_said
 
 -- ---- a text of no datagram
 
@@ -110,8 +111,8 @@ empty_has_none (header, ds, last, begins) =
     none_first ds front.0 last front.1
 
 -- once it was read, it is not out of memory
-pub empty_wants_none : (left : Option (List ℕ)) (failed : Bool) (said : Result Meaning Verdict) → IsJudged (so_far empty_text left failed) said → SaysNoMemory said
-empty_wants_none left failed said judged = elim (memory_of empty_text left failed said judged) as (λ _. SaysNoMemory said) [
+pub empty_wants_none : (rollover : Option Rollover) (left : Option (List ℕ)) (failed : Bool) (said : Result Meaning Verdict) → IsJudged rollover (so_far empty_text left failed) said → SaysNoMemory said
+empty_wants_none rollover left failed said judged = elim (memory_of rollover empty_text left failed said judged) as (λ _. SaysNoMemory said) [
   | inl other ↦ other
   | inr (inl none) ↦ absurd (cc)
   | inr (inr has) ↦ absurd (empty_has_none has)

@@ -1,5 +1,5 @@
 -- What was written of a text whose normal text was asked for.
-use Rattle.std.proofs.Common.{◌≡◌, ◌⊎◌, inl, inr, ℕ, List, [], Bool, true, false, true≢false, Option, Some, Result, Ok, Err, refl, sym, ap, ◌∙◌, subst}
+use Rattle.std.proofs.Common.{◌≡◌, ◌⊎◌, inl, inr, ℕ, List, [], Bool, true, false, true≢false, Option, None, Some, Result, Ok, Err, refl, sym, ap, ◌∙◌, subst}
 use Rattle.std.specs.Io.KnownBytes.{Consumes, IsAtEnd}
 use Rattle.net_streams.specs.Streams.{IsFresh, Sink}
 use Rattle.law_model.specs.Model.{Meaning}
@@ -31,7 +31,7 @@ output_of (Err verdict) result = normalised (Err verdict)
 abbrev pub IsRight : Source → Output → Type 0
 IsRight source output = IsNormalised source output ⊎ IsUnwritten source output
 
-right_of : (source : Source) (said : Result Meaning Verdict) (result : Result (Unit {0}) NormalFault) → IsJudged source said → IsRight source (output_of said result)
+right_of : (source : Source) (said : Result Meaning Verdict) (result : Result (Unit {0}) NormalFault) → IsJudged None source said → IsRight source (output_of said result)
 right_of source (Ok m) (Ok done) judged = inl (record { said = Ok m; judged = judged; is = refl })
 right_of source (Ok m) (Err fault.Write) judged = inl (record { said = Ok m; judged = judged; is = refl })
 right_of source (Ok m) (Err fault.Memory) judged = inr (m, judged, refl)

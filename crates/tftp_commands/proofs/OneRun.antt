@@ -1,13 +1,14 @@
 -- The output of a run is one, or that of being out of memory.
-use Rattle.std.proofs.Common.{◌≡◌, ◌⊎◌, inl, inr, ℕ, ◌++◌, List, [], ◌∷◌, Bool, true, false, true≢false, Result, Ok, Err, refl, sym, ap, ◌∙◌}
+use Rattle.std.proofs.Common.{◌≡◌, ◌⊎◌, inl, inr, ℕ, ◌++◌, List, [], ◌∷◌, Bool, true, false, true≢false, Option, None, Some, Result, Ok, Err, refl, sym, ap, ◌∙◌}
 use Rattle.std.specs.List.{AllByRecursion}
 use Rattle.std.specs.Str.{bytes_eq}
 use Rattle.std.proofs.lemmas.Slice.Eq.{bytes_eq-Decides}
 use Rattle.tftp_capture.specs.declared.fault.CaptureFault.TheVariants.{Text, Read, Memory}
+use Rattle.tftp_packet.specs.{Rollover, Zero, One}
 use Rattle.law_model.specs.Model.{Meaning}
 use Rattle.tftp_judge.specs.declared.refusal.Refusal.TheVariants as refusal
 use Rattle.tftp_judge.specs.{Verdict, Capture, Refused}
-use Rattle.tftp_commands.specs.{Action, Check, Extract, Normal, Show, Count, checked, counted, extracted, normalised, IsMemoryOutput, IsNoMemoryEnding, IsNormalised, IsUnwritten, SaysNoMemory, TellsOfMemory, Output, IsOutput, IsOutputOf, Cut, Ending, Faulty, Whole, last_line, status_of, Source, IsCommand, IsNoCommand, name_of}
+use Rattle.tftp_commands.specs.{Action, Check, Extract, Normal, Show, Count, checked, counted, extracted, normalised, IsMemoryOutput, IsNoMemoryEnding, IsNormalised, IsUnwritten, SaysNoMemory, TellsOfMemory, Output, IsOutput, IsOutputOf, Cut, Ending, Faulty, Whole, last_line, status_of, Source, IsCommand, IsNoCommand, name_of, option_words, rollover_of}
 use Rattle.tftp_commands.proofs.OneOutput.{OneVerdict, one_checked, one_counted, one_extracted, one_normalised}
 use Rattle.tftp_commands.proofs.OneShown.{one_shown}
 
@@ -15,10 +16,10 @@ use Rattle.tftp_commands.proofs.OneShown.{one_shown}
 
 -- the outputs of what is said, where it is being out of memory
 pub record WantsMemory (said : Result Meaning Verdict) : Type 0 where
-  pub check : IsMemoryOutput Check (checked said)
-  pub extract : IsMemoryOutput Extract (extracted said)
+  pub check : (rollover : Option Rollover) → IsMemoryOutput (Check rollover) (checked said)
+  pub extract : (rollover : Option Rollover) → IsMemoryOutput (Extract rollover) (extracted said)
   pub normal : IsMemoryOutput Normal (normalised said)
-  pub count : IsMemoryOutput Count (counted said)
+  pub count : (rollover : Option Rollover) → IsMemoryOutput (Count rollover) (counted said)
 
 told : (said : Result Meaning Verdict) → SaysNoMemory said ⊎ WantsMemory said
 told (Ok m) = inl (inl tt)
@@ -28,7 +29,7 @@ told (Err (Refused (refusal.Incomplete count))) = inl (inl tt)
 told (Err (Refused refusal.NormalTooLong)) = inl (inl tt)
 told (Err (Capture (Text line fault))) = inl (inl tt)
 told (Err (Capture (Read line))) = inl (inr tt)
-told (Err _) = inr (record { check = refl; extract = refl; normal = refl; count = refl })
+told (Err _) = inr (record { check = λ _. refl; extract = λ _. refl; normal = refl; count = λ _. refl })
 
 abbrev ShownMemory : Ending → Type 0
 ShownMemory ending = (lines : List ℕ) → IsMemoryOutput Show (record { bytes = lines ++ last_line ending; status = status_of ending })
@@ -60,16 +61,16 @@ module _ (one_verdict : OneVerdict) (source : Source) where
   one_normal one other (inl first) (inr unwritten) = inr (inr unwritten.2)
 
   one_of : (action : Action) (one other : Output) → IsOutputOf action source false one → IsOutputOf action source false other → OneOf action one other
-  one_of Check one other first second =
-      either Check one other (told first.said) (told second.said) (one_checked one_verdict source one other first second) (λ w. first.is ∙ w.check) (λ w. second.is ∙ w.check)
-  one_of Extract one other first second =
-      either Extract one other (told first.said) (told second.said) (one_extracted one_verdict source one other first second) (λ w. first.is ∙ w.extract) (λ w. second.is ∙ w.extract)
+  one_of (Check rollover) one other first second =
+      either (Check rollover) one other (told first.said) (told second.said) (one_checked one_verdict source rollover one other first second) (λ w. first.is ∙ w.check rollover) (λ w. second.is ∙ w.check rollover)
+  one_of (Extract rollover) one other first second =
+      either (Extract rollover) one other (told first.said) (told second.said) (one_extracted one_verdict source rollover one other first second) (λ w. first.is ∙ w.extract rollover) (λ w. second.is ∙ w.extract rollover)
   one_of Normal one other first second = one_normal one other first second
   one_of Show one other first second =
       either Show one other (ending_told first.ending) (ending_told second.ending) (one_shown source one other first second)
       (λ w. (let m = w first.lines in (m.0, first.is ∙ m.1))) (λ w. (let m = w second.lines in (m.0, second.is ∙ m.1)))
-  one_of Count one other first second =
-      either Count one other (told first.said) (told second.said) (one_counted one_verdict source one other first second) (λ w. first.is ∙ w.count) (λ w. second.is ∙ w.count)
+  one_of (Count rollover) one other first second =
+      either (Count rollover) one other (told first.said) (told second.said) (one_counted one_verdict source rollover one other first second) (λ w. first.is ∙ w.count rollover) (λ w. second.is ∙ w.count rollover)
 
 -- ---- of words
 
@@ -80,41 +81,67 @@ is_or_not word name = by (bytes_eq word name) refl
     by true is = inl ((bytes_eq-Decides word name).0 (sym is))
     by false is = inr (λ e. true≢false (sym ((bytes_eq-Decides word name).1 e) ∙ sym is))
 
+first_same : (w v : List ℕ) (ws vs : List (List ℕ)) → w ∷ ws ≡ v ∷ vs → w ≡ v
+first_same w v ws vs e = cc
+
+rest_same : (w v : List ℕ) (ws vs : List (List ℕ)) → w ∷ ws ≡ v ∷ vs → ws ≡ vs
+rest_same w v ws vs e = cc
+
+are_or_not : (words names : List (List ℕ)) → (words ≡ names) ⊎ (words ≡ names → ⊥)
+are_or_not [] [] = inl refl
+are_or_not [] (v ∷ vs) = inr (λ e. cc)
+are_or_not (w ∷ ws) [] = inr (λ e. cc)
+are_or_not (w ∷ ws) (v ∷ vs) = elim (is_or_not w v) [
+  | inr other ↦ inr (λ e. other (first_same w v ws vs e))
+  | inl same ↦ elim (are_or_not ws vs) [
+    | inl rest ↦ inl (ap (λ x. x ∷ ws) same ∙ ap (λ x. v ∷ x) rest)
+    | inr other ↦ inr (λ e. other (rest_same w v ws vs e))
+  ]
+]
+
 -- the words are a command, or none
 abbrev Decided : List (List ℕ) → Type 0
 Decided words = ((action : Action) × IsCommand action words) ⊎ IsNoCommand words
 
-second_is : (p q w v : List ℕ) → p ∷ w ∷ [] ≡ q ∷ v ∷ [] → w ≡ v
-second_is p q w v e = cc
+-- the words after the program's name
+abbrev words_of : Action → List (List ℕ)
+words_of action = name_of action ∷ option_words (rollover_of action)
 
--- the word is the name of one of these, or of none
-named : (word : List ℕ) (actions : List Action) → ((action : Action) × (word ≡ name_of action)) ⊎ AllByRecursion (λ action. word ≡ name_of action → ⊥) actions
-named word [] = inr tt
-named word (a ∷ actions) =
-    elim (is_or_not word (name_of a)) [
+-- the words are those of one of these, or of none
+named : (words : List (List ℕ)) (actions : List Action) → ((action : Action) × (words ≡ words_of action)) ⊎ AllByRecursion (λ action. words ≡ words_of action → ⊥) actions
+named words [] = inr tt
+named words (a ∷ actions) =
+    elim (are_or_not words (words_of a)) [
       | inl is ↦ inl (a, is)
-      | inr other ↦ elim (named word actions) [ inl found ↦ inl found | inr none ↦ inr (other, none) ]
+      | inr other ↦ elim (named words actions) [ inl found ↦ inl found | inr none ↦ inr (other, none) ]
     ]
 
-two_words : (program word : List ℕ) → Decided (program ∷ word ∷ [])
-two_words program word = by (named word (Check ∷ Extract ∷ Normal ∷ Show ∷ Count ∷ []))
-  where
-    other : AllByRecursion (λ action. word ≡ name_of action → ⊥) (Check ∷ Extract ∷ Normal ∷ Show ∷ Count ∷ []) → (action : Action) → word ≡ name_of action → ⊥
-    other none Check is = none.0 is
-    other none Extract is = none.1.0 is
-    other none Normal is = none.1.1.0 is
-    other none Show is = none.1.1.1.0 is
-    other none Count is = none.1.1.1.1.0 is
+-- all that there are
+abbrev by_each : (Option Rollover → Action) → List Action → List Action
+by_each command rest = command None ∷ command (Some Zero) ∷ command (Some One) ∷ rest
 
-    by : ((action : Action) × (word ≡ name_of action)) ⊎ AllByRecursion (λ action. word ≡ name_of action → ⊥) (Check ∷ Extract ∷ Normal ∷ Show ∷ Count ∷ []) → Decided (program ∷ word ∷ [])
-    by (inl (action, is)) = inl (action, (program, ap (λ w. program ∷ w ∷ []) is))
-    by (inr none) = inr (λ action is. other none action (second_is program is.0 word (name_of action) is.1))
+abbrev all_actions : List Action
+all_actions = Normal ∷ Show ∷ by_each Check (by_each Extract (by_each Count []))
+
+none_named : (words : List (List ℕ)) → AllByRecursion (λ action. words ≡ words_of action → ⊥) all_actions → (action : Action) → words ≡ words_of action → ⊥
+none_named words none Normal is = none.0 is
+none_named words none Show is = none.1.0 is
+none_named words none (Check None) is = none.1.1.0 is
+none_named words none (Check (Some Zero)) is = none.1.1.1.0 is
+none_named words none (Check (Some One)) is = none.1.1.1.1.0 is
+none_named words none (Extract None) is = none.1.1.1.1.1.0 is
+none_named words none (Extract (Some Zero)) is = none.1.1.1.1.1.1.0 is
+none_named words none (Extract (Some One)) is = none.1.1.1.1.1.1.1.0 is
+none_named words none (Count None) is = none.1.1.1.1.1.1.1.1.0 is
+none_named words none (Count (Some Zero)) is = none.1.1.1.1.1.1.1.1.1.0 is
+none_named words none (Count (Some One)) is = none.1.1.1.1.1.1.1.1.1.1.0 is
 
 decided : (words : List (List ℕ)) → Decided words
 decided [] = inr (λ action is. cc)
-decided (program ∷ []) = inr (λ action is. cc)
-decided (program ∷ word ∷ []) = two_words program word
-decided (program ∷ word ∷ more ∷ words) = inr (λ action is. cc)
+decided (program ∷ words) = elim (named words all_actions) [
+  | inl found ↦ inl (found.0, (program, ap (λ ws. program ∷ ws) found.1))
+  | inr none ↦ inr (λ action is. none_named words none action (rest_same program is.0 words (words_of action) is.1))
+]
 
 -- ---- the output
 

@@ -1,6 +1,6 @@
 -- What `check` prints of a capture text: one line, with what its datagrams mean, or why it is not accepted.
-use Rattle.std.specs.Prelude.{ℕ, ◌++◌, List, [], length, codes, decimal, Result, Ok, Err}
-use Rattle.tftp_packet.specs.{mode_name}
+use Rattle.std.specs.Prelude.{ℕ, ◌++◌, List, [], length, codes, decimal, Option, Result, Ok, Err}
+use Rattle.tftp_packet.specs.{Rollover, mode_name}
 use Rattle.law_model.specs.Model.{Meaning}
 use Rattle.law_end.specs.{blocks_of, rule_name, number_of, Rule, Malformed}
 use Rattle.tftp_judge.specs.{Refusal, Unlawful, Aborted, Incomplete, NormalTooLong, Verdict, Capture, Refused}
@@ -47,5 +47,5 @@ checked (Ok m) = record { bytes = accepted_line m; status = status.Success }
 checked (Err verdict) = record { bytes = verdict_line verdict; status = verdict_status verdict }
 
 -- the output is that of what there is to say of what was read
-abbrev pub IsChecked : Source → Output → Type 0
-IsChecked = IsToldBy checked
+abbrev pub IsChecked : Option Rollover → Source → Output → Type 0
+IsChecked rollover = IsToldBy rollover checked

@@ -1,6 +1,7 @@
 -- What `count` prints of a capture text: one line, with how many datagrams its normal capture has, or why it is not
 -- accepted.
-use Rattle.std.specs.Prelude.{ℕ, ◌++◌, List, codes, decimal, Result, Ok, Err}
+use Rattle.std.specs.Prelude.{ℕ, ◌++◌, List, codes, decimal, Option, Result, Ok, Err}
+use Rattle.tftp_packet.specs.{Rollover}
 use Rattle.law_model.specs.Model.{Meaning}
 use Rattle.tftp_judge.specs.{Verdict}
 use Rattle.tftp_normal.specs.{normal_count}
@@ -19,5 +20,5 @@ counted (Ok m) = record { bytes = counted_line m; status = status.Success }
 counted (Err verdict) = checked (Err verdict)
 
 -- the output is that of what there is to say of what was read
-abbrev pub IsCounted : Source → Output → Type 0
-IsCounted = IsToldBy counted
+abbrev pub IsCounted : Option Rollover → Source → Output → Type 0
+IsCounted rollover = IsToldBy rollover counted

@@ -1,5 +1,6 @@
 -- What `extract` writes of a capture text: its file, and nothing where it is not accepted.
-use Rattle.std.specs.Prelude.{[], Result, Ok, Err}
+use Rattle.std.specs.Prelude.{[], Option, Result, Ok, Err}
+use Rattle.tftp_packet.specs.{Rollover}
 use Rattle.law_model.specs.Model.{Meaning}
 use Rattle.tftp_judge.specs.{Verdict}
 use Rattle.tftp_commands.specs.declared.status.Status.TheVariants as status
@@ -14,5 +15,5 @@ extracted (Ok m) = record { bytes = m.file; status = status.Success }
 extracted (Err verdict) = record { bytes = []; status = verdict_status verdict }
 
 -- the output is that of what there is to say of what was read
-abbrev pub IsExtracted : Source → Output → Type 0
-IsExtracted = IsToldBy extracted
+abbrev pub IsExtracted : Option Rollover → Source → Output → Type 0
+IsExtracted rollover = IsToldBy rollover extracted

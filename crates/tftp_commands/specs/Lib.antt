@@ -11,7 +11,7 @@ pub mod Normalised
 pub mod Counted
 pub mod Run
 pub mod One
-pub use Words.{IsCommand, IsNoCommand, audit_app, memory_fault, name_of, with_command}
+pub use Words.{IsCommand, IsNoCommand, audit_app, digit_of, memory_fault, name_of, option_words, rollover_of, with_command}
 pub use Names.{by_name, packet_fault_name, text_fault_name}
 pub use Outputs.{IsWritten, Output, Prints, fault_line, memory_line, usage_line}
 pub use Sources.{AsGiven, AsRead, Extent, HasRead, Source, given, so_far}

@@ -54,11 +54,11 @@ first_datagram = record { dir = Out; local = 40000; host = no_host; remote = 69;
 -- the output of a command for which memory ran out: beside a file or a normal text nothing is said, and what is shown
 -- ends with it
 abbrev pub IsMemoryOutput : Action → Output → Type 0
-IsMemoryOutput Check output = output ≡ record { bytes = memory_line; status = status.Fault }
-IsMemoryOutput Extract output = output ≡ record { bytes = []; status = status.Fault }
+IsMemoryOutput (Check rollover) output = output ≡ record { bytes = memory_line; status = status.Fault }
+IsMemoryOutput (Extract rollover) output = output ≡ record { bytes = []; status = status.Fault }
 IsMemoryOutput Normal output = output ≡ record { bytes = []; status = status.Fault }
 IsMemoryOutput Show output = (lines : List ℕ) × (output ≡ record { bytes = lines ++ memory_line; status = status.Fault })
-IsMemoryOutput Count output = output ≡ record { bytes = memory_line; status = status.Fault }
+IsMemoryOutput (Count rollover) output = output ≡ record { bytes = memory_line; status = status.Fault }
 
 -- the same of the command that the words name
 abbrev pub TellsOfMemory : List (List ℕ) → Output → Type 0

@@ -14,11 +14,11 @@ use Rattle.tftp_commands.specs.Words.{IsCommand, IsNoCommand}
 
 -- the output that there may be of a command, where `cut` says whether a write failed
 abbrev pub IsOutputOf : Action → Source → Bool → Output → Type 0
-IsOutputOf Check source cut output = IsChecked source output
-IsOutputOf Extract source cut output = IsExtracted source output
+IsOutputOf (Check rollover) source cut output = IsChecked rollover source output
+IsOutputOf (Extract rollover) source cut output = IsExtracted rollover source output
 IsOutputOf Normal source cut output = IsNormalised source output ⊎ IsUnwritten source output
 IsOutputOf Show source cut output = IsShown source cut output
-IsOutputOf Count source cut output = IsCounted source output
+IsOutputOf (Count rollover) source cut output = IsCounted rollover source output
 
 -- that the words are no command
 abbrev pub IsRefused : Output → Type 0

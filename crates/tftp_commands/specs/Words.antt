@@ -1,6 +1,7 @@
 -- The words of a command line.
-use Rattle.std.specs.Prelude.{◌≡◌, ℕ, List, [], ◌∷◌, codes}
+use Rattle.std.specs.Prelude.{◌≡◌, ℕ, List, [], ◌∷◌, Option, None, Some, codes}
 use Rattle.clap.specs.Simple.{App, new_app, with_subcommand}
+use Rattle.tftp_packet.specs.{Rollover, Zero, One}
 use Rattle.tftp_commands.specs.declared.words.Action.{Action}
 use Rattle.tftp_commands.specs.declared.words.Action.TheVariants.{Check, Extract, Normal, Show, Count}
 use Rattle.tftp_commands.specs.declared.words.UsageFault.{UsageFault}
@@ -8,26 +9,43 @@ use Rattle.tftp_commands.specs.declared.words.UsageFault.TheVariants as usage
 
 -- the word that names a command
 abbrev pub name_of : Action → List ℕ
-name_of Check = codes "check"
-name_of Extract = codes "extract"
+name_of (Check rollover) = codes "check"
+name_of (Extract rollover) = codes "extract"
 name_of Normal = codes "normal"
 name_of Show = codes "show"
-name_of Count = codes "count"
+name_of (Count rollover) = codes "count"
 
--- the words are the program's name, whatever it is, and that of the command
+-- what comes after block 65535 is said to those that judge a text
+abbrev pub rollover_of : Action → Option Rollover
+rollover_of (Check rollover) = rollover
+rollover_of (Extract rollover) = rollover
+rollover_of Normal = None
+rollover_of Show = None
+rollover_of (Count rollover) = rollover
+
+-- the number that comes after 65535
+abbrev pub digit_of : Rollover → List ℕ
+digit_of Zero = codes "0"
+digit_of One = codes "1"
+
+abbrev pub option_words : Option Rollover → List (List ℕ)
+option_words None = []
+option_words (Some rollover) = codes "--rollover" ∷ digit_of rollover ∷ []
+
+-- the words are the program's name, whatever it is, that of the command, and what comes after block 65535 where anything does
 abbrev pub IsCommand : Action → List (List ℕ) → Type 0
-IsCommand action words = (program : List ℕ) × (words ≡ program ∷ name_of action ∷ [])
+IsCommand action words = (program : List ℕ) × (words ≡ program ∷ name_of action ∷ option_words (rollover_of action))
 
 abbrev pub IsNoCommand : List (List ℕ) → Type 0
 IsNoCommand words = (action : Action) → IsCommand action words → ⊥
 
 -- how it is told that memory ran out for a command's words: beside a file or a normal text nothing is said
 abbrev pub memory_fault : Action → UsageFault
-memory_fault Check = usage.Memory
-memory_fault Extract = usage.Silent
+memory_fault (Check rollover) = usage.Memory
+memory_fault (Extract rollover) = usage.Silent
 memory_fault Normal = usage.Silent
 memory_fault Show = usage.Memory
-memory_fault Count = usage.Memory
+memory_fault (Count rollover) = usage.Memory
 
 -- a command line with one command more
 abbrev pub with_command : App → List ℕ → App

@@ -16,7 +16,7 @@ use tftp_judge::{OutFault, extract, judge_text};
 use tftp_normal::{NormalFault, normalise};
 
 /// Runs a command. `check` says in one line what a capture text means, and `count` how many datagrams its normal capture has;
-/// both say why a text is not accepted. `extract` writes its file (RFC 1350, section 1), and `normal` its normal text, and
+/// both say why a text is not accepted, and go by what comes after block 65535. `extract` writes its file (RFC 1350, section 1), and `normal` its normal text, and
 /// nothing beside it: of a text that is not accepted, or where memory runs out, nothing; and an empty file makes no write.
 pub fn run_command<R: Read, W: Write>(
     alloc: Global,
@@ -29,15 +29,15 @@ pub fn run_command<R: Read, W: Write>(
     ensures { Runs R.remaining W.contents (λ source. IsOutputOf action source writer.new.failed) reader.old reader.new writer.old writer.new result }
 {
     match action {
-        Action::Check => match judge_text(alloc, reader) {
+        Action::Check(rollover) => match judge_text(alloc, rollover, reader) {
             Ok(meaning) => say_accepted(writer, &meaning),
             Err(verdict) => say_verdict(writer, verdict),
         },
-        Action::Count => match judge_text(alloc, reader) {
+        Action::Count(rollover) => match judge_text(alloc, rollover, reader) {
             Ok(meaning) => say_counted(writer, &meaning),
             Err(verdict) => say_verdict(writer, verdict),
         },
-        Action::Extract => match extract(alloc, reader, writer) {
+        Action::Extract(rollover) => match extract(alloc, rollover, reader, writer) {
             Ok(()) => Status::Success,
             Err(OutFault::Verdict(verdict)) => status_of(verdict),
             Err(OutFault::Write) => Status::Fault,

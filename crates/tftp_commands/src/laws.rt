@@ -3,6 +3,7 @@
 //! wanted: what was read has the datagram, unless nothing was read.
 
 ghost use Rattle.std.specs.Prelude.{◌≡◌, ◌⊎◌, ℕ, List, [], ◌∷◌, Bool, codes, Option, Some, Result, false};
+ghost use Rattle.tftp_packet.specs.{Rollover};
 ghost use Rattle.tftp_capture.specs.{line};
 ghost use Rattle.tftp_capture.specs.declared.fault.CaptureFault.TheVariants.{Memory};
 ghost use Rattle.law_model.specs.Model.{Meaning};
@@ -25,7 +26,7 @@ use tftp_judge::laws::text_has_one_verdict;
 /// On what was read, and on whether a read failed, `check` has at most one right output, bytes and status, that does not
 /// come of being out of memory.
 pub fn check_has_one_output()
-    ensures { (source : Source) (one other : Output) (first : IsChecked source one) (second : IsChecked source other) → SaysNoMemory first.said → SaysNoMemory second.said
+    ensures { (rollover : Option Rollover) (source : Source) (one other : Output) (first : IsChecked rollover source one) (second : IsChecked rollover source other) → SaysNoMemory first.said → SaysNoMemory second.said
         → one ≡ other }
 {
     text_has_one_verdict();
@@ -33,7 +34,7 @@ pub fn check_has_one_output()
 
 /// `extract` has at most one right output on its source that does not come of being out of memory.
 pub fn extract_has_one_output()
-    ensures { (source : Source) (one other : Output) (first : IsExtracted source one) (second : IsExtracted source other) → SaysNoMemory first.said → SaysNoMemory second.said
+    ensures { (rollover : Option Rollover) (source : Source) (one other : Output) (first : IsExtracted rollover source one) (second : IsExtracted rollover source other) → SaysNoMemory first.said → SaysNoMemory second.said
         → one ≡ other }
 {
     text_has_one_verdict();
@@ -49,7 +50,7 @@ pub fn normal_has_one_output()
 
 /// `count` has at most one right output on its source that does not come of being out of memory.
 pub fn count_has_one_output()
-    ensures { (source : Source) (one other : Output) (first : IsCounted source one) (second : IsCounted source other) → SaysNoMemory first.said → SaysNoMemory second.said
+    ensures { (rollover : Option Rollover) (source : Source) (one other : Output) (first : IsCounted rollover source one) (second : IsCounted rollover source other) → SaysNoMemory first.said → SaysNoMemory second.said
         → one ≡ other }
 {
     text_has_one_verdict();
@@ -90,12 +91,12 @@ pub fn memory_may_be_wanted_first()
 /// fault in its header, or whose total is 0.
 #[tactic(auto, using(crate::proofs::Memory::memory_of))]
 pub fn memory_is_wanted_for_a_datagram()
-    ensures { (read : List ℕ) (left : Option (List ℕ)) (failed : Bool) (said : Result Meaning Verdict) → IsJudged (so_far read left failed) said → SaysNoMemory said ⊎ (read ≡ []) ⊎ HasDatagram read }
+    ensures { (rollover : Option Rollover) (read : List ℕ) (left : Option (List ℕ)) (failed : Bool) (said : Result Meaning Verdict) → IsJudged rollover (so_far read left failed) said → SaysNoMemory said ⊎ (read ≡ []) ⊎ HasDatagram read }
 {}
 
 /// A text of no datagram is never out of memory, once it was read.
 pub fn no_memory_is_wanted_for_an_empty_text()
-    ensures { (left : Option (List ℕ)) (failed : Bool) (said : Result Meaning Verdict) → IsJudged (so_far empty_text left failed) said → SaysNoMemory said }
+    ensures { (rollover : Option Rollover) (left : Option (List ℕ)) (failed : Bool) (said : Result Meaning Verdict) → IsJudged rollover (so_far empty_text left failed) said → SaysNoMemory said }
 {}
 
 /// Memory is wanting for the first datagram of a text, on line 4: `show` says so, and shows nothing. Else it is taken.

@@ -1,25 +1,26 @@
 ghost use Rattle.std.specs.Prelude.{◌≡◌, ◌≢◌, map, true, Some, IfOk, IfErr, IfSome, ◌⊎◌};
 ghost use Rattle.clap.specs.Words.{kind_of, takes};
-ghost use Rattle.tftp_commands.specs.Words.{audit_app, memory_fault, IsCommand};
+ghost use Rattle.tftp_commands.specs.Words.{audit_app, digit_of, memory_fault, name_of, rollover_of, IsCommand};
 
 use clap::error::ErrorKind;
 use clap::{ArgMatches, Command, Error};
 use std::alloc::Global;
 use std::convert::AsStr;
+use tftp_packet::rounds::Rollover;
 
 /// What the program is asked for.
 #[derive(Clone, Copy, Debug, PartialEq, Eq)]
 pub enum Action {
-    /// Judge a capture, and say the verdict.
-    Check,
+    /// Judge a capture, by what comes after block 65535 where anything does, and say the verdict.
+    Check(Option<Rollover>),
     /// Write the file of a capture.
-    Extract,
+    Extract(Option<Rollover>),
     /// Write the normal text of a capture.
     Normal,
     /// Say what datagrams a capture has.
     Show,
     /// Say how many datagrams the normal capture of a capture has.
-    Count,
+    Count(Option<Rollover>),
 }
 
 /// Why a command line names no command.
@@ -56,27 +57,51 @@ pub fn action_of<S: AsStr>(alloc: Global, words: &[S]) -> Result<Action, UsageFa
     let Some(action) = named(words) else {
         return Err(UsageFault::Usage);
     };
-    match parsed(alloc, words) {
+    // what comes after block 65535 is read already
+    match parsed(alloc, &[words[0].as_str(), words[1].as_str()]) {
         Ok(_) => Ok(action),
         Err(e) => Err(fault_of(action, e.kind())),
     }
 }
 
-/// The command that two words name.
+/// The command that words name, the first of which is the program's name.
 fn named<S: AsStr>(words: &[S]) -> Option<Action>
     ensures some { IfSome result (λ a. IsCommand a (map S.text words.now)) }
     ensures only { (a : Action) → IsCommand a (map S.text words.now) → result ≡ Some a }
 {
-    if words.len() != 2 {
+    if words.len() == 2 {
+        return action_named(words[1].as_str(), None);
+    }
+    if words.len() != 4 || words[2].as_str() != "--rollover" {
         return None;
     }
-    let word = words[1].as_str();
-    match word {
-        "check" => Some(Action::Check),
-        "extract" => Some(Action::Extract),
-        "normal" => Some(Action::Normal),
-        "show" => Some(Action::Show),
-        "count" => Some(Action::Count),
+    let rollover = rollover_named(words[3].as_str())?;
+    action_named(words[1].as_str(), Some(rollover))
+}
+
+/// The command of this name, with what comes after block 65535.
+fn action_named(name: &str, rollover: Option<Rollover>) -> Option<Action>
+    ensures some { IfSome result (λ a. (name.now ≡ name_of a) × (rollover_of a ≡ rollover)) }
+    ensures only { (a : Action) → name.now ≡ name_of a → rollover_of a ≡ rollover → result ≡ Some a }
+{
+    match name {
+        "check" => Some(Action::Check(rollover)),
+        "extract" => Some(Action::Extract(rollover)),
+        "count" => Some(Action::Count(rollover)),
+        "normal" if rollover.is_none() => Some(Action::Normal),
+        "show" if rollover.is_none() => Some(Action::Show),
+        _ => None,
+    }
+}
+
+/// What comes after block 65535, by its digit.
+fn rollover_named(digit: &str) -> Option<Rollover>
+    ensures some { IfSome result (λ r. digit.now ≡ digit_of r) }
+    ensures only { (r : Rollover) → digit.now ≡ digit_of r → result ≡ Some r }
+{
+    match digit {
+        "0" => Some(Rollover::Zero),
+        "1" => Some(Rollover::One),
         _ => None,
     }
 }
@@ -88,11 +113,11 @@ fn fault_of(action: Action, kind: ErrorKind) -> UsageFault
 {
     match kind {
         ErrorKind::OutOfMemory => match action {
-            Action::Check => UsageFault::Memory,
-            Action::Extract => UsageFault::Silent,
+            Action::Check(_) => UsageFault::Memory,
+            Action::Extract(_) => UsageFault::Silent,
             Action::Normal => UsageFault::Silent,
             Action::Show => UsageFault::Memory,
-            Action::Count => UsageFault::Memory,
+            Action::Count(_) => UsageFault::Memory,
         },
         _ => UsageFault::Usage,
     }

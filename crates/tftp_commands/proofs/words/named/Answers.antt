@@ -1,62 +1,34 @@
-use Rattle.std.proofs.Common.{rules, ◌≡◌, ◌∷◌, [], ap, sym, ◌∙◌}
-use Rattle.tftp_commands.specs.{name_of, Check, Extract, Normal, Show, Count}
-use Rattle.tftp_commands.proofs.Commands.{no_name, same_word, some_named}
-use Rattle.tftp_commands.proofs.Named.{second_word}
+use Rattle.std.proofs.Common.{rules, ◌≡◌, ◌∷◌, [], List, ℕ, map, codes, ap, sym, ◌∙◌}
+use Rattle.tftp_commands.proofs.Named.{four_words, two_words}
+use Rattle.tftp_commands.proofs.WordsNamed.{only_four, some_four, some_two}
 use Rattle.tftp_commands.proofs.words.named.Goals as goal
+use Rattle.tftp_commands.proofs.words.named.Given.{Over}
 
-pub returns-in-check-clause-some : goal.returns-in-check-clause-some
-returns-in-check-clause-some g c =
-    let found = second_word g.S.AsStr.text c.args.words.now c.index-words-1.result (search rules) c.index-words-1.is in
-    (found.0, found.1 ∙ ap (λ w. found.0 ∷ w ∷ []) (sym c.as_str-word.ensures ∙ c.in-check.is))
+pub returns-then-words-eq2-clause-some : goal.returns-then-words-eq2-clause-some
+returns-then-words-eq2-clause-some g c =
+    let found = two_words g.S.AsStr.text c.args.words.now c.index-words-1.result c.if-words-eq2.true c.index-words-1.is in
+    some_two c.action_named.result c.as_str.result.now (map g.S.AsStr.text c.args.words.now) found.0 (found.1 ∙ ap (λ w. found.0 ∷ w ∷ []) (sym c.as_str.ensures)) c.action_named.ensures.some
 
-pub returns-in-extract-clause-some : goal.returns-in-extract-clause-some
-returns-in-extract-clause-some g c =
-    let found = second_word g.S.AsStr.text c.args.words.now c.index-words-1.result (search rules) c.index-words-1.is in
-    (found.0, found.1 ∙ ap (λ w. found.0 ∷ w ∷ []) (sym c.as_str-word.ensures ∙ c.in-extract.is))
+-- the four words
+four : (g : Over) (c : goal.After-action_named-2 g)
+    → (program : List ℕ) × (map g.S.AsStr.text c.args.words.now ≡ program ∷ c.as_str-3.result.now ∷ c.as_str-else-words-ne4.result.now ∷ c.as_str-2.result.now ∷ [])
+four g c =
+    let found = four_words g.S.AsStr.text c.args.words.now c.index-words-1-2.result c.index-words-2.result c.index-words-3.result (search rules) c.index-words-1-2.is c.index-words-2.is c.index-words-3.is in (
+      found.0,
+      found.1
+          ∙ ap (λ w. found.0 ∷ w ∷ g.S.AsStr.text c.index-words-2.result ∷ g.S.AsStr.text c.index-words-3.result ∷ []) (sym c.as_str-3.ensures)
+          ∙ ap (λ w. found.0 ∷ c.as_str-3.result.now ∷ w ∷ g.S.AsStr.text c.index-words-3.result ∷ []) (sym c.as_str-else-words-ne4.ensures)
+          ∙ ap (λ w. found.0 ∷ c.as_str-3.result.now ∷ c.as_str-else-words-ne4.result.now ∷ w ∷ []) (sym c.as_str-2.ensures),
+    )
 
-pub returns-in-normal-clause-some : goal.returns-in-normal-clause-some
-returns-in-normal-clause-some g c =
-    let found = second_word g.S.AsStr.text c.args.words.now c.index-words-1.result (search rules) c.index-words-1.is in
-    (found.0, found.1 ∙ ap (λ w. found.0 ∷ w ∷ []) (sym c.as_str-word.ensures ∙ c.in-normal.is))
+pub returns-clause-some : goal.returns-clause-some
+returns-clause-some g c =
+    let (program, are) = four g c in
+    let option : c.as_str-else-words-ne4.result.now ≡ codes "--rollover" = search rules in
+    some_four c.action_named-2.result _ _ _ c.in_ok-rollover.rollover (map g.S.AsStr.text c.args.words.now) program are option c.in_ok-rollover.ensures.some c.action_named-2.ensures.some
 
-pub returns-in-show-clause-some : goal.returns-in-show-clause-some
-returns-in-show-clause-some g c =
-    let found = second_word g.S.AsStr.text c.args.words.now c.index-words-1.result (search rules) c.index-words-1.is in
-    (found.0, found.1 ∙ ap (λ w. found.0 ∷ w ∷ []) (sym c.as_str-word.ensures ∙ c.in-show.is))
-
-pub returns-in-count-clause-some : goal.returns-in-count-clause-some
-returns-in-count-clause-some g c =
-    let found = second_word g.S.AsStr.text c.args.words.now c.index-words-1.result (search rules) c.index-words-1.is in
-    (found.0, found.1 ∙ ap (λ w. found.0 ∷ w ∷ []) (sym c.as_str-word.ensures ∙ c.in-count.is))
-
-pub returns-in-check-clause-only : goal.returns-in-check-clause-only
-returns-in-check-clause-only g c =
-    let found = second_word g.S.AsStr.text c.args.words.now c.index-words-1.result (search rules) c.index-words-1.is in
-    some_named Check _ (found.0, found.1 ∙ ap (λ w. found.0 ∷ w ∷ []) (sym c.as_str-word.ensures ∙ c.in-check.is))
-
-pub returns-in-extract-clause-only : goal.returns-in-extract-clause-only
-returns-in-extract-clause-only g c =
-    let found = second_word g.S.AsStr.text c.args.words.now c.index-words-1.result (search rules) c.index-words-1.is in
-    some_named Extract _ (found.0, found.1 ∙ ap (λ w. found.0 ∷ w ∷ []) (sym c.as_str-word.ensures ∙ c.in-extract.is))
-
-pub returns-in-normal-clause-only : goal.returns-in-normal-clause-only
-returns-in-normal-clause-only g c =
-    let found = second_word g.S.AsStr.text c.args.words.now c.index-words-1.result (search rules) c.index-words-1.is in
-    some_named Normal _ (found.0, found.1 ∙ ap (λ w. found.0 ∷ w ∷ []) (sym c.as_str-word.ensures ∙ c.in-normal.is))
-
-pub returns-in-show-clause-only : goal.returns-in-show-clause-only
-returns-in-show-clause-only g c =
-    let found = second_word g.S.AsStr.text c.args.words.now c.index-words-1.result (search rules) c.index-words-1.is in
-    some_named Show _ (found.0, found.1 ∙ ap (λ w. found.0 ∷ w ∷ []) (sym c.as_str-word.ensures ∙ c.in-show.is))
-
-pub returns-in-count-clause-only : goal.returns-in-count-clause-only
-returns-in-count-clause-only g c =
-    let found = second_word g.S.AsStr.text c.args.words.now c.index-words-1.result (search rules) c.index-words-1.is in
-    some_named Count _ (found.0, found.1 ∙ ap (λ w. found.0 ∷ w ∷ []) (sym c.as_str-word.ensures ∙ c.in-count.is))
-
-pub returns-in_default-clause-only : goal.returns-in_default-clause-only
-returns-in_default-clause-only g c = λ a is.
-    let found = second_word g.S.AsStr.text c.args.words.now c.index-words-1.result (search rules) c.index-words-1.is in
-    let word : c.as_str-word.result.now ≡ name_of a = c.as_str-word.ensures ∙ same_word _ found.0 is.0 _ _ found.1 is.1 in
-    let not = c.in_default in
-    absurd (no_name a _ word not.not-check not.not-extract not.not-normal not.not-show not.not-count)
+pub returns-clause-only : goal.returns-clause-only
+returns-clause-only g c = λ a is.
+    let (program, are) = four g c in
+    let (name, option, r, some, digit) = only_four a _ _ _ (map g.S.AsStr.text c.args.words.now) program are is in
+    c.action_named-2.ensures.only a name (some ∙ sym (c.in_ok-rollover.ensures.only r digit))

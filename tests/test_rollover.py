@@ -1,0 +1,192 @@
+"""Transfers of more than 65,535 blocks: the verdicts, the file and the count by what comes after block 65535; captures
+of fewer blocks, which are the same by each; and the words that say it. The large ones are made here, and sent by real
+programs."""
+from __future__ import annotations
+
+import pathlib
+import random
+import subprocess
+from typing import Optional
+
+from captures import Capture, Packet, ack, data, oack, read_request, write_request
+from checks import Checks
+from commands import COMMANDS
+from loopback import CLIENT, SERVER, Case, OverLoopback, make_files, missing, record
+from programs import AUDIT, TRANSFERS
+from refusals import Rule, refusal
+from repository import TOP
+
+ROUND = 65_536
+# The blocks of the made captures, a few past the first round, and their size.
+COUNT, SIZE = ROUND + 5, 8
+GIVEN = ("0", "1")
+JUDGING = ("check", "extract", "count")
+FILE = random.Random(7440).randbytes(COUNT * SIZE - 1)
+# What is recorded of real programs: 40 MB, which has more blocks of 512 than there are numbers.
+LARGE = "large.img"
+IMAGE = random.Random(2348).randbytes(40_000_000)
+BLOCKS = len(IMAGE) // 512 + 1
+HPA = f"in.tftpd -L -c -u root -a {SERVER}:69 -s ROOT"
+DNSMASQ = f"dnsmasq --no-daemon --conf-file=/dev/null --port=0 --enable-tftp --tftp-root=ROOT --listen-address={SERVER}"
+DNSMASQ += " --user=root --group=root --log-facility=LOG"
+CURL = f"curl -s -S --max-time 50 --interface {CLIENT} -o {LARGE}"
+REAL = (
+    Case("tftp-hpa", HPA, (f"tftp -4 -m octet {SERVER} -c get {LARGE}",), ()),
+    Case("curl-hpa", HPA, (f"{CURL} --tftp-no-options tftp://{SERVER}/{LARGE}",), ()),
+    Case("curl-dnsmasq", DNSMASQ, (f"{CURL} --tftp-blksize 512 tftp://{SERVER}/{LARGE}",), ()),
+)
+
+
+def number_of(block: int, first: int) -> int:
+    """The number of a block: after 65535 they begin again with this one."""
+    return block if block < ROUND else (block - ROUND) % (ROUND - first) + first
+
+
+def numbered(block: int, first: int, content: bytes) -> Packet:
+    return data(number_of(block, first), content)
+
+
+def whole(first: int, size: Optional[int] = len(FILE)) -> Capture:
+    """A read at the client in lock step; of each hundredth block the ACK is lost, and the block comes again."""
+    capture = Capture("client")
+    options = {} if size is None else {"tsize": size}
+    capture.put("client", read_request("boot.img", "octet", blksize=SIZE, **options))
+    capture.put("server", oack(blksize=SIZE, **options))
+    capture.put("client", ack(0))
+    for block in range(1, COUNT + 1):
+        packet = numbered(block, first, FILE[(block - 1) * SIZE : block * SIZE])
+        capture.put("server", *[packet] * (1 + (block % 100 == 0)))
+        capture.put("client", ack(number_of(block, first)))
+    return capture
+
+
+def in_windows(first: int) -> Capture:
+    """A write at the server in windows of 64 blocks, each window twice."""
+    capture = Capture("server")
+    capture.put("client", write_request("boot.img", "octet", blksize=SIZE, windowsize=64))
+    capture.put("server", oack(blksize=SIZE, windowsize=64))
+    for at in range(0, COUNT, 64):
+        last = min(at + 64, COUNT)
+        blocks = [numbered(block, first, FILE[(block - 1) * SIZE : block * SIZE]) for block in range(at + 1, last + 1)]
+        capture.put("client", *blocks, *blocks)
+        capture.put("server", ack(number_of(last, first)))
+    return capture
+
+
+def late(first: int, behind: int) -> Capture:
+    """A read in lock step up to block 65,540, after which a block comes again that is so many blocks older."""
+    capture = whole(first, None)
+    highest, lines = ROUND + 4, len(capture.lines)
+    del capture.lines[lines - 2 :]
+    block = highest - behind
+    capture.put("server", numbered(block, first, FILE[(block - 1) * SIZE : block * SIZE]))
+    return capture
+
+
+def said(text: bytes, *words: str) -> tuple[bytes, bytes, int]:
+    """What the program prints of a text, what it writes as errors, and its status."""
+    done = subprocess.run([AUDIT.path, *words], input=text, capture_output=True, timeout=300)
+    return done.stdout, done.stderr, done.returncode
+
+
+class Numbers(Checks):
+    """What the commands say of made captures."""
+
+    needs = (AUDIT,)
+
+    def by(self, given: str, text: bytes, command: str = "check") -> tuple[bytes, bytes, int]:
+        return said(text, command, "--rollover", given)
+
+    def test_accepted(self) -> None:
+        """The whole transfer is accepted by the number that it goes on with, and refused by the other and by none."""
+        for given in GIVEN:
+            for name, capture, kind in (
+                ("a read", whole(int(given)), "get"),
+                ("a read without its size", whole(int(given), None), "get"),
+                ("a write in windows", in_windows(int(given)), "put"),
+            ):
+                text = capture.text()
+                accepted = f"accepted {kind} octet blocks {COUNT} bytes {len(FILE)}\n".encode()
+                self.check(f"{name}, {given}", self.by(given, text) == (accepted, b"", 0))
+                self.check(f"{name}, {given}, extracted", self.by(given, text, "extract") == (FILE, b"", 0))
+                for other, got in (("the other", self.by(str(1 - int(given)), text)), ("none", said(text, "check"))):
+                    is_refused = got[1:] == (b"", 1) and got[0].startswith(b"refused datagram ")
+                    self.check(f"{name}, {given}, by {other}", is_refused, got)
+
+    def test_refused(self) -> None:
+        """Where it is refused by none: at the OACK whose size is beyond, or at block 65535, which is a whole one."""
+        block = 1 + next(at for at, line in enumerate(whole(0, None).lines) if "0003ffff" in line[-4 * SIZE :])
+        for name, text, at in (("the OACK", whole(0).text(), 2), ("the block", whole(0, None).text(), block)):
+            got = said(text, "check")
+            self.check(name, got == (f"{refusal(at, Rule.BEYOND_BLOCK_65535)}\n".encode(), b"", 1), got)
+
+    def test_counted(self) -> None:
+        """The normal capture has the request, its answer, ACK 0, and each block with its ACK."""
+        text = whole(0).text()
+        self.check("counted", self.by("0", text, "count") == (f"normal datagrams {3 + 2 * COUNT}\n".encode(), b"", 0))
+
+    def test_late(self) -> None:
+        """A block that comes again is known as far back as half a round, and not one further."""
+        for given in GIVEN:
+            near, far = late(int(given), 32_767), late(int(given), 32_768)
+            incomplete = f"incomplete after {len(near.lines)}\n".encode()
+            self.check(f"32,767 behind, {given}", self.by(given, near.text()) == (incomplete, b"", 1))
+            got = self.by(given, far.text())
+            self.check(f"32,768 behind, {given}", b"refused" in got[0] and got[2] == 1, got)
+
+    def test_first_round(self) -> None:
+        """Captures of the first round have the same lines by each number as by none."""
+        captures = sorted((TOP / "examples").glob("*.capture"))
+        for path in captures:
+            for command in JUDGING:
+                alone = said(path.read_bytes(), command)
+                for given in GIVEN:
+                    same = self.by(given, path.read_bytes(), command) == alone
+                    self.check(f"{path.stem}, {command}, {given}", same, alone)
+        self.check("some", len(captures) > 3, captures)
+
+    def test_words(self) -> None:
+        """The word stands behind the three commands that judge, and says 0 or 1; else the words are no command."""
+        text = (TOP / "examples" / "one-block.capture").read_bytes()
+        usage = (b"fault usage\n", b"", 2)
+        for words in (
+            ("check", "--rollover"), ("check", "--rollover", "2"), ("check", "--rollover", ""),
+            ("check", "--rollove", "0"), ("check", "--rollover", "0", "0"), ("--rollover", "0", "check"),
+            ("check", "0", "--rollover"),
+            ("show", "--rollover", "0"), ("normal", "--rollover", "1"), ("check", "check", "--rollover", "0"),
+        ):
+            self.check(f"{words}", said(text, *words) == usage, said(text, *words))
+        self.check("commands", set(JUDGING) < set(COMMANDS))
+
+
+class Sent(OverLoopback):
+    """What is said of 40 MB that real programs send."""
+
+    needs = (AUDIT, TRANSFERS)
+
+    def test_sent(self) -> None:
+        for case in REAL:
+            if lacking := missing(case):
+                self.leave(case.name, f"not installed: {', '.join(lacking)}")
+                continue
+            folder = self.folder / case.name
+            folder.mkdir()
+            for each in (self.folder, folder):
+                each.chmod(0o755)
+            make_files(folder)
+            (folder / "root" / LARGE).write_bytes(IMAGE)
+            self.try_case(case, folder)
+
+    def try_case(self, case: Case, folder: pathlib.Path) -> None:
+        recording = folder / "large.pcap"
+        record(case, recording, folder)
+        came = folder / "client" / LARGE
+        self.check(f"{case.name}, came over", came.exists() and came.read_bytes() == IMAGE)
+        for end in ("client", "server"):
+            words = [TRANSFERS.path, "text", "-", "1", end]
+            text = subprocess.run(words, input=recording.read_bytes(), capture_output=True, timeout=120).stdout
+            accepted = f"accepted get octet blocks {BLOCKS} bytes {len(IMAGE)}\n".encode()
+            by = {given: said(text, "check", "--rollover", given) for given in GIVEN}
+            self.check(f"{case.name}, {end}, by 0", by["0"] == (accepted, b"", 0), by["0"])
+            self.check(f"{case.name}, {end}, by 1", by["1"][0].startswith(b"refused ") and by["1"][2] == 1, by["1"])
+            self.check(f"{case.name}, {end}, extracted", said(text, "extract", "--rollover", "0") == (IMAGE, b"", 0))
