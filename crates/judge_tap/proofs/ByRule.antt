@@ -4,7 +4,7 @@ use Rattle.law_end.specs.{Rule}
 use Rattle.law_tap.specs.{TapDatagram, TapSides, AreApart, BreaksNoTapRule, FirstTapBroken}
 use Rattle.law_tap.proofs.StandingRules.{standing_is_certain}
 use Rattle.tftp_judge.specs.declared.pass_error.PassError.{PassError}
-use Rattle.tftp_judge.specs.declared.pass_error.PassError.TheVariants.{Broken, Memory}
+use Rattle.tftp_judge.specs.declared.pass_error.PassError.TheVariants.{Broken}
 use Rattle.judge_tap.specs.{FindsAtTap, IsCertainByRule, TapRefusal, Unlawful}
 
 pub certain_first : (s : TapSides) (earlier : List TapDatagram) (d : TapDatagram) (After : Type 0) (stop : PassError) (index : ℕ) (rule : Rule) (refusal : TapRefusal) → AreApart s → BreaksNoTapRule s earlier

@@ -13,4 +13,5 @@ mod TapShown
 mod TapVerdictFound
 mod SaidAfter
 mod LossyFound
+mod ToldFound
 mod WorkedLossy
