@@ -14,4 +14,5 @@ mod TapVerdictFound
 mod SaidAfter
 mod LossyFound
 mod ToldFound
+mod ChangedFirst
 mod WorkedLossy

@@ -92,7 +92,7 @@ module _ (s : TapSides) (apart : AreApart s) where
     ]
   ]
 
-  lossy_astray_is : (d : TapDatagram) → (lossy_astray s d ≡ TapRoute.WrongPort) ⊎ (lossy_astray s d ≡ TapRoute.StrayAnswer)
+  pub lossy_astray_is : (d : TapDatagram) → (lossy_astray s d ≡ TapRoute.WrongPort) ⊎ (lossy_astray s d ≡ TapRoute.StrayAnswer)
   lossy_astray_is d = by (same_peer d.destination s.client || same_peer d.destination s.server) (ends_in d.payload) where
     by : (own ends : Bool) → ((if own then TapRoute.WrongPort else if ends then TapRoute.StrayAnswer else TapRoute.WrongPort) ≡ TapRoute.WrongPort) ⊎ ((if own then TapRoute.WrongPort else if ends then TapRoute.StrayAnswer else TapRoute.WrongPort) ≡ TapRoute.StrayAnswer)
     by true ends = inl refl
@@ -156,7 +156,7 @@ module _ (s : TapSides) (apart : AreApart s) where
     pub now_said : IsSaid s (d ∷ earlier) e m
     now_said = any_first (IsSaidBy s e m) d earlier says
 
-    still : (g : End) (x : Message) → IsSaid s earlier g x → IsSaid s (d ∷ earlier) g x
+    pub still : (g : End) (x : Message) → IsSaid s earlier g x → IsSaid s (d ∷ earlier) g x
     still g x said = said_later s earlier d e m says g x said
 
     offer_later : ((options : OptionMap) → m ≡ Message.Oack options → ⊥) → (offered : Option OptionMap) → IsOffered s earlier offered → IsOffered s (d ∷ earlier) offered

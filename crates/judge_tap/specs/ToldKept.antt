@@ -5,7 +5,8 @@ use Rattle.tftp_packet.specs.{Message, OptionMap, RequestParts, End, Rollover}
 use Rattle.law_model.specs.{EndRule}
 use Rattle.law_end.specs.{Rule}
 use Rattle.law_end.specs.declared.rule.Rule.TheVariants as rule
-use Rattle.law_tap.specs.{TapDatagram, TapSides, AreFigures, Figures, FitsSaid, IsOffered, IsSaid, IsTapRead, LossyBreaks, LossyBroken, lossy_route}
+use Rattle.law_tap.specs.{TapDatagram, TapSides, AreFigures, IsCertainBetween, Figures, FitsSaid, IsOffered, IsSaid, IsTapRead, LossyBreaks, LossyBroken, StandsWhateverIsMissing, lossy_route}
+use Rattle.judge_tap.specs.LossyKept.{HasBegun, IsNotCertain}
 use Rattle.tftp_judge.specs.declared.pass_error.PassError.{PassError}
 use Rattle.tftp_judge.specs.declared.pass_error.PassError.TheVariants.{Broken as Breaks, Memory}
 
@@ -67,8 +68,22 @@ IsTold s earlier d (Some true) = (broken : Rule) × LossyBroken s earlier d brok
 IsTold s earlier d (Some false) = IsTapRead (lossy_route s d) d × ((broken : Rule) → LossyBroken s earlier d broken → broken ≡ rule.Block EndRule.BlockChanged)
 IsTold s earlier d None = SomeOack s (d ∷ earlier)
 
+-- what is answered of a refusal: by its rule's name where that tells it, and else what is told of the datagram
+abbrev pub IsStandingBy : Rule → Option Bool → Option Bool → Type 0
+IsStandingBy broken told answer = (StandsWhateverIsMissing broken × (answer ≡ Some true)) ⊎ ((StandsWhateverIsMissing broken → ⊥) × (answer ≡ told))
+
 -- the same of a datagram that breaks a rule
 abbrev pub IsToldIfBroken : TapSides → List TapDatagram → TapDatagram → Result (Unit {0}) PassError → Option Bool → Type 0
 IsToldIfBroken s earlier d (Ok _) told = Unit {0}
 IsToldIfBroken s earlier d (Err (Breaks rule)) told = IsTold s earlier d told
 IsToldIfBroken s earlier d (Err Memory) told = Unit {0}
+
+-- ---- whether a refusal stands
+
+-- Whether the refusal of a datagram by this rule stands whatever is missing. It does: no lawful list has the datagram after those
+-- before it, however many more it has. It does not: it cannot be that none has, where what was recorded of the transfer begins with
+-- its request. Or memory was wanting to tell, as it may be where an OACK was said. What stands by its rule's name does.
+abbrev pub IsStandingAtTap : TapSides → List TapDatagram → TapDatagram → Rule → Option Bool → Type 0
+IsStandingAtTap s earlier d broken (Some true) = IsCertainBetween s earlier d
+IsStandingAtTap s earlier d broken (Some false) = (StandsWhateverIsMissing broken → ⊥) × (HasBegun s (d ∷ earlier) → IsNotCertain s earlier d)
+IsStandingAtTap s earlier d broken None = (StandsWhateverIsMissing broken → ⊥) × SomeOack s (d ∷ earlier)

@@ -1,11 +1,11 @@
 //! Laws of the definitions in `specs/`. Each is the contract of a function that does nothing.
 
-ghost use Rattle.std.specs.Prelude.{◌↔◌, ℕ, List, ◌∷◌, Some, true, false, reverse};
+ghost use Rattle.std.specs.Prelude.{◌≡◌, ◌↔◌, ℕ, List, ◌∷◌, Some, true, false, reverse};
 ghost use Rattle.tftp_packet.specs.{RequestParts};
 ghost use Rattle.law_model.specs.Model.{Meaning};
 ghost use Rattle.law_model.specs.{EndRule};
 ghost use Rattle.law_end.specs.{Rule, ShowsBy, OneEnded};
-ghost use Rattle.law_tap.specs.{TapDatagram, TapSides, AreApart, IsCertainBetween, IsLawfulBetweenWithLosses, LossyBroken, ShowsBetween, transfer_between, BreaksNoTapRule, FirstTapAsked, header_at, kept_between};
+ghost use Rattle.law_tap.specs.{TapDatagram, TapSides, AreApart, IsCertainBetween, IsLawfulBetweenWithLosses, LossyBroken, ShowsBetween, TapBroken, transfer_between, BreaksNoTapRule, FirstTapAsked, header_at, kept_between};
 ghost use Rattle.judge_tap.specs.LossyKept.{HasBegun, IsNotCertain, RefusesWithLosses};
 ghost use Rattle.judge_tap.specs.ToldKept.{IsTold};
 ghost use Rattle.judge_tap.specs.declared.lossy_refusal.LossyRefusal.{LossyRefusal};
@@ -41,4 +41,11 @@ pub fn what_is_told_is_certain()
         → IsCertainBetween s earlier d }
     ensures no { (s : TapSides) (earlier : List TapDatagram) (d : TapDatagram) → AreApart s → BreaksNoTapRule s earlier → IsTold s earlier d (Some false)
         → (LossyBroken s earlier d (Rule.Block EndRule.BlockChanged) → ⊥) → HasBegun s (d ∷ earlier) → IsNotCertain s earlier d }
+{}
+
+/// A block that was said before with other bytes breaks no rule between the ends but that, where nothing else in it breaks a rule
+/// whatever is missing.
+pub fn a_changed_block_breaks_nothing_else()
+    ensures { (s : TapSides) (earlier : List TapDatagram) (d : TapDatagram) (broken : Rule) → AreApart s → BreaksNoTapRule s earlier → IsTold s earlier d (Some false)
+        → LossyBroken s earlier d (Rule.Block EndRule.BlockChanged) → TapBroken s earlier d broken → broken ≡ Rule.Block EndRule.BlockChanged }
 {}
