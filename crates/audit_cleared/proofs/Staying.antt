@@ -99,8 +99,9 @@ refused_on x before after final Server number rule is =
     subst (λ c. IsVerdict (server_header x) (reverse c) (Err (Unlawful number rule))) (sym same) is
 refused_on x before after final Between number rule is = (
   subst (λ s. AreApart (sides_with x s)) (sym final.who) is.0,
-  subst (λ s. IsBetweenVerdict (sides_with x s) (between_capture x after) (Err (tap.Unlawful number rule))) (sym final.who)
-      (subst (λ v. IsBetweenVerdict (sides_of x before) (map (λ p. passed_of p.datagram) v) (Err (tap.Unlawful number rule))) (sym final.client) is.1),
+  is.1,
+  subst (λ s. IsBetweenVerdict (sides_with x s) (between_capture x after) (Err (tap.Unlawful number rule is.1))) (sym final.who)
+      (subst (λ v. IsBetweenVerdict (sides_of x before) (map (λ p. passed_of p.datagram) v) (Err (tap.Unlawful number rule is.1))) (sym final.client) is.2),
 )
 
 pub stays : (named : List ℕ) (carried later : List Carried) (n : ℕ) (point : Point) (number : ℕ) (rule : Rule) (frame : ℕ) (a : IsAccusation named carried n point number rule frame)

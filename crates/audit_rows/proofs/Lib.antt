@@ -1,3 +1,4 @@
 mod Sent
 mod Named
+mod Stood
 mod Seen

@@ -1,5 +1,5 @@
 -- What is said at a point has the frame of the datagram that its verdict refuses.
-use Rattle.std.proofs.Common.{◌≡◌, ℕ, List, Option, Some, None, Ok, Err, refl, sym, ap, ◌∙◌}
+use Rattle.std.proofs.Common.{◌≡◌, ℕ, List, Option, Some, None, Ok, Err, refl, sym, ◌∙◌}
 use Rattle.std.specs.Prelude.{option_map}
 use Rattle.tftp_judge.specs.declared.refusal.Refusal.TheVariants as refusal
 use Rattle.judge_tap.specs.declared.refusal.TapRefusal.TheVariants as tap
@@ -23,7 +23,7 @@ has_frame (AtEnd (Err (refusal.Incomplete count))) o frame is = let none : None 
 has_frame (AtEnd (Err refusal.NormalTooLong)) o frame is = let none : None ≡ Some frame = is in absurd (cc)
 has_frame (AtEnd (Err (refusal.Memory count))) o frame is = let none : None ≡ Some frame = is in absurd (cc)
 has_frame (Between (Ok m)) o frame is = let none : None ≡ Some frame = is in absurd (cc)
-has_frame (Between (Err (tap.Unlawful index rule))) o frame is = is
+has_frame (Between (Err (tap.Unlawful index rule stands))) o frame is = is
 has_frame (Between (Err (tap.Aborted by code))) o frame is = let none : None ≡ Some frame = is in absurd (cc)
 has_frame (Between (Err (tap.Incomplete count))) o frame is = let none : None ≡ Some frame = is in absurd (cc)
 has_frame (Between (Err tap.NormalTooLong)) o frame is = let none : None ≡ Some frame = is in absurd (cc)

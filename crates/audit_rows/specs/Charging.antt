@@ -1,5 +1,5 @@
 -- What becomes of an accusation where the recorder says that it lost packets. Lists have the newest first.
-use Rattle.std.specs.Prelude.{◌≡◌, ◌&&◌, ◌∷◌, nat_lt, ℕ, Bool, List, [], Option, Some, None}
+use Rattle.std.specs.Prelude.{◌≡◌, ◌&&◌, ◌∷◌, nat_lt, ℕ, Bool, List, [], Option, None}
 use Rattle.audit_flows.specs.Lines.{Placed}
 use Rattle.audit_flows.specs.{Transfer}
 use Rattle.audit_recording.specs.{Accused, Telling}

@@ -1,5 +1,5 @@
 -- Why the refusal that a row tells is no accusation. Lists have the newest first.
-use Rattle.std.specs.Prelude.{◌&&◌, ◌||◌, ◌++◌, not, Bool, true, false, List, [], Option, Some, None, is_none, is_some, if◌then◌else◌}
+use Rattle.std.specs.Prelude.{◌&&◌, ◌||◌, ◌++◌, not, Bool, true, false, List, [], Option, Some, is_none, is_some, if◌then◌else◌}
 use Rattle.audit_flows.specs.Lines.{Placed, same_endpoint}
 use Rattle.audit_flows.specs.{Transfer}
 use Rattle.audit_recording.specs.declared.blame.blame.Blamed.{Blamed}
@@ -8,7 +8,7 @@ use Rattle.audit_recording.specs.declared.blame.reason.Reason.{Reason}
 use Rattle.audit_recording.specs.Reasons.Listed.{missing_reasons, reasons_of, where_so}
 use Rattle.audit_recording.specs.Rows.Accusing.{role_at}
 use Rattle.audit_recording.specs.Rows.Told.{is_at_end, may_be_asked, telling_depends}
-use Rattle.audit_recording.specs.declared.blame.reason.Reason.TheVariants.{Unplaced, Unseen, SpeaksFirst, GoesOver, Stranger, Dropped}
+use Rattle.audit_recording.specs.declared.blame.reason.Reason.TheVariants.{Unplaced, Unseen, SpeaksFirst, GoesOver, Stranger}
 use Rattle.audit_recording.specs.declared.rows.row.Point.{Point}
 use Rattle.audit_recording.specs.declared.rows.row.Point.TheVariants as point
 use Rattle.audit_recording.specs.declared.rows.said.Said.{Said}

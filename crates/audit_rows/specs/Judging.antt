@@ -7,7 +7,7 @@ use Rattle.judge_tap.specs.{TapRefusal}
 use Rattle.audit_flows.specs.Lines.{Placed}
 use Rattle.audit_flows.specs.{Transfer}
 use Rattle.audit_flows.specs.Transfers.{IsDoubtedAfter}
-use Rattle.audit_recording.specs.{Judging, Telling}
+use Rattle.audit_recording.specs.{Judging}
 use Rattle.audit_recording.specs.Between.{sides_of}
 use Rattle.audit_recording.specs.Blame.Frames.{Carried, whole_of}
 use Rattle.audit_recording.specs.Blame.Kept.{IsTrailOf}

@@ -1,4 +1,5 @@
 pub mod Viewing
+pub mod Standing
 pub mod Doubting
 pub mod Accusing
 pub mod Charging

@@ -1,6 +1,5 @@
 -- What is said of a transfer at a point where it was judged, and of which datagram. Lists have the newest first.
-use Rattle.std.specs.Prelude.{◌≡◌, ◌↔◌, ◌||◌, ℕ, Bool, true, false, List, length, IsTrue, Option, Some, None, option_map, Result, Ok, Err}
-use Rattle.law_tap.specs.{StandsWhateverIsMissing}
+use Rattle.std.specs.Prelude.{◌≡◌, ◌||◌, ℕ, Bool, true, false, List, length, Option, Some, None, option_map, Ok, Err}
 use Rattle.tftp_judge.specs.declared.refusal.Refusal.TheVariants as refusal
 use Rattle.judge_tap.specs.declared.refusal.TapRefusal.TheVariants as tap
 use Rattle.audit_flows.specs.Lines.{Placed}
@@ -40,9 +39,10 @@ is_aborted _ = false
 abbrev pub is_cut_short : Found → Bool
 is_cut_short found = is_aborted found || stops_early found
 
--- Of what is refused between the ends, it is said whether that stands whatever datagrams were missed; of all else nothing.
+-- Of what is refused between the ends, it is said whether that stands whatever datagrams were missed, as the judge there tells it; of
+-- all else nothing.
 abbrev pub IsStanding : Found → Option Bool → Type 0
-IsStanding (Between (Err (tap.Unlawful number rule))) stands = (it : Bool) × (stands ≡ Some it) × (IsTrue it ↔ StandsWhateverIsMissing rule)
+IsStanding (Between (Err (tap.Unlawful number rule told))) stands = stands ≡ told
 IsStanding _ stands = stands ≡ None
 
 -- how many bytes the file has, where the transfer is accepted

@@ -1,5 +1,5 @@
 -- A datagram of the server's view that is refused, and what its row tells.
-use Rattle.std.specs.Prelude.{ℕ, Bool, false, List, [], ◌∷◌, Option, Some, None, Err}
+use Rattle.std.specs.Prelude.{ℕ, Bool, false, [], ◌∷◌, Some, None, Err}
 use Rattle.law_model.specs.{EndRule}
 use Rattle.law_end.specs.{Block}
 use Rattle.tftp_judge.specs.declared.refusal.Refusal.TheVariants as refusal

@@ -5,7 +5,6 @@ ghost use Rattle.audit_rows.specs.Viewing.{IsStanding, bytes_in, is_cut_short, i
 
 use audit_recording::rows::Said;
 use judge_tap::TapRefusal;
-use law_tap::stands_whatever_is_missing;
 use tftp_judge::{Meaning, Refusal};
 
 /// What the judge at a point found.
@@ -63,9 +62,7 @@ impl Found {
         ensures { IsStanding self.now result }
     {
         match self {
-            Found::Between(Err(TapRefusal::Unlawful(_, rule))) => {
-                Some(stands_whatever_is_missing(*rule))
-            }
+            Found::Between(Err(TapRefusal::Unlawful(_, _, stands))) => *stands,
             _ => None,
         }
     }

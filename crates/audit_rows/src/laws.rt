@@ -5,7 +5,7 @@ ghost use Rattle.tftp_packet.specs.{Client as ClientEnd};
 ghost use Rattle.audit_flows.specs.Lines.{Placed};
 ghost use Rattle.audit_flows.specs.{Transfer};
 ghost use Rattle.audit_recording.specs.{Accused, Telling};
-ghost use Rattle.audit_recording.specs.Blame.Frames.{Carried, Framed, seen_as};
+ghost use Rattle.audit_recording.specs.Blame.Frames.{Carried, Framed, seen_as, whole_of};
 ghost use Rattle.audit_recording.specs.Blame.Facts.{blamed_of};
 ghost use Rattle.audit_recording.specs.declared.blame.blame.Blamed.{Blamed};
 ghost use Rattle.audit_recording.specs.declared.blame.doubted.Doubted.{Doubted};
@@ -18,7 +18,8 @@ ghost use Rattle.audit_recording.specs.declared.rows.row.Point.{Point as PointKi
 ghost use Rattle.audit_rows.specs.Accusing.{accused_of_row, is_listed};
 ghost use Rattle.audit_rows.specs.Charging.{unless_listed};
 ghost use Rattle.audit_rows.specs.Doubting.{row_reasons};
-ghost use Rattle.audit_rows.specs.Viewing.{IsViewAt, number_in, said_in};
+ghost use Rattle.audit_rows.specs.Standing.{IsCertainAt, IsOpenAt};
+ghost use Rattle.audit_rows.specs.Viewing.{IsStanding, IsViewAt, number_in, said_in};
 ghost use Rattle.audit_rows.specs.Worked.{worked_client, worked_early, worked_telling, worked_transfer, worked_view};
 ghost use Rattle.audit_rows.specs.declared.viewed.Viewed.{Viewed};
 
@@ -66,4 +67,14 @@ pub fn worked_row()
     ensures accused { accused_of_row (worked_transfer 2000) [] (worked_telling (worked_view false)) (worked_view false).blamed [] ≡ Some (record { role = ClientEnd; end = worked_client }) }
     ensures doubtful { accused_of_row (worked_transfer 2000) [] (worked_telling (worked_view true)) (worked_view true).blamed (Late ∷ []) ≡ None }
     ensures early { row_reasons (worked_transfer 2000) [] (worked_doubted false false None) (worked_telling worked_early) worked_early ≡ Lost 9 ∷ [] }
+{}
+
+/// What is said to stand of a refusal between the ends does: no lawful list has the refused datagram after those before it, whatever
+/// datagrams were missed. Of what is said not to stand that is not so, where what was recorded of the transfer begins with its
+/// request.
+pub fn what_stands_is_certain()
+    ensures yes { (x : Transfer) (named : List ℕ) (carried : List Carried) (v : Viewed) → IsViewAt PointKind.Between x named carried v
+        → IsStanding v.found (Some true) → (number : ℕ) × (number_in v.found ≡ Some number) × IsCertainAt x (whole_of named carried) number }
+    ensures no { (x : Transfer) (named : List ℕ) (carried : List Carried) (v : Viewed) → IsViewAt PointKind.Between x named carried v
+        → IsStanding v.found (Some false) → (number : ℕ) × (number_in v.found ≡ Some number) × IsOpenAt x (whole_of named carried) number }
 {}

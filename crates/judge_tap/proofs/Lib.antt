@@ -13,4 +13,6 @@ mod TapShown
 mod TapVerdictFound
 mod SaidAfter
 mod LossyFound
+mod ToldFound
+mod ChangedFirst
 mod WorkedLossy

@@ -220,14 +220,14 @@ no_request (packet.Oack options) asked other is = absurd (cc)
 
 -- ---- strays
 
-stray_breaks : (d : TapDatagram) (broken : Rule) → SidesBreak TapRoute.Stray d broken → ⊥
+pub stray_breaks : (d : TapDatagram) (broken : Rule) → SidesBreak TapRoute.Stray d broken → ⊥
 stray_breaks d (rule.Port PortRule.Foreign) b = absurd (cc)
 stray_breaks d (rule.Port PortRule.Wrong) b = absurd (cc)
 stray_breaks d (rule.Port PortRule.BadAnswer) (inl b) = absurd (cc)
 stray_breaks d (rule.Port PortRule.BadAnswer) (inr b) = let no = b.0 in absurd (cc)
 stray_breaks d _ b = absurd b
 
-answer_breaks : (d : TapDatagram) (text : List ℕ) → Spells d.payload (Message.Error 5 text) → (broken : Rule) → SidesBreak TapRoute.StrayAnswer d broken → ⊥
+pub answer_breaks : (d : TapDatagram) (text : List ℕ) → Spells d.payload (Message.Error 5 text) → (broken : Rule) → SidesBreak TapRoute.StrayAnswer d broken → ⊥
 answer_breaks d text says (rule.Port PortRule.Foreign) b = absurd (cc)
 answer_breaks d text says (rule.Port PortRule.Wrong) b = absurd (cc)
 answer_breaks d text says (rule.Port PortRule.BadAnswer) (inl b) = absurd (cc)

@@ -26,13 +26,13 @@ use Rattle.judge_tap.specs.{AreSaidNotes, FindsSaid, IsErrorPut, IsErrorSaid, Is
 
 -- ---- who says what
 
-block_by : (e : End) (side : Side) (k : ℕ) (bytes : List ℕ) → (IsWrongKind e side (Message.Data k bytes) → ⊥) → e ≡ sender_of side
+pub block_by : (e : End) (side : Side) (k : ℕ) (bytes : List ℕ) → (IsWrongKind e side (Message.Data k bytes) → ⊥) → e ≡ sender_of side
 block_by Client Get k bytes right = absurd (right tt)
 block_by Client Put k bytes right = refl
 block_by Server Get k bytes right = refl
 block_by Server Put k bytes right = absurd (right tt)
 
-oack_by : (e : End) (side : Side) (options : OptionMap) → (IsWrongKind e side (Message.Oack options) → ⊥) → e ≡ Server
+pub oack_by : (e : End) (side : Side) (options : OptionMap) → (IsWrongKind e side (Message.Oack options) → ⊥) → e ≡ Server
 oack_by Client Get options right = absurd (right tt)
 oack_by Client Put options right = absurd (right tt)
 oack_by Server side options right = refl
@@ -44,10 +44,10 @@ module _ (s : TapSides) (asked : RequestParts) (tapped : List TapDatagram) (f : 
   offered_of None none = none
   offered_of (Some agreed) said = (Server, said.1)
 
-  unfit : (offered : Option OptionMap) → IsOfferSaid s tapped asked offered → (FitsSaid asked offered f → ⊥) → NothingExplains s asked tapped
+  pub unfit : (offered : Option OptionMap) → IsOfferSaid s tapped asked offered → (FitsSaid asked offered f → ⊥) → NothingExplains s asked tapped
   unfit offered said none = unfit_unexplained s asked tapped f offered are (offered_of offered said) none
 
-  fit : (offered : Option OptionMap) → IsOfferSaid s tapped asked offered → ((e : End) (k : ℕ) (bytes : List ℕ) → IsSaid s tapped e (Message.Data k bytes) → 1 ≤ k) → IsSaid s tapped Client (Message.Request asked)
+  pub fit : (offered : Option OptionMap) → IsOfferSaid s tapped asked offered → ((e : End) (k : ℕ) (bytes : List ℕ) → IsSaid s tapped e (Message.Data k bytes) → 1 ≤ k) → IsSaid s tapped Client (Message.Request asked)
       → FitsSaid asked offered f → NothingExplains s asked tapped → ⊥
   fit None none low request fits nothing = unseen_explains s asked tapped f are low none request fits nothing
   fit (Some agreed) said low request fits nothing = agreed_explains s asked tapped f are low agreed said.0 (Server, said.1) said.2 fits nothing
@@ -61,7 +61,7 @@ module _ (s : TapSides) (earlier : List TapDatagram) (d : TapDatagram) (e : End)
   still : (g : End) (x : Message) → IsSaid s earlier g x → IsSaid s (d ∷ earlier) g x
   still g x said = said_later s earlier d e m says g x said
 
-  offer_later : ((options : OptionMap) → m ≡ Message.Oack options → ⊥) → (asked : RequestParts) (offered : Option OptionMap) → IsOfferSaid s earlier asked offered → IsOfferSaid s (d ∷ earlier) asked offered
+  pub offer_later : ((options : OptionMap) → m ≡ Message.Oack options → ⊥) → (asked : RequestParts) (offered : Option OptionMap) → IsOfferSaid s earlier asked offered → IsOfferSaid s (d ∷ earlier) asked offered
   offer_later other asked None none = λ g options said. elim (said_cases s earlier d e m says g (Message.Oack options) said) [ inl now ↦ absurd (other options now) | inr before ↦ none g options before ]
   offer_later other asked (Some agreed) said = (
     said.0,

@@ -5,7 +5,6 @@ use Rattle.tftp_packet.specs.{Message, RequestParts, Spells, FirstFault, meaning
 use Rattle.tftp_judge.specs.{NoneBreaks, Finds, PassError}
 use Rattle.tftp_packet.specs.Hosts.{Datagram, Header}
 use Rattle.law_model.specs.Rules.{is_of_transfer, or_this, route_of}
-use Rattle.law_model.specs.{PortRule}
 use Rattle.law_model.specs.Model.Roles.{receiver_of}
 use Rattle.law_end.specs.{Broken, NoErrorBy, number_of, Rule}
 use Rattle.law_end.specs.declared.rule.Rule.TheVariants as rule

@@ -8,6 +8,7 @@ use Rattle.law_end.specs.{IsFirstError}
 use Rattle.tftp_judge.specs.{IsJudgeAfter, Judge}
 use Rattle.law_tap.specs.{TapDatagram, TapSides, side_of, AreApart, kept_of, KnownWays, StandsForTap, tap_tests, transfer_between, BreaksNoTapRule, FirstTapAsked, header_at, kept_between}
 use Rattle.judge_tap.specs.TapSeen.{AreNotes, Notes}
+use Rattle.judge_tap.specs.ToldKept.{AreTold, Told}
 use Rattle.judge_tap.specs.declared.refusal.TapRefusal.{TapRefusal}
 
 -- ---- what the end that gets the file would keep
@@ -50,8 +51,11 @@ pub record IsTapTransfer (t : TapTransfer) (s : TapSides) (passed : List TapData
 
 -- what is kept of all that has passed
 pub record TapState : Type 0 where
+  pub sides : TapSides
   pub ports : KnownWays
   pub transfer : Option TapTransfer  -- from the first request on
+  pub told : Told  -- what tells whether a refusal stands whatever is missing
+  pub stands : Option Bool  -- whether the last one does
 
 pub record TapJudge : Type 0 where
   pub state : TapState
@@ -63,10 +67,17 @@ abbrev pub IsKeptAtTap : TapSides → List TapDatagram → Option TapTransfer �
 IsKeptAtTap s passed None = passed ≡ []
 IsKeptAtTap s passed (Some transfer) = IsTapTransfer transfer s passed
 
+-- what is kept of a transfer, as far as a message is judged by it: the first request, and the ERRORs
+abbrev pub IsHeard : TapSides → List TapDatagram → Option TapTransfer → Type 0
+IsHeard s passed None = passed ≡ []
+IsHeard s passed (Some transfer) = FirstTapAsked s passed transfer.asked × AreNotes transfer.notes s passed
+
 -- what is kept of these datagrams
 pub record HasKeptAtTap (k : TapState) (s : TapSides) (earlier : List TapDatagram) : Type 0 where
+  pub sides : k.sides ≡ s
   pub ports : StandsForTap k.ports s earlier
   pub kept : IsKeptAtTap s (transfer_between s earlier) k.transfer
+  pub told : AreTold k.told s earlier
 
 -- the judge at the end that gets the file was fed so many at most
 abbrev pub FedWithin : Option TapTransfer → ℕ → Type 0

@@ -13,6 +13,7 @@ use Rattle.law_tap.specs.{TapDatagram, TapSides, side_of, is_left_out, asks_in, 
 use Rattle.judge_tap.specs.TapFinds.{OwnBreaks}
 use Rattle.judge_tap.specs.TapKept.{IsTapTransfer, TapTransfer, kept_there}
 use Rattle.judge_tap.specs.TapSeen.{IsNew}
+use Rattle.judge_tap.specs.ToldKept.{IsStandingAtTap}
 use Rattle.judge_tap.specs.declared.datagram.TapDatagram.{TapDatagram as Owned}
 use Rattle.judge_tap.specs.declared.refusal.TapRefusal.{TapRefusal}
 use Rattle.judge_tap.specs.declared.refusal.TapRefusal.TheVariants.{Unlawful, Memory as WantsMemory}
@@ -86,14 +87,14 @@ TakesInTransfer s passed d =
 abbrev pub TakesMemoryAtTap : TapSides → List TapDatagram → TapDatagram → Type 0
 TakesMemoryAtTap s earlier d = (has_gone d.source d.destination earlier ≡ false) ⊎ ((transfer_between s earlier ≡ []) ⊎ TakesInTransfer s (transfer_between s earlier) d)
 
--- The refusal of the datagram after those that were fed. Memory is wanting only for one that breaks no rule, and for which
--- memory is taken.
+-- The refusal of the datagram after those that were fed, and whether it stands whatever is missing. Memory is wanting only for one
+-- that breaks no rule, and for which memory is taken.
 abbrev pub RefusesAtTap : TapSides → List TapDatagram → TapDatagram → TapRefusal → Type 0
-RefusesAtTap s earlier d (Unlawful index rule) = (index ≡ length earlier + 1) × FirstTapBroken s earlier d rule
+RefusesAtTap s earlier d (Unlawful index rule stands) = (index ≡ length earlier + 1) × FirstTapBroken s earlier d rule × IsStandingAtTap s earlier d rule stands
 RefusesAtTap s earlier d (WantsMemory count) = (count ≡ length earlier) × TapPasses s earlier d × TakesMemoryAtTap s earlier d
 RefusesAtTap s earlier d _ = ⊥
 
 -- Where the rule stands whatever is missing, the datagram is certain: no lawful list has it after those, however many more it has.
 abbrev pub IsCertainByRule : TapSides → List TapDatagram → TapDatagram → TapRefusal → Type 0
-IsCertainByRule s earlier d (Unlawful index rule) = StandsWhateverIsMissing rule → IsCertainBetween s earlier d
+IsCertainByRule s earlier d (Unlawful index rule stands) = StandsWhateverIsMissing rule → IsCertainBetween s earlier d
 IsCertainByRule s earlier d _ = Unit {0}

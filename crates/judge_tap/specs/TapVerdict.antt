@@ -26,7 +26,7 @@ IsWholeThere s tapped =
 -- Memory is wanting, after all datagrams, only where they are a whole transfer. What is not lawful was refused before.
 abbrev pub IsTapVerdict : TapSides → List TapDatagram → Result Meaning TapRefusal → Type 0
 IsTapVerdict s tapped (Ok m) = IsLawfulBetween s tapped × IsShown s tapped m × IsWritable s.rollover m
-IsTapVerdict s tapped (Err (Unlawful index rule)) = ⊥
+IsTapVerdict s tapped (Err (Unlawful index rule stands)) = ⊥
 IsTapVerdict s tapped (Err (Aborted end code)) = IsLawfulBetween s tapped × NoneShown s tapped × FirstErrorBy (IsErrorAtTap s) (transfer_between s tapped) end code
 IsTapVerdict s tapped (Err (Incomplete count)) = IsLawfulBetween s tapped × NoneShown s tapped × NoErrorBy (IsErrorAtTap s) (transfer_between s tapped) × (count ≡ length tapped)
 IsTapVerdict s tapped (Err NormalTooLong) = IsLawfulBetween s tapped × ((m : Meaning) × IsShown s tapped m) × ((m : Meaning) → IsShown s tapped m → IsWritable s.rollover m → ⊥)

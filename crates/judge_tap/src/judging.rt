@@ -2,13 +2,15 @@ ghost use Rattle.std.specs.Prelude.{◌≡◌, ◌+◌, ◌^◌, ◌<◌, ◌≤
 ghost use Rattle.law_tap.specs.{TapDatagram as Passing, TapSides, AreApart, TapPasses};
 ghost use Rattle.judge_tap.specs.TapKept.{IsTapJudge};
 ghost use Rattle.judge_tap.specs.TapStops.{IsCertainByRule, RefusesAtTap, passing_of};
+ghost use Rattle.judge_tap.specs.ToldKept.{IsStandingBy};
 ghost use Rattle.judge_tap.specs.TapVerdict.{IsTapVerdict};
 ghost use Rattle.judge_tap.specs.declared.refusal.TapRefusal.{TapRefusal as RefusalKind};
 
 use crate::datagram::TapDatagram;
 use crate::keeping::TapState;
 use crate::refusal::TapRefusal;
-use law_tap::Sides;
+use law_end::Rule;
+use law_tap::{Sides, stands_whatever_is_missing};
 use std::alloc::Global;
 use std::marker::Model;
 use tftp_ends::blocks::Delivered;
@@ -67,7 +69,7 @@ impl<D: Delivered + Drop> TapJudge<D> {
     /// passes them all here. Else it answers the datagram's index, from 1, with the first rule that it breaks, or being out of memory
     /// with the number of those before it. After a refusal it answers that one for good. Memory is taken for a way that none has
     /// gone, the first request, the first OACK, a block that has not passed and the first ERROR of an end. A payload is at most
-    /// what a packet of UDP holds.
+    /// what a packet of UDP holds. With a rule it answers whether no lawful list has the datagram, whatever the recorder missed.
     pub fn feed(&mut self, alloc: Global, datagram: TapDatagram) -> Result<(), TapRefusal>
         requires few { self.old.fed < 2 ^ 40 }
         requires short { length datagram.payload ≤ 65527 }
@@ -76,7 +78,8 @@ impl<D: Delivered + Drop> TapJudge<D> {
         ensures accepts { (s : TapSides) (earlier : List Passing) → IsTapJudge self.old s earlier
             → OnOk result (TapPasses s earlier (passing_of datagram) × IsTapJudge self.new s (passing_of datagram ∷ earlier)) }
 
-        // Or the first rule that this one breaks; memory runs out only where it breaks none, and is one that takes some.
+        // Or the first rule that this one breaks, and whether that stands whatever is missing; memory runs out only where it breaks
+        // none, and is one that takes some.
         ensures refuses { (s : TapSides) (earlier : List Passing) → IsTapJudge self.old s earlier
             → IfErr result (RefusesAtTap s earlier (passing_of datagram)) }
 
@@ -94,7 +97,10 @@ impl<D: Delivered + Drop> TapJudge<D> {
         }
         if let Err(stop) = self.state.pass(alloc, datagram) {
             let refusal = match stop {
-                PassError::Broken(rule) => TapRefusal::Unlawful(self.fed + 1, rule),
+                PassError::Broken(rule) => {
+                    let stands = standing_by(rule, self.state.stands());
+                    TapRefusal::Unlawful(self.fed + 1, rule, stands)
+                }
                 PassError::Memory => TapRefusal::Memory(self.fed),
             };
             self.refused = Some(refusal);
@@ -137,5 +143,16 @@ impl<D: Delivered + Drop> TapJudge<D> {
             Some(transfer) => transfer.finish(alloc, fed),
             None => Err(TapRefusal::Incomplete(fed)),
         }
+    }
+}
+
+/// Whether a refusal stands whatever is missing: by its rule's name where that tells it, and else by what is told of the datagram.
+fn standing_by(rule: Rule, told: Option<bool>) -> Option<bool>
+    ensures { IsStandingBy rule told result }
+{
+    if stands_whatever_is_missing(rule) {
+        Some(true)
+    } else {
+        told
     }
 }

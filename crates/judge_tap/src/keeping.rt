@@ -1,13 +1,16 @@
-ghost use Rattle.std.specs.Prelude.{◌≡◌, ◌↔◌, ◌+◌, ◌≤◌, ℕ, List, [], ◌∷◌, length, true, IsTrue, IfOk, IfErr, OnOk, Err};
-ghost use Rattle.tftp_packet.specs.{Message, Spells};
-ghost use Rattle.law_tap.specs.{TapDatagram as Passing, TapSides, side_of, AreApart, StandsForTap, is_passing, tap_route, transfer_between, BreaksNoTapRule};
-ghost use Rattle.judge_tap.specs.TapKept.{FedWithin, HasKeptAtTap, IsFewFed, IsKeptAtTap};
+ghost use Rattle.std.specs.Prelude.{◌≡◌, ◌↔◌, ◌+◌, ◌≤◌, ℕ, List, [], ◌∷◌, length, true, IsTrue, IfOk, IfErr, OnErr, OnOk, Err};
+ghost use Rattle.tftp_packet.specs.{End as Who, Message, Spells};
+ghost use Rattle.law_tap.specs.{TapDatagram as Passing, TapSides, side_of, AreApart, StandsForTap, is_passing, lossy_route, tap_route, transfer_between, BreaksNoTapRule};
+ghost use Rattle.judge_tap.specs.TapKept.{FedWithin, HasKeptAtTap, IsFewFed, IsHeard, IsKeptAtTap};
 ghost use Rattle.judge_tap.specs.TapSeen.{AreNotes};
 ghost use Rattle.judge_tap.specs.TapStops.{BeginsAtTap, FindsAtTap, IsNoRequest, IsRecorded, TakesMemoryAtTap, passing_of};
+ghost use Rattle.judge_tap.specs.ToldKept.{AreTold, IsTold, IsToldIfBroken};
+ghost use Rattle.law_end.specs.{Rule as RuleKind};
 ghost use Rattle.tftp_judge.specs.declared.pass_error.PassError.{PassError as PassErrorKind};
 
 use crate::datagram::TapDatagram;
 use crate::notes::TapNotes;
+use crate::told::Told;
 use crate::transfer::{TapTransfer, receiver_of_file};
 use law_end::Rule;
 use law_model::rules::PortRule;
@@ -22,12 +25,15 @@ use tftp_packet::hosts::{Dir, Peer};
 use tftp_packet::rounds::Rollover;
 use tftp_packet::{End, Packet, Request, opcode, own_request, read_packet};
 
-/// What is kept of the datagrams that have passed between the ends: the ways that they went, and the transfer from its first
-/// request on.
+/// What is kept of the datagrams that have passed between the ends: the ways that they went, the transfer from its first request
+/// on, and what tells whether a refusal stands whatever frames are missing.
 #[derive(Drop)]
 pub struct TapState<D: Delivered + Drop> {
+    sides: Sides,
     ports: TapPorts,
     transfer: Option<TapTransfer<D>>,
+    told: Told,
+    stands: Option<bool>,
 }
 
 impl<D: Delivered + Drop> Model for TapState<D> {
@@ -40,7 +46,7 @@ impl<D: Delivered + Drop> Model for TapState<D> {
 
     ghost coded = { Prim.hlevel (codes, sender_code, receiver_code, options_code, parts_code) };
 
-    ghost view = { λ k. record { ports = k.ports; transfer = k.transfer } };
+    ghost view = { λ k. record { sides = k.sides; ports = k.ports; transfer = k.transfer; told = k.told; stands = k.stands } };
 }
 
 impl<D: Delivered + Drop> TapState<D> {
@@ -50,8 +56,11 @@ impl<D: Delivered + Drop> TapState<D> {
         ensures fed { FedWithin result.transfer 0 }
     {
         TapState {
+            sides,
             ports: TapPorts::new(alloc, sides),
             transfer: None,
+            told: Told::nothing(sides.rollover),
+            stands: None,
         }
     }
 
@@ -64,6 +73,8 @@ impl<D: Delivered + Drop> TapState<D> {
         ensures memory { (s : TapSides) (earlier : List Passing) → AreApart s → BreaksNoTapRule s earlier → HasKeptAtTap self.old s earlier
             → result ≡ Err PassErrorKind.Memory → TakesMemoryAtTap s earlier (passing_of datagram) }
         ensures fed { (n : ℕ) → FedWithin self.old.transfer n → OnOk result (FedWithin self.new.transfer (n + 1)) }
+        ensures stands { (s : TapSides) (earlier : List Passing) → AreApart s → BreaksNoTapRule s earlier → HasKeptAtTap self.old s earlier
+            → IsToldIfBroken s earlier (passing_of datagram) result self.new.stands }
     {
         let source = datagram.source;
         let destination = datagram.destination;
@@ -90,7 +101,14 @@ impl<D: Delivered + Drop> TapState<D> {
             → IsKeptAtTap s (transfer_between s earlier) self.old.transfer → route ≡ tap_route s earlier (passing_of datagram)
             → result ≡ Err PassErrorKind.Memory → TakesMemoryAtTap s earlier (passing_of datagram) }
         ensures ports { self.new.ports ≡ self.old.ports }
+        ensures sides { self.new.sides ≡ self.old.sides }
         ensures fed { (n : ℕ) → FedWithin self.old.transfer n → OnOk result (FedWithin self.new.transfer (n + 1)) }
+        ensures told { (s : TapSides) (earlier : List Passing) → AreApart s → BreaksNoTapRule s (passing_of datagram ∷ earlier)
+            → self.old.sides ≡ s → IsKeptAtTap s (transfer_between s earlier) self.old.transfer → self.old.ports.sides.rollover ≡ s.rollover → route ≡ tap_route s earlier (passing_of datagram)
+            → AreTold self.old.told s earlier → OnOk result (AreTold self.new.told s (passing_of datagram ∷ earlier)) }
+        ensures stands { (s : TapSides) (earlier : List Passing) → AreApart s → BreaksNoTapRule s earlier → self.old.sides ≡ s
+            → IsKeptAtTap s (transfer_between s earlier) self.old.transfer → route ≡ tap_route s earlier (passing_of datagram)
+            → AreTold self.old.told s earlier → IsToldIfBroken s earlier (passing_of datagram) result self.new.stands }
     {
         match route {
             TapRoute::Request | TapRoute::FromClient => {
@@ -102,12 +120,72 @@ impl<D: Delivered + Drop> TapState<D> {
                 if says_unknown_id(datagram.payload.as_slice()) {
                     Ok(())
                 } else {
-                    Err(PassError::Broken(Rule::Port(PortRule::BadAnswer)))
+                    self.refuse(alloc, PortRule::BadAnswer, &datagram)
                 }
             }
-            TapRoute::ForeignPort => Err(PassError::Broken(Rule::Port(PortRule::Foreign))),
-            TapRoute::WrongPort => Err(PassError::Broken(Rule::Port(PortRule::Wrong))),
-            TapRoute::NoStrayAnswer => Err(PassError::Broken(Rule::Port(PortRule::BadAnswer))),
+            TapRoute::ForeignPort => self.refuse(alloc, PortRule::Foreign, &datagram),
+            TapRoute::WrongPort => self.refuse(alloc, PortRule::Wrong, &datagram),
+            TapRoute::NoStrayAnswer => self.refuse(alloc, PortRule::BadAnswer, &datagram),
+        }
+    }
+
+    /// Refuses a datagram by a rule of ports, and tells whether that stands whatever is missing.
+    fn refuse(
+        &mut self,
+        alloc: Global,
+        port: PortRule,
+        datagram: &TapDatagram,
+    ) -> Result<(), PassError>
+        ensures refuses { result ≡ Err (PassErrorKind.Broken (RuleKind.Port port)) }
+        ensures stands { (s : TapSides) (earlier : List Passing) → AreApart s → BreaksNoTapRule s earlier → self.old.sides ≡ s
+            → IsHeard s (transfer_between s earlier) self.old.transfer → AreTold self.old.told s earlier
+            → IsTold s earlier (passing_of datagram.now) self.new.stands }
+        ensures ports { self.new.ports ≡ self.old.ports }
+        ensures sides { self.new.sides ≡ self.old.sides }
+    {
+        self.stands = self.standing(alloc, datagram);
+        Err(PassError::Broken(Rule::Port(port)))
+    }
+
+    /// Whether a datagram is certain to break the law whatever is missing, but that it may change a block. There is no answer where
+    /// memory was wanting for an OACK.
+    fn standing(&self, alloc: Global, datagram: &TapDatagram) -> Option<bool>
+        ensures { (s : TapSides) (earlier : List Passing) → AreApart s → BreaksNoTapRule s earlier → self.now.sides ≡ s
+            → IsHeard s (transfer_between s earlier) self.now.transfer → AreTold self.now.told s earlier
+            → IsTold s earlier (passing_of datagram.now) result }
+    {
+        let payload = datagram.payload.as_slice();
+        let route = self
+            .sides
+            .route_with_losses(datagram.source, datagram.destination, opcode(payload));
+        match route {
+            TapRoute::Request | TapRoute::FromClient => {
+                self.standing_said(alloc, End::Client, payload)
+            }
+            TapRoute::FromServer => self.standing_said(alloc, End::Server, payload),
+            TapRoute::Stray => Some(false),
+            TapRoute::StrayAnswer => Some(!says_unknown_id(payload)),
+            TapRoute::ForeignPort => Some(true),
+            TapRoute::WrongPort => Some(true),
+            TapRoute::NoStrayAnswer => Some(true),
+        }
+    }
+
+    /// The same of what an end says to the other one.
+    fn standing_said(&self, alloc: Global, from: End, payload: &[u8]) -> Option<bool>
+        ensures { (s : TapSides) (earlier : List Passing) (d : Passing) → AreApart s → BreaksNoTapRule s earlier
+            → IsHeard s (transfer_between s earlier) self.now.transfer → AreTold self.now.told s earlier
+            → d.payload ≡ payload.now → d.source ≡ side_of s from → is_passing (lossy_route s d) ≡ true → IsTold s earlier d result }
+    {
+        match &self.transfer {
+            Some(transfer) => {
+                self.told
+                    .standing(alloc, transfer.asked(), transfer.notes(), from, payload)
+            }
+            None => match read_packet(payload) {
+                Ok(_) => Some(false),
+                Err(_) => Some(true),
+            },
         }
     }
 
@@ -127,19 +205,76 @@ impl<D: Delivered + Drop> TapState<D> {
         ensures memory { (s : TapSides) (earlier : List Passing) → AreApart s → IsKeptAtTap s (transfer_between s earlier) self.old.transfer
             → datagram.source ≡ side_of s from → result ≡ Err PassErrorKind.Memory → TakesMemoryAtTap s earlier (passing_of datagram) }
         ensures ports { self.new.ports ≡ self.old.ports }
+        ensures sides { self.new.sides ≡ self.old.sides }
         ensures fed { (n : ℕ) → FedWithin self.old.transfer n → OnOk result (FedWithin self.new.transfer (n + 1)) }
+        ensures told { (s : TapSides) (earlier : List Passing) → AreApart s → BreaksNoTapRule s (passing_of datagram ∷ earlier)
+            → IsKeptAtTap s (transfer_between s earlier) self.old.transfer → self.old.ports.sides.rollover ≡ s.rollover
+            → datagram.source ≡ side_of s from → is_passing (tap_route s earlier (passing_of datagram)) ≡ true → AreTold self.old.told s earlier
+            → OnOk result (AreTold self.new.told s (passing_of datagram ∷ earlier)) }
+        ensures stands { (s : TapSides) (earlier : List Passing) → AreApart s → BreaksNoTapRule s earlier
+            → IsKeptAtTap s (transfer_between s earlier) self.old.transfer → datagram.source ≡ side_of s from
+            → is_passing (tap_route s earlier (passing_of datagram)) ≡ true → AreTold self.old.told s earlier
+            → IsToldIfBroken s earlier (passing_of datagram) result self.new.stands }
     {
         match &mut self.transfer {
             Some(transfer) => {
                 let recorded = recorded(transfer.receiver(), from, datagram);
-                transfer.pass(alloc, from, &recorded)
+                let found = transfer.pass(alloc, from, &recorded);
+                self.tell(alloc, from, recorded.payload.as_slice(), &found);
+                found
             }
             None => {
+                self.stands = self.standing_said(alloc, from, datagram.payload.as_slice());
                 let rollover = self.ports.rollover();
                 self.transfer = Some(begun(alloc, from, rollover, datagram)?);
                 Ok(())
             }
         }
+    }
+
+    /// Notes what an end has said, where it passed; where it broke a rule, tells whether that stands whatever is missing.
+    fn tell(&mut self, alloc: Global, from: End, payload: &[u8], found: &Result<(), PassError>)
+        ensures told { (s : TapSides) (earlier : List Passing) (d : Passing) → AreApart s → BreaksNoTapRule s (d ∷ earlier)
+            → IsHeard s (transfer_between s (d ∷ earlier)) self.old.transfer → d.payload ≡ payload.now → d.source ≡ side_of s from
+            → is_passing (tap_route s earlier d) ≡ true → AreTold self.old.told s earlier → OnOk found.now (AreTold self.new.told s (d ∷ earlier)) }
+        ensures stands { (s : TapSides) (earlier : List Passing) (d : Passing) → AreApart s → BreaksNoTapRule s earlier
+            → OnErr found.now (IsHeard s (transfer_between s earlier) self.old.transfer) → d.payload ≡ payload.now → d.source ≡ side_of s from
+            → is_passing (lossy_route s d) ≡ true → AreTold self.old.told s earlier → IsToldIfBroken s earlier d found.now self.new.stands }
+        ensures transfer { self.new.transfer ≡ self.old.transfer }
+        ensures ports { self.new.ports ≡ self.old.ports }
+        ensures sides { self.new.sides ≡ self.old.sides }
+    {
+        match found {
+            Ok(_) => self.hear(alloc, payload),
+            Err(_) => self.stands = self.standing_said(alloc, from, payload),
+        }
+    }
+
+    /// Notes what an end has said that passed.
+    fn hear(&mut self, alloc: Global, payload: &[u8])
+        ensures told { (s : TapSides) (earlier : List Passing) (d : Passing) (e : Who) → AreApart s → BreaksNoTapRule s (d ∷ earlier)
+            → IsHeard s (transfer_between s (d ∷ earlier)) self.old.transfer → d.payload ≡ payload.now → d.source ≡ side_of s e
+            → is_passing (tap_route s earlier d) ≡ true → AreTold self.old.told s earlier → AreTold self.new.told s (d ∷ earlier) }
+        ensures transfer { self.new.transfer ≡ self.old.transfer }
+        ensures ports { self.new.ports ≡ self.old.ports }
+        ensures sides { self.new.sides ≡ self.old.sides }
+    {
+        let packet = match read_packet(payload) {
+            Ok(packet) => packet,
+            Err(_) => return,
+        };
+        match &self.transfer {
+            Some(transfer) => self.told.note(alloc, transfer.asked(), &packet),
+            None => {}
+        }
+    }
+
+    /// Whether the last refusal by a rule stands whatever frames are missing.
+    #[inline]
+    pub fn stands(&self) -> Option<bool>
+        ensures { result ≡ self.now.stands }
+    {
+        self.stands
     }
 
     /// The transfer, if its first request has passed.

@@ -1,11 +1,13 @@
 //! Laws of the definitions in `specs/`. Each is the contract of a function that does nothing.
 
-ghost use Rattle.std.specs.Prelude.{◌↔◌, ℕ, List, ◌∷◌, reverse};
+ghost use Rattle.std.specs.Prelude.{◌≡◌, ◌↔◌, ℕ, List, ◌∷◌, Some, true, false, reverse};
 ghost use Rattle.tftp_packet.specs.{RequestParts};
 ghost use Rattle.law_model.specs.Model.{Meaning};
+ghost use Rattle.law_model.specs.{EndRule};
 ghost use Rattle.law_end.specs.{Rule, ShowsBy, OneEnded};
-ghost use Rattle.law_tap.specs.{TapDatagram, TapSides, AreApart, IsLawfulBetweenWithLosses, ShowsBetween, transfer_between, BreaksNoTapRule, FirstTapAsked, header_at, kept_between};
-ghost use Rattle.judge_tap.specs.LossyKept.{RefusesWithLosses};
+ghost use Rattle.law_tap.specs.{TapDatagram, TapSides, AreApart, IsCertainBetween, IsLawfulBetweenWithLosses, LossyBroken, ShowsBetween, TapBroken, transfer_between, BreaksNoTapRule, FirstTapAsked, header_at, kept_between};
+ghost use Rattle.judge_tap.specs.LossyKept.{HasBegun, IsNotCertain, RefusesWithLosses};
+ghost use Rattle.judge_tap.specs.ToldKept.{IsTold};
 ghost use Rattle.judge_tap.specs.declared.lossy_refusal.LossyRefusal.{LossyRefusal};
 
 /// What the end that gets the file would keep of a lawful capture between the ends breaks no rule there. So what it would keep
@@ -29,4 +31,21 @@ pub fn what_is_lawful_is_not_refused_with_losses()
         → (index : ℕ) (broken : Rule) → RefusesWithLosses s earlier d (LossyRefusal.Certain index broken) → ⊥ }
     ensures accepted { (s : TapSides) (earlier : List TapDatagram) (d : TapDatagram) → AreApart s → BreaksNoTapRule s (d ∷ earlier)
         → (index : ℕ) (broken : Rule) → RefusesWithLosses s earlier d (LossyRefusal.Certain index broken) → ⊥ }
+{}
+
+/// What is told of a datagram after those that break no rule between the ends: yes, and it is certain to break the law whatever is
+/// missing; no, and it is not, where the request is the first of the transfer and no block is changed. A changed block is certain by
+/// its rule's name.
+pub fn what_is_told_is_certain()
+    ensures yes { (s : TapSides) (earlier : List TapDatagram) (d : TapDatagram) → AreApart s → IsTold s earlier d (Some true)
+        → IsCertainBetween s earlier d }
+    ensures no { (s : TapSides) (earlier : List TapDatagram) (d : TapDatagram) → AreApart s → BreaksNoTapRule s earlier → IsTold s earlier d (Some false)
+        → (LossyBroken s earlier d (Rule.Block EndRule.BlockChanged) → ⊥) → HasBegun s (d ∷ earlier) → IsNotCertain s earlier d }
+{}
+
+/// A block that was said before with other bytes breaks no rule between the ends but that, where nothing else in it breaks a rule
+/// whatever is missing.
+pub fn a_changed_block_breaks_nothing_else()
+    ensures { (s : TapSides) (earlier : List TapDatagram) (d : TapDatagram) (broken : Rule) → AreApart s → BreaksNoTapRule s earlier → IsTold s earlier d (Some false)
+        → LossyBroken s earlier d (Rule.Block EndRule.BlockChanged) → TapBroken s earlier d broken → broken ≡ Rule.Block EndRule.BlockChanged }
 {}

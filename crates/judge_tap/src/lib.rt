@@ -17,6 +17,7 @@ mod said_blocks;
 mod said_errors;
 mod said_notes;
 mod seen;
+mod told;
 mod transfer;
 pub mod worked_losses;
 
@@ -26,3 +27,4 @@ pub use lossy_judge::LossyJudge;
 pub use lossy_refusal::LossyRefusal;
 pub use notes::TapNotes;
 pub use refusal::TapRefusal;
+pub use told::Told;

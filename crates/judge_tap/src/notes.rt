@@ -152,7 +152,7 @@ impl TapNotes {
     }
 
     /// Whether this end has sent another ERROR (RFC 1350, section 7).
-    fn has_other_error(&self, end: End, code: u16, message: &[u8]) -> bool
+    pub(crate) fn has_other_error(&self, end: End, code: u16, message: &[u8]) -> bool
         ensures { (s : TapSides) (passed : List TapDatagram) → AreNotes self.now s passed
             → (IsTrue result ↔ IsOtherError s passed end (Message.Error code message.now)) }
     {

@@ -4,9 +4,9 @@ use tftp_packet::End;
 /// Why the datagrams that passed between the ends are not accepted.
 #[derive(Clone, Copy, Debug, PartialEq, Eq)]
 pub enum TapRefusal {
-    /// The first datagram with which no run of two ends is left that passes there, counted from 1, and the first rule in the
-    /// order that it breaks.
-    Unlawful(u64, Rule),
+    /// The first datagram with which no run of two ends is left that passes there, counted from 1; the first rule in the
+    /// order that it breaks; and whether that stands whatever frames are missing, unless memory was wanting to tell.
+    Unlawful(u64, Rule, Option<bool>),
     /// Some run passes them, and none as a whole transfer, which an ERROR ended: the end that sent the first one, and its code
     /// (RFC 1350, section 7).
     Aborted(End, u16),

@@ -1,4 +1,4 @@
-ghost use Rattle.std.specs.Prelude.{◌≡◌, ◌+◌, ◌^◌, ◌<◌, ◌≤◌, List, [], ◌∷◌, length, true, IfErr, IfOk, OnOk, Err};
+ghost use Rattle.std.specs.Prelude.{◌≡◌, ◌≢◌, ◌+◌, ◌^◌, ◌<◌, ◌≤◌, List, [], ◌∷◌, length, true, IfErr, IfOk, OnOk, Err};
 ghost use Rattle.tftp_packet.specs.{Message, meaning, Spells};
 ghost use Rattle.law_model.specs.Model.Roles.{receiver_of};
 ghost use Rattle.tftp_judge.specs.{Finds};
@@ -90,6 +90,22 @@ impl<D: Delivered + Drop> TapTransfer<D> {
         })
     }
 
+    /// What the client's first request asks for (RFC 1350, section 4).
+    #[inline]
+    pub fn asked(&self) -> &Request
+        ensures { result.now ≡ self.now.asked }
+    {
+        &self.asked
+    }
+
+    /// What is noted of it.
+    #[inline]
+    pub fn notes(&self) -> &TapNotes
+        ensures { result.now ≡ self.now.notes }
+    {
+        &self.notes
+    }
+
     /// The end that gets the file.
     #[inline]
     pub fn receiver(&self) -> End
@@ -113,6 +129,8 @@ impl<D: Delivered + Drop> TapTransfer<D> {
         ensures read { (s : TapSides) (passed : List TapDatagram) (d : TapDatagram) → AreApart s → IsTapTransfer self.old s passed
             → d.source ≡ side_of s from → IsRecorded s (receiver_of self.old.asked.side) d datagram.now → IsReadUnless result d.payload }
         ensures fed { OnOk result (self.new.receiving.judge.fed ≤ self.old.receiving.judge.fed + 1) }
+        ensures asked { self.new.asked ≡ self.old.asked }
+        ensures stays { IfErr result (λ stop. stop ≢ PassErrorKind.Memory → self.new.notes ≡ self.old.notes) }
     {
         let read = read_packet(datagram.payload.as_slice());
         let own = self.notes.breaks(&self.asked, from, &read);

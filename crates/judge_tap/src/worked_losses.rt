@@ -1,6 +1,6 @@
 //! Worked cases of what is refused with losses. Each is the contract of a function that does nothing.
 
-ghost use Rattle.std.specs.Prelude.{ℕ, List, [], ◌∷◌, Some, None, true};
+ghost use Rattle.std.specs.Prelude.{ℕ, List, [], ◌∷◌, Some, None, true, false};
 ghost use Rattle.law_model.specs.{EndRule};
 ghost use Rattle.law_end.specs.{Rule};
 ghost use Rattle.law_tap.specs.SaidFigures.{FitsSaid, FitsSize};
@@ -8,6 +8,7 @@ ghost use Rattle.law_tap.specs.WorkedTap.{ack_passes, hi_passes, request_passes,
 ghost use Rattle.law_tap.specs.WorkedLosses.{ack_above, ack_between, block_between, ho_passes, second_passes, zero_passes};
 ghost use Rattle.judge_tap.specs.Said.{IsErrorPut};
 ghost use Rattle.judge_tap.specs.LossyKept.{HasBegun, IsNotCertain, RefusesWithLosses};
+ghost use Rattle.judge_tap.specs.ToldKept.{IsStandingAtTap, IsStandingBy};
 ghost use Rattle.judge_tap.specs.WorkedLossy.{long_blocks, lowered_request};
 ghost use Rattle.judge_tap.specs.declared.lossy_refusal.LossyRefusal.{LossyRefusal};
 
@@ -52,4 +53,14 @@ pub fn an_error_again_is_the_same()
     ensures first { IsErrorPut None (5, []) (Some (5, [])) true }
     ensures again { IsErrorPut (Some (5, [])) (5, []) (Some (5, [])) true }
     ensures other { IsErrorPut (Some (5, [])) (1, []) (Some (5, [])) true → ⊥ }
+{}
+
+/// After the request and block 1 "hi" the refusal of an ACK 2 stands whatever is missing. After the request alone that of an ACK 1
+/// does not: the block may have been missed. That of other bytes of the block stands by its rule's name, whatever is told.
+pub fn a_refusal_stands_where_it_is_certain()
+    ensures above { IsStandingAtTap worked_sides block_between ack_above (Rule.Block EndRule.AckAhead) (Some true) }
+    ensures missed { IsStandingAtTap worked_sides (request_passes ∷ []) ack_passes (Rule.Block EndRule.AckAhead) (Some false) }
+    ensures never { IsStandingAtTap worked_sides (request_passes ∷ []) ack_passes (Rule.Block EndRule.AckAhead) (Some true) → ⊥ }
+    ensures name { IsStandingBy (Rule.Block EndRule.BlockChanged) (Some false) (Some true) }
+    ensures told { IsStandingBy (Rule.Block EndRule.AckAhead) (Some false) (Some true) → ⊥ }
 {}

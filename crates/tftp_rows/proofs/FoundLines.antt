@@ -15,7 +15,7 @@ role_names Client = literal (role_name Client) refl
 role_names Server = literal (role_name Server) refl
 
 between_lines : (r : TapRefusal) → IsLine (between_line r)
-between_lines (Unlawful number rule) = refused (refusal.Unlawful number rule)
+between_lines (Unlawful number rule stands) = refused (refusal.Unlawful number rule)
 between_lines (Aborted by code) = record {
   words = codes "aborted by " ++ role_name by ++ codes " code " ++ decimal code;
   line = search rules;

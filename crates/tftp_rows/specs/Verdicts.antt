@@ -19,7 +19,7 @@ aborted_line role code = codes "aborted by " ++ role_name role ++ codes " code "
 
 -- between the ends the same, but that an ERROR is told by its sender
 abbrev pub between_line : TapRefusal → List ℕ
-between_line (Unlawful number rule) = refused_line (refusal.Unlawful number rule)
+between_line (Unlawful number rule stands) = refused_line (refusal.Unlawful number rule)
 between_line (Aborted role code) = aborted_line role code
 between_line (Incomplete count) = refused_line (refusal.Incomplete count)
 between_line NormalTooLong = refused_line refusal.NormalTooLong

@@ -81,7 +81,10 @@ fn between_line(alloc: Global, refusal: TapRefusal) -> Result<Vec<u8>, AllocErro
     ensures { IfOk result (λ line. line.items ≡ between_line refusal) }
 {
     match refusal {
-        TapRefusal::Unlawful(number, rule) => refused_line(alloc, Refusal::Unlawful(number, rule)),
+        TapRefusal::Unlawful(number, rule, _) => refused_line(
+            alloc,
+            Refusal::Unlawful(number, rule),
+        ),
         TapRefusal::Incomplete(count) => refused_line(alloc, Refusal::Incomplete(count)),
         TapRefusal::NormalTooLong => refused_line(alloc, Refusal::NormalTooLong),
         TapRefusal::Memory(count) => refused_line(alloc, Refusal::Memory(count)),

@@ -40,12 +40,12 @@ rests_more j s given d refusal is tapped =
 
 module _ (s : TapSides) (given : List TapDatagram) where
   as_whole : (said : Result Meaning TapRefusal) → IsTapVerdict s given said → IsBetweenVerdict s given said
-  as_whole (Err (Unlawful index rule)) is = absurd is
+  as_whole (Err (Unlawful index rule stands)) is = absurd is
   as_whole (Err (Memory count)) is = inr is
   as_whole _ is = is
 
   as_refused : (refusal : TapRefusal) → IsTapRefusedIn s given refusal → IsBetweenVerdict s given (Err refusal)
-  as_refused (Unlawful index rule) at = at
+  as_refused (Unlawful index rule stands) at = at
   as_refused (Memory count) at = inl at
   as_refused _ at = absurd at.refused
 

@@ -1,5 +1,5 @@
 -- The facts of the datagram that a verdict refuses.
-use Rattle.std.proofs.Common.{◌≡◌, ℕ, true, List, [], Option, Some, None, Result, Ok, Err, refl, sym, ap, subst, ◌∙◌}
+use Rattle.std.proofs.Common.{◌≡◌, ℕ, Bool, true, List, [], Option, Some, None, Result, Ok, Err, refl, sym, ap, subst, ◌∙◌}
 use Rattle.law_end.specs.{Rule}
 use Rattle.law_model.specs.Model.{Meaning}
 use Rattle.law_tap.specs.{AreApart}
@@ -34,11 +34,12 @@ unlawful_by (Err (Memory count)) number is = absurd (cc)
 
 record IsUnlawfulBetween (v : Result Meaning TapRefusal) (number : ℕ) : Type 0 where
   pub rule : Rule
-  pub is : v ≡ Err (tap.Unlawful number rule)
+  pub stands : Option Bool
+  pub is : v ≡ Err (tap.Unlawful number rule stands)
 
 between_by : (v : Result Meaning TapRefusal) (number : ℕ) → refused_between v ≡ Some number → IsUnlawfulBetween v number
 between_by (Ok m) number is = absurd (cc)
-between_by (Err (tap.Unlawful k rule)) number is = let same : k ≡ number = cc in record { rule = rule; is = ap (λ n. Err (tap.Unlawful n rule)) same }
+between_by (Err (tap.Unlawful k rule stands)) number is = let same : k ≡ number = cc in record { rule = rule; stands = stands; is = ap (λ n. Err (tap.Unlawful n rule stands)) same }
 between_by (Err (tap.Aborted by code)) number is = absurd (cc)
 between_by (Err (tap.Incomplete count)) number is = absurd (cc)
 between_by (Err tap.NormalTooLong) number is = absurd (cc)
@@ -70,4 +71,4 @@ module _ (t : Trail) (judging : Judging) (x : Transfer) (named : List ℕ) (carr
   blamed_between v is passed there apart judged finds =
       let at = between_by v number is in
       let said = subst (IsBetweenVerdict (sides_of x (whole_of named carried)) (between_capture x (whole_of named carried))) at.is judged in
-      finds ((passed there).enough [] number at.rule (apart, said)) ∙ ap (blamed_as point.Between x.number named carried) (sym is)
+      finds ((passed there).enough [] number at.rule (apart, at.stands, said)) ∙ ap (blamed_as point.Between x.number named carried) (sym is)

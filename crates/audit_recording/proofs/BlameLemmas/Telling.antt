@@ -196,8 +196,8 @@ module _ (v : View) (x : Transfer) (whole : List Placed) (own : v.transfer ≡ x
 before_passed : (s : TapSides) (d : TapDatagram) (earlier : List TapDatagram) → BreaksNoTapRule s (d ∷ earlier) → BreaksNoTapRule s earlier
 before_passed s d earlier lawful = lawful.1
 
-first_between : (s : TapSides) (given : List TapDatagram) (number : ℕ) (rule : Rule) → IsTapRefusedIn s given (tap.Unlawful number rule) → IsFirst (BreaksNoTapRule s) given number
-first_between s given number rule at = record {
+first_between : (s : TapSides) (given : List TapDatagram) (number : ℕ) (rule : Rule) (stands : Option Bool) → IsTapRefusedIn s given (tap.Unlawful number rule stands) → IsFirst (BreaksNoTapRule s) given number
+first_between s given number rule stands at = record {
   later = at.later;
   datagram = at.datagram;
   earlier = at.earlier;
@@ -217,7 +217,7 @@ between_first : (x : Transfer) (more whole : List Placed) (number : ℕ) (rule :
 between_first x more whole number rule settled said =
     subst (λ (s : TapSides). IsFirst (BreaksNoTapRule s) (between_capture x more ++ between_capture x whole) number) (sides_stay x more whole settled)
     (subst (λ l. IsFirst (BreaksNoTapRule (sides_of x (more ++ whole))) l number) (between_more x more whole)
-    (first_between (sides_of x (more ++ whole)) (between_capture x (more ++ whole)) number rule said.1))
+    (first_between (sides_of x (more ++ whole)) (between_capture x (more ++ whole)) number rule said.1 said.2))
 
 -- the judge of the sides was given all that passed
 record IsTapping (v : Tap) (x : Transfer) (whole : List Placed) : Type 0 where
@@ -273,24 +273,24 @@ module _ (x : Transfer) (whole : List Placed) (settled : is_settled x.number who
               (subst (λ (s : TapSides). BreaksNoTapRule s (between_capture x whole)) sides after.lawful) (between_first x more whole number rule settled said));
         }
 
-  tap_refuses : (number : ℕ) (rule : Rule) → PassedBy b.judge b (between_capture x whole) → refused_by b ≡ Some (tap.Unlawful number rule) → Refuses point.Between x whole number
-  tap_refuses number rule passed refused = by b.judge refl where
+  tap_refuses : (number : ℕ) (rule : Rule) (stands : Option Bool) → PassedBy b.judge b (between_capture x whole) → refused_by b ≡ Some (tap.Unlawful number rule stands) → Refuses point.Between x whole number
+  tap_refuses number rule stands passed refused = by b.judge refl where
     by : (o : Option TapJudge) → b.judge ≡ o → Refuses point.Between x whole number
     by None none =
         let no : refused_by b ≡ None = rw none refl in
-        let both : None ≡ Some (tap.Unlawful number rule) = sym no ∙ refused in absurd (cc)
+        let both : None ≡ Some (tap.Unlawful number rule stands) = sym no ∙ refused in absurd (cc)
     by (Some j) is =
         let refuses : refused_by b ≡ j.refused = rw is refl in
         let tapped : HasTapped j b.sides (between_capture x whole) = subst (λ o. PassedBy o b (between_capture x whole)) is passed in
-        let at : IsTapRefusedIn b.sides (between_capture x whole) (tap.Unlawful number rule) = subst (λ o. TappedBy o j b.sides (between_capture x whole)) (sym refuses ∙ refused) tapped in
-        let here : IsTapRefusedIn (sides_of x whole) (between_capture x whole) (tap.Unlawful number rule) = subst (λ (s : TapSides). IsTapRefusedIn s (between_capture x whole) (tap.Unlawful number rule)) sides at in
+        let at : IsTapRefusedIn b.sides (between_capture x whole) (tap.Unlawful number rule stands) = subst (λ o. TappedBy o j b.sides (between_capture x whole)) (sym refuses ∙ refused) tapped in
+        let here : IsTapRefusedIn (sides_of x whole) (between_capture x whole) (tap.Unlawful number rule stands) = subst (λ (s : TapSides). IsTapRefusedIn s (between_capture x whole) (tap.Unlawful number rule stands)) sides at in
         record {
           fixed = λ more p. refl;
           rule = rule;
-          refused = (subst AreApart sides (is_apart b.sides (sym one ∙ ap is_some is)), here);
+          refused = (subst AreApart sides (is_apart b.sides (sym one ∙ ap is_some is)), stands, here);
           only = λ more other by_rule there.
               one_first (BreaksNoTapRule (sides_of x whole)) (before_passed (sides_of x whole)) (between_capture x more) (between_capture x whole) number other
-              (first_between (sides_of x whole) (between_capture x whole) number rule here) (between_first x more whole other by_rule settled there);
+              (first_between (sides_of x whole) (between_capture x whole) number rule stands here) (between_first x more whole other by_rule settled there);
         }
 
 -- ---- in the view
@@ -311,13 +311,13 @@ module _ (v : Tap) (x : Transfer) (whole : List Placed) (own : v.transfer ≡ x)
       subst (λ n. Accepts point.Between x whole n) (sym (given_by v taps.between taps.is))
       (tap_accepts x whole settled taps.between taps.sides one_judge taps.passed (sym (refuses_by v taps.between taps.is) ∙ none))
 
-  pub refuses_between : (number : ℕ) (rule : Rule) → has_refused_between v ≡ Some (tap.Unlawful number rule) → Refuses point.Between x whole number
-  refuses_between number rule is =
-      tap_refuses x whole settled taps.between taps.sides one_judge number rule taps.passed (sym (refuses_by v taps.between taps.is) ∙ is)
+  pub refuses_between : (number : ℕ) (rule : Rule) (stands : Option Bool) → has_refused_between v ≡ Some (tap.Unlawful number rule stands) → Refuses point.Between x whole number
+  refuses_between number rule stands is =
+      tap_refuses x whole settled taps.between taps.sides one_judge number rule stands taps.passed (sym (refuses_by v taps.between taps.is) ∙ is)
 
 -- ---- the first datagram is the one with number 1
 
 pub from_1 : (p : Point) (x : Transfer) (whole : List Placed) (number : ℕ) (rule : Rule) → IsRefusedAt p x whole number rule → 0 < number
 from_1 point.Client x whole number rule said = let at = (first_at_end (client_header x) (client_capture host_name x whole) number rule said).number_is in omega (arith, at)
 from_1 point.Server x whole number rule said = let at = (first_at_end (server_header x) (server_capture host_name x whole whole) number rule said).number_is in omega (arith, at)
-from_1 point.Between x whole number rule said = let at = said.1.refused.0 in omega (arith, at)
+from_1 point.Between x whole number rule said = let at = said.2.refused.0 in omega (arith, at)

@@ -23,9 +23,9 @@ TappedBy (Some refusal) j s given = IsTapRefusedIn s given refusal
 abbrev pub HasTapped : TapJudge → TapSides → List TapDatagram → Type 0
 HasTapped j s given = TappedBy j.refused j s given
 
--- What there is to say of all that passed: the first datagram that breaks a rule, and else the verdict of the whole. Memory
+-- What there is to say of all that passed: the first datagram that breaks a rule, and whether that stands whatever is missing; else the verdict of the whole. Memory
 -- was wanting for one of them, or in the end.
 abbrev pub IsBetweenVerdict : TapSides → List TapDatagram → Result Meaning TapRefusal → Type 0
-IsBetweenVerdict s given (Err (Unlawful index rule)) = IsTapRefusedIn s given (Unlawful index rule)
+IsBetweenVerdict s given (Err (Unlawful index rule stands)) = IsTapRefusedIn s given (Unlawful index rule stands)
 IsBetweenVerdict s given (Err (Memory count)) = IsTapRefusedIn s given (Memory count) ⊎ IsTapVerdict s given (Err (Memory count))
 IsBetweenVerdict s given said = IsTapVerdict s given said

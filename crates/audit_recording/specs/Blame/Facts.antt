@@ -1,6 +1,6 @@
 -- What a refusal is told by: the frame that it is blamed on, and what makes it doubtful there. Lists have the newest first; a
 -- transfer is known by its number.
-use Rattle.std.specs.Prelude.{ℕ, ◌∷◌, List, reverse, Option, Some, None, option_map, Result, Err}
+use Rattle.std.specs.Prelude.{ℕ, Bool, ◌∷◌, List, reverse, Option, Some, None, option_map, Result, Err}
 use Rattle.law_model.specs.Model.{Meaning}
 use Rattle.law_end.specs.{Rule}
 use Rattle.law_tap.specs.{AreApart}
@@ -42,7 +42,7 @@ refused_in said = None
 
 -- the same between the ends
 abbrev pub refused_between : Result Meaning TapRefusal → Option ℕ
-refused_between (Err (tap.Unlawful number rule)) = Some number
+refused_between (Err (tap.Unlawful number rule stands)) = Some number
 refused_between said = None
 
 -- the facts of the datagram of that number that was seen there; none of none
@@ -55,4 +55,5 @@ blamed_as point n named carried (Some number) = option_map (blamed_of n) (seen_a
 abbrev pub IsRefusedAt : Point → Transfer → List Placed → ℕ → Rule → Type 0
 IsRefusedAt Client x whole number rule = IsVerdict (client_header x) (reverse (client_capture host_name x whole)) (Err (Unlawful number rule))
 IsRefusedAt Server x whole number rule = IsVerdict (server_header x) (reverse (server_capture host_name x whole whole)) (Err (Unlawful number rule))
-IsRefusedAt Between x whole number rule = AreApart (sides_of x whole) × IsBetweenVerdict (sides_of x whole) (between_capture x whole) (Err (tap.Unlawful number rule))
+IsRefusedAt Between x whole number rule =
+    AreApart (sides_of x whole) × (stands : Option Bool) × IsBetweenVerdict (sides_of x whole) (between_capture x whole) (Err (tap.Unlawful number rule stands))

@@ -28,7 +28,7 @@ said_of (Err _) frame = NotWhole
 -- what the judge between the ends found
 abbrev pub said_between : Result Meaning TapRefusal → Option ℕ → Said
 said_between (Ok m) frame = Accepted
-said_between (Err (tap.Unlawful index rule)) frame = Refused rule frame
+said_between (Err (tap.Unlawful index rule stands)) frame = Refused rule frame
 said_between (Err (tap.Memory count)) frame = Memory
 said_between (Err _) frame = NotWhole
 

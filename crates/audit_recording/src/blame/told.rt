@@ -66,7 +66,7 @@ pub fn told_between(judge: &BetweenView<RingDelivered>, ends: &TransferEnds) -> 
     }
     match judge.refused() {
         None => Told::Accepted(judge.fed()),
-        Some(TapRefusal::Unlawful(number, _)) => Told::Refused(number),
+        Some(TapRefusal::Unlawful(number, _, _)) => Told::Refused(number),
         Some(_) => Told::Nothing,
     }
 }
@@ -91,7 +91,7 @@ pub fn refused_between(verdict: &Result<Meaning, TapRefusal>) -> Option<u64>
 {
     match verdict {
         Ok(_) => None,
-        Err(TapRefusal::Unlawful(number, _)) => Some(*number),
+        Err(TapRefusal::Unlawful(number, _, _)) => Some(*number),
         Err(TapRefusal::Aborted(_, _)) => None,
         Err(TapRefusal::Incomplete(_)) => None,
         Err(TapRefusal::NormalTooLong) => None,

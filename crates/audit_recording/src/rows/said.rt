@@ -40,7 +40,7 @@ impl Said {
     {
         match found {
             Ok(_) => Said::Accepted,
-            Err(TapRefusal::Unlawful(_, rule)) => Said::Refused(*rule, frame),
+            Err(TapRefusal::Unlawful(_, rule, _)) => Said::Refused(*rule, frame),
             Err(TapRefusal::Memory(_)) => Said::Memory,
             Err(TapRefusal::Aborted(_, _)) => Said::NotWhole,
             Err(TapRefusal::Incomplete(_)) => Said::NotWhole,

@@ -15,4 +15,4 @@ pub returns-in-Some-Unlawful : goal.returns-in-Some-Unlawful
 returns-in-Some-Unlawful c x whole own number ends after =
     let on : c.is_settled.result ≡ true = search rules in
     let settled : is_settled x.number whole ≡ true = ap (λ n. is_settled n whole) (sym number) ∙ sym (c.is_settled.ensures whole ends) ∙ on in
-    refuses_between c.args.judge.now x whole own settled after c.refused.ensures.apart c.in-Some-Unlawful.number _ (sym c.refused.ensures.refused ∙ c.in-Some-Unlawful.is ∙ ap (λ r. Some r) c.in-Some-Unlawful.field-0-is)
+    refuses_between c.args.judge.now x whole own settled after c.refused.ensures.apart c.in-Some-Unlawful.number _ _ (sym c.refused.ensures.refused ∙ c.in-Some-Unlawful.is ∙ ap (λ r. Some r) c.in-Some-Unlawful.field-0-is)

@@ -1,8 +1,10 @@
-use Rattle.std.proofs.Common.{◌≡◌, List, true, inl, inr, sym, subst, ap, ◌∙◌}
+use Rattle.std.proofs.Common.{◌≡◌, List, Result, true, inl, inr, sym, subst, ap, ◌∙◌}
 use Rattle.tftp_packet.specs.{Message, Spells}
-use Rattle.law_tap.specs.{is_passing, tap_route}
-use Rattle.judge_tap.specs.{passing_of}
+use Rattle.law_tap.specs.{is_passing, tap_route, transfer_between}
+use Rattle.tftp_judge.specs.{PassError}
+use Rattle.judge_tap.specs.{IsToldIfBroken, passing_of}
 use Rattle.judge_tap.proofs.StateFound.{answer_found, is_from_client, is_from_server, main_found, source_client, source_server}
+use Rattle.judge_tap.proofs.ToldFound.{kept_heard, told_outside}
 use Rattle.judge_tap.proofs.keeping.TapState.pass_by.Goals as goal
 
 pub returns-in-Request-clause-finds : goal.returns-in-Request-clause-finds
@@ -32,3 +34,42 @@ pub returns-then-says_unknown_id-clause-finds : goal.returns-then-says_unknown_i
 returns-then-says_unknown_id-clause-finds g c = λ s earlier apart lawful kept same is.
     let told = c.says_unknown_id.ensures.0 c.if-says_unknown_id.true in
     answer_found s earlier (passing_of c.args.datagram) (sym is ∙ c.in-StrayAnswer.is) told.0 (subst (λ (l : List _). Spells l (Message.Error 5 told.0)) c.as_slice.ensures told.1) _ kept
+
+pub returns-in-Request-clause-told : goal.returns-in-Request-clause-told
+returns-in-Request-clause-told g c = λ s earlier apart passes sides kept follows is told.
+    let d = passing_of c.args.datagram in
+    let client : is_from_client (tap_route s earlier d) ≡ true = elim c.in-Request.is [ inl at ↦ ap is_from_client (sym is ∙ at) | inr at ↦ ap is_from_client (sym is ∙ at) ] in
+    let passing : is_passing (tap_route s earlier d) ≡ true = elim c.in-Request.is [ inl at ↦ ap is_passing (sym is ∙ at) | inr at ↦ ap is_passing (sym is ∙ at) ] in
+    c.pass_message.ensures.told s earlier apart passes kept follows (source_client s earlier d client) passing told
+
+pub returns-in-Request-clause-stands : goal.returns-in-Request-clause-stands
+returns-in-Request-clause-stands g c = λ s earlier apart lawful sides kept is told.
+    let d = passing_of c.args.datagram in
+    let client : is_from_client (tap_route s earlier d) ≡ true = elim c.in-Request.is [ inl at ↦ ap is_from_client (sym is ∙ at) | inr at ↦ ap is_from_client (sym is ∙ at) ] in
+    let passing : is_passing (tap_route s earlier d) ≡ true = elim c.in-Request.is [ inl at ↦ ap is_passing (sym is ∙ at) | inr at ↦ ap is_passing (sym is ∙ at) ] in
+    c.pass_message.ensures.stands s earlier apart lawful kept (source_client s earlier d client) passing told
+
+pub returns-in-FromServer-clause-told : goal.returns-in-FromServer-clause-told
+returns-in-FromServer-clause-told g c = λ s earlier apart passes sides kept follows is told.
+    let d = passing_of c.args.datagram in
+    let route = sym is ∙ c.in-FromServer.is in
+    c.pass_message-in-FromServer.ensures.told s earlier apart passes kept follows (source_server s earlier d (ap is_from_server route)) (ap is_passing route) told
+
+pub returns-in-FromServer-clause-stands : goal.returns-in-FromServer-clause-stands
+returns-in-FromServer-clause-stands g c = λ s earlier apart lawful sides kept is told.
+    let d = passing_of c.args.datagram in
+    let route = sym is ∙ c.in-FromServer.is in
+    c.pass_message-in-FromServer.ensures.stands s earlier apart lawful kept (source_server s earlier d (ap is_from_server route)) (ap is_passing route) told
+
+pub returns-in-Stray-clause-told : goal.returns-in-Stray-clause-told
+returns-in-Stray-clause-told g c = λ s earlier apart passes sides kept follows is told.
+    told_outside s apart earlier (passing_of c.args.datagram) passes.0 (ap is_passing (sym is ∙ c.in-Stray.is)) c.args.self.now.told told
+
+pub returns-then-says_unknown_id-clause-told : goal.returns-then-says_unknown_id-clause-told
+returns-then-says_unknown_id-clause-told g c = λ s earlier apart passes sides kept follows is told.
+    told_outside s apart earlier (passing_of c.args.datagram) passes.0 (ap is_passing (sym is ∙ c.in-StrayAnswer.is)) c.args.self.now.told told
+
+pub returns-in-StrayAnswer-clause-stands : goal.returns-in-StrayAnswer-clause-stands
+returns-in-StrayAnswer-clause-stands g c = λ s earlier apart lawful sides kept is told.
+    let heard = kept_heard s (transfer_between s earlier) c.args.self.now.transfer kept in
+    subst (λ (r : Result (Unit {0}) PassError). IsToldIfBroken s earlier (passing_of c.args.datagram) r c.refuse.new.self.stands) (sym c.refuse.ensures.refuses) (c.refuse.ensures.stands s earlier apart lawful sides heard told)
