@@ -16,7 +16,7 @@ use Rattle.audit_rows.specs.Judging.{said_there}
 use Rattle.audit_rows.specs.Viewing.{said_in}
 use Rattle.audit_rows.specs.declared.judged.Judged.{Judged}
 use Rattle.audit_rows.specs.declared.viewed.Viewed.{Viewed}
-use Rattle.tftp_rows.specs.Printing.{Prints}
+use Rattle.tftp_rows.specs.Printing.{Prints, verdict_lines}
 use Rattle.tftp_rows.specs.Telling.{AreJudgedAt, AreRowsAt, AreRowsWith, IsRowAt, IsRowWith, PrintsAllWith, PrintsPartWith, PrintsWith, Tells, TellsAll, TellsInTurn, TellsNext, TellsPart, TellsPartAt, TellsPlaces, TellsRowsAt, TellsTurns, worst_at}
 use Rattle.tftp_rows.specs.declared.printing.RowPrinter.{RowPrinter}
 use Rattle.tftp_rows.specs.declared.row.VerdictRow.{VerdictRow}
@@ -72,13 +72,13 @@ printer_alone {W} s t u p q = q ∙ ap {A = Teller W} {B = Teller W} (λ v. reco
 
 module _ {W : Type 0} (contents : W → Option (List ℕ)) where
   pub with_none : (dropped : ℕ) (s : RowPrinter W) (rows : List VerdictRow) → PrintsPartWith contents dropped s s rows
-  with_none dropped s rows = record { due = []; others = rows; are = refl; printed = []; last = refl; prints = prints_no_part contents s [] }
+  with_none dropped s rows = record { due = []; others = rows; are = refl; printed = []; last = refl; prints = prints_no_part contents verdict_lines s [] }
 
   pub all_both : (dropped : ℕ) (s t u : RowPrinter W) (xs ys : List VerdictRow) → PrintsAllWith contents dropped s t xs → PrintsAllWith contents dropped t u ys → PrintsAllWith contents dropped s u (xs ++ ys)
   all_both dropped s t u xs ys p q = record {
     printed = p.printed ++ q.printed;
     last = with_both dropped xs ys p.printed q.printed p.last q.last;
-    prints = prints_both contents s t u p.printed q.printed p.prints q.prints;
+    prints = prints_both contents verdict_lines s t u p.printed q.printed p.prints q.prints;
   }
 
   pub all_part : (dropped : ℕ) (s t u : RowPrinter W) (xs ys : List VerdictRow) → PrintsAllWith contents dropped s t xs → PrintsPartWith contents dropped t u ys → PrintsPartWith contents dropped s u (xs ++ ys)
@@ -88,7 +88,7 @@ module _ {W : Type 0} (contents : W → Option (List ℕ)) where
     are = ap (λ l. xs ++ l) q.are ∙ sym (append_assoc xs q.due q.others);
     printed = p.printed ++ q.printed;
     last = with_both dropped xs q.due p.printed q.printed p.last q.last;
-    prints = prints_part contents s t u p.printed q.printed p.prints q.prints;
+    prints = prints_part contents verdict_lines s t u p.printed q.printed p.prints q.prints;
   }
 
   -- the same where more rows were to come
@@ -106,7 +106,7 @@ module _ {W : Type 0} (contents : W → Option (List ℕ)) where
   tells_none s = record {
     due = [];
     are = append-nil s.held.items;
-    prints = record { printed = []; last = refl; prints = prints_nothing contents s.printer };
+    prints = record { printed = []; last = refl; prints = prints_nothing contents verdict_lines s.printer };
     dropped = refl;
     file = refl;
     told = refl;
@@ -179,7 +179,7 @@ module _ {W : Type 0} (contents : W → Option (List ℕ)) where
     places_then s t u (Ok x) j ps qs p q = places_both s t u j ps qs p q
     places_then s t u (Err e) j ps qs p q = places_part s t u j ps qs p q
 
-    pub printed_with : (dropped : ℕ) (s t : RowPrinter W) (r : Result A E) (row last : VerdictRow) → IsRowWith dropped row last → Prints contents s t r (last ∷ []) → PrintsWith contents dropped s t r (row ∷ [])
+    pub printed_with : (dropped : ℕ) (s t : RowPrinter W) (r : Result A E) (row last : VerdictRow) → IsRowWith dropped row last → Prints contents verdict_lines s t r (last ∷ []) → PrintsWith contents dropped s t r (row ∷ [])
     printed_with dropped s t (Ok x) row last is p = record { printed = last ∷ []; last = with_one dropped row last is; prints = p }
     printed_with dropped s t (Err e) row last is p = record { due = row ∷ []; others = []; are = refl; printed = last ∷ []; last = with_one dropped row last is; prints = p }
 

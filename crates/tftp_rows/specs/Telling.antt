@@ -20,7 +20,7 @@ use Rattle.audit_rows.specs.declared.judged.Judged.{Judged}
 use Rattle.audit_rows.specs.declared.told.Told.{Told}
 use Rattle.audit_rows.specs.declared.viewed.Viewed.{Viewed}
 use Rattle.tftp_rows.specs.Ended.{IsConclusionOf}
-use Rattle.tftp_rows.specs.Printing.{PrintsAll, PrintsPart}
+use Rattle.tftp_rows.specs.Printing.{PrintsAll, PrintsPart, verdict_lines}
 use Rattle.tftp_rows.specs.Times.{AreTimesOf}
 use Rattle.tftp_rows.specs.Verdicts.{has_same_words, verdict_line}
 use Rattle.tftp_rows.specs.declared.printing.RowPrinter.{RowPrinter}
@@ -91,7 +91,7 @@ module _ {W : Type 0} (contents : W → Option (List ℕ)) where
   pub record PrintsAllWith (dropped : ℕ) (old new : RowPrinter W) (rows : List VerdictRow) : Type 0 where
     pub printed : List VerdictRow
     pub last : AreRowsWith dropped rows printed
-    pub prints : PrintsAll contents old new printed
+    pub prints : PrintsAll contents verdict_lines old new printed
 
   -- The first of these rows were printed, or in part, and nothing else.
   pub record PrintsPartWith (dropped : ℕ) (old new : RowPrinter W) (rows : List VerdictRow) : Type 0 where
@@ -100,7 +100,7 @@ module _ {W : Type 0} (contents : W → Option (List ℕ)) where
     pub are : rows ≡ due ++ others
     pub printed : List VerdictRow
     pub last : AreRowsWith dropped due printed
-    pub prints : PrintsPart contents old new printed
+    pub prints : PrintsPart contents verdict_lines old new printed
 
   -- These rows come behind those that wait. The first of all these were printed, each once and in this order, and nothing else; the others
   -- wait.
