@@ -12,6 +12,7 @@ pub mod Printing
 pub mod Asked
 pub mod Listing
 pub mod Telling
+pub mod Whole
 pub mod Listed
 pub mod Worked
 pub use Cells.{cell}

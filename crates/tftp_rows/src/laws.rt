@@ -1,6 +1,6 @@
 //! Worked examples of the definitions in `specs/`. Each is the contract of a function that does nothing.
 
-ghost use Rattle.std.specs.Prelude.{◌≡◌, ◌∷◌, [], false, true, codes, Some, None};
+ghost use Rattle.std.specs.Prelude.{◌≡◌, ◌∷◌, ◌++◌, [], false, true, codes, Some, None};
 ghost use Rattle.json.specs.Json.{string};
 ghost use Rattle.tftp_packet.specs.{Client as ClientEnd, Server as ServerEnd};
 ghost use Rattle.audit_recording.specs.declared.blame.reason.Reason.TheVariants.{Late, Lost};
@@ -11,11 +11,14 @@ ghost use Rattle.tftp_rows.specs.Endings.{ended_text};
 ghost use Rattle.tftp_rows.specs.Listing.{list_head, list_json, list_text};
 ghost use Rattle.tftp_rows.specs.Members.{json_text};
 ghost use Rattle.tftp_rows.specs.Objects.{row_json};
+ghost use Rattle.tftp_rows.specs.Printing.{all_lines, verdict_lines};
 ghost use Rattle.tftp_rows.specs.Rows.{accused_text, head_text, row_text};
 ghost use Rattle.tftp_rows.specs.Times.{slow_text};
+ghost use Rattle.tftp_rows.specs.Whole.{Telling, all_rows, numbers_of};
 ghost use Rattle.tftp_rows.specs.Worked.{IsListed, IsNotFound, IsRow, client_at, end_at, first_host, repeated, second_host, slow, unreached_port, untimed, wide_host};
 ghost use Rattle.tftp_rows.specs.declared.conclusion.Conclusion.TheVariants.{Aborted, Quiet, Silent, Unreached, Whole};
 ghost use Rattle.tftp_rows.specs.declared.listing.ListRow.{ListRow};
+ghost use Rattle.tftp_rows.specs.declared.printing.Form.TheVariants.{Json, Words};
 ghost use Rattle.tftp_rows.specs.declared.row.VerdictRow.{VerdictRow};
 
 /// Rows of the pages: the heads, one that is accepted, one with ICMP, and one behind an ERROR.
@@ -58,6 +61,15 @@ pub fn worked_lists()
         → r.ended ≡ Quiet ClientEnd 0 7 → r.times ≡ untimed
         → json_text (list_json r) ≡ codes "{\"number\":1,\"client\":\"192.0.2.1:34056\",\"server\":\"192.0.2.1:51973\",\"kind\":\"get\",\"mode\":\"octet\",\"file\":\"\\\"boot.cfg\\\"\",\"options\":\"-\",\"datagrams\":7,\"first_frame\":1,\"last_frame\":7,\"ended\":{\"how\":\"last\",\"role\":\"client\",\"code\":null,\"message\":null,\"frame\":7,\"seconds\":0,\"before_refusal\":false},\"times\":{\"nanoseconds\":null,\"bytes_per_second\":null,\"repeats\":{\"client\":0,\"server\":0},\"silence\":null}}" }
     ensures options { options_text ((codes "blksize", codes "1024") ∷ (codes "x", codes "\"") ∷ []) ≡ codes "blksize=1024,x=\\x22" }
+{}
+
+/// The heads stand once, before the first row; rows of transfers stand in the order in which these were told.
+pub fn worked_order()
+    ensures words { (r s : VerdictRow) → all_lines (verdict_lines (Words 4)) false (r ∷ s ∷ [])
+        ≡ (head_text 4 ++ (row_text 4 r ++ codes "\n")) ++ (row_text 4 s ++ codes "\n") }
+    ensures objects { (r s : VerdictRow) → all_lines (verdict_lines Json) false (r ∷ s ∷ []) ≡ (json_text (row_json r) ++ codes "\n") ++ (json_text (row_json s) ++ codes "\n") }
+    ensures rows { (first second : Telling) → all_rows (second ∷ first ∷ []) ≡ first.rows ++ second.rows }
+    ensures numbers { (first second : Telling) → numbers_of (second ∷ first ∷ []) ≡ second.transfer.number ∷ first.transfer.number ∷ [] }
 {}
 
 /// An IPv6 address stands in brackets, less than a second is no silence, and nothing is said where nothing passed for no second.

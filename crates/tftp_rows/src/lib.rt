@@ -17,6 +17,7 @@ mod row;
 mod teller;
 mod times;
 mod verdict;
+pub mod whole;
 
 pub use asked::AskedWords;
 pub use cells::{pad, put_cell, put_number_cell};
