@@ -1,5 +1,5 @@
 -- The line of what was found is words of ASCII and LF.
-use Rattle.std.proofs.Common.{◌≡◌, ◌++◌, Ok, Err, codes, decimal, refl, rules}
+use Rattle.std.proofs.Common.{◌++◌, Ok, Err, codes, decimal, refl, rules}
 use Rattle.tftp_packet.specs.{End, Client, Server}
 use Rattle.tftp_judge.specs.declared.refusal.Refusal.TheVariants as refusal
 use Rattle.judge_tap.specs.{TapRefusal}

@@ -3,3 +3,8 @@ pub mod FoundLines
 pub mod TimesLemmas
 pub mod PrintingLemmas
 pub mod TellingLemmas
+pub mod WholeLemmas
+pub mod MembersLemmas
+pub mod AskedLemmas
+pub mod LineLemmas
+pub mod ListingLemmas

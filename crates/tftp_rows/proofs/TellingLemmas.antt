@@ -16,7 +16,7 @@ use Rattle.audit_rows.specs.Judging.{said_there}
 use Rattle.audit_rows.specs.Viewing.{said_in}
 use Rattle.audit_rows.specs.declared.judged.Judged.{Judged}
 use Rattle.audit_rows.specs.declared.viewed.Viewed.{Viewed}
-use Rattle.tftp_rows.specs.Printing.{Prints}
+use Rattle.tftp_rows.specs.Printing.{Prints, is_some_row, verdict_lines}
 use Rattle.tftp_rows.specs.Telling.{AreJudgedAt, AreRowsAt, AreRowsWith, IsRowAt, IsRowWith, PrintsAllWith, PrintsPartWith, PrintsWith, Tells, TellsAll, TellsInTurn, TellsNext, TellsPart, TellsPartAt, TellsPlaces, TellsRowsAt, TellsTurns, worst_at}
 use Rattle.tftp_rows.specs.declared.printing.RowPrinter.{RowPrinter}
 use Rattle.tftp_rows.specs.declared.row.VerdictRow.{VerdictRow}
@@ -70,15 +70,20 @@ is_judged o v e p = true≢false (sym (rw e at p))
 pub printer_alone : {W : Type 0} (s t u : Teller W) → t ≡ record s { printer = t.printer } → u ≡ record t { printer = u.printer } → u ≡ record s { printer = u.printer }
 printer_alone {W} s t u p q = q ∙ ap {A = Teller W} {B = Teller W} (λ v. record v { printer = u.printer }) p
 
+-- none is there
+pub none_there : (rows : List VerdictRow) (waits : Bool) → ((rows ≡ [] → ⊥) → waits ≡ true) → waits ≡ false → rows ≡ []
+none_there [] waits f p = refl
+none_there (row ∷ rows) waits f p = absurd (true≢false (sym (f (λ e. true≢false (ap is_some_row e))) ∙ p))
+
 module _ {W : Type 0} (contents : W → Option (List ℕ)) where
   pub with_none : (dropped : ℕ) (s : RowPrinter W) (rows : List VerdictRow) → PrintsPartWith contents dropped s s rows
-  with_none dropped s rows = record { due = []; others = rows; are = refl; printed = []; last = refl; prints = prints_no_part contents s [] }
+  with_none dropped s rows = record { due = []; others = rows; are = refl; printed = []; last = refl; prints = prints_no_part contents verdict_lines s [] }
 
   pub all_both : (dropped : ℕ) (s t u : RowPrinter W) (xs ys : List VerdictRow) → PrintsAllWith contents dropped s t xs → PrintsAllWith contents dropped t u ys → PrintsAllWith contents dropped s u (xs ++ ys)
   all_both dropped s t u xs ys p q = record {
     printed = p.printed ++ q.printed;
     last = with_both dropped xs ys p.printed q.printed p.last q.last;
-    prints = prints_both contents s t u p.printed q.printed p.prints q.prints;
+    prints = prints_both contents verdict_lines s t u p.printed q.printed p.prints q.prints;
   }
 
   pub all_part : (dropped : ℕ) (s t u : RowPrinter W) (xs ys : List VerdictRow) → PrintsAllWith contents dropped s t xs → PrintsPartWith contents dropped t u ys → PrintsPartWith contents dropped s u (xs ++ ys)
@@ -88,7 +93,7 @@ module _ {W : Type 0} (contents : W → Option (List ℕ)) where
     are = ap (λ l. xs ++ l) q.are ∙ sym (append_assoc xs q.due q.others);
     printed = p.printed ++ q.printed;
     last = with_both dropped xs q.due p.printed q.printed p.last q.last;
-    prints = prints_part contents s t u p.printed q.printed p.prints q.prints;
+    prints = prints_part contents verdict_lines s t u p.printed q.printed p.prints q.prints;
   }
 
   -- the same where more rows were to come
@@ -106,10 +111,12 @@ module _ {W : Type 0} (contents : W → Option (List ℕ)) where
   tells_none s = record {
     due = [];
     are = append-nil s.held.items;
-    prints = record { printed = []; last = refl; prints = prints_nothing contents s.printer };
+    prints = record { printed = []; last = refl; prints = prints_nothing contents verdict_lines s.printer };
     dropped = refl;
     file = refl;
     told = refl;
+    may_lose = refl;
+    none_waits = λ sure none. none;
   }
 
   pub tells_both : (s t u : Teller W) (xs ys : List VerdictRow) → TellsAll contents s t xs → TellsAll contents t u ys → TellsAll contents s u (xs ++ ys)
@@ -122,6 +129,8 @@ module _ {W : Type 0} (contents : W → Option (List ℕ)) where
     dropped = q.dropped ∙ p.dropped;
     file = q.file ∙ p.file;
     told = q.told ∙ p.told;
+    may_lose = q.may_lose ∙ p.may_lose;
+    none_waits = λ sure none. q.none_waits (p.may_lose ∙ sure) (p.none_waits sure none);
   }
 
   pub tells_part : (s t u : Teller W) (xs ys : List VerdictRow) → TellsAll contents s t xs → TellsPart contents t u ys → TellsPart contents s u (xs ++ ys)
@@ -161,6 +170,20 @@ module _ {W : Type 0} (contents : W → Option (List ℕ)) where
   pub places_none : (s : Teller W) (j : Judged) (ps : List Row) → TellsPartAt contents s s j ps
   places_none s j ps = record { first = []; others = ps; all = refl; rows = []; are = refl; tells = with_none s.dropped s.printer _ }
 
+  -- a row is held back
+  pub tells_held : (s t : Teller W) (row : VerdictRow) → t.printer ≡ s.printer → t.dropped ≡ s.dropped → t.file ≡ s.file → t.told ≡ s.told → t.may_lose ≡ s.may_lose
+      → t.held.items ≡ s.held.items ++ row ∷ [] → (s.may_lose ≡ false → s.held.items ≡ [] → ⊥) → TellsAll contents s t (row ∷ [])
+  tells_held s t row printer dropped file told may_lose held never = record {
+    due = [];
+    are = sym held;
+    prints = subst (λ p. PrintsAllWith contents s.dropped s.printer p []) (sym printer) (record { printed = []; last = refl; prints = prints_nothing contents verdict_lines s.printer });
+    dropped = dropped;
+    file = file;
+    told = told;
+    may_lose = may_lose;
+    none_waits = λ sure none. absurd (never sure none);
+  }
+
   module _ {A E : Type 0} where
     pub with_err : (dropped : ℕ) (s t : RowPrinter W) (r : Result A E) (rows : List VerdictRow) → IsErr r → PrintsPartWith contents dropped s t rows → PrintsWith contents dropped s t r rows
     with_err dropped s t (Ok x) rows is p = absurd (true≢false (sym is))
@@ -179,14 +202,30 @@ module _ {W : Type 0} (contents : W → Option (List ℕ)) where
     places_then s t u (Ok x) j ps qs p q = places_both s t u j ps qs p q
     places_then s t u (Err e) j ps qs p q = places_part s t u j ps qs p q
 
-    pub printed_with : (dropped : ℕ) (s t : RowPrinter W) (r : Result A E) (row last : VerdictRow) → IsRowWith dropped row last → Prints contents s t r (last ∷ []) → PrintsWith contents dropped s t r (row ∷ [])
+    pub printed_with : (dropped : ℕ) (s t : RowPrinter W) (r : Result A E) (row last : VerdictRow) → IsRowWith dropped row last → Prints contents verdict_lines s t r (last ∷ []) → PrintsWith contents dropped s t r (row ∷ [])
     printed_with dropped s t (Ok x) row last is p = record { printed = last ∷ []; last = with_one dropped row last is; prints = p }
     printed_with dropped s t (Err e) row last is p = record { due = row ∷ []; others = []; are = refl; printed = last ∷ []; last = with_one dropped row last is; prints = p }
 
+    -- a row is printed, since none waits
+    pub tells_now : (s t : Teller W) (r : Result A E) (row : VerdictRow) → t ≡ record s { printer = t.printer } → s.held.items ≡ [] → PrintsWith contents s.dropped s.printer t.printer r (row ∷ []) → Tells contents s t r (row ∷ [])
+    tells_now s t (Ok x) row is none p =
+        let left : t.held.items ≡ [] = ap {A = Teller W} (λ v. v.held.items) is ∙ none in
+        record {
+          due = row ∷ [];
+          are = ap (λ l. l ++ row ∷ []) none ∙ sym (ap (λ l. row ∷ l) left);
+          prints = p;
+          dropped = ap {A = Teller W} (λ v. v.dropped) is;
+          file = ap {A = Teller W} (λ v. v.file) is;
+          told = ap {A = Teller W} (λ v. v.told) is;
+          may_lose = ap {A = Teller W} (λ v. v.may_lose) is;
+          none_waits = λ sure before. left;
+        }
+    tells_now s t (Err e) row is none p = subst (λ l. PrintsPartWith contents s.dropped s.printer t.printer (l ++ row ∷ [])) (sym none) p
+
     -- A row is told, where the status was raised before.
-    pub row_told : (s m t : Teller W) (r : Result A E) (j : Judged) (place : Row) (row : VerdictRow) → m.printer ≡ s.printer → m.held ≡ s.held → m.dropped ≡ s.dropped → m.file ≡ s.file → m.told ≡ s.told
+    pub row_told : (s m t : Teller W) (r : Result A E) (j : Judged) (place : Row) (row : VerdictRow) → m.printer ≡ s.printer → m.held ≡ s.held → m.dropped ≡ s.dropped → m.file ≡ s.file → m.told ≡ s.told → m.may_lose ≡ s.may_lose
         → IsRowAt s.file.now s.told j place row → Tells contents m t r (row ∷ []) → TellsPlaces contents s t r j (place ∷ [])
-    row_told s m t (Ok x) j place row printer held dropped file told is p = record {
+    row_told s m t (Ok x) j place row printer held dropped file told may_lose is p = record {
       rows = row ∷ [];
       are = at_one _ _ j place row is;
       tells = record {
@@ -196,9 +235,11 @@ module _ {W : Type 0} (contents : W → Option (List ℕ)) where
         dropped = p.dropped ∙ dropped;
         file = p.file ∙ file;
         told = p.told ∙ told;
+        may_lose = p.may_lose ∙ may_lose;
+        none_waits = λ sure none. p.none_waits (may_lose ∙ sure) (rw held none);
       };
     }
-    row_told s m t (Err e) j place row printer held dropped file told is p = record {
+    row_told s m t (Err e) j place row printer held dropped file told may_lose is p = record {
       first = place ∷ [];
       others = [];
       all = refl;

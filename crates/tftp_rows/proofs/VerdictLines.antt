@@ -1,5 +1,5 @@
 -- The line of a verdict is words of ASCII and LF.
-use Rattle.std.proofs.Common.{◌≡◌, ◌++◌, ◌∷◌, ◌+◌, ◌-◌, ◌<◌, ◌/◌, ◌%◌, ◌==◌, ◌&&◌, nat_lt, suc, zero, ℕ, Bool, true, false, List, [], Ok, Err, codes, decimal, if◌then◌else◌, length, length-append, take, refl, rules, arith}
+use Rattle.std.proofs.Common.{◌≡◌, ◌++◌, ◌∷◌, ◌+◌, ◌-◌, ◌<◌, ◌/◌, ◌%◌, ◌==◌, nat_lt, suc, zero, ℕ, Bool, true, false, List, [], Ok, Err, codes, decimal, if◌then◌else◌, length, length-append, take, refl, rules, arith}
 use Rattle.std.specs.Fmt.{digits, digits_onto, digit_glyph}
 use Rattle.std.specs.Str.{IsAscii}
 use Rattle.std.proofs.lemmas.Str.Ascii.{IsAscii-nil}

@@ -1,12 +1,12 @@
 -- The words for how a transfer ended.
-use Rattle.std.specs.Prelude.{ℕ, Bool, true, false, ◌==◌, ◌||◌, ◌++◌, ◌∷◌, List, [], Option, Some, None, codes, decimal, flat_map, if◌then◌else◌}
+use Rattle.std.specs.Prelude.{ℕ, true, ◌==◌, ◌||◌, ◌++◌, ◌∷◌, List, [], Option, Some, None, codes, decimal, flat_map, if◌then◌else◌}
 use Rattle.tftp_packet.specs.{End, Client, Server}
 use Rattle.audit_flows.specs.{Address, V4, V6}
 use Rattle.tftp_rows.specs.Plain.{host_text, plain_byte}
 use Rattle.audit_recording.specs.declared.blame.stop.Stop.{Stop}
 use Rattle.audit_recording.specs.declared.blame.undelivered.Undelivered.{Undelivered}
 use Rattle.tftp_rows.specs.declared.conclusion.Conclusion.{Conclusion}
-use Rattle.tftp_rows.specs.declared.conclusion.Conclusion.TheVariants.{Whole, Aborted, Unreached, Silent, Cut, Quiet, Unheard}
+use Rattle.tftp_rows.specs.declared.conclusion.Conclusion.TheVariants.{Aborted, Unreached, Silent, Cut, Quiet}
 
 abbrev pub role_name : End → List ℕ
 role_name Client = codes "client"

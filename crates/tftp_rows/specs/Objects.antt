@@ -1,20 +1,19 @@
--- What stands in the objects that are printed as JSON, field by field (docs/schemas).
-use Rattle.std.specs.Prelude.{◌≡◌, ⊤, ℕ, Bool, false, List, [], ◌∷◌, map, Option, Some, None, option_map, codes, string_bytes}
+-- What is printed of a row as JSON (docs/schemas), member by member.
+use Rattle.std.specs.Prelude.{ℕ, Bool, false, List, [], ◌∷◌, map, Option, Some, None, option_map, codes, string_bytes}
+use Rattle.json.specs.Json.{Json, boolean, null, string}
 use Rattle.tftp_packet.specs.{End}
 use Rattle.tftp_rows.specs.Reasons.{reason_text}
 use Rattle.audit_recording.specs.{Accused}
 use Rattle.tftp_rows.specs.Plain.{host_text}
 use Rattle.audit_recording.specs.declared.blame.pace.Silence.{Silence}
+use Rattle.audit_recording.specs.declared.blame.reason.Reason.{Reason}
 use Rattle.tftp_rows.specs.Endings.{message_text, role_name, unreachable_text}
+use Rattle.tftp_rows.specs.Members.{array_of, count_json, count_or_null, flag_or_null, object_of, text_or_null}
 use Rattle.tftp_rows.specs.Rows.{place_name}
 use Rattle.tftp_rows.specs.declared.conclusion.Conclusion.{Conclusion}
 use Rattle.tftp_rows.specs.declared.conclusion.Conclusion.TheVariants.{Whole, Aborted, Unreached, Silent, Cut, Quiet, Unheard}
-use Rattle.tftp_rows.specs.declared.objects.AccusedObject.{AccusedObject}
-use Rattle.tftp_rows.specs.declared.objects.EndedObject.{EndedObject}
-use Rattle.tftp_rows.specs.declared.objects.RowObject.{RowObject}
-use Rattle.tftp_rows.specs.declared.objects.SilenceObject.{SilenceObject}
-use Rattle.tftp_rows.specs.declared.objects.TimesObject.{TimesObject}
 use Rattle.tftp_rows.specs.declared.row.VerdictRow.{VerdictRow}
+use Rattle.tftp_rows.specs.declared.times.Repeated.{Repeated}
 use Rattle.tftp_rows.specs.declared.times.Times.{Times}
 
 -- ---- how it ended
@@ -67,44 +66,61 @@ abbrev pub is_before_in : Conclusion → Bool
 is_before_in (Aborted stop before) = before
 is_before_in _ = false
 
-pub record IsEndedObject (o : EndedObject) (c : Conclusion) : Type 0 where
-  pub how : o.how.now ≡ how_word c
-  pub role : option_map (λ word. word.now) o.role ≡ option_map role_name (role_in c)
-  pub code : o.code ≡ code_in c
-  pub message : option_map string_bytes o.message ≡ message_in c
-  pub frame : o.frame ≡ frame_in c
-  pub seconds : o.seconds ≡ seconds_in c
-  pub before_refusal : o.before_refusal ≡ is_before_in c
+abbrev pub ended_json : Conclusion → Json
+ended_json c = object_of (
+    (codes "how", string (how_word c))
+    ∷ (codes "role", text_or_null (option_map role_name (role_in c)))
+    ∷ (codes "code", count_or_null (code_in c))
+    ∷ (codes "message", text_or_null (message_in c))
+    ∷ (codes "frame", count_or_null (frame_in c))
+    ∷ (codes "seconds", count_or_null (seconds_in c))
+    ∷ (codes "before_refusal", boolean (is_before_in c))
+    ∷ [])
 
 -- ---- how it went in time
 
-abbrev pub IsSilenceObject : Option SilenceObject → Option Silence → Type 0
-IsSilenceObject None None = ⊤
-IsSilenceObject (Some o) (Some s) = (o.nanoseconds ≡ s.nanoseconds) × (o.role.now ≡ role_name s.role) × (o.frame ≡ s.frame)
-IsSilenceObject _ _ = ⊥
+abbrev pub repeats_json : Repeated → Json
+repeats_json r = object_of ((codes "client", count_json r.client) ∷ (codes "server", count_json r.server) ∷ [])
 
-pub record IsTimesObject (o : TimesObject) (t : Times) : Type 0 where
-  pub nanoseconds : o.nanoseconds ≡ t.nanoseconds
-  pub bytes_per_second : o.bytes_per_second ≡ t.bytes_per_second
-  pub client : o.repeats.client ≡ t.repeats.client
-  pub server : o.repeats.server ≡ t.repeats.server
-  pub silence : IsSilenceObject o.silence t.silence
+abbrev pub silence_json : Option Silence → Json
+silence_json None = null
+silence_json (Some s) = object_of (
+    (codes "nanoseconds", count_json s.nanoseconds)
+    ∷ (codes "role", string (role_name s.role))
+    ∷ (codes "frame", count_json s.frame)
+    ∷ [])
+
+abbrev pub times_json : Times → Json
+times_json t = object_of (
+    (codes "nanoseconds", count_or_null t.nanoseconds)
+    ∷ (codes "bytes_per_second", count_or_null t.bytes_per_second)
+    ∷ (codes "repeats", repeats_json t.repeats)
+    ∷ (codes "silence", silence_json t.silence)
+    ∷ [])
 
 -- ---- a row
 
-abbrev pub IsAccusedObject : Option AccusedObject → Option Accused → Type 0
-IsAccusedObject None None = ⊤
-IsAccusedObject (Some o) (Some a) = (o.role.now ≡ role_name a.role) × (string_bytes o.host ≡ host_text a.end.address) × (o.port ≡ a.end.port)
-IsAccusedObject _ _ = ⊥
+abbrev pub accused_json : Option Accused → Json
+accused_json None = null
+accused_json (Some a) = object_of (
+    (codes "role", string (role_name a.role))
+    ∷ (codes "host", string (host_text a.end.address))
+    ∷ (codes "port", count_json a.end.port)
+    ∷ [])
 
-pub record IsRowObject (o : RowObject) (r : VerdictRow) : Type 0 where
-  pub file : o.file.now ≡ r.file.now
-  pub number : o.number ≡ r.number
-  pub place : o.place.now ≡ place_name r.place
-  pub frame : o.frame ≡ r.frame
-  pub verdict : o.verdict.now ≡ string_bytes r.verdict
-  pub accused : IsAccusedObject o.accused r.charge.accused
-  pub doubts : map string_bytes o.doubts.items ≡ map reason_text r.charge.reasons.items
-  pub ended : IsEndedObject o.ended r.ended
-  pub stands : o.stands ≡ r.stands
-  pub times : IsTimesObject o.times r.times
+abbrev pub reason_json : Reason → Json
+reason_json reason = string (reason_text reason)
+
+abbrev pub row_json : VerdictRow → Json
+row_json r = object_of (
+    (codes "file", string r.file.now)
+    ∷ (codes "number", count_json r.number)
+    ∷ (codes "place", string (place_name r.place))
+    ∷ (codes "frame", count_or_null r.frame)
+    ∷ (codes "verdict", string (string_bytes r.verdict))
+    ∷ (codes "accused", accused_json r.charge.accused)
+    ∷ (codes "doubts", array_of (map reason_json r.charge.reasons.items))
+    ∷ (codes "ended", ended_json r.ended)
+    ∷ (codes "stands", flag_or_null r.stands)
+    ∷ (codes "times", times_json r.times)
+    ∷ [])

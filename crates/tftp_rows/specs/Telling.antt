@@ -20,7 +20,7 @@ use Rattle.audit_rows.specs.declared.judged.Judged.{Judged}
 use Rattle.audit_rows.specs.declared.told.Told.{Told}
 use Rattle.audit_rows.specs.declared.viewed.Viewed.{Viewed}
 use Rattle.tftp_rows.specs.Ended.{IsConclusionOf}
-use Rattle.tftp_rows.specs.Printing.{PrintsAll, PrintsPart}
+use Rattle.tftp_rows.specs.Printing.{PrintsAll, PrintsPart, verdict_lines}
 use Rattle.tftp_rows.specs.Times.{AreTimesOf}
 use Rattle.tftp_rows.specs.Verdicts.{has_same_words, verdict_line}
 use Rattle.tftp_rows.specs.declared.printing.RowPrinter.{RowPrinter}
@@ -91,7 +91,7 @@ module _ {W : Type 0} (contents : W → Option (List ℕ)) where
   pub record PrintsAllWith (dropped : ℕ) (old new : RowPrinter W) (rows : List VerdictRow) : Type 0 where
     pub printed : List VerdictRow
     pub last : AreRowsWith dropped rows printed
-    pub prints : PrintsAll contents old new printed
+    pub prints : PrintsAll contents verdict_lines old new printed
 
   -- The first of these rows were printed, or in part, and nothing else.
   pub record PrintsPartWith (dropped : ℕ) (old new : RowPrinter W) (rows : List VerdictRow) : Type 0 where
@@ -100,7 +100,7 @@ module _ {W : Type 0} (contents : W → Option (List ℕ)) where
     pub are : rows ≡ due ++ others
     pub printed : List VerdictRow
     pub last : AreRowsWith dropped due printed
-    pub prints : PrintsPart contents old new printed
+    pub prints : PrintsPart contents verdict_lines old new printed
 
   -- These rows come behind those that wait. The first of all these were printed, each once and in this order, and nothing else; the others
   -- wait.
@@ -111,6 +111,8 @@ module _ {W : Type 0} (contents : W → Option (List ℕ)) where
     pub dropped : new.dropped ≡ old.dropped
     pub file : new.file ≡ old.file
     pub told : new.told ≡ old.told
+    pub may_lose : new.may_lose ≡ old.may_lose
+    pub none_waits : old.may_lose ≡ false → old.held.items ≡ [] → new.held.items ≡ []
 
   -- The first of all these were printed, or in part, and nothing else.
   abbrev pub TellsPart : Teller W → Teller W → List VerdictRow → Type 0
@@ -162,6 +164,10 @@ pub record TellsNext {W : Type 0} (contents : W → Option (List ℕ)) (old new 
   pub number : new.told ≡ min (old.told + 1) (2 ^ 64 - 1)
   pub status : new.status ≡ max old.status (worst_at judged (places_of judged))
   pub handed_out : IsSessionAfter after named (transfer.number ∷ out) history carried s
+
+-- the session judges where the first one does
+abbrev pub JudgesAs : Session → Session → Type 0
+JudgesAs first session = session.audit.judge.judging ≡ first.audit.judge.judging
 
 -- What there is to say of these transfers was told, one after another: each was the next one then, and this held of the session from which
 -- it was handed out.

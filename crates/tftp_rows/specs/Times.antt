@@ -1,5 +1,5 @@
 -- How long a transfer took, and the words for that.
-use Rattle.std.specs.Prelude.{◌≡◌, ◌+◌, ◌*◌, ◌-◌, ◌/◌, ◌%◌, ◌^◌, ◌==◌, ◌++◌, nat_le, min, ℕ, List, [], Option, Some, None, option_map, codes, decimal, if◌then◌else◌}
+use Rattle.std.specs.Prelude.{◌≡◌, ◌*◌, ◌-◌, ◌/◌, ◌%◌, ◌^◌, ◌==◌, ◌++◌, nat_le, min, ℕ, List, [], Option, Some, None, option_map, codes, decimal, if◌then◌else◌}
 use Rattle.tftp_packet.specs.{Client, Server}
 use Rattle.audit_flows.specs.{Transfer}
 use Rattle.audit_recording.specs.Blame.Frames.{Carried, Framed, view_of}

@@ -1,5 +1,5 @@
 -- The line of a verdict, which ends by LF.
-use Rattle.std.specs.Prelude.{ℕ, Bool, false, ◌++◌, List, bytes_eq, codes, decimal, Option, Some, None, Result, Ok, Err}
+use Rattle.std.specs.Prelude.{ℕ, Bool, false, ◌++◌, List, bytes_eq, codes, decimal, Option, Some, Ok, Err}
 use Rattle.tftp_packet.specs.{End}
 use Rattle.tftp_judge.specs.{Refused, Refusal}
 use Rattle.tftp_judge.specs.declared.refusal.Refusal.TheVariants as refusal

@@ -1,15 +1,14 @@
 -- Rows of which the pages say what is printed.
-use Rattle.std.specs.Prelude.{◌≡◌, ℕ, Bool, List, [], ◌∷◌, Option, Some, None, codes, string_bytes}
+use Rattle.std.specs.Prelude.{◌≡◌, ℕ, List, [], ◌∷◌, Option, Some, None, codes, string_bytes}
 use Rattle.tftp_packet.specs.{Client, Server}
-use Rattle.audit_flows.specs.{Address, V4, V6}
+use Rattle.audit_flows.specs.{Address, Endpoint, V4, V6}
 use Rattle.audit_recording.specs.{Accused}
 use Rattle.audit_recording.specs.Endings.Told.{sent_of}
 use Rattle.audit_recording.specs.declared.blame.reason.Reason.{Reason}
 use Rattle.audit_recording.specs.declared.blame.stop.Stop.{Stop}
 use Rattle.audit_recording.specs.declared.blame.undelivered.Undelivered.{Undelivered}
 use Rattle.audit_recording.specs.declared.rows.row.Place.{Place}
-use Rattle.tftp_rows.specs.declared.conclusion.Conclusion.{Conclusion}
-use Rattle.tftp_rows.specs.declared.conclusion.Conclusion.TheVariants.{Aborted}
+use Rattle.tftp_rows.specs.declared.listing.ListRow.{ListRow}
 use Rattle.tftp_rows.specs.declared.row.VerdictRow.{VerdictRow}
 use Rattle.tftp_rows.specs.declared.times.Times.{Times}
 
@@ -60,6 +59,31 @@ slow nanoseconds silent = record {
   silence = Some (record { nanoseconds = silent; role = Server; frame = 2 });
 }
 
+-- each end has sent nine datagrams again, and the server was silent for 1.641 ms before frame 3
+abbrev pub repeated : Times
+repeated = record {
+  nanoseconds = Some 5270000;
+  bytes_per_second = None;
+  repeats = record { client = 9; server = 9 };
+  silence = Some (record { nanoseconds = 1641000; role = Server; frame = 3 });
+}
+
 -- nothing is told of its times
 abbrev pub untimed : Times
 untimed = record { nanoseconds = None; bytes_per_second = None; repeats = record { client = 0; server = 0 }; silence = None }
+
+-- a row of a list: of this transfer between these ends, with these words, so many datagrams, and these frames
+pub record IsListed (r : ListRow) (n : ℕ) (client server : Endpoint) (kind mode file options : List ℕ) (count first last : ℕ) : Type 0 where
+  pub number : r.number ≡ n
+  pub from : r.client ≡ client
+  pub to : r.server ≡ server
+  pub how : r.asked.kind.now ≡ kind
+  pub coded : r.asked.mode.now ≡ mode
+  pub name : string_bytes r.asked.file ≡ file
+  pub wants : string_bytes r.asked.options ≡ options
+  pub datagrams : r.datagrams ≡ count
+  pub begins : r.first_frame ≡ first
+  pub ends : r.last_frame ≡ last
+
+abbrev pub end_at : Address → ℕ → Endpoint
+end_at address port = record { port = port; address = address }

@@ -1,15 +1,24 @@
 //! Worked examples of the definitions in `specs/`. Each is the contract of a function that does nothing.
 
-ghost use Rattle.std.specs.Prelude.{◌≡◌, ◌∷◌, [], true, codes, Some, None};
+ghost use Rattle.std.specs.Prelude.{◌≡◌, ◌∷◌, ◌++◌, [], false, true, codes, Some, None};
+ghost use Rattle.json.specs.Json.{string};
 ghost use Rattle.tftp_packet.specs.{Client as ClientEnd, Server as ServerEnd};
 ghost use Rattle.audit_recording.specs.declared.blame.reason.Reason.TheVariants.{Late, Lost};
 ghost use Rattle.audit_recording.specs.declared.blame.stop.Stop.{Stop};
 ghost use Rattle.audit_recording.specs.declared.rows.row.Place.TheVariants.{Between, Both, Client as AtClient};
+ghost use Rattle.tftp_rows.specs.Asked.{options_text};
 ghost use Rattle.tftp_rows.specs.Endings.{ended_text};
+ghost use Rattle.tftp_rows.specs.Listing.{list_head, list_json, list_text};
+ghost use Rattle.tftp_rows.specs.Members.{json_text};
+ghost use Rattle.tftp_rows.specs.Objects.{row_json};
+ghost use Rattle.tftp_rows.specs.Printing.{all_lines, verdict_lines};
 ghost use Rattle.tftp_rows.specs.Rows.{accused_text, head_text, row_text};
 ghost use Rattle.tftp_rows.specs.Times.{slow_text};
-ghost use Rattle.tftp_rows.specs.Worked.{IsNotFound, IsRow, client_at, first_host, second_host, slow, unreached_port, untimed, wide_host};
+ghost use Rattle.tftp_rows.specs.Whole.{Telling, all_rows, numbers_of};
+ghost use Rattle.tftp_rows.specs.Worked.{IsListed, IsNotFound, IsRow, client_at, end_at, first_host, repeated, second_host, slow, unreached_port, untimed, wide_host};
 ghost use Rattle.tftp_rows.specs.declared.conclusion.Conclusion.TheVariants.{Aborted, Quiet, Silent, Unreached, Whole};
+ghost use Rattle.tftp_rows.specs.declared.listing.ListRow.{ListRow};
+ghost use Rattle.tftp_rows.specs.declared.printing.Form.TheVariants.{Json, Words};
 ghost use Rattle.tftp_rows.specs.declared.row.VerdictRow.{VerdictRow};
 
 /// Rows of the pages: the heads, one that is accepted, one with ICMP, and one behind an ERROR.
@@ -31,6 +40,36 @@ pub fn worked_doubts()
     ensures { (r : VerdictRow) → IsRow r (codes "a") 2 AtClient (Some 4) None (codes "refused datagram 3 rule 26 AckAhead") (Late ∷ Lost 9 ∷ [])
         → r.ended ≡ Silent ServerEnd 10 2 → r.times ≡ slow 5400000000 5000000000
         → row_text 4 r ≡ codes "a     2       client   4         -                       doubtful refused datagram 3 rule 26 AckAhead: its client's endpoint had asked again; frame 9 is not there whole; ended: server silent for 10 s after frame 2; took 5.400 s, the server silent for 5.000 s before frame 2, sent again: 1 of the client, 0 of the server" }
+{}
+
+/// The object of a row of the pages, and signs in a text that are escaped.
+pub fn worked_objects()
+    ensures row { (r : VerdictRow) → IsRow r (codes "examples/loopback-repeated-oack.pcap") 2 Between (Some 9) (client_at second_host 46722) (codes "refused datagram 4 rule 25 BlockChanged") []
+        → r.ended ≡ Quiet ServerEnd 0 76 → r.stands ≡ Some true → r.times ≡ repeated
+        → json_text (row_json r) ≡ codes "{\"file\":\"examples/loopback-repeated-oack.pcap\",\"number\":2,\"place\":\"between\",\"frame\":9,\"verdict\":\"refused datagram 4 rule 25 BlockChanged\",\"accused\":{\"role\":\"client\",\"host\":\"192.0.2.2\",\"port\":46722},\"doubts\":[],\"ended\":{\"how\":\"last\",\"role\":\"server\",\"code\":null,\"message\":null,\"frame\":76,\"seconds\":0,\"before_refusal\":false},\"stands\":true,\"times\":{\"nanoseconds\":5270000,\"bytes_per_second\":null,\"repeats\":{\"client\":9,\"server\":9},\"silence\":{\"nanoseconds\":1641000,\"role\":\"server\",\"frame\":3}}}" }
+    ensures escaped { json_text (string (codes "a\"b\\c\nd")) ≡ codes "\"a\\\"b\\\\c\\nd\"" }
+{}
+
+/// A row of a list of the pages and another one's object, the heads, and options.
+pub fn worked_lists()
+    ensures head { list_head ≡ codes "number  client                 server                 kind  mode      file              options           datagrams  frames\n" }
+    ensures row { (r : ListRow) (stop : Stop)
+        → IsListed r 3 (end_at first_host 34056) (end_at first_host 42245) (codes "get") (codes "octet") (codes "\"missing.cfg\"") (codes "-") 3 15 17
+        → IsNotFound stop → r.ended ≡ Aborted stop false → r.times ≡ untimed
+        → list_text r ≡ codes "3       192.0.2.1:34056        192.0.2.1:42245        get   octet     \"missing.cfg\"     -                 3          15-17; ended: server ERROR 1 \"File not found\" frame 16" }
+    ensures object { (r : ListRow) → IsListed r 1 (end_at first_host 34056) (end_at first_host 51973) (codes "get") (codes "octet") (codes "\"boot.cfg\"") (codes "-") 7 1 7
+        → r.ended ≡ Quiet ClientEnd 0 7 → r.times ≡ untimed
+        → json_text (list_json r) ≡ codes "{\"number\":1,\"client\":\"192.0.2.1:34056\",\"server\":\"192.0.2.1:51973\",\"kind\":\"get\",\"mode\":\"octet\",\"file\":\"\\\"boot.cfg\\\"\",\"options\":\"-\",\"datagrams\":7,\"first_frame\":1,\"last_frame\":7,\"ended\":{\"how\":\"last\",\"role\":\"client\",\"code\":null,\"message\":null,\"frame\":7,\"seconds\":0,\"before_refusal\":false},\"times\":{\"nanoseconds\":null,\"bytes_per_second\":null,\"repeats\":{\"client\":0,\"server\":0},\"silence\":null}}" }
+    ensures options { options_text ((codes "blksize", codes "1024") ∷ (codes "x", codes "\"") ∷ []) ≡ codes "blksize=1024,x=\\x22" }
+{}
+
+/// The heads stand once, before the first row; rows of transfers stand in the order in which these were told.
+pub fn worked_order()
+    ensures words { (r s : VerdictRow) → all_lines (verdict_lines (Words 4)) false (r ∷ s ∷ [])
+        ≡ (head_text 4 ++ (row_text 4 r ++ codes "\n")) ++ (row_text 4 s ++ codes "\n") }
+    ensures objects { (r s : VerdictRow) → all_lines (verdict_lines Json) false (r ∷ s ∷ []) ≡ (json_text (row_json r) ++ codes "\n") ++ (json_text (row_json s) ++ codes "\n") }
+    ensures rows { (first second : Telling) → all_rows (second ∷ first ∷ []) ≡ first.rows ++ second.rows }
+    ensures numbers { (first second : Telling) → numbers_of (second ∷ first ∷ []) ≡ second.transfer.number ∷ first.transfer.number ∷ [] }
 {}
 
 /// An IPv6 address stands in brackets, less than a second is no silence, and nothing is said where nothing passed for no second.

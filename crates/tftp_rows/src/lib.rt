@@ -1,10 +1,14 @@
-//! The rows that `tftp-transfers check` prints, as exact text: what each part says, and of what it is.
+//! The rows that `tftp-transfers check` and `tftp-transfers list` print, as exact text: what each part says, and of what it is.
 #![tactic(auto)]
 
+mod asked;
 mod cells;
 mod conclusion;
 mod endpoint;
 mod laws;
+mod lister;
+mod listing;
+mod members;
 mod objects;
 mod plain;
 mod printing;
@@ -13,11 +17,14 @@ mod row;
 mod teller;
 mod times;
 mod verdict;
+pub mod whole;
 
+pub use asked::AskedWords;
 pub use cells::{pad, put_cell, put_number_cell};
 pub use conclusion::{Conclusion, concluded, role_name};
 pub use endpoint::{shown, shown_host};
-pub use objects::{AccusedObject, EndedObject, RowObject, SilenceObject, TimesObject};
+pub use lister::Lister;
+pub use listing::{ListRow, put_list_head};
 pub use plain::{put_number, put_plain};
 pub use printing::{Form, PrintFault, RowPrinter, write_whole};
 pub use reason::ReasonWords;

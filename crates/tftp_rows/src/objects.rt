@@ -1,258 +1,232 @@
-//! The objects that are printed as JSON (RFC 8259), of rows and of their parts. Their fields stand in the order in which they
-//! are printed.
+//! The objects that are printed as JSON (RFC 8259), of rows and of their parts.
 
-ghost use Rattle.std.specs.Prelude.{◌≡◌, IfOk, None, Some, false, map, option_map, string_bytes};
-ghost use Rattle.tftp_rows.specs.Reasons.{reason_text};
-ghost use Rattle.tftp_rows.specs.declared.conclusion.Conclusion.TheVariants.{Aborted as AbortedBy, Unreached as UnreachedBy};
-ghost use Rattle.tftp_rows.specs.Endings.{role_name as name_of};
-ghost use Rattle.tftp_rows.specs.Objects.{IsAccusedObject, IsEndedObject, IsRowObject, IsSilenceObject, IsTimesObject};
+ghost use Rattle.std.specs.Prelude.{◌≡◌, IfOk, OnOk, codes, flat_map, map, option_map, string_bytes};
+ghost use Rattle.json.specs.Tree.{json_tokens};
+ghost use Rattle.tftp_rows.specs.Members.{Adds, AddsMember, array_of};
+ghost use Rattle.tftp_rows.specs.Objects.{accused_json, code_in, ended_json, frame_in, how_word, is_before_in, message_in, reason_json, repeats_json, role_in, row_json, seconds_in, silence_json, times_json};
 
 use crate::conclusion::{Conclusion, message_words, role_name, unreachable_words};
 use crate::endpoint::shown_host;
+use crate::members::{
+    put_count, put_flag, put_some_count, put_some_flag, put_some_role, put_some_text, put_text,
+};
 use crate::reason::ReasonWords;
 use crate::row::{VerdictRow, place_name};
 use crate::times::{Repeated, Times};
-use audit_recording::blame::{Reason, Silence, Stop, Undelivered};
+use audit_recording::blame::{Reason, Silence};
 use audit_recording::rows::Accused;
-use serde::Serialize;
+use json::Writer;
 use std::alloc::{AllocError, Global};
 use tftp_packet::End;
 
-/// A row.
-#[derive(Drop, Serialize)]
-pub struct RowObject<'a> {
-    file: &'a str,
-    number: u64,
-    place: &'static str,
-    frame: Option<u64>,
-    verdict: &'a str,
-    accused: Option<AccusedObject>,
-    doubts: Vec<String>,
-    ended: EndedObject,
-    stands: Option<bool>,
-    times: TimesObject,
-}
-
-/// The end that a refusal accuses.
-#[derive(Drop, Serialize)]
-pub struct AccusedObject {
-    role: &'static str,
-    host: String,
-    port: u16,
-}
-
-/// How a transfer ended.
-#[derive(Drop, Serialize)]
-pub struct EndedObject {
-    how: &'static str,
-    role: Option<&'static str>,
-    code: Option<u16>,
-    message: Option<String>,
-    frame: Option<u64>,
-    seconds: Option<u64>,
-    before_refusal: bool,
-}
-
-/// How a transfer went in time.
-#[derive(Drop, Serialize)]
-pub struct TimesObject {
-    nanoseconds: Option<u64>,
-    bytes_per_second: Option<u64>,
-    repeats: RepeatedObject,
-    silence: Option<SilenceObject>,
-}
-
-/// How many datagrams each end sent again.
-#[derive(Drop, Serialize)]
-pub struct RepeatedObject {
-    client: u64,
-    server: u64,
-}
-
-/// The longest time in which nothing passed.
-#[derive(Drop, Serialize)]
-pub struct SilenceObject {
-    nanoseconds: u64,
-    role: &'static str,
-    frame: u64,
-}
-
 impl VerdictRow<'_> {
-    /// The object of a row.
-    pub fn object(&self, alloc: Global) -> Result<RowObject<'_>, AllocError>
-        ensures { IfOk result (λ object. IsRowObject object self.now) }
+    /// Puts the object of a row.
+    pub fn put_object(&self, alloc: Global, out: &mut Writer) -> Result<(), AllocError>
+        ensures { OnOk result (Adds out.old out.new (json_tokens (row_json self.now))) }
     {
-        let accused = accused_object(alloc, self.charge.accused)?;
-        let doubts = words_of(alloc, self.charge.reasons.as_slice())?;
-        let ended = self.ended.object(alloc)?;
-        Ok(RowObject {
-            file: self.file,
-            number: self.number,
-            place: place_name(self.place),
-            frame: self.frame,
-            verdict: self.verdict.as_str(),
-            accused,
-            doubts,
-            ended,
-            stands: self.stands,
-            times: self.times.object(),
-        })
+        out.begin_object()?;
+        put_text(out, "file", self.file)?;
+        put_count(out, "number", self.number)?;
+        put_text(out, "place", place_name(self.place))?;
+        put_some_count(out, "frame", self.frame)?;
+        put_text(out, "verdict", self.verdict.as_str())?;
+        put_accused(alloc, out, self.charge.accused)?;
+        put_doubts(alloc, out, self.charge.reasons.as_slice())?;
+        self.ended.put_member(alloc, out)?;
+        put_some_flag(out, "stands", self.stands)?;
+        self.times.put_member(out)?;
+        out.end_object()
     }
 }
 
 impl Conclusion {
-    /// The object of how a transfer ended.
-    pub fn object(&self, alloc: Global) -> Result<EndedObject, AllocError>
-        ensures { IfOk result (λ object. IsEndedObject object self.now) }
+    /// Puts how a transfer ended, as a member.
+    pub fn put_member(&self, alloc: Global, out: &mut Writer) -> Result<(), AllocError>
+        ensures { OnOk result (AddsMember out.old out.new (codes "ended") (ended_json self.now)) }
+    {
+        let message = self.message(alloc)?;
+        out.key("ended")?;
+        out.begin_object()?;
+        put_text(out, "how", self.how())?;
+        put_some_role(out, "role", self.role())?;
+        put_some_count(out, "code", self.code())?;
+        put_some_text(out, "message", &message)?;
+        put_some_count(out, "frame", self.frame())?;
+        put_some_count(out, "seconds", self.seconds())?;
+        put_flag(out, "before_refusal", self.is_before())?;
+        out.end_object()
+    }
+
+    fn how(&self) -> &'static str
+        ensures { result.now ≡ how_word self.now }
     {
         match self {
-            Conclusion::Aborted(stop, is_before) => aborted_object(alloc, stop, *is_before),
-            Conclusion::Unreached(role, seconds, undelivered) => {
-                unreached_object(alloc, *role, *seconds, undelivered)
-            }
-            Conclusion::Silent(role, seconds, frame) => {
-                Ok(EndedObject::after("silent", *role, *seconds, *frame))
-            }
-            Conclusion::Cut(role, frame) => {
-                Ok(EndedObject::after("recording", *role, 0, *frame))
-            }
-            Conclusion::Quiet(role, seconds, frame) => {
-                Ok(EndedObject::after("last", *role, *seconds, *frame))
-            }
-            Conclusion::Whole => Ok(EndedObject::plain("whole")),
-            Conclusion::Unheard => Ok(EndedObject::plain("last")),
-        }
-    }
-}
-
-impl EndedObject {
-    fn plain(how: &'static str) -> Self
-        ensures how { result.how.now ≡ how.now }
-        ensures role { result.role ≡ None }
-        ensures code { result.code ≡ None }
-        ensures message { result.message ≡ None }
-        ensures frame { result.frame ≡ None }
-        ensures seconds { result.seconds ≡ None }
-        ensures before { result.before_refusal ≡ false }
-    {
-        EndedObject {
-            how,
-            role: None,
-            code: None,
-            message: None,
-            frame: None,
-            seconds: None,
-            before_refusal: false,
+            Conclusion::Whole => "whole",
+            Conclusion::Aborted(_, _) => "error",
+            Conclusion::Unreached(_, _, _) => "unreachable",
+            Conclusion::Silent(_, _, _) => "silent",
+            Conclusion::Cut(_, _) => "recording",
+            Conclusion::Quiet(_, _, _) | Conclusion::Unheard => "last",
         }
     }
 
-    fn after(how: &'static str, role: End, seconds: u64, frame: u64) -> Self
-        ensures how { result.how.now ≡ how.now }
-        ensures role { option_map (λ word. word.now) result.role ≡ Some (name_of role) }
-        ensures code { result.code ≡ None }
-        ensures message { result.message ≡ None }
-        ensures frame { result.frame ≡ Some frame }
-        ensures seconds { result.seconds ≡ Some seconds }
-        ensures before { result.before_refusal ≡ false }
+    /// Who sent the ERROR or the last datagram, who is silent, or who was not reached.
+    fn role(&self) -> Option<End>
+        ensures { result ≡ role_in self.now }
     {
-        EndedObject {
-            how,
-            role: Some(role_name(role)),
-            code: None,
-            message: None,
-            frame: Some(frame),
-            seconds: Some(seconds),
-            before_refusal: false,
+        match self {
+            Conclusion::Aborted(stop, _) => Some(stop.role),
+            Conclusion::Unreached(role, _, _) | Conclusion::Silent(role, _, _) => Some(*role),
+            Conclusion::Cut(role, _) | Conclusion::Quiet(role, _, _) => Some(*role),
+            Conclusion::Whole | Conclusion::Unheard => None,
+        }
+    }
+
+    /// That of the ERROR, or of the ICMP message.
+    fn code(&self) -> Option<u64>
+        ensures { result ≡ code_in self.now }
+    {
+        match self {
+            Conclusion::Aborted(stop, _) => Some(u64::from(stop.code)),
+            Conclusion::Unreached(_, _, undelivered) => Some(u64::from(undelivered.code)),
+            _ => None,
+        }
+    }
+
+    fn message(&self, alloc: Global) -> Result<Option<String>, AllocError>
+        ensures { IfOk result (λ message. option_map string_bytes message ≡ message_in self.now) }
+    {
+        match self {
+            Conclusion::Aborted(stop, _) => {
+                Ok(Some(message_words(alloc, stop.message.as_slice())?))
+            }
+            Conclusion::Unreached(_, _, undelivered) => {
+                Ok(Some(unreachable_words(alloc, undelivered)?))
+            }
+            _ => Ok(None),
+        }
+    }
+
+    /// That of the ERROR, of what tells that a datagram did not arrive, or of the last datagram.
+    fn frame(&self) -> Option<u64>
+        ensures { result ≡ frame_in self.now }
+    {
+        match self {
+            Conclusion::Aborted(stop, _) => Some(stop.frame),
+            Conclusion::Unreached(_, _, undelivered) => Some(undelivered.frame),
+            Conclusion::Silent(_, _, frame) | Conclusion::Quiet(_, _, frame) => Some(*frame),
+            Conclusion::Cut(_, frame) => Some(*frame),
+            Conclusion::Whole | Conclusion::Unheard => None,
+        }
+    }
+
+    fn seconds(&self) -> Option<u64>
+        ensures { result ≡ seconds_in self.now }
+    {
+        match self {
+            Conclusion::Unreached(_, seconds, _) | Conclusion::Silent(_, seconds, _) => {
+                Some(*seconds)
+            }
+            Conclusion::Quiet(_, seconds, _) => Some(*seconds),
+            Conclusion::Cut(_, _) => Some(0),
+            _ => None,
+        }
+    }
+
+    /// Whether the other end's ERROR came before what is refused.
+    fn is_before(&self) -> bool
+        ensures { result ≡ is_before_in self.now }
+    {
+        match self {
+            Conclusion::Aborted(_, is_before) => *is_before,
+            _ => false,
         }
     }
 }
 
 impl Times {
-    /// The object of how a transfer went in time.
-    pub fn object(&self) -> TimesObject
-        ensures { IsTimesObject result self.now }
+    /// Puts how a transfer went in time, as a member.
+    pub fn put_member(&self, out: &mut Writer) -> Result<(), AllocError>
+        ensures { OnOk result (AddsMember out.old out.new (codes "times") (times_json self.now)) }
     {
-        let Repeated { client, server } = self.repeats;
-        TimesObject {
-            nanoseconds: self.nanoseconds,
-            bytes_per_second: self.bytes_per_second,
-            repeats: RepeatedObject { client, server },
-            silence: silence_object(self.silence),
-        }
+        out.key("times")?;
+        out.begin_object()?;
+        put_some_count(out, "nanoseconds", self.nanoseconds)?;
+        put_some_count(out, "bytes_per_second", self.bytes_per_second)?;
+        put_repeats(out, self.repeats)?;
+        put_silence(out, self.silence)?;
+        out.end_object()
     }
 }
 
-fn aborted_object(alloc: Global, stop: &Stop, is_before: bool) -> Result<EndedObject, AllocError>
-    ensures { IfOk result (λ object. IsEndedObject object (AbortedBy stop.now is_before)) }
+fn put_repeats(out: &mut Writer, repeats: Repeated) -> Result<(), AllocError>
+    ensures { OnOk result (AddsMember out.old out.new (codes "repeats") (repeats_json repeats)) }
 {
-    let message = message_words(alloc, stop.message.as_slice())?;
-    Ok(EndedObject {
-        how: "error",
-        role: Some(role_name(stop.role)),
-        code: Some(stop.code),
-        message: Some(message),
-        frame: Some(stop.frame),
-        seconds: None,
-        before_refusal: is_before,
-    })
+    out.key("repeats")?;
+    out.begin_object()?;
+    put_count(out, "client", repeats.client)?;
+    put_count(out, "server", repeats.server)?;
+    out.end_object()
 }
 
-fn unreached_object(
-    alloc: Global,
-    role: End,
-    seconds: u64,
-    undelivered: &Undelivered,
-) -> Result<EndedObject, AllocError>
-    ensures { IfOk result (λ object. IsEndedObject object (UnreachedBy role seconds undelivered.now)) }
+fn put_silence(out: &mut Writer, silence: Option<Silence>) -> Result<(), AllocError>
+    ensures { OnOk result (AddsMember out.old out.new (codes "silence") (silence_json silence)) }
 {
-    let message = unreachable_words(alloc, undelivered)?;
-    Ok(EndedObject {
-        how: "unreachable",
-        role: Some(role_name(role)),
-        code: Some(u16::from(undelivered.code)),
-        message: Some(message),
-        frame: Some(undelivered.frame),
-        seconds: Some(seconds),
-        before_refusal: false,
-    })
-}
-
-fn silence_object(silence: Option<Silence>) -> Option<SilenceObject>
-    ensures { IsSilenceObject result silence }
-{
-    match silence {
-        Some(silence) => Some(SilenceObject {
-            nanoseconds: silence.nanoseconds,
-            role: role_name(silence.role),
-            frame: silence.frame,
-        }),
-        None => None,
-    }
-}
-
-fn accused_object(
-    alloc: Global,
-    accused: Option<Accused>,
-) -> Result<Option<AccusedObject>, AllocError>
-    ensures { IfOk result (λ object. IsAccusedObject object accused) }
-{
-    let Some(Accused { role, end }) = accused else {
-        return Ok(None);
+    out.key("silence")?;
+    let Some(
+        Silence {
+            nanoseconds,
+            role,
+            frame,
+        },
+    ) = silence
+    else {
+        return out.null();
     };
-    Ok(Some(AccusedObject {
-        role: role_name(role),
-        host: shown_host(alloc, end.address)?,
-        port: end.port,
-    }))
+    out.begin_object()?;
+    put_count(out, "nanoseconds", nanoseconds)?;
+    put_text(out, "role", role_name(role))?;
+    put_count(out, "frame", frame)?;
+    out.end_object()
 }
 
-/// What each reason says.
-fn words_of(alloc: Global, reasons: &[Reason]) -> Result<Vec<String>, AllocError>
-    ensures { IfOk result (λ words. map string_bytes words.items ≡ map reason_text reasons.now) }
+fn put_accused(alloc: Global, out: &mut Writer, accused: Option<Accused>) -> Result<(), AllocError>
+    ensures { OnOk result (AddsMember out.old out.new (codes "accused") (accused_json accused)) }
 {
-    let mut words = Vec::new(alloc);
+    out.key("accused")?;
+    let Some(Accused { role, end }) = accused else {
+        return out.null();
+    };
+    let host = shown_host(alloc, end.address)?;
+    out.begin_object()?;
+    put_text(out, "role", role_name(role))?;
+    put_text(out, "host", host.as_str())?;
+    put_count(out, "port", u64::from(end.port))?;
+    out.end_object()
+}
+
+/// Puts what each reason says.
+fn put_doubts(alloc: Global, out: &mut Writer, reasons: &[Reason]) -> Result<(), AllocError>
+    ensures { OnOk result (AddsMember out.old out.new (codes "doubts") (array_of (map reason_json reasons.now))) }
+{
+    out.key("doubts")?;
+    out.begin_array()?;
+    put_reasons(alloc, out, reasons)?;
+    out.end_array()
+}
+
+fn put_reasons(alloc: Global, out: &mut Writer, reasons: &[Reason]) -> Result<(), AllocError>
+    ensures { OnOk result (Adds out.old out.new (flat_map (λ reason. json_tokens (reason_json reason)) reasons.now)) }
+{
     for reason in reasons {
-        words.push(format!(in alloc; "{}", ReasonWords(*reason))?)?;
+        put_reason(alloc, out, *reason)?;
     }
-    Ok(words)
+    Ok(())
+}
+
+fn put_reason(alloc: Global, out: &mut Writer, reason: Reason) -> Result<(), AllocError>
+    ensures { OnOk result (Adds out.old out.new (json_tokens (reason_json reason))) }
+{
+    let words = format!(in alloc; "{}", ReasonWords(reason))?;
+    out.string(words.as_str())
 }

@@ -1,15 +1,16 @@
 //! Rows are printed, each in a line.
 
-ghost use Rattle.std.specs.Prelude.{◌≡◌, ◌∷◌, ◌++◌, [], ℕ, List, IfOk, codes, string_bytes, false};
-ghost use Rattle.json.specs.Lex.{tokens};
-ghost use Rattle.json.specs.Print.{print};
+ghost use Rattle.std.specs.Prelude.{◌≡◌, ◌∷◌, ◌++◌, [], IfOk, codes, false, true};
 ghost use Rattle.net_streams.specs.Streams.{WritesWhole};
-ghost use Rattle.tftp_rows.specs.Printing.{IsPrinted, Prints, heads};
-ghost use Rattle.tftp_rows.specs.Rows.{row_text};
+ghost use Rattle.tftp_rows.specs.Listing.{list_lines};
+ghost use Rattle.tftp_rows.specs.Members.{json_text};
+ghost use Rattle.tftp_rows.specs.Objects.{row_json};
+ghost use Rattle.tftp_rows.specs.Printing.{Prints, verdict_lines};
 ghost use Rattle.tftp_rows.specs.declared.printing.Form.TheVariants.{Words};
 
+use crate::listing::ListRow;
 use crate::row::{VerdictRow, put_head};
-use serde::Serialize;
+use json::Writer;
 use std::alloc::{AllocError, Global};
 use std::io;
 use std::io::{ErrorKind, Write};
@@ -30,9 +31,6 @@ pub enum PrintFault {
     /// Memory was refused.
     #[error(transparent)]
     Alloc(#[from(alloc)] AllocError),
-    /// There is no JSON of it, since memory was refused.
-    #[error(transparent)]
-    Json(#[from] serde_json::Error),
     /// There are more transfers than can be counted.
     #[error("too many transfers")]
     TooMany,
@@ -64,12 +62,29 @@ impl<W: Write + Drop> RowPrinter<W> {
 
     /// Prints a row, behind the heads if it is the first one.
     pub fn print(&mut self, alloc: Global, row: &VerdictRow<'_>) -> Result<(), PrintFault>
-        ensures { Prints W.Write.contents self.old self.new result (row.now ∷ []) }
+        ensures { Prints W.Write.contents verdict_lines self.old self.new result (row.now ∷ []) }
     {
         let lines = self.form.lines(alloc, row, self.is_headed)?;
-        self.is_headed = true;
-        write_whole(&mut self.writer, lines.as_bytes())?;
+        self.put(lines.as_slice())?;
         Ok(())
+    }
+
+    /// Prints a row of a list, behind the heads if it is the first one.
+    pub fn print_listed(&mut self, alloc: Global, row: &ListRow) -> Result<(), PrintFault>
+        ensures { Prints W.Write.contents list_lines self.old self.new result (row.now ∷ []) }
+    {
+        let lines = row.lines(alloc, self.form, self.is_headed)?;
+        self.put(lines.as_slice())?;
+        Ok(())
+    }
+
+    /// Writes the lines of a row, before which heads stand then.
+    fn put(&mut self, lines: &[u8]) -> io::Result<()>
+        ensures lines { WritesWhole (W.Write.contents self.old.writer) (W.Write.contents self.new.writer) result lines.now }
+        ensures rest { self.new ≡ record self.old { writer = self.new.writer; is_headed = true } }
+    {
+        self.is_headed = true;
+        write_whole(&mut self.writer, lines)
     }
 }
 
@@ -80,12 +95,12 @@ impl Form {
         alloc: Global,
         row: &VerdictRow<'_>,
         is_headed: bool,
-    ) -> Result<String, PrintFault>
-        ensures { IfOk result (λ lines. IsPrinted self is_headed row.now (string_bytes lines)) }
+    ) -> Result<Vec<u8>, AllocError>
+        ensures { IfOk result (λ lines. lines.items ≡ verdict_lines self is_headed row.now) }
     {
         match self {
-            Form::Words(width) => Ok(words_of(alloc, row, width, is_headed)?),
-            Form::Json => json_of(alloc, &row.object(alloc)?),
+            Form::Words(width) => words_of(alloc, row, width, is_headed),
+            Form::Json => json_of(alloc, row),
         }
     }
 }
@@ -96,8 +111,8 @@ fn words_of(
     row: &VerdictRow<'_>,
     width: usize,
     is_headed: bool,
-) -> Result<String, AllocError>
-    ensures { IfOk result (λ lines. string_bytes lines ≡ heads (Words width) is_headed ++ (row_text width row.now ++ codes "\n")) }
+) -> Result<Vec<u8>, AllocError>
+    ensures { IfOk result (λ lines. lines.items ≡ verdict_lines (Words width) is_headed row.now) }
 {
     let mut lines = String::new(alloc);
     if !is_headed {
@@ -105,15 +120,17 @@ fn words_of(
     }
     row.put(alloc, &mut lines, width)?;
     lines.push('\n')?;
-    Ok(lines)
+    Ok(lines.into_bytes())
 }
 
-/// An object's line.
-fn json_of<T: Serialize>(alloc: Global, object: &T) -> Result<String, PrintFault>
-    ensures { IfOk result (λ line. (object : List ℕ) × (object ≡ print (tokens object)) × (string_bytes line ≡ object ++ codes "\n")) }
+/// The line of the row's object.
+fn json_of(alloc: Global, row: &VerdictRow<'_>) -> Result<Vec<u8>, AllocError>
+    ensures { IfOk result (λ line. line.items ≡ json_text (row_json row.now) ++ codes "\n") }
 {
-    let mut line = serde_json::to_string(alloc, object)?;
-    line.push('\n')?;
+    let mut out = Writer::new(Vec::new(alloc));
+    row.put_object(alloc, &mut out)?;
+    let mut line = out.into_inner();
+    line.push(b'\n')?;
     Ok(line)
 }
 

@@ -11,7 +11,7 @@ ghost use Rattle.audit_recording.specs.Session.Over.{IsOldestOver};
 ghost use Rattle.audit_recording.specs.declared.rows.row.Row.{Row as RowKind};
 ghost use Rattle.audit_rows.specs.Judging.{IsToldOf};
 ghost use Rattle.audit_rows.specs.Viewing.{said_in};
-ghost use Rattle.tftp_rows.specs.Telling.{AreJudgedAt, PrintsWith, Tells, TellsNext, TellsPlaces, TellsTurns, places_of, worst_at};
+ghost use Rattle.tftp_rows.specs.Telling.{AreJudgedAt, JudgesAs, PrintsWith, Tells, TellsNext, TellsPlaces, TellsTurns, places_of, worst_at};
 
 use crate::printing::{Form, PrintFault, RowPrinter};
 use crate::row::VerdictRow;
@@ -69,8 +69,9 @@ impl<'a, W: Write + Drop> Teller<'a, W> {
 
     /// Tells the transfers of which all is known, from the oldest on.
     pub fn tell_over(&mut self, alloc: Global, session: &mut Session) -> Result<(), PrintFault>
-        ensures { (named out : List ℕ) (history : List Step) (carried : List Carried) (s : Noticed) → IsSessionAfter session.old named out history carried s
-            → OnOk result (TellsTurns W.Write.contents (λ before. IsOldestOver before named carried s) (record self.old { may_lose = session.old.notes.may_lose }) self.new session.new named out history carried s) }
+        ensures turns { (named out : List ℕ) (history : List Step) (carried : List Carried) (s : Noticed) → IsSessionAfter session.old named out history carried s
+            → OnOk result (TellsTurns W.Write.contents (λ before. IsOldestOver before named carried s × JudgesAs session.old before) (record self.old { may_lose = session.old.notes.may_lose }) self.new session.new named out history carried s) }
+        ensures judging { JudgesAs session.old session.new }
     {
         self.may_lose = session.notes.may_lose;
         for _ in 0..session.count() {
@@ -88,6 +89,7 @@ impl<'a, W: Write + Drop> Teller<'a, W> {
         ensures told { (named out : List ℕ) (history : List Step) (carried : List Carried) (s : Noticed) → IsSessionAfter session.old named out history carried s
             → result ≡ Ok true → IsOldestOver session.old named carried s × TellsNext W.Write.contents self.old self.new session.old session.new named out history carried s }
         ensures nothing { result ≡ Ok false → self.new ≡ self.old }
+        ensures judging { JudgesAs session.old session.new }
         ensures same_session { (named out : List ℕ) (history : List Step) (carried : List Carried) (s : Noticed) → IsSessionAfter session.old named out history carried s
             → result ≡ Ok false → IsSessionAfter session.new named out history carried s }
     {
@@ -114,9 +116,10 @@ impl<'a, W: Write + Drop> Teller<'a, W> {
 
     /// Tells all transfers that were not told, where the recording has ended.
     pub fn tell_all(&mut self, alloc: Global, session: &mut Session) -> Result<(), PrintFault>
-        ensures { (named out : List ℕ) (history : List Step) (carried : List Carried) (s : Noticed) → IsSessionAfter session.old named out history carried s
-            → OnOk result ((turns : TellsTurns W.Write.contents (λ before. Unit {0}) self.old self.new session.new named out history carried s)
+        ensures turns { (named out : List ℕ) (history : List Step) (carried : List Carried) (s : Noticed) → IsSessionAfter session.old named out history carried s
+            → OnOk result ((turns : TellsTurns W.Write.contents (JudgesAs session.old) self.old self.new session.new named out history carried s)
             × ((n : ℕ) → (opened n (whole_of named carried) ≡ None) ⊎ (is_among n turns.left ≡ true))) }
+        ensures judging { JudgesAs session.old session.new }
     {
         for _ in 0..u64::MAX {
             if !self.tell_oldest(alloc, session)? {
@@ -133,6 +136,7 @@ impl<'a, W: Write + Drop> Teller<'a, W> {
         ensures told { (named out : List ℕ) (history : List Step) (carried : List Carried) (s : Noticed) → IsSessionAfter session.old named out history carried s
             → result ≡ Ok true → TellsNext W.Write.contents self.old self.new session.old session.new named out history carried s }
         ensures nothing { result ≡ Ok false → self.new ≡ self.old }
+        ensures judging { JudgesAs session.old session.new }
         ensures same_session { (named out : List ℕ) (history : List Step) (carried : List Carried) (s : Noticed) → IsSessionAfter session.old named out history carried s
             → result ≡ Ok false → IsSessionAfter session.new named out history carried s }
         ensures all { (named out : List ℕ) (history : List Step) (carried : List Carried) (s : Noticed) → IsSessionAfter session.old named out history carried s
@@ -207,7 +211,8 @@ impl<'a, W: Write + Drop> Teller<'a, W> {
 
     /// Whether a row is held back.
     fn waits(&self, row: &VerdictRow<'_>) -> bool
-        ensures { self.now.held.items ≢ [] → result ≡ true }
+        ensures behind { self.now.held.items ≢ [] → result ≡ true }
+        ensures none { self.now.held.items ≡ [] → self.now.may_lose ≡ false → result ≡ false }
     {
         !self.held.is_empty() || (self.may_lose && row.frame.is_some())
     }

@@ -2,7 +2,6 @@
 #![tactic(auto)]
 
 mod checking;
-mod lister;
 mod listing;
 mod reading;
 mod reasoned;

@@ -3,7 +3,7 @@
 use anyhow::Result;
 use audit_recording::session::Session;
 use std::io::Write;
-use tftp_rows::Teller;
+use tftp_rows::{Lister, Teller};
 
 /// Tells transfers, each as soon as nothing that comes later changes what is told of it.
 pub trait Telling {
@@ -34,6 +34,28 @@ impl<W: Write + Drop> Telling for Teller<'_, W> {
 
     fn tell_all(&mut self, rt: HostRuntime, session: &mut Session) -> Result<()> {
         Ok(Teller::tell_all(self, rt.alloc(), session)?)
+    }
+
+    fn told(&self) -> u64 {
+        self.told
+    }
+
+    fn fail(&mut self) {
+        self.status = 2;
+    }
+}
+
+impl<W: Write + Drop> Telling for Lister<W> {
+    fn tell_over(&mut self, rt: HostRuntime, session: &mut Session) -> Result<()> {
+        Ok(self.list_over(rt.alloc(), session)?)
+    }
+
+    fn tell_held(&mut self, _rt: HostRuntime, _session: &Session) -> Result<()> {
+        Ok(())
+    }
+
+    fn tell_all(&mut self, rt: HostRuntime, session: &mut Session) -> Result<()> {
+        Ok(self.list_all(rt.alloc(), session)?)
     }
 
     fn told(&self) -> u64 {

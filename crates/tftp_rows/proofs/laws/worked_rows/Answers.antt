@@ -1,4 +1,4 @@
-use Rattle.std.proofs.Common.{◌≡◌, ℕ, List, ap, codes, refl}
+use Rattle.std.proofs.Common.{◌≡◌, ap, codes, refl}
 use Rattle.std.specs.Fmt.{digits}
 use Rattle.tftp_packet.specs.{Server}
 use Rattle.audit_recording.specs.Endings.Told.{Sent}

@@ -1,5 +1,14 @@
-use Rattle.tftp_rows.proofs.TellingLemmas.{tells_err, with_none}
+use Rattle.std.proofs.Common.{◌∙◌, refl, sym, true≢false}
+use Rattle.tftp_rows.proofs.TellingLemmas.{none_there, tells_err, tells_held, tells_now, with_none}
 use Rattle.tftp_rows.proofs.teller.Teller.put.Goals as goal
 
 pub returns-in_err-push-clause-rows : goal.returns-in_err-push-clause-rows
 returns-in_err-push-clause-rows g c = tells_err g.W.Write.contents c.args.self.now _ c.from_residual.result _ c.from_residual.ensures.0 (with_none g.W.Write.contents _ _ _)
+
+pub returns-then-waits-clause-rows : goal.returns-then-waits-clause-rows
+returns-then-waits-clause-rows g c =
+    tells_held g.W.Write.contents c.args.self.now _ c.args.row refl refl refl refl refl c.in_ok-push.ensures.items (λ sure none. true≢false (sym c.if-waits.true ∙ c.waits.ensures.none none sure))
+
+pub returns-clause-rows : goal.returns-clause-rows
+returns-clause-rows g c =
+    tells_now g.W.Write.contents c.args.self.now c.print.new.self c.print.result c.args.row c.print.ensures.rest (none_there c.args.self.now.held.items c.waits.result c.waits.ensures.behind c.if-waits.false) c.print.ensures.prints

@@ -1,21 +1,28 @@
-use Rattle.std.proofs.Common.{Ok, ap}
+use Rattle.std.proofs.Common.{Ok, ap, refl, ◌∙◌}
+use Rattle.tftp_rows.specs.Telling.{JudgesAs}
 use Rattle.tftp_rows.proofs.TellingLemmas.{no_turn, turns_kept, turns_more}
 use Rattle.tftp_rows.proofs.teller.Teller.tell_all.Goals as goal
 
 pub loop-init : goal.loop-init
-loop-init g c named out history carried s is = no_turn g.W.Write.contents (λ before. Unit {0}) _ c.args.session.now named out history carried s is
+loop-init g c = record {
+  turns = λ named out history carried s is. no_turn g.W.Write.contents (JudgesAs c.args.session.now) _ c.args.session.now named out history carried s is;
+  judging = refl;
+}
 
-pub returns-then-not-branch : goal.returns-then-not-branch
-returns-then-not-branch g c named out history carried s is =
-    let turns = c.loop.invariant named out history carried s is in (
-      turns_kept g.W.Write.contents (λ before. Unit {0}) _ c.loop.self c.tell_oldest.new.self c.loop.session c.tell_oldest.new.session named out history carried s turns
+pub returns-then-not-branch-clause-turns : goal.returns-then-not-branch-clause-turns
+returns-then-not-branch-clause-turns g c named out history carried s is =
+    let turns = c.loop.invariant.turns named out history carried s is in (
+      turns_kept g.W.Write.contents (JudgesAs c.args.session.now) _ c.loop.self c.tell_oldest.new.self c.loop.session c.tell_oldest.new.session named out history carried s turns
           (c.in_ok-tell_oldest.ensures.nothing (ap Ok c.if-not-branch.true))
           (c.in_ok-tell_oldest.ensures.same_session named turns.left history carried s turns.handed_out (ap Ok c.if-not-branch.true)),
       c.in_ok-tell_oldest.ensures.all named turns.left history carried s turns.handed_out (ap Ok c.if-not-branch.true),
     )
 
 pub loop-preserved : goal.loop-preserved
-loop-preserved g c named out history carried s is =
-    let turns = c.loop.invariant named out history carried s is in
-    let told = c.in_ok-tell_oldest.ensures.told named turns.left history carried s turns.handed_out (ap Ok c.if-not-branch.false) in
-    turns_more g.W.Write.contents (λ before. Unit {0}) _ c.loop.self c.tell_oldest.new.self c.loop.session c.tell_oldest.new.session named out history carried s turns tt told
+loop-preserved g c = record {
+  turns = λ named out history carried s is.
+      let turns = c.loop.invariant.turns named out history carried s is in
+      let told = c.in_ok-tell_oldest.ensures.told named turns.left history carried s turns.handed_out (ap Ok c.if-not-branch.false) in
+      turns_more g.W.Write.contents (JudgesAs c.args.session.now) _ c.loop.self c.tell_oldest.new.self c.loop.session c.tell_oldest.new.session named out history carried s turns c.loop.invariant.judging told;
+  judging = c.in_ok-tell_oldest.ensures.judging ∙ c.loop.invariant.judging;
+}

@@ -7,7 +7,7 @@ returns-in_err-row-clause-rows g c place told = places_err g.W.Write.contents _ 
 
 pub returns-clause-rows : goal.returns-clause-rows
 returns-clause-rows g c place told =
-    row_told g.W.Write.contents c.args.self.now _ _ c.put.result _ place c.in_ok-row.row refl refl refl refl refl (
+    row_told g.W.Write.contents c.args.self.now _ _ c.put.result _ place c.in_ok-row.row refl refl refl refl refl refl (
       c.args.told.now,
       told,
       record {

@@ -1,0 +1,47 @@
+use Rattle.std.proofs.Common.{[], refl, sym}
+use Rattle.audit_recording.specs.Session.Over.{IsOldestOver}
+use Rattle.tftp_rows.specs.Printing.{verdict_lines}
+use Rattle.tftp_rows.specs.Telling.{JudgesAs}
+use Rattle.tftp_rows.specs.Whole.{HasTold, HasToldAll}
+use Rattle.tftp_rows.proofs.PrintingLemmas.{prints_nothing}
+use Rattle.tftp_rows.proofs.WholeLemmas.{has_told, has_told_all, held_told, loses_too, told_in_turn, told_longer}
+use Rattle.tftp_rows.proofs.whole.recordings_are_told_in_order.Goals as goal
+
+pub returns-clause-begun : goal.returns-clause-begun
+returns-clause-begun g c begun judging named none number = record {
+  told = tt;
+  printed = [];
+  rows = sym none;
+  prints = record { printed = []; last = refl; prints = prints_nothing g.W.Write.contents verdict_lines begun.printer };
+  file = refl;
+  number = number;
+  dropped = refl;
+}
+
+pub returns-clause-read_on : goal.returns-clause-read_on
+returns-clause-read_on g c begun now judging named more all tellings h = record {
+  told = told_longer begun.file.now judging named more all tellings h.told;
+  printed = h.printed;
+  rows = h.rows;
+  prints = h.prints;
+  file = h.file;
+  number = h.number;
+  dropped = h.dropped;
+}
+
+pub returns-clause-told_over : goal.returns-clause-told_over
+returns-clause-told_over g c begun old new before after lose named history carried s tellings h turns =
+    told_in_turn g.W.Write.contents (λ b. IsOldestOver b named carried s × JudgesAs before b) named history carried s
+    (λ t ts. HasTold g.W.Write.contents begun t before.audit.judge.judging named carried ts)
+    (λ t u d e ts told holds step. has_told g.W.Write.contents begun t u d e before.audit.judge.judging named history carried s ts told holds.1 step)
+    turns.told (record old { may_lose = lose }) new tellings turns.left (loses_too g.W.Write.contents begun old lose _ named carried tellings h) turns.turns
+
+pub returns-clause-told_held : goal.returns-clause-told_held
+returns-clause-told_held g c begun old new dropped judging named all tellings h prints none is = held_told g.W.Write.contents begun old new dropped judging named all tellings h prints none is
+
+pub returns-clause-told_all : goal.returns-clause-told_all
+returns-clause-told_all g c begun old new dropped before after named history carried s tellings h turns =
+    told_in_turn g.W.Write.contents (JudgesAs before) named history carried s
+    (λ t ts. HasToldAll g.W.Write.contents begun t dropped before.audit.judge.judging named carried ts)
+    (λ t u d e ts told holds step. has_told_all g.W.Write.contents begun t u dropped d e before.audit.judge.judging named history carried s ts told holds step)
+    turns.told old new tellings turns.left h turns.turns

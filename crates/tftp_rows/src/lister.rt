@@ -1,0 +1,105 @@
+//! Transfers are listed, each in a row.
+
+ghost use Rattle.std.specs.Prelude.{◌≡◌, ◌⊎◌, ℕ, List, None, Ok, OnOk, false, true};
+ghost use Rattle.net_udp.specs.Recording.{Step};
+ghost use Rattle.audit_recording.specs.Blame.Frames.{Carried, whole_of};
+ghost use Rattle.audit_recording.specs.Judges.{is_among, opened};
+ghost use Rattle.audit_recording.specs.Session.Kept.{IsSessionAfter};
+ghost use Rattle.audit_recording.specs.Session.Noted.{Noticed};
+ghost use Rattle.audit_recording.specs.Session.Over.{IsOldestOver};
+ghost use Rattle.tftp_rows.specs.Listed.{ListsNext, ListsTurns};
+ghost use Rattle.tftp_rows.specs.declared.listing.ListRow.{ListRow as ListRowKind};
+
+use crate::listing::ListRow;
+use crate::printing::{Form, PrintFault, RowPrinter};
+use audit_recording::progress::read_until;
+use audit_recording::session::Session;
+use std::alloc::Global;
+use std::io::Write;
+
+/// Lists transfers, each as soon as nothing that comes later changes what is told of it.
+#[derive(Drop)]
+pub struct Lister<W: Drop> {
+    printer: RowPrinter<W>,
+    /// How many transfers were listed.
+    pub told: u64,
+    /// 0, or 2 after a fault.
+    pub status: u8,
+}
+
+impl<W: Write + Drop> Lister<W> {
+    /// Nothing was listed.
+    pub fn new(writer: W, form: Form) -> Self
+        ensures printer { result.printer ≡ record { writer = writer; form = form; is_headed = false } }
+        ensures told { result.told ≡ 0 }
+        ensures status { result.status ≡ 0 }
+    {
+        Lister {
+            printer: RowPrinter::new(writer, form),
+            told: 0,
+            status: 0,
+        }
+    }
+
+    /// Lists the transfers of which all is known, from the oldest on.
+    pub fn list_over(&mut self, alloc: Global, session: &mut Session) -> Result<(), PrintFault>
+        ensures { (named out : List ℕ) (history : List Step) (carried : List Carried) (s : Noticed) → IsSessionAfter session.old named out history carried s
+            → OnOk result (ListsTurns W.Write.contents (λ before. IsOldestOver before named carried s) self.old self.new session.new named out history carried s) }
+    {
+        for _ in 0..session.count() {
+            if !self.list_first_over(alloc, session)? {
+                return Ok(());
+            }
+        }
+        Ok(())
+    }
+
+    /// Lists the oldest transfer, if nothing that comes later changes what is told of it; whether it did.
+    fn list_first_over(&mut self, alloc: Global, session: &mut Session) -> Result<bool, PrintFault>
+        ensures told { (named out : List ℕ) (history : List Step) (carried : List Carried) (s : Noticed) → IsSessionAfter session.old named out history carried s
+            → result ≡ Ok true → IsOldestOver session.old named carried s × ((row : ListRowKind) × ListsNext W.Write.contents self.old self.new row session.new named out history carried s) }
+        ensures nothing { result ≡ Ok false → self.new ≡ self.old }
+        ensures same_session { (named out : List ℕ) (history : List Step) (carried : List Carried) (s : Noticed) → IsSessionAfter session.old named out history carried s
+            → result ≡ Ok false → IsSessionAfter session.new named out history carried s }
+    {
+        if session.is_first_over() {
+            return self.list_oldest(alloc, session);
+        }
+        Ok(false)
+    }
+
+    /// Lists all transfers that were not listed, where the recording has ended.
+    pub fn list_all(&mut self, alloc: Global, session: &mut Session) -> Result<(), PrintFault>
+        ensures { (named out : List ℕ) (history : List Step) (carried : List Carried) (s : Noticed) → IsSessionAfter session.old named out history carried s
+            → OnOk result ((turns : ListsTurns W.Write.contents (λ before. Unit {0}) self.old self.new session.new named out history carried s)
+            × ((n : ℕ) → (opened n (whole_of named carried) ≡ None) ⊎ (is_among n turns.left ≡ true))) }
+    {
+        for _ in 0..u64::MAX {
+            if !self.list_oldest(alloc, session)? {
+                return Ok(());
+            }
+        }
+        Err(PrintFault::TooMany)
+    }
+
+    /// Lists the oldest transfer, if there is one; whether there was. It stays a call, since the room of a transfer that is
+    /// handed out would be cleared for each datagram after which none is over.
+    #[inline(never)]
+    fn list_oldest(&mut self, alloc: Global, session: &mut Session) -> Result<bool, PrintFault>
+        ensures told { (named out : List ℕ) (history : List Step) (carried : List Carried) (s : Noticed) → IsSessionAfter session.old named out history carried s
+            → result ≡ Ok true → (row : ListRowKind) × ListsNext W.Write.contents self.old self.new row session.new named out history carried s }
+        ensures nothing { result ≡ Ok false → self.new ≡ self.old }
+        ensures same_session { (named out : List ℕ) (history : List Step) (carried : List Carried) (s : Noticed) → IsSessionAfter session.old named out history carried s
+            → result ≡ Ok false → IsSessionAfter session.new named out history carried s }
+        ensures all { (named out : List ℕ) (history : List Step) (carried : List Carried) (s : Noticed) → IsSessionAfter session.old named out history carried s
+            → result ≡ Ok false → (n : ℕ) → (opened n (whole_of named carried) ≡ None) ⊎ (is_among n out ≡ true) }
+    {
+        let Some(ended) = session.pop() else {
+            return Ok(false);
+        };
+        self.told = self.told.saturating_add(1);
+        let row = ListRow::of(alloc, self.told, &ended.trail, read_until(session))?;
+        self.printer.print_listed(alloc, &row)?;
+        Ok(true)
+    }
+}

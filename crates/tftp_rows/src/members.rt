@@ -1,0 +1,79 @@
+//! Members of JSON objects (RFC 8259), each a name and a value.
+
+ghost use Rattle.std.specs.Prelude.{OnOk, option_map, string_bytes};
+ghost use Rattle.json.specs.Json.{boolean, string};
+ghost use Rattle.tftp_rows.specs.Endings.{role_name as name_of};
+ghost use Rattle.tftp_rows.specs.Members.{AddsMember, count_json, count_or_null, flag_or_null, text_or_null};
+
+use crate::conclusion::role_name;
+use json::Writer;
+use std::alloc::AllocError;
+use tftp_packet::End;
+
+/// Puts a member that is a text.
+pub fn put_text(out: &mut Writer, name: &str, text: &str) -> Result<(), AllocError>
+    ensures { OnOk result (AddsMember out.old out.new name.now (string text.now)) }
+{
+    out.key(name)?;
+    out.string(text)
+}
+
+/// Puts a member that is a text or null.
+pub fn put_some_text(out: &mut Writer, name: &str, text: &Option<String>) -> Result<(), AllocError>
+    ensures { OnOk result (AddsMember out.old out.new name.now (text_or_null (option_map string_bytes text.now))) }
+{
+    out.key(name)?;
+    match text {
+        Some(text) => out.string(text.as_str()),
+        None => out.null(),
+    }
+}
+
+/// Puts a member that is an end's word or null.
+pub fn put_some_role(out: &mut Writer, name: &str, role: Option<End>) -> Result<(), AllocError>
+    ensures { OnOk result (AddsMember out.old out.new name.now (text_or_null (option_map name_of role))) }
+{
+    out.key(name)?;
+    match role {
+        Some(role) => out.string(role_name(role)),
+        None => out.null(),
+    }
+}
+
+/// Puts a member that is a number.
+pub fn put_count(out: &mut Writer, name: &str, count: u64) -> Result<(), AllocError>
+    ensures { OnOk result (AddsMember out.old out.new name.now (count_json count)) }
+{
+    out.key(name)?;
+    out.u64(count)
+}
+
+/// Puts a member that is a number or null.
+pub fn put_some_count(out: &mut Writer, name: &str, count: Option<u64>) -> Result<(), AllocError>
+    ensures { OnOk result (AddsMember out.old out.new name.now (count_or_null count)) }
+{
+    out.key(name)?;
+    match count {
+        Some(count) => out.u64(count),
+        None => out.null(),
+    }
+}
+
+/// Puts a member that is true or false.
+pub fn put_flag(out: &mut Writer, name: &str, flag: bool) -> Result<(), AllocError>
+    ensures { OnOk result (AddsMember out.old out.new name.now (boolean flag)) }
+{
+    out.key(name)?;
+    out.boolean(flag)
+}
+
+/// Puts a member that is true, false or null.
+pub fn put_some_flag(out: &mut Writer, name: &str, flag: Option<bool>) -> Result<(), AllocError>
+    ensures { OnOk result (AddsMember out.old out.new name.now (flag_or_null flag)) }
+{
+    out.key(name)?;
+    match flag {
+        Some(flag) => out.boolean(flag),
+        None => out.null(),
+    }
+}

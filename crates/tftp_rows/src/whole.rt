@@ -1,0 +1,37 @@
+//! What is told of a whole recording, by the calls that a teller gets for it. Each law is the contract of a function that does
+//! nothing.
+
+ghost use Rattle.std.specs.Prelude.{◌≡◌, ◌++◌, [], ℕ, Bool, List, false};
+ghost use Rattle.net_udp.specs.Recording.{Step};
+ghost use Rattle.audit_recording.specs.Blame.Frames.{Carried};
+ghost use Rattle.audit_recording.specs.Session.Noted.{Noticed};
+ghost use Rattle.audit_recording.specs.Session.Over.{IsOldestOver};
+ghost use Rattle.audit_recording.specs.declared.judges.judging.Judging.{Judging as JudgingKind};
+ghost use Rattle.audit_recording.specs.declared.session.session.Session.{Session as SessionKind};
+ghost use Rattle.tftp_rows.specs.Telling.{JudgesAs, PrintsAllWith, TellsTurns};
+ghost use Rattle.tftp_rows.specs.Whole.{HasTold, HasToldAll, Telling, numbers_of};
+ghost use Rattle.tftp_rows.specs.declared.teller.Teller.{Teller as TellerKind};
+
+use std::io::Write;
+
+/// The text that is printed of a recording is the rows of its transfers, each once and in order: so it is when the file is begun
+/// (`begin`), stays so as more is read, and with each call that tells transfers (`tell_over`), what was held back (`tell_held`)
+/// and all the rest (`tell_all`), which leaves none out.
+pub fn recordings_are_told_in_order<W: Write + Drop>()
+    ensures begun { (begun : TellerKind W) (judging : JudgingKind) (named : List ℕ) → begun.held.items ≡ [] → begun.told ≡ 0 → HasTold W.Write.contents begun begun judging named [] [] }
+    ensures read_on { (begun now : TellerKind W) (judging : JudgingKind) (named : List ℕ) (more all : List Carried) (tellings : List Telling)
+        → HasTold W.Write.contents begun now judging named all tellings → HasTold W.Write.contents begun now judging named (more ++ all) tellings }
+    ensures told_over { (begun old new : TellerKind W) (before after : SessionKind) (lose : Bool) (named : List ℕ) (history : List Step) (carried : List Carried) (s : Noticed) (tellings : List Telling)
+        → HasTold W.Write.contents begun old before.audit.judge.judging named carried tellings
+        → (turns : TellsTurns W.Write.contents (λ b. IsOldestOver b named carried s × JudgesAs before b) (record old { may_lose = lose }) new after named (numbers_of tellings) history carried s)
+        → (more : List Telling) × HasTold W.Write.contents begun new before.audit.judge.judging named carried more × (turns.left ≡ numbers_of more) }
+    ensures told_held { (begun old new : TellerKind W) (dropped : ℕ) (judging : JudgingKind) (named : List ℕ) (all : List Carried) (tellings : List Telling)
+        → HasTold W.Write.contents begun old judging named all tellings
+        → PrintsAllWith W.Write.contents dropped old.printer new.printer old.held.items → new.held.items ≡ []
+        → new ≡ record old { printer = new.printer; held = new.held; may_lose = false; dropped = dropped }
+        → HasToldAll W.Write.contents begun new dropped judging named all tellings }
+    ensures told_all { (begun old new : TellerKind W) (dropped : ℕ) (before after : SessionKind) (named : List ℕ) (history : List Step) (carried : List Carried) (s : Noticed) (tellings : List Telling)
+        → HasToldAll W.Write.contents begun old dropped before.audit.judge.judging named carried tellings
+        → (turns : TellsTurns W.Write.contents (JudgesAs before) old new after named (numbers_of tellings) history carried s)
+        → (more : List Telling) × HasToldAll W.Write.contents begun new dropped before.audit.judge.judging named carried more × (turns.left ≡ numbers_of more) }
+{}
