@@ -183,7 +183,7 @@ class Sent(OverLoopback):
         came = folder / "client" / LARGE
         self.check(f"{case.name}, came over", came.exists() and came.read_bytes() == IMAGE)
         for end in ("client", "server"):
-            words = [TRANSFERS.path, "text", "-", "1", end]
+            words = [TRANSFERS.path, "text", "1", end, "-"]
             text = subprocess.run(words, input=recording.read_bytes(), capture_output=True, timeout=120).stdout
             accepted = f"accepted get octet blocks {BLOCKS} bytes {len(IMAGE)}\n".encode()
             by = {given: said(text, "check", "--rollover", given) for given in GIVEN}
