@@ -234,6 +234,10 @@ class Launchers(Checks):
         for its in (("check",), ("check", "-"), ("check", "--")):
             got = self.scratch.run(*its, script=launcher, given="given")
             self.check(f"installed, {its}", got == (f"{text}: 1 words check: given\n", "", 0, 0), got)
+        for words in (("check", "--rollover", "1"), ("check", "--rollover=1", "-"), ("check", "--rollover", "1", "--")):
+            got = self.scratch.run(*words, script=launcher, given="given")
+            holds = got == (f"{text}: 3 words check --rollover 1: given\n", "", 0, 0)
+            self.check(f"installed, {words}", holds, got)
         got = self.scratch.run("x", "y", script=launcher, given="given")
         self.check("installed, x y", got == (f"{text}: 2 words x y: given\n", HINT, 2, 0), got)
         got = self.scratch.run("check", capture, script=AUDIT.name, folder=folder, on_path=launcher.parent)
@@ -270,7 +274,16 @@ class Launchers(Checks):
         for count in (2, 3):
             got = self.scratch.run("show", *[example] * count, script=script, given="other")
             self.refuses(f"{count} files", got, f"tftp-audit: 'show' takes one file, not {count}\n")
-        usage = "\nUsage: tftp-audit <COMMAND> [FILE]\n"
+        for words, message in (
+            (("check", "--rollover"), "--rollover takes 0 or 1, not ''"),
+            (("check", "--rollover=2"), "--rollover takes 0 or 1, not '2'"),
+            (("extract", "--rollover", "x", example), "--rollover takes 0 or 1, not 'x'"),
+            (("show", "--rollover", "0"), "'show' takes no --rollover: check, extract and count do"),
+            (("count", "--rollover", "1", example, example), "'count' takes one file, not 2"),
+        ):
+            got = self.scratch.run(*words, script=script)
+            self.refuses(f"{script.name} {words}", got, f"tftp-audit: {message}\n")
+        usage = "\nUsage: tftp-audit <COMMAND> [--rollover <N>] [FILE]\n"
         for words in (["--help"], ["-h"], ["check", "--help"], ["show", "-h"]):
             output, *others = self.scratch.run(*words, script=script)
             is_whole = usage in output and all(f"\n  {command} " in output for command in COMMANDS)
