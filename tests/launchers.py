@@ -274,15 +274,16 @@ class Launchers(Checks):
         for count in (2, 3):
             got = self.scratch.run("show", *[example] * count, script=script, given="other")
             self.refuses(f"{count} files", got, f"tftp-audit: 'show' takes one file, not {count}\n")
-        for words, message in (
+        wrong: tuple[tuple[tuple[Word, ...], str], ...] = (
             (("check", "--rollover"), "--rollover takes 0 or 1, not ''"),
             (("check", "--rollover=2"), "--rollover takes 0 or 1, not '2'"),
             (("extract", "--rollover", "x", example), "--rollover takes 0 or 1, not 'x'"),
             (("show", "--rollover", "0"), "'show' takes no --rollover: check, extract and count do"),
             (("count", "--rollover", "1", example, example), "'count' takes one file, not 2"),
-        ):
-            got = self.scratch.run(*words, script=script)
-            self.refuses(f"{script.name} {words}", got, f"tftp-audit: {message}\n")
+        )
+        for its, message in wrong:
+            got = self.scratch.run(*its, script=script)
+            self.refuses(f"{script.name} {its}", got, f"tftp-audit: {message}\n")
         usage = "\nUsage: tftp-audit <COMMAND> [--rollover <N>] [FILE]\n"
         for words in (["--help"], ["-h"], ["check", "--help"], ["show", "-h"]):
             output, *others = self.scratch.run(*words, script=script)
