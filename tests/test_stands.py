@@ -1,5 +1,5 @@
-"""Whether what is refused between the ends is so whatever datagrams were not recorded, by its rule: each expected value
-is set by hand, and the rules that stand are those of a list that is written down here."""
+"""Whether what is refused between the ends is so whatever datagrams were not recorded: each expected value is set by
+hand."""
 from __future__ import annotations
 
 import json
@@ -15,6 +15,8 @@ from recorded import Datagram
 OUT, BACK = (C, 40_000, S, 41_000), (S, 41_000, C, 40_000)
 ASKED = read("a", 40_000, 41_000)[0]
 FULL, CHANGED = Datagram(*BACK, data(1, b"." * 512)[0]), Datagram(*BACK, data(1, b"!" * 512)[0])
+
+LAST = Datagram(*BACK, data(1, b"x")[0])
 
 
 def sent(payload: bytes) -> Datagram:
@@ -36,6 +38,10 @@ CASES: tuple[tuple[str, list[Datagram], int | None, bool | None], ...] = (
     ("an OACK of what was not asked for", [ASKED, answered(oack(blksize=1024)[0])], 13, True),
     ("another ERROR", [ASKED, FULL, sent(error(3, "full")[0]), sent(error(2, "no")[0])], 7, True),
     ("an ACK ahead", [ASKED, FULL, sent(ack(3)[0])], 26, False),
+    # nothing is agreed, since nothing was asked for: blocks have 512 bytes, and one with fewer is the last
+    ("a block longer than any", [ASKED, answered(data(1, b"." * 600)[0])], 21, True),
+    ("a block behind the last", [ASKED, LAST, sent(ack(1)[0]), answered(data(2, b"y")[0])], 21, True),
+    ("an ACK of a block behind the last", [ASKED, LAST, sent(ack(1)[0]), sent(ack(2)[0])], 26, True),
     ("a block beyond the window", [ASKED, FULL, sent(ack(1)[0]), answered(data(3, b"x")[0])], 22, False),
 )
 
