@@ -15,7 +15,6 @@ from recorded import Datagram
 OUT, BACK = (C, 40_000, S, 41_000), (S, 41_000, C, 40_000)
 ASKED = read("a", 40_000, 41_000)[0]
 FULL, CHANGED = Datagram(*BACK, data(1, b"." * 512)[0]), Datagram(*BACK, data(1, b"!" * 512)[0])
-
 LAST = Datagram(*BACK, data(1, b"x")[0])
 
 
