@@ -1,7 +1,8 @@
 -- A recording that is read frame by frame. Lists have the newest first.
-use Rattle.std.specs.Prelude.{◌≡◌, ℕ, false, List}
-use Rattle.net_pcap.specs.{lost_of}
-use Rattle.net_udp.specs.Recording.{RecordingState, StandsFor, Step}
+use Rattle.std.specs.Prelude.{◌≡◌, ◌⊎◌, ℕ, false, List, Some}
+use Rattle.net_pcap.specs.{PcapFault, lost_of}
+use Rattle.net_streams.specs.{Standing}
+use Rattle.net_udp.specs.Recording.{RecordingState, StandsFor, Step, standing_of}
 use Rattle.audit_recording.specs.Audit.Audited.{AuditsAfter}
 use Rattle.audit_recording.specs.Blame.Frames.{Carried, datagrams_of}
 use Rattle.audit_recording.specs.Session.Noted.{AreNotesOf, Noticed, frames_in, giving_up}
@@ -12,6 +13,11 @@ use Rattle.audit_recording.specs.declared.session.session.Session.{Session}
 -- these are the frames of what was read so far
 abbrev pub HasRead : RecordingState → List Step → Type 0
 HasRead recording history = (bytes : List ℕ) × StandsFor recording bytes history
+
+-- it was read to its end, or to a fault, which is noted
+abbrev pub HasEnded : RecordingState → Session → Type 0
+HasEnded recording session =
+    (standing_of recording ≡ Standing.Over) ⊎ ((fault : PcapFault) × (standing_of recording ≡ Standing.Failed fault) × (session.notes.fault ≡ Some fault))
 
 -- The recording is read no further: its transfers are as they were, and the fragments that still wait have waited in vain. How many packets
 -- the recorder lost is known.

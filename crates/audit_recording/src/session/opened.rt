@@ -1,13 +1,12 @@
 //! Recordings are read.
 
-ghost use Rattle.std.specs.Prelude.{◌≡◌, ◌⊎◌, [], ℕ, List, IfOk, OnOk, Ok, Some, false};
-ghost use Rattle.net_pcap.specs.{PcapFault as Fault};
+ghost use Rattle.std.specs.Prelude.{◌≡◌, [], ℕ, List, IfOk, OnOk, Ok, false};
 ghost use Rattle.net_streams.specs.{Standing};
 ghost use Rattle.net_udp.specs.Recording.{Step, standing_of};
 ghost use Rattle.audit_recording.specs.Blame.Frames.{Carried};
 ghost use Rattle.audit_recording.specs.Session.Kept.{IsSessionAfter, ReadsOn};
 ghost use Rattle.audit_recording.specs.Session.Noted.{Noticed};
-ghost use Rattle.audit_recording.specs.Session.Opened.{HasRead, IsSessionClosed};
+ghost use Rattle.audit_recording.specs.Session.Opened.{HasEnded, HasRead, IsSessionClosed};
 
 use crate::session::fault::ReadFault;
 use crate::session::headed::{Headed, hint};
@@ -54,9 +53,7 @@ impl<R: Read + Drop> Opened<R> {
             → HasRead self.old.recording history → IsSessionAfter session.old named out history carried s
             → ReadsOn (λ frames datagrams noticed. HasRead self.new.recording frames
             × IsSessionAfter session.new named out frames datagrams noticed) history carried s result }
-        ensures ends { result ≡ Ok false
-            → (standing_of self.new.recording ≡ Standing.Over)
-            ⊎ ((fault : Fault) × (standing_of self.new.recording ≡ Standing.Failed fault) × (session.new.notes.fault ≡ Some fault)) }
+        ensures ends { result ≡ Ok false → HasEnded self.new.recording session.new }
         ensures judging { session.new.audit.judge.judging ≡ session.old.audit.judge.judging }
     {
         session.notes.may_lose = self.may_lose;
