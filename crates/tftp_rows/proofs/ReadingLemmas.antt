@@ -1,5 +1,5 @@
 -- What is read and told of a recording, frame by frame.
-use Rattle.std.proofs.Common.{◌≡◌, ◌∷◌, ◌++◌, [], ℕ, Bool, true, false, List, Option, Result, Ok, inl, inr, refl, sym, subst}
+use Rattle.std.proofs.Common.{◌≡◌, ◌∷◌, [], ℕ, Bool, true, false, List, Option, Ok, inl, inr, sym, subst}
 use Rattle.std.proofs.lemmas.Bool.{false≢true}
 use Rattle.net_udp.specs.Recording.{RecordingState, Step}
 use Rattle.audit_recording.specs.Blame.Frames.{Carried}
