@@ -1,5 +1,6 @@
 pub mod Intact
 pub mod Noting
+pub mod Opened
 pub mod Over
 pub mod Recording
 pub mod Worked

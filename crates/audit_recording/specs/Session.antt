@@ -4,4 +4,5 @@ pub mod Recording
 pub mod Trails
 pub mod Kept
 pub mod Over
+pub mod Opened
 pub mod Worked

@@ -1,9 +1,14 @@
 -- What is told of a whole recording: the rows of its transfers, each once. Lists of what a recording has, and of the transfers that were told,
 -- have the newest first; rows stand in the order in which they are told.
 use Rattle.std.specs.Prelude.{◌≡◌, ◌^◌, ◌-◌, ◌++◌, ℕ, false, List, [], ◌∷◌, length, min, Option}
+use Rattle.net_udp.specs.Recording.{RecordingState, Step}
 use Rattle.audit_flows.specs.{Transfer}
 use Rattle.audit_recording.specs.Blame.Frames.{Carried}
+use Rattle.audit_recording.specs.Session.Kept.{IsSessionAfter}
+use Rattle.audit_recording.specs.Session.Noted.{Noticed}
+use Rattle.audit_recording.specs.Session.Opened.{HasRead}
 use Rattle.audit_recording.specs.declared.judges.judging.Judging.{Judging}
+use Rattle.audit_recording.specs.declared.session.session.Session.{Session}
 use Rattle.audit_rows.specs.{IsJudgedOf}
 use Rattle.audit_rows.specs.declared.judged.Judged.{Judged}
 use Rattle.tftp_rows.specs.Printing.{PrintsAll, verdict_lines}
@@ -74,3 +79,17 @@ module _ {W : Type 0} (contents : W → Option (List ℕ)) where
     pub file : now.file ≡ begun.file
     pub number : now.told ≡ counted tellings
     pub dropped_now : now.dropped ≡ dropped
+
+  -- ---- while it is read
+
+  -- These frames of the recording were read, the session is the one after them, and of their transfers these were told, since the file was begun,
+  -- and handed out.
+  pub record IsReadAndTold (begun now : Teller W) (recording : RecordingState) (session : Session) (named : List ℕ) (history : List Step) (carried : List Carried) (s : Noticed) (tellings : List Telling) : Type 0 where
+    pub read : HasRead recording history
+    pub session_is : IsSessionAfter session named (numbers_of tellings) history carried s
+    pub has_told : HasTold begun now session.audit.judge.judging named carried tellings
+
+  -- the same of whatever was read and told
+  abbrev pub IsReadOn : Teller W → Teller W → RecordingState → Session → List ℕ → Type 0
+  IsReadOn begun now recording session named =
+      (history : List Step) × (carried : List Carried) × (s : Noticed) × (tellings : List Telling) × IsReadAndTold begun now recording session named history carried s tellings

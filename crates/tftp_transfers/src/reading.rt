@@ -52,24 +52,9 @@ fn read_from<R: Read + Drop, T: Telling>(
     teller: &mut T,
 ) -> Result<()> {
     let mut opened = Opened::begin(rt.alloc(), reader)?;
-    let read = read_frames(rt, &mut opened, session, teller);
+    let read = teller.tell_frames(rt, &mut opened, session);
     let closed = opened.close(rt.alloc(), session);
     read?;
     closed?;
-    Ok(())
-}
-
-fn read_frames<R: Read + Drop, T: Telling>(
-    rt: HostRuntime,
-    opened: &mut Opened<R>,
-    session: &mut Session,
-    teller: &mut T,
-) -> Result<()> {
-    for _ in 0..u64::MAX {
-        if !opened.next(rt.alloc(), session)? {
-            return Ok(());
-        }
-        teller.tell_over(rt, session)?;
-    }
     Ok(())
 }

@@ -1,14 +1,19 @@
 //! What tells the transfers of a recording, while it is read.
 
 use anyhow::Result;
-use audit_recording::session::Session;
-use std::io::Write;
-use tftp_rows::{Lister, Teller};
+use audit_recording::session::{Opened, Session};
+use std::io::{Read, Write};
+use tftp_rows::{Lister, Teller, tell_frames};
 
 /// Tells transfers, each as soon as nothing that comes later changes what is told of it.
 pub trait Telling {
-    /// Tells the transfers of which all is known, from the oldest on.
-    fn tell_over(&mut self, rt: HostRuntime, session: &mut Session) -> Result<()>;
+    /// Reads a recording to its end, and tells each transfer as soon as no datagram joins it any more.
+    fn tell_frames<R: Read + Drop>(
+        &mut self,
+        rt: HostRuntime,
+        opened: &mut Opened<R>,
+        session: &mut Session,
+    ) -> Result<()>;
 
     /// Tells what was held back, where the recording is read no further.
     fn tell_held(&mut self, rt: HostRuntime, session: &Session) -> Result<()>;
@@ -24,8 +29,13 @@ pub trait Telling {
 }
 
 impl<W: Write + Drop> Telling for Teller<'_, W> {
-    fn tell_over(&mut self, rt: HostRuntime, session: &mut Session) -> Result<()> {
-        Ok(Teller::tell_over(self, rt.alloc(), session)?)
+    fn tell_frames<R: Read + Drop>(
+        &mut self,
+        rt: HostRuntime,
+        opened: &mut Opened<R>,
+        session: &mut Session,
+    ) -> Result<()> {
+        Ok(tell_frames(rt.alloc(), opened, session, self)?)
     }
 
     fn tell_held(&mut self, rt: HostRuntime, session: &Session) -> Result<()> {
@@ -46,8 +56,19 @@ impl<W: Write + Drop> Telling for Teller<'_, W> {
 }
 
 impl<W: Write + Drop> Telling for Lister<W> {
-    fn tell_over(&mut self, rt: HostRuntime, session: &mut Session) -> Result<()> {
-        Ok(self.list_over(rt.alloc(), session)?)
+    fn tell_frames<R: Read + Drop>(
+        &mut self,
+        rt: HostRuntime,
+        opened: &mut Opened<R>,
+        session: &mut Session,
+    ) -> Result<()> {
+        for _ in 0..u64::MAX {
+            if !opened.next(rt.alloc(), session)? {
+                return Ok(());
+            }
+            self.list_over(rt.alloc(), session)?;
+        }
+        Ok(())
     }
 
     fn tell_held(&mut self, _rt: HostRuntime, _session: &Session) -> Result<()> {

@@ -1,5 +1,13 @@
 //! Recordings are read.
 
+ghost use Rattle.std.specs.Prelude.{◌≡◌, [], ℕ, List, IfOk, OnOk, Ok, false};
+ghost use Rattle.net_streams.specs.{Standing};
+ghost use Rattle.net_udp.specs.Recording.{Step, standing_of};
+ghost use Rattle.audit_recording.specs.Blame.Frames.{Carried};
+ghost use Rattle.audit_recording.specs.Session.Kept.{IsSessionAfter, ReadsOn};
+ghost use Rattle.audit_recording.specs.Session.Noted.{Noticed};
+ghost use Rattle.audit_recording.specs.Session.Opened.{HasEnded, HasRead, IsSessionClosed};
+
 use crate::session::fault::ReadFault;
 use crate::session::headed::{Headed, hint};
 use crate::session::session::Session;
@@ -21,7 +29,10 @@ pub struct Opened<R: Read + Drop> {
 
 impl<R: Read + Drop> Opened<R> {
     /// Reads the file's beginning.
-    pub fn begin(alloc: Global, reader: R) -> Result<Self, ReadFault> {
+    pub fn begin(alloc: Global, reader: R) -> Result<Self, ReadFault>
+        ensures begun { IfOk result (λ opened. HasRead opened.recording []) }
+        ensures open { IfOk result (λ opened. standing_of opened.recording ≡ Standing.Open) }
+    {
         let headed = Headed::begin(reader);
         let may_lose = headed.may_have_blocks();
         let mut reader = Latched::new(headed);
@@ -37,7 +48,14 @@ impl<R: Read + Drop> Opened<R> {
     }
 
     /// Reads the next frame; whether the recording goes on.
-    pub fn next(&mut self, alloc: Global, session: &mut Session) -> Result<bool, ReadFault> {
+    pub fn next(&mut self, alloc: Global, session: &mut Session) -> Result<bool, ReadFault>
+        ensures goes_on { (named out : List ℕ) (history : List Step) (carried : List Carried) (s : Noticed)
+            → HasRead self.old.recording history → IsSessionAfter session.old named out history carried s
+            → ReadsOn (λ frames datagrams noticed. HasRead self.new.recording frames
+            × IsSessionAfter session.new named out frames datagrams noticed) history carried s result }
+        ensures ends { result ≡ Ok false → HasEnded self.new.recording session.new }
+        ensures judging { session.new.audit.judge.judging ≡ session.old.audit.judge.judging }
+    {
         session.notes.may_lose = self.may_lose;
         session.next(
             alloc,
@@ -48,10 +66,17 @@ impl<R: Read + Drop> Opened<R> {
     }
 
     /// Reads no further: the fragments that still wait belong to nothing, and the recorder has told how many packets it lost.
-    pub fn close(self, alloc: Global, session: &mut Session) -> Result<(), AllocError> {
+    pub fn close(self, alloc: Global, session: &mut Session) -> Result<(), AllocError>
+        ensures closed { (named out : List ℕ) (history : List Step) (carried : List Carried) (s : Noticed)
+            → IsSessionAfter session.old named out history carried s
+            → OnOk result (IsSessionClosed session.new self.recording named out history carried s) }
+        ensures judging { session.new.audit.judge.judging ≡ session.old.audit.judge.judging }
+    {
+        let dropped = self.recording.lost();
+        let closed = session.notes.lose_all(alloc, self.recording.into_waiting());
         session.notes.may_lose = false;
-        session.notes.dropped = self.recording.lost();
-        session.notes.lose_all(alloc, self.recording.into_waiting())
+        session.notes.dropped = dropped;
+        closed
     }
 }
 
