@@ -11,7 +11,7 @@ from typing import Optional
 from captures import Capture, Packet, ack, data, oack, read_request, write_request
 from checks import Checks
 from commands import COMMANDS
-from loopback import CLIENT, SERVER, Case, OverLoopback, make_files, missing, record
+from loopback import CLIENT, SERVER, Case, OverLoopback, record
 from programs import AUDIT, TRANSFERS
 from refusals import Rule, refusal
 from repository import TOP
@@ -165,19 +165,10 @@ class Sent(OverLoopback):
     needs = (AUDIT, TRANSFERS)
 
     def test_sent(self) -> None:
-        for case in REAL:
-            if lacking := missing(case):
-                self.leave(case.name, f"not installed: {', '.join(lacking)}")
-                continue
-            folder = self.folder / case.name
-            folder.mkdir()
-            for each in (self.folder, folder):
-                each.chmod(0o755)
-            make_files(folder)
-            (folder / "root" / LARGE).write_bytes(IMAGE)
-            self.try_case(case, folder)
+        self.try_each(REAL, self.try_case)
 
     def try_case(self, case: Case, folder: pathlib.Path) -> None:
+        (folder / "root" / LARGE).write_bytes(IMAGE)
         recording = folder / "large.pcap"
         record(case, recording, folder)
         came = folder / "client" / LARGE
