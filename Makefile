@@ -65,6 +65,7 @@ bench: build
 
 # Simulated ends and networks, and changes of what passed, tried on the built program; and recordings of lawful ends, divided
 # into transfers, of which none may be blamed: make fuzz N=1000000 SEED=1, and one recording for each hundred cases. For each
+# twenty a capture of more than 65,535 blocks is changed where its numbers begin again. For each
 # case two recordings of worlds of lawful ends with trouble of every kind, one in twenty of them as a file, and sessions with
 # one breach, of which most must be told without a doubt: a table tells how many. For each
 # twenty a transfer is recorded between its ends, and changes of it, and what is said compared with a slow reference; for each
@@ -74,6 +75,7 @@ N = 10000
 JOBS = 2
 fuzz: ready
 	python3 tests/fuzz.py --cases $(N) --jobs $(JOBS) $(if $(SEED),--seed $(SEED)) $(PROGRAM)
+	python3 tests/rounds.py --cases $$(($(N) / 20 + 1)) $(if $(SEED),--seed $(SEED)) $(PROGRAM)
 	python3 tests/attribution.py --cases $$(($(N) / 100 + 1)) $(if $(SEED),--seed $(SEED)) --transfers $(TRANSFERS) $(PROGRAM)
 	python3 tests/worlds.py --recordings $$((2 * $(N))) --files $$(($(N) / 10 + 1)) --sessions $$(($(N) / 50 + 1)) --jobs $(JOBS) $(if $(SEED),--seed $(SEED)) $(TRANSFERS)
 	python3 tests/between.py --cases $$(($(N) / 20 + 1)) $(if $(SEED),--seed $(SEED)) $(TRANSFERS)

@@ -1,16 +1,21 @@
 """Transfers of more than 65,535 blocks: the verdicts, the file and the count by what comes after block 65535; captures
-of fewer blocks, which are the same by each; and the words that say it. The large ones are made here, and sent by real
-programs."""
+of fewer blocks, which are the same by each; and the words that say it. The large ones are made and changed here, and sent
+by real programs."""
 from __future__ import annotations
 
+import itertools
 import pathlib
 import random
+import re
 import subprocess
 from typing import Optional
 
 from captures import Capture, Packet, ack, data, oack, read_request, write_request
 from checks import Checks
 from commands import COMMANDS
+from fuzzing.cases import ROLLOVERS
+from fuzzing.rounds import Rounds
+from fuzzing.transfers import ENDS
 from loopback import CLIENT, SERVER, Case, OverLoopback, record
 from programs import AUDIT, TRANSFERS
 from refusals import Rule, refusal
@@ -20,6 +25,8 @@ ROUND = 65_536
 # The blocks of the made captures, a few past the first round, and their size.
 COUNT, SIZE = ROUND + 5, 8
 GIVEN = ("0", "1")
+# How many changed captures are drawn at each end, each way and by each number.
+DRAWN = 20
 JUDGING = ("check", "extract", "count")
 FILE = random.Random(7440).randbytes(COUNT * SIZE - 1)
 # What is recorded of real programs: 40 MB, which has more blocks of 512 than there are numbers.
@@ -144,6 +151,19 @@ class Numbers(Checks):
                     same = self.by(given, path.read_bytes(), command) == alone
                     self.check(f"{path.stem}, {command}, {given}", same, alone)
         self.check("some", len(captures) > 3, captures)
+
+    def test_drawn(self) -> None:
+        """Captures that are changed by chance where numbers begin again have the verdict of the slow reading."""
+        endings = set()
+        for rollover, end, is_read in itertools.product(ROLLOVERS, ENDS, (True, False)):
+            rounds = Rounds(random.Random(f"{rollover} {end} {is_read}"), end, is_read, rollover)
+            for turn in range(DRAWN):
+                text, told = rounds.drawn(turn % 4)
+                got = self.by(str(rollover), text)
+                name = f"by {rollover}, at the {end}, {'a read' if is_read else 'a write'}, {turn}"
+                self.check(name, got == (told[0], b"", told[1]), (got, told))
+                endings.add(re.sub(rb"[0-9]+(?! [A-Z])", b"", told[0]))
+        self.check("many endings", len(endings) >= 8, endings)
 
     def test_words(self) -> None:
         """The word stands behind the three commands that judge, and says 0 or 1; else the words are no command."""

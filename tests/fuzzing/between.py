@@ -186,7 +186,7 @@ def is_wrong_value(side: Side, name: bytes, asked: Union[int, bytes], agreed: Un
     return agreed != asked and (name == b"timeout" or name == b"tsize" and side == "put")
 
 
-def broken_by_first_oack(request: Request, agreed: Options) -> Iterator[int]:
+def broken_by_first_oack(request: Request, agreed: Options, most: int) -> Iterator[int]:
     asked, blocks = request.options, Terms(request, Oack(agreed))
     if not agreed:
         yield 11
@@ -199,13 +199,13 @@ def broken_by_first_oack(request: Request, agreed: Options) -> Iterator[int]:
     if any(is_wrong_value(request.side, name, asked[name], agreed[name]) for name in asked.keys() & agreed.keys()):
         yield 15
     size = blocks.size()
-    if size is not None and size // blocks.block_size() + 1 > MOST_BLOCKS:
+    if size is not None and size // blocks.block_size() + 1 > most:
         yield 20
 
 
-def broken_by_oack(terms: Terms, message: Oack) -> Iterator[int]:
+def broken_by_oack(terms: Terms, message: Oack, most: int = MOST_BLOCKS) -> Iterator[int]:
     if terms.answer is None:
-        yield from broken_by_first_oack(terms.request, message.options)
+        yield from broken_by_first_oack(terms.request, message.options, most)
     elif not isinstance(terms.answer, Oack):
         yield 10
     elif terms.answer != message:

@@ -14,10 +14,14 @@ from fuzzing.lines import is_shown, is_verdict
 from fuzzing.meanings import Spelling, chosen, meaning_of
 from fuzzing.program import MOST_PIECE, Got, Program, Told
 from fuzzing.reached import Reached
+from fuzzing.slow_judge import Rollover
 from fuzzing.slow_texts import Answers
 from fuzzing.transfers import ENDS, Transfer
 from fuzzing.views import Capture, View
 from normal import outputs_of_refused
+
+
+ROLLOVERS: tuple[Rollover, ...] = (0, 1)
 
 
 @dataclasses.dataclass
@@ -41,8 +45,8 @@ class Trier:
         self.reached = Reached()
 
     def expect(self, name: str, command: str, text: bytes, wanted: Told) -> None:
-        """The command prints this of the text and ends with this status."""
-        if command in self.commands:
+        """The command with its words prints this of the text and ends with this status."""
+        if command.split()[0] in self.commands:
             self.compare(name, command, text, self.program.run(command, text), wanted)
 
     def compare(self, name: str, command: str, text: bytes, got: Got, wanted: Told) -> None:
@@ -57,6 +61,9 @@ class Trier:
             got = output, b"", status
             self.failures.append(Failure("a line of those that there are", "check", text, got, "a verdict"))
         self.expect(group, "check", text, told)
+        if len(text) % 4 == 0:
+            for rollover in ROLLOVERS:
+                self.expect(f"{group}, by number", f"check --rollover {rollover}", text, answers.by_number(rollover))
         words = output.decode(errors="replace").split()
         # a refusal by its rule, and a fault by its name
         kind = {"refused": words[4:6], "fault": words[3:4]}.get(words[0] if words else "", words[:1])
@@ -113,6 +120,8 @@ def try_lawful(trier: Trier, chance: Random) -> None:
     for command in chance.sample(sorted(outputs), 3):
         trier.expect("lawful", command, text, outputs[command])
     trier.read_slowly(chance, text, outputs)
+    if chance.random() < 0.2:
+        trier.expect("of the first round", f"check --rollover {chance.choice(ROLLOVERS)}", text, verdict)
     if chance.random() < 0.1:
         trier.expect_in_pieces(chance, text, verdict)
     if chance.random() < 0.1:

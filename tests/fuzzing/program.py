@@ -47,12 +47,13 @@ class Program:
         self.given, self.output, self.errors = (os.memfd_create(name) for name in ("given", "output", "errors"))
 
     def started(self, command: str, given: int, **shim: int) -> int:
-        """The process, which reads this file; the words are for the library that makes its calls fail."""
+        """The process of a command with its words, which reads this file; what is named is for the library that makes its
+        calls fail."""
         emptied(self.output)
         emptied(self.errors)
         self.runs += 1
         files = [(os.POSIX_SPAWN_DUP2, file, number) for number, file in enumerate((given, self.output, self.errors))]
-        words = [self.path, command]
+        words = [self.path, *command.split()]
         environment = {**os.environ, **{name: str(value) for name, value in shim.items()}}
         if shim:
             environment["LD_PRELOAD"] = self.shim or ""

@@ -16,6 +16,22 @@ from refusals import RULES, Rule
 
 # Of the transfer, a stray or the answer to one; or which of the rules 1 to 3 is broken.
 Route = Literal["transfer", "stray", "answer", "1", "2", "3"]
+# What comes after block 65535: nothing, or numbers that begin again so.
+Rollover = Optional[Literal[0, 1]]
+ROUND, HALF_ROUND, MOST_IN_ROUNDS = 65_536, 32_767, 8_388_607
+
+
+def most_blocks(rollover: Rollover) -> int:
+    return MOST_BLOCKS if rollover is None else MOST_IN_ROUNDS
+
+
+def near(first: int, high: int, number: int) -> int:
+    """The block with this number that is at most half a round older than the highest that has passed, and less than a
+    round newer than what is so old. Where 1 comes after 65535, the number 0 is the start's alone."""
+    if number < first:
+        return number
+    oldest = max(first, high - HALF_ROUND)
+    return oldest + (number - oldest) % (ROUND - first)
 
 
 class Ports:
@@ -112,8 +128,9 @@ class Numbers:
 class Judge:
     """What has passed at one end, and so which rule a datagram breaks, and what there is to say in the end."""
 
-    def __init__(self, end: EndName, service: int) -> None:
+    def __init__(self, end: EndName, service: int, rollover: Rollover = None) -> None:
         self.end, self.ports, self.count = end, Ports(end, service), 0
+        self.rollover, self.most = rollover, most_blocks(rollover)
         self.request: Optional[Request] = None
         self.answer: Optional[Message] = None
         self.numbers = Numbers()
@@ -129,9 +146,16 @@ class Judge:
     def is_sender(self, request: Request) -> bool:
         return (self.end == "client") == (request.side == "put")
 
+    def found_in(self, it: Datagram) -> Union[Message, Fault]:
+        """What it spells, with a block in the place of its number where numbers begin again."""
+        found = read(it.payload)
+        if self.rollover is None or not isinstance(found, (Data, Ack)):
+            return found
+        return dataclasses.replace(found, block=near(self.rollover, self.numbers.high, found.block))
+
     def broken(self, it: Datagram) -> Optional[str]:
         """The first rule that it breaks."""
-        route, found = self.ports.route(it), read(it.payload)
+        route, found = self.ports.route(it), self.found_in(it)
         if route in ("1", "2", "3"):
             return str(RULES[int(route)])
         if route == "answer" and not (isinstance(found, Error) and found.code == UNKNOWN_ID):
@@ -155,7 +179,7 @@ class Judge:
         if isinstance(message, Request):
             yield from self.broken_by_request(request, it, message)
         elif isinstance(message, Oack):
-            yield from broken_by_oack(self.terms(request), message)
+            yield from broken_by_oack(self.terms(request), message, self.most)
             if it.goes_out and request.side == "get" and Data in self.sent:
                 yield 17
         elif isinstance(message, Data):
@@ -182,7 +206,7 @@ class Judge:
             yield 18
         if block == 0:
             yield 19
-        if block == MOST_BLOCKS and len(message.content) >= size:
+        if block > self.most or block == self.most and len(message.content) >= size:
             yield 20
         if self.has_wrong_length(terms, block, len(message.content)):
             yield 21
@@ -222,7 +246,7 @@ class Judge:
 
     def take(self, it: Datagram) -> None:
         """Notes a datagram that breaks no rule."""
-        is_of_transfer, message = self.ports.route(it) == "transfer", read(it.payload)
+        is_of_transfer, message = self.ports.route(it) == "transfer", self.found_in(it)
         self.ports.note(it)
         self.count += 1
         if is_of_transfer and not isinstance(message, Fault):
@@ -262,7 +286,7 @@ class Judge:
     def ended(self) -> tuple[Optional[Meaning], Output]:
         """What there is to say of all, which are lawful, and its status; and what it means, if it is accepted."""
         meaning = self.meaning()
-        if meaning and meaning.block_count() <= MOST_BLOCKS:
+        if meaning and meaning.block_count() <= self.most:
             return meaning, (meaning.line(), 0)
         if meaning:
             return None, (b"too long when normal\n", 1)
@@ -287,9 +311,11 @@ class Verdict:
     meaning: Optional[Meaning] = None
 
 
-def verdict_of(end: EndName, service: int, datagrams: list[Datagram], fault: Optional[bytes] = None) -> Verdict:
+def verdict_of(
+    end: EndName, service: int, datagrams: list[Datagram], fault: Optional[bytes] = None, rollover: Rollover = None
+) -> Verdict:
     """The verdict on these datagrams, after which there is a fault of the text, or none."""
-    judge = Judge(end, service)
+    judge = Judge(end, service, rollover)
     for at, it in enumerate(datagrams, 1):
         broken = judge.judged(it)
         if broken is not None:

@@ -8,7 +8,7 @@ from collections.abc import Iterator
 from typing import Optional
 
 from captures import EndName
-from fuzzing.slow_judge import Verdict, verdict_of
+from fuzzing.slow_judge import Rollover, Verdict, verdict_of
 from fuzzing.spelled import Ack, Data, Fault, Oack, Request, read
 from fuzzing.views import Datagram
 from normal import Output, outputs_of_refused
@@ -128,10 +128,10 @@ def rows(reading: Reading) -> Iterator[bytes]:
         yield reading.fault
 
 
-def judged(reading: Reading) -> Verdict:
+def judged(reading: Reading, rollover: Rollover = None) -> Verdict:
     if reading.end is None or reading.service is None:
         return Verdict((reading.fault or b"", 2))
-    return verdict_of(reading.end, reading.service, reading.datagrams, reading.fault)
+    return verdict_of(reading.end, reading.service, reading.datagrams, reading.fault, rollover)
 
 
 class Answers:
@@ -148,3 +148,7 @@ class Answers:
         if meaning is None:
             return outputs_of_refused(self.verdict.told)[command]
         return meaning.outputs(self.verdict.told)[command]
+
+    def by_number(self, rollover: Rollover) -> Output:
+        """What `check` prints where block numbers begin again so."""
+        return judged(self.reading, rollover).told
