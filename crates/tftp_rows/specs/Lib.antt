@@ -5,6 +5,7 @@ pub mod Endings
 pub mod Ended
 pub mod Times
 pub mod Verdicts
+pub mod Premises
 pub mod Rows
 pub mod Members
 pub mod Objects

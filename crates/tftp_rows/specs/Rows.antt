@@ -8,6 +8,7 @@ use Rattle.audit_recording.specs.declared.rows.row.Place.{Place}
 use Rattle.audit_recording.specs.declared.rows.row.Place.TheVariants.{Client, Server, Both, Between}
 use Rattle.tftp_rows.specs.Cells.{cell}
 use Rattle.tftp_rows.specs.Endings.{before_text, ended_text, role_name}
+use Rattle.tftp_rows.specs.Premises.{beyond_text, premise_text}
 use Rattle.tftp_rows.specs.Times.{slow_text}
 use Rattle.tftp_rows.specs.declared.row.VerdictRow.{VerdictRow}
 
@@ -51,10 +52,12 @@ reasons_text (reason ∷ more) = codes ": " ++ reason_text reason ++ flat_map fu
 
 -- ---- the row
 
--- the verdict; whether and why it is doubtful; that an ERROR came before; how the transfer ended, and how slow it was
+-- the verdict; whether and why it is doubtful, or else what it rests on; that an ERROR came before; that block numbers may begin again; how
+-- the transfer ended, and how slow it was
 abbrev pub verdict_text : VerdictRow → List ℕ
 verdict_text r =
-    doubtful_text r.charge.reasons.items ++ before_text r.ended ++ string_bytes r.verdict ++ reasons_text r.charge.reasons.items ++ ended_text r.ended ++ slow_text r.times
+    doubtful_text r.charge.reasons.items ++ before_text r.ended ++ string_bytes r.verdict ++ premise_text r.charge r.stands ++ reasons_text r.charge.reasons.items
+    ++ beyond_text r.goes_beyond ++ ended_text r.ended ++ slow_text r.times
 
 -- a row under a column of files of this width, without its line's end
 abbrev pub row_text : ℕ → VerdictRow → List ℕ

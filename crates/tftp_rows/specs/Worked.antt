@@ -1,5 +1,5 @@
 -- Rows of which the pages say what is printed.
-use Rattle.std.specs.Prelude.{◌≡◌, ℕ, List, [], ◌∷◌, Option, Some, None, codes, string_bytes}
+use Rattle.std.specs.Prelude.{◌≡◌, ℕ, Bool, List, [], ◌∷◌, Option, Some, None, codes, string_bytes}
 use Rattle.tftp_packet.specs.{Client, Server}
 use Rattle.audit_flows.specs.{Address, Endpoint, V4, V6}
 use Rattle.audit_recording.specs.{Accused}
@@ -22,9 +22,18 @@ pub record IsRow (r : VerdictRow) (name : List ℕ) (n : ℕ) (at : Place) (refu
   pub words : string_bytes r.verdict ≡ said
   pub reasons : r.charge.reasons.items ≡ whys
 
+-- it tells a refusal, or not, that stands so whatever is missing, and that goes beyond block 65535 or not
+pub record RestsOn (r : VerdictRow) (refusal : Bool) (stood : Option Bool) (beyond : Bool) : Type 0 where
+  pub refusal : r.charge.is_refusal ≡ refusal
+  pub stands : r.stands ≡ stood
+  pub beyond : r.goes_beyond ≡ beyond
+
 -- the client at this host and port
 abbrev pub client_at : Address → ℕ → Option Accused
 client_at address port = Some (record { role = Client; end = record { port = port; address = address } })
+
+abbrev pub server_at : Address → ℕ → Option Accused
+server_at address port = Some (record { role = Server; end = record { port = port; address = address } })
 
 -- 192.0.2.1 and 192.0.2.2 (RFC 5737), and 2001:db8::7 (RFC 3849)
 abbrev pub first_host : Address

@@ -15,30 +15,33 @@ ghost use Rattle.tftp_rows.specs.Printing.{all_lines, verdict_lines};
 ghost use Rattle.tftp_rows.specs.Rows.{accused_text, head_text, row_text};
 ghost use Rattle.tftp_rows.specs.Times.{slow_text};
 ghost use Rattle.tftp_rows.specs.Whole.{Telling, all_rows, numbers_of};
-ghost use Rattle.tftp_rows.specs.Worked.{IsListed, IsNotFound, IsRow, client_at, end_at, first_host, repeated, second_host, slow, unreached_port, untimed, wide_host};
+ghost use Rattle.tftp_rows.specs.Worked.{IsListed, IsNotFound, IsRow, RestsOn, client_at, end_at, first_host, repeated, second_host, server_at, slow, unreached_port, untimed, wide_host};
 ghost use Rattle.tftp_rows.specs.declared.conclusion.Conclusion.TheVariants.{Aborted, Quiet, Silent, Unreached, Whole};
 ghost use Rattle.tftp_rows.specs.declared.listing.ListRow.{ListRow};
 ghost use Rattle.tftp_rows.specs.declared.printing.Form.TheVariants.{Json, Words};
 ghost use Rattle.tftp_rows.specs.declared.row.VerdictRow.{VerdictRow};
 
-/// Rows of the pages: the heads, one that is accepted, one with ICMP, and one behind an ERROR.
+/// Rows: the heads, one that is accepted, one with ICMP, one behind an ERROR, and one that goes on after block 65535.
 pub fn worked_rows()
     ensures head { head_text 23 ≡ codes "file                     number  place    frame     accused                 verdict\n" }
     ensures accepted { (r : VerdictRow) → IsRow r (codes "examples/in-erspan.pcap") 1 Between None None (codes "accepted get octet blocks 3 bytes 1300") []
-        → r.ended ≡ Whole → r.times ≡ untimed
+        → RestsOn r false None false → r.ended ≡ Whole → r.times ≡ untimed
         → row_text 23 r ≡ codes "examples/in-erspan.pcap  1       between  -         -                       accepted get octet blocks 3 bytes 1300" }
     ensures unreached { (r : VerdictRow) → IsRow r (codes "examples/loopback-repeated-oack.pcap") 1 Both (Some 8) (client_at second_host 47102) (codes "refused datagram 5 rule 25 BlockChanged") []
-        → r.ended ≡ Unreached ClientEnd 0 unreached_port → r.times ≡ untimed
-        → row_text 36 r ≡ codes "examples/loopback-repeated-oack.pcap  1       both     8         client 192.0.2.2:47102  refused datagram 5 rule 25 BlockChanged; ended: ICMP port unreachable from 192.0.2.2 frame 78" }
+        → RestsOn r true (Some true) false → r.ended ≡ Unreached ClientEnd 0 unreached_port → r.times ≡ untimed
+        → row_text 36 r ≡ codes "examples/loopback-repeated-oack.pcap  1       both     8         client 192.0.2.2:47102  refused datagram 5 rule 25 BlockChanged, whatever is missing; ended: ICMP port unreachable from 192.0.2.2 frame 78" }
     ensures behind { (r : VerdictRow) (stop : Stop) → IsRow r (codes "examples/loopback-session.pcap") 3 Both (Some 17) (client_at first_host 34056) (codes "refused datagram 3 rule 26 AckAhead") []
-        → IsNotFound stop → r.ended ≡ Aborted stop true → r.times ≡ untimed
-        → row_text 30 r ≡ codes "examples/loopback-session.pcap  3       both     17        client 192.0.2.1:34056  aborted by server code 1, and then refused datagram 3 rule 26 AckAhead; ended: server ERROR 1 \"File not found\" frame 16" }
+        → RestsOn r true None false → IsNotFound stop → r.ended ≡ Aborted stop true → r.times ≡ untimed
+        → row_text 30 r ≡ codes "examples/loopback-session.pcap  3       both     17        client 192.0.2.1:34056  aborted by server code 1, and then refused datagram 3 rule 26 AckAhead, if no frame is missing; ended: server ERROR 1 \"File not found\" frame 16" }
+    ensures beyond { (r : VerdictRow) → IsRow r (codes "image.pcap") 1 Between (Some 131076) (server_at first_host 41000) (codes "refused datagram 131074 rule 20 BeyondBlock65535") []
+        → RestsOn r true (Some true) true → r.ended ≡ Quiet ServerEnd 0 76 → r.times ≡ untimed
+        → row_text 10 r ≡ codes "image.pcap  1       between  131076    server 192.0.2.1:41000  refused datagram 131074 rule 20 BeyondBlock65535, whatever is missing; tftp-audit check --rollover judges numbers that begin again" }
 {}
 
 /// A doubtful row with two reasons, whose transfer was slow.
 pub fn worked_doubts()
     ensures { (r : VerdictRow) → IsRow r (codes "a") 2 AtClient (Some 4) None (codes "refused datagram 3 rule 26 AckAhead") (Late ∷ Lost 9 ∷ [])
-        → r.ended ≡ Silent ServerEnd 10 2 → r.times ≡ slow 5400000000 5000000000
+        → RestsOn r true (Some true) false → r.ended ≡ Silent ServerEnd 10 2 → r.times ≡ slow 5400000000 5000000000
         → row_text 4 r ≡ codes "a     2       client   4         -                       doubtful refused datagram 3 rule 26 AckAhead: its client's endpoint had asked again; frame 9 is not there whole; ended: server silent for 10 s after frame 2; took 5.400 s, the server silent for 5.000 s before frame 2, sent again: 1 of the client, 0 of the server" }
 {}
 

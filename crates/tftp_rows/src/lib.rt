@@ -11,6 +11,7 @@ mod listing;
 mod members;
 mod objects;
 mod plain;
+mod premise;
 mod printing;
 mod reading;
 mod reason;

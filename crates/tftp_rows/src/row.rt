@@ -12,6 +12,7 @@ ghost use Rattle.audit_rows.specs.Charging.{IsChargeOf, dropped_reasons, unless_
 ghost use Rattle.audit_rows.specs.Viewing.{IsStanding, bytes_in, said_in};
 ghost use Rattle.tftp_rows.specs.Cells.{cell};
 ghost use Rattle.tftp_rows.specs.Ended.{IsConclusionOf};
+ghost use Rattle.tftp_rows.specs.Premises.{goes_beyond};
 ghost use Rattle.tftp_rows.specs.Rows.{accused_text, column_heads, doubtful_text, frame_text, further_reason, head_text, place_name as name_of, reasons_text, row_text, verdict_text};
 ghost use Rattle.tftp_rows.specs.Times.{AreTimesOf};
 ghost use Rattle.tftp_rows.specs.Verdicts.{verdict_line};
@@ -20,6 +21,7 @@ use crate::cells::{put_cell, put_number_cell};
 use crate::conclusion::{Conclusion, concluded, role_name};
 use crate::endpoint::shown;
 use crate::plain::put_plain;
+use crate::premise::{goes_beyond, put_beyond, put_premise};
 use crate::reason::ReasonWords;
 use crate::times::{Times, times_told};
 use crate::verdict::verdict_words;
@@ -47,6 +49,8 @@ pub struct VerdictRow<'a> {
     pub ended: Conclusion,
     /// Of what is refused between the ends, whether that stands whatever datagrams of the transfer were missed.
     pub stands: Option<bool>,
+    /// Whether it is refused by rule 20, since it goes on after block 65535.
+    pub goes_beyond: bool,
     /// How it went in time.
     pub times: Times,
 }
@@ -85,6 +89,7 @@ impl<'a> VerdictRow<'a> {
         ensures ended { (judging : JudgingKind) (x : Transfer) (named : List ℕ) (carried : List Carried) → IsJudgedOf judged.now judging x named carried
             → IfOk result (λ row. IsConclusionOf row.ended judged.now told.now x named carried) }
         ensures stands { IfOk result (λ row. IsStanding told.now.view.now.found row.stands) }
+        ensures beyond { IfOk result (λ row. row.goes_beyond ≡ goes_beyond told.now.view.now.found) }
         ensures times { (judging : JudgingKind) (x : Transfer) (named : List ℕ) (carried : List Carried) → IsJudgedOf judged.now judging x named carried
             → IfOk result (λ row. AreTimesOf row.times x (bytes_in told.now.view.now.found) named carried) }
     {
@@ -100,6 +105,7 @@ impl<'a> VerdictRow<'a> {
             charge,
             ended,
             stands: told.view.found.stands(),
+            goes_beyond: goes_beyond(&told.view.found),
             times: times_told(judged, told),
         })
     }
@@ -119,6 +125,7 @@ impl<'a> VerdictRow<'a> {
             charge,
             ended,
             stands,
+            goes_beyond,
             times,
         } = self;
         let charge = charge.with_dropped(dropped)?;
@@ -131,6 +138,7 @@ impl<'a> VerdictRow<'a> {
             charge,
             ended,
             stands,
+            goes_beyond,
             times,
         })
     }
@@ -147,7 +155,8 @@ impl<'a> VerdictRow<'a> {
         self.put_verdict(alloc, line)
     }
 
-    /// Puts the verdict, where it is doubtful why, how the transfer ended that is not accepted, and how slow it was.
+    /// Puts the verdict, where it is doubtful why and else what it rests on, how the transfer ended that is not accepted, and how
+    /// slow it was.
     fn put_verdict(&self, alloc: Global, line: &mut String) -> Result<(), AllocError>
         ensures { OnOk result (string_bytes line.new ≡ string_bytes line.old ++ verdict_text self.now) }
     {
@@ -155,7 +164,9 @@ impl<'a> VerdictRow<'a> {
         put_doubtful(line, reasons)?;
         self.ended.put_before(line)?;
         line.push_str(self.verdict.as_str())?;
+        put_premise(line, &self.charge, self.stands)?;
         put_reasons(line, reasons)?;
+        put_beyond(line, self.goes_beyond)?;
         self.ended.put(alloc, line)?;
         self.times.put(line)
     }

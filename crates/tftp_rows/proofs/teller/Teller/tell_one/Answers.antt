@@ -19,6 +19,7 @@ returns-clause-rows g c place told =
         charge = c.in_ok-row.ensures.charge;
         ended = c.in_ok-row.ensures.ended;
         stands = c.in_ok-row.ensures.stands;
+        beyond = c.in_ok-row.ensures.beyond;
         times = c.in_ok-row.ensures.times;
       },
     )

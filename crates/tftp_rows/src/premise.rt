@@ -1,0 +1,50 @@
+//! What a refusal rests on, in words.
+
+ghost use Rattle.std.specs.Prelude.{◌≡◌, ◌++◌, OnOk, string_bytes};
+ghost use Rattle.tftp_rows.specs.Premises.{beyond_text, goes_beyond, premise_text};
+
+use audit_rows::{Charge, Found};
+use judge_tap::TapRefusal;
+use law_end::Rule;
+use law_model::rules::EndRule;
+use std::alloc::AllocError;
+use tftp_judge::Refusal;
+
+/// Puts whether a refusal that nothing makes doubtful stands whatever frames are missing, or only if none is.
+pub fn put_premise(
+    line: &mut String,
+    charge: &Charge,
+    stands: Option<bool>,
+) -> Result<(), AllocError>
+    ensures { OnOk result (string_bytes line.new ≡ string_bytes line.old ++ premise_text charge.now stands) }
+{
+    if !charge.is_refusal || !charge.reasons.is_empty() {
+        return Ok(());
+    }
+    match stands {
+        Some(true) => line.push_str(", whatever is missing"),
+        _ => line.push_str(", if no frame is missing"),
+    }
+}
+
+/// Whether it is refused by rule 20, since the transfer goes on after block 65535 (RFC 1350, section 5).
+pub fn goes_beyond(found: &Found) -> bool
+    ensures { result ≡ goes_beyond found.now }
+{
+    match found {
+        Found::AtEnd(Err(Refusal::Unlawful(_, Rule::Block(EndRule::BeyondBlock65535)))) => true,
+        Found::Between(Err(TapRefusal::Unlawful(_, Rule::Block(EndRule::BeyondBlock65535), _))) =>
+            true,
+        _ => false,
+    }
+}
+
+/// Puts who judges numbers that begin again.
+pub fn put_beyond(line: &mut String, beyond: bool) -> Result<(), AllocError>
+    ensures { OnOk result (string_bytes line.new ≡ string_bytes line.old ++ beyond_text beyond) }
+{
+    if beyond {
+        return line.push_str("; tftp-audit check --rollover judges numbers that begin again");
+    }
+    Ok(())
+}
