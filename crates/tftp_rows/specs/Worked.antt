@@ -23,10 +23,10 @@ pub record IsRow (r : VerdictRow) (name : List ℕ) (n : ℕ) (at : Place) (refu
   pub reasons : r.charge.reasons.items ≡ whys
 
 -- it tells a refusal, or not, that stands so whatever is missing, and that goes beyond block 65535 or not
-pub record RestsOn (r : VerdictRow) (refusal : Bool) (stood : Option Bool) (beyond : Bool) : Type 0 where
-  pub refusal : r.charge.is_refusal ≡ refusal
+pub record RestsOn (r : VerdictRow) (told : Bool) (stood : Option Bool) (goes : Bool) : Type 0 where
+  pub refusal : r.charge.is_refusal ≡ told
   pub stands : r.stands ≡ stood
-  pub beyond : r.goes_beyond ≡ beyond
+  pub beyond : r.goes_beyond ≡ goes
 
 -- the client at this host and port
 abbrev pub client_at : Address → ℕ → Option Accused

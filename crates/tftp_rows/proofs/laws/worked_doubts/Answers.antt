@@ -5,4 +5,4 @@ use Rattle.tftp_rows.proofs.laws.worked_doubts.Goals as goal
 
 pub returns : goal.returns
 unfolding digits seconds_text
-returns c r p b e t = rw p.file (rw p.number (rw p.place (rw p.frame (rw p.accused (rw p.words (rw p.reasons (rw b.refusal (rw b.stands (rw b.beyond (rw e (rw t refl)))))))))))
+returns c r p b e t = rw p.file (rw p.number (rw p.place (rw p.frame (rw p.accused (rw p.words (rw p.reasons (rw b.refusal (rw b.beyond (rw e (rw t refl))))))))))

@@ -11,7 +11,7 @@ returns-clause-head c = refl
 
 pub returns-clause-accepted : goal.returns-clause-accepted
 unfolding digits
-returns-clause-accepted c r p b e t = rw p.file (rw p.number (rw p.place (rw p.frame (rw p.accused (rw p.words (rw p.reasons (rw b.refusal (rw b.stands (rw b.beyond (rw e (rw t refl)))))))))))
+returns-clause-accepted c r p b e t = rw p.file (rw p.number (rw p.place (rw p.frame (rw p.accused (rw p.words (rw p.reasons (rw b.refusal (rw b.beyond (rw e (rw t refl))))))))))
 
 pub returns-clause-unreached : goal.returns-clause-unreached
 unfolding digits
