@@ -2,6 +2,7 @@ pub mod Counted
 pub mod Shortest
 pub mod Lengths
 pub mod Windows
+pub mod ByNumber
 pub mod Going
 pub mod Shown
 pub mod Lawful
@@ -17,4 +18,5 @@ pub mod OpeningPut
 pub mod TextPut
 pub mod Taken
 pub mod Computed
+pub mod PastTheRound
 pub mod Runs
