@@ -1,6 +1,6 @@
-"""Transfers of more than 65,535 blocks: the verdicts, the file and the count by what comes after block 65535; captures
-of fewer blocks, which are the same by each; and the words that say it. The large ones are made here, and sent by real
-programs."""
+"""Transfers of more than 65,535 blocks: the verdicts, the file, the normal text and the count by what comes after block
+65535; captures of fewer blocks, which are the same by each; and the words that say it. The large ones are made here, and
+sent by real programs."""
 from __future__ import annotations
 
 import pathlib
@@ -12,6 +12,7 @@ from captures import Capture, Packet, ack, data, oack, read_request, write_reque
 from checks import Checks
 from commands import COMMANDS
 from loopback import CLIENT, SERVER, Case, OverLoopback, record
+from normal import Meaning
 from programs import AUDIT, TRANSFERS
 from refusals import Rule, refusal
 from repository import TOP
@@ -20,7 +21,7 @@ ROUND = 65_536
 # The blocks of the made captures, a few past the first round, and their size.
 COUNT, SIZE = ROUND + 5, 8
 GIVEN = ("0", "1")
-JUDGING = ("check", "extract", "count")
+JUDGING = ("check", "extract", "normal", "count")
 FILE = random.Random(7440).randbytes(COUNT * SIZE - 1)
 # What is recorded of real programs: 40 MB, which has more blocks of 512 than there are numbers.
 LARGE = "large.img"
@@ -125,6 +126,24 @@ class Numbers(Checks):
         text = whole(0).text()
         self.check("counted", self.by("0", text, "count") == (f"normal datagrams {3 + 2 * COUNT}\n".encode(), b"", 0))
 
+    def test_normal(self) -> None:
+        """The normal text is what the formats make of the meaning, is accepted with it, and is its own normal text; by no
+        other number, and by none, is anything written."""
+        options: dict[bytes, int] = {b"blksize": SIZE}
+        sized, windowed = {**options, b"tsize": len(FILE)}, {**options, b"windowsize": 64}
+        read = Meaning("get", b"boot.img", "octet", sized, sized, FILE)
+        write = Meaning("put", b"boot.img", "octet", windowed, windowed, FILE)
+        for given in GIVEN:
+            first = int(given)
+            for name, capture, meaning in (("a read", whole(first), read), ("a write", in_windows(first), write)):
+                text, expected = capture.text(), meaning.normal_text(first)
+                same = [self.by(given, its, "normal") == (expected, b"", 0) for its in (text, expected)]
+                self.check(f"{name}, {given}, normal", same == [True, True], same)
+                line = self.by(given, expected)
+                self.check(f"{name}, {given}, its line", line == self.by(given, text) == (meaning.line(), b"", 0), line)
+                for others in (("normal", "--rollover", str(1 - first)), ("normal",)):
+                    self.check(f"{name}, {given}, {others}", said(text, *others) == (b"", b"", 1))
+
     def test_late(self) -> None:
         """A block that comes again is known as far back as half a round, and not one further."""
         for given in GIVEN:
@@ -146,14 +165,15 @@ class Numbers(Checks):
         self.check("some", len(captures) > 3, captures)
 
     def test_words(self) -> None:
-        """The word stands behind the three commands that judge, and says 0 or 1; else the words are no command."""
+        """The word stands behind the four commands that judge, and says 0 or 1; else the words are no command."""
         text = (TOP / "examples" / "one-block.capture").read_bytes()
         usage = (b"fault usage\n", b"", 2)
         for words in (
             ("check", "--rollover"), ("check", "--rollover", "2"), ("check", "--rollover", ""),
             ("check", "--rollove", "0"), ("check", "--rollover", "0", "0"), ("--rollover", "0", "check"),
             ("check", "0", "--rollover"),
-            ("show", "--rollover", "0"), ("normal", "--rollover", "1"), ("check", "check", "--rollover", "0"),
+            ("show", "--rollover", "0"), ("normal", "--rollover", "2"), ("normal", "--rollover"), ("normal", "1"),
+            ("check", "check", "--rollover", "0"),
         ):
             self.check(f"{words}", said(text, *words) == usage, said(text, *words))
         self.check("commands", set(JUDGING) < set(COMMANDS))
