@@ -34,7 +34,7 @@ module _ (rollover : Option Rollover) (m : Meaning) (can : CanBeWritten rollover
   w = windowsize_of m
 
   -- the packet is one of this transfer's
-  abbrev InWire : MachinePacket → Type 0
+  abbrev pub InWire : MachinePacket → Type 0
   InWire Req = Unit {0}
   InWire Oack = SomethingAgreed m
   InWire (Data k) = k ≤ n
@@ -113,10 +113,11 @@ module _ (rollover : Option Rollover) (m : Meaning) (can : CanBeWritten rollover
   pub lawful_opening : AllByRecursion IsLawful (each (normal_datagram_by rollover m) (opening m))
   lawful_opening = lawful_all (opening m) (opening_in m.side (finite.len m.agreed) refl)
 
+  pub packets_in : AllByRecursion InWire (normal_packets m)
+  packets_in = all_both InWire (opening m) (windows_after w n 0 (windows_of m)) (opening_in m.side (finite.len m.agreed) refl) (windows_in 0 (windows_of m) (omega arith))
+
   pub lawful : AllByRecursion IsLawful (normal_datagrams_by rollover m)
-  lawful =
-      lawful_all (normal_packets m)
-      (all_both InWire (opening m) (windows_after w n 0 (windows_of m)) (opening_in m.side (finite.len m.agreed) refl) (windows_in 0 (windows_of m) (omega arith)))
+  lawful = lawful_all (normal_packets m) packets_in
 
   pub few_windows : windows_of m ≤ n
   few_windows =

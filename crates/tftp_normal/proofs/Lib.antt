@@ -6,6 +6,7 @@ pub mod ByNumber
 pub mod Going
 pub mod Shown
 pub mod Lawful
+pub mod FirstRound
 pub mod TextLength
 pub mod Texts
 pub mod Headline

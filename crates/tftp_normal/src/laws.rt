@@ -1,7 +1,7 @@
 //! What holds of the normal capture; `rollover` is what comes after block 65535, where anything does. Each law is the contract
 //! of a function that does nothing.
 
-ghost use Rattle.std.specs.Prelude.{◌≡◌, ◌^◌, ◌≤◌, ◌↔◌, ℕ, List, All, Ok, length, Option, Some};
+ghost use Rattle.std.specs.Prelude.{◌≡◌, ◌^◌, ◌≤◌, ◌↔◌, ℕ, List, All, Ok, length, Option, Some, None};
 ghost use Rattle.tftp_packet.specs.{Rollover};
 ghost use Rattle.tftp_capture.specs.CaptureText.{Datagram, Header};
 ghost use Rattle.tftp_capture.specs.{IsCapture, IsLawful as IsLawfulDatagram, NamesNoHost, numbered};
@@ -9,7 +9,7 @@ ghost use Rattle.law_model.specs.Model.{Meaning, windowsize_of};
 ghost use Rattle.tftp_judge.specs.{IsTextVerdictBy};
 ghost use Rattle.law_end.specs.{ShowsBy, wire_of, CanBeWritten};
 ghost use Rattle.law_rollover.specs.{ShowsByNumber};
-ghost use Rattle.tftp_normal.specs.Normal.{normal_datagrams_by, normal_header, normal_text_by, normal_count};
+ghost use Rattle.tftp_normal.specs.Normal.{normal_datagrams, normal_datagrams_by, normal_header, normal_text, normal_text_by, normal_count};
 ghost use Rattle.tftp_normal.specs.Accepted.{IsAcceptedBy, IsShownBy, IsShownOver};
 
 /// How many datagrams the normal capture has: what opens the transfer, the blocks, and an ACK for each window.
@@ -34,7 +34,14 @@ pub fn normal_capture_shows_its_meaning()
     ensures shows { (rollover : Option Rollover) (m : Meaning) → CanBeWritten rollover m → IsShownBy rollover normal_header m (normal_datagrams_by rollover m) }
 {}
 
-/// So two meanings have two normal captures.
+/// In the first round nothing is numbered otherwise: a meaning of at most 65535 blocks has one normal capture and one normal
+/// text, whatever comes after block 65535.
+pub fn the_first_round_is_written_as_it_is()
+    ensures datagrams { (r : Rollover) (m : Meaning) → CanBeWritten None m → normal_datagrams_by (Some r) m ≡ normal_datagrams m }
+    ensures text { (r : Rollover) (m : Meaning) → CanBeWritten None m → normal_text_by (Some r) m ≡ normal_text m }
+{}
+
+/// Two meanings have two normal captures.
 #[tactic(auto, using(crate::proofs::Texts::injective))]
 pub fn normal_capture_has_one_meaning()
     ensures { (rollover : Option Rollover) (m o : Meaning) → CanBeWritten rollover m → CanBeWritten rollover o

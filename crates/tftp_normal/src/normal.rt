@@ -23,8 +23,8 @@ use tftp_packet::Side;
 use tftp_packet::rounds::{Rollover, greatest_block};
 
 /// Writes the normal text of a meaning, and nothing else. It takes all memory that it needs before it writes, so with
-/// `Memory` nothing was written. What comes after block 65535 is its number: nothing where `rollover` says nothing. It answers
-/// `Verdict` only of a meaning of more blocks than can be numbered so.
+/// `Memory` nothing was written. Blocks are numbered by what comes after block 65535, where anything does. It answers `Verdict`
+/// only of a meaning of more blocks than are numbered then, 65535 or 8388607.
 pub fn normal_capture<W: Write>(
     alloc: Global,
     rollover: Option<Rollover>,
@@ -48,8 +48,7 @@ pub fn normal_capture<W: Write>(
 }
 
 /// Writes the normal text of a capture text that is accepted, and nothing of any other. The whole text is judged, and all
-/// memory is taken, before the first byte is written. What comes after block 65535 is the same where it is judged and where it
-/// is written.
+/// memory is taken, before the first byte is written. It is judged and written by what comes after block 65535, where anything does.
 pub fn normalise<R: Read, W: Write>(
     alloc: Global,
     rollover: Option<Rollover>,
