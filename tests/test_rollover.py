@@ -193,6 +193,7 @@ class Sent(OverLoopback):
         record(case, recording, folder)
         came = folder / "client" / LARGE
         self.check(f"{case.name}, came over", came.exists() and came.read_bytes() == IMAGE)
+        normals = set()
         for end in ("client", "server"):
             words = [TRANSFERS.path, "text", "1", end, "-"]
             text = subprocess.run(words, input=recording.read_bytes(), capture_output=True, timeout=120).stdout
@@ -201,3 +202,6 @@ class Sent(OverLoopback):
             self.check(f"{case.name}, {end}, by 0", by["0"] == (accepted, b"", 0), by["0"])
             self.check(f"{case.name}, {end}, by 1", by["1"][0].startswith(b"refused ") and by["1"][2] == 1, by["1"])
             self.check(f"{case.name}, {end}, extracted", said(text, "extract", "--rollover", "0") == (IMAGE, b"", 0))
+            normals.add(said(text, "normal", "--rollover", "0"))
+        holds = len(normals) == 1 and all(its[1:] == (b"", 0) and its[0].count(b" 0003") == BLOCKS for its in normals)
+        self.check(f"{case.name}, one normal text", holds, [its[1:] for its in normals])
