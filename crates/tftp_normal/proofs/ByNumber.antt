@@ -15,10 +15,6 @@ pub number_fits : (rollover : Option Rollover) (k : ℕ) → k ≤ greatest_of r
 number_fits None k low = low
 number_fits (Some r) k low = number_is_small r k
 
-pub none_after_zero : (rollover : Option Rollover) → number_by rollover 0 ≡ 0
-none_after_zero None = refl
-none_after_zero (Some r) = refl
-
 -- in closed form
 pub number_by_zero : (k : ℕ) → k % 65536 ≡ number_by (Some Zero) k
 number_by_zero k = sym (numbers_by_zero k)

@@ -1,6 +1,6 @@
 //! The normal capture, written datagram by datagram.
 
-ghost use Rattle.std.specs.Prelude.{◌≡◌, ◌≢◌, ◌+◌, ◌-◌, ◌*◌, ◌^◌, ◌≤◌, [], ◌∷◌, ◌++◌, length, drop, true, false, Ok, OnOk};
+ghost use Rattle.std.specs.Prelude.{◌≡◌, ◌≢◌, ◌+◌, ◌-◌, ◌*◌, ◌^◌, ◌≤◌, [], ◌∷◌, ◌++◌, length, drop, true, false, Ok, OnOk, None};
 ghost use Rattle.std.specs.FinMap as map;
 ghost use Rattle.tftp_packet.specs.{Message, canonical, End};
 ghost use Rattle.tftp_packet.specs.Rounds.{greatest_of};
@@ -161,9 +161,8 @@ fn put_windows<W: Write>(
     Ok(())
 }
 
-/// Puts the request and what answers it (RFC 1350, section 4; RFC 2347).
+/// Puts the request and what answers it (RFC 1350, section 4; RFC 2347), of which an ACK is of block 0.
 fn put_opening<W: Write>(
-    rollover: Option<Rollover>,
     transfer: &Transfer<'_>,
     request: &[u8],
     oack: &[u8],
@@ -175,7 +174,7 @@ fn put_opening<W: Write>(
     requires request_short { length request.now ≤ 65527 }
     requires oack { oack.now ≡ canonical (Message.Oack transfer.now.agreed) }
     requires oack_short { map.len transfer.now.agreed ≢ 0 → length oack.now ≤ 65527 }
-    ensures { Puts W.contents writer.old writer.new result capture.old capture.new (datagrams_of rollover transfer.now (opening transfer.now)) }
+    ensures { Puts W.contents writer.old writer.new result capture.old capture.new (datagrams_of None transfer.now (opening transfer.now)) }
 {
     put_request(request, capture, writer)?;
     match (transfer.side(), transfer.is_plain()) {
@@ -229,7 +228,7 @@ fn write_capture<W: Write>(
         rollover: None,
     };
     let mut capture = CaptureWriter::begin(writer, &header)?;
-    put_opening(rollover, transfer, request, oack, &mut capture, writer)?;
+    put_opening(transfer, request, oack, &mut capture, writer)?;
     put_windows(rollover, transfer, packets, &mut capture, writer)?;
     capture.close(writer)
 }
