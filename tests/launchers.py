@@ -278,7 +278,7 @@ class Launchers(Checks):
             (("check", "--rollover"), "--rollover takes 0 or 1, not ''"),
             (("check", "--rollover=2"), "--rollover takes 0 or 1, not '2'"),
             (("extract", "--rollover", "x", example), "--rollover takes 0 or 1, not 'x'"),
-            (("show", "--rollover", "0"), "'show' takes no --rollover: check, extract and count do"),
+            (("show", "--rollover", "0"), "'show' takes no --rollover: all but show do"),
             (("count", "--rollover", "1", example, example), "'count' takes one file, not 2"),
         )
         for its, message in wrong:

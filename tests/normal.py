@@ -3,7 +3,7 @@ from __future__ import annotations
 
 import dataclasses
 from collections.abc import Mapping, Sequence
-from typing import Literal, Union
+from typing import Literal, Optional, Union
 
 Side = Literal["get", "put"]
 Mode = Literal["octet", "netascii"]
@@ -91,8 +91,9 @@ class Meaning:
         """The line that `count` prints."""
         return b"normal datagrams %d\n" % self.normal_lines().count(b"\n")
 
-    def normal_text(self) -> bytes:
-        lines = self.normal_lines()
+    def normal_text(self, first: Optional[int] = None) -> bytes:
+        """The normal text, where block 65535 is the last or `first` comes after it."""
+        lines = self.normal_lines(first)
         return b"tftp-capture 1\nend client\nservice 69\n%stotal %d\n" % (lines, lines.count(b"\n"))
 
     def outputs(self, verdict: Output) -> dict[str, Output]:
@@ -102,8 +103,8 @@ class Meaning:
         texts = {"extract": self.file, "normal": self.normal_text(), "count": self.count_line()}
         return {"check": verdict, **{command: (text, 0) for command, text in texts.items()}}
 
-    def normal_lines(self) -> bytes:
-        """The datagram lines of the normal capture."""
+    def normal_lines(self, first: Optional[int] = None) -> bytes:
+        """The datagram lines of the normal capture, where block 65535 is the last or `first` comes after it."""
         lines = bytearray()
 
         def put(way: bytes, payload: bytes, server: int = SERVER) -> None:
@@ -117,11 +118,12 @@ class Meaning:
         # what an OACK to a read, and a write without options, is answered by
         if bool(self.agreed) == (self.side == "get"):
             put(ack_way, number(4) + number(0))
-        wire, count = self.canonical_wire(), self.block_count()
+        wire, count, numbered = self.canonical_wire(), self.block_count(), 0
         for block in range(1, count + 1):
-            put(data_way, number(3) + number(block) + wire[(block - 1) * self.size : block * self.size])
+            numbered = numbered + 1 if numbered != 65_535 or first is None else first
+            put(data_way, number(3) + number(numbered) + wire[(block - 1) * self.size : block * self.size])
             if block % self.window == 0 or block == count:
-                put(ack_way, number(4) + number(block))
+                put(ack_way, number(4) + number(numbered))
         return bytes(lines)
 
 

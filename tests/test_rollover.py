@@ -1,6 +1,6 @@
-"""Transfers of more than 65,535 blocks: the verdicts, the file and the count by what comes after block 65535; captures
-of fewer blocks, which are the same by each; and the words that say it. The large ones are made and changed here, and sent
-by real programs."""
+"""Transfers of more than 65,535 blocks: the verdicts, the file, the normal text and the count by what comes after block
+65535; captures of fewer blocks, which are the same by each; and the words that say it. The large ones are made and changed
+here, and sent by real programs."""
 from __future__ import annotations
 
 import itertools
@@ -16,6 +16,7 @@ from fuzzing.cases import ROLLOVERS
 from fuzzing.rounds import Rounds
 from fuzzing.transfers import ENDS
 from loopback import CLIENT, SERVER, Case, OverLoopback, record
+from normal import Meaning
 from programs import AUDIT, TRANSFERS
 from refusals import Rule, refusal
 from repository import TOP
@@ -26,7 +27,7 @@ COUNT, SIZE = ROUND + 5, 8
 GIVEN = ("0", "1")
 # How many changed captures are drawn at each end by each number.
 DRAWN = 20
-JUDGING = ("check", "extract", "count")
+JUDGING = ("check", "extract", "normal", "count")
 FILE = random.Random(7440).randbytes(COUNT * SIZE - 1)
 # What is recorded of real programs: 40 MB, which has more blocks of 512 than there are numbers.
 LARGE = "large.img"
@@ -131,6 +132,24 @@ class Numbers(Checks):
         text = whole(0).text()
         self.check("counted", self.by("0", text, "count") == (f"normal datagrams {3 + 2 * COUNT}\n".encode(), b"", 0))
 
+    def test_normal(self) -> None:
+        """The normal text is what the formats make of the meaning, is accepted with it, and is its own normal text; by no
+        other number, and by none, is anything written."""
+        options: dict[bytes, int] = {b"blksize": SIZE}
+        sized, windowed = {**options, b"tsize": len(FILE)}, {**options, b"windowsize": 64}
+        read = Meaning("get", b"boot.img", "octet", sized, sized, FILE)
+        write = Meaning("put", b"boot.img", "octet", windowed, windowed, FILE)
+        for given in GIVEN:
+            first = int(given)
+            for name, capture, meaning in (("a read", whole(first), read), ("a write", in_windows(first), write)):
+                text, expected = capture.text(), meaning.normal_text(first)
+                same = [self.by(given, its, "normal") == (expected, b"", 0) for its in (text, expected)]
+                self.check(f"{name}, {given}, normal", same == [True, True], same)
+                line = self.by(given, expected)
+                self.check(f"{name}, {given}, its line", line == self.by(given, text) == (meaning.line(), b"", 0), line)
+                for others in (("normal", "--rollover", str(1 - first)), ("normal",)):
+                    self.check(f"{name}, {given}, {others}", said(text, *others) == (b"", b"", 1))
+
     def test_late(self) -> None:
         """A block that comes again is known as far back as half a round, and not one further."""
         for given in GIVEN:
@@ -164,14 +183,15 @@ class Numbers(Checks):
         self.check("many endings", len(endings) >= 5, endings)
 
     def test_words(self) -> None:
-        """The word stands behind the three commands that judge, and says 0 or 1; else the words are no command."""
+        """The word stands behind the four commands that judge, and says 0 or 1; else the words are no command."""
         text = (TOP / "examples" / "one-block.capture").read_bytes()
         usage = (b"fault usage\n", b"", 2)
         for words in (
             ("check", "--rollover"), ("check", "--rollover", "2"), ("check", "--rollover", ""),
             ("check", "--rollove", "0"), ("check", "--rollover", "0", "0"), ("--rollover", "0", "check"),
             ("check", "0", "--rollover"),
-            ("show", "--rollover", "0"), ("normal", "--rollover", "1"), ("check", "check", "--rollover", "0"),
+            ("show", "--rollover", "0"), ("normal", "--rollover", "2"), ("normal", "--rollover"), ("normal", "1"),
+            ("check", "check", "--rollover", "0"),
         ):
             self.check(f"{words}", said(text, *words) == usage, said(text, *words))
         self.check("commands", set(JUDGING) < set(COMMANDS))
@@ -191,6 +211,7 @@ class Sent(OverLoopback):
         record(case, recording, folder)
         came = folder / "client" / LARGE
         self.check(f"{case.name}, came over", came.exists() and came.read_bytes() == IMAGE)
+        normals = set()
         for end in ("client", "server"):
             words = [TRANSFERS.path, "text", "1", end, "-"]
             text = subprocess.run(words, input=recording.read_bytes(), capture_output=True, timeout=120).stdout
@@ -199,3 +220,6 @@ class Sent(OverLoopback):
             self.check(f"{case.name}, {end}, by 0", by["0"] == (accepted, b"", 0), by["0"])
             self.check(f"{case.name}, {end}, by 1", by["1"][0].startswith(b"refused ") and by["1"][2] == 1, by["1"])
             self.check(f"{case.name}, {end}, extracted", said(text, "extract", "--rollover", "0") == (IMAGE, b"", 0))
+            normals.add(said(text, "normal", "--rollover", "0"))
+        holds = len(normals) == 1 and all(its[1:] == (b"", 0) and its[0].count(b" 0003") == BLOCKS for its in normals)
+        self.check(f"{case.name}, one normal text", holds, [its[1:] for its in normals])

@@ -10,7 +10,7 @@ use tftp_normal::normalise;
 fn main(rt: HostRuntime) -> ExitCode {
     let mut reader = Latched::new(rt.reader());
     let mut writer = LineWriter::new(rt.alloc(), io::writer(&rt));
-    match normalise(rt.alloc(), &mut reader, &mut writer) {
+    match normalise(rt.alloc(), None, &mut reader, &mut writer) {
         Ok(()) => ExitCode::SUCCESS,
         Err(fault) => {
             // where standard error fails too, the status alone tells it

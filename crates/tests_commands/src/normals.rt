@@ -21,7 +21,7 @@ fn normalised_on(
 ) -> (Result<(), NormalFault>, DripWriter) {
     let mut reader = Latched::new(DripReader::new(text, usize::MAX, 0, None));
     let mut writer = LineWriter::new(rt.alloc(), drip);
-    let answer = normalise(rt.alloc(), &mut reader, &mut writer);
+    let answer = normalise(rt.alloc(), None, &mut reader, &mut writer);
     (answer, writer.finish().0)
 }
 
@@ -32,7 +32,7 @@ fn written_of(
     drip: DripWriter,
 ) -> (Result<(), NormalFault>, DripWriter) {
     let mut writer = LineWriter::new(rt.alloc(), drip);
-    let answer = normal_capture(rt.alloc(), meaning, &mut writer);
+    let answer = normal_capture(rt.alloc(), None, meaning, &mut writer);
     (answer, writer.finish().0)
 }
 

@@ -10,8 +10,7 @@ use Rattle.law_end.proofs.Written.Written.{can_be_written}
 use Rattle.tftp_judge.specs.{IsTextVerdict}
 use Rattle.tftp_normal.specs.{normal_header, normal_text, line_end_cut, line_end_cut_datagrams}
 use Rattle.tftp_normal.proofs.Computed.{line_end_row}
-use Rattle.tftp_normal.proofs.Headline.{judged_text}
-use Rattle.tftp_normal.proofs.Texts.{is_accepted}
+use Rattle.tftp_normal.proofs.Texts.{is_accepted, judged_text}
 use Rattle.tftp_commands.specs.{IsChecked, IsExtracted, IsJudged, IsNormalised, given}
 use Rattle.tests_worked.specs.{at_client, read_of_lines, lines_text, with_success}
 use Rattle.tests_worked.proofs.LinesShown.{lines_are_shown}
@@ -28,7 +27,7 @@ pub lines_normal : normal_text line_end_cut ≡ lines_text
 lines_normal = ap (text_of normal_header) line_end_row ∙ lines_said
 
 pub lines_accepted : IsTextVerdict lines_text (Ok line_end_cut)
-lines_accepted = subst (λ t. IsTextVerdict t (Ok line_end_cut)) lines_normal (judged_text (normal_text line_end_cut) line_end_cut (is_accepted line_end_cut can))
+lines_accepted = subst (λ t. IsTextVerdict t (Ok line_end_cut)) lines_normal (judged_text None (normal_text line_end_cut) line_end_cut (is_accepted None line_end_cut can))
 
 judged : IsJudged None (given lines_text) (Ok line_end_cut)
 judged = record { is_said = lines_accepted; at_end = λ _. refl; failed = no_failure (λ p. p) }
@@ -50,5 +49,5 @@ lines_checked = record { said = Ok line_end_cut; judged = judged; is = sym (ap (
 pub lines_extracted : IsExtracted None (given lines_text) (with_success (codes "abcdefg" ++ 10 ∷ codes "h"))
 lines_extracted = record { said = Ok line_end_cut; judged = judged; is = refl }
 
-pub lines_normalised : IsNormalised (given lines_text) (with_success lines_text)
+pub lines_normalised : IsNormalised None (given lines_text) (with_success lines_text)
 lines_normalised = record { said = Ok line_end_cut; judged = judged; is = sym (ap with_success lines_normal) }

@@ -91,7 +91,7 @@ read_shown = record {
 pub read_extracted : IsExtracted None (given worked_text) (with_success (codes "hi"))
 read_extracted = record { said = Ok two_bytes; judged = read_judged; is = refl }
 
-pub read_normalised : IsNormalised (given worked_text) (with_success two_bytes_text)
+pub read_normalised : IsNormalised None (given worked_text) (with_success two_bytes_text)
 read_normalised = record { said = Ok two_bytes; judged = read_judged; is = sym (ap with_success two_bytes_text_is) }
 
 three : normal_count two_bytes ≡ 3

@@ -43,7 +43,7 @@ pub fn file_of_the_read_is_extracted()
 /// What `normal` writes of the read is the same capture between the ports 50000 and 50001.
 #[tactic(auto, using(crate::proofs::TextsPrinted::read_normalised))]
 pub fn read_is_normalised()
-    ensures { IsNormalised (given worked_text) (with_success two_bytes_text) }
+    ensures { IsNormalised None (given worked_text) (with_success two_bytes_text) }
 {}
 
 /// What `count` prints of the read: its normal capture has as many datagrams as it has.
@@ -58,7 +58,7 @@ pub fn lines_are_read_as_their_file()
     ensures verdict { IsTextVerdict lines_text (Ok line_end_cut) }
     ensures checked { IsChecked None (given lines_text) (with_success (line (codes "accepted get netascii blocks 2 bytes 9"))) }
     ensures extracted { IsExtracted None (given lines_text) (with_success (codes "abcdefg" ++ 10 ∷ codes "h")) }
-    ensures normalised { IsNormalised (given lines_text) (with_success lines_text) }
+    ensures normalised { IsNormalised None (given lines_text) (with_success lines_text) }
 {}
 
 /// Hex digits of either case have the values of the field; a byte that is none has 16 or any more, here the one behind `f`.

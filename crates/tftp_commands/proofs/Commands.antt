@@ -22,7 +22,7 @@ third (a ∷ b ∷ c ∷ word) = c
 
 abbrev by_third : ℕ → Option Rollover → Action
 by_third letter rollover =
-    if nat_eq letter 101 then Check rollover else if nat_eq letter 116 then Extract rollover else if nat_eq letter 114 then Normal else if nat_eq letter 111 then Show else Count rollover
+    if nat_eq letter 101 then Check rollover else if nat_eq letter 116 then Extract rollover else if nat_eq letter 114 then Normal rollover else if nat_eq letter 111 then Show else Count rollover
 
 -- the digits differ
 abbrev first : List ℕ → ℕ
@@ -43,7 +43,9 @@ told_by_words (Check (Some One)) program = refl
 told_by_words (Extract None) program = refl
 told_by_words (Extract (Some Zero)) program = refl
 told_by_words (Extract (Some One)) program = refl
-told_by_words Normal program = refl
+told_by_words (Normal None) program = refl
+told_by_words (Normal (Some Zero)) program = refl
+told_by_words (Normal (Some One)) program = refl
 told_by_words Show program = refl
 told_by_words (Count None) program = refl
 told_by_words (Count (Some Zero)) program = refl
@@ -80,7 +82,7 @@ Only words r = (a : Action) → IsCommand a words → (r ≡ Ok a) ⊎ (r ≡ Er
 no_memory : (a : Action) → usage.Usage ≡ memory_fault a → ⊥
 no_memory (Check rollover) e = cc
 no_memory (Extract rollover) e = cc
-no_memory Normal e = cc
+no_memory (Normal rollover) e = cc
 no_memory Show e = cc
 no_memory (Count rollover) e = cc
 

@@ -39,7 +39,7 @@ module _ (source : Source) (unread : IsUnread source) (clean : source.failed ≡
   pub memory_said : (a : Action) (cut : Bool) → memory_fault a ≡ usage.Memory → IsOutputOf a source cut (record { bytes = memory_line; status = status.Fault })
   memory_said (Check rollover) cut told = record { said = Err (Capture (Memory 1)); judged = memory_judged rollover; is = refl }
   memory_said (Extract rollover) cut told = absurd (cc)
-  memory_said Normal cut told = absurd (cc)
+  memory_said (Normal rollover) cut told = absurd (cc)
   memory_said Show cut told = record {
     datagrams = [];
     ending = Faulty (Memory 1);
@@ -54,7 +54,7 @@ module _ (source : Source) (unread : IsUnread source) (clean : source.failed ≡
   pub silent_said : (a : Action) (cut : Bool) → memory_fault a ≡ usage.Silent → IsOutputOf a source cut (record { bytes = []; status = status.Fault })
   silent_said (Check rollover) cut told = absurd (cc)
   silent_said (Extract rollover) cut told = record { said = Err (Capture (Memory 1)); judged = memory_judged rollover; is = refl }
-  silent_said Normal cut told = inl (record { said = Err (Capture (Memory 1)); judged = memory_judged None; is = refl })
+  silent_said (Normal rollover) cut told = inl (record { said = Err (Capture (Memory 1)); judged = memory_judged rollover; is = refl })
   silent_said Show cut told = absurd (cc)
   silent_said (Count rollover) cut told = absurd (cc)
 
@@ -62,7 +62,7 @@ module _ (source : Source) (unread : IsUnread source) (clean : source.failed ≡
   pub memory_first : (a : Action) (cut : Bool) → (output : Output) × IsMemoryOutput a output × IsOutputOf a source cut output
   memory_first (Check rollover) cut = (record { bytes = memory_line; status = status.Fault }, refl, memory_said (Check rollover) cut refl)
   memory_first (Extract rollover) cut = (record { bytes = []; status = status.Fault }, refl, silent_said (Extract rollover) cut refl)
-  memory_first Normal cut = (record { bytes = []; status = status.Fault }, refl, silent_said Normal cut refl)
+  memory_first (Normal rollover) cut = (record { bytes = []; status = status.Fault }, refl, silent_said (Normal rollover) cut refl)
   memory_first Show cut = (record { bytes = memory_line; status = status.Fault }, ([], refl), memory_said Show cut refl)
   memory_first (Count rollover) cut = (record { bytes = memory_line; status = status.Fault }, refl, memory_said (Count rollover) cut refl)
 

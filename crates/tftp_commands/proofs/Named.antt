@@ -9,7 +9,7 @@ pub takes_named : (a : Action) (program : List ℕ) → takes audit_app (program
 unfolding clap_on_literals
 takes_named (Check rollover) program = refl
 takes_named (Extract rollover) program = refl
-takes_named Normal program = refl
+takes_named (Normal rollover) program = refl
 takes_named Show program = refl
 takes_named (Count rollover) program = refl
 

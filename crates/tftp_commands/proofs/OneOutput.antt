@@ -1,5 +1,5 @@
 -- Output is one, where memory was not wanting.
-use Rattle.std.proofs.Common.{◌≡◌, inl, inr, ℕ, ◌==◌, List, [], ◌∷◌, length, Option, None, Result, Ok, Err, sym, ap, ◌∙◌, arith, length-append}
+use Rattle.std.proofs.Common.{◌≡◌, inl, inr, ℕ, ◌==◌, List, [], ◌∷◌, length, Option, Result, Ok, Err, sym, ap, ◌∙◌, arith, length-append}
 use Rattle.std.specs.List.{slice_split}
 use Rattle.tftp_capture.specs.{Due, Numbered, Unfinished}
 use Rattle.tftp_capture.specs.declared.fault.CaptureFault.TheVariants.{Text, Read}
@@ -53,8 +53,8 @@ module _ (one_verdict : OneVerdict) (source : Source) where
   pub one_extracted : (rollover : Option Rollover) (one other : Output) (first : IsExtracted rollover source one) (second : IsExtracted rollover source other) → SaysNoMemory first.said → SaysNoMemory second.said → one ≡ other
   one_extracted rollover one other first second of too = first.is ∙ ap extracted (one_said rollover first.said second.said of too first.judged second.judged) ∙ sym second.is
 
-  pub one_normalised : (one other : Output) (first : IsNormalised source one) (second : IsNormalised source other) → SaysNoMemory first.said → SaysNoMemory second.said → one ≡ other
-  one_normalised one other first second of too = first.is ∙ ap normalised (one_said None first.said second.said of too first.judged second.judged) ∙ sym second.is
+  pub one_normalised : (rollover : Option Rollover) (one other : Output) (first : IsNormalised rollover source one) (second : IsNormalised rollover source other) → SaysNoMemory first.said → SaysNoMemory second.said → one ≡ other
+  one_normalised rollover one other first second of too = first.is ∙ ap (normalised rollover) (one_said rollover first.said second.said of too first.judged second.judged) ∙ sym second.is
 
   pub one_counted : (rollover : Option Rollover) (one other : Output) (first : IsCounted rollover source one) (second : IsCounted rollover source other) → SaysNoMemory first.said → SaysNoMemory second.said → one ≡ other
   one_counted rollover one other first second of too = first.is ∙ ap counted (one_said rollover first.said second.said of too first.judged second.judged) ∙ sym second.is

@@ -18,7 +18,7 @@ use Rattle.tftp_commands.proofs.OneShown.{one_shown}
 pub record WantsMemory (said : Result Meaning Verdict) : Type 0 where
   pub check : (rollover : Option Rollover) → IsMemoryOutput (Check rollover) (checked said)
   pub extract : (rollover : Option Rollover) → IsMemoryOutput (Extract rollover) (extracted said)
-  pub normal : IsMemoryOutput Normal (normalised said)
+  pub normal : (rollover : Option Rollover) → IsMemoryOutput (Normal rollover) (normalised rollover said)
   pub count : (rollover : Option Rollover) → IsMemoryOutput (Count rollover) (counted said)
 
 told : (said : Result Meaning Verdict) → SaysNoMemory said ⊎ WantsMemory said
@@ -29,7 +29,7 @@ told (Err (Refused (refusal.Incomplete count))) = inl (inl tt)
 told (Err (Refused refusal.NormalTooLong)) = inl (inl tt)
 told (Err (Capture (Text line fault))) = inl (inl tt)
 told (Err (Capture (Read line))) = inl (inr tt)
-told (Err _) = inr (record { check = λ _. refl; extract = λ _. refl; normal = refl; count = λ _. refl })
+told (Err _) = inr (record { check = λ _. refl; extract = λ _. refl; normal = λ _. refl; count = λ _. refl })
 
 abbrev ShownMemory : Ending → Type 0
 ShownMemory ending = (lines : List ℕ) → IsMemoryOutput Show (record { bytes = lines ++ last_line ending; status = status_of ending })
@@ -54,18 +54,19 @@ module _ (action : Action) (one other : Output) {P Q S T : Type 0} where
   either (inl p) (inr t) same first second = inr (inr (second t))
 
 module _ (one_verdict : OneVerdict) (source : Source) where
-  one_normal : (one other : Output) → IsNormalised source one ⊎ IsUnwritten source one → IsNormalised source other ⊎ IsUnwritten source other → OneOf Normal one other
-  one_normal one other (inl first) (inl second) =
-      either Normal one other (told first.said) (told second.said) (one_normalised one_verdict source one other first second) (λ w. first.is ∙ w.normal) (λ w. second.is ∙ w.normal)
-  one_normal one other (inr unwritten) second = inr (inl unwritten.2)
-  one_normal one other (inl first) (inr unwritten) = inr (inr unwritten.2)
+  one_normal : (rollover : Option Rollover) (one other : Output) → IsNormalised rollover source one ⊎ IsUnwritten rollover source one
+      → IsNormalised rollover source other ⊎ IsUnwritten rollover source other → OneOf (Normal rollover) one other
+  one_normal rollover one other (inl first) (inl second) =
+      either (Normal rollover) one other (told first.said) (told second.said) (one_normalised one_verdict source rollover one other first second) (λ w. first.is ∙ w.normal rollover) (λ w. second.is ∙ w.normal rollover)
+  one_normal rollover one other (inr unwritten) second = inr (inl unwritten.2)
+  one_normal rollover one other (inl first) (inr unwritten) = inr (inr unwritten.2)
 
   one_of : (action : Action) (one other : Output) → IsOutputOf action source false one → IsOutputOf action source false other → OneOf action one other
   one_of (Check rollover) one other first second =
       either (Check rollover) one other (told first.said) (told second.said) (one_checked one_verdict source rollover one other first second) (λ w. first.is ∙ w.check rollover) (λ w. second.is ∙ w.check rollover)
   one_of (Extract rollover) one other first second =
       either (Extract rollover) one other (told first.said) (told second.said) (one_extracted one_verdict source rollover one other first second) (λ w. first.is ∙ w.extract rollover) (λ w. second.is ∙ w.extract rollover)
-  one_of Normal one other first second = one_normal one other first second
+  one_of (Normal rollover) one other first second = one_normal rollover one other first second
   one_of Show one other first second =
       either Show one other (ending_told first.ending) (ending_told second.ending) (one_shown source one other first second)
       (λ w. (let m = w first.lines in (m.0, first.is ∙ m.1))) (λ w. (let m = w second.lines in (m.0, second.is ∙ m.1)))
@@ -121,20 +122,22 @@ abbrev by_each : (Option Rollover → Action) → List Action → List Action
 by_each command rest = command None ∷ command (Some Zero) ∷ command (Some One) ∷ rest
 
 abbrev all_actions : List Action
-all_actions = Normal ∷ Show ∷ by_each Check (by_each Extract (by_each Count []))
+all_actions = Show ∷ by_each Check (by_each Extract (by_each Normal (by_each Count [])))
 
 none_named : (words : List (List ℕ)) → AllByRecursion (λ action. words ≡ words_of action → ⊥) all_actions → (action : Action) → words ≡ words_of action → ⊥
-none_named words none Normal is = none.0 is
-none_named words none Show is = none.1.0 is
-none_named words none (Check None) is = none.1.1.0 is
-none_named words none (Check (Some Zero)) is = none.1.1.1.0 is
-none_named words none (Check (Some One)) is = none.1.1.1.1.0 is
-none_named words none (Extract None) is = none.1.1.1.1.1.0 is
-none_named words none (Extract (Some Zero)) is = none.1.1.1.1.1.1.0 is
-none_named words none (Extract (Some One)) is = none.1.1.1.1.1.1.1.0 is
-none_named words none (Count None) is = none.1.1.1.1.1.1.1.1.0 is
-none_named words none (Count (Some Zero)) is = none.1.1.1.1.1.1.1.1.1.0 is
-none_named words none (Count (Some One)) is = none.1.1.1.1.1.1.1.1.1.1.0 is
+none_named words none Show is = none.0 is
+none_named words none (Check None) is = none.1.0 is
+none_named words none (Check (Some Zero)) is = none.1.1.0 is
+none_named words none (Check (Some One)) is = none.1.1.1.0 is
+none_named words none (Extract None) is = none.1.1.1.1.0 is
+none_named words none (Extract (Some Zero)) is = none.1.1.1.1.1.0 is
+none_named words none (Extract (Some One)) is = none.1.1.1.1.1.1.0 is
+none_named words none (Normal None) is = none.1.1.1.1.1.1.1.0 is
+none_named words none (Normal (Some Zero)) is = none.1.1.1.1.1.1.1.1.0 is
+none_named words none (Normal (Some One)) is = none.1.1.1.1.1.1.1.1.1.0 is
+none_named words none (Count None) is = none.1.1.1.1.1.1.1.1.1.1.0 is
+none_named words none (Count (Some Zero)) is = none.1.1.1.1.1.1.1.1.1.1.1.0 is
+none_named words none (Count (Some One)) is = none.1.1.1.1.1.1.1.1.1.1.1.1.0 is
 
 decided : (words : List (List ℕ)) → Decided words
 decided [] = inr (λ action is. cc)

@@ -56,7 +56,7 @@ first_datagram = record { dir = Out; local = 40000; host = no_host; remote = 69;
 abbrev pub IsMemoryOutput : Action → Output → Type 0
 IsMemoryOutput (Check rollover) output = output ≡ record { bytes = memory_line; status = status.Fault }
 IsMemoryOutput (Extract rollover) output = output ≡ record { bytes = []; status = status.Fault }
-IsMemoryOutput Normal output = output ≡ record { bytes = []; status = status.Fault }
+IsMemoryOutput (Normal rollover) output = output ≡ record { bytes = []; status = status.Fault }
 IsMemoryOutput Show output = (lines : List ℕ) × (output ≡ record { bytes = lines ++ memory_line; status = status.Fault })
 IsMemoryOutput (Count rollover) output = output ≡ record { bytes = memory_line; status = status.Fault }
 

@@ -11,7 +11,7 @@ use Rattle.tftp_commands.specs.declared.words.UsageFault.TheVariants as usage
 abbrev pub name_of : Action → List ℕ
 name_of (Check rollover) = codes "check"
 name_of (Extract rollover) = codes "extract"
-name_of Normal = codes "normal"
+name_of (Normal rollover) = codes "normal"
 name_of Show = codes "show"
 name_of (Count rollover) = codes "count"
 
@@ -19,7 +19,7 @@ name_of (Count rollover) = codes "count"
 abbrev pub rollover_of : Action → Option Rollover
 rollover_of (Check rollover) = rollover
 rollover_of (Extract rollover) = rollover
-rollover_of Normal = None
+rollover_of (Normal rollover) = rollover
 rollover_of Show = None
 rollover_of (Count rollover) = rollover
 
@@ -43,7 +43,7 @@ IsNoCommand words = (action : Action) → IsCommand action words → ⊥
 abbrev pub memory_fault : Action → UsageFault
 memory_fault (Check rollover) = usage.Memory
 memory_fault (Extract rollover) = usage.Silent
-memory_fault Normal = usage.Silent
+memory_fault (Normal rollover) = usage.Silent
 memory_fault Show = usage.Memory
 memory_fault (Count rollover) = usage.Memory
 

@@ -16,8 +16,9 @@ use tftp_judge::{OutFault, extract, judge_text};
 use tftp_normal::{NormalFault, normalise};
 
 /// Runs a command. `check` says in one line what a capture text means, and `count` how many datagrams its normal capture has;
-/// both say why a text is not accepted, and go by what comes after block 65535. `extract` writes its file (RFC 1350, section 1), and `normal` its normal text, and
-/// nothing beside it: of a text that is not accepted, or where memory runs out, nothing; and an empty file makes no write.
+/// both say why a text is not accepted. `extract` writes its file (RFC 1350, section 1), and `normal` its normal text, and
+/// nothing beside it: of a text that is not accepted, or where memory runs out, nothing; and an empty file makes no write. All
+/// four go by what comes after block 65535. `show` judges nothing.
 pub fn run_command<R: Read, W: Write>(
     alloc: Global,
     action: Action,
@@ -42,7 +43,7 @@ pub fn run_command<R: Read, W: Write>(
             Err(OutFault::Verdict(verdict)) => status_of(verdict),
             Err(OutFault::Write) => Status::Fault,
         },
-        Action::Normal => match normalise(alloc, reader, writer) {
+        Action::Normal(rollover) => match normalise(alloc, rollover, reader, writer) {
             Ok(()) => Status::Success,
             Err(NormalFault::Verdict(verdict)) => status_of(verdict),
             Err(NormalFault::Write) => Status::Fault,

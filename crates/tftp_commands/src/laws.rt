@@ -42,7 +42,7 @@ pub fn extract_has_one_output()
 
 /// `normal` has at most one right output on its source that does not come of being out of memory.
 pub fn normal_has_one_output()
-    ensures { (source : Source) (one other : Output) (first : IsNormalised source one) (second : IsNormalised source other) → SaysNoMemory first.said → SaysNoMemory second.said
+    ensures { (rollover : Option Rollover) (source : Source) (one other : Output) (first : IsNormalised rollover source one) (second : IsNormalised rollover source other) → SaysNoMemory first.said → SaysNoMemory second.said
         → one ≡ other }
 {
     text_has_one_verdict();

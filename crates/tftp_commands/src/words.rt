@@ -16,7 +16,7 @@ pub enum Action {
     /// Write the file of a capture.
     Extract(Option<Rollover>),
     /// Write the normal text of a capture.
-    Normal,
+    Normal(Option<Rollover>),
     /// Say what datagrams a capture has.
     Show,
     /// Say how many datagrams the normal capture of a capture has.
@@ -87,8 +87,8 @@ fn action_named(name: &str, rollover: Option<Rollover>) -> Option<Action>
     match name {
         "check" => Some(Action::Check(rollover)),
         "extract" => Some(Action::Extract(rollover)),
+        "normal" => Some(Action::Normal(rollover)),
         "count" => Some(Action::Count(rollover)),
-        "normal" if rollover.is_none() => Some(Action::Normal),
         "show" if rollover.is_none() => Some(Action::Show),
         _ => None,
     }
@@ -115,7 +115,7 @@ fn fault_of(action: Action, kind: ErrorKind) -> UsageFault
         ErrorKind::OutOfMemory => match action {
             Action::Check(_) => UsageFault::Memory,
             Action::Extract(_) => UsageFault::Silent,
-            Action::Normal => UsageFault::Silent,
+            Action::Normal(_) => UsageFault::Silent,
             Action::Show => UsageFault::Memory,
             Action::Count(_) => UsageFault::Memory,
         },

@@ -107,6 +107,12 @@ most_blocks m get nothing_agreed many =
     let w = ap (λ o. number_or 1 (map.get o (codes "windowsize"))) nothing_agreed ∙ ap (number_or 1) (none (codes "windowsize")) in
     λ i. opening_count (get i) (agreed i) + many i + window_count (w i) (many i)
 
+pub most_again : (m : Meaning) → m.side ≡ Get → NothingAgreed m → blocks_of m ≡ 8388607 → normal_count m ≡ 16777215
+most_again m get nothing_agreed many =
+    let agreed = ap map.len nothing_agreed ∙ map.len-empty (slice_cmp nat_cmp) OptionValue in
+    let w = ap (λ o. number_or 1 (map.get o (codes "windowsize"))) nothing_agreed ∙ ap (number_or 1) (none (codes "windowsize")) in
+    λ i. opening_count (get i) (agreed i) + many i + window_count (w i) (many i)
+
 pub most_in_one : (m : Meaning) (more : ℕ) → m.side ≡ Get → map.len m.agreed ≡ suc more → windowsize_of m ≡ 65535 → blocks_of m ≡ 65535 → normal_count m ≡ 65539
 most_in_one m more get some wide many = λ i. opening_count (get i) (some i) + many i + window_count (wide i) (many i)
 

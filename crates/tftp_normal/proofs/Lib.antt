@@ -2,9 +2,11 @@ pub mod Counted
 pub mod Shortest
 pub mod Lengths
 pub mod Windows
+pub mod ByNumber
 pub mod Going
 pub mod Shown
 pub mod Lawful
+pub mod FirstRound
 pub mod TextLength
 pub mod Texts
 pub mod Headline
@@ -17,4 +19,5 @@ pub mod OpeningPut
 pub mod TextPut
 pub mod Taken
 pub mod Computed
+pub mod PastTheRound
 pub mod Runs

@@ -1,13 +1,15 @@
 -- The one capture that is written for a meaning: taken at the client, nothing lost, repeated or out of order, and an
 -- ACK only where the next window, or the end, needs one (RFC 1350, sections 2, 4 and 6; RFC 2347; RFC 7440, section 4).
-use Rattle.std.specs.Prelude.{ℕ, zero, suc, ◌+◌, ◌-◌, ◌/◌, min, List, [], ◌∷◌, ◌++◌, map as each, None}
+use Rattle.std.specs.Prelude.{ℕ, zero, suc, ◌+◌, ◌-◌, ◌/◌, min, List, [], ◌∷◌, ◌++◌, map as each, Option, Some, None}
 use Rattle.std.specs.FinMap as map
 use Rattle.tftp_packet.specs.Hosts.{no_host, Datagram, Header}
-use Rattle.tftp_packet.specs.{Side, Get, Put, End, Client, Server, canonical}
+use Rattle.tftp_packet.specs.{Message, Rollover, Side, Get, Put, End, Client, Server, canonical}
+use Rattle.tftp_packet.specs.Rounds.{first_of, number_of}
 use Rattle.tftp_capture.specs.{text_of}
 use Rattle.law_model.specs.Model.{Meaning, windowsize_of, MachinePacket, Req, Oack, Data, Ack, Deed, Sent, Took, message_of}
 use Rattle.law_model.specs.Model.Machines.{sender_of, receiver_of}
 use Rattle.law_end.specs.{dir_of, wire_of, blocks_of}
+use Rattle.law_rollover.specs.{by_number}
 
 -- how many windows of w blocks hold n blocks
 abbrev pub window_count : (w n : ℕ) → ℕ
@@ -64,24 +66,45 @@ abbrev pub normal_remote : MachinePacket → ℕ
 normal_remote Req = 69
 normal_remote _ = 50001
 
-abbrev pub normal_datagram : Meaning → MachinePacket → Datagram
-normal_datagram m p = record {
+-- the number that a datagram has for a block: the block itself, or where numbers begin again the block's number
+abbrev pub number_by : Option Rollover → ℕ → ℕ
+number_by None k = k
+number_by (Some r) k = number_of (first_of r) k
+
+-- the message as a datagram has it, so numbered
+abbrev pub message_by : Option Rollover → Message → Message
+message_by None message = message
+message_by (Some r) message = by_number r message
+
+abbrev pub normal_datagram_by : Option Rollover → Meaning → MachinePacket → Datagram
+normal_datagram_by rollover m p = record {
   dir = dir_of (client_deed m.side p);
   local = 50000;
   host = no_host;
   remote = normal_remote p;
-  payload = canonical (message_of m (wire_of m) p);
+  payload = canonical (message_by rollover (message_of m (wire_of m) p));
 }
 
+-- a text does not say what comes after block 65535
 abbrev pub normal_header : Header
 normal_header = record { named = Client; service = 69; rollover = None }
 
-abbrev pub normal_datagrams : Meaning → List Datagram
-normal_datagrams m = each (normal_datagram m) (normal_packets m)
+abbrev pub normal_datagrams_by : Option Rollover → Meaning → List Datagram
+normal_datagrams_by rollover m = each (normal_datagram_by rollover m) (normal_packets m)
 
 -- the canonical text of it
+abbrev pub normal_text_by : Option Rollover → Meaning → List ℕ
+normal_text_by rollover m = text_of normal_header (normal_datagrams_by rollover m)
+
+-- the same where blocks go up to 65535
+abbrev pub normal_datagram : Meaning → MachinePacket → Datagram
+normal_datagram = normal_datagram_by None
+
+abbrev pub normal_datagrams : Meaning → List Datagram
+normal_datagrams = normal_datagrams_by None
+
 abbrev pub normal_text : Meaning → List ℕ
-normal_text m = text_of normal_header (normal_datagrams m)
+normal_text = normal_text_by None
 
 -- ---- how many they are
 

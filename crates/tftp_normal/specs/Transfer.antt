@@ -1,7 +1,7 @@
 -- A transfer that is to be written, by its parts in memory, and the DATA of its wire in turn (RFC 1350, section 2).
 use Rattle.std.specs.Prelude.{◌≡◌, ℕ, ◌≤◌, List, length, take, Option, Some, None, option_map}
 use Rattle.law_model.specs.Model.{Meaning}
-use Rattle.law_end.specs.{meaning_from, blocks_of, CanBeWritten}
+use Rattle.law_end.specs.{meaning_from, blocks_of, CanBeNumbered}
 use Rattle.tftp_judge.specs.{file_in, IsCanonical}
 use Rattle.tftp_normal.specs.declared.transfer.Transfer.TheInside as transfer
 use Rattle.tftp_normal.specs.declared.data_packets.DataPackets.TheInside as packets
@@ -9,9 +9,10 @@ use Rattle.tftp_normal.specs.declared.data_packets.DataPackets.TheInside as pack
 abbrev pub meaning_in : transfer.Inside → Meaning
 meaning_in t = meaning_from (t.request.now, (t.agreed.now, file_in t.request.now.mode t.file.now))
 
--- it can be written, and has so many blocks; a wire is kept only where it is the one that is written
+-- It can be written, whether numbers begin again or not, and has so many blocks; a wire is kept only where it is the one that is
+-- written.
 pub record IsToBeWritten (t : transfer.Inside) : Type 0 where
-  pub can : CanBeWritten None (meaning_in t)
+  pub can : CanBeNumbered (meaning_in t)
   pub counted : t.blocks ≡ blocks_of (meaning_in t)
   pub canonical : IsCanonical t.request.now.mode t.file.now
 

@@ -1,11 +1,13 @@
 -- Four small transfers, and the normal capture of each: a read of two bytes without options, a read of 43 bytes by
--- windows of four blocks, a write in lock step, and a read of a text in which a block ends between CR and LF.
+-- windows of four blocks, a write in lock step, and a read of a text in which a block ends between CR and LF. And the blocks of a
+-- read about which numbers begin again.
 use Rattle.std.specs.Prelude.{ℕ, List, [], ◌∷◌, ◌++◌, codes}
 use Rattle.tftp_packet.specs.Hosts.{no_host, Datagram}
 use Rattle.tftp_packet.specs.{In, Out}
 use Rattle.tftp_packet.specs.{Get, Put, Octet, Netascii}
 use Rattle.tftp_capture.specs.{line}
-use Rattle.law_model.specs.Model.{Meaning, eight_a_block}
+use Rattle.law_model.specs.Model.{Meaning, MachinePacket, Data, Ack, blksize_of, block, eight_a_block}
+use Rattle.law_end.specs.{wire_of}
 
 -- what goes out from the client first, to the service port, and what goes on between the two ends' own ports
 abbrev pub asks : List ℕ → Datagram
@@ -82,5 +84,34 @@ line_end_cut_datagrams =
     ∷ came (0 ∷ 3 ∷ 0 ∷ 1 ∷ codes "abcdefg" ++ 13 ∷ [])
     ∷ went (0 ∷ 4 ∷ 0 ∷ 1 ∷ [])
     ∷ came (0 ∷ 3 ∷ 0 ∷ 2 ∷ 10 ∷ codes "h")
+    ∷ went (0 ∷ 4 ∷ 0 ∷ 2 ∷ [])
+    ∷ []
+
+-- ---- numbers that begin again
+
+abbrev pub past_the_round : List MachinePacket
+past_the_round = Data 65536 ∷ Ack 65536 ∷ Data 65537 ∷ Data 131071 ∷ Data 131072 ∷ Ack 131072 ∷ []
+
+-- the DATA of a block by these two bytes for its number
+abbrev pub came_as : Meaning → (k high low : ℕ) → Datagram
+came_as m k high low = came (0 ∷ 3 ∷ high ∷ low ∷ block (blksize_of m) (wire_of m) k)
+
+abbrev pub past_the_round_by_zero : Meaning → List Datagram
+past_the_round_by_zero m =
+    came_as m 65536 0 0
+    ∷ went (0 ∷ 4 ∷ 0 ∷ 0 ∷ [])
+    ∷ came_as m 65537 0 1
+    ∷ came_as m 131071 255 255
+    ∷ came_as m 131072 0 0
+    ∷ went (0 ∷ 4 ∷ 0 ∷ 0 ∷ [])
+    ∷ []
+
+abbrev pub past_the_round_by_one : Meaning → List Datagram
+past_the_round_by_one m =
+    came_as m 65536 0 1
+    ∷ went (0 ∷ 4 ∷ 0 ∷ 1 ∷ [])
+    ∷ came_as m 65537 0 2
+    ∷ came_as m 131071 0 1
+    ∷ came_as m 131072 0 2
     ∷ went (0 ∷ 4 ∷ 0 ∷ 2 ∷ [])
     ∷ []

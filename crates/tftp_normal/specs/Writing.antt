@@ -1,12 +1,12 @@
 -- What is written of a capture: the lines of its datagrams, one after another.
 use Rattle.std.specs.Prelude.{◌≡◌, ℕ, ◌+◌, false, List, length, map as each, Option, Result, Ok, Err}
 use Rattle.tftp_packet.specs.Hosts.{no_host, Datagram}
-use Rattle.tftp_packet.specs.{Dir, In, Out}
+use Rattle.tftp_packet.specs.{Dir, In, Out, Rollover}
 use Rattle.tftp_packet.specs.{End, Client, Server}
 use Rattle.tftp_capture.specs.{datagram_line, whole_lines}
 use Rattle.net_streams.specs.Streams.{Gathers, Sink, Stops}
 use Rattle.law_model.specs.Model.{Meaning, MachinePacket}
-use Rattle.tftp_normal.specs.Normal.{normal_datagram}
+use Rattle.tftp_normal.specs.Normal.{normal_datagram_by}
 
 -- a datagram that an end sent from its own port, seen at the client
 abbrev pub dir_from : End → Dir
@@ -21,8 +21,8 @@ abbrev pub asked_by : List ℕ → Datagram
 asked_by payload = record { dir = Out; local = 50000; host = no_host; remote = 69; payload = payload }
 
 -- the datagrams of packets
-abbrev pub datagrams_of : Meaning → List MachinePacket → List Datagram
-datagrams_of m packets = each (normal_datagram m) packets
+abbrev pub datagrams_of : Option Rollover → Meaning → List MachinePacket → List Datagram
+datagrams_of rollover m packets = each (normal_datagram_by rollover m) packets
 
 -- the lines of datagrams
 abbrev pub lines_of : List Datagram → List ℕ

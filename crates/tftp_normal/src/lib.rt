@@ -5,6 +5,7 @@ mod data_packets;
 mod fault;
 pub mod laws;
 mod normal;
+mod numbers;
 mod transfer;
 mod wire_blocks;
 pub mod worked;

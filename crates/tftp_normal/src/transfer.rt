@@ -15,7 +15,7 @@ pub(crate) struct Transfer<'a> {
     request: &'a Request,
     agreed: &'a Options,
     file: &'a FileBytes,
-    blocks: u16,
+    blocks: u32,
 }
 
 impl<'a> Model for Transfer<'a> {
@@ -33,13 +33,13 @@ impl<'a> Model for Transfer<'a> {
 }
 
 impl<'a> Transfer<'a> {
-    ghost use Rattle.std.specs.Prelude.{◌≡◌, ◌≢◌, ◌↔◌, ◌+◌, ◌≤◌, min, length, None, IfOk, IsTrue};
+    ghost use Rattle.std.specs.Prelude.{◌≡◌, ◌≢◌, ◌↔◌, ◌+◌, ◌^◌, ◌≤◌, min, length, IfOk, IsTrue};
     ghost use Rattle.std.specs.FinMap as map;
     ghost use Rattle.tftp_packet.specs.Messages.{Message};
     ghost use Rattle.tftp_packet.specs.Canonical.{canonical};
     ghost use Rattle.law_model.specs.Model.Meanings.{request_of, blksize_of, windowsize_of};
     ghost use Rattle.law_end.specs.Owned.{meaning_from};
-    ghost use Rattle.law_end.specs.Writable.{blocks_of, CanBeWritten};
+    ghost use Rattle.law_end.specs.Writable.{blocks_of, CanBeNumbered};
     ghost use Rattle.law_end.specs.Fitting.{written_wire};
     ghost use Rattle.tftp_judge.specs.{file_in, IsCanonical};
     ghost use Rattle.tftp_normal.specs.Normal.{normal_count};
@@ -51,7 +51,7 @@ impl<'a> Transfer<'a> {
         file: &'a FileBytes,
         blocks: u32,
     ) -> Self
-        requires can { CanBeWritten None (meaning_from (request.now, (agreed.now, file_in request.now.mode file.now))) }
+        requires can { CanBeNumbered (meaning_from (request.now, (agreed.now, file_in request.now.mode file.now))) }
         requires counted { blocks ≡ blocks_of (meaning_from (request.now, (agreed.now, file_in request.now.mode file.now))) }
         requires canonical { IsCanonical request.now.mode file.now }
         ensures { result ≡ meaning_from (request.now, (agreed.now, file_in request.now.mode file.now)) }
@@ -60,7 +60,7 @@ impl<'a> Transfer<'a> {
             request,
             agreed,
             file,
-            blocks: blocks as u16,
+            blocks,
         }
     }
 
@@ -82,9 +82,9 @@ impl<'a> Transfer<'a> {
     }
 
     /// How many blocks the wire has.
-    pub(crate) fn blocks(&self) -> u16
+    pub(crate) fn blocks(&self) -> u32
         ensures count { result ≡ blocks_of self.now }
-        ensures few { normal_count self.now ≤ 131073 }
+        ensures few { normal_count self.now ≤ 2 ^ 24 + 1 }
     {
         self.blocks
     }
@@ -116,12 +116,12 @@ impl<'a> Transfer<'a> {
     }
 
     /// The last block of the window after an acknowledged block.
-    pub(crate) fn window_end(&self, acked: u16) -> u16
+    pub(crate) fn window_end(&self, acked: u32) -> u32
         requires { acked ≤ blocks_of self.now }
         ensures { result ≡ min (acked + windowsize_of self.now) (blocks_of self.now) }
     {
         let left = u64::from(self.blocks() - acked);
-        acked + left.min(self.window_size()) as u16
+        acked + left.min(self.window_size()) as u32
     }
 
     /// The bytes of the request.

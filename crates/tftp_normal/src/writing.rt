@@ -3,22 +3,25 @@
 ghost use Rattle.std.specs.Prelude.{◌≡◌, ◌≢◌, ◌+◌, ◌-◌, ◌*◌, ◌^◌, ◌≤◌, [], ◌∷◌, ◌++◌, length, drop, true, false, Ok, OnOk, None};
 ghost use Rattle.std.specs.FinMap as map;
 ghost use Rattle.tftp_packet.specs.{Message, canonical, End};
+ghost use Rattle.tftp_packet.specs.Rounds.{greatest_of};
 ghost use Rattle.net_streams.specs.Streams.{Writes};
 ghost use Rattle.law_model.specs.Model.{Meaning, request_of, blksize_of, windowsize_of};
 ghost use Rattle.law_model.specs.Model.Machines.{sender_of};
 ghost use Rattle.law_end.specs.{wire_of, blocks_of, CanBeWritten};
-ghost use Rattle.tftp_normal.specs.Normal.{opening, blocks_after, windows_after, windows_of, normal_count, normal_text};
+ghost use Rattle.tftp_normal.specs.Normal.{opening, blocks_after, windows_after, windows_of, normal_count, normal_text_by, number_by};
 ghost use Rattle.tftp_normal.specs.Normalised.{Normalises};
 ghost use Rattle.tftp_normal.specs.Writing.{asked_by, dir_from, sent_by, datagrams_of, Puts};
 
 use crate::data_packets::DataPackets;
 use crate::fault::NormalFault;
+use crate::numbers::number_of;
 use crate::transfer::Transfer;
 use net_streams::streams::{LineWriter, WriteFault};
 use std::alloc::Global;
 use std::io::Write;
 use tftp_capture::{CaptureWriter, Header};
 use tftp_packet::hosts::Dir;
+use tftp_packet::rounds::Rollover;
 use tftp_packet::{End, Side};
 
 /// The client's own port.
@@ -81,35 +84,37 @@ fn put_data<W: Write>(
     )
 }
 
-/// Puts the acknowledgement of a block, or of block 0 (RFC 1350, section 5).
+/// Puts the acknowledgement with this number (RFC 1350, section 5).
 fn put_ack<W: Write>(
     author: End,
-    block: u16,
+    number: u16,
     capture: &mut CaptureWriter,
     writer: &mut LineWriter<W>,
 ) -> Result<(), WriteFault>
     requires few { capture.old + 1 ≤ 2 ^ 40 }
-    ensures { Puts W.contents writer.old writer.new result capture.old capture.new (sent_by author (canonical (Message.Ack block)) ∷ []) }
+    ensures { Puts W.contents writer.old writer.new result capture.old capture.new (sent_by author (canonical (Message.Ack number)) ∷ []) }
 {
-    let payload = (ACK + u32::from(block)).to_be_bytes();
+    let payload = (ACK + u32::from(number)).to_be_bytes();
     put_from(author, &payload, capture, writer)
 }
 
 /// Puts the blocks of a window, after one block and up to another.
 fn put_blocks<W: Write>(
+    rollover: Option<Rollover>,
     transfer: &Transfer<'_>,
     packets: &mut DataPackets<'_>,
-    acked: u16,
-    last: u16,
+    acked: u32,
+    last: u32,
     capture: &mut CaptureWriter,
     writer: &mut LineWriter<W>,
 ) -> Result<(), WriteFault>
     requires clean { writer.old.failed ≡ false }
     requires order { acked ≤ last }
+    requires numbered { last ≤ greatest_of rollover }
     requires few { capture.old + (last - acked) ≤ 2 ^ 40 }
     requires size { packets.old.size ≡ blksize_of transfer.now }
     requires left { packets.old.left ≡ drop (acked * blksize_of transfer.now) (wire_of transfer.now) }
-    ensures puts { Puts W.contents writer.old writer.new result capture.old capture.new (datagrams_of transfer.now (blocks_after acked (last - acked))) }
+    ensures puts { Puts W.contents writer.old writer.new result capture.old capture.new (datagrams_of rollover transfer.now (blocks_after acked (last - acked))) }
     ensures size { packets.new.size ≡ packets.old.size }
     ensures left { OnOk result (packets.new.left ≡ drop (last * blksize_of transfer.now) (wire_of transfer.now)) }
 {
@@ -120,7 +125,7 @@ fn put_blocks<W: Write>(
     let mut block = acked;
     while block < last {
         block += 1;
-        packets.fill(block);
+        packets.fill(number_of(rollover, block));
         put_data(author, packets.head(), packets.block(), capture, writer)?;
     }
     Ok(())
@@ -128,6 +133,7 @@ fn put_blocks<W: Write>(
 
 /// Puts the windows one after another, each with the acknowledgement of its last block (RFC 7440, section 4).
 fn put_windows<W: Write>(
+    rollover: Option<Rollover>,
     transfer: &Transfer<'_>,
     packets: &mut DataPackets<'_>,
     capture: &mut CaptureWriter,
@@ -135,10 +141,11 @@ fn put_windows<W: Write>(
 ) -> Result<(), WriteFault>
     requires clean { writer.old.failed ≡ false }
     requires window { 1 ≤ windowsize_of transfer.now }
-    requires few { capture.old + length (datagrams_of transfer.now (windows_after (windowsize_of transfer.now) (blocks_of transfer.now) 0 (windows_of transfer.now))) ≤ 2 ^ 40 }
+    requires numbered { blocks_of transfer.now ≤ greatest_of rollover }
+    requires few { capture.old + length (datagrams_of rollover transfer.now (windows_after (windowsize_of transfer.now) (blocks_of transfer.now) 0 (windows_of transfer.now))) ≤ 2 ^ 40 }
     requires size { packets.old.size ≡ blksize_of transfer.now }
     requires left { packets.old.left ≡ wire_of transfer.now }
-    ensures { Puts W.contents writer.old writer.new result capture.old capture.new (datagrams_of transfer.now (windows_after (windowsize_of transfer.now) (blocks_of transfer.now) 0 (windows_of transfer.now))) }
+    ensures { Puts W.contents writer.old writer.new result capture.old capture.new (datagrams_of rollover transfer.now (windows_after (windowsize_of transfer.now) (blocks_of transfer.now) 0 (windows_of transfer.now))) }
 {
     let author = match transfer.side() {
         Side::Get => End::Client,
@@ -147,14 +154,14 @@ fn put_windows<W: Write>(
     let mut acked = 0;
     while acked < transfer.blocks() {
         let last = transfer.window_end(acked);
-        put_blocks(transfer, packets, acked, last, capture, writer)?;
-        put_ack(author, last, capture, writer)?;
+        put_blocks(rollover, transfer, packets, acked, last, capture, writer)?;
+        put_ack(author, number_of(rollover, last), capture, writer)?;
         acked = last;
     }
     Ok(())
 }
 
-/// Puts the request and what answers it (RFC 1350, section 4; RFC 2347).
+/// Puts the request and what answers it (RFC 1350, section 4; RFC 2347), of which an ACK is of block 0.
 fn put_opening<W: Write>(
     transfer: &Transfer<'_>,
     request: &[u8],
@@ -167,7 +174,7 @@ fn put_opening<W: Write>(
     requires request_short { length request.now ≤ 65527 }
     requires oack { oack.now ≡ canonical (Message.Oack transfer.now.agreed) }
     requires oack_short { map.len transfer.now.agreed ≢ 0 → length oack.now ≤ 65527 }
-    ensures { Puts W.contents writer.old writer.new result capture.old capture.new (datagrams_of transfer.now (opening transfer.now)) }
+    ensures { Puts W.contents writer.old writer.new result capture.old capture.new (datagrams_of None transfer.now (opening transfer.now)) }
 {
     put_request(request, capture, writer)?;
     match (transfer.side(), transfer.is_plain()) {
@@ -197,6 +204,7 @@ fn put_request<W: Write>(
 
 /// Writes a normal capture whose packets are at hand. It wants no memory.
 fn write_capture<W: Write>(
+    rollover: Option<Rollover>,
     transfer: &Transfer<'_>,
     request: &[u8],
     oack: &[u8],
@@ -204,14 +212,15 @@ fn write_capture<W: Write>(
     writer: &mut LineWriter<W>,
 ) -> Result<(), WriteFault>
     requires window { 1 ≤ windowsize_of transfer.now }
-    requires few { normal_count transfer.now ≤ 131073 }
+    requires numbered { blocks_of transfer.now ≤ greatest_of rollover }
+    requires few { normal_count transfer.now ≤ 2 ^ 24 + 1 }
     requires size { packets.old.size ≡ blksize_of transfer.now }
     requires left { packets.old.left ≡ wire_of transfer.now }
     requires request { request.now ≡ canonical (Message.Request (request_of transfer.now)) }
     requires request_short { length request.now ≤ 65527 }
     requires oack { oack.now ≡ canonical (Message.Oack transfer.now.agreed) }
     requires oack_short { map.len transfer.now.agreed ≢ 0 → length oack.now ≤ 65527 }
-    ensures { Writes W.contents writer.old writer.new result (normal_text transfer.now) }
+    ensures { Writes W.contents writer.old writer.new result (normal_text_by rollover transfer.now) }
 {
     let header = Header {
         named: End::Client,
@@ -220,23 +229,25 @@ fn write_capture<W: Write>(
     };
     let mut capture = CaptureWriter::begin(writer, &header)?;
     put_opening(transfer, request, oack, &mut capture, writer)?;
-    put_windows(transfer, packets, &mut capture, writer)?;
+    put_windows(rollover, transfer, packets, &mut capture, writer)?;
     capture.close(writer)
 }
 
 /// Writes the normal capture of a transfer. It takes all memory that it needs before it writes.
 pub(crate) fn write_normal<W: Write>(
     alloc: Global,
+    rollover: Option<Rollover>,
     transfer: &Transfer<'_>,
     writer: &mut LineWriter<W>,
 ) -> Result<(), NormalFault>
-    requires can { CanBeWritten None transfer.now }
-    ensures normalises { Normalises W.contents writer.old writer.new (Ok transfer.now) result }
+    requires can { CanBeWritten rollover transfer.now }
+    ensures normalises { Normalises rollover W.contents writer.old writer.new (Ok transfer.now) result }
 {
     let request = transfer.request_payload(alloc)?;
     let oack = transfer.oack_payload(alloc)?;
     let mut packets = DataPackets::new(alloc, transfer.wire(), transfer.block_size())?;
     write_capture(
+        rollover,
         transfer,
         request.as_slice(),
         oack.as_slice(),

@@ -51,19 +51,19 @@ returns-in-Err-Write g c =
 pub returns-in-Ok-normalise : goal.returns-in-Ok-normalise
 returns-in-Ok-normalise g c =
     let e = c.in-Ok-normalise.ensures in
-    rw c.in-Normal.is (normalised_runs g.W.Write.contents c.args.writer.now c.normalise.new.writer g.R.Read.remaining c.args.reader.now c.normalise.new.reader (Ok c.in-Ok-normalise.field-0) c.requires.fresh e.normalises e.whole)
+    rw c.in-Normal.is (normalised_runs c.in-Normal.rollover g.W.Write.contents c.args.writer.now c.normalise.new.writer g.R.Read.remaining c.args.reader.now c.normalise.new.reader (Ok c.in-Ok-normalise.field-0) c.requires.fresh e.normalises e.whole)
 
 pub returns-in-Err-Verdict-normalise : goal.returns-in-Err-Verdict-normalise
 returns-in-Err-Verdict-normalise g c =
     let e = rw c.in-Err-Verdict-normalise.field-0-is at c.in-Err-Verdict-normalise.ensures in
-    rw c.in-Normal.is (rw c.status_of-in-Err-Verdict-normalise.ensures (normalised_runs g.W.Write.contents c.args.writer.now c.normalise.new.writer g.R.Read.remaining c.args.reader.now c.normalise.new.reader (Err (normalising.Verdict c.in-Err-Verdict-normalise.verdict)) c.requires.fresh e.normalises e.whole))
+    rw c.in-Normal.is (rw c.status_of-in-Err-Verdict-normalise.ensures (normalised_runs c.in-Normal.rollover g.W.Write.contents c.args.writer.now c.normalise.new.writer g.R.Read.remaining c.args.reader.now c.normalise.new.reader (Err (normalising.Verdict c.in-Err-Verdict-normalise.verdict)) c.requires.fresh e.normalises e.whole))
 
 pub returns-in-Err-Write-normalise : goal.returns-in-Err-Write-normalise
 returns-in-Err-Write-normalise g c =
     let e = rw c.in-Err-Write-normalise.field-0-is at c.in-Err-Write-normalise.ensures in
-    rw c.in-Normal.is (normalised_runs g.W.Write.contents c.args.writer.now c.normalise.new.writer g.R.Read.remaining c.args.reader.now c.normalise.new.reader (Err normalising.Write) c.requires.fresh e.normalises e.whole)
+    rw c.in-Normal.is (normalised_runs c.in-Normal.rollover g.W.Write.contents c.args.writer.now c.normalise.new.writer g.R.Read.remaining c.args.reader.now c.normalise.new.reader (Err normalising.Write) c.requires.fresh e.normalises e.whole)
 
 pub returns-in-Err-Memory : goal.returns-in-Err-Memory
 returns-in-Err-Memory g c =
     let e = rw c.in-Err-Memory.field-0-is at c.in-Err-Memory.ensures in
-    rw c.in-Normal.is (normalised_runs g.W.Write.contents c.args.writer.now c.normalise.new.writer g.R.Read.remaining c.args.reader.now c.normalise.new.reader (Err normalising.Memory) c.requires.fresh e.normalises e.whole)
+    rw c.in-Normal.is (normalised_runs c.in-Normal.rollover g.W.Write.contents c.args.writer.now c.normalise.new.writer g.R.Read.remaining c.args.reader.now c.normalise.new.reader (Err normalising.Memory) c.requires.fresh e.normalises e.whole)

@@ -19,4 +19,4 @@ pub returns-clause-count : goal.returns-clause-count
 returns-clause-count c = parts (goal.at.returns-clause-count c).After-div_ceil
 
 pub returns-clause-datagrams : goal.returns-clause-datagrams
-returns-clause-datagrams c = parts (goal.at.returns-clause-datagrams c).After-div_ceil ∙ sym (counted c.args.meaning.now c.blocks-2.ensures.can.1.window_size)
+returns-clause-datagrams c = λ rollover. parts (goal.at.returns-clause-datagrams c).After-div_ceil ∙ sym (counted rollover c.args.meaning.now c.blocks-2.ensures.can.1.window_size)

@@ -11,7 +11,7 @@ invariant-loop-block g l = record {
   order : l.block ≤ l.last;
   size : l.packets.size ≡ blksize_of l.transfer;
   left : l.packets.left ≡ drop (l.block * blksize_of l.transfer) (wire_of l.transfer);
-  putting : Putting g.W.Write.contents l.initial.writer l.writer l.initial.capture l.capture (datagrams_of l.transfer (blocks_after l.block (l.last - l.block))) (datagrams_of l.transfer (blocks_after l.acked (l.last - l.acked)));
+  putting : Putting g.W.Write.contents l.initial.writer l.writer l.initial.capture l.capture (datagrams_of l.rollover l.transfer (blocks_after l.block (l.last - l.block))) (datagrams_of l.rollover l.transfer (blocks_after l.acked (l.last - l.acked)));
 }
 
 abbrev pub decreases-loop-block : goal.decreases-loop-block

@@ -10,7 +10,7 @@ invariant-loop-acked g l = record {
   order : l.acked ≤ blocks_of l.transfer;
   size : l.packets.size ≡ blksize_of l.transfer;
   left : l.packets.left ≡ drop (l.acked * blksize_of l.transfer) (wire_of l.transfer);
-  windows : WindowsLeft l.transfer g.W.Write.contents l.initial.writer l.writer l.initial.capture l.capture l.acked;
+  windows : WindowsLeft l.rollover l.transfer g.W.Write.contents l.initial.writer l.writer l.initial.capture l.capture l.acked;
 }
 
 abbrev pub decreases-loop-acked : goal.decreases-loop-acked

@@ -5,4 +5,4 @@ pub write_capture-requires-clause-window : goal.write_capture-requires-clause-wi
 write_capture-requires-clause-window g c = c.requires.can.window_size
 
 pub write_capture-requires-clause-few : goal.write_capture-requires-clause-few
-write_capture-requires-clause-few g c = few c.args.transfer.now c.requires.can
+write_capture-requires-clause-few g c = few c.args.rollover c.args.transfer.now c.requires.can
