@@ -45,7 +45,7 @@ pub struct VerdictRow<'a> {
     pub charge: Charge,
     /// How the transfer ended.
     pub ended: Conclusion,
-    /// Of what is refused between the ends, whether that stands whatever datagrams of the transfer were missed.
+    /// Of what is refused, whether that stands whatever datagrams of the transfer were missed; nothing where that is not known.
     pub stands: Option<bool>,
     /// How it went in time.
     pub times: Times,
@@ -84,7 +84,8 @@ impl<'a> VerdictRow<'a> {
             → IfOk result (λ row. IsChargeOf row.charge x (whole_of named carried) judged.now.doubted told.now.telling told.now.view.now) }
         ensures ended { (judging : JudgingKind) (x : Transfer) (named : List ℕ) (carried : List Carried) → IsJudgedOf judged.now judging x named carried
             → IfOk result (λ row. IsConclusionOf row.ended judged.now told.now x named carried) }
-        ensures stands { IfOk result (λ row. IsStanding told.now.view.now.found row.stands) }
+        ensures stands { (judging : JudgingKind) (x : Transfer) (named : List ℕ) (carried : List Carried) → IsJudgedOf judged.now judging x named carried
+            → IfOk result (λ row. IsStanding told.now.telling.point x told.now.view.now row.stands) }
         ensures times { (judging : JudgingKind) (x : Transfer) (named : List ℕ) (carried : List Carried) → IsJudgedOf judged.now judging x named carried
             → IfOk result (λ row. AreTimesOf row.times x (bytes_in told.now.view.now.found) named carried) }
     {
@@ -99,7 +100,7 @@ impl<'a> VerdictRow<'a> {
             verdict,
             charge,
             ended,
-            stands: told.view.found.stands(),
+            stands: told.stands(&judged.trail().transfer),
             times: times_told(judged, told),
         })
     }
