@@ -1,4 +1,5 @@
 mod Sent
 mod Named
 mod Stood
+mod StoodAtEnd
 mod Seen

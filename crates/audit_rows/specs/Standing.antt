@@ -1,6 +1,7 @@
--- What it means that a refusal between the ends stands whatever datagrams were missed. Lists have the newest first.
-use Rattle.std.specs.Prelude.{◌≡◌, ℕ, ◌+◌, List, ◌∷◌, ◌++◌, length}
-use Rattle.law_tap.specs.{TapDatagram, IsCertainBetween}
+-- What it means that a refusal stands whatever datagrams were missed. Lists have the newest first.
+use Rattle.std.specs.Prelude.{◌≡◌, ℕ, ◌+◌, List, ◌∷◌, ◌++◌, length, reverse}
+use Rattle.tftp_packet.specs.Hosts.{Datagram, Header}
+use Rattle.law_tap.specs.{TapDatagram, IsCertain, IsCertainBetween}
 use Rattle.judge_tap.specs.{HasBegun, IsNotCertain}
 use Rattle.audit_flows.specs.Lines.{Placed}
 use Rattle.audit_flows.specs.{Transfer}
@@ -21,3 +22,8 @@ abbrev pub IsOpenAt : Transfer → List Placed → ℕ → Type 0
 IsOpenAt x whole number =
     (earlier : List TapDatagram) × (d : TapDatagram) × IsNumbered x whole number earlier d
     × (HasBegun (sides_of x whole) (d ∷ earlier) → IsNotCertain (sides_of x whole) earlier d)
+
+-- At an end, of what was captured there: no lawful list has the datagram of this number, counted from 1, and those before it, however
+-- many more it has.
+abbrev pub IsCertainAtEnd : Header → List Datagram → ℕ → Type 0
+IsCertainAtEnd h captured number = (i : ℕ) × (number ≡ i + 1) × IsCertain h (reverse captured) i

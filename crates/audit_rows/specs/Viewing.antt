@@ -1,8 +1,10 @@
 -- What is said of a transfer at a point where it was judged, and of which datagram. Lists have the newest first.
-use Rattle.std.specs.Prelude.{◌≡◌, ◌||◌, ℕ, Bool, true, false, List, length, Option, Some, None, option_map, Ok, Err}
+use Rattle.std.specs.Prelude.{◌≡◌, ◌⊎◌, ◌||◌, ℕ, Bool, true, false, List, length, Option, Some, None, option_map, Ok, Err}
+use Rattle.law_end.specs.{Rule}
+use Rattle.law_tap.specs.{StandsAtEnd, StandsOfItsOwn}
 use Rattle.tftp_judge.specs.declared.refusal.Refusal.TheVariants as refusal
 use Rattle.judge_tap.specs.declared.refusal.TapRefusal.TheVariants as tap
-use Rattle.audit_flows.specs.Lines.{Placed}
+use Rattle.audit_flows.specs.Lines.{Placed, same_endpoint}
 use Rattle.audit_flows.specs.{Transfer}
 use Rattle.audit_views.specs.Parties.{host_name}
 use Rattle.audit_views.specs.Views.{IsJudgedWith, client_capture, client_header, server_capture, server_header}
@@ -10,6 +12,7 @@ use Rattle.audit_recording.specs.Between.{IsBetweenVerdict, between_capture, sid
 use Rattle.audit_recording.specs.Blame.Facts.{blamed_as, refused_between, refused_in}
 use Rattle.audit_recording.specs.Blame.Frames.{Carried, whole_of}
 use Rattle.audit_recording.specs.Rows.Told.{said_between, said_of}
+use Rattle.audit_recording.specs.declared.blame.blame.Blamed.{Blamed}
 use Rattle.audit_recording.specs.declared.rows.row.Point.{Point}
 use Rattle.audit_recording.specs.declared.rows.row.Point.TheVariants as point
 use Rattle.audit_recording.specs.declared.rows.said.Said.{Said}
@@ -39,12 +42,6 @@ is_aborted _ = false
 abbrev pub is_cut_short : Found → Bool
 is_cut_short found = is_aborted found || stops_early found
 
--- Of what is refused between the ends, it is said whether that stands whatever datagrams were missed, as the judge there tells it; of
--- all else nothing.
-abbrev pub IsStanding : Found → Option Bool → Type 0
-IsStanding (Between (Err (tap.Unlawful number rule told))) stands = stands ≡ told
-IsStanding _ stands = stands ≡ None
-
 -- how many bytes the file has, where the transfer is accepted
 abbrev pub bytes_in : Found → Option ℕ
 bytes_in (AtEnd (Ok m)) = Some (length m.file)
@@ -56,6 +53,26 @@ abbrev pub is_whole : Found → Bool
 is_whole (AtEnd (Ok m)) = true
 is_whole (Between (Ok m)) = true
 is_whole _ = false
+
+-- ---- what stands
+
+-- A refusal by this rule at an end is certain whatever datagrams were missed: at a server, which knows its client by the request, or of
+-- what a client sent itself.
+abbrev pub IsSureAt : Point → Transfer → Option Blamed → Rule → Type 0
+IsSureAt point.Server x blamed broken = StandsAtEnd broken
+IsSureAt point.Client x (Some b) broken = (same_endpoint b.source x.client ≡ true) × StandsOfItsOwn broken
+IsSureAt _ x blamed broken = ⊥
+
+-- Of what is refused it is said whether that stands whatever datagrams were missed: between the ends as the judge there tells it, and at
+-- an end that it does, where it is sure by its rule. Of all else nothing is said.
+abbrev pub IsStandingAs : Point → Transfer → Option Blamed → Found → Option Bool → Type 0
+IsStandingAs at x blamed (Between (Err (tap.Unlawful number broken told))) stands = stands ≡ told
+IsStandingAs at x blamed (AtEnd (Err (refusal.Unlawful number broken))) stands =
+    (IsSureAt at x blamed broken × (stands ≡ Some true)) ⊎ ((IsSureAt at x blamed broken → ⊥) × (stands ≡ None))
+IsStandingAs at x blamed _ stands = stands ≡ None
+
+abbrev pub IsStanding : Point → Transfer → Viewed → Option Bool → Type 0
+IsStanding at x v stands = IsStandingAs at x v.blamed v.found stands
 
 -- ---- the verdict at a point
 

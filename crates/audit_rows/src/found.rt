@@ -1,7 +1,7 @@
 //! What was found of a transfer at a point where it was judged.
 
 ghost use Rattle.std.specs.Prelude.{◌≡◌};
-ghost use Rattle.audit_rows.specs.Viewing.{IsStanding, bytes_in, is_cut_short, is_whole, said_by, stops_early};
+ghost use Rattle.audit_rows.specs.Viewing.{bytes_in, is_cut_short, is_whole, said_by, stops_early};
 
 use audit_recording::rows::Said;
 use judge_tap::TapRefusal;
@@ -55,16 +55,6 @@ impl Found {
         ensures { result ≡ is_whole self.now }
     {
         matches!(self, Found::AtEnd(Ok(_)) | Found::Between(Ok(_)))
-    }
-
-    /// Of what is refused between the ends, whether that stands whatever datagrams of the transfer were missed.
-    pub fn stands(&self) -> Option<bool>
-        ensures { IsStanding self.now result }
-    {
-        match self {
-            Found::Between(Err(TapRefusal::Unlawful(_, _, stands))) => *stands,
-            _ => None,
-        }
     }
 
     /// How many bytes came over, where it is accepted.

@@ -1,7 +1,9 @@
 //! Laws of the definitions in `specs/`. Each is the contract of a function that does nothing.
 
-ghost use Rattle.std.specs.Prelude.{◌≡◌, ◌∷◌, ◌++◌, [], ℕ, List, None, Option, Some, false, true};
+ghost use Rattle.std.specs.Prelude.{◌≡◌, ◌∷◌, ◌++◌, [], ℕ, List, None, Option, Result, Some, false, true};
 ghost use Rattle.tftp_packet.specs.{Client as ClientEnd};
+ghost use Rattle.law_model.specs.Model.{Meaning};
+ghost use Rattle.tftp_judge.specs.{Refusal};
 ghost use Rattle.audit_flows.specs.Lines.{Placed};
 ghost use Rattle.audit_flows.specs.{Transfer};
 ghost use Rattle.audit_recording.specs.{Accused, Telling};
@@ -18,8 +20,11 @@ ghost use Rattle.audit_recording.specs.declared.rows.row.Point.{Point as PointKi
 ghost use Rattle.audit_rows.specs.Accusing.{accused_of_row, is_listed};
 ghost use Rattle.audit_rows.specs.Charging.{unless_listed};
 ghost use Rattle.audit_rows.specs.Doubting.{row_reasons};
-ghost use Rattle.audit_rows.specs.Standing.{IsCertainAt, IsOpenAt};
-ghost use Rattle.audit_rows.specs.Viewing.{IsStanding, IsViewAt, number_in, said_in};
+ghost use Rattle.audit_rows.specs.Standing.{IsCertainAt, IsCertainAtEnd, IsOpenAt};
+ghost use Rattle.audit_rows.specs.Viewing.{IsStanding, IsStandingAs, IsViewAt, number_in, said_in};
+ghost use Rattle.audit_rows.specs.declared.found.Found.TheVariants.{AtEnd};
+ghost use Rattle.audit_views.specs.Parties.{host_name};
+ghost use Rattle.audit_views.specs.Views.{client_capture, client_header, server_capture, server_header};
 ghost use Rattle.audit_rows.specs.Worked.{worked_client, worked_early, worked_telling, worked_transfer, worked_view};
 ghost use Rattle.audit_rows.specs.declared.viewed.Viewed.{Viewed};
 
@@ -74,7 +79,20 @@ pub fn worked_row()
 /// request.
 pub fn what_stands_is_certain()
     ensures yes { (x : Transfer) (named : List ℕ) (carried : List Carried) (v : Viewed) → IsViewAt PointKind.Between x named carried v
-        → IsStanding v.found (Some true) → (number : ℕ) × (number_in v.found ≡ Some number) × IsCertainAt x (whole_of named carried) number }
+        → IsStanding PointKind.Between x v (Some true) → (number : ℕ) × (number_in v.found ≡ Some number) × IsCertainAt x (whole_of named carried) number }
     ensures no { (x : Transfer) (named : List ℕ) (carried : List Carried) (v : Viewed) → IsViewAt PointKind.Between x named carried v
-        → IsStanding v.found (Some false) → (number : ℕ) × (number_in v.found ≡ Some number) × IsOpenAt x (whole_of named carried) number }
+        → IsStanding PointKind.Between x v (Some false) → (number : ℕ) × (number_in v.found ≡ Some number) × IsOpenAt x (whole_of named carried) number }
+{}
+
+/// What is said to stand of a refusal at an end does: no lawful list has the refused datagram and those before it that were captured
+/// there, whatever datagrams were missed. That a refusal does not stand is said of none.
+pub fn what_stands_at_an_end_is_certain()
+    ensures client { (x : Transfer) (named : List ℕ) (carried : List Carried) (v : Viewed) → IsViewAt PointKind.Client x named carried v
+        → IsStanding PointKind.Client x v (Some true)
+        → (number : ℕ) × (number_in v.found ≡ Some number) × IsCertainAtEnd (client_header x) (client_capture host_name x (whole_of named carried)) number }
+    ensures server { (x : Transfer) (named : List ℕ) (carried : List Carried) (v : Viewed) → IsViewAt PointKind.Server x named carried v
+        → IsStanding PointKind.Server x v (Some true)
+        → (number : ℕ) × (number_in v.found ≡ Some number)
+        × IsCertainAtEnd (server_header x) (server_capture host_name x (whole_of named carried) (whole_of named carried)) number }
+    ensures never { (at : PointKind) (x : Transfer) (b : Option Blamed) (said : Result Meaning Refusal) → IsStandingAs at x b (AtEnd said) (Some false) → ⊥ }
 {}

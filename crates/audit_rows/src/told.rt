@@ -1,12 +1,18 @@
 //! What is said of a transfer in one row.
 
-ghost use Rattle.std.specs.Prelude.{◌≡◌};
+ghost use Rattle.std.specs.Prelude.{◌≡◌, ◌↔◌, IsTrue};
 ghost use Rattle.audit_rows.specs.Doubting.{goes_over, is_clients_own, is_spoken_first, is_unseen, may_be_between};
+ghost use Rattle.audit_rows.specs.Viewing.{IsStanding, IsSureAt};
 
+use crate::found::Found;
 use crate::viewed::Viewed;
 use audit_flows::lines::Transfer;
 use audit_recording::blame::Blamed;
 use audit_recording::rows::{Place, Point, Telling};
+use judge_tap::TapRefusal;
+use law_end::Rule;
+use law_tap::{stands_at_end, stands_of_its_own};
+use tftp_judge::Refusal;
 
 /// What is said of a transfer in one row.
 #[derive(Clone, Copy)]
@@ -53,5 +59,35 @@ impl Told<'_> {
         let is_at_client = matches!(self.telling.point, Point::Client)
             && self.telling.between.is_none();
         is_at_client && blamed.source == transfer.client
+    }
+
+    /// Of what is refused, whether that stands whatever datagrams of the transfer were missed; nothing where that is not known.
+    pub fn stands(&self, transfer: &Transfer) -> Option<bool>
+        ensures { IsStanding self.now.telling.point transfer.now self.now.view.now result }
+    {
+        match &self.view.found {
+            Found::Between(Err(TapRefusal::Unlawful(_, _, stands))) => *stands,
+            Found::AtEnd(Err(Refusal::Unlawful(_, rule))) => {
+                if self.is_sure(transfer, *rule) {
+                    Some(true)
+                } else {
+                    None
+                }
+            }
+            _ => None,
+        }
+    }
+
+    /// Whether a refusal by this rule at an end is certain, whatever datagrams were missed.
+    fn is_sure(&self, transfer: &Transfer, rule: Rule) -> bool
+        ensures { IsTrue result ↔ IsSureAt self.now.telling.point transfer.now self.now.view.now.blamed rule }
+    {
+        match (self.telling.point, &self.view.blamed) {
+            (Point::Server, _) => stands_at_end(rule),
+            (Point::Client, Some(blamed)) => {
+                blamed.source == transfer.client && stands_of_its_own(rule)
+            }
+            _ => false,
+        }
     }
 }

@@ -1,5 +1,5 @@
 -- What is left of a list, and what of its whole is known from it.
-use Rattle.std.proofs.Common.{◌≡◌, ℕ, zero, suc, ◌+◌, ◌<◌, ◌≤◌, List, [], ◌∷◌, Contains, take, inl, inr, sym, subst, ap, ◌∙◌, arith}
+use Rattle.std.proofs.Common.{◌≡◌, ℕ, zero, suc, ◌≤◌, List, [], ◌∷◌, Contains, take, inl, inr, sym, subst, arith}
 use Rattle.tftp_packet.specs.{End}
 use Rattle.law_model.specs.Model.{Meaning, Deed, Sent, MachinePacket, Req, Data, Ack, Error, History, HasSent, MaySend, windowsize_of, IsView}
 use Rattle.law_model.proofs.ModelLemmas.Members.{contains_first, contains_later, contains_cases, contains_none}

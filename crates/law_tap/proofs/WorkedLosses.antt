@@ -1,15 +1,14 @@
 -- The worked recordings at an end that miss datagrams.
-use Rattle.std.proofs.Common.{◌≡◌, ℕ, ◌<◌, ◌≤◌, List, [], ◌∷◌, Contains, codes, inl, inr, refl, sym, subst, arith, None, Option}
+use Rattle.std.proofs.Common.{◌≡◌, ℕ, ◌<◌, List, [], ◌∷◌, Contains, codes, inl, inr, refl, sym, subst, arith, None, Option}
 use Rattle.tftp_packet.specs.{Message, Spells, IsPlace, End, Client, Server, Out}
 use Rattle.tftp_packet.specs.{Rollover}
-use Rattle.tftp_packet.specs.Hosts.{Datagram}
 use Rattle.law_model.specs.Model.{Meaning, request_of, blksize_of, block, Deed, Sent, Took, Req, Oack, Data, Ack, History, IsView, two_bytes, two_bytes_view, two_bytes_written, two_bytes_written_view, ten_bytes, ten_bytes_view, six_blocks, six_blocks_server_view}
 use Rattle.law_model.proofs.ModelLemmas.Members.{contains_cases, contains_none}
 use Rattle.law_model.proofs.ModelLemmas.Moments.{earlier_view}
 use Rattle.law_model.proofs.ModelLemmas.OneSided.{view_one_sided}
 use Rattle.law_model.proofs.ModelLemmas.Defaults.{default_blksize}
 use Rattle.law_model.proofs.ModelLemmas.Worked.{two_bytes_is_view, two_bytes_is_server_view, written_is_view, ten_bytes_is_view, one_at_a_time, six_server_view}
-use Rattle.law_end.specs.{Main, Labelled, Division, TransferIds, HaveLabels, IsLawful, IsSeen, from_server}
+use Rattle.law_end.specs.{Main, Labelled, Division, TransferIds, HaveLabels, IsLawful, from_server}
 use Rattle.law_end.proofs.Whole.NothingAgreed.{two_bytes_fit}
 use Rattle.law_end.proofs.Division.Divided.{any_first}
 use Rattle.law_tap.specs.Losses.{nothing, kept, lost, IsSeenOf, IsNotedOf, IsLawfulWithLosses, IsCertain, IsFirstCertain}

@@ -2,13 +2,13 @@
 -- all that was said is decided by these, by the request and by the OACK.
 use Rattle.std.specs.Prelude.{◌≡◌, ◌≢◌, ◌⊎◌, ◌↔◌, ℕ, ◌+◌, ◌/◌, ◌<◌, ◌≤◌, ◌==◌, if◌then◌else◌, Bool, true, List, length, Option, Some, None, codes}
 use Rattle.std.specs.FinMap as map
-use Rattle.tftp_packet.specs.{OptionMap, Num, no_options, RequestParts, Message, Side, Get, End, Client, Mode, Octet}
+use Rattle.tftp_packet.specs.{OptionMap, Num, no_options, RequestParts, Message, Get, End}
 use Rattle.tftp_packet.specs.{Rollover}
 use Rattle.tftp_packet.specs.Rounds.{greatest_of}
 use Rattle.tftp_nego.specs.{MayAgree}
 use Rattle.law_end.specs.{size_from}
 use Rattle.law_tap.specs.TapCapture.{TapDatagram, TapSides}
-use Rattle.law_tap.specs.LossyRules.{IsSaid, IsNumber, IsBlockLength, Explains, block_size}
+use Rattle.law_tap.specs.LossyRules.{IsSaid, IsNumber, IsBlockLength, block_size}
 
 pub record Figures : Type 0 where
   pub greatest : ℕ  -- the greatest block, 65535 by two bytes (RFC 1350, section 5)

@@ -6,7 +6,7 @@ use Rattle.tftp_packet.specs.{Num, RequestParts, Get, Octet, Client, Server, In,
 use Rattle.tftp_packet.specs.Hosts.{Datagram, Header}
 use Rattle.law_model.specs.Model.{Sent, Took, Req, Oack, Data, Ack, History}
 use Rattle.law_tap.specs.Tap.{Pass}
-use Rattle.law_tap.specs.WorkedTap.{request_passes, hi_passes, ack_passes}
+use Rattle.law_tap.specs.WorkedTap.{request_passes, hi_passes, ack_passes, answer_passes}
 use Rattle.law_tap.specs.TapCapture.{TapDatagram}
 use Rattle.law_tap.specs.Losses.{Noted}
 use Rattle.law_tap.specs.SaidFigures.{Figures}
@@ -34,6 +34,26 @@ whole_read = request_out ∷ hi_in ∷ ack_out ∷ []
 -- the recorder missed the block
 abbrev pub read_without_block : List Datagram
 read_without_block = request_out ∷ ack_out ∷ []
+
+-- no packet, from another port
+abbrev pub odd_in : Datagram
+odd_in = record { dir = In; local = 40000; host = codes "10.0.0.1"; remote = 42000; payload = 255 ∷ [] }
+
+-- DATA 1, "hi", from another port
+abbrev pub other_in : Datagram
+other_in = record { dir = In; local = 40000; host = codes "10.0.0.1"; remote = 42000; payload = hi_passes.payload }
+
+-- ERROR 5, which answers it
+abbrev pub unknown_out : Datagram
+unknown_out = record { dir = Out; local = 40000; host = codes "10.0.0.1"; remote = 42000; payload = answer_passes.payload }
+
+-- DATA 1 of the client, which has nothing to send in a read
+abbrev pub hi_back : Datagram
+hi_back = record { dir = Out; local = 40000; host = codes "10.0.0.1"; remote = 41000; payload = hi_passes.payload }
+
+-- ACK 1 of the server, which has nothing to acknowledge
+abbrev pub ack_in : Datagram
+ack_in = record { dir = In; local = 40000; host = codes "10.0.0.1"; remote = 41000; payload = ack_passes.payload }
 
 -- ---- and at the server
 

@@ -41,7 +41,8 @@ pub record IsRowOf (name : List ℕ) (n : ℕ) (j : Judged) (t : Told) (row : Ve
       → IsChargeOf row.charge x (whole_of named carried) j.doubted t.telling t.view.now
   pub ended : (judging : Judging) (x : Transfer) (named : List ℕ) (carried : List Carried) → IsJudgedOf j judging x named carried
       → IsConclusionOf row.ended j t x named carried
-  pub stands : IsStanding t.view.now.found row.stands
+  pub stands : (judging : Judging) (x : Transfer) (named : List ℕ) (carried : List Carried) → IsJudgedOf j judging x named carried
+      → IsStanding t.telling.point x t.view.now row.stands
   pub beyond : row.goes_beyond ≡ goes_beyond t.view.now.found
   pub times : (judging : Judging) (x : Transfer) (named : List ℕ) (carried : List Carried) → IsJudgedOf j judging x named carried
       → AreTimesOf row.times x (bytes_in t.view.now.found) named carried

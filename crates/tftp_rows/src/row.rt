@@ -47,7 +47,7 @@ pub struct VerdictRow<'a> {
     pub charge: Charge,
     /// How the transfer ended.
     pub ended: Conclusion,
-    /// Of what is refused between the ends, whether that stands whatever datagrams of the transfer were missed.
+    /// Of what is refused, whether that stands whatever datagrams of the transfer were missed; nothing where that is not known.
     pub stands: Option<bool>,
     /// Whether it is refused by rule 20, since it goes on after block 65535.
     pub goes_beyond: bool,
@@ -88,7 +88,8 @@ impl<'a> VerdictRow<'a> {
             → IfOk result (λ row. IsChargeOf row.charge x (whole_of named carried) judged.now.doubted told.now.telling told.now.view.now) }
         ensures ended { (judging : JudgingKind) (x : Transfer) (named : List ℕ) (carried : List Carried) → IsJudgedOf judged.now judging x named carried
             → IfOk result (λ row. IsConclusionOf row.ended judged.now told.now x named carried) }
-        ensures stands { IfOk result (λ row. IsStanding told.now.view.now.found row.stands) }
+        ensures stands { (judging : JudgingKind) (x : Transfer) (named : List ℕ) (carried : List Carried) → IsJudgedOf judged.now judging x named carried
+            → IfOk result (λ row. IsStanding told.now.telling.point x told.now.view.now row.stands) }
         ensures beyond { IfOk result (λ row. row.goes_beyond ≡ goes_beyond told.now.view.now.found) }
         ensures times { (judging : JudgingKind) (x : Transfer) (named : List ℕ) (carried : List Carried) → IsJudgedOf judged.now judging x named carried
             → IfOk result (λ row. AreTimesOf row.times x (bytes_in told.now.view.now.found) named carried) }
@@ -104,7 +105,7 @@ impl<'a> VerdictRow<'a> {
             verdict,
             charge,
             ended,
-            stands: told.view.found.stands(),
+            stands: told.stands(&judged.trail().transfer),
             goes_beyond: goes_beyond(&told.view.found),
             times: times_told(judged, told),
         })

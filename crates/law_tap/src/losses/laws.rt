@@ -1,6 +1,6 @@
 //! Laws of the definitions in `specs/Losses.antt`. Each is the contract of a function that does nothing.
 
-ghost use Rattle.std.specs.Prelude.{◌≡◌, ℕ, ◌+◌, ◌<◌, ◌≤◌, List, [], ◌∷◌, Contains, length, take, Option};
+ghost use Rattle.std.specs.Prelude.{◌≡◌, ℕ, ◌+◌, ◌<◌, ◌≤◌, List, [], ◌∷◌, ◌++◌, Contains, length, reverse, take, Option};
 ghost use Rattle.tftp_packet.specs.{End, Message, Out, Spells};
 ghost use Rattle.tftp_packet.specs.{Rollover};
 ghost use Rattle.tftp_packet.specs.Hosts.{Datagram, Header};
@@ -14,7 +14,7 @@ ghost use Rattle.law_model.specs.Model.{
   windowsize_of,
   IsView,
 };
-ghost use Rattle.law_end.specs.{IsLawful, IsLawfulUpTo};
+ghost use Rattle.law_end.specs.{IsLawful, IsLawfulUpTo, IsRefused, Rule};
 ghost use Rattle.law_tap.specs.Losses.{
   Loses,
   IsSeenOf,
@@ -24,6 +24,7 @@ ghost use Rattle.law_tap.specs.Losses.{
   IsCertain,
   IsFirstCertain,
 };
+ghost use Rattle.law_tap.specs.StandingAtEnd.{KnowsOtherEnd, StandsAtEnd, StandsOfItsOwn};
 
 /// What is lawful is lawful with losses, and what is left of what is lawful with losses is so too.
 #[tactic(auto, using(crate::proofs::Certain::lawful_lossy, crate::proofs::Certain::less_lossy))]
@@ -102,4 +103,13 @@ pub fn a_changed_block_is_certain()
     ensures sent { (header : Header) (datagrams : List Datagram) (one other : Datagram) (k : ℕ) (bytes changed : List ℕ)
         → IsLawfulWithLosses header datagrams → Contains datagrams one → Contains datagrams other → one.dir ≡ Out → other.dir ≡ Out
         → Spells one.payload (Message.Data k bytes) → Spells other.payload (Message.Data k changed) → bytes ≡ changed }
+{}
+
+/// What is refused at an end by a rule that stands is certain where the other end is known: whatever is missing, the list up to it is
+/// not lawful. So it is of nearly all that the end itself sent, whether the other end is known or not.
+pub fn what_is_refused_at_an_end_by_a_rule_that_stands_is_certain()
+    ensures known { (header : Header) (later earlier : List Datagram) (d : Datagram) (broken : Rule) → IsRefused header earlier d broken
+        → StandsAtEnd broken → KnowsOtherEnd header (d ∷ earlier) → IsCertain header (reverse (later ++ d ∷ earlier)) (length earlier) }
+    ensures own { (header : Header) (later earlier : List Datagram) (d : Datagram) (broken : Rule) → IsRefused header earlier d broken
+        → StandsOfItsOwn broken → d.dir ≡ Out → IsCertain header (reverse (later ++ d ∷ earlier)) (length earlier) }
 {}

@@ -1,13 +1,20 @@
 //! Worked cases of recordings at an end that miss datagrams. Each is the contract of a function that does nothing.
 
 ghost use Rattle.std.specs.Prelude.{ℕ, List, [], ◌∷◌, Option};
-ghost use Rattle.tftp_packet.specs.{End, Client, Server};
+ghost use Rattle.tftp_packet.specs.{End, Client, Server, Short};
 ghost use Rattle.tftp_packet.specs.{Rollover};
 ghost use Rattle.law_model.specs.Model.{Meaning, IsView, two_bytes, two_bytes_written, ten_bytes, six_blocks};
 ghost use Rattle.law_model.specs.{EndRule, PortRule};
-ghost use Rattle.law_end.specs.{Broken, Rule};
+ghost use Rattle.law_end.specs.{Broken, IsRefused, Rule};
 ghost use Rattle.law_tap.specs.Losses.{IsSeenOf, IsNotedOf, IsLawfulWithLosses, IsCertain, IsFirstCertain};
+ghost use Rattle.law_tap.specs.StandingAtEnd.{KnowsOtherEnd};
 ghost use Rattle.law_tap.specs.WorkedLosses.{
+  hi_in,
+  odd_in,
+  other_in,
+  unknown_out,
+  hi_back,
+  ack_in,
   at_client,
   at_server,
   request_out,
@@ -76,4 +83,32 @@ pub fn a_block_that_skips_one_is_not_certain()
 pub fn an_ack_zero_before_its_oack_is_not_certain()
     ensures unlawful { IsView ten_bytes ten_bytes.file Client zero_of_unseen_oack → ⊥ }
     ensures seen { IsSeenOf ten_bytes ten_bytes.file Client zero_of_unseen_oack }
+{}
+
+/// A client that sends a block of a read is refused there (rule 6), and that is certain, whatever is missing.
+pub fn a_block_of_the_reader_is_certain()
+    ensures refused { IsRefused at_client (hi_in ∷ request_out ∷ []) hi_back Rule.WrongKind }
+    ensures certain { IsFirstCertain at_client (request_out ∷ hi_in ∷ hi_back ∷ []) 2 }
+{}
+
+/// An ACK of the server of a read comes to a client that has gone on with it: that is certain too.
+pub fn an_ack_of_the_sender_is_certain()
+    ensures refused { IsRefused at_client (ack_out ∷ hi_in ∷ request_out ∷ []) ack_in Rule.WrongKind }
+    ensures known { KnowsOtherEnd at_client (ack_in ∷ ack_out ∷ hi_in ∷ request_out ∷ []) }
+    ensures certain { IsFirstCertain at_client (request_out ∷ hi_in ∷ ack_out ∷ ack_in ∷ []) 3 }
+{}
+
+/// What came to a client that has gone on with nobody is not certain: who sent it may be a stranger, and the server's answer may have been
+/// missed.
+pub fn what_came_from_who_may_be_a_stray_is_not_certain()
+    ensures broken { Broken at_client (request_out ∷ []) odd_in (Rule.Malformed Short) }
+    ensures unknown { KnowsOtherEnd at_client (odd_in ∷ request_out ∷ []) → ⊥ }
+    ensures lawful { IsLawfulWithLosses at_client (request_out ∷ odd_in ∷ []) }
+{}
+
+/// A request after an ERROR 5 of its client (rule 7) is not certain: the ERROR may answer a stray.
+pub fn a_request_after_an_answer_to_a_stray_is_not_certain()
+    ensures broken { Broken at_client (unknown_out ∷ other_in ∷ request_out ∷ []) request_out Rule.AfterError }
+    ensures unknown { KnowsOtherEnd at_client (request_out ∷ unknown_out ∷ other_in ∷ request_out ∷ []) → ⊥ }
+    ensures lawful { IsLawfulWithLosses at_client (request_out ∷ other_in ∷ unknown_out ∷ request_out ∷ []) }
 {}
