@@ -4,6 +4,7 @@ pub mod TimesLemmas
 pub mod PrintingLemmas
 pub mod TellingLemmas
 pub mod WholeLemmas
+pub mod OrderLemmas
 pub mod ReadingLemmas
 pub mod MembersLemmas
 pub mod AskedLemmas

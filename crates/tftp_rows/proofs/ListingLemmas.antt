@@ -6,7 +6,7 @@ use Rattle.audit_flows.specs.{Transfer}
 use Rattle.audit_recording.specs.Blame.Frames.{Carried, Framed}
 use Rattle.audit_recording.specs.Endings.Told.{IsEnding}
 use Rattle.audit_recording.specs.Endings.Undelivered.{undelivered_of}
-use Rattle.audit_recording.specs.Session.Kept.{IsSessionAfter}
+use Rattle.audit_recording.specs.Session.Kept.{IsSessionOf}
 use Rattle.audit_recording.specs.Session.Noted.{Noticed}
 use Rattle.audit_recording.specs.Session.Trails.{IsBegunBy}
 use Rattle.audit_recording.specs.declared.blame.ending.Ending.{Ending}
@@ -33,11 +33,11 @@ ended_of c t now x named carried e u v p q is told = (e, is, subst (λ w. Conclu
 
 module _ {W : Type 0} (contents : W → Option (List ℕ)) (Holds : Session → Type 0) (named : List ℕ) (history : List Step) (carried : List Carried) (s : Noticed) where
   -- nothing was listed
-  pub none_listed : (t : Lister W) (b : Session) (out : List ℕ) → IsSessionAfter b named out history carried s → ListsTurns contents Holds t t b named out history carried s
+  pub none_listed : (t : Lister W) (b : Session) (out : List ℕ) → IsSessionOf b named out history carried s → ListsTurns contents Holds t t b named out history carried s
   none_listed t b out is = record { rows = []; left = out; turns = (refl, refl); handed_out = is }
 
   turn_listed : (rows : List ListRow) (row : ListRow) (t u v : Lister W) (d e : Session) (out left : List ℕ) → ListsInTurn contents Holds named history carried s rows t u out left
-      → IsSessionAfter d named left history carried s → Holds d → (step : ListsNext contents u v row e named left history carried s)
+      → IsSessionOf d named left history carried s → Holds d → (step : ListsNext contents u v row e named left history carried s)
       → ListsInTurn contents Holds named history carried s (rows ++ row ∷ []) t v out (step.transfer.number ∷ left)
   turn_listed [] row t u v d e out left p is holds step =
       subst (λ (k : List ℕ). ListsInTurn contents Holds named history carried s (row ∷ []) t v k (step.transfer.number ∷ left)) p.1
@@ -58,7 +58,7 @@ module _ {W : Type 0} (contents : W → Option (List ℕ)) (Holds : Session → 
 
   -- and then no more was listed
   abbrev pub kept_listed : (t u v : Lister W) (d e : Session) (out : List ℕ) (p : ListsTurns contents Holds t u d named out history carried s) → v ≡ u
-      → IsSessionAfter e named p.left history carried s → ListsTurns contents Holds t v e named out history carried s
+      → IsSessionOf e named p.left history carried s → ListsTurns contents Holds t v e named out history carried s
   kept_listed t u v d e out p kept is = record {
     rows = p.rows;
     left = p.left;

@@ -1,5 +1,6 @@
 -- Rows that are printed one after another.
-use Rattle.std.proofs.Common.{◌≡◌, ◌∷◌, ◌++◌, ◌||◌, [], ℕ, Bool, true, false, List, Option, Result, Ok, Err, IsErr, refl, sym, ap, ◌∙◌, true≢false, append_assoc, append-nil}
+use Rattle.std.proofs.Common.{◌≡◌, ◌∷◌, ◌++◌, ◌||◌, [], ℕ, Bool, true, false, List, Option, Result, Ok, Err, IsErr, refl, sym, ap, subst, ◌∙◌, true≢false, append_assoc, append-nil}
+use Rattle.std.specs.Io.KnownBytes.{Appends}
 use Rattle.std.proofs.KnownBytes.{Appends-nil, Appends-trans}
 use Rattle.net_streams.specs.Streams.{AppendsPrefix}
 use Rattle.tftp_rows.specs.Printing.{Prints, PrintsAll, PrintsPart, all_lines, is_some_row}
@@ -22,6 +23,10 @@ lines_both lines false (x ∷ xs) ys = ap (λ l. lines false x ++ l) (lines_both
 -- the lines of one row
 pub lines_one : {R : Type 0} (lines : Bool → R → List ℕ) (b : Bool) (row : R) → all_lines lines b (row ∷ []) ≡ lines b row
 lines_one lines b row = append-nil (lines b row)
+
+pub first_of_none : {X : Type 0} (xs ys : List X) → [] ≡ xs ++ ys → xs ≡ []
+first_of_none [] ys e = refl
+first_of_none (x ∷ xs) ys e = absurd (cc)
 
 module _ {W R : Type 0} (contents : W → Option (List ℕ)) (lines : Form → Bool → R → List ℕ) where
   pub prints_nothing : (s : RowPrinter W) → PrintsAll contents lines s s []
@@ -66,4 +71,25 @@ module _ {W R : Type 0} (contents : W → Option (List ℕ)) (lines : Form → B
     part = lines_one (lines s.form) s.is_headed row ∙ (sym are ∙ w.are);
     appended = w.appended;
     form = form;
+  }
+
+  -- all of it is a part
+  pub prints_all_so : (s t : RowPrinter W) (rows : List R) → PrintsAll contents lines s t rows → PrintsPart contents lines s t rows
+  prints_all_so s t rows p = record {
+    written = all_lines (lines s.form) s.is_headed rows;
+    unwritten = [];
+    part = sym (append-nil (all_lines (lines s.form) s.is_headed rows));
+    appended = p.appended;
+    form = p.form;
+  }
+
+  -- rows were printed in part, and then no more
+  pub prints_part_only : (s t u : RowPrinter W) (rows : List R) → PrintsPart contents lines s t rows → PrintsPart contents lines t u [] → PrintsPart contents lines s u rows
+  prints_part_only s t u rows p q = record {
+    written = p.written;
+    unwritten = p.unwritten;
+    part = p.part;
+    appended = subst (Appends (contents s.writer) (contents u.writer)) (append-nil p.written)
+        (Appends-trans _ _ _ _ _ p.appended (subst (Appends (contents t.writer) (contents u.writer)) (first_of_none q.written q.unwritten q.part) q.appended));
+    form = q.form ∙ p.form;
   }

@@ -1,18 +1,24 @@
 -- What is read and told of a recording, frame by frame.
-use Rattle.std.proofs.Common.{◌≡◌, ◌∷◌, [], ℕ, Bool, true, false, List, Option, Ok, inl, inr, sym, subst}
+use Rattle.std.proofs.Common.{◌≡◌, ◌⊎◌, ◌∷◌, [], ℕ, Bool, true, false, List, Option, None, IsSome, Result, Ok, Err, OnErr, OnOk, inl, inr, refl, sym, subst, ◌∙◌}
 use Rattle.std.proofs.lemmas.Bool.{false≢true}
-use Rattle.net_udp.specs.Recording.{RecordingState, Step}
-use Rattle.audit_recording.specs.Blame.Frames.{Carried}
-use Rattle.audit_recording.specs.Session.Kept.{IsOneMore, IsSessionAfter, ReadsOn}
-use Rattle.audit_recording.specs.Session.Noted.{Noticed}
-use Rattle.audit_recording.specs.Session.Opened.{HasRead}
+use Rattle.std.specs.Io.KnownBytes.{Consumes, IsAtEnd}
+use Rattle.net_streams.specs.{Standing}
+use Rattle.net_udp.specs.Recording.{RecordingState, StandsFor, Step, standing_of}
+use Rattle.audit_flows.specs.Lines.{Placed}
+use Rattle.audit_recording.specs.Blame.Frames.{Carried, whole_of}
+use Rattle.audit_recording.specs.Judges.{is_among, opened}
+use Rattle.audit_recording.specs.Session.Kept.{IsOneMore, IsSessionAfter, IsSessionOf, ReadsOn}
+use Rattle.audit_recording.specs.Session.Noted.{AreNotesOf, Noticed, frames_in, giving_up, nothing_noticed}
+use Rattle.audit_recording.specs.Session.Opened.{HasEnded, IsSessionClosed, lost_in}
 use Rattle.audit_recording.specs.Session.Over.{IsOldestOver}
 use Rattle.audit_recording.specs.declared.judges.judging.Judging.{Judging}
+use Rattle.audit_recording.specs.declared.session.notes.Notes.{Notes}
 use Rattle.audit_recording.specs.declared.session.session.Session.{Session}
-use Rattle.tftp_rows.specs.Telling.{JudgesAs, TellsTurns}
-use Rattle.tftp_rows.specs.Whole.{HasTold, IsReadAndTold, IsReadOn, Telling, numbers_of}
+use Rattle.tftp_rows.specs.Telling.{JudgesAs, PrintsAllWith, PrintsPartWith, TellsNextPart, TellsTurns, TellsTurnsPart}
+use Rattle.tftp_rows.specs.Whole.{HasTold, HasToldAll, HasToldInPart, HasToldPart, IsReadAndTold, IsReadInPart, IsReadOn, IsReadThrough, IsRecordingTold, IsRecordingToldInPart, Telling, numbers_of}
 use Rattle.tftp_rows.specs.declared.teller.Teller.{Teller}
-use Rattle.tftp_rows.proofs.WholeLemmas.{has_told, loses_too, told_in_turn, told_longer}
+use Rattle.tftp_rows.proofs.OrderLemmas.{are_in_order}
+use Rattle.tftp_rows.proofs.WholeLemmas.{all_part_next, all_so_far, has_told, has_told_all, held_in_part, held_told, loses_too, nothing_told, told_in_turn, told_longer, told_part, told_so_far}
 
 pub frame_came : (P : List Step → List Carried → Noticed → Type 0) (history : List Step) (carried : List Carried) (s : Noticed) (goes : Bool) → goes ≡ true
     → ReadsOn P history carried s (Ok goes) → (step : Step) × (all : List Carried) × (t : Noticed) × IsOneMore carried all × P (step ∷ history) all t
@@ -23,6 +29,14 @@ pub none_came : (P : List Step → List Carried → Noticed → Type 0) (history
     → ReadsOn P history carried s (Ok goes) → P history carried s
 none_came P history carried s false e p = p
 none_came P history carried s true e p = absurd (false≢true (sym e))
+
+ended_too : (recording : RecordingState) (before after : Notes) → after.fault ≡ before.fault → HasEnded recording before → HasEnded recording after
+ended_too recording before after same (inl over) = inl over
+ended_too recording before after same (inr failed) = inr (failed.0, failed.1, same ∙ failed.2)
+
+among_them : (n : ℕ) (all : List Placed) (left numbers : List ℕ) → left ≡ numbers → IsSome (opened n all) → (opened n all ≡ None) ⊎ (is_among n left ≡ true) → is_among n numbers ≡ true
+among_them n all left numbers are some (inl none) = let no : false ≡ true = subst IsSome none some in absurd (false≢true no)
+among_them n all left numbers are some (inr told) = subst (λ l. is_among n l ≡ true) are told
 
 module _ {W : Type 0} (contents : W → Option (List ℕ)) where
   -- what was told stays so with the next frame
@@ -37,15 +51,27 @@ module _ {W : Type 0} (contents : W → Option (List ℕ)) where
         prints = h.prints;
         file = h.file;
         number = h.number;
+        status = h.status;
         dropped = h.dropped;
       })
 
+  -- before the first frame
+  pub begins_reading : (begun : Teller W) (Is : List Step → Type 0) (session : Session) (named : List ℕ) → begun.held.items ≡ [] → begun.told ≡ 0 → Is [] → IsSessionAfter session named [] [] [] nothing_noticed
+      → IsReadOn contents begun begun Is session named
+  begins_reading begun Is session named none zero read is = (
+    [],
+    [],
+    nothing_noticed,
+    [],
+    record { read = read; session_is = is; has_told = nothing_told contents begun session.audit.judge.judging named none zero },
+  )
+
   -- the next frame, before what is over then is told
-  pub read_one : (begun now : Teller W) (recording : RecordingState) (old new : Session) (named : List ℕ) (step : Step) (history : List Step) (carried all : List Carried) (s t : Noticed) (ts : List Telling)
-      → IsReadAndTold contents begun now recording old named history carried s ts → JudgesAs old new → IsOneMore carried all
-      → (later : RecordingState) → HasRead later (step ∷ history) × IsSessionAfter new named (numbers_of ts) (step ∷ history) all t
-      → IsReadAndTold contents begun now later new named (step ∷ history) all t ts
-  read_one begun now recording old new named step history carried all s t ts is judges one later p = record {
+  pub read_one : (begun now : Teller W) (Was Is : List Step → Type 0) (old new : Session) (named : List ℕ) (step : Step) (history : List Step) (carried all : List Carried) (s t : Noticed) (ts : List Telling)
+      → IsReadAndTold contents begun now Was old named history carried s ts → JudgesAs old new → IsOneMore carried all
+      → Is (step ∷ history) × IsSessionAfter new named (numbers_of ts) (step ∷ history) all t
+      → IsReadAndTold contents begun now Is new named (step ∷ history) all t ts
+  read_one begun now Was Is old new named step history carried all s t ts is judges one p = record {
     read = p.0;
     session_is = p.1;
     has_told = told_on begun now new.audit.judge.judging named carried all ts one
@@ -53,11 +79,11 @@ module _ {W : Type 0} (contents : W → Option (List ℕ)) where
   }
 
   -- the recording's end
-  pub read_end : (begun now : Teller W) (recording : RecordingState) (old new : Session) (named : List ℕ) (history : List Step) (carried : List Carried) (s : Noticed) (ts : List Telling)
-      → IsReadAndTold contents begun now recording old named history carried s ts → JudgesAs old new
-      → (later : RecordingState) → HasRead later history × IsSessionAfter new named (numbers_of ts) history carried s
-      → IsReadOn contents begun now later new named
-  read_end begun now recording old new named history carried s ts is judges later p = (
+  pub read_end : (begun now : Teller W) (Was Is : List Step → Type 0) (old new : Session) (named : List ℕ) (history : List Step) (carried : List Carried) (s : Noticed) (ts : List Telling)
+      → IsReadAndTold contents begun now Was old named history carried s ts → JudgesAs old new
+      → Is history × IsSessionAfter new named (numbers_of ts) history carried s
+      → IsReadOn contents begun now Is new named
+  read_end begun now Was Is old new named history carried s ts is judges p = (
     history,
     carried,
     s,
@@ -70,11 +96,11 @@ module _ {W : Type 0} (contents : W → Option (List ℕ)) where
   )
 
   -- what is over is told
-  pub told_over : (begun old new : Teller W) (lose : Bool) (recording : RecordingState) (before after : Session) (named : List ℕ) (history : List Step) (carried : List Carried) (s : Noticed) (ts : List Telling)
-      → IsReadAndTold contents begun old recording before named history carried s ts → JudgesAs before after
+  pub told_over : (begun old new : Teller W) (lose : Bool) (Is : List Step → Type 0) (before after : Session) (named : List ℕ) (history : List Step) (carried : List Carried) (s : Noticed) (ts : List Telling)
+      → IsReadAndTold contents begun old Is before named history carried s ts → JudgesAs before after
       → TellsTurns contents (λ b. IsOldestOver b named carried s × JudgesAs before b) (record old { may_lose = lose }) new after named (numbers_of ts) history carried s
-      → IsReadOn contents begun new recording after named
-  told_over begun old new lose recording before after named history carried s ts is judges turns =
+      → IsReadOn contents begun new Is after named
+  told_over begun old new lose Is before after named history carried s ts is judges turns =
       let more = told_in_turn contents (λ b. IsOldestOver b named carried s × JudgesAs before b) named history carried s
       (λ t us. HasTold contents begun t before.audit.judge.judging named carried us)
       (λ t u d e us told holds step. has_told contents begun t u d e before.audit.judge.judging named history carried s us told holds.1 step)
@@ -85,7 +111,187 @@ module _ {W : Type 0} (contents : W → Option (List ℕ)) where
         more.0,
         record {
           read = is.read;
-          session_is = subst (λ out. IsSessionAfter after named out history carried s) more.2 turns.handed_out;
+          session_is = record { noticed = is.session_is.noticed; kept = subst (λ out. IsSessionOf after named out history carried s) more.2 turns.handed_out };
           has_told = subst (λ (k : Judging). HasTold contents begun new k named carried more.0) (sym judges) more.1;
         },
       )
+
+  -- the recording is closed
+  pub closed_then : (begun now : Teller W) (file left : Option (List ℕ)) (recording : RecordingState) (before after : Session) (named : List ℕ)
+      → IsReadOn contents begun now (λ history. (bytes : List ℕ) × Consumes file left bytes × StandsFor recording bytes history) before named
+      → (standing_of recording ≡ Standing.Over → IsAtEnd left) → HasEnded recording before.notes → JudgesAs before after → after.notes.fault ≡ before.notes.fault
+      → ((out : List ℕ) (history : List Step) (carried : List Carried) (s : Noticed) → IsSessionAfter before named out history carried s → IsSessionClosed after recording named out history carried s)
+      → IsReadThrough contents begun now file after named
+  closed_then begun now file left recording before after named is at_end ended judges fault closes = record {
+    recording = recording;
+    history = is.0;
+    carried = is.1;
+    noticed = is.2;
+    tellings = is.3;
+    read = record { bytes = is.4.read.0; left = left; had = is.4.read.1; frames = is.4.read.2; at_end = at_end };
+    ended = ended_too recording before.notes after.notes fault ended;
+    closed = closes (numbers_of is.3) is.0 is.1 is.2 is.4.session_is;
+    has_told = subst (λ (k : Judging). HasTold contents begun now k named is.1 is.3) (sym judges) is.4.has_told;
+  }
+
+  -- what waited was printed, and the rest told
+  pub rest_told : (begun mid late now : Teller W) (file : Option (List ℕ)) (session after : Session) (judging : Judging) (named : List ℕ) → (is : IsReadThrough contents begun mid file session named)
+      → PrintsAllWith contents session.notes.dropped mid.printer late.printer mid.held.items → late.held.items ≡ []
+      → late ≡ record mid { printer = late.printer; held = late.held; may_lose = false; dropped = session.notes.dropped }
+      → session.audit.judge.judging ≡ judging → after.notes ≡ session.notes
+      → (turns : TellsTurns contents (JudgesAs session) late now after named (numbers_of is.tellings) is.history is.carried (giving_up (frames_in is.recording.waiting) is.noticed))
+      × ((n : ℕ) → (opened n (whole_of named is.carried) ≡ None) ⊎ (is_among n turns.left ≡ true))
+      → IsRecordingTold contents begun now file judging named after.notes
+  rest_told begun mid late now file session after judging named is prints none late_is judges same told =
+      let lost = lost_in is.recording in
+      let held : HasToldAll contents begun late session.notes.dropped session.audit.judge.judging named is.carried is.tellings =
+      held_told contents begun mid late session.notes.dropped session.audit.judge.judging named is.carried is.tellings is.has_told prints none late_is in
+      let more = told_in_turn contents (JudgesAs session) named is.history is.carried (giving_up (frames_in is.recording.waiting) is.noticed)
+      (λ t us. HasToldAll contents begun t session.notes.dropped session.audit.judge.judging named is.carried us)
+      (λ t u d e us was holds step. has_told_all contents begun t u session.notes.dropped d e session.audit.judge.judging named is.history is.carried (giving_up (frames_in is.recording.waiting) is.noticed) us was holds step)
+      told.0.told late now is.tellings told.0.left held told.0.turns in
+      let all : HasToldAll contents begun now lost judging named is.carried more.0 =
+      subst (λ (k : Judging). HasToldAll contents begun now lost k named is.carried more.0) judges
+      (subst (λ n. HasToldAll contents begun now n session.audit.judge.judging named is.carried more.0) is.closed.dropped more.1) in
+      record {
+        recording = is.recording;
+        history = is.history;
+        carried = is.carried;
+        noticed = is.noticed;
+        tellings = more.0;
+        read = is.read;
+        ended = subst (λ (n : Notes). HasEnded is.recording n) (sym same) is.ended;
+        came = is.closed.noticed;
+        noted = subst (λ (n : Notes). AreNotesOf n (giving_up (frames_in is.recording.waiting) is.noticed)) (sym same) is.closed.kept.notes;
+        told = all;
+        in_order = are_in_order begun.file.now judging named is.carried more.0 all.told;
+        none_left_out = λ n some. among_them n (whole_of named is.carried) told.0.left (numbers_of more.0) more.2 some (told.1 n);
+      }
+
+  -- ---- where a call has failed
+
+  judged_as : (begun now : Teller W) (k j : Judging) (named : List ℕ) (all : List Carried) (ts : List Telling) → k ≡ j → HasTold contents begun now k named all ts → HasTold contents begun now j named all ts
+  judged_as begun now k j named all ts same h = subst (λ (i : Judging). HasTold contents begun now i named all ts) same h
+
+  -- what was read before was told as it should be
+  pub stops_there : (begun now : Teller W) (file left : Option (List ℕ)) (recording : RecordingState) (session : Session) (judging : Judging) (named : List ℕ)
+      → IsReadOn contents begun now (λ history. (bytes : List ℕ) × Consumes file left bytes × StandsFor recording bytes history) session named → session.audit.judge.judging ≡ judging
+      → IsReadInPart contents begun now file judging named
+  stops_there begun now file left recording session judging named is same = record {
+    history = is.0;
+    carried = is.1;
+    noticed = is.2;
+    tellings = is.3;
+    read = inr (recording, is.4.read.0, left, is.4.read.1, is.4.read.2);
+    came = is.4.session_is.noticed;
+    has_told = told_so_far contents begun now judging named is.1 is.3 (judged_as begun now session.audit.judge.judging judging named is.1 is.3 same is.4.has_told);
+  }
+
+  -- nothing was read
+  pub reads_none : (begun : Teller W) (file : Option (List ℕ)) (judging : Judging) (named : List ℕ) → begun.held.items ≡ [] → begun.told ≡ 0 → IsReadInPart contents begun begun file judging named
+  reads_none begun file judging named none zero = record {
+    history = [];
+    carried = [];
+    noticed = nothing_noticed;
+    tellings = [];
+    read = inl refl;
+    came = (refl, refl);
+    has_told = told_so_far contents begun begun judging named [] [] (nothing_told contents begun judging named none zero);
+  }
+
+  part_told : (begun mid now : Teller W) (judging : Judging) (named : List ℕ) (carried : List Carried) (ts : List Telling) → HasTold contents begun mid judging named carried ts
+      → (now ≡ mid) ⊎ TellsNextPart contents mid now judging named (numbers_of ts) carried → HasToldPart contents begun now judging named carried ts
+  part_told begun mid now judging named carried ts h (inl same) = subst (λ (t : Teller W). HasToldPart contents begun t judging named carried ts) (sym same) (told_so_far contents begun mid judging named carried ts h)
+  part_told begun mid now judging named carried ts h (inr step) = told_part contents begun mid now judging named carried ts h step
+
+  -- what is over is told, and the last one in part
+  pub stops_telling : (begun old new : Teller W) (lose : Bool) (file left : Option (List ℕ)) (recording : RecordingState) (before : Session) (judging : Judging) (named : List ℕ) (history : List Step) (carried : List Carried) (s : Noticed) (ts : List Telling)
+      → IsReadAndTold contents begun old (λ frames. (bytes : List ℕ) × Consumes file left bytes × StandsFor recording bytes frames) before named history carried s ts → before.audit.judge.judging ≡ judging
+      → TellsTurnsPart contents (λ b. IsOldestOver b named carried s × JudgesAs before b) (record old { may_lose = lose }) new before.audit.judge.judging named (numbers_of ts) history carried s
+      → IsReadInPart contents begun new file judging named
+  stops_telling begun old new lose file left recording before judging named history carried s ts is same turns =
+      let here = before.audit.judge.judging in
+      let more = told_in_turn contents (λ b. IsOldestOver b named carried s × JudgesAs before b) named history carried s
+      (λ t us. HasTold contents begun t here named carried us)
+      (λ t u d e us told holds step. has_told contents begun t u d e here named history carried s us told holds.1 step)
+      turns.turns.told (record old { may_lose = lose }) turns.mid ts turns.turns.left (loses_too contents begun old lose here named carried ts is.has_told) turns.turns.turns in
+      record {
+        history = history;
+        carried = carried;
+        noticed = s;
+        tellings = more.0;
+        read = inr (recording, is.read.0, left, is.read.1, is.read.2);
+        came = is.session_is.noticed;
+        has_told = subst (λ (k : Judging). HasToldPart contents begun new k named carried more.0) same
+            (part_told begun turns.mid new here named carried more.0 more.1
+            (subst (λ out. (new ≡ turns.mid) ⊎ TellsNextPart contents turns.mid new here named out carried) more.2 turns.part));
+      }
+
+  -- a recording that was read through was read
+  through_so : (begun now : Teller W) (file : Option (List ℕ)) (session : Session) (judging : Judging) (named : List ℕ) → IsReadThrough contents begun now file session named → session.audit.judge.judging ≡ judging
+      → IsReadInPart contents begun now file judging named
+  through_so begun now file session judging named is same = record {
+    history = is.history;
+    carried = is.carried;
+    noticed = is.noticed;
+    tellings = is.tellings;
+    read = inr (is.recording, is.read.bytes, is.read.left, is.read.had, is.read.frames);
+    came = is.closed.noticed;
+    has_told = told_so_far contents begun now judging named is.carried is.tellings (judged_as begun now session.audit.judge.judging judging named is.carried is.tellings same is.has_told);
+  }
+
+  pub either_way : {A E : Type 0} (r : Result A E) (begun now : Teller W) (file : Option (List ℕ)) (session : Session) (judging : Judging) (named : List ℕ) → OnOk r (IsReadThrough contents begun now file session named)
+      → OnErr r (IsReadInPart contents begun now file judging named) → session.audit.judge.judging ≡ judging → IsReadInPart contents begun now file judging named
+  either_way (Ok x) begun now file session judging named through part same = through_so begun now file session judging named through same
+  either_way (Err e) begun now file session judging named through part same = part
+
+  -- what waited is told then, or in part
+  pub part_of_recording : (begun mid now : Teller W) (dropped : ℕ) (file : Option (List ℕ)) (judging : Judging) (named : List ℕ) → IsReadInPart contents begun mid file judging named
+      → PrintsPartWith contents dropped mid.printer now.printer mid.held.items → now.held.items ≡ [] → IsRecordingToldInPart contents begun now file judging named
+  part_of_recording begun mid now dropped file judging named is prints none = record {
+    history = is.history;
+    carried = is.carried;
+    noticed = is.noticed;
+    tellings = is.tellings;
+    dropped = dropped;
+    read = is.read;
+    came = is.came;
+    told = held_in_part contents begun mid now dropped judging named is.carried is.tellings is.has_told prints none;
+    in_order = are_in_order begun.file.now judging named is.carried is.tellings is.has_told.told;
+  }
+
+  all_told : (begun mid now : Teller W) (dropped : ℕ) (judging : Judging) (named : List ℕ) (carried : List Carried) (ts : List Telling) → HasToldAll contents begun mid dropped judging named carried ts
+      → (now ≡ mid) ⊎ TellsNextPart contents mid now judging named (numbers_of ts) carried → HasToldInPart contents begun now dropped judging named carried ts
+  all_told begun mid now dropped judging named carried ts h (inl same) =
+      subst (λ (t : Teller W). HasToldInPart contents begun t dropped judging named carried ts) (sym same) (all_so_far contents begun mid dropped judging named carried ts h)
+  all_told begun mid now dropped judging named carried ts h (inr step) = all_part_next contents begun mid now dropped judging named carried ts h step
+
+  -- what waited is told, and of the rest a part
+  pub rest_in_part : (begun mid late now : Teller W) (file : Option (List ℕ)) (session : Session) (judging : Judging) (named : List ℕ) → (is : IsReadThrough contents begun mid file session named)
+      → PrintsAllWith contents session.notes.dropped mid.printer late.printer mid.held.items → late.held.items ≡ []
+      → late ≡ record mid { printer = late.printer; held = late.held; may_lose = false; dropped = session.notes.dropped }
+      → session.audit.judge.judging ≡ judging
+      → TellsTurnsPart contents (JudgesAs session) late now session.audit.judge.judging named (numbers_of is.tellings) is.history is.carried (giving_up (frames_in is.recording.waiting) is.noticed)
+      → IsRecordingToldInPart contents begun now file judging named
+  rest_in_part begun mid late now file session judging named is prints none late_is same turns =
+      let here = session.audit.judge.judging in
+      let lost = session.notes.dropped in
+      let s = giving_up (frames_in is.recording.waiting) is.noticed in
+      let held : HasToldAll contents begun late lost here named is.carried is.tellings = held_told contents begun mid late lost here named is.carried is.tellings is.has_told prints none late_is in
+      let more = told_in_turn contents (JudgesAs session) named is.history is.carried s
+      (λ t us. HasToldAll contents begun t lost here named is.carried us)
+      (λ t u d e us was holds step. has_told_all contents begun t u lost d e here named is.history is.carried s us was holds step)
+      turns.turns.told late turns.mid is.tellings turns.turns.left held turns.turns.turns in
+      record {
+        history = is.history;
+        carried = is.carried;
+        noticed = is.noticed;
+        tellings = more.0;
+        dropped = lost;
+        read = inr (is.recording, is.read.bytes, is.read.left, is.read.had, is.read.frames);
+        came = is.closed.noticed;
+        told = subst (λ (k : Judging). HasToldInPart contents begun now lost k named is.carried more.0) same
+            (all_told begun turns.mid now lost here named is.carried more.0 more.1
+            (subst (λ out. (now ≡ turns.mid) ⊎ TellsNextPart contents turns.mid now here named out is.carried) more.2 turns.part));
+        in_order = are_in_order begun.file.now here named is.carried more.0 more.1.told;
+      }

@@ -1,27 +1,28 @@
 -- What is told one after another.
-use Rattle.std.proofs.Common.{◌<◌, length, take, drop, get_or, length-append, take-append-drop, ◌≡◌, ◌∷◌, ◌++◌, ◌||◌, not, [], ℕ, max, Bool, true, false, List, Option, Some, None, IfSome, IsSome, OnOk, Result, Ok, Err, IsErr, refl, sym, ap, ◌∙◌, true≢false, append_assoc, append-nil, subst, arith, if◌then◌else◌}
+use Rattle.std.proofs.Common.{◌<◌, length, take, drop, get_or, length-append, take-append-drop, ◌≡◌, ◌∷◌, ◌++◌, ◌||◌, not, [], ℕ, max, Bool, true, false, List, Option, Some, None, IfSome, IsSome, OnErr, OnOk, Result, Ok, Err, IsErr, inl, inr, refl, sym, ap, ◌∙◌, true≢false, append_assoc, append-nil, subst, arith, if◌then◌else◌}
 use Rattle.std.proofs.lemmas.List.{take_more}
 use Rattle.audit_recording.specs.Rows.Told.{depends_on_place, row_of, rows_told}
 use Rattle.audit_recording.specs.declared.rows.row.Point.TheVariants.{Between}
 use Rattle.net_udp.specs.Recording.{Step}
 use Rattle.audit_recording.specs.Blame.Frames.{Carried}
-use Rattle.audit_recording.specs.Session.Kept.{IsSessionAfter}
+use Rattle.audit_recording.specs.Session.Kept.{IsSessionOf}
 use Rattle.audit_recording.specs.declared.session.session.Session.{Session}
 use Rattle.audit_recording.specs.Losses.Noted.{IsFirst, IsMissingOf}
 use Rattle.audit_recording.specs.Session.Noted.{Noticed}
 use Rattle.audit_recording.specs.declared.blame.trail.Trail.{Trail}
 use Rattle.audit_recording.specs.declared.blame.missing.Missing.{Missing}
+use Rattle.audit_recording.specs.declared.judges.judging.Judging.{Judging}
 use Rattle.audit_recording.specs.declared.rows.row.Row.{Row}
 use Rattle.audit_rows.specs.Judging.{said_there}
 use Rattle.audit_rows.specs.Viewing.{said_in}
 use Rattle.audit_rows.specs.declared.judged.Judged.{Judged}
 use Rattle.audit_rows.specs.declared.viewed.Viewed.{Viewed}
 use Rattle.tftp_rows.specs.Printing.{Prints, is_some_row, verdict_lines}
-use Rattle.tftp_rows.specs.Telling.{AreJudgedAt, AreRowsAt, AreRowsWith, IsRowAt, IsRowWith, PrintsAllWith, PrintsPartWith, PrintsWith, Tells, TellsAll, TellsInTurn, TellsNext, TellsPart, TellsPartAt, TellsPlaces, TellsRowsAt, TellsTurns, worst_at}
+use Rattle.tftp_rows.specs.Telling.{AreJudgedAt, AreRowsAt, AreRowsWith, IsRowAt, IsRowWith, PrintsAllWith, PrintsPartWith, PrintsWith, Tells, TellsAll, TellsInTurn, TellsNext, TellsNextPart, TellsPart, TellsPartAt, TellsPlaces, TellsRowsAt, TellsTurns, TellsTurnsPart, worst_at}
 use Rattle.tftp_rows.specs.declared.printing.RowPrinter.{RowPrinter}
 use Rattle.tftp_rows.specs.declared.row.VerdictRow.{VerdictRow}
 use Rattle.tftp_rows.specs.declared.teller.Teller.{Teller}
-use Rattle.tftp_rows.proofs.PrintingLemmas.{prints_both, prints_no_part, prints_nothing, prints_part}
+use Rattle.tftp_rows.proofs.PrintingLemmas.{prints_all_so, prints_both, prints_nothing, prints_part}
 
 pub with_one : (dropped : ℕ) (row last : VerdictRow) → IsRowWith dropped row last → AreRowsWith dropped (row ∷ []) (last ∷ [])
 with_one dropped row last p = (last, [], refl, p, refl)
@@ -76,8 +77,8 @@ none_there [] waits f p = refl
 none_there (row ∷ rows) waits f p = absurd (true≢false (sym (f (λ e. true≢false (ap is_some_row e))) ∙ p))
 
 module _ {W : Type 0} (contents : W → Option (List ℕ)) where
-  pub with_none : (dropped : ℕ) (s : RowPrinter W) (rows : List VerdictRow) → PrintsPartWith contents dropped s s rows
-  with_none dropped s rows = record { due = []; others = rows; are = refl; printed = []; last = refl; prints = prints_no_part contents verdict_lines s [] }
+  pub all_none : (dropped : ℕ) (s : RowPrinter W) → PrintsAllWith contents dropped s s []
+  all_none dropped s = record { printed = []; last = refl; prints = prints_nothing contents verdict_lines s }
 
   pub all_both : (dropped : ℕ) (s t u : RowPrinter W) (xs ys : List VerdictRow) → PrintsAllWith contents dropped s t xs → PrintsAllWith contents dropped t u ys → PrintsAllWith contents dropped s u (xs ++ ys)
   all_both dropped s t u xs ys p q = record {
@@ -96,6 +97,10 @@ module _ {W : Type 0} (contents : W → Option (List ℕ)) where
     prints = prints_part contents verdict_lines s t u p.printed q.printed p.prints q.prints;
   }
 
+  -- all of it is a part
+  pub all_so : (dropped : ℕ) (s t : RowPrinter W) (rows : List VerdictRow) → PrintsAllWith contents dropped s t rows → PrintsPartWith contents dropped s t rows
+  all_so dropped s t rows p = record { due = rows; others = []; are = sym (append-nil rows); printed = p.printed; last = p.last; prints = prints_all_so contents verdict_lines s t p.printed p.prints }
+
   -- the same where more rows were to come
   pub part_more : (dropped : ℕ) (s t : RowPrinter W) (xs ys : List VerdictRow) → PrintsPartWith contents dropped s t xs → PrintsPartWith contents dropped s t (xs ++ ys)
   part_more dropped s t xs ys p = record {
@@ -111,7 +116,7 @@ module _ {W : Type 0} (contents : W → Option (List ℕ)) where
   tells_none s = record {
     due = [];
     are = append-nil s.held.items;
-    prints = record { printed = []; last = refl; prints = prints_nothing contents verdict_lines s.printer };
+    prints = all_none s.dropped s.printer;
     dropped = refl;
     file = refl;
     told = refl;
@@ -134,10 +139,18 @@ module _ {W : Type 0} (contents : W → Option (List ℕ)) where
   }
 
   pub tells_part : (s t u : Teller W) (xs ys : List VerdictRow) → TellsAll contents s t xs → TellsPart contents t u ys → TellsPart contents s u (xs ++ ys)
-  tells_part s t u xs ys p q =
-      let are : p.due ++ (t.held.items ++ ys) ≡ s.held.items ++ (xs ++ ys) =
-      sym (append_assoc p.due t.held.items ys) ∙ ap (λ l. l ++ ys) (sym p.are) ∙ append_assoc s.held.items xs ys in
-      subst (PrintsPartWith contents s.dropped s.printer u.printer) are (all_part s.dropped s.printer t.printer u.printer p.due _ p.prints (rw p.dropped at q))
+  tells_part s t u xs ys p q = record {
+    due = p.due ++ q.due;
+    left = q.left;
+    are =
+        sym (append_assoc s.held.items xs ys) ∙ ap (λ l. l ++ ys) p.are ∙ append_assoc p.due t.held.items ys ∙ ap (λ l. p.due ++ l) q.are
+        ∙ sym (append_assoc p.due q.due (u.held.items ++ q.left));
+    prints = elim q.prints [
+      | inl all ↦ inl (all_both s.dropped s.printer t.printer u.printer p.due q.due p.prints (rw p.dropped at all))
+      | inr part ↦ inr (all_part s.dropped s.printer t.printer u.printer p.due q.due p.prints (rw p.dropped at part.0), part.1)
+    ];
+    none_waits = λ sure none. q.none_waits (p.may_lose ∙ sure) (p.none_waits sure none);
+  }
 
   pub places_both : (s t u : Teller W) (j : Judged) (ps qs : List Row) → TellsRowsAt contents s t j ps → TellsRowsAt contents t u j qs → TellsRowsAt contents s u j (ps ++ qs)
   places_both s t u j ps qs p q = record {
@@ -168,7 +181,14 @@ module _ {W : Type 0} (contents : W → Option (List ℕ)) where
 
   -- nothing is told
   pub places_none : (s : Teller W) (j : Judged) (ps : List Row) → TellsPartAt contents s s j ps
-  places_none s j ps = record { first = []; others = ps; all = refl; rows = []; are = refl; tells = with_none s.dropped s.printer _ }
+  places_none s j ps = record {
+    first = [];
+    others = ps;
+    all = refl;
+    rows = [];
+    are = refl;
+    tells = record { due = []; left = []; are = refl; prints = inl (all_none s.dropped s.printer); none_waits = λ sure none. none };
+  }
 
   -- a row is held back
   pub tells_held : (s t : Teller W) (row : VerdictRow) → t.printer ≡ s.printer → t.dropped ≡ s.dropped → t.file ≡ s.file → t.told ≡ s.told → t.may_lose ≡ s.may_lose
@@ -176,12 +196,22 @@ module _ {W : Type 0} (contents : W → Option (List ℕ)) where
   tells_held s t row printer dropped file told may_lose held never = record {
     due = [];
     are = sym held;
-    prints = subst (λ p. PrintsAllWith contents s.dropped s.printer p []) (sym printer) (record { printed = []; last = refl; prints = prints_nothing contents verdict_lines s.printer });
+    prints = subst (λ p. PrintsAllWith contents s.dropped s.printer p []) (sym printer) (all_none s.dropped s.printer);
     dropped = dropped;
     file = file;
     told = told;
     may_lose = may_lose;
     none_waits = λ sure none. absurd (never sure none);
+  }
+
+  -- a row that was to be held back is not kept
+  pub tells_lost : (s t : Teller W) (row : VerdictRow) → t.printer ≡ s.printer → t.held.items ≡ s.held.items → TellsPart contents s t (row ∷ [])
+  tells_lost s t row printer held = record {
+    due = [];
+    left = row ∷ [];
+    are = ap (λ l. l ++ row ∷ []) (sym held);
+    prints = inl (subst (λ p. PrintsAllWith contents s.dropped s.printer p []) (sym printer) (all_none s.dropped s.printer));
+    none_waits = λ sure none. held ∙ none;
   }
 
   module _ {A E : Type 0} where
@@ -220,7 +250,15 @@ module _ {W : Type 0} (contents : W → Option (List ℕ)) where
           may_lose = ap {A = Teller W} (λ v. v.may_lose) is;
           none_waits = λ sure before. left;
         }
-    tells_now s t (Err e) row is none p = subst (λ l. PrintsPartWith contents s.dropped s.printer t.printer (l ++ row ∷ [])) (sym none) p
+    tells_now s t (Err e) row is none p =
+        let left : t.held.items ≡ [] = ap {A = Teller W} (λ v. v.held.items) is ∙ none in
+        record {
+          due = row ∷ [];
+          left = [];
+          are = ap (λ l. l ++ row ∷ []) none ∙ sym (ap (λ l. row ∷ (l ++ [])) left);
+          prints = inr (p, left);
+          none_waits = λ sure before. left;
+        }
 
     -- A row is told, where the status was raised before.
     pub row_told : (s m t : Teller W) (r : Result A E) (j : Judged) (place : Row) (row : VerdictRow) → m.printer ≡ s.printer → m.held ≡ s.held → m.dropped ≡ s.dropped → m.file ≡ s.file → m.told ≡ s.told → m.may_lose ≡ s.may_lose
@@ -245,7 +283,13 @@ module _ {W : Type 0} (contents : W → Option (List ℕ)) where
       all = refl;
       rows = row ∷ [];
       are = at_one _ _ j place row is;
-      tells = rw held at (rw dropped at (rw printer at p));
+      tells = record {
+        due = p.due;
+        left = p.left;
+        are = rw held at p.are;
+        prints = rw dropped at (rw printer at p.prints);
+        none_waits = λ sure none. p.none_waits (may_lose ∙ sure) (rw held none);
+      };
     }
 
 last_told : (depends : Bool) (b : Option Viewed) (j : Judged) → IfSome b (λ v. IsSome j.between) → AreJudgedAt j (if not depends then [] else row_of Between (said_there b))
@@ -291,12 +335,16 @@ missing_there j t m s e f p =
     subst (λ (u : Trail). IsFirst (IsMissingOf u.transfer.client.address s.events) j.doubted.missing.first) (sym e)
     (subst (λ (v : Missing). IsFirst (IsMissingOf t.transfer.client.address s.events) v.first) (sym f) p)
 
+pub on_err : {A E P : Type 0} (r : Result A E) → P → OnErr r P
+on_err (Ok x) p = tt
+on_err (Err e) p = p
+
 -- nothing was told
-pub no_turn : {W : Type 0} (contents : W → Option (List ℕ)) (Holds : Session → Type 0) (t : Teller W) (b : Session) (named out : List ℕ) (history : List Step) (carried : List Carried) (s : Noticed) → IsSessionAfter b named out history carried s → TellsTurns contents Holds t t b named out history carried s
+pub no_turn : {W : Type 0} (contents : W → Option (List ℕ)) (Holds : Session → Type 0) (t : Teller W) (b : Session) (named out : List ℕ) (history : List Step) (carried : List Carried) (s : Noticed) → IsSessionOf b named out history carried s → TellsTurns contents Holds t t b named out history carried s
 no_turn contents Holds t b named out history carried s is = record { told = []; left = out; turns = (refl, refl); handed_out = is }
 
 turn_more : {W : Type 0} (contents : W → Option (List ℕ)) (Holds : Session → Type 0) (named : List ℕ) (history : List Step) (carried : List Carried) (s : Noticed) (js : List Judged) (t u v : Teller W) (d e : Session) (out left : List ℕ)
-    → TellsInTurn contents Holds named history carried s js t u out left → IsSessionAfter d named left history carried s → Holds d → (step : TellsNext contents u v d e named left history carried s)
+    → TellsInTurn contents Holds named history carried s js t u out left → IsSessionOf d named left history carried s → Holds d → (step : TellsNext contents u v d e named left history carried s)
     → TellsInTurn contents Holds named history carried s (js ++ step.judged ∷ []) t v out (step.transfer.number ∷ left)
 turn_more {W} contents Holds named history carried s [] t u v d e out left p is holds step =
     subst (λ (k : List ℕ). TellsInTurn contents Holds named history carried s (step.judged ∷ []) t v k (step.transfer.number ∷ left)) p.1
@@ -317,10 +365,29 @@ turns_more contents Holds t u v d e named out history carried s p holds step = r
 
 -- and then no more was told
 abbrev pub turns_kept : {W : Type 0} (contents : W → Option (List ℕ)) (Holds : Session → Type 0) (t u v : Teller W) (d e : Session) (named out : List ℕ) (history : List Step) (carried : List Carried) (s : Noticed)
-    → (p : TellsTurns contents Holds t u d named out history carried s) → v ≡ u → IsSessionAfter e named p.left history carried s → TellsTurns contents Holds t v e named out history carried s
+    → (p : TellsTurns contents Holds t u d named out history carried s) → v ≡ u → IsSessionOf e named p.left history carried s → TellsTurns contents Holds t v e named out history carried s
 turns_kept {W} contents Holds t u v d e named out history carried s p kept is = record {
   told = p.told;
   left = p.left;
   turns = subst (λ (k : Teller W). TellsInTurn contents Holds named history carried s p.told t k out p.left) (sym kept) p.turns;
   handed_out = is;
 }
+
+-- a transfer's rows have the number that it was told with, also where it is told in part
+pub numbered_part : {W : Type 0} (contents : W → Option (List ℕ)) (s t : Teller W) (n m : ℕ) (j : Judged) (ps : List Row) → n ≡ m → TellsPartAt contents (record s { told = n }) t j ps → TellsPartAt contents (record s { told = m }) t j ps
+numbered_part contents s t n m j ps same p = subst (λ k. TellsPartAt contents (record s { told = k }) t j ps) same p
+
+-- some transfers were told, and the next one in part, or no more
+pub turns_part : {W : Type 0} (contents : W → Option (List ℕ)) (Holds : Session → Type 0) (t u v : Teller W) (d : Session) (judging : Judging) (named out : List ℕ) (history : List Step) (carried : List Carried) (s : Noticed)
+    → (p : TellsTurns contents Holds t u d named out history carried s) → d.audit.judge.judging ≡ judging → TellsNextPart contents u v d.audit.judge.judging named p.left carried
+    → TellsTurnsPart contents Holds t v judging named out history carried s
+turns_part contents Holds t u v d judging named out history carried s p same part = record {
+  mid = u;
+  between = d;
+  turns = p;
+  part = inr (subst (λ (k : Judging). TellsNextPart contents u v k named p.left carried) same part);
+}
+
+pub turns_end : {W : Type 0} (contents : W → Option (List ℕ)) (Holds : Session → Type 0) (t u : Teller W) (d : Session) (judging : Judging) (named out : List ℕ) (history : List Step) (carried : List Carried) (s : Noticed)
+    → TellsTurns contents Holds t u d named out history carried s → TellsTurnsPart contents Holds t u judging named out history carried s
+turns_end contents Holds t u d judging named out history carried s p = record { mid = u; between = d; turns = p; part = inl refl }

@@ -1,5 +1,5 @@
 -- What is told of a recording, transfer by transfer.
-use Rattle.std.proofs.Common.{◌≡◌, ◌∷◌, ◌++◌, ◌+◌, ◌-◌, ◌^◌, suc, [], ℕ, Bool, length, min, false, List, Option, refl, sym, ap, ◌∙◌, subst, append_assoc, append-nil, arith}
+use Rattle.std.proofs.Common.{◌≡◌, ◌⊎◌, ◌∷◌, ◌++◌, ◌+◌, ◌-◌, ◌^◌, suc, [], ℕ, Bool, length, max, min, false, List, Option, inl, inr, refl, sym, ap, ◌∙◌, subst, append_assoc, append-nil, arith}
 use Rattle.net_udp.specs.Recording.{Step}
 use Rattle.audit_recording.specs.Blame.Frames.{Carried}
 use Rattle.audit_recording.specs.Session.Noted.{Noticed}
@@ -7,22 +7,43 @@ use Rattle.audit_recording.specs.declared.judges.judging.Judging.{Judging}
 use Rattle.audit_recording.specs.declared.session.session.Session.{Session}
 use Rattle.audit_rows.specs.{IsJudgedOf}
 use Rattle.audit_rows.specs.declared.judged.Judged.{Judged}
-use Rattle.tftp_rows.specs.Printing.{verdict_lines}
-use Rattle.tftp_rows.specs.Telling.{AreRowsAt, PrintsAllWith, TellsInTurn, TellsNext, places_of}
-use Rattle.tftp_rows.specs.Whole.{AreTold, HasTold, HasToldAll, IsToldNext, Telling, counted, numbers_of}
+use Rattle.tftp_rows.specs.Printing.{PrintsPart, verdict_lines}
+use Rattle.tftp_rows.specs.Telling.{AreRowsAt, AreRowsWith, PrintsAllWith, PrintsPartWith, TellsInTurn, TellsNext, TellsNextPart, places_of}
+use Rattle.tftp_rows.specs.Whole.{AreTold, HasTold, HasToldAll, HasToldInPart, HasToldPart, IsToldNext, IsToldPart, Telling, all_rows, counted, numbers_of, worst_of}
+use Rattle.tftp_rows.specs.declared.printing.RowPrinter.{RowPrinter}
+use Rattle.tftp_rows.specs.declared.row.VerdictRow.{VerdictRow}
 use Rattle.tftp_rows.specs.declared.teller.Teller.{Teller}
-use Rattle.tftp_rows.proofs.PrintingLemmas.{prints_both}
-use Rattle.tftp_rows.proofs.TellingLemmas.{all_both, with_both}
+use Rattle.tftp_rows.proofs.PrintingLemmas.{first_of_none, prints_all_so, prints_both, prints_nothing, prints_part, prints_part_only}
+use Rattle.tftp_rows.proofs.TellingLemmas.{all_both, all_part, all_so, with_both}
 
 -- what was told stays so, whatever is read next
 pub told_longer : (name : List ℕ) (judging : Judging) (named : List ℕ) (more all : List Carried) (ts : List Telling) → AreTold name judging named all ts → AreTold name judging named (more ++ all) ts
 told_longer name judging named more all [] p = tt
 told_longer name judging named more all (t ∷ older) p = (more ++ p.0, p.1, ap (λ l. more ++ l) p.2 ∙ sym (append_assoc more p.0 p.1), p.3, p.4)
 
+raised : (a b c w x : ℕ) → c ≡ max b x → b ≡ max a w → c ≡ max a (max w x)
+raised a b c w x p q = omega arith
+
+max_none : (a : ℕ) → a ≡ max a 0
+max_none a = omega arith
+
 one_more : (n m k : ℕ) → m ≡ min (n + 1) (2 ^ 64 - 1) → n ≡ min k (2 ^ 64 - 1) → m ≡ min (suc k) (2 ^ 64 - 1)
 one_more n m k p q = omega arith
 
 module _ {W : Type 0} (contents : W → Option (List ℕ)) where
+  -- nothing was told since the file was begun
+  pub nothing_told : (begun : Teller W) (judging : Judging) (named : List ℕ) → begun.held.items ≡ [] → begun.told ≡ 0 → HasTold contents begun begun judging named [] []
+  nothing_told begun judging named none zero = record {
+    told = tt;
+    printed = [];
+    rows = sym none;
+    prints = record { printed = []; last = refl; prints = prints_nothing contents verdict_lines begun.printer };
+    file = refl;
+    number = zero;
+    status = max_none begun.status;
+    dropped = refl;
+  }
+
   -- the transfer of a turn
   abbrev pub telling_of : {t u : Teller W} {before after : Session} {named out : List ℕ} {history : List Step} {carried : List Carried} {s : Noticed}
       → TellsNext contents t u before after named out history carried s → Telling
@@ -53,6 +74,7 @@ module _ {W : Type 0} (contents : W → Option (List ℕ)) where
             (subst (λ d. PrintsAllWith contents d t.printer u.printer tells.due) h.dropped tells.prints);
         file = tells.file ∙ h.file;
         number = one_more t.told u.told (length ts) step.number h.number;
+        status = raised begun.status t.status u.status (worst_of ts) _ step.status h.status;
         dropped = tells.dropped ∙ h.dropped;
       }
 
@@ -79,13 +101,160 @@ module _ {W : Type 0} (contents : W → Option (List ℕ)) where
         may_lose = tells.may_lose ∙ h.may_lose;
         file = tells.file ∙ h.file;
         number = one_more t.told u.told (length ts) step.number h.number;
+        status = raised begun.status t.status u.status (worst_of ts) _ step.status h.status;
         dropped_now = tells.dropped ∙ h.dropped_now;
       }
+
+  -- ---- where a call has failed
+
+  pub told_so_far : (begun now : Teller W) (judging : Judging) (named : List ℕ) (all : List Carried) (ts : List Telling) → HasTold contents begun now judging named all ts
+      → HasToldPart contents begun now judging named all ts
+  told_so_far begun now judging named all ts h = record {
+    told = h.told;
+    next = [];
+    are_next = inl refl;
+    printed = h.printed;
+    left = [];
+    rows = append-nil (all_rows ts) ∙ (h.rows ∙ ap (λ l. h.printed ++ l) (sym (append-nil now.held.items)));
+    prints = inl h.prints;
+  }
+
+  part_next : (begun t u : Teller W) (judging : Judging) (named : List ℕ) (carried : List Carried) (ts : List Telling) → t.file ≡ begun.file → t.told ≡ counted ts
+      → (step : TellsNextPart contents t u judging named (numbers_of ts) carried)
+      → IsToldPart begun.file.now judging named carried (record { transfer = step.transfer; judged = step.judged; rows = step.rows.rows }) ts
+  part_next begun t u judging named carried ts file number step = record {
+    next = step.next;
+    of = step.of;
+    first = step.rows.first;
+    others = step.rows.others;
+    places = step.rows.all;
+    rows = subst (λ n. AreRowsAt begun.file.now n step.judged step.rows.first step.rows.rows) (one_more t.told _ (length ts) refl number)
+        (subst (λ f. AreRowsAt f.now (min (t.told + 1) (2 ^ 64 - 1)) step.judged step.rows.first step.rows.rows) file step.rows.are);
+  }
+
+  -- the next transfer was told in part
+  pub told_part : (begun t u : Teller W) (judging : Judging) (named : List ℕ) (carried : List Carried) (ts : List Telling) → HasTold contents begun t judging named carried ts
+      → TellsNextPart contents t u judging named (numbers_of ts) carried → HasToldPart contents begun u judging named carried ts
+  told_part begun t u judging named carried ts h step =
+      let rows = step.rows.rows in
+      let tells = step.rows.tells in
+      record {
+        told = h.told;
+        next = rows;
+        are_next = inr (record { transfer = step.transfer; judged = step.judged; rows = rows }, refl, part_next begun t u judging named carried ts h.file h.number step);
+        printed = h.printed ++ tells.due;
+        left = tells.left;
+        rows = ap (λ l. l ++ rows) h.rows ∙ (append_assoc h.printed t.held.items rows
+            ∙ (ap (λ l. h.printed ++ l) tells.are ∙ sym (append_assoc h.printed tells.due (u.held.items ++ tells.left))));
+        prints = elim tells.prints [
+          | inl all ↦ inl (all_both contents begun.dropped begun.printer t.printer u.printer h.printed tells.due h.prints
+              (subst (λ d. PrintsAllWith contents d t.printer u.printer tells.due) h.dropped all))
+          | inr part ↦ inr (
+            all_part contents begun.dropped begun.printer t.printer u.printer h.printed tells.due h.prints
+                (subst (λ d. PrintsPartWith contents d t.printer u.printer tells.due) h.dropped part.0),
+            part.1,
+          )
+        ];
+      }
+
+  -- what waited was printed then, or in part
+  pub held_in_part : (begun t u : Teller W) (dropped : ℕ) (judging : Judging) (named : List ℕ) (all : List Carried) (ts : List Telling) → HasToldPart contents begun t judging named all ts
+      → PrintsPartWith contents dropped t.printer u.printer t.held.items → u.held.items ≡ [] → HasToldInPart contents begun u dropped judging named all ts
+  held_in_part begun t u dropped judging named all ts h p none = elim h.prints [
+    | inl whole ↦ record {
+      told = h.told;
+      next = h.next;
+      are_next = h.are_next;
+      early = h.printed;
+      late = p.due;
+      left = p.others ++ h.left;
+      rows = h.rows ∙ ap (λ l. h.printed ++ l) (ap (λ l. l ++ h.left) p.are ∙ append_assoc p.due p.others h.left);
+      first = whole.printed;
+      last = p.printed;
+      are_first = whole.last;
+      are_last = p.last;
+      prints = prints_part contents verdict_lines begun.printer t.printer u.printer whole.printed p.printed whole.prints p.prints;
+      none_waits = none;
+    }
+    | inr cut ↦
+        (let part = cut.0 in
+        let no_due : p.due ≡ [] = first_of_none p.due p.others (sym cut.1 ∙ p.are) in
+        let no_rows : p.printed ≡ [] = subst (λ l. AreRowsWith dropped l p.printed) no_due p.last in
+        record {
+          told = h.told;
+          next = h.next;
+          are_next = h.are_next;
+          early = part.due;
+          late = [];
+          left = part.others ++ (t.held.items ++ h.left);
+          rows = h.rows ∙ (ap (λ l. l ++ (t.held.items ++ h.left)) part.are ∙ append_assoc part.due part.others (t.held.items ++ h.left));
+          first = part.printed;
+          last = [];
+          are_first = part.last;
+          are_last = refl;
+          prints = subst (PrintsPart contents verdict_lines begun.printer u.printer) (sym (append-nil part.printed))
+              (prints_part_only contents verdict_lines begun.printer t.printer u.printer part.printed part.prints (subst (PrintsPart contents verdict_lines t.printer u.printer) no_rows p.prints));
+          none_waits = none;
+        })
+  ]
+
+  -- none waits, and no more was told
+  pub all_so_far : (begun t : Teller W) (dropped : ℕ) (judging : Judging) (named : List ℕ) (all : List Carried) (ts : List Telling) → HasToldAll contents begun t dropped judging named all ts
+      → HasToldInPart contents begun t dropped judging named all ts
+  all_so_far begun t dropped judging named all ts h = record {
+    told = h.told;
+    next = [];
+    are_next = inl refl;
+    early = h.early;
+    late = h.late;
+    left = [];
+    rows = append-nil (all_rows ts) ∙ (h.rows ∙ ap (λ l. h.early ++ l) (sym (append-nil h.late)));
+    first = h.first;
+    last = h.last;
+    are_first = h.are_first;
+    are_last = h.are_last;
+    prints = prints_all_so contents verdict_lines begun.printer t.printer (h.first ++ h.last) h.prints;
+    none_waits = h.none_waits;
+  }
+
+  as_part : (dropped : ℕ) (s t : RowPrinter W) (rows : List VerdictRow) (P : Type 0) → PrintsAllWith contents dropped s t rows ⊎ (PrintsPartWith contents dropped s t rows × P) → PrintsPartWith contents dropped s t rows
+  as_part dropped s t rows P (inl all) = all_so contents dropped s t rows all
+  as_part dropped s t rows P (inr part) = part.0
+
+  -- none waits, and the next transfer was told in part
+  pub all_part_next : (begun t u : Teller W) (dropped : ℕ) (judging : Judging) (named : List ℕ) (carried : List Carried) (ts : List Telling) → HasToldAll contents begun t dropped judging named carried ts
+      → TellsNextPart contents t u judging named (numbers_of ts) carried → HasToldInPart contents begun u dropped judging named carried ts
+  all_part_next begun t u dropped judging named carried ts h step =
+      let rows = step.rows.rows in
+      let tells = step.rows.tells in
+      let none : u.held.items ≡ [] = tells.none_waits h.may_lose h.none_waits in
+      let part = as_part dropped t.printer u.printer tells.due (u.held.items ≡ []) (subst (λ d. PrintsAllWith contents d t.printer u.printer tells.due ⊎ (PrintsPartWith contents d t.printer u.printer tells.due × (u.held.items ≡ []))) h.dropped_now tells.prints) in
+      let due : rows ≡ part.due ++ (part.others ++ tells.left) =
+      ap (λ l. l ++ rows) (sym h.none_waits) ∙ (tells.are ∙ (ap (λ l. tells.due ++ (l ++ tells.left)) none ∙ (ap (λ l. l ++ tells.left) part.are ∙ append_assoc part.due part.others tells.left))) in
+      record {
+        told = h.told;
+        next = rows;
+        are_next = inr (record { transfer = step.transfer; judged = step.judged; rows = rows }, refl, part_next begun t u judging named carried ts h.file h.number step);
+        early = h.early;
+        late = h.late ++ part.due;
+        left = part.others ++ tells.left;
+        rows = ap (λ l. l ++ rows) h.rows ∙ (append_assoc h.early h.late rows
+            ∙ ap (λ l. h.early ++ l) (ap (λ l. h.late ++ l) due ∙ sym (append_assoc h.late part.due (part.others ++ tells.left))));
+        first = h.first;
+        last = h.last ++ part.printed;
+        are_first = h.are_first;
+        are_last = with_both dropped h.late part.due h.last part.printed h.are_last part.last;
+        prints = subst (PrintsPart contents verdict_lines begun.printer u.printer) (append_assoc h.first h.last part.printed)
+            (prints_part contents verdict_lines begun.printer t.printer u.printer (h.first ++ h.last) part.printed h.prints part.prints);
+        none_waits = none;
+      }
+
+  -- ---- what else happens between two turns
 
   -- whether the recorder may tell later that it lost packets changes nothing of what was told
   pub loses_too : (begun t : Teller W) (lose : Bool) (judging : Judging) (named : List ℕ) (all : List Carried) (ts : List Telling)
       → HasTold contents begun t judging named all ts → HasTold contents begun (record t { may_lose = lose }) judging named all ts
-  loses_too begun t lose judging named all ts h = record { told = h.told; printed = h.printed; rows = h.rows; prints = h.prints; file = h.file; number = h.number; dropped = h.dropped }
+  loses_too begun t lose judging named all ts h = record { told = h.told; printed = h.printed; rows = h.rows; prints = h.prints; file = h.file; number = h.number; status = h.status; dropped = h.dropped }
 
   -- those that waited were printed
   pub held_told : (begun t u : Teller W) (dropped : ℕ) (judging : Judging) (named : List ℕ) (all : List Carried) (ts : List Telling) → HasTold contents begun t judging named all ts
@@ -105,6 +274,7 @@ module _ {W : Type 0} (contents : W → Option (List ℕ)) where
     may_lose = ap {A = Teller W} (λ v. v.may_lose) is;
     file = ap {A = Teller W} (λ v. v.file) is ∙ h.file;
     number = ap {A = Teller W} (λ v. v.told) is ∙ h.number;
+    status = ap {A = Teller W} (λ v. v.status) is ∙ h.status;
     dropped_now = ap {A = Teller W} (λ v. v.dropped) is;
   }
 

@@ -10,7 +10,7 @@ use Rattle.audit_recording.specs.Blame.Frames.{Carried, framed, view_of, whole_o
 use Rattle.audit_recording.specs.Blame.Kept.{first_frame, last_frame}
 use Rattle.audit_recording.specs.Endings.Told.{IsEnding}
 use Rattle.audit_recording.specs.Endings.Undelivered.{undelivered_of}
-use Rattle.audit_recording.specs.Session.Kept.{IsSessionAfter}
+use Rattle.audit_recording.specs.Session.Kept.{IsSessionOf}
 use Rattle.audit_recording.specs.Session.Noted.{Noticed}
 use Rattle.audit_recording.specs.Session.Trails.{opening_of}
 use Rattle.audit_recording.specs.declared.blame.ending.Ending.{Ending}
@@ -66,14 +66,14 @@ pub record ListsNext {W : Type 0} (contents : W → Option (List ℕ)) (old new 
   pub prints : PrintsAll contents list_lines old.printer new.printer (row ∷ [])
   pub number : new.told ≡ min (old.told + 1) (2 ^ 64 - 1)
   pub status : new.status ≡ old.status
-  pub handed_out : IsSessionAfter after named (transfer.number ∷ out) history carried s
+  pub handed_out : IsSessionOf after named (transfer.number ∷ out) history carried s
 
 -- These rows were printed, one after another: each is that of the transfer that was the next one then, and this held of the session from
 -- which it was handed out.
 abbrev pub ListsInTurn : {W : Type 0} → (W → Option (List ℕ)) → (Session → Type 0) → List ℕ → List Step → List Carried → Noticed → List ListRow → Lister W → Lister W → List ℕ → List ℕ → Type 0
 ListsInTurn contents Holds named history carried s [] old new out left = (new ≡ old) × (left ≡ out)
 ListsInTurn {W} contents Holds named history carried s (row ∷ more) old new out left =
-    (mid : Lister W) × (before : Session) × (after : Session) × IsSessionAfter before named out history carried s × Holds before
+    (mid : Lister W) × (before : Session) × (after : Session) × IsSessionOf before named out history carried s × Holds before
     × (step : ListsNext contents old mid row after named out history carried s)
     × ListsInTurn contents Holds named history carried s more mid new (step.transfer.number ∷ out) left
 
@@ -82,4 +82,4 @@ pub record ListsTurns {W : Type 0} (contents : W → Option (List ℕ)) (Holds :
   pub rows : List ListRow
   pub left : List ℕ
   pub turns : ListsInTurn contents Holds named history carried s rows old new out left
-  pub handed_out : IsSessionAfter after named left history carried s
+  pub handed_out : IsSessionOf after named left history carried s

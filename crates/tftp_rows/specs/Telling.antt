@@ -1,13 +1,13 @@
 -- What is told of transfers: the rows of their verdicts. Lists of what a recording has have the newest first; rows stand in the order in which
 -- they are told.
-use Rattle.std.specs.Prelude.{◌≡◌, ◌+◌, ◌-◌, ◌^◌, ◌≤◌, ℕ, false, max, min, List, [], ◌∷◌, ◌++◌, Option, Some, None, IsSome, Result, Ok, Err, codes, string_bytes}
+use Rattle.std.specs.Prelude.{◌≡◌, ◌⊎◌, ◌+◌, ◌-◌, ◌^◌, ◌≤◌, ℕ, false, max, min, List, [], ◌∷◌, ◌++◌, Option, Some, None, IsSome, Result, Ok, Err, codes, string_bytes}
 use Rattle.net_udp.specs.Recording.{Step}
 use Rattle.audit_flows.specs.{Transfer}
 use Rattle.audit_recording.specs.Blame.Frames.{Carried, whole_of}
 use Rattle.audit_recording.specs.Judges.{is_among, opened}
 use Rattle.audit_recording.specs.Losses.Noted.{IsFirst, IsMissingOf}
 use Rattle.audit_recording.specs.Rows.Told.{refused_frame, rows_told, status_of}
-use Rattle.audit_recording.specs.Session.Kept.{IsSessionAfter}
+use Rattle.audit_recording.specs.Session.Kept.{IsSessionOf}
 use Rattle.audit_recording.specs.Session.Noted.{Noticed}
 use Rattle.audit_recording.specs.declared.judges.judging.Judging.{Judging}
 use Rattle.audit_recording.specs.declared.rows.row.Row.{Row}
@@ -117,9 +117,13 @@ module _ {W : Type 0} (contents : W → Option (List ℕ)) where
     pub may_lose : new.may_lose ≡ old.may_lose
     pub none_waits : old.may_lose ≡ false → old.held.items ≡ [] → new.held.items ≡ []
 
-  -- The first of all these were printed, or in part, and nothing else.
-  abbrev pub TellsPart : Teller W → Teller W → List VerdictRow → Type 0
-  TellsPart old new rows = PrintsPartWith old.dropped old.printer new.printer (old.held.items ++ rows)
+  -- The first of all these were printed, and nothing else: whole, and then those that wait come next; or in part, and none waits.
+  pub record TellsPart (old new : Teller W) (rows : List VerdictRow) : Type 0 where
+    pub due : List VerdictRow
+    pub left : List VerdictRow
+    pub are : old.held.items ++ rows ≡ due ++ (new.held.items ++ left)
+    pub prints : PrintsAllWith old.dropped old.printer new.printer due ⊎ (PrintsPartWith old.dropped old.printer new.printer due × (new.held.items ≡ []))
+    pub none_waits : old.may_lose ≡ false → old.held.items ≡ [] → new.held.items ≡ []
 
   -- what is told of a transfer at these places, however the call ends
   pub record TellsRowsAt (old new : Teller W) (j : Judged) (places : List Row) : Type 0 where
@@ -166,7 +170,15 @@ pub record TellsNext {W : Type 0} (contents : W → Option (List ℕ)) (old new 
   pub rows : TellsRowsAt contents (record old { told = new.told }) new judged (places_of judged)
   pub number : new.told ≡ min (old.told + 1) (2 ^ 64 - 1)
   pub status : new.status ≡ max old.status (worst_at judged (places_of judged))
-  pub handed_out : IsSessionAfter after named (transfer.number ∷ out) history carried s
+  pub handed_out : IsSessionOf after named (transfer.number ∷ out) history carried s
+
+-- The next transfer was told in part: the rows of its first verdicts come next.
+pub record TellsNextPart {W : Type 0} (contents : W → Option (List ℕ)) (old new : Teller W) (judging : Judging) (named out : List ℕ) (carried : List Carried) : Type 0 where
+  pub transfer : Transfer
+  pub next : IsNext transfer named out carried
+  pub judged : Judged
+  pub of : IsJudgedOf judged judging transfer named carried
+  pub rows : TellsPartAt contents (record old { told = min (old.told + 1) (2 ^ 64 - 1) }) new judged (places_of judged)
 
 -- the session judges where the first one does
 abbrev pub JudgesAs : Session → Session → Type 0
@@ -177,7 +189,7 @@ JudgesAs first session = session.audit.judge.judging ≡ first.audit.judge.judgi
 abbrev pub TellsInTurn : {W : Type 0} → (W → Option (List ℕ)) → (Session → Type 0) → List ℕ → List Step → List Carried → Noticed → List Judged → Teller W → Teller W → List ℕ → List ℕ → Type 0
 TellsInTurn contents Holds named history carried s [] old new out left = (new ≡ old) × (left ≡ out)
 TellsInTurn {W} contents Holds named history carried s (j ∷ more) old new out left =
-    (mid : Teller W) × (before : Session) × (after : Session) × IsSessionAfter before named out history carried s × Holds before
+    (mid : Teller W) × (before : Session) × (after : Session) × IsSessionOf before named out history carried s × Holds before
     × (step : TellsNext contents old mid before after named out history carried s) × (step.judged ≡ j)
     × TellsInTurn contents Holds named history carried s more mid new (step.transfer.number ∷ out) left
 
@@ -186,4 +198,11 @@ pub record TellsTurns {W : Type 0} (contents : W → Option (List ℕ)) (Holds :
   pub told : List Judged
   pub left : List ℕ
   pub turns : TellsInTurn contents Holds named history carried s told old new out left
-  pub handed_out : IsSessionAfter after named left history carried s
+  pub handed_out : IsSessionOf after named left history carried s
+
+-- Transfers were told in turn, and then the next one in part, or no more of them.
+pub record TellsTurnsPart {W : Type 0} (contents : W → Option (List ℕ)) (Holds : Session → Type 0) (old new : Teller W) (judging : Judging) (named out : List ℕ) (history : List Step) (carried : List Carried) (s : Noticed) : Type 0 where
+  pub mid : Teller W
+  pub between : Session
+  pub turns : TellsTurns contents Holds old mid between named out history carried s
+  pub part : (new ≡ mid) ⊎ TellsNextPart contents mid new judging named turns.left carried

@@ -29,7 +29,9 @@ pub use lister::Lister;
 pub use listing::{ListRow, put_list_head};
 pub use plain::{put_number, put_plain};
 pub use printing::{Form, PrintFault, RowPrinter, write_whole};
-pub use reading::{TellFault, recordings_are_told_as_they_are_read, tell_frames};
+pub use reading::{
+    TellFault, check_recording, recordings_are_told_as_they_are_read, tell_frames, tell_recording,
+};
 pub use reason::ReasonWords;
 pub use row::{VerdictRow, place_name, put_head};
 pub use teller::Teller;

@@ -4,7 +4,7 @@ ghost use Rattle.std.specs.Prelude.{◌≡◌, ◌⊎◌, ℕ, List, None, Ok, O
 ghost use Rattle.net_udp.specs.Recording.{Step};
 ghost use Rattle.audit_recording.specs.Blame.Frames.{Carried, whole_of};
 ghost use Rattle.audit_recording.specs.Judges.{is_among, opened};
-ghost use Rattle.audit_recording.specs.Session.Kept.{IsSessionAfter};
+ghost use Rattle.audit_recording.specs.Session.Kept.{IsSessionAfter, IsSessionOf};
 ghost use Rattle.audit_recording.specs.Session.Noted.{Noticed};
 ghost use Rattle.audit_recording.specs.Session.Over.{IsOldestOver};
 ghost use Rattle.tftp_rows.specs.Listed.{ListsNext, ListsTurns};
@@ -70,7 +70,7 @@ impl<W: Write + Drop> Lister<W> {
 
     /// Lists all transfers that were not listed, where the recording has ended.
     pub fn list_all(&mut self, alloc: Global, session: &mut Session) -> Result<(), PrintFault>
-        ensures { (named out : List ℕ) (history : List Step) (carried : List Carried) (s : Noticed) → IsSessionAfter session.old named out history carried s
+        ensures { (named out : List ℕ) (history : List Step) (carried : List Carried) (s : Noticed) → IsSessionOf session.old named out history carried s
             → OnOk result ((turns : ListsTurns W.Write.contents (λ before. Unit {0}) self.old self.new session.new named out history carried s)
             × ((n : ℕ) → (opened n (whole_of named carried) ≡ None) ⊎ (is_among n turns.left ≡ true))) }
     {
@@ -86,12 +86,12 @@ impl<W: Write + Drop> Lister<W> {
     /// handed out would be cleared for each datagram after which none is over.
     #[inline(never)]
     fn list_oldest(&mut self, alloc: Global, session: &mut Session) -> Result<bool, PrintFault>
-        ensures told { (named out : List ℕ) (history : List Step) (carried : List Carried) (s : Noticed) → IsSessionAfter session.old named out history carried s
+        ensures told { (named out : List ℕ) (history : List Step) (carried : List Carried) (s : Noticed) → IsSessionOf session.old named out history carried s
             → result ≡ Ok true → (row : ListRowKind) × ListsNext W.Write.contents self.old self.new row session.new named out history carried s }
         ensures nothing { result ≡ Ok false → self.new ≡ self.old }
-        ensures same_session { (named out : List ℕ) (history : List Step) (carried : List Carried) (s : Noticed) → IsSessionAfter session.old named out history carried s
-            → result ≡ Ok false → IsSessionAfter session.new named out history carried s }
-        ensures all { (named out : List ℕ) (history : List Step) (carried : List Carried) (s : Noticed) → IsSessionAfter session.old named out history carried s
+        ensures same_session { (named out : List ℕ) (history : List Step) (carried : List Carried) (s : Noticed) → IsSessionOf session.old named out history carried s
+            → result ≡ Ok false → IsSessionOf session.new named out history carried s }
+        ensures all { (named out : List ℕ) (history : List Step) (carried : List Carried) (s : Noticed) → IsSessionOf session.old named out history carried s
             → result ≡ Ok false → (n : ℕ) → (opened n (whole_of named carried) ≡ None) ⊎ (is_among n out ≡ true) }
     {
         let Some(ended) = session.pop() else {

@@ -1,17 +1,17 @@
 //! The verdicts on transfers are told, each in a row.
 
-ghost use Rattle.std.specs.Prelude.{◌≡◌, ◌≢◌, ◌⊎◌, ◌∷◌, [], ℕ, List, None, Ok, OnOk, false, max, option_to_list, true};
+ghost use Rattle.std.specs.Prelude.{◌≡◌, ◌≢◌, ◌⊎◌, ◌∷◌, [], ℕ, List, None, Ok, OnErr, OnOk, false, max, option_to_list, true};
 ghost use Rattle.net_udp.specs.Recording.{Step};
 ghost use Rattle.audit_recording.specs.Blame.Frames.{Carried, whole_of};
 ghost use Rattle.audit_recording.specs.Judges.{is_among, opened};
 ghost use Rattle.audit_recording.specs.Rows.Told.{status_of};
-ghost use Rattle.audit_recording.specs.Session.Kept.{IsSessionAfter};
+ghost use Rattle.audit_recording.specs.Session.Kept.{IsSessionAfter, IsSessionOf};
 ghost use Rattle.audit_recording.specs.Session.Noted.{Noticed};
 ghost use Rattle.audit_recording.specs.Session.Over.{IsOldestOver};
 ghost use Rattle.audit_recording.specs.declared.rows.row.Row.{Row as RowKind};
 ghost use Rattle.audit_rows.specs.Judging.{IsToldOf};
 ghost use Rattle.audit_rows.specs.Viewing.{said_in};
-ghost use Rattle.tftp_rows.specs.Telling.{AreJudgedAt, JudgesAs, PrintsWith, Tells, TellsNext, TellsPlaces, TellsTurns, places_of, worst_at};
+ghost use Rattle.tftp_rows.specs.Telling.{AreJudgedAt, JudgesAs, PrintsWith, Tells, TellsNext, TellsNextPart, TellsPlaces, TellsTurns, TellsTurnsPart, places_of, worst_at};
 
 use crate::printing::{Form, PrintFault, RowPrinter};
 use crate::row::VerdictRow;
@@ -71,6 +71,8 @@ impl<'a, W: Write + Drop> Teller<'a, W> {
     pub fn tell_over(&mut self, alloc: Global, session: &mut Session) -> Result<(), PrintFault>
         ensures turns { (named out : List ℕ) (history : List Step) (carried : List Carried) (s : Noticed) → IsSessionAfter session.old named out history carried s
             → OnOk result (TellsTurns W.Write.contents (λ before. IsOldestOver before named carried s × JudgesAs session.old before) (record self.old { may_lose = session.old.notes.may_lose }) self.new session.new named out history carried s) }
+        ensures part { (named out : List ℕ) (history : List Step) (carried : List Carried) (s : Noticed) → IsSessionAfter session.old named out history carried s
+            → OnErr result (TellsTurnsPart W.Write.contents (λ before. IsOldestOver before named carried s × JudgesAs session.old before) (record self.old { may_lose = session.old.notes.may_lose }) self.new session.old.audit.judge.judging named out history carried s) }
         ensures judging { JudgesAs session.old session.new }
     {
         self.may_lose = session.notes.may_lose;
@@ -88,6 +90,8 @@ impl<'a, W: Write + Drop> Teller<'a, W> {
             → IsOldestOver session.old named carried s ⊎ ((result ≡ Ok false) × (self.new ≡ self.old) × (session.new ≡ session.old)) }
         ensures told { (named out : List ℕ) (history : List Step) (carried : List Carried) (s : Noticed) → IsSessionAfter session.old named out history carried s
             → result ≡ Ok true → IsOldestOver session.old named carried s × TellsNext W.Write.contents self.old self.new session.old session.new named out history carried s }
+        ensures part { (named out : List ℕ) (history : List Step) (carried : List Carried) (s : Noticed) → IsSessionAfter session.old named out history carried s
+            → OnErr result (TellsNextPart W.Write.contents self.old self.new session.old.audit.judge.judging named out carried) }
         ensures nothing { result ≡ Ok false → self.new ≡ self.old }
         ensures judging { JudgesAs session.old session.new }
         ensures same_session { (named out : List ℕ) (history : List Step) (carried : List Carried) (s : Noticed) → IsSessionAfter session.old named out history carried s
@@ -116,10 +120,13 @@ impl<'a, W: Write + Drop> Teller<'a, W> {
 
     /// Tells all transfers that were not told, where the recording has ended.
     pub fn tell_all(&mut self, alloc: Global, session: &mut Session) -> Result<(), PrintFault>
-        ensures turns { (named out : List ℕ) (history : List Step) (carried : List Carried) (s : Noticed) → IsSessionAfter session.old named out history carried s
+        ensures turns { (named out : List ℕ) (history : List Step) (carried : List Carried) (s : Noticed) → IsSessionOf session.old named out history carried s
             → OnOk result ((turns : TellsTurns W.Write.contents (JudgesAs session.old) self.old self.new session.new named out history carried s)
             × ((n : ℕ) → (opened n (whole_of named carried) ≡ None) ⊎ (is_among n turns.left ≡ true))) }
+        ensures part { (named out : List ℕ) (history : List Step) (carried : List Carried) (s : Noticed) → IsSessionOf session.old named out history carried s
+            → OnErr result (TellsTurnsPart W.Write.contents (JudgesAs session.old) self.old self.new session.old.audit.judge.judging named out history carried s) }
         ensures judging { JudgesAs session.old session.new }
+        ensures notes { session.new.notes ≡ session.old.notes }
     {
         for _ in 0..u64::MAX {
             if !self.tell_oldest(alloc, session)? {
@@ -133,13 +140,16 @@ impl<'a, W: Write + Drop> Teller<'a, W> {
     /// out would be cleared for each datagram after which none is over.
     #[inline(never)]
     fn tell_oldest(&mut self, alloc: Global, session: &mut Session) -> Result<bool, PrintFault>
-        ensures told { (named out : List ℕ) (history : List Step) (carried : List Carried) (s : Noticed) → IsSessionAfter session.old named out history carried s
+        ensures told { (named out : List ℕ) (history : List Step) (carried : List Carried) (s : Noticed) → IsSessionOf session.old named out history carried s
             → result ≡ Ok true → TellsNext W.Write.contents self.old self.new session.old session.new named out history carried s }
+        ensures part { (named out : List ℕ) (history : List Step) (carried : List Carried) (s : Noticed) → IsSessionOf session.old named out history carried s
+            → OnErr result (TellsNextPart W.Write.contents self.old self.new session.old.audit.judge.judging named out carried) }
         ensures nothing { result ≡ Ok false → self.new ≡ self.old }
         ensures judging { JudgesAs session.old session.new }
-        ensures same_session { (named out : List ℕ) (history : List Step) (carried : List Carried) (s : Noticed) → IsSessionAfter session.old named out history carried s
-            → result ≡ Ok false → IsSessionAfter session.new named out history carried s }
-        ensures all { (named out : List ℕ) (history : List Step) (carried : List Carried) (s : Noticed) → IsSessionAfter session.old named out history carried s
+        ensures notes { session.new.notes ≡ session.old.notes }
+        ensures same_session { (named out : List ℕ) (history : List Step) (carried : List Carried) (s : Noticed) → IsSessionOf session.old named out history carried s
+            → result ≡ Ok false → IsSessionOf session.new named out history carried s }
+        ensures all { (named out : List ℕ) (history : List Step) (carried : List Carried) (s : Noticed) → IsSessionOf session.old named out history carried s
             → result ≡ Ok false → (n : ℕ) → (opened n (whole_of named carried) ≡ None) ⊎ (is_among n out ≡ true) }
     {
         let Some(ended) = session.pop() else {

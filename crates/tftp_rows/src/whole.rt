@@ -1,15 +1,17 @@
 //! What is told of a whole recording, by the calls that a teller gets for it. Each law is the contract of a function that does
 //! nothing.
 
-ghost use Rattle.std.specs.Prelude.{◌≡◌, ◌++◌, [], ℕ, Bool, List, false};
+ghost use Rattle.std.specs.Prelude.{◌≡◌, ◌++◌, [], ℕ, Bool, List, Option, false, max};
 ghost use Rattle.net_udp.specs.Recording.{Step};
 ghost use Rattle.audit_recording.specs.Blame.Frames.{Carried};
 ghost use Rattle.audit_recording.specs.Session.Noted.{Noticed};
 ghost use Rattle.audit_recording.specs.Session.Over.{IsOldestOver};
 ghost use Rattle.audit_recording.specs.declared.judges.judging.Judging.{Judging as JudgingKind};
+ghost use Rattle.audit_recording.specs.declared.session.notes.Notes.{Notes as NotesKind};
 ghost use Rattle.audit_recording.specs.declared.session.session.Session.{Session as SessionKind};
+ghost use Rattle.tftp_rows.specs.Printing.{PrintsAll, verdict_lines};
 ghost use Rattle.tftp_rows.specs.Telling.{JudgesAs, PrintsAllWith, TellsTurns};
-ghost use Rattle.tftp_rows.specs.Whole.{HasTold, HasToldAll, Telling, numbers_of};
+ghost use Rattle.tftp_rows.specs.Whole.{AreInOrder, AreTold, HasTold, HasToldAll, IsRecordingTold, Telling, numbers_of, worst_of};
 ghost use Rattle.tftp_rows.specs.declared.teller.Teller.{Teller as TellerKind};
 
 use std::io::Write;
@@ -34,4 +36,17 @@ pub fn recordings_are_told_in_order<W: Write + Drop>()
         → HasToldAll W.Write.contents begun old dropped before.audit.judge.judging named carried tellings
         → (turns : TellsTurns W.Write.contents (JudgesAs before) old new after named (numbers_of tellings) history carried s)
         → (more : List Telling) × HasToldAll W.Write.contents begun new dropped before.audit.judge.judging named carried more × (turns.left ≡ numbers_of more) }
+    ensures in_order { (name named : List ℕ) (judging : JudgingKind) (all : List Carried) (tellings : List Telling) → AreTold name judging named all tellings → AreInOrder tellings }
+{}
+
+/// What is told of a second file comes behind what was told of the first, and the status is the greatest of both.
+pub fn recordings_are_told_one_after_another<W: Write + Drop>()
+    ensures printed { (begun between next now : TellerKind W) (file other : Option (List ℕ)) (judging : JudgingKind) (named : List ℕ) (notes more : NotesKind)
+        → (first : IsRecordingTold W.Write.contents begun between file judging named notes) → next.printer ≡ between.printer
+        → (second : IsRecordingTold W.Write.contents next now other judging named more)
+        → PrintsAll W.Write.contents verdict_lines begun.printer now.printer ((first.told.first ++ first.told.last) ++ (second.told.first ++ second.told.last)) }
+    ensures status { (begun between next now : TellerKind W) (file other : Option (List ℕ)) (judging : JudgingKind) (named : List ℕ) (notes more : NotesKind)
+        → (first : IsRecordingTold W.Write.contents begun between file judging named notes) → next.status ≡ between.status
+        → (second : IsRecordingTold W.Write.contents next now other judging named more)
+        → now.status ≡ max (max begun.status (worst_of first.tellings)) (worst_of second.tellings) }
 {}

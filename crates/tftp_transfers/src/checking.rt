@@ -1,13 +1,13 @@
 //! The verdict on each transfer of recordings.
 
 use crate::PROGRAM;
-use crate::reading::tell_session;
+use crate::reading::tell_rest;
 use anyhow::Result;
 use audit_recording::judges::Judging;
-use audit_recording::session::{Kept, Session, Wanted, told};
-use std::io;
+use audit_recording::session::{Notes, told};
 use std::io::Write;
-use tftp_rows::{Form, Teller};
+use std::{fs, io};
+use tftp_rows::{Form, Teller, check_recording};
 use tftp_words::{CheckRequest, Point};
 
 /// Judges the transfers of recordings. A recording that can't be read does not end it. The status is 3 where nothing else is to
@@ -50,17 +50,33 @@ fn form_of(asked: &CheckRequest<'_>) -> Form {
     Form::Words(widest)
 }
 
+/// Judges the transfers of a recording, and tells all that there is to tell of it.
 fn check_file<'a, W: Write + Drop>(
     rt: HostRuntime,
     file: &'a str,
     asked: &CheckRequest<'_>,
     teller: &mut Teller<'a, W>,
 ) -> Result<()> {
+    let notes = judge_file(rt, file, asked, teller)?;
+    if !tell_rest(rt, file, &notes, teller.told)? {
+        teller.status = 2;
+    }
+    Ok(())
+}
+
+/// Judges the transfers of the recording of that name; `-` is standard input.
+fn judge_file<'a, W: Write + Drop>(
+    rt: HostRuntime,
+    file: &'a str,
+    asked: &CheckRequest<'_>,
+    teller: &mut Teller<'a, W>,
+) -> Result<Notes> {
     let (services, judging) = (asked.services.as_slice(), judging_at(asked.end));
-    let kept = Kept::new(rt.alloc(), Wanted::Nothing);
-    let mut session = Session::new(rt.alloc(), services, judging, kept)?;
-    teller.begin(file);
-    let told = tell_session(rt, file, &mut session, teller);
-    session.let_go();
-    told
+    if file == "-" {
+        let notes = check_recording(rt.alloc(), rt.reader(), file, services, judging, teller)?;
+        return Ok(notes);
+    }
+    let reader = fs::open(&rt, file)?;
+    let notes = check_recording(rt.alloc(), reader, file, services, judging, teller)?;
+    Ok(notes)
 }

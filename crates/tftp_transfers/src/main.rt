@@ -5,7 +5,6 @@ mod checking;
 mod listing;
 mod reading;
 mod reasoned;
-mod telling;
 mod texts;
 
 use crate::checking::check;

@@ -1,5 +1,6 @@
 -- What the next frame leaves, and what the recording's end does.
-use Rattle.std.proofs.Common.{◌⊎◌, ◌∷◌, ℕ, Bool, true, false, List, OnOk, Result, Ok, Err, inl, inr}
+use Rattle.std.proofs.Common.{◌⊎◌, ◌∷◌, ℕ, Bool, true, false, List, OnOk, Option, Some, None, Result, Ok, Err, inl, inr, sym, ◌∙◌}
+use Rattle.std.specs.Io.KnownBytes.{Consumes, Keeps}
 use Rattle.net_udp.specs.Recording.{Step}
 use Rattle.audit_recording.specs.Blame.Frames.{Carried}
 use Rattle.audit_recording.specs.Session.Kept.{IsSessionAfter, ReadsOn}
@@ -12,9 +13,11 @@ pub may_lose_too : (lose : Bool) (session : Session) (named out : List ℕ) (his
     → IsSessionAfter session named out history carried s → IsSessionAfter (record session { notes = record session.notes { may_lose = lose } }) named out history carried s
 may_lose_too lose session named out history carried s is = record {
   noticed = is.noticed;
-  audit = is.audit;
-  notes = record { losses = is.notes.losses; frames = is.notes.frames; intact = is.notes.intact; clock = is.notes.clock };
-  trails = is.trails;
+  kept = record {
+    audit = is.kept.audit;
+    notes = record { losses = is.kept.notes.losses; frames = is.kept.notes.frames; intact = is.kept.notes.intact; clock = is.kept.notes.clock };
+    trails = is.kept.trails;
+  };
 }
 
 -- what stands after a frame, said in another way
@@ -32,3 +35,10 @@ how_ended (inr q) = inr q
 pub ok_as : {A E P Q : Type 0} (r : Result A E) → (P → Q) → OnOk r P → OnOk r Q
 ok_as (Ok x) f p = f p
 ok_as (Err e) f p = p
+
+-- what stayed known was consumed
+pub kept_then : (a b c : Option (List ℕ)) (bytes : List ℕ) → Keeps a b → Consumes b c bytes → Consumes a c bytes
+kept_then None b c bytes kept read = tt
+kept_then (Some xs) None c bytes kept read = absurd kept
+kept_then (Some xs) (Some ys) None bytes kept read = absurd read
+kept_then (Some xs) (Some ys) (Some zs) bytes kept read = sym kept ∙ read

@@ -11,14 +11,18 @@ use Rattle.audit_recording.specs.Session.Trails.{AreTrailsKept}
 use Rattle.audit_recording.specs.declared.session.fault.ReadFault.{ReadFault}
 use Rattle.audit_recording.specs.declared.session.session.Session.{Session}
 
--- By these frames these datagrams came, and this was noticed: the judges were given the datagrams, the notes are of what was noticed, and
--- each transfer that was not handed out has its trail.
+-- It is the session of these datagrams, which came by these frames, whatever was noticed: the judges were given the datagrams, the notes are of
+-- what is said to be noticed, and each transfer that was not handed out has its trail.
 -- `named` are the service ports that were named, `out` the numbers of the transfers that were handed out.
-pub record IsSessionAfter (session : Session) (named out : List ℕ) (history : List Step) (carried : List Carried) (s : Noticed) : Type 0 where
-  pub noticed : IsNoticedOf named history carried s
+pub record IsSessionOf (session : Session) (named out : List ℕ) (history : List Step) (carried : List Carried) (s : Noticed) : Type 0 where
   pub audit : AuditsAfter session.audit named out history (datagrams_of carried)
   pub notes : AreNotesOf session.notes s
   pub trails : AreTrailsKept session.trails session.audit.judge.judging named out carried
+
+-- By these frames these datagrams came, and this was noticed; it is their session.
+pub record IsSessionAfter (session : Session) (named out : List ℕ) (history : List Step) (carried : List Carried) (s : Noticed) : Type 0 where
+  pub noticed : IsNoticedOf named history carried s
+  pub kept : IsSessionOf session named out history carried s
 
 -- the event's frame has given no datagram
 abbrev pub GivesNone : EventState → Type 0

@@ -1,7 +1,7 @@
 //! The judges of a recording, given what became of each of its frames.
 
 ghost use Rattle.std.specs.Prelude.{◌≡◌, ◌≤◌, ◌+◌, ◌++◌, ◌^◌, ◌∷◌, ◌⊎◌, ℕ, List, [], length, max, IfOk, IfSome, IsErr, IsSome, MatchBool, MatchOption, OnErr, Ok, Err, None, Some, false, true, ◌≢◌};
-ghost use Rattle.std.specs.Io.KnownBytes.{Consumes, prepend_known};
+ghost use Rattle.std.specs.Io.KnownBytes.{Consumes, IsAtEnd, prepend_known};
 ghost use Rattle.net_pcap.specs.{PcapFault};
 ghost use Rattle.net_streams.specs.{Standing};
 ghost use Rattle.net_udp.specs.Recording.{IsFateOf, StandsFor, Step, standing_of};
@@ -112,6 +112,8 @@ impl<D: Delivered + Drop> RecordingAudit<D> {
             × GoesOn (λ frames datagrams. StandsFor recording.new (bytes ++ taken) frames
             × AuditsAfter self.new named out frames datagrams) named history passed event.new result }
         ensures ends { result ≡ Ok NextFrame.End → standing_of recording.new ≡ Standing.Over }
+        ensures at_end { standing_of recording.old ≡ Standing.Open → result ≡ Ok NextFrame.End → IsAtEnd (prepend_known recording.new.frames.pieces.ahead (R.remaining reader.new.0)) }
+        ensures goes { (next : NextFrame) → result ≡ Ok next → next ≢ NextFrame.End → standing_of recording.new ≡ Standing.Open }
         ensures stops { (fault : PcapFault) → result ≡ Err (AuditFault.Recording fault) → standing_of recording.new ≡ Standing.Failed fault }
         ensures fails { (fault : AttributionFault) → result ≡ Err (AuditFault.Judges fault) → self.new.judge.failed ≡ true }
         ensures judging { self.new.judge.judging ≡ self.old.judge.judging }

@@ -1,6 +1,8 @@
 //! How a file begins, and what it is where that is no recording.
 
+ghost use Rattle.std.specs.Prelude.{◌≡◌, ◌<◌, ◌∷◌, ℕ, List, [], None, Option, length, option_to_list};
 ghost use Rattle.std.specs.Io.{ReadsAtMost};
+ghost use Rattle.std.specs.Io.KnownBytes.{Keeps, ReadConsumes, prepend_known};
 
 use std::io;
 use std::io::Read;
@@ -20,7 +22,9 @@ pub struct Headed<R: Drop> {
 
 impl<R: Read + Drop> Headed<R> {
     /// Reads the first byte ahead. Where that fails, it is tried again at the first read.
-    pub fn begin(mut inner: R) -> Self {
+    pub fn begin(mut inner: R) -> Self
+        ensures keeps { Keeps (R.remaining inner) (prepend_known (option_to_list result.ahead) (R.remaining result.inner)) }
+    {
         let mut first = [0; 1];
         let ahead = match inner.read(&mut first) {
             Ok(1) => first.first().copied(),
@@ -51,7 +55,10 @@ impl<R: Drop> Headed<R> {
 
     /// Hands out the byte that was read ahead.
     fn hand_out(&mut self, byte: u8, buf: &mut [u8]) -> io::Result<usize>
-        ensures { ReadsAtMost result buf.new }
+        ensures bound { ReadsAtMost result buf.new }
+        ensures bytes { (left : Option (List ℕ)) → 0 < length buf.old → ReadConsumes (prepend_known (byte ∷ []) left) left result buf.new }
+        ensures inner { self.new.inner ≡ self.old.inner }
+        ensures ahead { self.new.ahead ≡ None }
     {
         self.ahead = None;
         self.keep(&[byte]);
@@ -65,7 +72,10 @@ impl<R: Drop> Headed<R> {
     }
 
     /// Keeps bytes, as far as they are among the first.
-    fn keep(&mut self, bytes: &[u8]) {
+    fn keep(&mut self, bytes: &[u8])
+        ensures inner { self.new.inner ≡ self.old.inner }
+        ensures ahead { self.new.ahead ≡ self.old.ahead }
+    {
         for byte in bytes {
             match self.head.get_mut(self.count) {
                 Some(place) => *place = *byte,
@@ -77,6 +87,8 @@ impl<R: Drop> Headed<R> {
 }
 
 impl<R: Read + Drop> Read for Headed<R> {
+    ghost remaining = { λ h. prepend_known (option_to_list h.ahead) (R.remaining h.inner) };
+
     fn read(&mut self, buf: &mut [u8]) -> io::Result<usize> {
         if let (Some(byte), false) = (self.ahead, buf.is_empty()) {
             return self.hand_out(byte, buf);

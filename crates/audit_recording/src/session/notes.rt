@@ -199,6 +199,7 @@ impl Notes {
     pub(crate) fn lose(&mut self, alloc: Global, frames: &[u64]) -> Result<(), AllocError>
         ensures stands { (s : Noticed) → AreNotesOf self.old s → OnOk result (AreNotesOf self.new (giving_up frames.now s)) }
         ensures clock { self.new.clock ≡ self.old.clock }
+        ensures fault { self.new.fault ≡ self.old.fault }
     {
         for frame in frames {
             self.lost.add(*frame)?;
@@ -249,7 +250,8 @@ impl Notes {
         alloc: Global,
         mut fragments: Fragments,
     ) -> Result<(), AllocError>
-        ensures { (s : Noticed) → AreNotesOf self.old s → OnOk result (AreNotesOf self.new (giving_up (frames_in fragments) s)) }
+        ensures stands { (s : Noticed) → AreNotesOf self.old s → OnOk result (AreNotesOf self.new (giving_up (frames_in fragments) s)) }
+        ensures fault { self.new.fault ≡ self.old.fault }
     {
         while let Some((_, frames)) = fragments.let_go_any() {
             self.lose(alloc, frames.as_slice())?;

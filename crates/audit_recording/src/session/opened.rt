@@ -1,12 +1,13 @@
 //! Recordings are read.
 
-ghost use Rattle.std.specs.Prelude.{◌≡◌, [], ℕ, List, IfOk, OnOk, Ok, false};
+ghost use Rattle.std.specs.Prelude.{◌≡◌, [], ℕ, List, IfOk, OnOk, Ok, Option, false, true};
+ghost use Rattle.std.specs.Io.KnownBytes.{IsAtEnd};
 ghost use Rattle.net_streams.specs.{Standing};
 ghost use Rattle.net_udp.specs.Recording.{Step, standing_of};
 ghost use Rattle.audit_recording.specs.Blame.Frames.{Carried};
 ghost use Rattle.audit_recording.specs.Session.Kept.{IsSessionAfter, ReadsOn};
 ghost use Rattle.audit_recording.specs.Session.Noted.{Noticed};
-ghost use Rattle.audit_recording.specs.Session.Opened.{HasEnded, HasRead, IsSessionClosed};
+ghost use Rattle.audit_recording.specs.Session.Opened.{HasEnded, HasRead, IsSessionClosed, left_of};
 
 use crate::session::fault::ReadFault;
 use crate::session::headed::{Headed, hint};
@@ -30,7 +31,7 @@ pub struct Opened<R: Read + Drop> {
 impl<R: Read + Drop> Opened<R> {
     /// Reads the file's beginning.
     pub fn begin(alloc: Global, reader: R) -> Result<Self, ReadFault>
-        ensures begun { IfOk result (λ opened. HasRead opened.recording []) }
+        ensures begun { IfOk result (λ opened. HasRead R.remaining (R.remaining reader) opened []) }
         ensures open { IfOk result (λ opened. standing_of opened.recording ≡ Standing.Open) }
     {
         let headed = Headed::begin(reader);
@@ -50,10 +51,12 @@ impl<R: Read + Drop> Opened<R> {
     /// Reads the next frame; whether the recording goes on.
     pub fn next(&mut self, alloc: Global, session: &mut Session) -> Result<bool, ReadFault>
         ensures goes_on { (named out : List ℕ) (history : List Step) (carried : List Carried) (s : Noticed)
-            → HasRead self.old.recording history → IsSessionAfter session.old named out history carried s
-            → ReadsOn (λ frames datagrams noticed. HasRead self.new.recording frames
+            → (file : Option (List ℕ)) → HasRead R.remaining file self.old history → IsSessionAfter session.old named out history carried s
+            → ReadsOn (λ frames datagrams noticed. HasRead R.remaining file self.new frames
             × IsSessionAfter session.new named out frames datagrams noticed) history carried s result }
-        ensures ends { result ≡ Ok false → HasEnded self.new.recording session.new }
+        ensures ends { result ≡ Ok false → HasEnded self.new.recording session.new.notes }
+        ensures at_end { standing_of self.old.recording ≡ Standing.Open → result ≡ Ok false → standing_of self.new.recording ≡ Standing.Over → IsAtEnd (left_of R.remaining self.new) }
+        ensures goes { result ≡ Ok true → standing_of self.new.recording ≡ Standing.Open }
         ensures judging { session.new.audit.judge.judging ≡ session.old.audit.judge.judging }
     {
         session.notes.may_lose = self.may_lose;
@@ -71,6 +74,7 @@ impl<R: Read + Drop> Opened<R> {
             → IsSessionAfter session.old named out history carried s
             → OnOk result (IsSessionClosed session.new self.recording named out history carried s) }
         ensures judging { session.new.audit.judge.judging ≡ session.old.audit.judge.judging }
+        ensures fault { session.new.notes.fault ≡ session.old.notes.fault }
     {
         let dropped = self.recording.lost();
         let closed = session.notes.lose_all(alloc, self.recording.into_waiting());

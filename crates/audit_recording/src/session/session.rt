@@ -1,7 +1,7 @@
 //! A recording, as far as it was read.
 
 ghost use Rattle.std.specs.Prelude.{◌≡◌, ◌≢◌, ◌==◌, ◌≤◌, ◌<◌, ◌⊎◌, ◌∷◌, ◌++◌, [], ℕ, List, IfOk, IfSome, IsErr, IsSome, MatchBool, OnErr, OnOk, None, Some, Ok, Err, option_map, true, false};
-ghost use Rattle.std.specs.Io.KnownBytes.{Consumes, prepend_known};
+ghost use Rattle.std.specs.Io.KnownBytes.{Consumes, IsAtEnd, prepend_known};
 ghost use Rattle.net_pcap.specs.{FaultKind as Kind, PcapFault as Fault};
 ghost use Rattle.net_streams.specs.{Standing};
 ghost use Rattle.net_udp.specs.Frames.{IsSound};
@@ -21,7 +21,7 @@ ghost use Rattle.audit_recording.specs.Losses.Noted.{IsAsked, IsFirst, IsMissing
 ghost use Rattle.audit_recording.specs.Losses.Noted.Event.{Asks};
 ghost use Rattle.audit_recording.specs.Session.Noted.{AreNotesOf, Noticed, finding, nothing_noticed, noting, sharers_of, stretch_of};
 ghost use Rattle.audit_recording.specs.Session.Recording.{AddsOne, IsCarriedBy, IsNoticedOf, asking, going, gone_by, intact_at, intact_by, placing, reached_by};
-ghost use Rattle.audit_recording.specs.Session.Kept.{AreJudgesLeft, GivesNone, IsSessionAfter, ReadsOn};
+ghost use Rattle.audit_recording.specs.Session.Kept.{AreJudgesLeft, GivesNone, IsSessionAfter, IsSessionOf, ReadsOn};
 ghost use Rattle.audit_recording.specs.Session.Over.{IsOldestOver};
 ghost use Rattle.audit_recording.specs.Session.Trails.{AreTrailsBegun, AreTrailsKept, IsTrailAfter};
 
@@ -104,6 +104,9 @@ impl Session {
         ensures ends { result ≡ Ok false
             → ((standing_of recording.new ≡ Standing.Over) × (self.new.notes ≡ self.old.notes))
             ⊎ ((fault : Fault) × (standing_of recording.new ≡ Standing.Failed fault) × (self.new.notes.fault ≡ Some fault)) }
+        ensures at_end { standing_of recording.old ≡ Standing.Open → result ≡ Ok false → standing_of recording.new ≡ Standing.Over
+            → IsAtEnd (prepend_known recording.new.frames.pieces.ahead (R.remaining reader.new.0)) }
+        ensures goes { result ≡ Ok true → standing_of recording.new ≡ Standing.Open }
         ensures judging { self.new.audit.judge.judging ≡ self.old.audit.judge.judging }
     {
         match self.audit.next_into(alloc, reader, recording, event) {
@@ -467,22 +470,23 @@ impl Session {
 
     /// Hands out the oldest transfer.
     pub fn pop(&mut self) -> Option<Ended>
-        ensures stands { (named out : List ℕ) (history : List Step) (carried : List Carried) (s : Noticed) → IsSessionAfter self.old named out history carried s
-            → IfSome result (λ e. IsSessionAfter self.new named (e.watched.transfer.number ∷ out) history carried s) }
-        ensures watched { (named out : List ℕ) (history : List Step) (carried : List Carried) (s : Noticed) → IsSessionAfter self.old named out history carried s
+        ensures stands { (named out : List ℕ) (history : List Step) (carried : List Carried) (s : Noticed) → IsSessionOf self.old named out history carried s
+            → IfSome result (λ e. IsSessionOf self.new named (e.watched.transfer.number ∷ out) history carried s) }
+        ensures watched { (named out : List ℕ) (history : List Step) (carried : List Carried) (s : Noticed) → IsSessionOf self.old named out history carried s
             → IfSome result (λ e. (opened e.watched.transfer.number (whole_of named carried) ≡ Some e.watched.transfer)
             × IsWatching e.watched self.old.audit.judge.judging e.watched.transfer host_name (whole_of named carried)) }
-        ensures first { (named out : List ℕ) (history : List Step) (carried : List Carried) (s : Noticed) (n : ℕ) → IsSessionAfter self.old named out history carried s
+        ensures first { (named out : List ℕ) (history : List Step) (carried : List Carried) (s : Noticed) (n : ℕ) → IsSessionOf self.old named out history carried s
             → IsSome (opened n (whole_of named carried)) → is_among n out ≡ false → IfSome result (λ e. e.watched.transfer.number ≤ n) }
-        ensures once { (named out : List ℕ) (history : List Step) (carried : List Carried) (s : Noticed) → IsSessionAfter self.old named out history carried s
+        ensures once { (named out : List ℕ) (history : List Step) (carried : List Carried) (s : Noticed) → IsSessionOf self.old named out history carried s
             → IfSome result (λ e. is_among e.watched.transfer.number out ≡ false) }
-        ensures trail { (named out : List ℕ) (history : List Step) (carried : List Carried) (s : Noticed) → IsSessionAfter self.old named out history carried s
+        ensures trail { (named out : List ℕ) (history : List Step) (carried : List Carried) (s : Noticed) → IsSessionOf self.old named out history carried s
             → IfSome result (λ e. IsTrailAfter e.trail self.old.audit.judge.judging e.watched.transfer named carried) }
-        ensures all { (named out : List ℕ) (history : List Step) (carried : List Carried) (s : Noticed) → IsSessionAfter self.old named out history carried s
+        ensures all { (named out : List ℕ) (history : List Step) (carried : List Carried) (s : Noticed) → IsSessionOf self.old named out history carried s
             → result ≡ None → (n : ℕ) → (opened n (whole_of named carried) ≡ None) ⊎ (is_among n out ≡ true) }
-        ensures none { (named out : List ℕ) (history : List Step) (carried : List Carried) (s : Noticed) → IsSessionAfter self.old named out history carried s
-            → result ≡ None → IsSessionAfter self.new named out history carried s }
+        ensures none { (named out : List ℕ) (history : List Step) (carried : List Carried) (s : Noticed) → IsSessionOf self.old named out history carried s
+            → result ≡ None → IsSessionOf self.new named out history carried s }
         ensures judging { self.new.audit.judge.judging ≡ self.old.audit.judge.judging }
+        ensures notes { self.new.notes ≡ self.old.notes }
     {
         let (number, mut trail) = self.trails.pop_first()?;
         self.unplaced.end(trail.transfer.client, number);
@@ -531,6 +535,13 @@ impl Session {
 
     /// Lets all that is kept go.
     pub fn let_go(self) {}
+
+    /// Lets all that is kept go, but for what is to be told of the recording as a whole.
+    pub fn into_notes(self) -> Notes
+        ensures { result ≡ self.notes }
+    {
+        self.notes
+    }
 
     /// How many transfers there are that were not handed out.
     pub fn count(&self) -> usize {

@@ -1,22 +1,12 @@
-use Rattle.std.proofs.Common.{[], refl, sym}
 use Rattle.audit_recording.specs.Session.Over.{IsOldestOver}
-use Rattle.tftp_rows.specs.Printing.{verdict_lines}
 use Rattle.tftp_rows.specs.Telling.{JudgesAs}
 use Rattle.tftp_rows.specs.Whole.{HasTold, HasToldAll}
-use Rattle.tftp_rows.proofs.PrintingLemmas.{prints_nothing}
-use Rattle.tftp_rows.proofs.WholeLemmas.{has_told, has_told_all, held_told, loses_too, told_in_turn, told_longer}
+use Rattle.tftp_rows.proofs.OrderLemmas.{are_in_order}
+use Rattle.tftp_rows.proofs.WholeLemmas.{has_told, has_told_all, held_told, loses_too, nothing_told, told_in_turn, told_longer}
 use Rattle.tftp_rows.proofs.whole.recordings_are_told_in_order.Goals as goal
 
 pub returns-clause-begun : goal.returns-clause-begun
-returns-clause-begun g c begun judging named none number = record {
-  told = tt;
-  printed = [];
-  rows = sym none;
-  prints = record { printed = []; last = refl; prints = prints_nothing g.W.Write.contents verdict_lines begun.printer };
-  file = refl;
-  number = number;
-  dropped = refl;
-}
+returns-clause-begun g c begun judging named none number = nothing_told g.W.Write.contents begun judging named none number
 
 pub returns-clause-read_on : goal.returns-clause-read_on
 returns-clause-read_on g c begun now judging named more all tellings h = record {
@@ -26,6 +16,7 @@ returns-clause-read_on g c begun now judging named more all tellings h = record 
   prints = h.prints;
   file = h.file;
   number = h.number;
+  status = h.status;
   dropped = h.dropped;
 }
 
@@ -45,3 +36,6 @@ returns-clause-told_all g c begun old new dropped before after named history car
     (λ t ts. HasToldAll g.W.Write.contents begun t dropped before.audit.judge.judging named carried ts)
     (λ t u d e ts told holds step. has_told_all g.W.Write.contents begun t u dropped d e before.audit.judge.judging named history carried s ts told holds step)
     turns.told old new tellings turns.left h turns.turns
+
+pub returns-clause-in_order : goal.returns-clause-in_order
+returns-clause-in_order g c name named judging all tellings told = are_in_order name judging named all tellings told

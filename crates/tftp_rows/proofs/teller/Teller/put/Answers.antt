@@ -1,9 +1,9 @@
 use Rattle.std.proofs.Common.{◌∙◌, refl, sym, true≢false}
-use Rattle.tftp_rows.proofs.TellingLemmas.{none_there, tells_err, tells_held, tells_now, with_none}
+use Rattle.tftp_rows.proofs.TellingLemmas.{none_there, tells_err, tells_held, tells_lost, tells_now}
 use Rattle.tftp_rows.proofs.teller.Teller.put.Goals as goal
 
 pub returns-in_err-push-clause-rows : goal.returns-in_err-push-clause-rows
-returns-in_err-push-clause-rows g c = tells_err g.W.Write.contents c.args.self.now _ c.from_residual.result _ c.from_residual.ensures.0 (with_none g.W.Write.contents _ _ _)
+returns-in_err-push-clause-rows g c = tells_err g.W.Write.contents c.args.self.now _ c.from_residual.result _ c.from_residual.ensures.0 (tells_lost g.W.Write.contents c.args.self.now _ c.args.row refl c.in_err-push.ensures.items)
 
 pub returns-then-waits-clause-rows : goal.returns-then-waits-clause-rows
 returns-then-waits-clause-rows g c =

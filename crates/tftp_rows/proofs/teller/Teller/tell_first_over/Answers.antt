@@ -5,4 +5,10 @@ pub returns-then-is_first_over-clause-over : goal.returns-then-is_first_over-cla
 returns-then-is_first_over-clause-over g c named out history carried s is = inl (rw c.if-is_first_over.true at (c.is_first_over.ensures named out history carried s is))
 
 pub returns-then-is_first_over-clause-told : goal.returns-then-is_first_over-clause-told
-returns-then-is_first_over-clause-told g c named out history carried s is e = (rw c.if-is_first_over.true at (c.is_first_over.ensures named out history carried s is), c.tell_oldest.ensures.told named out history carried s is e)
+returns-then-is_first_over-clause-told g c named out history carried s is e = (rw c.if-is_first_over.true at (c.is_first_over.ensures named out history carried s is), c.tell_oldest.ensures.told named out history carried s is.kept e)
+
+pub returns-then-is_first_over-clause-same_session : goal.returns-then-is_first_over-clause-same_session
+returns-then-is_first_over-clause-same_session g c named out history carried s is e = record { noticed = is.noticed; kept = c.tell_oldest.ensures.same_session named out history carried s is.kept e }
+
+pub returns-then-is_first_over-clause-part : goal.returns-then-is_first_over-clause-part
+returns-then-is_first_over-clause-part g c named out history carried s is = c.tell_oldest.ensures.part named out history carried s is.kept

@@ -1,5 +1,5 @@
 use Rattle.std.proofs.Common.{◌∙◌}
-use Rattle.tftp_rows.proofs.TellingLemmas.{missing_there, numbered, told_with}
+use Rattle.tftp_rows.proofs.TellingLemmas.{missing_there, numbered, numbered_part, on_err, told_with}
 use Rattle.tftp_rows.proofs.teller.Teller.tell_oldest.Goals as goal
 
 pub returns-in_default-clause-all : goal.returns-in_default-clause-all
@@ -28,3 +28,18 @@ returns-clause-told g c named out history carried s is e =
       status = c.in_ok-tell_judged.ensures.status;
       handed_out = stands;
     }
+
+pub returns-in_err-tell_judged-clause-part : goal.returns-in_err-tell_judged-clause-part
+returns-in_err-tell_judged-clause-part g c named out history carried s is =
+    let watched = c.in-Some.ensures.watched named out history carried s is in
+    on_err c.from_residual.result (record {
+      transfer = c.in-Some.ended.watched.transfer;
+      next = record {
+        opens = watched.0;
+        first_time = c.in-Some.ensures.once named out history carried s is;
+        oldest = λ n opened left. c.in-Some.ensures.first named out history carried s n is opened left;
+      };
+      judged = c.new-judged.result;
+      of = c.new-judged.ensures.judged _ _ named carried (c.in-Some.ensures.trail named out history carried s is) watched.1;
+      rows = numbered_part g.W.Write.contents c.args.self.now c.tell_judged.new.self c.saturating_add-self.result _ c.new-judged.result _ c.saturating_add-self.ensures c.in_err-tell_judged.ensures.rows;
+    })

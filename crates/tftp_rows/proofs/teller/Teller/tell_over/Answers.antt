@@ -1,12 +1,12 @@
 use Rattle.std.proofs.Common.{Ok, ap, refl, ◌∙◌}
 use Rattle.audit_recording.specs.Session.Over.{IsOldestOver}
 use Rattle.tftp_rows.specs.Telling.{JudgesAs}
-use Rattle.tftp_rows.proofs.TellingLemmas.{no_turn, turns_kept, turns_more}
+use Rattle.tftp_rows.proofs.TellingLemmas.{no_turn, on_err, turns_kept, turns_more, turns_part}
 use Rattle.tftp_rows.proofs.teller.Teller.tell_over.Goals as goal
 
 pub loop-init : goal.loop-init
 loop-init g c = record {
-  turns = λ named out history carried s is. no_turn g.W.Write.contents (λ before. IsOldestOver before named carried s × JudgesAs c.args.session.now before) _ c.args.session.now named out history carried s is;
+  turns = λ named out history carried s is. no_turn g.W.Write.contents (λ before. IsOldestOver before named carried s × JudgesAs c.args.session.now before) _ c.args.session.now named out history carried s is.kept;
   judging = refl;
 }
 
@@ -15,14 +15,22 @@ returns-then-not-branch-clause-turns g c named out history carried s is =
     let turns = c.loop.invariant.turns named out history carried s is in
     turns_kept g.W.Write.contents (λ before. IsOldestOver before named carried s × JudgesAs c.args.session.now before) _ c.loop.self c.tell_first_over.new.self c.loop.session c.tell_first_over.new.session named out history carried s turns
     (c.in_ok-tell_first_over.ensures.nothing (ap Ok c.if-not-branch.true))
-    (c.in_ok-tell_first_over.ensures.same_session named turns.left history carried s turns.handed_out (ap Ok c.if-not-branch.true))
+    (c.in_ok-tell_first_over.ensures.same_session named turns.left history carried s (record { noticed = is.noticed; kept = turns.handed_out }) (ap Ok c.if-not-branch.true)).kept
 
 pub loop-preserved : goal.loop-preserved
 loop-preserved g c = record {
   turns = λ named out history carried s is.
       let turns = c.loop.invariant.turns named out history carried s is in
-      let told = c.in_ok-tell_first_over.ensures.told named turns.left history carried s turns.handed_out (ap Ok c.if-not-branch.false) in
+      let told = c.in_ok-tell_first_over.ensures.told named turns.left history carried s (record { noticed = is.noticed; kept = turns.handed_out }) (ap Ok c.if-not-branch.false) in
       turns_more g.W.Write.contents (λ before. IsOldestOver before named carried s × JudgesAs c.args.session.now before) _ c.loop.self c.tell_first_over.new.self c.loop.session c.tell_first_over.new.session named out history carried s turns
       (told.0, c.loop.invariant.judging) told.1;
   judging = c.in_ok-tell_first_over.ensures.judging ∙ c.loop.invariant.judging;
 }
+
+pub returns-in_err-tell_first_over-clause-part : goal.returns-in_err-tell_first_over-clause-part
+returns-in_err-tell_first_over-clause-part g c named out history carried s is =
+    let turns = c.loop.invariant.turns named out history carried s is in
+    on_err c.from_residual.result
+    (turns_part g.W.Write.contents (λ before. IsOldestOver before named carried s × JudgesAs c.args.session.now before) _ c.loop.self c.tell_first_over.new.self c.loop.session c.args.session.now.audit.judge.judging named out history carried s turns
+    c.loop.invariant.judging
+    (c.in_err-tell_first_over.ensures.part named turns.left history carried s (record { noticed = is.noticed; kept = turns.handed_out })))

@@ -41,3 +41,8 @@ returns-in-Ok-true-clause-continues g c named out bytes history passed stands af
           (λ frames datagrams. AuditsAfter c.note.new.self named out frames datagrams)
           named history passed step c.next_into.new.event c.note.result of whole c.note.ensures.no_end c.note.ensures.no_stop noted,
     )
+
+pub returns-in-Ok-true-clause-goes : goal.returns-in-Ok-true-clause-goes
+returns-in-Ok-true-clause-goes g c next is other =
+    let ok : Bool → Result Bool PcapFault = λ b. Ok b in
+    c.in-Ok-true.ensures.standing ∙ ap (λ (b : Bool). standing_after (ok b)) c.in-Ok-true.field-0-test

@@ -8,6 +8,7 @@ pub loop-frame-init : goal.loop-frame-init
 loop-frame-init c = record {
   so_far = λ s are. begins GivesUp c.args.self.now c.args.frames.now s are;
   clock = refl;
+  fault = refl;
 }
 
 pub loop-frame-preserved : goal.loop-frame-preserved
@@ -26,6 +27,7 @@ loop-frame-preserved c =
           })
           (c.loop-frame.invariant.so_far s are);
       clock = c.loop-frame.invariant.clock;
+      fault = c.loop-frame.invariant.fault;
     }
 
 pub returns-clause-stands : goal.returns-clause-stands

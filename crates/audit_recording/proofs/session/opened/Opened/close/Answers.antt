@@ -10,10 +10,12 @@ returns-clause-closed g c named out history carried s is =
     let kept = subst (λ waiting. AreNotesOf c.lose_all-closed.new.self (giving_up (frames_in waiting) s)) c.into_waiting.ensures noted in
     record {
       noticed = is.noticed;
-      audit = is.audit;
-      notes = record { losses = kept.losses; frames = kept.frames; intact = kept.intact; clock = kept.clock };
-      trails = is.trails;
+      kept = record {
+        audit = is.kept.audit;
+        notes = record { losses = kept.losses; frames = kept.frames; intact = kept.intact; clock = kept.clock };
+        trails = is.kept.trails;
+      };
       may_lose = refl;
       dropped = c.lost-dropped.ensures;
     })
-    (c.lose_all-closed.ensures s is.notes)
+    (c.lose_all-closed.ensures.stands s is.kept.notes)

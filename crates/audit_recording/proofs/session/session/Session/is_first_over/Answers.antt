@@ -12,10 +12,10 @@ returns-in-None c = λ named out history carried s is over.
 pub returns-then-is_past : goal.returns-then-is_past
 returns-then-is_past c = λ named out history carried s is.
     over_told c.args.self.now named carried s _ c.in-Some.trail.now c.is_over.result c.in-Some.ensures.value c.in-Some.ensures.least
-    (c.if-is_past.ensures s is.notes) (c.is_over.ensures named out history _ is.audit)
+    (c.if-is_past.ensures s is.kept.notes) (c.is_over.ensures named out history _ is.kept.audit)
 
 pub returns-else-is_past : goal.returns-else-is_past
 returns-else-is_past c = λ named out history carried s is.
     let session = c.args.self.now in
     subst (λ b. MatchBool b (IsOldestOver session named carried s) (IsOldestOver session named carried s → ⊥)) (sym c.if-is_past.false)
-    (not_over session named carried s _ c.in-Some.trail.now c.in-Some.ensures.value c.in-Some.ensures.least (c.if-is_past.ensures s is.notes))
+    (not_over session named carried s _ c.in-Some.trail.now c.in-Some.ensures.value c.in-Some.ensures.least (c.if-is_past.ensures s is.kept.notes))

@@ -4,7 +4,7 @@ use Rattle.audit_recording.specs.Audit.{AuditsAfter}
 use Rattle.audit_recording.specs.Blame.Frames.{datagrams_of, whole_of}
 use Rattle.audit_recording.specs.Judges.{IsWatching, Watched, is_among, opened}
 use Rattle.audit_recording.specs.Session.Intact.{discarding}
-use Rattle.audit_recording.specs.Session.Kept.{IsSessionAfter}
+use Rattle.audit_recording.specs.Session.Kept.{IsSessionOf}
 use Rattle.audit_recording.specs.Session.Trails.{AreTrailsKept, IsTrailAfter}
 use Rattle.audit_recording.specs.declared.blame.trail.Trail.{Trail}
 use Rattle.audit_recording.specs.declared.judges.judging.Judging.{Judging}
@@ -25,10 +25,9 @@ returns-clause-stands c named out history carried s is =
     let Is = λ (w : Watched). (opened w.transfer.number (whole_of named carried) ≡ Some w.transfer) × IsWatching w judging w.transfer host_name (whole_of named carried) in
     let Once = λ (w : Watched). is_among w.transfer.number out ≡ false in
     let First = λ (w : Watched). w.transfer.number ≤ k in
-    if_watched (λ (e : Ended). e.watched) (λ (w : Watched). IsSessionAfter left named (w.transfer.number ∷ out) history carried s) c.joined.result c.pop_first-2.result c.joined.ensures.watched
-    (if_some_so (λ w. Out w × (Is w × (Once w × First w))) (λ (w : Watched). IsSessionAfter left named (w.transfer.number ∷ out) history carried s) c.pop_first-2.result
+    if_watched (λ (e : Ended). e.watched) (λ (w : Watched). IsSessionOf left named (w.transfer.number ∷ out) history carried s) c.joined.result c.pop_first-2.result c.joined.ensures.watched
+    (if_some_so (λ w. Out w × (Is w × (Once w × First w))) (λ (w : Watched). IsSessionOf left named (w.transfer.number ∷ out) history carried s) c.pop_first-2.result
     (λ w is_so. record {
-      noticed = is.noticed;
       audit = is_so.0;
       notes = is.notes;
       trails = subst (λ (j : Judging). AreTrailsKept c.pop_first.new.self j named (w.transfer.number ∷ out) carried) (sym c.pop_first-2.ensures.judging)
@@ -87,7 +86,6 @@ returns-clause-all c named out history carried s is none =
 
 pub returns-in_err-number-clause-none : goal.returns-in_err-number-clause-none
 returns-in_err-number-clause-none c named out history carried s is none = record {
-  noticed = is.noticed;
   audit = is.audit;
   notes = is.notes;
   trails = trails_unchanged c.args.self.now.trails c.pop_first.new.self c.args.self.now.audit.judge.judging named out carried c.in_err-number.ensures.unchanged is.trails;

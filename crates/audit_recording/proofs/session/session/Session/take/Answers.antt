@@ -18,7 +18,7 @@ returns-clause-none c named history carried s step none gives of noticed are =
     let after : Noticed = letting_go event.brought s in
     let first : AreNotesOf c.lose.new.self (giving_up event.brought.old s) = subst (λ (l : List ℕ). AreNotesOf c.lose.new.self (giving_up l s)) c.old.ensures (c.in_ok-lose.ensures.stands s are) in
     let let_go : AreNotesOf c.lose_all.new.self after =
-    subst (λ (l : Sets). AreNotesOf c.lose_all.new.self (giving_up (frames_in l) (giving_up event.brought.old s))) c.take_ousted.ensures.value (c.in_ok-lose_all.ensures (giving_up event.brought.old s) first) in
+    subst (λ (l : Sets). AreNotesOf c.lose_all.new.self (giving_up (frames_in l) (giving_up event.brought.old s))) c.take_ousted.ensures.value (c.in_ok-lose_all.ensures.stands (giving_up event.brought.old s) first) in
     let same : c.take_ousted.new.self ≡ bare event = λ i. record {
       frame = c.take_ousted.ensures.frame i;
       likeness = c.take_ousted.ensures.likeness i;
@@ -43,7 +43,7 @@ returns-clause-datagram c named history carried s step x a given is of came carr
     let after : Noticed = letting_go event.brought s in
     let first : AreNotesOf c.lose.new.self (giving_up event.brought.old s) = subst (λ (l : List ℕ). AreNotesOf c.lose.new.self (giving_up l s)) c.old.ensures (c.in_ok-lose.ensures.stands s are) in
     let let_go : AreNotesOf c.lose_all.new.self after =
-    subst (λ (l : Sets). AreNotesOf c.lose_all.new.self (giving_up (frames_in l) (giving_up event.brought.old s))) c.take_ousted.ensures.value (c.in_ok-lose_all.ensures (giving_up event.brought.old s) first) in
+    subst (λ (l : Sets). AreNotesOf c.lose_all.new.self (giving_up (frames_in l) (giving_up event.brought.old s))) c.take_ousted.ensures.value (c.in_ok-lose_all.ensures.stands (giving_up event.brought.old s) first) in
     let same : c.take_ousted.new.self ≡ bare event = λ i. record {
       frame = c.take_ousted.ensures.frame i;
       likeness = c.take_ousted.ensures.likeness i;
