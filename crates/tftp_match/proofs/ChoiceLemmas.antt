@@ -1,8 +1,9 @@
 -- Which pairs go together of those that were tried so far.
-use Rattle.std.proofs.Common.{◌≡◌, ℕ, suc, ◌<◌, List, [], ◌∷◌, ◌++◌, true, length, take, drop, get_or, filter, Option, Some, None, refl, sym, ap, ◌∙◌, drop-cons, take-append-drop}
+use Rattle.std.proofs.Common.{◌≡◌, ℕ, suc, ◌+◌, ◌<◌, List, [], ◌∷◌, ◌++◌, true, length, take, drop, get_or, filter, map, Option, Some, None, refl, sym, ap, ◌∙◌, drop-cons, take-append-drop}
+use Rattle.std.proofs.lemmas.List.{map-append, take_more}
 use Rattle.std.proofs.lemmas.List.Elements.{filter-append}
 use Rattle.tftp_match.specs.{Tried}
-use Rattle.tftp_match.specs.Choice.{matched_in, sole}
+use Rattle.tftp_match.specs.Choice.{matched_in, numbers_of, sole}
 
 -- a list of none or of one
 abbrev pub listed : Option Tried → List Tried
@@ -21,3 +22,12 @@ two_matched tried i d t within before is =
     let whole : matched_in tried ≡ (t ∷ []) ++ (next ∷ matched_in more) =
     ap matched_in cut ∙ filter-append (λ (pair : Tried). pair.is_matched) (take i tried) (next ∷ more) ∙ ap (λ l. l ++ matched_in (next ∷ more)) before ∙ ap (λ l. (t ∷ []) ++ l) (matched_first next more is) in
     ap sole whole
+
+-- ---- which were tried
+
+-- one more was
+pub tried_more : {A : Type 0} (told : A → Option ℕ × Option ℕ) (all : List A) (i : ℕ) (d : A) (was now : List Tried) (t : Tried) → i < length all → map numbers_of was ≡ map told (take i all) → numbers_of t ≡ told (get_or all i d) → now ≡ was ++ t ∷ [] → map numbers_of now ≡ map told (take (i + 1) all)
+tried_more told all i d was now t within before is pushed =
+    let left : map numbers_of now ≡ map numbers_of was ++ numbers_of t ∷ [] = ap (map numbers_of) pushed ∙ map-append numbers_of was (t ∷ []) in
+    let right : map told (take (i + 1) all) ≡ map told (take i all) ++ told (get_or all i d) ∷ [] = ap (map told) (take_more all i d within) ∙ map-append told (take i all) (get_or all i d ∷ []) in
+    left ∙ ap (λ l. l ++ numbers_of t ∷ []) before ∙ ap (λ n. map told (take i all) ++ n ∷ []) is ∙ sym right

@@ -1,1 +1,5 @@
+pub mod CandidatesLemmas
 pub mod ChoiceLemmas
+pub mod CopiesLemmas
+pub mod MembersLemmas
+pub mod ObjectsLemmas

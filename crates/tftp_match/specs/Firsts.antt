@@ -2,7 +2,7 @@
 use Rattle.std.specs.Prelude.{ℕ, ◌+◌, ◌&&◌, ◌==◌, Bool, true, false, if◌then◌else◌, nat_lt, Option, Some, None, Result, Ok, Err}
 use Rattle.tftp_judge.specs.{Unlawful, Aborted, Incomplete, NormalTooLong, Verdict, Capture, Refused}
 use Rattle.tftp_judge.specs.declared.refusal.Refusal.TheVariants.{Memory}
-use Rattle.judge_pair.specs.{Apart, SentLater, Unsent, Wait}
+use Rattle.judge_pair.specs.{Apart, Carried, SentLater, Unsent, Wait}
 use Rattle.judge_pair.specs.declared.judge.matched.Matched.{Matched}
 use Rattle.judge_pair.specs.declared.match_texts.said.PairSaid.{PairSaid}
 use Rattle.tftp_match.specs.declared.facts.First.{First}
@@ -57,3 +57,10 @@ is_matched s = is_judged_whole s.client && is_judged_whole s.server && by s.toge
   by : Result Matched Apart → Bool
   by (Ok m) = m.client_matched == m.client_lawful && m.server_matched == m.server_lawful
   by (Err why) = false
+
+-- what the network lost and repeated, where they go together and it was counted
+abbrev pub carried : PairSaid → Option Carried
+carried s = by s.together where
+  by : Result Matched Apart → Option Carried
+  by (Ok m) = if is_matched s then m.carried else None
+  by (Err why) = None

@@ -1,10 +1,12 @@
--- The three lines that are said of two captures. Each ends by LF.
+-- The lines that are said of two captures. Each ends by LF.
 use Rattle.std.specs.Prelude.{ℕ, ◌++◌, List, [], codes, decimal, if◌then◌else◌, Option, Some, None, Result, Ok, Err}
 use Rattle.tftp_packet.specs.{End, Client, Server}
 use Rattle.tftp_commands.specs.{checked}
 use Rattle.judge_pair.specs.{Apart, Carried, SentLater, Stopped, Unsent, Wait, WrongEnd}
 use Rattle.judge_pair.specs.declared.judge.matched.Matched.{Matched}
 use Rattle.judge_pair.specs.declared.match_texts.said.PairSaid.{PairSaid}
+use Rattle.tftp_match.specs.Copies.{copies_lines}
+use Rattle.tftp_match.specs.declared.copies.Copies.{Copies}
 use Rattle.tftp_match.specs.declared.facts.First.{First}
 use Rattle.tftp_match.specs.Firsts.{client_first, is_matched, server_first}
 
@@ -43,3 +45,7 @@ third_line s = by s.together where
 -- the verdict on the client's capture, the verdict on the server's, and how far they go together
 abbrev pub lines : PairSaid → List ℕ
 lines s = (checked s.client).bytes ++ (checked s.server).bytes ++ third_line s
+
+-- behind them a line for each packet, where these are told
+abbrev pub all_lines : PairSaid → Option (List Copies) → List ℕ
+all_lines s copies = lines s ++ copies_lines copies

@@ -1,23 +1,35 @@
 //! How often each packet was sent and taken.
 
-use anyhow::{Result, bail};
+ghost use Rattle.std.specs.Prelude.{◌≡◌, ◌++◌, ◌∷◌, [], List, IfOk, OnOk, option_map};
+ghost use Rattle.tftp_packet.specs.Hosts.{Datagram};
+ghost use Rattle.judge_pair.specs.Counts.{IsCountOf};
+ghost use Rattle.tftp_match.specs.Copies.{HavePassed, all_copies, block_of, blocks, kind_word, passed_copies, sender_word, told_copies, packets_to};
+
+use anyhow::{Result as Outcome, bail};
 use judge_pair::counts::{CountedPacket, Counts};
-use judge_pair::match_texts::Matched;
+use judge_pair::match_texts::PairSaid;
 use std::alloc::{AllocError, Global};
+use std::fmt;
 use tftp_packet::End;
 
 /// Copies of a packet: those that one end sent, and those that the other took.
 #[derive(Clone, Copy, Debug, PartialEq, Eq)]
 pub struct Copies {
+    /// The end that sends the packet.
     pub from: End,
+    /// The packet.
     pub packet: CountedPacket,
+    /// How many copies that end sent.
     pub sent: u64,
+    /// How many came in at the other end.
     pub taken: u64,
 }
 
 impl Copies {
     /// The end that sends the packet.
-    pub fn sender(&self) -> &'static str {
+    pub fn sender(&self) -> &'static str
+        ensures { result.now ≡ sender_word self.now.from }
+    {
         match self.from {
             End::Client => "client",
             End::Server => "server",
@@ -25,7 +37,9 @@ impl Copies {
     }
 
     /// What the packet is.
-    pub fn kind(&self) -> &'static str {
+    pub fn kind(&self) -> &'static str
+        ensures { result.now ≡ kind_word self.now.from self.now.packet }
+    {
         match (self.packet, self.from) {
             (CountedPacket::Opening, End::Client) => "request",
             (CountedPacket::Opening, End::Server) => "OACK",
@@ -36,19 +50,51 @@ impl Copies {
     }
 
     /// The number of its block.
-    pub fn block(&self) -> Option<u16> {
+    pub fn block(&self) -> Option<u64>
+        ensures { result ≡ block_of self.now.packet }
+    {
         match self.packet {
-            CountedPacket::Data(block) | CountedPacket::Ack(block) => Some(block),
+            CountedPacket::Data(block) | CountedPacket::Ack(block) => Some(u64::from(block)),
             CountedPacket::Opening | CountedPacket::Error => None,
         }
     }
 }
 
-/// The copies of each packet that passed, those of the client's packets first.
-pub fn copies_in(alloc: Global, matched: &Matched) -> Result<Vec<Copies>> {
-    let (Some(client), Some(server)) = (&matched.client_counts, &matched.server_counts) else {
-        bail!("the packets are not counted: out of memory");
+impl fmt::Display for Copies {
+    ghost use Rattle.std.specs.Prelude.{Some};
+    ghost use Rattle.tftp_match.specs.Copies.{copies_text};
+
+    ghost output = { λ copies. Some (copies_text copies) };
+
+    fn fmt<W: fmt::Write>(&self, f: &mut fmt::Formatter<W>) -> fmt::Result {
+        let (sender, kind, sent, taken) = (self.sender(), self.kind(), self.sent, self.taken);
+        match self.block() {
+            Some(block) => write!(f, "{sender} {kind} {block} sent {sent} taken {taken}"),
+            None => write!(f, "{sender} {kind} sent {sent} taken {taken}"),
+        }
+    }
+}
+
+/// How often each packet was sent and taken, where that is wanted and it is told how far the captures go together.
+pub fn copies_of(alloc: Global, said: &PairSaid, is_wanted: bool) -> Outcome<Option<Vec<Copies>>>
+    ensures { (client server : List Datagram) → HavePassed said.now client server → IfOk result (λ copies. option_map (λ all. all.items) copies ≡ told_copies is_wanted said.now client server) }
+{
+    let Ok(matched) = &said.together else {
+        return Ok(None);
     };
+    if !is_wanted {
+        return Ok(None);
+    }
+    match (&matched.client_counts, &matched.server_counts) {
+        (Some(client), Some(server)) => Ok(Some(copies_in(alloc, client, server)?)),
+        _ => bail!("the packets are not counted: out of memory"),
+    }
+}
+
+/// The copies of each packet that passed, those of the client's packets first.
+fn copies_in(alloc: Global, client: &Counts, server: &Counts) -> Result<Vec<Copies>, AllocError>
+    ensures { (one other : List Datagram) → IsCountOf client.now one → IsCountOf server.now other → IfOk result (λ copies. copies.items ≡ all_copies one other) }
+{
     let mut copies = Vec::new(alloc);
     add_from(&mut copies, End::Client, client, server)?;
     add_from(&mut copies, End::Server, server, client)?;
@@ -61,7 +107,9 @@ fn add_from(
     from: End,
     sender: &Counts,
     receiver: &Counts,
-) -> Result<(), AllocError> {
+) -> Result<(), AllocError>
+    ensures { (one other : List Datagram) → IsCountOf sender.now one → IsCountOf receiver.now other → OnOk result (copies.new.items ≡ copies.old.items ++ passed_copies from one other (packets_to blocks)) }
+{
     add(copies, from, CountedPacket::Opening, sender, receiver)?;
     add(copies, from, CountedPacket::Error, sender, receiver)?;
     for block in 0..=u16::MAX {
@@ -78,7 +126,9 @@ fn add(
     packet: CountedPacket,
     sender: &Counts,
     receiver: &Counts,
-) -> Result<(), AllocError> {
+) -> Result<(), AllocError>
+    ensures { (one other : List Datagram) → IsCountOf sender.now one → IsCountOf receiver.now other → OnOk result (copies.new.items ≡ copies.old.items ++ passed_copies from one other (packet ∷ [])) }
+{
     let (sent, taken) = (sender.sent(packet), receiver.taken(packet));
     if sent > 0 || taken > 0 {
         copies.push(Copies {

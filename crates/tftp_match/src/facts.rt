@@ -1,8 +1,9 @@
 //! What there is to say of two captures, by what was found of them.
 
-ghost use Rattle.std.specs.Prelude.{◌≡◌};
+ghost use Rattle.std.specs.Prelude.{◌≡◌, option_map};
 ghost use Rattle.tftp_commands.specs.{checked};
-ghost use Rattle.tftp_match.specs.Firsts.{client_first as first_at_client, first_of, is_judged_whole as is_whole, is_matched, refused_first, server_first as first_at_server, told_why as why_told};
+ghost use Rattle.tftp_match.specs.Firsts.{carried, client_first as first_at_client, first_of, is_judged_whole as is_whole, is_matched, refused_first, server_first as first_at_server, told_why as why_told};
+ghost use Rattle.tftp_match.specs.Objects.{first_word};
 ghost use Rattle.tftp_match.specs.Status.{is_fault, status_of as status_for};
 
 use judge_pair::counts::Carried;
@@ -21,7 +22,9 @@ pub struct First {
 
 impl First {
     /// The word that tells why it waits.
-    pub fn word(&self) -> Option<&'static str> {
+    pub fn word(&self) -> Option<&'static str>
+        ensures { option_map (λ word. word.now) result ≡ first_word self.now }
+    {
         match self.why {
             Some(Wait::Unsent) => Some("unsent"),
             Some(Wait::SentLater) => Some("waits"),
@@ -70,13 +73,12 @@ pub fn are_matched(said: &PairSaid) -> bool
 }
 
 /// What the network lost and repeated, where the captures are matched and it was counted.
-pub fn carried_of(said: &PairSaid) -> Option<Carried> {
-    if !said.is_matched() {
-        return None;
-    }
+pub fn carried_of(said: &PairSaid) -> Option<Carried>
+    ensures { result ≡ carried said.now }
+{
     match &said.together {
-        Ok(matched) => matched.carried,
-        Err(_) => None,
+        Ok(matched) if are_matched(said) => matched.carried,
+        _ => None,
     }
 }
 

@@ -7,23 +7,28 @@ mod copies;
 mod facts;
 mod held;
 mod help;
-mod json;
 mod judging;
 mod laws;
 mod lines;
+mod members;
+mod objects;
 mod recorded;
+mod saying;
 mod source;
 mod told;
 mod verdict;
 mod words;
 
+use crate::copies::copies_of;
 use crate::facts::status_of;
-use crate::json::say_json;
 use crate::judging::{Judged, judge_captures};
-use crate::lines::say;
+use crate::objects::Captured;
+use crate::saying::{SayFault, say};
 use crate::words::{Request, request_of};
-use anyhow::Result;
+use anyhow::{Result, bail};
 use audit_recording::session::ended;
+use net_streams::streams::LineWriter;
+use std::io;
 use std::process::ExitCode;
 use tftp_words::{fault_of, own_words, tell_fault};
 
@@ -51,10 +56,27 @@ fn answer(rt: HostRuntime, words: &[String]) -> Result<u8> {
 
 /// Says what there is to say, and answers the status.
 fn say_judged(rt: HostRuntime, request: &Request<'_>, judged: &Judged) -> Result<u8> {
-    if request.json {
-        say_json(rt, request, (judged.client, judged.server), &judged.said)?;
-    } else {
-        say(rt, &judged.said, request.counts)?;
+    let said = &judged.said;
+    let copies = copies_of(rt.alloc(), said, request.counts)?;
+    let client = Captured {
+        file: request.client,
+        number: judged.client,
+    };
+    let server = Captured {
+        file: request.server,
+        number: judged.server,
+    };
+    let mut writer = LineWriter::new(rt.alloc(), io::writer(&rt));
+    match say(
+        rt.alloc(),
+        &mut writer,
+        request.json,
+        (client, server),
+        said,
+        &copies,
+    ) {
+        Ok(()) => Ok(status_of(said)),
+        Err(SayFault::Memory) => bail!("out of memory"),
+        Err(SayFault::Output) => bail!("standard output: a write failed"),
     }
-    Ok(status_of(&judged.said))
 }

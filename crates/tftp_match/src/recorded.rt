@@ -1,5 +1,8 @@
 //! The transfers of recordings that are to be judged.
 
+ghost use Rattle.std.specs.Prelude.{◌≡◌, ◌≤◌, IfOk, IfSome, Some, length};
+ghost use Rattle.tftp_match.specs.Choice.{AreTried, AreTriedAt, beside_text, most_pairs, numbers_of as numbers_in};
+
 use crate::PROGRAM;
 use crate::candidates::{Candidates, pairs_of};
 use crate::choice::{Tried, chosen};
@@ -127,7 +130,10 @@ fn try_beside(
     recorded: &Recorded<'_>,
     text: &[u8],
     numbers: &[u64],
-) -> Result<Option<Vec<Tried>>> {
+) -> Result<Option<Vec<Tried>>>
+    requires few { length numbers.now ≤ most_pairs }
+    ensures { IfOk result (λ all. IfSome all (λ tried. AreTriedAt recorded.now.end numbers.now tried.items)) }
+{
     let mut tried = Vec::new(rt.alloc());
     for number in numbers {
         match try_number(rt, recorded, text, *number)? {
@@ -144,17 +150,18 @@ fn try_number(
     recorded: &Recorded<'_>,
     text: &[u8],
     number: u64,
-) -> Result<Option<Tried>> {
+) -> Result<Option<Tried>>
+    ensures { IfOk result (λ pair. IfSome pair (λ tried. numbers_in tried ≡ beside_text recorded.now.end number)) }
+{
     let own = recorded.text(rt.alloc(), number);
     let Some(own) = told(rt, PROGRAM, recorded.named.file, own)? else {
         return Ok(None);
     };
     let own = own.as_slice();
-    let tried = match recorded.end {
-        End::Client => Tried::of(Some(number), None, &said_of(rt.alloc(), own, text)),
-        End::Server => Tried::of(None, Some(number), &said_of(rt.alloc(), text, own)),
-    };
-    kept(tried)
+    match recorded.end {
+        End::Client => kept(Tried::of(Some(number), None, &said_of(rt.alloc(), own, text))),
+        End::Server => kept(Tried::of(None, Some(number), &said_of(rt.alloc(), text, own))),
+    }
 }
 
 /// All that a reader gives.
@@ -246,7 +253,10 @@ fn try_pairs(
     client: &Recorded<'_>,
     server: &Recorded<'_>,
     pairs: &[(u64, u64)],
-) -> Result<Option<Vec<Tried>>> {
+) -> Result<Option<Vec<Tried>>>
+    requires few { length pairs.now ≤ most_pairs }
+    ensures { IfOk result (λ all. IfSome all (λ tried. AreTried pairs.now tried.items)) }
+{
     let mut tried = Vec::new(rt.alloc());
     for pair in pairs {
         match try_pair(rt, client, server, *pair)? {
@@ -263,7 +273,9 @@ fn try_pair(
     client: &Recorded<'_>,
     server: &Recorded<'_>,
     pair: (u64, u64),
-) -> Result<Option<Tried>> {
+) -> Result<Option<Tried>>
+    ensures { IfOk result (λ found. IfSome found (λ tried. numbers_in tried ≡ (Some pair.0, Some pair.1))) }
+{
     let (one, other) = pair;
     let Some(both) = both_texts(rt, client, one, server, other)? else {
         return Ok(None);
@@ -274,7 +286,9 @@ fn try_pair(
 }
 
 /// The pair that was tried, unless memory ran out for it.
-fn kept(tried: Option<Tried>) -> Result<Option<Tried>> {
+fn kept(tried: Option<Tried>) -> Result<Option<Tried>>
+    ensures { IfOk result (λ found. found ≡ tried) }
+{
     match tried {
         Some(tried) => Ok(Some(tried)),
         None => bail!("out of memory"),

@@ -2,10 +2,9 @@
 
 use crate::PROGRAM;
 use crate::choice::Tried;
-use anyhow::{Result, bail};
+use anyhow::Result;
 use audit_recording::session::{Session, put_number, tell_asked, tell_notes};
 use std::alloc::AllocError;
-use std::io;
 
 /// A capture as it is named.
 #[derive(Clone, Copy)]
@@ -14,14 +13,6 @@ pub struct Named<'a> {
     pub file: &'a str,
     /// The option that names one of its transfers.
     pub option: &'static str,
-}
-
-/// What was printed; an error of it is named as one of standard output.
-pub fn printed(outcome: io::Result<()>) -> Result<()> {
-    match outcome {
-        Ok(()) => Ok(()),
-        Err(error) => bail!("standard output: {error}"),
-    }
 }
 
 /// Tells what there is to tell of a recording as a whole; where it has no transfer, that and where one may be.

@@ -1,0 +1,13 @@
+use Rattle.tftp_match.proofs.MembersLemmas.{adds_one, adds_then}
+use Rattle.tftp_match.proofs.objects.put_copies.Goals as goal
+
+pub returns : goal.returns
+returns c =
+    let r = c.end_object.result in
+    let end = c.end_object.new.self in
+    adds_then r c.args.out.now c.begin_object.new.self end _ _ (c.in_ok-begin_object.ensures.ok, c.in_ok-begin_object.ensures.room.0)
+    (adds_then r c.begin_object.new.self c.put_text.new.out end _ _ (rw c.sender.ensures at c.in_ok-put_text.ensures)
+    (adds_then r c.put_text.new.out c.put_text-2.new.out end _ _ (rw c.kind.ensures at c.in_ok-put_text-2.ensures)
+    (adds_then r c.put_text-2.new.out c.put_some_count.new.out end _ _ (rw c.block.ensures at c.in_ok-put_some_count.ensures)
+    (adds_then r c.put_some_count.new.out c.put_count.new.out end _ _ c.in_ok-put_count.ensures
+    (adds_then r c.put_count.new.out c.put_count-2.new.out end _ _ c.in_ok-put_count-2.ensures (adds_one r c.put_count-2.new.out end _ c.end_object.ensures))))))
