@@ -8,7 +8,7 @@ from typing import Any, Optional
 from captures import ack, data, error, oack, read_request, write_request
 from checks import Checks
 from judged import said
-from made import C, S, file_of, read
+from made import C, S, asked_again, file_of, read
 from programs import TRANSFERS
 from recorded import Datagram
 
@@ -93,6 +93,31 @@ class Stands(Checks):
     def rows(self, given: bytes, place: str) -> list[dict[str, Any]]:
         words = ["check", "--json", "--end", place, "-"]
         return [json.loads(line) for line in said(self.program, words, given)[0].splitlines()]
+
+    def words(self, given: bytes, *words: str) -> str:
+        """The verdict of a recording's last row, as it is printed."""
+        line = said(self.program, ["check", *words, "-"], given)[0].splitlines()[-1]
+        return line[line.index("refused") :] if "refused" in line else line
+
+    def test_words(self) -> None:
+        """A refusal that nothing makes doubtful says what it rests on, and one of rule 20 who judges such numbers."""
+        given, between = file_of([ASKED, FULL, sent(ack(1)[0]), CHANGED]), ("--end", "between")
+        said_of = self.words(given, *between)
+        self.check("it stands", said_of == "refused datagram 4 rule 25 BlockChanged, whatever is missing", said_of)
+        said_of = self.words(file_of([ASKED, FULL, sent(ack(3)[0])]), *between)
+        self.check("it may not stand", said_of == "refused datagram 3 rule 26 AckAhead, if no frame is missing", said_of)
+        said_of = self.words(file_of(read("a", 40_000, 41_000)))
+        self.check("accepted", "missing" not in said_of and "accepted" in said_of, said_of)
+        said_of = self.words(given, "--end", "client")
+        is_told = said_of.endswith("BlockChanged, if no frame is missing")
+        self.check("what came to a client", is_told, said_of)
+        doubtful = self.words(file_of(asked_again()))
+        self.check("doubtful", "rule" in doubtful and "missing" not in doubtful, doubtful)
+        asked, many = Datagram(C, 40_000, S, 69, read_request("a", "octet", tsize=0)[0]), oack(tsize=40_000_000)[0]
+        said_of = self.words(file_of([asked, answered(many)]), *between)
+        wanted = "refused datagram 2 rule 20 BeyondBlock65535, whatever is missing"
+        wanted += "; tftp-audit check --rollover judges numbers that begin again"
+        self.check("rule 20", said_of == wanted, said_of)
 
     def test_between(self) -> None:
         for name, passed, rule, stands in CASES:
