@@ -14,6 +14,7 @@ use Rattle.law_tap.specs.{IsCertain}
 use Rattle.law_tap.proofs.EndStands.{known_is_certain, own_is_certain}
 use Rattle.tftp_judge.specs.{IsVerdict, Refusal}
 use Rattle.tftp_judge.specs.declared.refusal.Refusal.TheVariants as refusal
+use Rattle.judge_tap.specs.declared.refusal.TapRefusal.TheVariants as tap
 use Rattle.audit_flows.specs.Lines.{is_of, same_endpoint}
 use Rattle.audit_flows.specs.{Transfer}
 use Rattle.audit_flows.specs.Transfers.{client_view}
