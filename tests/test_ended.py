@@ -25,6 +25,8 @@ STRAY = Datagram(THIRD, 41_000, C, 40_000, data(1, b"x")[0])
 LATER = Datagram(THIRD, 50_000, S, 69, read_request("b", "octet")[0])
 FIELDS = ("how", "role", "code", "message", "frame", "seconds", "before_refusal")
 SESSION = TOP / "examples" / "loopback-session.pcap"
+# What a refusal rests on.
+WHATEVER, IF_NONE = "whatever is missing", "if no frame is missing"
 
 
 def acked(block: int) -> Datagram:
@@ -64,7 +66,7 @@ CASES = (
     Case(
         "an ERROR that its client acknowledges", [ASKED, MISSING, acked(1)], (),
         stopped("server", 1, "File not found", 2, True), refusal(3, Rule.ACK_AHEAD),
-        f"aborted by server code 1, and then {refusal(3, Rule.ACK_AHEAD)}; {NOT_THERE}",
+        f"aborted by server code 1, and then {refusal(3, Rule.ACK_AHEAD)}, {IF_NONE}; {NOT_THERE}",
     ),
     Case(
         "an ERROR in the midst", [ASKED, FULL, acked(1), Datagram(*BACK, error(5, "Wrong block number")[0])], (),
@@ -74,7 +76,7 @@ CASES = (
     Case(
         "the first of two ERRORs", [ASKED, FULL, acked(1), Datagram(*BACK, error(2, "Access violation")[0]), MISSING],
         (), stopped("server", 2, "Access violation", 4), refusal(5, Rule.AFTER_ERROR),
-        f'{refusal(5, Rule.AFTER_ERROR)}; ended: server ERROR 2 "Access violation" frame 4',
+        f'{refusal(5, Rule.AFTER_ERROR)}, {WHATEVER}; ended: server ERROR 2 "Access violation" frame 4',
     ),
     Case(
         "signs in a message", [ASKED, FULL, acked(1), Datagram(*OUT, error(0, 'a "b"\\\x1b')[0])], (),
@@ -84,7 +86,7 @@ CASES = (
     Case(
         "an ERROR without its zero byte", [ASKED, FULL, Datagram(*OUT, error(3, "")[0][:-1])], (),
         stopped("client", 3, "", 3), refusal(3, Rule.MALFORMED, "NoTerminator"),
-        f'{refusal(3, Rule.MALFORMED, "NoTerminator")}; ended: client ERROR 3 "" frame 3',
+        f'{refusal(3, Rule.MALFORMED, "NoTerminator")}, {WHATEVER}; ended: client ERROR 3 "" frame 3',
     ),
     Case(
         "no answer", [ASKED, LATER], LATE, quiet("silent", "server", 1, 25), NO_ANSWER,
@@ -112,12 +114,12 @@ CASES = (
     ),
     Case(
         "a refusal in the end", [ASKED, FULL, acked(3)], (), quiet("last", "client", 3, 0),
-        refusal(3, Rule.ACK_AHEAD), refusal(3, Rule.ACK_AHEAD),
+        refusal(3, Rule.ACK_AHEAD), f"{refusal(3, Rule.ACK_AHEAD)}, {IF_NONE}",
     ),
     Case(
         "a refusal, and no ERROR", [ASKED, FULL, acked(3), LATER], (0.0, 0.1, 0.2, 3.2), quiet("last", "client", 3, 3),
         refusal(3, Rule.ACK_AHEAD),
-        f"{refusal(3, Rule.ACK_AHEAD)}; ended: nothing for 3 s after frame 3 of the client",
+        f"{refusal(3, Rule.ACK_AHEAD)}, {IF_NONE}; ended: nothing for 3 s after frame 3 of the client",
     ),
 )
 
