@@ -105,7 +105,8 @@ class Stands(Checks):
         said_of = self.words(given, *between)
         self.check("it stands", said_of == "refused datagram 4 rule 25 BlockChanged, whatever is missing", said_of)
         said_of = self.words(file_of([ASKED, FULL, sent(ack(3)[0])]), *between)
-        self.check("it may not stand", said_of == "refused datagram 3 rule 26 AckAhead, if no frame is missing", said_of)
+        wanted = "refused datagram 3 rule 26 AckAhead, if no frame is missing"
+        self.check("it may not stand", said_of == wanted, said_of)
         said_of = self.words(file_of(read("a", 40_000, 41_000)))
         self.check("accepted", "missing" not in said_of and "accepted" in said_of, said_of)
         said_of = self.words(given, "--end", "client")
