@@ -1,6 +1,6 @@
 """Transfers of more than 65,535 blocks: the verdicts, the file, the normal text and the count by what comes after block
-65535; captures of fewer blocks, which are the same by each; and the words that say it. The large ones are made and changed
-here, and sent by real programs."""
+65535; captures of fewer blocks, which are the same by each; and the words that say it. The large ones are made and
+changed here, and sent by real programs."""
 from __future__ import annotations
 
 import itertools
@@ -133,8 +133,8 @@ class Numbers(Checks):
         self.check("counted", self.by("0", text, "count") == (f"normal datagrams {3 + 2 * COUNT}\n".encode(), b"", 0))
 
     def test_normal(self) -> None:
-        """The normal text is what the formats make of the meaning, is accepted with it, and is its own normal text; by no
-        other number, and by none, is anything written."""
+        """The normal text is what the formats make of the meaning, is accepted with it, and is its own normal text; by
+        no other number, and by none, is anything written."""
         options: dict[bytes, int] = {b"blksize": SIZE}
         sized, windowed = {**options, b"tsize": len(FILE)}, {**options, b"windowsize": 64}
         read = Meaning("get", b"boot.img", "octet", sized, sized, FILE)

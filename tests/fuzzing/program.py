@@ -47,8 +47,8 @@ class Program:
         self.given, self.output, self.errors = (os.memfd_create(name) for name in ("given", "output", "errors"))
 
     def started(self, command: str, given: int, **shim: int) -> int:
-        """The process of a command with its words, which reads this file; what is named is for the library that makes its
-        calls fail."""
+        """The process of a command with its words, which reads this file; what is named is for the library that makes
+        its calls fail."""
         emptied(self.output)
         emptied(self.errors)
         self.runs += 1
