@@ -1,5 +1,5 @@
-"""The scripts of crates/tests_judges and of crates/tests_trials: captures, and what is said of each. scripts.rt of
-tests_trials says how one is written; here they are read for the built program, so that each stands once.
+"""The scripts of crates/tests_judges and of crates/tests_wire: captures, and what is said of each. trials/scripts.rt of
+tests_wire says how one is written; here they are read for the built program, so that each stands once.
 """
 from __future__ import annotations
 
@@ -25,7 +25,7 @@ def names_of(script: str) -> dict[str, str]:
     return dict(line.split(" = ", 1) for line in script.splitlines() if " = " in line)
 
 
-SHARED = names_of(constant("tests_trials/src/scripts.rt", "NAMES"))
+SHARED = names_of(constant("tests_wire/src/trials/scripts.rt", "NAMES"))
 
 
 def line_of(line: str) -> bytes:

@@ -14,8 +14,8 @@ from programs import Program, refusing
 
 # The tests whose calls take memory, by the beginnings of their names: an empty one is that of all.
 TESTS: dict[str, tuple[str, ...]] = {
-    "tests_net": ("copies::", "recordings::"),
     "tests_wire": (
+        *("net::copies::", "net::recordings::"),
         *("packets::", "netascii::", "captures::texts::texts_", "captures::faults::tr"),
         *("writers::writes::a_read_is_written", "writers::gathered::bytes_are_gathered"),
         *("writers::hosts::a_read_with_its_hosts_is_written", "writers::hosts::a_comment_is_written"),

@@ -167,7 +167,7 @@ def line_after(text: bytes, taken: int) -> int:
 
 def normals() -> Iterator[tuple[bytes, str, bytes]]:
     """Captures, what is said of each, and its normal text."""
-    both = iter(captures(constant("tests_trials/src/normals.rt", "SCRIPT")))
+    both = iter(captures(constant("tests_wire/src/trials/normals.rt", "SCRIPT")))
     for text, said in both:
         yield text, said, next(both)[0]
 

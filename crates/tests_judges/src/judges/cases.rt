@@ -3,8 +3,8 @@
 
 use crate::judges::verdicts::{is_judged, is_verdict};
 use std::test::Fail;
-use tests_trials::normals;
-use tests_trials::scripts::Script;
+use tests_wire::trials::normals;
+use tests_wire::trials::scripts::Script;
 use tftp_ends::blocks::{MapDelivered, RingDelivered};
 
 mod errors;

@@ -5,7 +5,7 @@ use law_model::rules::EndRule;
 use std::alloc::{AllocError, Global};
 use std::marker::Model;
 use std::test::Fail;
-use tests_trials::comparing::is_so;
+use tests_wire::trials::comparing::is_so;
 use tftp_capture::{Datagram, Header};
 use tftp_ends::blocks::{Delivered, MapDelivered, RingDelivered};
 use tftp_judge::{FileBytes, Judge, Meaning, Refusal, Rule};

@@ -5,7 +5,7 @@ use law_model::rules::EndRule;
 use law_tap::Sides;
 use std::alloc::{AllocError, Global};
 use std::test::Fail;
-use tests_trials::comparing::is_so;
+use tests_wire::trials::comparing::is_so;
 use tftp_judge::Rule;
 use tftp_packet::Bytes;
 use tftp_packet::hosts::{Host, Peer};

@@ -2,9 +2,9 @@
 
 use crate::captures::outcomes::gives;
 use crate::captures::texts::{Line, with_line};
+use crate::trials::texts::{NAMED, READ, long};
 use std::alloc::AllocError;
 use std::test::Fail;
-use tests_trials::texts::{NAMED, READ, long};
 use tftp_capture::{CaptureFault, TextFault};
 
 /// Nothing after the start.

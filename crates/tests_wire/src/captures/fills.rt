@@ -2,11 +2,11 @@
 
 use crate::captures::reading::Reading;
 use crate::captures::texts::{BLOCKS, changed};
+use crate::trials::comparing::is_so;
+use crate::trials::drip::DripReader;
+use crate::trials::texts::{READ, long};
 use std::alloc::{AllocError, Global};
 use std::test::Fail;
-use tests_trials::comparing::is_so;
-use tests_trials::drip::DripReader;
-use tests_trials::texts::{READ, long};
 use tftp_capture::{CaptureFault, Datagram, TextFault};
 use tftp_packet::hosts::Dir;
 

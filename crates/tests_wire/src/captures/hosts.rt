@@ -3,9 +3,9 @@
 use crate::captures::outcomes::gives;
 use crate::captures::reading::Reading;
 use crate::captures::texts::changed;
+use crate::trials::drip::DripReader;
+use crate::trials::texts::{COMMENTED, NAMED, READ};
 use std::test::Fail;
-use tests_trials::drip::DripReader;
-use tests_trials::texts::{COMMENTED, NAMED, READ};
 use tftp_capture::{CaptureFault, TextFault};
 
 /// The hosts on the lines 4, 5 and 6 of a text.

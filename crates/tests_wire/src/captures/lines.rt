@@ -2,9 +2,9 @@
 
 use crate::captures::reading::Reading;
 use crate::captures::texts::changed;
+use crate::trials::drip::DripReader;
+use crate::trials::texts::READ;
 use std::test::Fail;
-use tests_trials::drip::DripReader;
-use tests_trials::texts::READ;
 use tftp_capture::{CaptureFault, TextFault};
 
 /// What a reader answers to a call: the line of a datagram, none at the end, or the fault.

@@ -1,9 +1,9 @@
 //! What a text gives that is read to its end.
 
 use crate::captures::reading::Reading;
+use crate::trials::drip::DripReader;
 use std::alloc::Global;
 use std::test::Fail;
-use tests_trials::drip::DripReader;
 use tftp_capture::CaptureFault;
 
 /// What a text gives: the number of its datagrams and the sum of their lines, or the fault.

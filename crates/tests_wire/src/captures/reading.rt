@@ -3,10 +3,10 @@
 ghost use Rattle.std.specs.Prelude.{◌≡◌, true};
 ghost use Rattle.tftp_capture.specs.{IsReadStanding};
 
+use crate::trials::drip::DripReader;
 use net_streams::streams::Latched;
 use std::alloc::Global;
 use std::marker::Model;
-use tests_trials::drip::DripReader;
 use tftp_capture::{CaptureFault, CaptureReader, Datagram, Header};
 
 /// A text whose header was read. Contracts see nothing of it, so that what the library promises of its readers is read

@@ -4,10 +4,10 @@ use crate::captures::hosts::HOSTS;
 use crate::captures::outcomes::{Outcome, gives, read_out};
 use crate::captures::reading::Reading;
 use crate::captures::texts::{BLOCKS, Line, with_line};
+use crate::trials::comparing::is_so;
+use crate::trials::drip::DripReader;
+use crate::trials::texts::{NAMED, READ};
 use std::test::Fail;
-use tests_trials::comparing::is_so;
-use tests_trials::drip::DripReader;
-use tests_trials::texts::{NAMED, READ};
 use tftp_capture::{CaptureFault, Header, TextFault};
 use tftp_packet::End;
 

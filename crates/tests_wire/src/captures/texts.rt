@@ -1,9 +1,9 @@
 //! Texts with a line that is changed, and what they give where a growth is refused.
 
 use crate::captures::reads;
+use crate::trials::texts::{NAMED, READ, long};
 use std::alloc::AllocError;
 use std::test::Fail;
-use tests_trials::texts::{NAMED, READ, long};
 use tftp_capture::{CaptureFault, TextFault};
 
 /// Blocks that go the same way between the same ports, so that the third line may be known by the second.

@@ -1,9 +1,9 @@
 //! Netascii: texts and what they read as, whole and in pieces, and what files are written as. Where a growth is refused,
 //! the answer that is asked for again is the text's own.
 
+use crate::trials::comparing::{is_same, is_so};
 use std::alloc::{AllocError, Global};
 use std::test::Fail;
-use tests_trials::comparing::{is_same, is_so};
 use tftp_netascii::{Decoder, decode, decode_pieces, encode, encoded_len, file_lengths};
 
 /// Texts, the files that they read as, and the lengths of those that are written for these.

@@ -1,8 +1,8 @@
 //! Requests, and what an OACK agrees to.
 
 use crate::packets::views::{oack_of, owned_request_of};
+use crate::trials::comparing::is_so;
 use std::test::Fail;
-use tests_trials::comparing::is_so;
 use tftp_nego::{Agreed, NegoFault, agree, nothing_agreed};
 
 mod faults;

@@ -3,9 +3,9 @@
 ghost use Rattle.tftp_packet.specs.{IsSpellable};
 
 use crate::packets::views::{oack_of, owned_request_of, packet_of, request_of};
+use crate::trials::comparing::{is_same, is_so};
 use std::alloc::AllocError;
 use std::test::Fail;
-use tests_trials::comparing::{is_same, is_so};
 use tftp_packet::hosts::Host;
 use tftp_packet::{
     Bytes, Mode, Options, OptionsView, Packet, PacketFault, Request, RequestView, Side, Value,

@@ -2,11 +2,11 @@
 
 ghost use Rattle.std.specs.Prelude.{◌≡◌, IfOk};
 
+use crate::trials::comparing::is_so;
 use net_streams::streams::{Latched, LineWriter};
 use std::io;
 use std::io::{ErrorKind, Read, Write};
 use std::test::Fail;
-use tests_trials::comparing::is_so;
 
 /// Counts how often it was asked, and answers one call with an error.
 #[derive(Drop)]

@@ -1,12 +1,12 @@
 //! Pieces and digits that are gathered before they are written.
 
+use crate::trials::drip::DripWriter;
+use crate::trials::texts::long;
 use crate::writers::writes::has_written;
 use crate::writers::writing::{Written, written};
 use net_streams::streams::{LineWriter, WriteFault};
 use std::alloc::AllocError;
 use std::test::Fail;
-use tests_trials::drip::DripWriter;
-use tests_trials::texts::long;
 
 /// Adds two bytes as they are, and the others as digits; what waits is written.
 fn take_digits(writer: &mut LineWriter<DripWriter>, bytes: &[u8]) -> Result<(), WriteFault> {

@@ -1,10 +1,10 @@
 //! Texts whose datagrams name a host, written with a comment and without.
 
+use crate::trials::drip::DripWriter;
+use crate::trials::texts::{COMMENTED, NAMED};
 use crate::writers::writes::{DATAGRAMS, HEADER, has_written};
 use crate::writers::writing::{write_with_comment, write_with_host};
 use std::test::Fail;
-use tests_trials::drip::DripWriter;
-use tests_trials::texts::{COMMENTED, NAMED};
 use tftp_packet::hosts::Host;
 
 /// Fails unless the text of `NAMED`, whose host is this, is written where each write takes so many bytes.

@@ -1,12 +1,12 @@
 //! What is written of whole texts, and what of it where a write fails.
 
 use crate::captures::outcomes::gives;
+use crate::trials::comparing::{is_same, is_so};
+use crate::trials::drip::DripWriter;
+use crate::trials::texts::{READ, long};
 use crate::writers::writing::{Row, Written, write};
 use net_streams::streams::WriteFault;
 use std::test::Fail;
-use tests_trials::comparing::{is_same, is_so};
-use tests_trials::drip::DripWriter;
-use tests_trials::texts::{READ, long};
 use tftp_capture::Header;
 use tftp_packet::End;
 use tftp_packet::hosts::Dir;

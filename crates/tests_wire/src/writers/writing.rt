@@ -2,10 +2,10 @@
 
 ghost use Rattle.std.specs.Prelude.{◌≡◌};
 
+use crate::trials::drip::DripWriter;
 use net_streams::streams::{LineWriter, WriteFault};
 use std::alloc::Global;
 use std::marker::Model;
-use tests_trials::drip::DripWriter;
 use tftp_capture::{CaptureWriter, Header, HostCaptureWriter};
 use tftp_packet::hosts::{Dir, Host};
 

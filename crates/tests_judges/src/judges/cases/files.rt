@@ -1,6 +1,6 @@
 use crate::judges::verdicts::is_file;
 use std::test::Fail;
-use tests_trials::scripts::Script;
+use tests_wire::trials::scripts::Script;
 use tftp_ends::blocks::{MapDelivered, RingDelivered};
 
 /// Captures of whole transfers, and their files, in hex digits; `-` where the file is empty.

@@ -2,8 +2,8 @@
 
 use super::{count_of, fault_of, owned_oack_of};
 use crate::packets::views::oack_of;
+use crate::trials::comparing::is_so;
 use std::test::Fail;
-use tests_trials::comparing::is_so;
 use tftp_packet::{Options, PacketFault, same_options};
 
 /// 70 names of five letters whose hashes begin at one slot, found by a program of its own.

@@ -1,9 +1,9 @@
 //! Frames of tunnels and of what stands before a packet, as tests/datagrams.py makes them: tshark 4.0.17 reads the same in each that
 //! is read.
 
+use crate::trials::comparing::is_so;
 use net_udp::frames::{FrameFault, UdpFault, read_frame, read_hosts, read_udp};
 use std::test::Fail;
-use tests_trials::comparing::is_so;
 
 /// What each datagram carries: an acknowledgement of block 1 (RFC 1350, section 5).
 const CARRIED: &[u8] = b"\x00\x04\x00\x01";

@@ -3,10 +3,10 @@
 use net_streams::streams::{Latched, LineWriter};
 use std::alloc::AllocError;
 use std::test::Fail;
-use tests_trials::drip::{DripReader, DripWriter};
-use tests_trials::normals::SCRIPT;
-use tests_trials::scripts::Script;
-use tests_trials::texts::READ;
+use tests_wire::trials::drip::{DripReader, DripWriter};
+use tests_wire::trials::normals::SCRIPT;
+use tests_wire::trials::scripts::Script;
+use tests_wire::trials::texts::READ;
 use tftp_judge::{Meaning, Verdict, judge_text};
 use tftp_normal::{NormalFault, normal_capture, normal_count, normalise};
 

@@ -1,10 +1,10 @@
 //! Fragments put together: in any order, repeated, apart from one another, too old, too long, and too many.
 
+use crate::trials::comparing::is_so;
 use net_udp::fragments::{Fragments, Key, Outcome, Part};
 use std::alloc::AllocError;
 use std::net::{IpAddr, Ipv4Addr, Ipv6Addr};
 use std::test::Fail;
-use tests_trials::comparing::is_so;
 
 /// A packet's content: 40 bytes, which are cut at 16 and 32.
 const CONTENT: &[u8; 40] = b"0123456789abcdefghijklmnopqrstuvwxyzABCD";

@@ -1,5 +1,4 @@
 //! Tests of the reader of recordings, of fragments, of copies, of tunnels and of headers that are not read.
-#![tactic(auto)]
 
 #[cfg(test)]
 mod copies;

@@ -1,7 +1,7 @@
 ghost use Rattle.std.specs.Prelude.{◌≡◌, ◌≢◌, ◌<◌, ◌⊎◌, ◌++◌, ℕ, [], Some, length, min, take, Ok, IfOk, IsErr, IsOk, IsOkAnd};
 ghost use Rattle.std.specs.Io.{ReadsAtMost, WritesAtMost};
 ghost use Rattle.std.specs.Io.KnownBytes.{Keeps, ReadConsumes, WriteAppends};
-ghost use Rattle.tests_trials.specs.Drips.{after_read, after_write, drip_remaining, takes_at_once, GivesPiece, Refuses};
+ghost use Rattle.tests_wire.specs.Drips.{after_read, after_write, drip_remaining, takes_at_once, GivesPiece, Refuses};
 
 use std::alloc::{AllocError, Global};
 use std::io;
@@ -19,7 +19,7 @@ pub struct DripReader<'a> {
 }
 
 impl<'a> Model for DripReader<'a> {
-    ghost use Rattle.tests_trials.specs.Drips.{DripReaderState};
+    ghost use Rattle.tests_wire.specs.Drips.{DripReaderState};
 
     ghost Value = { DripReaderState };
 
@@ -87,7 +87,7 @@ pub struct DripWriter {
 
 impl Model for DripWriter {
     ghost use Rattle.std.specs.Prelude.{◌≤◌, vec_len, vec_capacity};
-    ghost use Rattle.tests_trials.specs.Drips.{DripWriterState};
+    ghost use Rattle.tests_wire.specs.Drips.{DripWriterState};
 
     ghost Value = { DripWriterState };
 

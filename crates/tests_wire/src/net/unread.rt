@@ -1,9 +1,9 @@
 //! Headers that are not read, by their names. The frames are by Python; tshark 4.0.17 finds the same header in each but in one of minimal
 //! encapsulation, which it does not know.
 
+use crate::trials::comparing::is_so;
 use net_udp::frames::{UnreadHeader, unread_header};
 use std::test::Fail;
-use tests_trials::comparing::is_so;
 
 /// A link's number, a frame, and the header at which the reading of it ends.
 type Case = (u32, &'static [u8], Option<UnreadHeader>);

@@ -1,6 +1,5 @@
 //! What the tests of several libraries share: comparisons, scripts of captures, texts, and readers and writers that fail
 //! where they are told to. It tries nothing itself.
-#![tactic(auto)]
 
 pub mod comparing;
 pub mod drip;

@@ -7,7 +7,7 @@ use std::io;
 use std::io::{Read, Write};
 use std::slice::Iter;
 use std::test::Fail;
-use tests_trials::drip::DripReader;
+use tests_wire::trials::drip::DripReader;
 use tftp_commands::run;
 
 /// A piece of a text, and how many datagrams have come with it.

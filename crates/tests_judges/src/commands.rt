@@ -2,8 +2,8 @@
 
 use net_streams::streams::{Latched, LineWriter};
 use std::test::Fail;
-use tests_trials::drip::{DripReader, DripWriter};
-use tests_trials::texts::READ;
+use tests_wire::trials::drip::{DripReader, DripWriter};
+use tests_wire::trials::texts::READ;
 use tftp_commands::run;
 
 mod pipes;

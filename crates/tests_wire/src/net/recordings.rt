@@ -1,12 +1,12 @@
 //! A recording of twelve frames of raw IP: what became of each, and what was told with it.
 
-use crate::fragments::let_go_any;
+use crate::net::fragments::let_go_any;
+use crate::trials::comparing::is_so;
+use crate::trials::drip::DripReader;
 use net_pcap::{FaultKind, PcapFault};
 use net_streams::streams::Latched;
 use net_udp::recording::{Event, Fate, LeftOut, RecordingReader};
 use std::test::Fail;
-use tests_trials::comparing::is_so;
-use tests_trials::drip::DripReader;
 
 /// A classic recording (draft-ietf-opsawg-pcap) of raw IP: the last part of a datagram, a whole datagram, a part, the
 /// first part of the datagram, TCP, a part, a part with other bytes than the one before it, and a part 31 s later; and of
