@@ -234,9 +234,13 @@ class Launchers(Checks):
         for its in (("check",), ("check", "-"), ("check", "--")):
             got = self.scratch.run(*its, script=launcher, given="given")
             self.check(f"installed, {its}", got == (f"{text}: 1 words check: given\n", "", 0, 0), got)
-        for words in (("check", "--rollover", "1"), ("check", "--rollover=1", "-"), ("check", "--rollover", "1", "--")):
+        for words in (
+            ("check", "--rollover", "1"), ("check", "--rollover=1", "-"), ("check", "--rollover", "1", "--"),
+            ("show", "--rollover", "1"),
+        ):
             got = self.scratch.run(*words, script=launcher, given="given")
-            holds = got == (f"{text}: 3 words check --rollover 1: given\n", "", 0, 0)
+            wanted = f"{text}: 3 words {words[0]} --rollover 1: given\n", "", 0 if words[0] == "check" else 2, 0
+            holds = got == wanted
             self.check(f"installed, {words}", holds, got)
         got = self.scratch.run("x", "y", script=launcher, given="given")
         self.check("installed, x y", got == (f"{text}: 2 words x y: given\n", HINT, 2, 0), got)
@@ -278,7 +282,7 @@ class Launchers(Checks):
             (("check", "--rollover"), "--rollover takes 0 or 1, not ''"),
             (("check", "--rollover=2"), "--rollover takes 0 or 1, not '2'"),
             (("extract", "--rollover", "x", example), "--rollover takes 0 or 1, not 'x'"),
-            (("show", "--rollover", "0"), "'show' takes no --rollover: all but show do"),
+            (("show", "--rollover=01"), "--rollover takes 0 or 1, not '01'"),
             (("count", "--rollover", "1", example, example), "'count' takes one file, not 2"),
         )
         for its, message in wrong:

@@ -1,25 +1,30 @@
-"""Transfers of more than 65,535 blocks: the verdicts, the file, the normal text and the count by what comes after block
-65535; captures of fewer blocks, which are the same by each; and the words that say it. The large ones are made and
-changed here, and sent by real programs."""
+"""Transfers of more than 65,535 blocks: the verdicts, the file, the normal text, the count and what is shown by what
+comes after block 65535; captures of fewer blocks, which are the same by each; the words that say it; and what the
+scripts tell. The large ones are made and changed here, and sent by real programs."""
 from __future__ import annotations
 
 import itertools
 import pathlib
 import random
+import re
 import subprocess
 from typing import Optional
 
+import made
 from captures import Capture, Packet, ack, data, oack, read_request, write_request
 from checks import Checks
 from commands import COMMANDS
 from fuzzing.cases import ROLLOVERS
 from fuzzing.rounds import Rounds
+from fuzzing.slow_judge import Rollover
 from fuzzing.transfers import ENDS
 from loopback import CLIENT, SERVER, Case, OverLoopback, record
 from normal import Meaning
 from programs import AUDIT, TRANSFERS
+from recorded import Datagram
 from refusals import Rule, refusal
 from repository import TOP
+from tftp_tools.blocks import capture_by
 
 ROUND = 65_536
 # The blocks of the made captures, a few past the first round, and their size.
@@ -27,7 +32,6 @@ COUNT, SIZE = ROUND + 5, 8
 GIVEN = ("0", "1")
 # How many changed captures are drawn at each end by each number.
 DRAWN = 20
-JUDGING = ("check", "extract", "normal", "count")
 FILE = random.Random(7440).randbytes(COUNT * SIZE - 1)
 # What is recorded of real programs: 40 MB, which has more blocks of 512 than there are numbers.
 LARGE = "large.img"
@@ -49,8 +53,23 @@ def number_of(block: int, first: int) -> int:
     return block if block < ROUND else (block - ROUND) % (ROUND - first) + first
 
 
+def of_block(packet: Packet, block: int, first: int) -> Packet:
+    """The packet, of which `show` names the block where that is another than its number."""
+    payload, told = packet
+    return payload, told if number_of(block, first) == block else f"{told} block {block}"
+
+
 def numbered(block: int, first: int, content: bytes) -> Packet:
-    return data(number_of(block, first), content)
+    return of_block(data(number_of(block, first), content), block, first)
+
+
+def acked(block: int, first: int) -> Packet:
+    return of_block(ack(number_of(block, first)), block, first)
+
+
+def unnamed(rows: bytes) -> bytes:
+    """The rows without the blocks that they name."""
+    return re.sub(rb"(?m) block [0-9]+$", b"", rows)
 
 
 def whole(first: int, size: Optional[int] = len(FILE)) -> Capture:
@@ -63,7 +82,7 @@ def whole(first: int, size: Optional[int] = len(FILE)) -> Capture:
     for block in range(1, COUNT + 1):
         packet = numbered(block, first, FILE[(block - 1) * SIZE : block * SIZE])
         capture.put("server", *[packet] * (1 + (block % 100 == 0)))
-        capture.put("client", ack(number_of(block, first)))
+        capture.put("client", acked(block, first))
     return capture
 
 
@@ -76,7 +95,7 @@ def in_windows(first: int) -> Capture:
         last = min(at + 64, COUNT)
         blocks = [numbered(block, first, FILE[(block - 1) * SIZE : block * SIZE]) for block in range(at + 1, last + 1)]
         capture.put("client", *blocks, *blocks)
-        capture.put("server", ack(number_of(last, first)))
+        capture.put("server", acked(last, first))
     return capture
 
 
@@ -84,10 +103,30 @@ def late(first: int, behind: int) -> Capture:
     """A read in lock step up to block 65,540, after which a block comes again that is so many blocks older."""
     capture = whole(first, None)
     highest, lines = ROUND + 4, len(capture.lines)
-    del capture.lines[lines - 2 :]
+    del capture.lines[lines - 2 :], capture.rows[lines - 2 :]
     block = highest - behind
     capture.put("server", numbered(block, first, FILE[(block - 1) * SIZE : block * SIZE]))
     return capture
+
+
+def with_strays(first: int) -> Capture:
+    """A read to which another port sends blocks, a high one at the start and a low one where numbers began again."""
+    capture = whole(first, None)
+    lines, rows = capture.lines, capture.rows
+    capture.lines, capture.rows = lines[:3], rows[:3]
+    capture.put("server", data(40_000, FILE[:SIZE]), server=50_123)
+    for line, row in zip(lines[3:], rows[3:]):
+        capture.lines.append(line)
+        capture.rows.append(b"%d %s" % (len(capture.lines), row.split(b" ", 1)[1]))
+    capture.put("server", numbered(ROUND + 9, first, FILE[:SIZE]), server=50_123)
+    return capture
+
+
+def rows_of(text: bytes, rollover: Rollover) -> bytes:
+    """What `show` prints by none, with the blocks that the scripts read."""
+    blocks = [it.block for it in capture_by(text, "" if rollover is None else str(rollover)).datagrams]
+    rows = zip(said(text, "show")[0].splitlines(), blocks)
+    return b"".join(row + (b"" if block is None else b" block %d" % block) + b"\n" for row, block in rows)
 
 
 def said(text: bytes, *words: str) -> tuple[bytes, bytes, int]:
@@ -150,6 +189,50 @@ class Numbers(Checks):
                 for others in (("normal", "--rollover", str(1 - first)), ("normal",)):
                     self.check(f"{name}, {given}, {others}", said(text, *others) == (b"", b"", 1))
 
+    def test_shown(self) -> None:
+        """A line names the block beside each number that is another, as the capture was made, whatever strays say; and
+        by none no line does."""
+        for given in GIVEN:
+            for name, capture, named in (
+                ("a read", whole(int(given)), 2 * (COUNT - ROUND + 1)),
+                ("a write in windows", in_windows(int(given)), 2 * (COUNT - ROUND + 1) + 2),
+                ("strays", with_strays(int(given)), 2 * (COUNT - ROUND + 1) + 1),
+            ):
+                text, rows = capture.text(), b"".join(capture.rows)
+                self.check(f"{name}, {given}, named", rows.count(b" block ") == named, rows.count(b" block "))
+                got = self.by(given, text, "show")
+                self.check(f"{name}, {given}, shown", got == (rows, b"", 0), (got[0][-400:], got[1:]))
+                alone = said(text, "show")
+                self.check(f"{name}, {given}, by none", alone == (unnamed(rows), b"", 0), (alone[0][-400:], alone[1:]))
+
+    def test_shown_late(self) -> None:
+        """A block that comes again is named as far back as half a round, and one further is of the next round."""
+        for given in GIVEN:
+            near, far = late(int(given), 32_767), late(int(given), 32_768)
+            rows = b"".join(near.rows)
+            self.check(f"32,767 behind, {given}", self.by(given, near.text(), "show") == (rows, b"", 0))
+            block = ROUND + 4 - 32_768 + ROUND - int(given)
+            rows = b"".join(far.rows)[:-1] + b" block %d\n" % block
+            got = self.by(given, far.text(), "show")
+            self.check(f"32,768 behind, {given}", got == (rows, b"", 0), (got[0][-100:], got[1:], rows[-100:]))
+
+    def test_shown_unjudged(self) -> None:
+        """What begins in the midst of a transfer has no request, and its blocks are named; a request begins anew. What
+        is cut is shown up to there."""
+        for given in GIVEN:
+            first, capture = int(given), Capture("client")
+            for block in range(ROUND - 2, ROUND + 3):
+                capture.put("server", numbered(block, first, FILE[:SIZE]))
+                capture.put("client", acked(block, first))
+            capture.put("client", read_request("boot.img", "octet"))
+            capture.put("server", data(1, FILE[:SIZE]))
+            text, rows = capture.text(), b"".join(capture.rows)
+            got = self.by(given, text, "show")
+            self.check(f"in the midst, {given}", got == (rows, b"", 0) and rows.count(b" block ") == 6, got)
+            got = self.by(given, text[: text.rindex(b"total")], "show")
+            fault = b"fault line %d Truncated\n" % (4 + len(capture.lines))
+            self.check(f"cut, {given}", got == (rows + fault, b"", 2), got)
+
     def test_late(self) -> None:
         """A block that comes again is known as far back as half a round, and not one further."""
         for given in GIVEN:
@@ -163,7 +246,7 @@ class Numbers(Checks):
         """Captures of the first round have the same lines by each number as by none."""
         captures = sorted((TOP / "examples").glob("*.capture"))
         for path in captures:
-            for command in JUDGING:
+            for command in COMMANDS:
                 alone = said(path.read_bytes(), command)
                 for given in GIVEN:
                     same = self.by(given, path.read_bytes(), command) == alone
@@ -171,7 +254,8 @@ class Numbers(Checks):
         self.check("some", len(captures) > 3, captures)
 
     def test_drawn(self) -> None:
-        """Captures that are changed by chance where numbers begin again have the verdict of the slow reading."""
+        """Captures that are changed by chance where numbers begin again have the verdict of the slow reading; and the
+        blocks that are shown are those that the scripts read."""
         endings = set()
         for rollover, end in itertools.product(ROLLOVERS, ENDS):
             rounds = Rounds(random.Random(f"{rollover} {end}"), end, (rollover == 0) == (end == "client"), rollover)
@@ -180,21 +264,123 @@ class Numbers(Checks):
                 got = self.by(str(rollover), text)
                 self.check(f"by {rollover}, at the {end}, {turn}", got == (told[0], b"", told[1]), (got, told))
                 endings.add(told[0].split()[-1])
+                if turn < 4:
+                    got = self.by(str(rollover), text, "show")
+                    self.check(f"by {rollover}, at the {end}, {turn}, shown", got == (rows_of(text, rollover), b"", 0))
         self.check("many endings", len(endings) >= 5, endings)
 
     def test_words(self) -> None:
-        """The word stands behind the four commands that judge, and says 0 or 1; else the words are no command."""
+        """The word stands behind each command, and says 0 or 1; else the words are no command."""
         text = (TOP / "examples" / "one-block.capture").read_bytes()
         usage = (b"fault usage\n", b"", 2)
         for words in (
             ("check", "--rollover"), ("check", "--rollover", "2"), ("check", "--rollover", ""),
             ("check", "--rollove", "0"), ("check", "--rollover", "0", "0"), ("--rollover", "0", "check"),
             ("check", "0", "--rollover"),
-            ("show", "--rollover", "0"), ("normal", "--rollover", "2"), ("normal", "--rollover"), ("normal", "1"),
+            ("show", "--rollover"), ("show", "--rollover", "2"), ("show", "--rollover", "0", "-"), ("show", "0"),
+            ("show", "--rollover=0"), ("normal", "--rollover", "2"), ("normal", "--rollover"), ("normal", "1"),
             ("check", "check", "--rollover", "0"),
         ):
             self.check(f"{words}", said(text, *words) == usage, said(text, *words))
-        self.check("commands", set(JUDGING) < set(COMMANDS))
+        for command in COMMANDS:
+            self.check(f"{command}, taken", said(text, command, "--rollover", "0")[1:] == (b"", 0))
+
+
+def recorded(first: int) -> bytes:
+    """The recording of a read in lock step, of which nothing is lost."""
+    passed = [
+        Datagram(made.C, 40_000, made.S, 69, read_request("boot.img", "octet", blksize=SIZE)[0]),
+        Datagram(made.S, 41_000, made.C, 40_000, oack(blksize=SIZE)[0]),
+        Datagram(made.C, 40_000, made.S, 41_000, ack(0)[0]),
+    ]
+    for block in range(1, COUNT + 1):
+        content = FILE[(block - 1) * SIZE : block * SIZE]
+        passed.append(Datagram(made.S, 41_000, made.C, 40_000, numbered(block, first, content)[0]))
+        passed.append(Datagram(made.C, 40_000, made.S, 41_000, acked(block, first)[0]))
+    return made.file_of(passed)
+
+
+class Scripts(Checks):
+    """What the scripts tell of made captures and recordings."""
+
+    needs = (AUDIT, TRANSFERS)
+
+    def told(self, script: str, given: bytes, *words: str) -> tuple[str, str, int]:
+        """What a script writes, what it writes as errors, and its status."""
+        command = [str(TOP / "tools" / script), "--program", AUDIT.path, "--transfers", TRANSFERS.path, *words]
+        done = subprocess.run(command, input=given, capture_output=True, timeout=300)
+        return done.stdout.decode(), done.stderr.decode(), done.returncode
+
+    def test_drawn(self) -> None:
+        """A rung has the block beside a number that is another, and no block is a repeat of one with its number."""
+        for given in GIVEN:
+            first = int(given)
+            text, last = whole(first, None).text(), number_of(COUNT, first)
+            output, errors, status = self.told("tftp-ladder", text, "--text", "--rollover", given)
+            rows = output.splitlines()[-2:]
+            holds = f" DATA {last} (block {COUNT}, {SIZE - 1} bytes) " in rows[0] and (errors, status) == ("", 0)
+            self.check(f"the last rungs, {given}", holds and f" ACK {last} (block {COUNT}) " in rows[1], rows)
+            output, errors, status = self.told("tftp-ladder", text, "--rollover", given)
+            self.check(f"a picture, {given}", f">ACK {last} (block {COUNT})<" in output and status == 0, output[-900:])
+            again = self.told("tftp-ladder", text, "--text")[0].splitlines()[-1]
+            self.check(f"by none, {given}", f" ACK {last}, again " in again, again)
+
+    def test_explained(self) -> None:
+        """What is told of the blocks, and of a refusal behind the first round."""
+        for given in GIVEN:
+            first = int(given)
+            output, errors, status = self.told("tftp-explain", whole(first).text(), "--rollover", given)
+            accepted = f"accepted get octet blocks {COUNT} bytes {len(FILE)}\n\n"
+            self.check(f"accepted, {given}", output.startswith(accepted) and (errors, status) == ("", 0), output)
+            far = late(first, 32_768)
+            number, block = ROUND + 4 - 32_768, ROUND + 4 - 32_768 + ROUND - first
+            line = refusal(len(far.lines), Rule.WINDOW_OVERRUN)
+            output, errors, status = self.told("tftp-explain", far.text(), "--rollover", given)
+            words = f"DATA, block {block} by number {number}, {SIZE} bytes."
+            self.check(f"refused, {given}", output.startswith(f"{line}\n") and words in output and status == 1, output)
+            words = f"so block {ROUND + 5} is the last that may come."
+            self.check(f"why, {given}", words in " ".join(output.split()), output)
+            output, errors, status = self.told("tftp-explain", far.text(), "--rollover", given, "--all")
+            ended = f"what if, without datagram {len(far.lines)}: incomplete after {len(far.lines) - 1}"
+            self.check(f"what if, {given}", ended in output, output)
+            output = self.told("tftp-explain", far.text(), "--rollover", given, "--json")[0]
+            self.check(f"JSON, {given}", f"block {block} by number {number}" in output, output)
+
+    def test_recordings(self) -> None:
+        """A transfer of a recording is judged so at an end, and its file written; between the ends it is refused."""
+        for given in GIVEN:
+            recording, folder = recorded(int(given)), self.folder / given
+            accepted = f"accepted get octet blocks {COUNT} bytes {len(FILE)}"
+            words = ("--end", "client", "--rollover", given)
+            output, errors, status = self.told("tftp-report", recording, "--summary", *words)
+            is_one = re.search("(?m)^accepted +1$", output) is not None
+            self.check(f"a summary, {given}", is_one and status == 0, output)
+            output, errors, status = self.told("tftp-report", recording, "--format", "json", *words)
+            holds = f'"verdict":"{accepted}","doubts":[]' in output and status == 0
+            self.check(f"a report, {given}", holds, output[:400])
+            output, errors, status = self.told("tftp-extract", recording, *words, str(folder), "-")
+            holds = (folder / "boot.img").read_bytes() == FILE and (errors, status) == ("", 0)
+            self.check(f"extracted, {given}", holds, (output, errors, status))
+            output, errors, status = self.told("tftp-explain", recording, "-", "1", "server", "--rollover", given)
+            self.check(f"explained, {given}", output.startswith(f"{accepted}\n") and status == 0, output)
+            other = str(1 - int(given))
+            output, errors, status = self.told("tftp-explain", recording, "-", "1", "client", "--rollover", other)
+            doubt = "Doubtful: its block numbers begin again"
+            self.check(f"by the other, {given}", output.startswith("refused ") and doubt in output, output)
+            output, errors, status = self.told("tftp-explain", recording, "--rollover", given)
+            line = refusal(2 * ROUND, Rule.BEYOND_BLOCK_65535)
+            why = "tftp-explain: numbers that begin again are judged at an end alone: name the client or the server\n"
+            self.check(f"between, {given}", output.startswith(f"{line}\n") and (errors, status) == (why, 1), errors)
+
+    def test_script_words(self) -> None:
+        """What the word says, and with which others it does not go."""
+        for script in ("tftp-ladder", "tftp-explain", "tftp-report"):
+            output, errors, status = self.told(script, b"", "--rollover", "2")
+            self.check(f"{script}, 2", (output, status) == ("", 2) and "argument --rollover: " in errors, errors)
+        for script in ("tftp-ladder", "tftp-explain"):
+            output, errors, status = self.told(script, b"", "--pair", "-", "/dev/null", "--rollover", "0")
+            why = f"{script}: of a pair there is no --rollover\n"
+            self.check(f"{script}, of a pair", (output, errors, status) == ("", why, 2), errors)
 
 
 class Sent(OverLoopback):

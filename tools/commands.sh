@@ -61,8 +61,8 @@ Arguments:
   [FILE]  The capture text of one transfer; without it, or with -, standard input
 
 Options:
-      --rollover <N>  What all but show take to come after block 65535: 0 or 1. Without it
-                      nothing does, and such a block is refused
+      --rollover <N>  What is taken to come after block 65535: 0 or 1; show then names the block
+                      beside its number. Without it nothing does, and such a block is refused
   -h, --help          Print help
   -V, --version       Print version
 
@@ -101,17 +101,8 @@ warn_of_recording() {
     esac
 }
 
-# Whether a command goes by what comes after block 65535.
-is_judging() {
-    case $1 in
-        check | extract | normal | count) ;;
-        *) false ;;
-    esac
-}
-
 # Takes the number that comes after block 65535.
 take_rollover() {
-    is_judging "$command" || refuse "'$command' takes no --rollover: all but show do"
     case $1 in
         0 | 1) rollover=$1 ;;
         *) refuse "--rollover takes 0 or 1, not '$1'" ;;

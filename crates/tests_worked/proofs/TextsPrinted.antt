@@ -1,5 +1,5 @@
 -- What the commands write of the worked texts.
-use Rattle.std.proofs.Common.{◌≡◌, ℕ, ◌+◌, ◌++◌, true, false, List, [], Ok, Err, codes, decimal, inl, refl, sym, ap, ◌∙◌, ◌↔◌, None}
+use Rattle.std.proofs.Common.{◌≡◌, ℕ, ◌+◌, ◌++◌, true, false, List, [], Ok, Err, codes, decimal, inl, inr, refl, sym, ap, ◌∙◌, ◌↔◌, None}
 use Rattle.std.proofs.lemmas.Bool.{false≢true}
 use Rattle.std.specs.Ordering.{nat_cmp}
 use Rattle.std.specs.Cmp.Lexicographic.{slice_cmp}
@@ -8,6 +8,7 @@ use Rattle.std.specs.Fmt.{digits}
 use Rattle.tftp_packet.specs.{Message, OptionValue, Get}
 use Rattle.tftp_capture.specs.{numbered, line, worked_header, worked_text, BadHeader}
 use Rattle.tftp_capture.specs.declared.fault.CaptureFault.TheVariants.{Text}
+use Rattle.tftp_capture.proofs.Beginnings.{capture_begins}
 use Rattle.law_model.specs.Model.{two_bytes}
 use Rattle.law_model.proofs.ModelLemmas.Worked.{one_block, two_is_plan}
 use Rattle.law_model.specs.{EndRule}
@@ -60,27 +61,33 @@ unversioned_checked = record { said = Err (Capture (Text 1 BadHeader)); judged =
 
 -- ---- show
 
-lines_are : AreLines 1 (numbered 4 (read_of 1)) (line (codes "1 out RRQ") ++ line (codes "2 in DATA 1 2") ++ line (codes "3 out ACK 1"))
+lines_are : AreLines None worked_header [] (numbered 4 (read_of 1)) (line (codes "1 out RRQ") ++ line (codes "2 in DATA 1 2") ++ line (codes "3 out ACK 1"))
 unfolding digits
 lines_are = (
+  0,
+  refl,
   line (codes "1 out RRQ"),
   line (codes "2 in DATA 1 2") ++ line (codes "3 out ACK 1"),
   (codes "RRQ", inl (Message.Request asked, request_spelled, refl), refl),
   (
+    0,
+    refl,
     line (codes "2 in DATA 1 2"),
     line (codes "3 out ACK 1"),
     (codes "DATA 1 2", inl (Message.Data 1 (codes "hi"), data_spells 1 (codes "hi") refl, refl), refl),
-    (line (codes "3 out ACK 1"), [], (codes "ACK 1", inl (Message.Ack 1, ack_spelled, refl), refl), refl, refl),
+    (0, refl, line (codes "3 out ACK 1"), [], (codes "ACK 1", inl (Message.Ack 1, ack_spelled, refl), refl), refl, refl),
     refl,
   ),
   refl,
 )
 
-pub read_shown : IsShown (given worked_text) false (with_success (line (codes "1 out RRQ") ++ line (codes "2 in DATA 1 2") ++ line (codes "3 out ACK 1")))
+pub read_shown : IsShown None (given worked_text) false (with_success (line (codes "1 out RRQ") ++ line (codes "2 in DATA 1 2") ++ line (codes "3 out ACK 1")))
 read_shown = record {
+  header = worked_header;
   datagrams = numbered 4 (read_of 1);
   ending = Ending.Whole;
   lines = line (codes "1 out RRQ") ++ line (codes "2 in DATA 1 2") ++ line (codes "3 out ACK 1");
+  first = inr (capture_begins worked_text worked_header (numbered 4 (read_of 1)) read_said);
   are = lines_are;
   ends = ((worked_header, read_said), refl, refl);
   is = refl;

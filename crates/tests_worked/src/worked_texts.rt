@@ -31,7 +31,7 @@ pub fn texts_are_checked()
 /// What `show` prints of the read, where no write failed: a line for each datagram.
 #[tactic(auto, using(crate::proofs::TextsPrinted::read_shown))]
 pub fn read_is_shown_by_lines()
-    ensures { IsShown (given worked_text) false (with_success (line (codes "1 out RRQ") ++ line (codes "2 in DATA 1 2") ++ line (codes "3 out ACK 1"))) }
+    ensures { IsShown None (given worked_text) false (with_success (line (codes "1 out RRQ") ++ line (codes "2 in DATA 1 2") ++ line (codes "3 out ACK 1"))) }
 {}
 
 /// What `extract` writes of the read is its file.

@@ -22,7 +22,7 @@ third (a ∷ b ∷ c ∷ word) = c
 
 abbrev by_third : ℕ → Option Rollover → Action
 by_third letter rollover =
-    if nat_eq letter 101 then Check rollover else if nat_eq letter 116 then Extract rollover else if nat_eq letter 114 then Normal rollover else if nat_eq letter 111 then Show else Count rollover
+    if nat_eq letter 101 then Check rollover else if nat_eq letter 116 then Extract rollover else if nat_eq letter 114 then Normal rollover else if nat_eq letter 111 then Show rollover else Count rollover
 
 -- the digits differ
 abbrev first : List ℕ → ℕ
@@ -46,7 +46,9 @@ told_by_words (Extract (Some One)) program = refl
 told_by_words (Normal None) program = refl
 told_by_words (Normal (Some Zero)) program = refl
 told_by_words (Normal (Some One)) program = refl
-told_by_words Show program = refl
+told_by_words (Show None) program = refl
+told_by_words (Show (Some Zero)) program = refl
+told_by_words (Show (Some One)) program = refl
 told_by_words (Count None) program = refl
 told_by_words (Count (Some Zero)) program = refl
 told_by_words (Count (Some One)) program = refl
@@ -83,7 +85,7 @@ no_memory : (a : Action) → usage.Usage ≡ memory_fault a → ⊥
 no_memory (Check rollover) e = cc
 no_memory (Extract rollover) e = cc
 no_memory (Normal rollover) e = cc
-no_memory Show e = cc
+no_memory (Show rollover) e = cc
 no_memory (Count rollover) e = cc
 
 one_fault : (r : Result Action UsageFault) (f g : UsageFault) → r ≡ Err f → r ≡ Err g → f ≡ g

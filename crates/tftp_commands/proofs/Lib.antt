@@ -13,4 +13,9 @@ pub mod Normalising
 pub mod OneOutput
 pub mod OneShown
 pub mod OneRun
+pub mod HighestRead
+pub mod Between
+pub mod NumbersKept
+pub mod ShownBlocks
+pub mod PastTheRound
 mod WordsNamed

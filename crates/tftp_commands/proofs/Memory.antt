@@ -1,5 +1,5 @@
 -- Of what being out of memory may be said: before any byte was read, or for a datagram.
-use Rattle.std.proofs.Common.{◌≡◌, ◌≤◌, ◌⊎◌, lit≤, ℕ, List, [], ◌∷◌, ◌++◌, All, length, codes, Bool, false, true≢false, Option, None, Some, Ok, Err, Result, refl, sym, ◌∙◌, subst, inl, inr}
+use Rattle.std.proofs.Common.{◌≡◌, ◌≤◌, ◌⊎◌, lit≤, ℕ, List, [], ◌∷◌, ◌++◌, All, length, codes, Bool, false, true≢false, Option, Some, Ok, Err, Result, refl, sym, ◌∙◌, subst, inl, inr}
 use Rattle.std.specs.Fmt.{digits}
 use Rattle.std.specs.List.{AllByRecursion}
 use Rattle.std.proofs.lemmas.List.Elements.{All-cons, All-nil}
@@ -40,10 +40,12 @@ module _ (source : Source) (unread : IsUnread source) (clean : source.failed ≡
   memory_said (Check rollover) cut told = record { said = Err (Capture (Memory 1)); judged = memory_judged rollover; is = refl }
   memory_said (Extract rollover) cut told = absurd (cc)
   memory_said (Normal rollover) cut told = absurd (cc)
-  memory_said Show cut told = record {
+  memory_said (Show rollover) cut told = record {
+    header = worked_header;
     datagrams = [];
     ending = Faulty (Memory 1);
     lines = [];
+    first = inl refl;
     are = refl;
     ends = (inl refl, clean, ([], unread, first_wanted));
     is = refl;
@@ -55,7 +57,7 @@ module _ (source : Source) (unread : IsUnread source) (clean : source.failed ≡
   silent_said (Check rollover) cut told = absurd (cc)
   silent_said (Extract rollover) cut told = record { said = Err (Capture (Memory 1)); judged = memory_judged rollover; is = refl }
   silent_said (Normal rollover) cut told = inl (record { said = Err (Capture (Memory 1)); judged = memory_judged rollover; is = refl })
-  silent_said Show cut told = absurd (cc)
+  silent_said (Show rollover) cut told = absurd (cc)
   silent_said (Count rollover) cut told = absurd (cc)
 
   -- each of them
@@ -63,7 +65,7 @@ module _ (source : Source) (unread : IsUnread source) (clean : source.failed ≡
   memory_first (Check rollover) cut = (record { bytes = memory_line; status = status.Fault }, refl, memory_said (Check rollover) cut refl)
   memory_first (Extract rollover) cut = (record { bytes = []; status = status.Fault }, refl, silent_said (Extract rollover) cut refl)
   memory_first (Normal rollover) cut = (record { bytes = []; status = status.Fault }, refl, silent_said (Normal rollover) cut refl)
-  memory_first Show cut = (record { bytes = memory_line; status = status.Fault }, ([], refl), memory_said Show cut refl)
+  memory_first (Show rollover) cut = (record { bytes = memory_line; status = status.Fault }, ([], refl), memory_said (Show rollover) cut refl)
   memory_first (Count rollover) cut = (record { bytes = memory_line; status = status.Fault }, refl, memory_said (Count rollover) cut refl)
 
 -- ---- once bytes were read
@@ -178,11 +180,13 @@ next_wanted = record {
   wants = inr (record { version = One; header = worked_header; datagram = first_datagram; lines = first_lines; stands = first_stands; at_line = refl });
 }
 
-pub none_shown : IsShown (so_far first_text (Some (line (codes "total 1"))) false) false (record { bytes = memory_line; status = status.Fault })
-none_shown = record {
+pub none_shown : (rollover : Option Rollover) → IsShown rollover (so_far first_text (Some (line (codes "total 1"))) false) false (record { bytes = memory_line; status = status.Fault })
+none_shown rollover = record {
+  header = worked_header;
   datagrams = [];
   ending = Faulty (Memory 4);
   lines = [];
+  first = inl refl;
   are = refl;
   ends = (inl refl, refl, (first_text, refl, next_wanted));
   is = refl;

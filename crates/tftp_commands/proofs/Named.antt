@@ -10,7 +10,7 @@ unfolding clap_on_literals
 takes_named (Check rollover) program = refl
 takes_named (Extract rollover) program = refl
 takes_named (Normal rollover) program = refl
-takes_named Show program = refl
+takes_named (Show rollover) program = refl
 takes_named (Count rollover) program = refl
 
 -- two words, and four

@@ -31,15 +31,15 @@ told (Err (Capture (Text line fault))) = inl (inl tt)
 told (Err (Capture (Read line))) = inl (inr tt)
 told (Err _) = inr (record { check = λ _. refl; extract = λ _. refl; normal = λ _. refl; count = λ _. refl })
 
-abbrev ShownMemory : Ending → Type 0
-ShownMemory ending = (lines : List ℕ) → IsMemoryOutput Show (record { bytes = lines ++ last_line ending; status = status_of ending })
+abbrev ShownMemory : Option Rollover → Ending → Type 0
+ShownMemory rollover ending = (lines : List ℕ) → IsMemoryOutput (Show rollover) (record { bytes = lines ++ last_line ending; status = status_of ending })
 
-ending_told : (ending : Ending) → IsNoMemoryEnding ending ⊎ ShownMemory ending
-ending_told (Faulty (Memory line)) = inr (λ lines. (lines, refl))
-ending_told (Faulty (Text line fault)) = inl tt
-ending_told (Faulty (Read line)) = inl tt
-ending_told Whole = inl tt
-ending_told Cut = inl tt
+ending_told : (rollover : Option Rollover) (ending : Ending) → IsNoMemoryEnding ending ⊎ ShownMemory rollover ending
+ending_told rollover (Faulty (Memory line)) = inr (λ lines. (lines, refl))
+ending_told rollover (Faulty (Text line fault)) = inl tt
+ending_told rollover (Faulty (Read line)) = inl tt
+ending_told rollover Whole = inl tt
+ending_told rollover Cut = inl tt
 
 -- ---- of a command
 
@@ -67,8 +67,8 @@ module _ (one_verdict : OneVerdict) (source : Source) where
   one_of (Extract rollover) one other first second =
       either (Extract rollover) one other (told first.said) (told second.said) (one_extracted one_verdict source rollover one other first second) (λ w. first.is ∙ w.extract rollover) (λ w. second.is ∙ w.extract rollover)
   one_of (Normal rollover) one other first second = one_normal rollover one other first second
-  one_of Show one other first second =
-      either Show one other (ending_told first.ending) (ending_told second.ending) (one_shown source one other first second)
+  one_of (Show rollover) one other first second =
+      either (Show rollover) one other (ending_told rollover first.ending) (ending_told rollover second.ending) (one_shown rollover source one other first second)
       (λ w. (let m = w first.lines in (m.0, first.is ∙ m.1))) (λ w. (let m = w second.lines in (m.0, second.is ∙ m.1)))
   one_of (Count rollover) one other first second =
       either (Count rollover) one other (told first.said) (told second.said) (one_counted one_verdict source rollover one other first second) (λ w. first.is ∙ w.count rollover) (λ w. second.is ∙ w.count rollover)
@@ -122,22 +122,24 @@ abbrev by_each : (Option Rollover → Action) → List Action → List Action
 by_each command rest = command None ∷ command (Some Zero) ∷ command (Some One) ∷ rest
 
 abbrev all_actions : List Action
-all_actions = Show ∷ by_each Check (by_each Extract (by_each Normal (by_each Count [])))
+all_actions = by_each Check (by_each Extract (by_each Normal (by_each Show (by_each Count []))))
 
 none_named : (words : List (List ℕ)) → AllByRecursion (λ action. words ≡ words_of action → ⊥) all_actions → (action : Action) → words ≡ words_of action → ⊥
-none_named words none Show is = none.0 is
-none_named words none (Check None) is = none.1.0 is
-none_named words none (Check (Some Zero)) is = none.1.1.0 is
-none_named words none (Check (Some One)) is = none.1.1.1.0 is
-none_named words none (Extract None) is = none.1.1.1.1.0 is
-none_named words none (Extract (Some Zero)) is = none.1.1.1.1.1.0 is
-none_named words none (Extract (Some One)) is = none.1.1.1.1.1.1.0 is
-none_named words none (Normal None) is = none.1.1.1.1.1.1.1.0 is
-none_named words none (Normal (Some Zero)) is = none.1.1.1.1.1.1.1.1.0 is
-none_named words none (Normal (Some One)) is = none.1.1.1.1.1.1.1.1.1.0 is
-none_named words none (Count None) is = none.1.1.1.1.1.1.1.1.1.1.0 is
-none_named words none (Count (Some Zero)) is = none.1.1.1.1.1.1.1.1.1.1.1.0 is
-none_named words none (Count (Some One)) is = none.1.1.1.1.1.1.1.1.1.1.1.1.0 is
+none_named words none (Check None) is = none.0 is
+none_named words none (Check (Some Zero)) is = none.1.0 is
+none_named words none (Check (Some One)) is = none.1.1.0 is
+none_named words none (Extract None) is = none.1.1.1.0 is
+none_named words none (Extract (Some Zero)) is = none.1.1.1.1.0 is
+none_named words none (Extract (Some One)) is = none.1.1.1.1.1.0 is
+none_named words none (Normal None) is = none.1.1.1.1.1.1.0 is
+none_named words none (Normal (Some Zero)) is = none.1.1.1.1.1.1.1.0 is
+none_named words none (Normal (Some One)) is = none.1.1.1.1.1.1.1.1.0 is
+none_named words none (Show None) is = none.1.1.1.1.1.1.1.1.1.0 is
+none_named words none (Show (Some Zero)) is = none.1.1.1.1.1.1.1.1.1.1.0 is
+none_named words none (Show (Some One)) is = none.1.1.1.1.1.1.1.1.1.1.1.0 is
+none_named words none (Count None) is = none.1.1.1.1.1.1.1.1.1.1.1.1.0 is
+none_named words none (Count (Some Zero)) is = none.1.1.1.1.1.1.1.1.1.1.1.1.1.0 is
+none_named words none (Count (Some One)) is = none.1.1.1.1.1.1.1.1.1.1.1.1.1.1.0 is
 
 decided : (words : List (List ℕ)) → Decided words
 decided [] = inr (λ action is. cc)

@@ -1,5 +1,6 @@
 -- What is shown is one, where memory was not wanting and no write failed.
-use Rattle.std.proofs.Common.{◌≡◌, ◌⊎◌, inl, inr, ℕ, ◌+◌, List, [], ◌∷◌, ◌++◌, codes, decimal, true, false, true≢false, refl, sym, ap, ◌∙◌, subst}
+use Rattle.std.proofs.Common.{◌≡◌, ◌⊎◌, inl, inr, ℕ, ◌+◌, List, [], ◌∷◌, ◌++◌, length, Option, None, Some, codes, decimal, true, false, true≢false, refl, sym, ap, ◌∙◌, subst}
+use Rattle.tftp_packet.specs.{Rollover}
 use Rattle.tftp_packet.proofs.FaultOrder.{first_fault_unique}
 use Rattle.tftp_packet.proofs.NoFault.{no_fault}
 use Rattle.tftp_capture.specs.CaptureText.{Datagram, Header}
@@ -7,29 +8,53 @@ use Rattle.tftp_capture.specs.{Begins, BeginsWith, Due, HasFault, IsCapture, Num
 use Rattle.tftp_capture.specs.CaptureText.Due.{Head, EndLine, ServiceLine, Body, Nothing}
 use Rattle.tftp_capture.specs.CaptureText.Reading.{Capture, Fault}
 use Rattle.tftp_capture.specs.declared.fault.CaptureFault.TheVariants.{Text, Read, Memory}
-use Rattle.tftp_capture.proofs.Beginnings.{begins_more, capture_has, fault_after, unfinished_has}
+use Rattle.tftp_capture.proofs.Beginnings.{agree, begins_more, capture_has, fault_after, unfinished_has}
 use Rattle.tftp_capture.proofs.Readings.{reads_same}
+use Rattle.tftp_judge.specs.{header_by}
 use Rattle.tftp_judge.proofs.FirstFaults.{begins_longer}
+use Rattle.law_model.specs.Rules.{IsHigh, transfer_of}
 use Rattle.law_end.proofs.Spelled.{spelled_once}
-use Rattle.tftp_commands.specs.{packet_fault_name, IsLeft, IsNoMemoryEnding, IsUnread, Output, AsGiven, AreLines, AsRead, Cut, Ending, EndsBy, Extent, Faulty, HasRead, IsDatagramLine, IsPayloadText, IsShown, WantsToShow, Whole, last_line, message_text, status_of, Source}
+use Rattle.law_rollover.proofs.OneWay.{in_one_way}
+use Rattle.law_rollover.proofs.Shown.{one_greatest}
+use Rattle.tftp_commands.specs.{packet_fault_name, IsLeft, IsNoMemoryEnding, IsUnread, Output, AsGiven, AreFirstOf, AreLines, AsRead, Cut, Ending, EndsBy, Extent, Faulty, HasRead, IsDatagramLine, IsHighFor, IsPayloadText, IsShown, WantsToShow, Whole, beside, last_line, message_text, since_request, status_of, Source}
 use Rattle.tftp_commands.proofs.OneOutput.{last_line_is}
 
 -- ---- the lines of datagrams
 
-one_text : (payload one other : List ℕ) → IsPayloadText payload one → IsPayloadText payload other → one ≡ other
-one_text payload one other (inl (m, spells, is)) (inl (n, also, too)) = is ∙ ap message_text (spelled_once payload m n spells also) ∙ sym too
-one_text payload one other (inl (m, spells, is)) (inr (f, first, too)) = absurd (no_fault payload m f spells.1 first.0)
-one_text payload one other (inr (f, first, is)) (inl (m, spells, too)) = absurd (no_fault payload m f spells.1 first.0)
-one_text payload one other (inr (f, first, is)) (inr (g, also, too)) = is ∙ ap (λ x. codes "malformed " ++ packet_fault_name x) (first_fault_unique payload f g first also) ∙ sym too
+module _ (rollover : Option Rollover) (high : ℕ) where
+  one_text : (payload one other : List ℕ) → IsPayloadText rollover high payload one → IsPayloadText rollover high payload other → one ≡ other
+  one_text payload one other (inl (m, spells, is)) (inl (n, also, too)) = is ∙ ap (λ x. message_text x ++ beside rollover high x) (spelled_once payload m n spells also) ∙ sym too
+  one_text payload one other (inl (m, spells, is)) (inr (f, first, too)) = absurd (no_fault payload m f spells.1 first.0)
+  one_text payload one other (inr (f, first, is)) (inl (m, spells, too)) = absurd (no_fault payload m f spells.1 first.0)
+  one_text payload one other (inr (f, first, is)) (inr (g, also, too)) = is ∙ ap (λ x. codes "malformed " ++ packet_fault_name x) (first_fault_unique payload f g first also) ∙ sym too
 
-one_line : (number : ℕ) (d : Datagram) (one other : List ℕ) → IsDatagramLine number d one → IsDatagramLine number d other → one ≡ other
-one_line number d one other (text, says, is) (words, also, too) =
-    is ∙ ap (λ t. decimal number ++ codes " " ++ dir_word d.dir ++ codes " " ++ t ++ codes "\n") (one_text d.payload text words says also) ∙ sym too
+  one_line : (number : ℕ) (d : Datagram) (one other : List ℕ) → IsDatagramLine rollover high number d one → IsDatagramLine rollover high number d other → one ≡ other
+  one_line number d one other (text, says, is) (words, also, too) =
+      is ∙ ap (λ t. decimal number ++ codes " " ++ dir_word d.dir ++ codes " " ++ t ++ codes "\n") (one_text d.payload text words says also) ∙ sym too
 
-one_lines : (number : ℕ) (ds : List Numbered) (one other : List ℕ) → AreLines number ds one → AreLines number ds other → one ≡ other
-one_lines number [] one other is too = is ∙ sym too
-one_lines number (d ∷ ds) one other (line, more, says, are, is) (row, rest, also, all, too) =
-    is ∙ ap (λ l. l ++ more) (one_line number d.1 line row says also) ∙ ap (λ l. row ++ l) (one_lines (number + 1) ds more rest are all) ∙ sym too
+-- numbers are read by one highest block
+pub one_high : (rollover : Option Rollover) (h : Header) (earlier : List Datagram) (one other : ℕ) → IsHighFor rollover h earlier one → IsHighFor rollover h earlier other → one ≡ other
+one_high None h earlier one other is too = is ∙ sym too
+one_high (Some r) h earlier one other (unrolled, are, is) (again, also, too) =
+    let header = header_by (Some r) h in
+    one_greatest _ one other is (subst (λ (us : List Datagram). IsHigh (transfer_of header us) other) (in_one_way r header (since_request header earlier) again unrolled also are) too)
+
+one_lines : (rollover : Option Rollover) (h : Header) (earlier : List Datagram) (ds : List Numbered) (one other : List ℕ) → AreLines rollover h earlier ds one → AreLines rollover h earlier ds other → one ≡ other
+one_lines rollover h earlier [] one other is too = is ∙ sym too
+one_lines rollover h earlier (d ∷ ds) one other (high, top, line, more, says, are, is) (highest, at, row, rest, also, all, too) =
+    let number = length earlier + 1 in
+    let same = one_high rollover h earlier highest high at top in
+    let also_says : IsDatagramLine rollover high number d.1 row = subst (λ k. IsDatagramLine rollover k number d.1 row) same also in
+    is ∙ ap (λ l. l ++ more) (one_line rollover high number d.1 line row says also_says) ∙ ap (λ l. row ++ l) (one_lines rollover h (d.1 ∷ earlier) ds more rest are all) ∙ sym too
+
+-- the header of the datagrams that are shown is one
+same_lines : (rollover : Option Rollover) (text : List ℕ) (h k : Header) (ds : List Numbered) (one other : List ℕ) → AreFirstOf text h ds → AreFirstOf text k ds → AreLines rollover h [] ds one → AreLines rollover k [] ds other → one ≡ other
+same_lines rollover text h k [] one other first second is too = is ∙ sym too
+same_lines rollover text h k (d ∷ ds) one other (inl none) second is too = absurd (cc)
+same_lines rollover text h k (d ∷ ds) one other (inr begins) (inl none) is too = absurd (cc)
+same_lines rollover text h k (d ∷ ds) one other (inr begins) (inr also) is too =
+    let same : h ≡ k = (agree text h k (d ∷ ds) (d ∷ ds) begins also).0 in
+    one_lines rollover k [] (d ∷ ds) one other (subst (λ x. AreLines rollover x [] (d ∷ ds) one) same is) too
 
 -- ---- where a text ends whose reading failed
 
@@ -92,10 +117,12 @@ one_end source ds es _ _ (unread l due ends failed) (unread m also stops broken)
 abbrev shown : List ℕ → Ending → Output
 shown lines ending = record { bytes = lines ++ last_line ending; status = status_of ending }
 
-pub one_shown : (source : Source) (one other : Output) (first : IsShown source false one) (second : IsShown source false other) → IsNoMemoryEnding first.ending → IsNoMemoryEnding second.ending → one ≡ other
-one_shown source one other first second fine well =
+pub one_shown : (rollover : Option Rollover) (source : Source) (one other : Output) (first : IsShown rollover source false one) (second : IsShown rollover source false other) → IsNoMemoryEnding first.ending → IsNoMemoryEnding second.ending → one ≡ other
+one_shown rollover source one other first second fine well =
     let same = one_end source first.datagrams second.datagrams first.ending second.ending (ends_is source first.datagrams first.ending fine first.ends) (ends_is source second.datagrams second.ending well second.ends) in
-    let lines : first.lines ≡ second.lines = one_lines 1 second.datagrams first.lines second.lines (subst (λ (x : List Numbered). AreLines 1 x first.lines) same.0 first.are) second.are in
+    let begins : AreFirstOf source.read first.header second.datagrams = subst (λ (x : List Numbered). AreFirstOf source.read first.header x) same.0 first.first in
+    let are : AreLines rollover first.header [] second.datagrams first.lines = subst (λ (x : List Numbered). AreLines rollover first.header [] x first.lines) same.0 first.are in
+    let lines : first.lines ≡ second.lines = same_lines rollover source.read first.header second.header second.datagrams first.lines second.lines begins second.first are second.are in
     first.is ∙ ap (λ (l : List ℕ). shown l first.ending) lines ∙ ap (shown second.lines) same.1 ∙ sym second.is
 
 -- ---- what is left where memory was wanting
@@ -129,9 +156,9 @@ memory_ends source ds line e is ends =
     let wants : EndsBy (Faulty (Memory line)) source false ds = subst (λ x. EndsBy x source false ds) is ends in
     want_is source.extent source.read wants.2.0 ds line wants.2.1 wants.2.2
 
-pub left_unshown : (source : Source) (one other : Output) (first : IsShown source false one) (second : IsShown source false other) (line : ℕ) → first.ending ≡ Faulty (Memory line) → IsNoMemoryEnding second.ending
+pub left_unshown : (rollover : Option Rollover) (source : Source) (one other : Output) (first : IsShown rollover source false one) (second : IsShown rollover source false other) (line : ℕ) → first.ending ≡ Faulty (Memory line) → IsNoMemoryEnding second.ending
     → IsUnread source ⊎ IsLeft first.datagrams line second.datagrams
-left_unshown source one other first second line is fine = elim (memory_ends source first.datagrams line first.ending is first.ends) as (λ _. IsUnread source ⊎ IsLeft first.datagrams line second.datagrams) [
+left_unshown rollover source one other first second line is fine = elim (memory_ends source first.datagrams line first.ending is first.ends) as (λ _. IsUnread source ⊎ IsLeft first.datagrams line second.datagrams) [
   | inl none ↦ inl none
   | inr next ↦ inr (next.1, has_all source second.datagrams (first.datagrams ++ (line, next.1) ∷ []) second.ending next.0 (ends_is source second.datagrams second.ending fine second.ends) next.2)
 ]

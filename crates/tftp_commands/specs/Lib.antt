@@ -3,7 +3,10 @@ pub mod Names
 pub mod Outputs
 pub mod Sources
 pub mod Running
+pub mod Beside
+pub mod KeptNumbers
 pub mod Shown
+pub mod WorkedBeside
 pub mod Judged
 pub mod Checked
 pub mod Extracted
@@ -15,7 +18,10 @@ pub use Words.{IsCommand, IsNoCommand, audit_app, digit_of, memory_fault, name_o
 pub use Names.{by_name, packet_fault_name, text_fault_name}
 pub use Outputs.{IsWritten, Output, Prints, fault_line, memory_line, usage_line}
 pub use Sources.{AsGiven, AsRead, Extent, HasRead, Source, given, so_far}
-pub use Shown.{AreFirst, AreLines, AreTaken, Cut, Ending, EndsBy, Faulty, IsDatagramLine, IsPayloadText, IsShown, StopsAfter, WantsAfter, WantsToShow, Whole, last_line, message_text, status_of}
+pub use Beside.{IsHighBy, IsHighFor, beside, block_text, other_block, since_request}
+pub use KeptNumbers.{IsKept, IsKeptBy, answers, begun_by, first_answer, header_in, is_between, read_as, sides_of}
+pub use Shown.{AreFirst, AreFirstOf, AreLines, AreTaken, Cut, Ending, EndsBy, Faulty, IsDatagramLine, IsPayloadText, IsShown, StopsAfter, WantsAfter, WantsToShow, Whole, last_line, message_text, status_of}
+pub use WorkedBeside.{one_byte, past_the_round, shown_by_number, shown_by_one, shown_by_zero}
 pub use Judged.{IsJudged, IsSaid, IsToldBy}
 pub use Running.{Runs}
 pub use Checked.{IsChecked, checked, detail, refusal_line, verdict_status}

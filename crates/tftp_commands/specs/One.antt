@@ -57,7 +57,7 @@ abbrev pub IsMemoryOutput : Action → Output → Type 0
 IsMemoryOutput (Check rollover) output = output ≡ record { bytes = memory_line; status = status.Fault }
 IsMemoryOutput (Extract rollover) output = output ≡ record { bytes = []; status = status.Fault }
 IsMemoryOutput (Normal rollover) output = output ≡ record { bytes = []; status = status.Fault }
-IsMemoryOutput Show output = (lines : List ℕ) × (output ≡ record { bytes = lines ++ memory_line; status = status.Fault })
+IsMemoryOutput (Show rollover) output = (lines : List ℕ) × (output ≡ record { bytes = lines ++ memory_line; status = status.Fault })
 IsMemoryOutput (Count rollover) output = output ≡ record { bytes = memory_line; status = status.Fault }
 
 -- the same of the command that the words name

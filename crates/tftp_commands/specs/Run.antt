@@ -17,7 +17,7 @@ abbrev pub IsOutputOf : Action → Source → Bool → Output → Type 0
 IsOutputOf (Check rollover) source cut output = IsChecked rollover source output
 IsOutputOf (Extract rollover) source cut output = IsExtracted rollover source output
 IsOutputOf (Normal rollover) source cut output = IsNormalised rollover source output ⊎ IsUnwritten rollover source output
-IsOutputOf Show source cut output = IsShown source cut output
+IsOutputOf (Show rollover) source cut output = IsShown rollover source cut output
 IsOutputOf (Count rollover) source cut output = IsCounted rollover source output
 
 -- that the words are no command

@@ -1,7 +1,7 @@
 -- What `show` prints of a capture text: a line for each datagram, and the text's fault, if it has one.
 use Rattle.std.specs.Prelude.{◌≡◌, ◌⊎◌, ℕ, ◌+◌, List, [], ◌∷◌, ◌++◌, length, Bool, true, false, Option, Some, None, codes, decimal}
 use Rattle.std.specs.Io.KnownBytes.{IsAtEnd}
-use Rattle.tftp_packet.specs.{Message, Request, Data, Ack, Error, Oack, Spells, FirstFault, PacketFault}
+use Rattle.tftp_packet.specs.{Message, Request, Data, Ack, Error, Oack, Spells, FirstFault, PacketFault, Rollover}
 use Rattle.tftp_capture.specs.CaptureText.{Header, Datagram}
 use Rattle.tftp_capture.specs.CaptureText.Due.{Body}
 use Rattle.tftp_capture.specs.{Numbered, Due, Stands, Version, dir_word, IsCapture, HasFault, SaysOneMore, Unfinished, Begins, IsAtTextEnd, CaptureFault}
@@ -9,6 +9,7 @@ use Rattle.tftp_capture.specs.declared.fault.CaptureFault.TheVariants.{Text, Rea
 use Rattle.tftp_judge.specs.TextVerdict.{IsReadTo}
 use Rattle.tftp_commands.specs.declared.status.Status.{Status}
 use Rattle.tftp_commands.specs.declared.status.Status.TheVariants as status
+use Rattle.tftp_commands.specs.Beside.{IsHighFor, beside}
 use Rattle.tftp_commands.specs.Names.{request_name, packet_fault_name}
 use Rattle.tftp_commands.specs.Outputs.{Output, fault_line}
 use Rattle.tftp_commands.specs.Sources.{HasRead, Source}
@@ -23,27 +24,34 @@ message_text (Ack block) = codes "ACK " ++ decimal block
 message_text (Error code message) = codes "ERROR " ++ decimal code
 message_text (Oack options) = codes "OACK"
 
--- what is said of a payload: by the message that it spells, or by its first fault
-abbrev pub IsPayloadText : List ℕ → List ℕ → Type 0
-IsPayloadText payload text =
-    ((message : Message) × Spells payload message × (text ≡ message_text message))
+-- What is said of a payload where this is the highest block: by the message that it spells, with its block beside the number,
+-- or by its first fault.
+abbrev pub IsPayloadText : Option Rollover → (high : ℕ) → List ℕ → List ℕ → Type 0
+IsPayloadText rollover high payload text =
+    ((message : Message) × Spells payload message × (text ≡ message_text message ++ beside rollover high message))
     ⊎ ((fault : PacketFault) × FirstFault payload fault × (text ≡ codes "malformed " ++ packet_fault_name fault))
 
 -- the line of the datagram with this number
-abbrev pub IsDatagramLine : ℕ → Datagram → List ℕ → Type 0
-IsDatagramLine number d line =
-    (text : List ℕ) × IsPayloadText d.payload text × (line ≡ decimal number ++ codes " " ++ dir_word d.dir ++ codes " " ++ text ++ codes "\n")
+abbrev pub IsDatagramLine : Option Rollover → (high number : ℕ) → Datagram → List ℕ → Type 0
+IsDatagramLine rollover high number d line =
+    (text : List ℕ) × IsPayloadText rollover high d.payload text × (line ≡ decimal number ++ codes " " ++ dir_word d.dir ++ codes " " ++ text ++ codes "\n")
 
--- the lines of datagrams, the first of which has this number
-abbrev pub AreLines : ℕ → List Numbered → List ℕ → Type 0
-AreLines number [] bytes = bytes ≡ []
-AreLines number (d ∷ datagrams) bytes = (line more : List ℕ) × IsDatagramLine number d.1 line × AreLines (number + 1) datagrams more × (bytes ≡ line ++ more)
+-- the lines of datagrams that pass after earlier ones, of which the newest comes first; the numbers begin with 1
+abbrev pub AreLines : Option Rollover → Header → (earlier : List Datagram) → List Numbered → List ℕ → Type 0
+AreLines rollover header earlier [] bytes = bytes ≡ []
+AreLines rollover header earlier (d ∷ datagrams) bytes =
+    (high : ℕ) × IsHighFor rollover header earlier high
+    × (line more : List ℕ) × IsDatagramLine rollover high (length earlier + 1) d.1 line × AreLines rollover header (d.1 ∷ earlier) datagrams more × (bytes ≡ line ++ more)
 
 -- ---- where the showing ends
 
 -- the datagrams are the first of the text, or none
 abbrev pub AreFirst : List ℕ → List Numbered → Type 0
 AreFirst text datagrams = (datagrams ≡ []) ⊎ ((header : Header) × Begins text header datagrams)
+
+-- and this is its header
+abbrev pub AreFirstOf : List ℕ → Header → List Numbered → Type 0
+AreFirstOf text header datagrams = (datagrams ≡ []) ⊎ Begins text header datagrams
 
 -- What was read is whole lines that say these datagrams and no more, and what a reader has read ahead of them.
 pub record AreTaken (read : List ℕ) (datagrams : List Numbered) : Type 0 where
@@ -102,10 +110,12 @@ status_of (Faulty fault) = status.Fault
 status_of Cut = status.Fault
 
 -- the output is the lines of the datagrams, numbered from 1, and the fault's
-pub record IsShown (source : Source) (cut : Bool) (output : Output) : Type 0 where
+pub record IsShown (rollover : Option Rollover) (source : Source) (cut : Bool) (output : Output) : Type 0 where
+  pub header : Header
   pub datagrams : List Numbered
   pub ending : Ending
   pub lines : List ℕ
-  pub are : AreLines 1 datagrams lines
+  pub first : AreFirstOf source.read header datagrams
+  pub are : AreLines rollover header [] datagrams lines
   pub ends : EndsBy ending source cut datagrams
   pub is : output ≡ record { bytes = lines ++ last_line ending; status = status_of ending }

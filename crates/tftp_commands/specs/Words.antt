@@ -12,15 +12,15 @@ abbrev pub name_of : Action → List ℕ
 name_of (Check rollover) = codes "check"
 name_of (Extract rollover) = codes "extract"
 name_of (Normal rollover) = codes "normal"
-name_of Show = codes "show"
+name_of (Show rollover) = codes "show"
 name_of (Count rollover) = codes "count"
 
--- what comes after block 65535 is said to those that judge a text
+-- what comes after block 65535
 abbrev pub rollover_of : Action → Option Rollover
 rollover_of (Check rollover) = rollover
 rollover_of (Extract rollover) = rollover
 rollover_of (Normal rollover) = rollover
-rollover_of Show = None
+rollover_of (Show rollover) = rollover
 rollover_of (Count rollover) = rollover
 
 -- the number that comes after 65535
@@ -44,7 +44,7 @@ abbrev pub memory_fault : Action → UsageFault
 memory_fault (Check rollover) = usage.Memory
 memory_fault (Extract rollover) = usage.Silent
 memory_fault (Normal rollover) = usage.Silent
-memory_fault Show = usage.Memory
+memory_fault (Show rollover) = usage.Memory
 memory_fault (Count rollover) = usage.Memory
 
 -- a command line with one command more

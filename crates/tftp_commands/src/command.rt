@@ -17,8 +17,8 @@ use tftp_normal::{NormalFault, normalise};
 
 /// Runs a command. `check` says in one line what a capture text means, and `count` how many datagrams its normal capture has;
 /// both say why a text is not accepted. `extract` writes its file (RFC 1350, section 1), and `normal` its normal text, and
-/// nothing beside it: of a text that is not accepted, or where memory runs out, nothing; and an empty file makes no write. All
-/// four go by what comes after block 65535. `show` judges nothing.
+/// nothing beside it: of a text that is not accepted, or where memory runs out, nothing; and an empty file makes no write.
+/// `show` judges nothing. All go by what comes after block 65535.
 pub fn run_command<R: Read, W: Write>(
     alloc: Global,
     action: Action,
@@ -49,6 +49,6 @@ pub fn run_command<R: Read, W: Write>(
             Err(NormalFault::Write) => Status::Fault,
             Err(NormalFault::Memory) => Status::Fault,
         },
-        Action::Show => show(alloc, reader, writer),
+        Action::Show(rollover) => show(alloc, rollover, reader, writer),
     }
 }

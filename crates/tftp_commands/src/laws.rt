@@ -2,12 +2,17 @@
 //! below. The source may be a text that was given whole, and then the output is the text's. And for what memory may be
 //! wanted: what was read has the datagram, unless nothing was read.
 
-ghost use Rattle.std.specs.Prelude.{◌≡◌, ◌⊎◌, ℕ, List, [], ◌∷◌, Bool, codes, Option, Some, Result, false};
+ghost use Rattle.std.specs.Prelude.{◌≡◌, ◌≤◌, ◌+◌, ◌⊎◌, ℕ, List, [], ◌∷◌, Bool, codes, Option, None, Some, Result, false};
 ghost use Rattle.tftp_packet.specs.{Rollover};
-ghost use Rattle.tftp_capture.specs.{line};
+ghost use Rattle.tftp_packet.specs.Rounds.{half_round};
+ghost use Rattle.tftp_packet.specs.Hosts.{Datagram, Header};
+ghost use Rattle.tftp_capture.specs.{line, worked_header};
 ghost use Rattle.tftp_capture.specs.declared.fault.CaptureFault.TheVariants.{Memory};
 ghost use Rattle.law_model.specs.Model.{Meaning};
-ghost use Rattle.tftp_judge.specs.{Verdict};
+ghost use Rattle.law_model.specs.Rules.{IsHigh, transfer_of};
+ghost use Rattle.law_end.specs.{OneEnded};
+ghost use Rattle.law_rollover.specs.{AreUnrolled};
+ghost use Rattle.tftp_judge.specs.{Verdict, header_by};
 ghost use Rattle.tftp_commands.specs.Checked.{IsChecked};
 ghost use Rattle.tftp_commands.specs.Counted.{IsCounted};
 ghost use Rattle.tftp_commands.specs.Extracted.{IsExtracted};
@@ -15,7 +20,9 @@ ghost use Rattle.tftp_commands.specs.Normalised.{IsNormalised};
 ghost use Rattle.tftp_commands.specs.One.{HasDatagram, IsLeft, IsMemoryOutput, IsNoMemoryEnding, IsUnread, SaysNoMemory, TellsOfMemory, empty_text, first_datagram, first_text};
 ghost use Rattle.tftp_commands.specs.Outputs.{IsWritten, Output, memory_line};
 ghost use Rattle.tftp_commands.specs.Run.{IsOutput, IsOutputOf};
-ghost use Rattle.tftp_commands.specs.Shown.{AreTaken, Faulty, IsShown, WantsToShow};
+ghost use Rattle.tftp_commands.specs.Beside.{IsHighFor, other_block};
+ghost use Rattle.tftp_commands.specs.WorkedBeside.{past_the_round, shown_by_number, shown_by_one, shown_by_zero};
+ghost use Rattle.tftp_commands.specs.Shown.{AreLines, AreTaken, Faulty, IsShown, WantsToShow};
 ghost use Rattle.tftp_commands.specs.Sources.{Source, so_far};
 ghost use Rattle.tftp_commands.specs.declared.status.Status.{Status};
 ghost use Rattle.tftp_commands.specs.declared.words.Action.{Action};
@@ -59,7 +66,7 @@ pub fn count_has_one_output()
 /// `show` has at most one right output on its source that does not end with being out of memory, where no write failed: each
 /// datagram has one line, and its showing one end.
 pub fn show_has_one_output()
-    ensures { (source : Source) (one other : Output) (first : IsShown source false one) (second : IsShown source false other) → IsNoMemoryEnding first.ending → IsNoMemoryEnding second.ending
+    ensures { (rollover : Option Rollover) (source : Source) (one other : Output) (first : IsShown rollover source false one) (second : IsShown rollover source false other) → IsNoMemoryEnding first.ending → IsNoMemoryEnding second.ending
         → one ≡ other }
 {}
 
@@ -102,13 +109,34 @@ pub fn no_memory_is_wanted_for_an_empty_text()
 /// Memory is wanting for the first datagram of a text, on line 4: `show` says so, and shows nothing. Else it is taken.
 pub fn memory_is_wanted_for_the_first_datagram()
     ensures wanted { WantsToShow first_text [] 4 }
-    ensures shown { IsShown (so_far first_text (Some (line (codes "total 1"))) false) false (record { bytes = memory_line; status = Status.Fault }) }
+    ensures shown { (rollover : Option Rollover) → IsShown rollover (so_far first_text (Some (line (codes "total 1"))) false) false (record { bytes = memory_line; status = Status.Fault }) }
     ensures taken { AreTaken first_text ((4, first_datagram) ∷ []) }
 {}
 
 /// Where `show` ends with being out of memory and no write failed, the next datagram of what was read is left unshown, and
 /// the line is its line: memory is never wanted in place of the text's end or of its fault.
 pub fn memory_is_wanted_for_what_is_left()
-    ensures { (source : Source) (one other : Output) (first : IsShown source false one) (second : IsShown source false other) (line : ℕ) → first.ending ≡ Faulty (Memory line) → IsNoMemoryEnding second.ending
+    ensures { (rollover : Option Rollover) (source : Source) (one other : Output) (first : IsShown rollover source false one) (second : IsShown rollover source false other) (line : ℕ) → first.ending ≡ Faulty (Memory line) → IsNoMemoryEnding second.ending
         → IsUnread source ⊎ IsLeft first.datagrams line second.datagrams }
+{}
+
+/// In the first round no block is named beside a number, unless it is more than half a round older than the highest one.
+#[tactic(auto, using(crate::proofs::ShownBlocks::none_beside))]
+pub fn no_block_is_named_in_the_first_round()
+    ensures { (rollover : Option Rollover) (high number : ℕ) → number ≤ 65535 → high ≤ number + half_round → other_block rollover high number ≡ None }
+{}
+
+/// Of datagrams of which `check` refuses none, `show` reads numbers by the block that `check` reads them by: the highest of the
+/// transfer, each taken for the block near.
+pub fn numbers_are_shown_as_they_are_judged()
+    ensures { (r : Rollover) (header : Header) (earlier taken : List Datagram) (high : ℕ) → AreUnrolled r (header_by (Some r) header) earlier taken
+        → OneEnded (header_by (Some r) header) taken → IsHigh (transfer_of (header_by (Some r) header) taken) high → IsHighFor (Some r) header earlier high }
+{}
+
+/// A receiver takes block 65535, the two blocks after it, and block 65535 once more: what `show` prints by each rollover, and
+/// without one.
+pub fn blocks_past_the_round_are_named()
+    ensures zero { AreLines (Some Rollover.Zero) worked_header [] (past_the_round 0) shown_by_zero }
+    ensures one { AreLines (Some Rollover.One) worked_header [] (past_the_round 1) shown_by_one }
+    ensures none { AreLines None worked_header [] (past_the_round 0) shown_by_number }
 {}

@@ -7,6 +7,7 @@ mod count;
 mod faults;
 pub mod laws;
 mod names;
+mod numbers;
 mod output;
 mod session;
 mod show;

@@ -17,8 +17,8 @@ pub enum Action {
     Extract(Option<Rollover>),
     /// Write the normal text of a capture.
     Normal(Option<Rollover>),
-    /// Say what datagrams a capture has.
-    Show,
+    /// Say what datagrams a capture has, and which blocks.
+    Show(Option<Rollover>),
     /// Say how many datagrams the normal capture of a capture has.
     Count(Option<Rollover>),
 }
@@ -89,7 +89,7 @@ fn action_named(name: &str, rollover: Option<Rollover>) -> Option<Action>
         "extract" => Some(Action::Extract(rollover)),
         "normal" => Some(Action::Normal(rollover)),
         "count" => Some(Action::Count(rollover)),
-        "show" if rollover.is_none() => Some(Action::Show),
+        "show" => Some(Action::Show(rollover)),
         _ => None,
     }
 }
@@ -116,7 +116,7 @@ fn fault_of(action: Action, kind: ErrorKind) -> UsageFault
             Action::Check(_) => UsageFault::Memory,
             Action::Extract(_) => UsageFault::Silent,
             Action::Normal(_) => UsageFault::Silent,
-            Action::Show => UsageFault::Memory,
+            Action::Show(_) => UsageFault::Memory,
             Action::Count(_) => UsageFault::Memory,
         },
         _ => UsageFault::Usage,

@@ -2,6 +2,7 @@
 complete -c tftp-explain -s h -l help -d 'How it is called'
 complete -c tftp-explain -s V -l version -d 'The version'
 complete -c tftp-explain -l service -x -d 'A port to which requests go, beside 69'
+complete -c tftp-explain -l rollover -x -a '0 1' -d 'What comes after block 65535'
 complete -c tftp-explain -l program -r -d 'The program tftp-audit'
 complete -c tftp-explain -l transfers -r -d 'The program tftp-transfers'
 complete -c tftp-explain -l pair -r -d 'The captures of both ends'

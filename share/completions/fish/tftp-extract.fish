@@ -2,6 +2,7 @@
 complete -c tftp-extract -s h -l help -d 'How it is called'
 complete -c tftp-extract -s V -l version -d 'The version'
 complete -c tftp-extract -l service -x -d 'A port to which requests go, beside 69'
+complete -c tftp-extract -l rollover -x -a '0 1' -d 'What comes after block 65535'
 complete -c tftp-extract -l program -r -d 'The program tftp-audit'
 complete -c tftp-extract -l transfers -r -d 'The program tftp-transfers'
 complete -c tftp-extract -l end -x -a 'client server between' -d 'The end of the recordings, or between'

@@ -2,6 +2,7 @@
 complete -c tftp-ladder -s h -l help -d 'How it is called'
 complete -c tftp-ladder -s V -l version -d 'The version'
 complete -c tftp-ladder -l service -x -d 'A port to which requests go, beside 69'
+complete -c tftp-ladder -l rollover -x -a '0 1' -d 'What comes after block 65535'
 complete -c tftp-ladder -l program -r -d 'The program tftp-audit'
 complete -c tftp-ladder -l transfers -r -d 'The program tftp-transfers'
 complete -c tftp-ladder -l pair -r -d 'The captures of both ends'

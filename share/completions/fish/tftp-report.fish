@@ -2,6 +2,7 @@
 complete -c tftp-report -s h -l help -d 'How it is called'
 complete -c tftp-report -s V -l version -d 'The version'
 complete -c tftp-report -l service -x -d 'A port to which requests go, beside 69'
+complete -c tftp-report -l rollover -x -a '0 1' -d 'What comes after block 65535'
 complete -c tftp-report -l program -r -d 'The program tftp-audit'
 complete -c tftp-report -l transfers -r -d 'The program tftp-transfers'
 complete -c tftp-report -l end -x -a 'client server between' -d 'At which end it was recorded, or between'

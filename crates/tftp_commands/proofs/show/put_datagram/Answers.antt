@@ -2,13 +2,13 @@ use Rattle.std.proofs.Common.{◌++◌, codes, decimal, inl, inr, refl, ap, ◌�
 use Rattle.tftp_packet.specs.{meaning}
 use Rattle.net_streams.proofs.StreamsLemmas.Gathering.{adds_err, line_added, stops_short}
 use Rattle.tftp_capture.specs.{dir_word}
-use Rattle.tftp_commands.specs.{message_text}
+use Rattle.tftp_commands.specs.{beside, message_text}
 use Rattle.tftp_commands.proofs.Lines.{line_pieces, payload_said}
 use Rattle.tftp_commands.proofs.show.put_datagram.Goals as goal
 
 pub returns-in_err-add_all : goal.returns-in_err-add_all
 returns-in_err-add_all g c =
-    let said = payload_said c.args.datagram.now.payload c.read_packet-packet.result (rw c.as_slice.ensures at c.read_packet-packet.ensures.found) (rw c.as_slice.ensures at c.read_packet-packet.ensures.fault) in
+    let said = payload_said c.args.numbers.now.rollover c.args.numbers.now.highest c.args.datagram.now.payload c.read_packet-packet.result (rw c.as_slice.ensures at c.read_packet-packet.ensures.found) (rw c.as_slice.ensures at c.read_packet-packet.ensures.fault) in
     let are = line_pieces c.args.number c.args.datagram.now.dir c.as_bytes.result.now c.dir_name.result.now said.0 (c.as_bytes.ensures.value ∙ c.format.ensures.text) c.dir_name.ensures in
     record {
       adds = (
@@ -20,7 +20,7 @@ returns-in_err-add_all g c =
 
 pub returns-in-Ok : goal.returns-in-Ok
 returns-in-Ok g c =
-    let text = message_text (meaning c.in-Ok.packet) in
+    let text = message_text (meaning c.in-Ok.packet) ++ beside c.args.numbers.now.rollover c.args.numbers.now.highest (meaning c.in-Ok.packet) in
     let are = line_pieces c.args.number c.args.datagram.now.dir c.as_bytes.result.now c.dir_name.result.now text (c.as_bytes.ensures.value ∙ c.format.ensures.text) c.dir_name.ensures in
     let found = rw c.as_slice.ensures at c.in-Ok.ensures.found in
     record {

@@ -1,4 +1,4 @@
-use Rattle.std.proofs.Common.{◌≡◌, ◌≤◌, ◌+◌, ◌-◌, ◌^◌, false}
+use Rattle.std.proofs.Common.{◌≡◌, ◌≤◌, ◌+◌, ◌*◌, ◌-◌, ◌^◌, false}
 use Rattle.net_streams.specs.{Open}
 use Rattle.tftp_commands.proofs.Showing.{Showing}
 use Rattle.tftp_commands.proofs.show.show.Given as goal
@@ -9,7 +9,9 @@ invariant-loop-writer g l = record {
   reading : l.reader.1 ≡ false;
   writing : l.writer.failed ≡ false;
   few : l.number + 3 ≤ l.capture.handed;
-  shown : Showing (g.R.Read.remaining l.fn.reader.0) (g.R.Read.remaining l.reader.0) l.capture (g.W.Write.contents l.fn.writer.inner) (g.W.Write.contents l.writer.inner) l.writer.waits l.number;
+  by : l.numbers.rollover ≡ l.fn.rollover;
+  low : l.numbers.highest ≤ 2 ^ 17 * l.number;
+  shown : Showing l.fn.rollover l.numbers (g.R.Read.remaining l.fn.reader.0) (g.R.Read.remaining l.reader.0) l.capture (g.W.Write.contents l.fn.writer.inner) (g.W.Write.contents l.writer.inner) l.writer.waits l.number;
 }
 
 abbrev pub decreases-loop-writer : goal.decreases-loop-writer
