@@ -13,10 +13,11 @@ from collections.abc import Sequence
 import made
 from captures import ack
 from checks import Checks
-from programs import TRANSFERS
+from programs import AUDIT, TRANSFERS
 from recorded import Datagram
 from refusals import Rule, refusal
 from repository import TOP
+from test_rollover import COUNT, FILE, ROUND, recorded
 
 PLUGIN, EXAMPLES = TOP / "share" / "wireshark" / "tftp-audit.lua", TOP / "examples"
 RULE = re.compile(r'\[([0-9]+)\] = \{ name = "(\w+)", says = "([^"]*)",\s+whose = "([^"]*)" \},')
@@ -75,7 +76,7 @@ def lacking() -> str:
 class Plugin(Checks):
     """What tshark shows with the plugin."""
 
-    needs = (TRANSFERS,)
+    needs = (AUDIT, TRANSFERS)
 
     def setUp(self) -> None:
         super().setUp()
@@ -138,6 +139,26 @@ class Plugin(Checks):
         )
         wanted = [("3", "1", "client", refusal(3, Rule.ACK_AHEAD), "26")]
         self.check("a place and a port", found == wanted, found)
+
+    def test_rollover(self) -> None:
+        """What comes after block 65535 is a preference: by it tftp-audit judges at an end what has more blocks."""
+        path = self.folder / "large.pcap"
+        path.write_bytes(recorded(0))
+        accepted, server = f"accepted get octet blocks {COUNT} bytes {len(FILE)}", "server 192.0.2.1:41000"
+        refused, beyond = refusal(2 * ROUND + 2, Rule.BLOCK_ZERO), refusal(2 * ROUND, Rule.BEYOND_BLOCK_65535)
+        fields = ("tftp_audit.verdict", "tftp_audit.rule", "tftp_audit.doubt", "tftp_audit.accused")
+        for place, first, row in (
+            ("client", "block 0", (accepted, "", "", "")), ("client", "nothing", (beyond, "", "", server)),
+            ("between", "block 0", (beyond, "", "", server)),
+        ):
+            words = ("-o", f"tftp_audit.place:{place}", "-o", f"tftp_audit.rollover:{first}", "-Y", "frame.number == 9")
+            found = self.tshark.rows(path, "-o", f"tftp_audit.audit:{AUDIT.path}", *words, fields=fields)
+            self.check(f"{place}, {first}", found == [row], found)
+        words = ("-o", "tftp_audit.place:server", "-o", "tftp_audit.rollover:block 1", "-Y", "tftp_audit.rule")
+        found = self.tshark.rows(path, "-o", f"tftp_audit.audit:{AUDIT.path}", *words, fields=("frame.number", *fields))
+        doubt = "its block numbers begin again, and of such a refusal it was not looked for what makes it doubtful"
+        wanted = [(str(2 * ROUND + 2), refused, str(Rule.BLOCK_ZERO.number), doubt, "")]
+        self.check("server, block 1", found == wanted, found)
 
     def test_failures(self) -> None:
         """Where the program or the file is not found, that is told once."""

@@ -5,8 +5,10 @@ Whether a text is sound is the program's to say; what cannot be read here ends t
 from __future__ import annotations
 
 import re
-from dataclasses import dataclass, field
+from dataclasses import dataclass, field, replace
 from typing import Optional
+
+from .packets import Ack, Data, Packet, read_packet
 
 ENDPOINTS = re.compile(rb"# transfer [0-9]+ .*, at the (?:client|server); client ([!-~]+), server ([!-~]+)")
 FRAME = re.compile(rb"# frame ([0-9]+)(?: time ([0-9]+\.[0-9]+))?")
@@ -32,6 +34,8 @@ class Datagram:
     # where it stands in a recording, if the comment before it says so
     frame: Optional[int] = None
     time: Optional[str] = None
+    # the block that it is of, where numbers began again before it
+    block: Optional[int] = None
 
     def goes_out(self) -> bool:
         return self.way == "out"
@@ -60,6 +64,8 @@ class Capture:
     is_between: bool = False
     # where the named end is, if the comment before the header says so
     here: Optional[str] = None
+    # what comes after block 65535, where anything does
+    rollover: Optional[int] = None
     datagrams: list[Datagram] = field(default_factory=list)
 
     def other_end(self) -> str:
@@ -81,6 +87,14 @@ class Capture:
         if not self.is_between:
             return datagram.way
         return "from the client" if datagram.goes_out() else "to the client"
+
+
+def packet_of(datagram: Datagram) -> Packet:
+    """What a datagram says, with its block in the place of the number."""
+    packet = read_packet(datagram.payload)
+    if datagram.block is None or not isinstance(packet, (Ack, Data)):
+        return packet
+    return replace(packet, block=datagram.block, number=packet.block)
 
 
 def read_head(capture: Capture, line: bytes, at: int) -> bool:

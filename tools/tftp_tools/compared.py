@@ -4,13 +4,14 @@ from __future__ import annotations
 from collections.abc import Callable, Iterator
 from typing import Optional
 
-from .capture import Datagram
+from .capture import Datagram, packet_of
 from .history import History, Passed, before_error, block_of, content_of
 from .malformed import explain_malformed
-from .packets import Ack, Data, Error, Oack, Options, Request, count, number_of, read_packet, words_of
+from .packets import Ack, Data, Error, Oack, Options, Request, count, number_of, words_of
 
 FOUR = ("blksize", "timeout", "tsize", "windowsize")
-MOST_BLOCKS = 65_535
+# How many blocks a transfer has at most, and where numbers begin again.
+MOST_BLOCKS, MOST_AGAIN = 65_535, 8_388_607
 Lines = list[str]
 
 
@@ -59,7 +60,7 @@ def first_request(history: History) -> str:
 
 def wrong_port(history: History, it: Datagram, fault: str) -> Lines:
     service = history.capture.service
-    if history.at_client() and isinstance(read_packet(it.payload), Request):
+    if history.at_client() and isinstance(packet_of(it), Request):
         asked = f" of {history.asked}" if history.asked not in (None, "-") else ""
         return [f"It goes to {side(it.host, it.remote)}; requests go to the service port {service}{asked}."]
     if not it.goes_out():
@@ -138,7 +139,7 @@ def after_error(history: History, it: Datagram, fault: str) -> Lines:
 
 
 def request_changed(history: History, it: Datagram, fault: str) -> Lines:
-    first, now = history.request, read_packet(it.payload)
+    first, now = history.request, packet_of(it)
     if first is None or not isinstance(first.packet, Request) or not isinstance(now, Request):
         return []
     differing = [f"Its {what} was {before}, and is {after} now." for what, before, after in changed(first.packet, now)]
@@ -175,7 +176,7 @@ def reply_changed(history: History, it: Datagram, fault: str) -> Lines:
 
 
 def asked_and_agreed(history: History, it: Datagram) -> tuple[dict[str, str], dict[str, str], Lines]:
-    packet = read_packet(it.payload)
+    packet = packet_of(it)
     agreed = packet.options if isinstance(packet, Oack) else ()
     lines = [f"Asked for ({first_request(history)}): {shown(history.options())}.", f"Agreed to here: {shown(agreed)}."]
     return dict(history.options()), dict(agreed), lines
@@ -224,7 +225,7 @@ def value_fault(name: str, asked: str, agreed: str, kind: str) -> str:
 
 
 def oack_changed(history: History, it: Datagram, fault: str) -> Lines:
-    packet = read_packet(it.payload)
+    packet = packet_of(it)
     now = shown(packet.options) if isinstance(packet, Oack) else ""
     return [f"The first OACK is {at(history.oack)}: {shown(history.agreed())}; now {now}."] if history.oack else []
 
@@ -263,13 +264,15 @@ def block_zero(history: History, it: Datagram, fault: str) -> Lines:
 
 
 def beyond(history: History, it: Datagram, fault: str) -> Lines:
-    packet = read_packet(it.payload)
+    packet = packet_of(it)
     if isinstance(packet, Data):
         whole = f"Block {packet.block} is a whole block of {count(history.block_size(), 'byte')}"
         return [f"{whole}, so another must follow it."]
     _, agreed, lines = asked_and_agreed(history, it)
     size, block = number_of(agreed.get("tsize", "0")) or 0, number_of(agreed.get("blksize", "512")) or 512
     told = f"{count(size, 'byte')} in blocks of {block} are {size // block + 1:,} blocks"
+    if history.capture.rollover is not None:
+        return [*lines, f"{told}; {MOST_AGAIN:,} are judged at most."]
     return [*lines, f"{told}; there are numbers for {MOST_BLOCKS:,}."]
 
 
@@ -280,7 +283,7 @@ def terms(history: History) -> str:
 
 
 def block_length(history: History, it: Datagram, fault: str) -> Lines:
-    packet, lines = read_packet(it.payload), [terms(history)]
+    packet, lines = packet_of(it), [terms(history)]
     if not isinstance(packet, Data):
         return lines
     length, size, last = len(packet.content), history.block_size(), history.last_block()
@@ -314,7 +317,7 @@ def last_from(history: History, last: int) -> str:
 def window_overrun(history: History, it: Datagram, fault: str) -> Lines:
     used = before_error(history, it.way) if history.is_between() else history
     acked, window = used.highest("ACK", history.receiver_way()), history.window()
-    block = block_of(Passed(it, read_packet(it.payload), "main"))
+    block = block_of(Passed(it, packet_of(it), "main"))
     base = block_of(acked) if acked else 0
     start = f"{cap(at(acked))} acknowledged block {base}" if acked else "No block was acknowledged before it"
     may = "pass" if history.is_between() else "come"
@@ -342,7 +345,7 @@ def not_counted(history: History, it: Datagram) -> Lines:
 
 
 def block_skipped(history: History, it: Datagram, fault: str) -> Lines:
-    top, block = history.highest("DATA", "out"), block_of(Passed(it, read_packet(it.payload), "main"))
+    top, block = history.highest("DATA", "out"), block_of(Passed(it, packet_of(it), "main"))
     sent = f"The highest block sent before it is {block_of(top)} in {at(top)}" if top else "No block was sent before it"
     next_one = f"The next one is {(block_of(top) if top else 0) + 1}, and this is block {block}."
     return [f"{sent}.", next_one, elsewhere(history.capture.end)]
@@ -358,7 +361,7 @@ def gone_back(history: History, it: Datagram, fault: str) -> Lines:
 
 
 def block_changed(history: History, it: Datagram, fault: str) -> Lines:
-    packet = read_packet(it.payload)
+    packet = packet_of(it)
     before = history.blocks.get(packet.block) if isinstance(packet, Data) else None
     if before is None or not isinstance(packet, Data):
         return []
@@ -389,7 +392,7 @@ def front_told(history: History, block: int, came: str) -> Lines:
 
 
 def ack_ahead(history: History, it: Datagram, fault: str) -> Lines:
-    block = block_of(Passed(it, read_packet(it.payload), "main"))
+    block = block_of(Passed(it, packet_of(it), "main"))
     if history.is_between():
         used = before_error(history, it.way)
         error = history.error("in" if it.goes_out() else "out")

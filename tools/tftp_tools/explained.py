@@ -4,11 +4,11 @@ from __future__ import annotations
 import datetime
 from typing import Optional
 
-from .capture import Capture, Datagram
+from .capture import Capture, Datagram, packet_of
 from .compared import COMPARED, at, blocks_to, side
 from .history import History, block_of, content_of, history_before
 from .malformed import usual_cause
-from .packets import ERROR_CODES, Data, Error, Request, count, read_packet
+from .packets import ERROR_CODES, Data, Error, Request, count
 from .program import Verdict
 from .rules import RULES
 from .textfaults import explain_fault
@@ -47,7 +47,7 @@ def what(capture: Capture, datagram: Datagram) -> str:
     there = side(datagram.host, datagram.remote)
     way = f"from {here} to {there}" if datagram.goes_out() else f"from {there} to {here}"
     told = way if capture.is_between else f"{datagram.way}, {way}"
-    return f"{told}: {read_packet(datagram.payload).told()}."
+    return f"{told}: {packet_of(datagram).told()}."
 
 
 def explain_refused(capture: Capture, verdict: Verdict) -> Told:

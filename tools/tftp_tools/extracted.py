@@ -13,7 +13,7 @@ from .errors import Refused, shown, tell, write_out
 from .newfiles import Folder, safe
 from .partial import Part, part_of
 from .program import extract
-from .recording import ENDS, EndName, Listed, Recording, Row, best
+from .recording import EndName, Listed, Recording, Row, best, ends_at
 
 # The line of a request in a capture text, with the payload.
 REQUEST = re.compile(rb"(?m)^(?:in|out) [!-~ ]* (000[12](?:[0-9A-Fa-f]{2})*)$")
@@ -82,11 +82,6 @@ def asked_in(text: bytes) -> bytes:
     return bytes.fromhex(found[1].decode())[2:].split(b"\0")[0] if found else b""
 
 
-def ends_of(row: Row) -> tuple[EndName, ...]:
-    """The ends whose texts may have the file, the client first."""
-    return tuple(end for end in ENDS if row.place == end) or ENDS
-
-
 def transfers_of(recording: Recording, rows: Sequence[Row]) -> list[Transfer]:
     """The transfers of these rows, in their order."""
     by_number: dict[int, list[Row]] = {}
@@ -143,10 +138,12 @@ class Extraction:
 
     def whole(self, recording: Recording, row: Row) -> Written:
         """The file of an accepted transfer, which the program writes of the first text that it accepts."""
-        name = safe(asked_in(recording.text(row.number, ends_of(row)[0])))
+        name = safe(asked_in(recording.text(row.number, ends_at(row.place)[0])))
         with self.folder.file(name) as made:
-            for end in ends_of(row):
-                if extract(recording.audit, recording.text(row.number, end), made.descriptor):
+            for end in ends_at(row.place):
+                text = recording.text(row.number, end)
+                ways = dict.fromkeys(("", recording.rollover))
+                if any(extract(recording.audit, text, made.descriptor, rollover) for rollover in ways):
                     size, digest = made.sum()
                     check_size(recording, row, size)
                     return Written(made.name, size, digest, end)
@@ -155,7 +152,7 @@ class Extraction:
     def part(self, recording: Recording, transfer: Transfer) -> Optional[Written]:
         """What came of a file whose transfer is not accepted, if anything did."""
         row = best(transfer.rows)
-        end = ends_of(row)[0]
+        end = ends_at(row.place)[0]
         text = recording.text(row.number, end)
         part = part_of(read_capture(text, row.place == "between"))
         if not part.blocks:

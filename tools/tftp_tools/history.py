@@ -8,8 +8,8 @@ from collections.abc import Iterator
 from dataclasses import dataclass, field
 from typing import Optional
 
-from .capture import Capture, Datagram
-from .packets import Ack, Data, Error, Oack, Options, Packet, Request, is_request, number_of, read_packet
+from .capture import Capture, Datagram, packet_of
+from .packets import Ack, Data, Error, Oack, Options, Packet, Request, is_request, number_of
 
 Peer = tuple[str, int]
 
@@ -122,7 +122,7 @@ class History:
         return "answer" if datagram.goes_out() else "stray"
 
     def take(self, datagram: Datagram) -> Passed:
-        packet = read_packet(datagram.payload)
+        packet = packet_of(datagram)
         if self.request is None and isinstance(packet, Request):
             self.begin(datagram)
         place = self.place_of(datagram)
@@ -206,9 +206,9 @@ def before_error(history: History, way: str) -> History:
 
 def earlier(capture: Capture) -> Iterator[Optional[int]]:
     """Of each datagram the place at which the same one last passed, if it did."""
-    last: dict[tuple[str, int, str, int, bytes], int] = {}
-    for place, datagram in enumerate(capture.datagrams):
-        key = (datagram.way, datagram.local, datagram.host, datagram.remote, datagram.payload)
+    last: dict[tuple[str, int, str, int, bytes, Optional[int]], int] = {}
+    for place, it in enumerate(capture.datagrams):
+        key = (it.way, it.local, it.host, it.remote, it.payload, it.block)
         yield last.get(key)
         last[key] = place
 

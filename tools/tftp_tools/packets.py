@@ -45,27 +45,38 @@ class Request:
         return " ".join([self.short(), self.mode, *(f"{name}={value}" for name, value in self.options)])
 
 
+def by_number(number: Optional[int]) -> str:
+    """The number by which a block passed, where that is another."""
+    return f" by number {number}" if number is not None else ""
+
+
 @dataclass(frozen=True)
 class Data:
     block: int
     content: bytes
+    # the number by which it passed, where numbers began again
+    number: Optional[int] = None
 
     def told(self) -> str:
-        return f"DATA, block {self.block}, {count(len(self.content), 'byte')}"
+        return f"DATA, block {self.block}{by_number(self.number)}, {count(len(self.content), 'byte')}"
 
     def short(self) -> str:
-        return f"DATA {self.block} ({count(len(self.content), 'byte')})"
+        size = count(len(self.content), "byte")
+        if self.number is None:
+            return f"DATA {self.block} ({size})"
+        return f"DATA {self.number} (block {self.block}, {size})"
 
 
 @dataclass(frozen=True)
 class Ack:
     block: int
+    number: Optional[int] = None
 
     def told(self) -> str:
-        return f"ACK, acknowledges block {self.block}"
+        return f"ACK, acknowledges block {self.block}{by_number(self.number)}"
 
     def short(self) -> str:
-        return f"ACK {self.block}"
+        return f"ACK {self.block}" if self.number is None else f"ACK {self.number} (block {self.block})"
 
 
 @dataclass(frozen=True)

@@ -158,6 +158,8 @@ def asked_pair(asked: argparse.Namespace) -> Pair:
     """The two captures that a script is asked for."""
     if asked.capture != "-" or asked.number is not None:
         raise Refused("--pair takes the place of FILE: name the client's capture and the server's alone")
+    if asked.rollover:
+        raise Refused("of a pair there is no --rollover")
     if asked.pair == ["-", "-"]:
         raise Refused("one of the two captures may come on standard input, and not both")
     sources = Sources(asked)

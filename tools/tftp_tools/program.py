@@ -65,29 +65,34 @@ def built(launcher: str) -> str:
     return launcher
 
 
-def check(program: str, text: bytes) -> Verdict:
+def by(rollover: str) -> list[str]:
+    """The words that say what comes after block 65535, where anything does."""
+    return ["--rollover", rollover] if rollover else []
+
+
+def check(program: str, text: bytes, rollover: str = "") -> Verdict:
     """What the program says of a capture text."""
     with told(f"cannot run {program!r}"):
-        done = subprocess.run([program, "check"], input=text, stdout=subprocess.PIPE, check=False)
+        done = subprocess.run([program, "check", *by(rollover)], input=text, stdout=subprocess.PIPE, check=False)
     line = done.stdout.decode("ascii", "backslashreplace").rstrip("\n")
     if not KNOWN.fullmatch(line) or done.returncode not in (0, 1, 2):
         raise Refused(f"{program!r} gave no verdict: it printed {line!r} and ended with status {done.returncode}")
     return Verdict(line, done.returncode)
 
 
-def file_of(program: str, text: bytes) -> bytes:
+def file_of(program: str, text: bytes, rollover: str = "") -> bytes:
     """The file of a capture text that the program accepts."""
     with told(f"cannot run {program!r}"):
-        done = subprocess.run([program, "extract"], input=text, stdout=subprocess.PIPE, check=False)
+        done = subprocess.run([program, "extract", *by(rollover)], input=text, stdout=subprocess.PIPE, check=False)
     if done.returncode != 0:
         raise Refused(f"{program!r} wrote no file, and ended with status {done.returncode}")
     return done.stdout
 
 
-def extract(program: str, text: bytes, into: int) -> bool:
+def extract(program: str, text: bytes, into: int, rollover: str = "") -> bool:
     """Has the program write the file of a capture text into one that is open; whether it accepts the text."""
     with told(f"cannot run {program!r}"):
-        done = subprocess.run([program, "extract"], input=text, stdout=into, check=False)
+        done = subprocess.run([program, "extract", *by(rollover)], input=text, stdout=into, check=False)
     if done.returncode not in (0, 1):
         raise Refused(f"{program!r} wrote no whole file, and ended with status {done.returncode}")
     return done.returncode == 0

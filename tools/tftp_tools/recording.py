@@ -7,7 +7,8 @@ from collections.abc import Callable, Collection, Iterable, Mapping, Sequence
 from dataclasses import dataclass, field, replace
 from typing import Any, Literal, Optional, TypeVar
 
-from .capture import Capture, read_capture
+from .blocks import capture_by
+from .capture import Capture
 from .errors import Refused, read_file, shown, tell
 from .frames import without_frames
 from .pieces import MAGICS
@@ -29,6 +30,12 @@ T = TypeVar("T")
 # The fields of a listed transfer.
 WORDS = ("client", "server", "kind", "mode", "file", "options")
 NUMBERS = ("number", "datagrams", "first_frame", "last_frame")
+
+
+# The rule that too many blocks break, and what is said of a refusal that is judged by what comes after them.
+BEYOND_BLOCK_65535 = 20
+NOT_DOUBTED = "its block numbers begin again, and of such a refusal it was not looked for what makes it doubtful"
+BETWEEN_NONE = "numbers that begin again are judged at an end alone: name the client or the server"
 
 
 class NoTransfer(Refused):
@@ -103,6 +110,8 @@ class Judged:
     doubts: tuple[str, ...] = ()
     row: Optional[Row] = None
     place: Optional[PlaceName] = None
+    # what comes after block 65535, where that was said
+    rollover: str = ""
 
     def is_between(self) -> bool:
         return self.place == "between"
@@ -117,7 +126,7 @@ class Judged:
         return ([("Accused", f"{accused.told()}.")] if accused else []) + [("Doubtful", doubt) for doubt in self.doubts]
 
     def capture(self) -> Capture:
-        return read_capture(self.text, self.is_between())
+        return capture_by(self.text, self.rollover, self.is_between())
 
 
 def is_recording(begins: bytes) -> bool:
@@ -172,6 +181,17 @@ def texts_in(written: bytes) -> dict[int, bytes]:
     return {int(of[1]): text for text in texts for of in [OF.search(text)] if of}
 
 
+def is_beyond(row: Row) -> bool:
+    """Whether it is refused for too many blocks."""
+    refused = Verdict(row.verdict, 1).refused()
+    return refused is not None and refused[1] == BEYOND_BLOCK_65535
+
+
+def ends_at(place: str) -> tuple[EndName, ...]:
+    """The ends of which a row at this place speaks."""
+    return tuple(end for end in ENDS if end == place) or ENDS
+
+
 def named(services: Sequence[str]) -> list[str]:
     return [word for port in services for word in ("--service", port)]
 
@@ -185,6 +205,7 @@ class Recording:
     services: tuple[str, ...]
     transfers: str
     audit: str
+    rollover: str = ""
     texts: Mapping[tuple[int, str], bytes] = field(default_factory=dict)
 
     def ask(self, *words: str) -> tuple[bytes, list[str], int]:
@@ -202,12 +223,33 @@ class Recording:
             if notes is not None:
                 notes.append(shown(line))
         rows = objects(written, row_of)
+        if rows and self.rollover:
+            rows = [self.by_rollover(row) for row in rows]
+            if any(row.place == "between" and is_beyond(row) for row in rows):
+                tell(script, BETWEEN_NONE)
+            status = int(not all(row.is_accepted() for row in rows)) if status == 1 else status
         if rows:
             return rows, status
         if written or status != 0 and not beside:
             raise Refused(f"{self.transfers!r} gave no rows for {self.path!r}, and ended with status {status}")
         refusal = NoTransfer if status in (0, 3) else Refused
         raise refusal(beside[-1] if beside else f"{self.path}: there is no transfer in the recording")
+
+    def by_rollover(self, row: Row) -> Row:
+        """What a row says that refuses too many blocks at an end: tftp-audit judges the text by what comes after block
+        65535, and nobody looks for what makes its refusal doubtful."""
+        if row.place == "between" or not is_beyond(row):
+            return row
+        judged = [self.judged_by(row, end, self.rollover) for end in ends_at(row.place)]
+        it = next((it for it in judged if it.verdict.status), judged[0])
+        found = it.verdict.refused()
+        frame = it.capture().datagrams[found[0] - 1].frame if found else None
+        return replace(row, verdict=it.verdict.line, doubts=(NOT_DOUBTED,) if found else (), frame=frame, accused=None)
+
+    def judged_by(self, row: Row, end: EndName, rollover: str) -> Judged:
+        """The text at an end, and the verdict of tftp-audit on it."""
+        text = self.text(row.number, end)
+        return Judged(text, check(self.audit, text, rollover), row.doubts, row, end, rollover)
 
     def rows_if_any(self, place: PlaceName) -> list[Row]:
         """The verdicts at a place, none where there is no transfer."""
@@ -252,12 +294,11 @@ class Recording:
         if row.place == "between":
             verdict = Verdict(row.verdict, int(not row.is_accepted()))
             return Judged(self.text(row.number, "client"), verdict, row.doubts, row, "between")
-        ends = [end for end in ENDS if end == row.place] or ENDS
-        for end in ends:
-            text = self.text(row.number, end)
-            verdict = check(self.audit, text)
-            if verdict.line == row.verdict:
-                return Judged(text, verdict, row.doubts, row, end)
+        for rollover in dict.fromkeys(("", self.rollover)):
+            for end in ends_at(row.place):
+                it = self.judged_by(row, end, rollover)
+                if it.verdict.line == row.verdict:
+                    return it
         said = f"{self.audit!r} says at no end of transfer {row.number} what {self.transfers!r} says"
         raise Refused(f"{said}: {row.verdict}")
 

@@ -9,7 +9,8 @@ from collections.abc import Sequence
 from dataclasses import dataclass
 from typing import Optional
 
-from .capture import Capture, Datagram, read_capture
+from .blocks import capture_by, take_blocks
+from .capture import Capture, Datagram
 from .explained import Told, explain, explain_refused
 from .packets import count
 from .program import Verdict, check, file_of
@@ -79,26 +80,27 @@ def without(text: bytes, datagram: Datagram) -> bytes:
     return b"\n".join(lines)
 
 
-def came_over(audit: str, text: bytes) -> CameOver:
+def came_over(audit: str, text: bytes, rollover: str) -> CameOver:
     """The file of a text that is accepted."""
-    file = file_of(audit, text)
+    file = file_of(audit, text, rollover)
     return CameOver(len(file), hashlib.sha256(file).hexdigest())
 
 
 def left(capture: Capture, gone: Datagram) -> Capture:
     """The capture without a datagram; the others keep their numbers."""
-    return dataclasses.replace(capture, datagrams=[it for it in capture.datagrams if it.line != gone.line])
+    rest = dataclasses.replace(capture, datagrams=[it for it in capture.datagrams if it.line != gone.line])
+    return rest if rest.rollover is None else take_blocks(rest, rest.rollover)
 
 
-def remarks_of(audit: str, text: bytes, verdict: Verdict) -> Remarks:
+def remarks_of(audit: str, text: bytes, verdict: Verdict, rollover: str = "") -> Remarks:
     """Leaves out each datagram that is refused, so many at most."""
-    capture, refused = read_capture(text), list[Remark]()
+    capture, refused = capture_by(text, rollover), list[Remark]()
     while (found := verdict.refused()) and len(refused) < MOST:
         datagram = capture.datagrams[found[0] - 1]
         refused.append(Remark(datagram, verdict, explain_refused(capture, verdict)))
         text, capture = without(text, datagram), left(capture, datagram)
-        verdict = check(audit, text)
-    file = came_over(audit, text) if verdict.status == 0 else None
+        verdict = check(audit, text, rollover)
+    file = came_over(audit, text, rollover) if verdict.status == 0 else None
     return Remarks(tuple(refused), verdict, explain(verdict, text, capture), file)
 
 
@@ -122,11 +124,11 @@ def remarks_between(recording: Recording, judged: Judged, row: Row) -> Optional[
 def file_on(recording: Recording, judged: Judged) -> Optional[CameOver]:
     """The file of a transfer of a recording, if it is accepted and the text of an end has it."""
     text = recording.accepted(judged) if judged.verdict.status == 0 else None
-    return came_over(recording.audit, text) if text is not None else None
+    return came_over(recording.audit, text, judged.rollover) if text is not None else None
 
 
 def remarks_on(audit: str, recording: Optional[Recording], judged: Judged) -> Optional[Remarks]:
     """What is to be said further of a text, or of a transfer."""
     if recording is None or judged.row is None or not judged.is_between():
-        return remarks_of(audit, judged.text, judged.verdict)
+        return remarks_of(audit, judged.text, judged.verdict, judged.rollover)
     return remarks_between(recording, judged, judged.row)

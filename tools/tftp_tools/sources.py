@@ -7,6 +7,7 @@ from collections.abc import Iterator
 from pathlib import Path
 from typing import Optional, Union
 
+from .blocks import FIRSTS
 from .errors import Refused, read_file, told
 from .packets import count
 from .program import AUDIT, OPTIONS, TRANSFERS, check, find_program
@@ -19,6 +20,8 @@ def add_programs(parser: argparse.ArgumentParser) -> None:
     """The words about a recording's ports, and those by which a script is told where the programs are."""
     parser.add_argument("--service", action="append", default=[], metavar="PORT", help="a port to which requests go in"
                         " the recording, beside 69; may be given several times")
+    parser.add_argument("--rollover", choices=FIRSTS, default="", metavar="N", help="what comes after block 65535, 0 or"
+                        " 1, at an end; without it such a block is refused")
     for name in (AUDIT, TRANSFERS):
         where = f"the program {name}, where it is not found by itself"
         parser.add_argument(OPTIONS[name], metavar="PATH", help=where)
@@ -66,7 +69,7 @@ def opened_at(path: str, asked: argparse.Namespace) -> Union[bytes, Recording]:
         return read_file(path) if given is None else given
     services = tuple(map(str, asked.service))
     programs = find_program(TRANSFERS, asked.transfers), find_program(AUDIT, asked.program)
-    return Recording(path, given, services, *programs)
+    return Recording(path, given, services, *programs, asked.rollover)
 
 
 def rows_asked(rows: list[Row], number: Optional[str]) -> list[Row]:
@@ -81,7 +84,8 @@ def rows_asked(rows: list[Row], number: Optional[str]) -> list[Row]:
 def of_text(text: bytes, asked: argparse.Namespace) -> Judged:
     if asked.number is not None:
         raise Refused(f"{str(asked.capture)!r} is no recording, so it has no transfer {asked.number}")
-    return Judged(text, check(find_program(AUDIT, asked.program), text))
+    verdict = check(find_program(AUDIT, asked.program), text, asked.rollover)
+    return Judged(text, verdict, rollover=asked.rollover)
 
 
 def chosen(script: str, asked: argparse.Namespace) -> Judged:

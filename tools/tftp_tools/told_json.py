@@ -5,9 +5,8 @@ import json
 from dataclasses import asdict
 from typing import Any, Optional
 
-from .capture import Datagram
+from .capture import Datagram, packet_of
 from .explained import Told, explain
-from .packets import read_packet
 from .program import Verdict
 from .recording import Judged
 from .remarks import Remark, Remarks
@@ -19,7 +18,7 @@ Object = dict[str, Any]
 def datagram_object(it: Datagram) -> Object:
     return {
         "datagram": it.number, "line": it.line, "frame": it.frame, "time": it.time, "way": it.way,
-        "packet": read_packet(it.payload).told(), "payload": it.payload.hex(),
+        "packet": packet_of(it).told(), "payload": it.payload.hex(),
     }
 
 
