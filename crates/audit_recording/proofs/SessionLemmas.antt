@@ -1,5 +1,9 @@
+pub mod Alone
 pub mod Intact
+pub mod Lacking
+pub mod Lines
 pub mod Noting
+pub mod Once
 pub mod Opened
 pub mod Over
 pub mod Recording

@@ -1,4 +1,6 @@
 pub mod Intact
+pub mod Told
+pub mod Lines
 pub mod Noted
 pub mod Recording
 pub mod Trails

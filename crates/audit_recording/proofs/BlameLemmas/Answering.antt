@@ -48,27 +48,27 @@ between_by (Err (tap.Memory count)) number is = absurd (cc)
 module _ (t : Trail) (judging : Judging) (x : Transfer) (named : List ℕ) (carried : List Carried) (number : ℕ) (result : Option Blamed) (was : IsTrailOf t judging x named carried) where
   pub blamed_at_client : (v : Result Meaning Refusal) → refused_in v ≡ Some number → (points_of judging x).client ≡ true
       → IsJudgedWith (client_header x) (client_capture host_name x (whole_of named carried)) v
-      → (IsHeld t.blame.at_client number → result ≡ blamed_in point.Client x.number (whole_of named carried) (framed named carried) number)
-      → result ≡ blamed_as point.Client x.number named carried (refused_in v)
+      → (IsHeld t.blame.at_client number → result ≡ blamed_in point.Client x (whole_of named carried) (framed named carried) number)
+      → result ≡ blamed_as point.Client x named carried (refused_in v)
   blamed_at_client v is there judged finds =
       let at = unlawful_by v number is in
       let said = (subst (IsJudgedWith (client_header x) (client_capture host_name x (whole_of named carried))) at.is judged) tt in
-      finds ((was.blame.client there).enough [] number at.rule said.verdict) ∙ ap (blamed_as point.Client x.number named carried) (sym is)
+      finds ((was.blame.client there).enough [] number at.rule said.verdict) ∙ ap (blamed_as point.Client x named carried) (sym is)
 
   pub blamed_at_server : (v : Result Meaning Refusal) → refused_in v ≡ Some number → (points_of judging x).server ≡ true
       → IsJudgedWith (server_header x) (server_capture host_name x (whole_of named carried) (whole_of named carried)) v
-      → (IsHeld t.blame.at_server number → result ≡ blamed_in point.Server x.number (whole_of named carried) (framed named carried) number)
-      → result ≡ blamed_as point.Server x.number named carried (refused_in v)
+      → (IsHeld t.blame.at_server number → result ≡ blamed_in point.Server x (whole_of named carried) (framed named carried) number)
+      → result ≡ blamed_as point.Server x named carried (refused_in v)
   blamed_at_server v is there judged finds =
       let at = unlawful_by v number is in
       let said = (subst (IsJudgedWith (server_header x) (server_capture host_name x (whole_of named carried) (whole_of named carried))) at.is judged) tt in
-      finds ((was.blame.server there).enough [] number at.rule said.verdict) ∙ ap (blamed_as point.Server x.number named carried) (sym is)
+      finds ((was.blame.server there).enough [] number at.rule said.verdict) ∙ ap (blamed_as point.Server x named carried) (sym is)
 
   pub blamed_between : (v : Result Meaning TapRefusal) → refused_between v ≡ Some number → IsTrailBetween t judging x named carried → (points_of judging x).between ≡ true → AreApart (sides_of x (whole_of named carried))
       → IsBetweenVerdict (sides_of x (whole_of named carried)) (between_capture x (whole_of named carried)) v
-      → (IsHeld t.blame.between number → result ≡ blamed_in point.Between x.number (whole_of named carried) (framed named carried) number)
-      → result ≡ blamed_as point.Between x.number named carried (refused_between v)
+      → (IsHeld t.blame.between number → result ≡ blamed_in point.Between x (whole_of named carried) (framed named carried) number)
+      → result ≡ blamed_as point.Between x named carried (refused_between v)
   blamed_between v is passed there apart judged finds =
       let at = between_by v number is in
       let said = subst (IsBetweenVerdict (sides_of x (whole_of named carried)) (between_capture x (whole_of named carried))) at.is judged in
-      finds ((passed there).enough [] number at.rule (apart, at.stands, said)) ∙ ap (blamed_as point.Between x.number named carried) (sym is)
+      finds ((passed there).enough [] number at.rule (apart, at.stands, said)) ∙ ap (blamed_as point.Between x named carried) (sym is)

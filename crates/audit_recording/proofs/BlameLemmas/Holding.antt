@@ -131,17 +131,17 @@ enough_more facts at x p whole enough more number rule said =
 
 -- ---- what is open
 
-module _ (at : Point) (n : ℕ) (f : Framed) (whole : List Placed) (frames : List Framed) where
-  early_more : (early : List Framed) → (early ≡ []) ⊎ IsFixed at n whole → length (seen_of at n whole early) ≡ length (seen_of at n (f.placed ∷ whole) early)
-  early_more early (inl none) = ap (λ l. length (seen_of at n whole l)) none ∙ sym (ap (λ l. length (seen_of at n (f.placed ∷ whole) l)) none)
-  early_more early (inr fixed) = ap length (sym (same_seen_of at n f.placed whole early fixed))
+module _ (at : Point) (x : Transfer) (f : Framed) (whole : List Placed) (frames : List Framed) where
+  early_more : (early : List Framed) → (early ≡ []) ⊎ IsFixed at x.number whole → length (seen_of at x.number whole early) ≡ length (seen_of at x.number (f.placed ∷ whole) early)
+  early_more early (inl none) = ap (λ l. length (seen_of at x.number whole l)) none ∙ sym (ap (λ l. length (seen_of at x.number (f.placed ∷ whole) l)) none)
+  early_more early (inr fixed) = ap length (sym (same_seen_of at x.number f.placed whole early fixed))
 
-  stays_more : (early : List Framed) → (early ≡ []) ⊎ IsFixed at n whole → (early ≡ []) ⊎ IsFixed at n (f.placed ∷ whole)
+  stays_more : (early : List Framed) → (early ≡ []) ⊎ IsFixed at x.number whole → (early ≡ []) ⊎ IsFixed at x.number (f.placed ∷ whole)
   stays_more early (inl none) = inl none
-  stays_more early (inr fixed) = inr (fixed_more at n f.placed whole fixed)
+  stays_more early (inr fixed) = inr (fixed_more at x.number f.placed whole fixed)
 
-  open_more : (forgotten : ℕ) (held after : List Passed) → ((late : List Framed) → held ≡ map (passed_of n) (reverse (filter (is_about_it n) late)) → after ≡ map (passed_of n) (reverse (filter (is_about_it n) (f ∷ late))))
-      → IsOpen forgotten held at n whole frames → IsOpen forgotten after at n (f.placed ∷ whole) (f ∷ frames)
+  open_more : (forgotten : ℕ) (held after : List Passed) → ((late : List Framed) → held ≡ map (passed_of x) (reverse (filter (is_about_it x.number) late)) → after ≡ map (passed_of x) (reverse (filter (is_about_it x.number) (f ∷ late))))
+      → IsOpen forgotten held at x whole frames → IsOpen forgotten after at x (f.placed ∷ whole) (f ∷ frames)
   open_more forgotten held after more is = record {
     late = f ∷ is.late;
     early = is.early;
@@ -151,58 +151,58 @@ module _ (at : Point) (n : ℕ) (f : Framed) (whole : List Placed) (frames : Lis
     stays = stays_more is.early is.stays;
   }
 
-  found_more : (found : Found) → IsFound found at n whole frames → IsFound found at n (f.placed ∷ whole) (f ∷ frames)
+  found_more : (found : Found) → IsFound found at x whole frames → IsFound found at x (f.placed ∷ whole) (f ∷ frames)
   found_more found is = record {
-    is = by_test (is_seen at n (f.placed ∷ whole) f.placed)
-        (λ seen. ap (λ l. option_map (blamed_of n) (numbered l found.number)) (filter_one (λ g. is_seen at n (f.placed ∷ whole) g.placed) f frames seen)
-        ∙ ap (λ l. option_map (blamed_of n) (slice_get l (found.number - 1))) (reverse_one f (seen_of at n (f.placed ∷ whole) frames))
-        ∙ get_more (blamed_of n) (reverse (seen_of at n (f.placed ∷ whole) frames)) (f ∷ []) (found.number - 1) found.blamed before)
-        (λ off. ap (λ l. option_map (blamed_of n) (numbered l found.number)) (filter_none (λ g. is_seen at n (f.placed ∷ whole) g.placed) f frames off) ∙ before);
-    stays = fixed_more at n f.placed whole is.stays;
+    is = by_test (is_seen at x.number (f.placed ∷ whole) f.placed)
+        (λ seen. ap (λ l. option_map (blamed_of x) (numbered l found.number)) (filter_one (λ g. is_seen at x.number (f.placed ∷ whole) g.placed) f frames seen)
+        ∙ ap (λ l. option_map (blamed_of x) (slice_get l (found.number - 1))) (reverse_one f (seen_of at x.number (f.placed ∷ whole) frames))
+        ∙ get_more (blamed_of x) (reverse (seen_of at x.number (f.placed ∷ whole) frames)) (f ∷ []) (found.number - 1) found.blamed before)
+        (λ off. ap (λ l. option_map (blamed_of x) (numbered l found.number)) (filter_none (λ g. is_seen at x.number (f.placed ∷ whole) g.placed) f frames off) ∙ before);
+    stays = fixed_more at x.number f.placed whole is.stays;
   }
     where
-      before : option_map (blamed_of n) (numbered (seen_of at n (f.placed ∷ whole) frames) found.number) ≡ Some found.blamed
-      before = ap (λ l. option_map (blamed_of n) (numbered l found.number)) (same_seen_of at n f.placed whole frames is.stays) ∙ is.is
+      before : option_map (blamed_of x) (numbered (seen_of at x.number (f.placed ∷ whole) frames) found.number) ≡ Some found.blamed
+      before = ap (λ l. option_map (blamed_of x) (numbered l found.number)) (same_seen_of at x.number f.placed whole frames is.stays) ∙ is.is
 
-held_one : (n : ℕ) (f : Framed) (held : List Passed) (late : List Framed) → is_about_it n f ≡ true → held ≡ map (passed_of n) (reverse (filter (is_about_it n) late))
-    → held ++ passed_of n f ∷ [] ≡ map (passed_of n) (reverse (filter (is_about_it n) (f ∷ late)))
-held_one n f held late about is =
-    ap (λ l. l ++ passed_of n f ∷ []) is
-    ∙ sym (map-append (passed_of n) (reverse (filter (is_about_it n) late)) (f ∷ []))
-    ∙ ap (map (passed_of n)) (sym (reverse_one f (filter (is_about_it n) late)))
-    ∙ ap (λ l. map (passed_of n) (reverse l)) (sym (filter_one (is_about_it n) f late about))
+held_one : (x : Transfer) (f : Framed) (held : List Passed) (late : List Framed) → is_about_it x.number f ≡ true → held ≡ map (passed_of x) (reverse (filter (is_about_it x.number) late))
+    → held ++ passed_of x f ∷ [] ≡ map (passed_of x) (reverse (filter (is_about_it x.number) (f ∷ late)))
+held_one x f held late about is =
+    ap (λ l. l ++ passed_of x f ∷ []) is
+    ∙ sym (map-append (passed_of x) (reverse (filter (is_about_it x.number) late)) (f ∷ []))
+    ∙ ap (map (passed_of x)) (sym (reverse_one f (filter (is_about_it x.number) late)))
+    ∙ ap (λ l. map (passed_of x) (reverse l)) (sym (filter_one (is_about_it x.number) f late about))
 
-held_same : (n : ℕ) (f : Framed) (held : List Passed) (late : List Framed) → is_about_it n f ≡ false → held ≡ map (passed_of n) (reverse (filter (is_about_it n) late))
-    → held ≡ map (passed_of n) (reverse (filter (is_about_it n) (f ∷ late)))
-held_same n f held late off is = is ∙ ap (λ l. map (passed_of n) (reverse l)) (sym (filter_none (is_about_it n) f late off))
+held_same : (x : Transfer) (f : Framed) (held : List Passed) (late : List Framed) → is_about_it x.number f ≡ false → held ≡ map (passed_of x) (reverse (filter (is_about_it x.number) late))
+    → held ≡ map (passed_of x) (reverse (filter (is_about_it x.number) (f ∷ late)))
+held_same x f held late off is = is ∙ ap (λ l. map (passed_of x) (reverse l)) (sym (filter_none (is_about_it x.number) f late off))
 
 -- ---- the one of a number
 
-pub open_at : (forgotten : ℕ) (held : List Passed) (at : Point) (n : ℕ) (whole : List Placed) (frames : List Framed) (number : ℕ) → IsOpen forgotten held at n whole frames → forgotten < number
-    → option_map (λ q. q.blamed) (slice_get (filter (λ q. is_seen at n whole (placed_by q)) held) (number - forgotten - 1)) ≡ blamed_in at n whole frames number
-open_at forgotten held at n whole frames number is above =
-    let seen : Framed → Bool = λ f. is_seen at n whole f.placed in
-    let late_seen : List Framed = reverse (seen_of at n whole is.late) in
-    let early_seen : List Framed = reverse (seen_of at n whole is.early) in
-    let count : length early_seen ≡ forgotten = length-reverse (seen_of at n whole is.early) ∙ sym is.counted in
+pub open_at : (forgotten : ℕ) (held : List Passed) (at : Point) (x : Transfer) (whole : List Placed) (frames : List Framed) (number : ℕ) → IsOpen forgotten held at x whole frames → forgotten < number
+    → option_map (λ q. q.blamed) (slice_get (filter (λ q. is_seen at x.number whole (placed_by q)) held) (number - forgotten - 1)) ≡ blamed_in at x whole frames number
+open_at forgotten held at x whole frames number is above =
+    let seen : Framed → Bool = λ f. is_seen at x.number whole f.placed in
+    let late_seen : List Framed = reverse (seen_of at x.number whole is.late) in
+    let early_seen : List Framed = reverse (seen_of at x.number whole is.early) in
+    let count : length early_seen ≡ forgotten = length-reverse (seen_of at x.number whole is.early) ∙ sym is.counted in
     let place : number - 1 ≡ length early_seen + (number - forgotten - 1) = omega (arith, count, above) in
-    ap (λ l. option_map (λ q. q.blamed) (slice_get (filter (λ q. is_seen at n whole (placed_by q)) l) (number - forgotten - 1))) is.kept
+    ap (λ l. option_map (λ q. q.blamed) (slice_get (filter (λ q. is_seen at x.number whole (placed_by q)) l) (number - forgotten - 1))) is.kept
     ∙ ap (λ l. option_map (λ q. q.blamed) (slice_get l (number - forgotten - 1))) (
-    filter_map (passed_of n) (λ q. is_seen at n whole (placed_by q)) (reverse (filter (is_about_it n) is.late))
-    ∙ ap (map (passed_of n)) (
-    filter_agree (λ f. is_seen at n whole (placed_by (passed_of n f))) seen (λ f. held_seen at n whole f.placed.datagram f.placed.moment f.placed.place) (reverse (filter (is_about_it n) is.late))
-    ∙ filter_reverse seen (filter (is_about_it n) is.late)
-    ∙ ap reverse (filter_both seen (is_about_it n) (λ f off. seen_about at n whole f.placed off) is.late)))
-    ∙ ap (option_map (λ q. q.blamed)) (get_map (passed_of n) late_seen (number - forgotten - 1))
+    filter_map (passed_of x) (λ q. is_seen at x.number whole (placed_by q)) (reverse (filter (is_about_it x.number) is.late))
+    ∙ ap (map (passed_of x)) (
+    filter_agree (λ f. is_seen at x.number whole (placed_by (passed_of x f))) seen (λ f. held_seen at x.number whole f.placed.datagram f.placed.moment f.placed.place) (reverse (filter (is_about_it x.number) is.late))
+    ∙ filter_reverse seen (filter (is_about_it x.number) is.late)
+    ∙ ap reverse (filter_both seen (is_about_it x.number) (λ f off. seen_about at x.number whole f.placed off) is.late)))
+    ∙ ap (option_map (λ q. q.blamed)) (get_map (passed_of x) late_seen (number - forgotten - 1))
     ∙ blamed_there (slice_get late_seen (number - forgotten - 1))
-    ∙ ap (option_map (blamed_of n)) (sym (get_after early_seen late_seen (number - forgotten - 1)))
-    ∙ ap (λ k. option_map (blamed_of n) (slice_get (early_seen ++ late_seen) k)) (sym place)
-    ∙ ap (λ l. option_map (blamed_of n) (slice_get l (number - 1))) (
-    sym (reverse-append (seen_of at n whole is.late) (seen_of at n whole is.early))
+    ∙ ap (option_map (blamed_of x)) (sym (get_after early_seen late_seen (number - forgotten - 1)))
+    ∙ ap (λ k. option_map (blamed_of x) (slice_get (early_seen ++ late_seen) k)) (sym place)
+    ∙ ap (λ l. option_map (blamed_of x) (slice_get l (number - 1))) (
+    sym (reverse-append (seen_of at x.number whole is.late) (seen_of at x.number whole is.early))
     ∙ ap reverse (sym (filter-append seen is.late is.early))
-    ∙ ap (λ l. reverse (seen_of at n whole l)) (sym is.split))
+    ∙ ap (λ l. reverse (seen_of at x.number whole l)) (sym is.split))
   where
-    blamed_there : (o : Option Framed) → option_map (λ (q : Passed). q.blamed) (option_map (passed_of n) o) ≡ option_map (blamed_of n) o
+    blamed_there : (o : Option Framed) → option_map (λ (q : Passed). q.blamed) (option_map (passed_of x) o) ≡ option_map (blamed_of x) o
     blamed_there None = refl
     blamed_there (Some f) = refl
 
@@ -211,11 +211,11 @@ open_at forgotten held at n whole frames number is above =
 pub facts_new : (facts : ViewFacts) (at : Point) (x : Transfer) (whole : List Placed) (frames : List Framed) → facts.forgotten ≡ 0 → facts.held.items ≡ [] → facts.refused ≡ None
     → filter (is_about_it x.number) frames ≡ [] → AreFactsOf facts at x whole frames
 facts_new facts at x whole frames forgotten held refused unheard = record {
-  holds = subst (λ o. HoldsBy o facts at x.number whole frames) (sym refused) (record {
+  holds = subst (λ o. HoldsBy o facts at x whole frames) (sym refused) (record {
     late = frames;
     early = [];
     split = sym (append-nil frames);
-    kept = held ∙ sym (ap (λ l. map (passed_of x.number) (reverse l)) unheard);
+    kept = held ∙ sym (ap (λ l. map (passed_of x) (reverse l)) unheard);
     counted = forgotten;
     stays = inl refl;
   });
@@ -224,7 +224,7 @@ facts_new facts at x whole frames forgotten held refused unheard = record {
 }
 
 facts_more : (old new : ViewFacts) (at : Point) (x : Transfer) (f : Framed) (whole : List Placed) (frames : List Framed) → new.refused ≡ old.refused → new.forgotten ≡ old.forgotten
-    → (old.refused ≡ None → (late : List Framed) → old.held.items ≡ map (passed_of x.number) (reverse (filter (is_about_it x.number) late)) → new.held.items ≡ map (passed_of x.number) (reverse (filter (is_about_it x.number) (f ∷ late))))
+    → (old.refused ≡ None → (late : List Framed) → old.held.items ≡ map (passed_of x) (reverse (filter (is_about_it x.number) late)) → new.held.items ≡ map (passed_of x) (reverse (filter (is_about_it x.number) (f ∷ late))))
     → AreFactsOf old at x whole frames → AreFactsOf new at x (f.placed ∷ whole) (f ∷ frames)
 facts_more old new at x f whole frames refused forgotten held are = record {
   holds = by old.refused refl are.holds;
@@ -232,20 +232,20 @@ facts_more old new at x f whole frames refused forgotten held are = record {
       subst (λ o. IsHeldBy o new.forgotten number) (sym refused) (subst (λ k. IsHeldBy old.refused k number) (sym forgotten) (enough_more old at x f.placed whole are.enough more number rule said));
 }
   where
-    by : (o : Option Found) → old.refused ≡ o → HoldsBy o old at x.number whole frames → HoldsBy new.refused new at x.number (f.placed ∷ whole) (f ∷ frames)
+    by : (o : Option Found) → old.refused ≡ o → HoldsBy o old at x whole frames → HoldsBy new.refused new at x (f.placed ∷ whole) (f ∷ frames)
     by None none is =
-        subst (λ o. HoldsBy o new at x.number (f.placed ∷ whole) (f ∷ frames)) (sym (refused ∙ none))
-        (subst (λ k. IsOpen k new.held.items at x.number (f.placed ∷ whole) (f ∷ frames)) (sym forgotten) (open_more at x.number f whole frames old.forgotten old.held.items new.held.items (held none) is))
+        subst (λ o. HoldsBy o new at x (f.placed ∷ whole) (f ∷ frames)) (sym (refused ∙ none))
+        (subst (λ k. IsOpen k new.held.items at x (f.placed ∷ whole) (f ∷ frames)) (sym forgotten) (open_more at x f whole frames old.forgotten old.held.items new.held.items (held none) is))
     by (Some found) some is =
-        subst (λ o. HoldsBy o new at x.number (f.placed ∷ whole) (f ∷ frames)) (sym (refused ∙ some)) (found_more at x.number f whole frames found is)
+        subst (λ o. HoldsBy o new at x (f.placed ∷ whole) (f ∷ frames)) (sym (refused ∙ some)) (found_more at x f whole frames found is)
 
 -- one more is held
 pub facts_held : (old new : ViewFacts) (at : Point) (x : Transfer) (f : Framed) (whole : List Placed) (frames : List Framed) (passed : Passed) → new.refused ≡ old.refused → new.forgotten ≡ old.forgotten
-    → new.held.items ≡ old.held.items ++ passed ∷ [] → passed ≡ passed_of x.number f → is_about_it x.number f ≡ true
+    → new.held.items ≡ old.held.items ++ passed ∷ [] → passed ≡ passed_of x f → is_about_it x.number f ≡ true
     → AreFactsOf old at x whole frames → AreFactsOf new at x (f.placed ∷ whole) (f ∷ frames)
 facts_held old new at x f whole frames passed refused forgotten held is about are =
     facts_more old new at x f whole frames refused forgotten
-    (λ none late so. held ∙ ap (λ q. old.held.items ++ q ∷ []) is ∙ held_one x.number f old.held.items late about so) are
+    (λ none late so. held ∙ ap (λ q. old.held.items ++ q ∷ []) is ∙ held_one x f old.held.items late about so) are
 
 -- none is, where one is refused
 pub facts_kept : (facts : ViewFacts) (found : Found) (at : Point) (x : Transfer) (f : Framed) (whole : List Placed) (frames : List Framed) → facts.refused ≡ Some found
@@ -257,12 +257,12 @@ facts_kept facts found at x f whole frames is are =
 pub facts_passed_by : (facts : ViewFacts) (at : Point) (x : Transfer) (f : Framed) (whole : List Placed) (frames : List Framed) → is_about_it x.number f ≡ false
     → AreFactsOf facts at x whole frames → AreFactsOf facts at x (f.placed ∷ whole) (f ∷ frames)
 facts_passed_by facts at x f whole frames off are =
-    facts_more facts facts at x f whole frames refl refl (λ none late so. held_same x.number f facts.held.items late off so) are
+    facts_more facts facts at x f whole frames refl refl (λ none late so. held_same x f facts.held.items late off so) are
 
 pub facts_forgotten : (new : ViewFacts) (at : Point) (x : Transfer) (whole : List Placed) (frames : List Framed) (count : ℕ) → new.refused ≡ None → new.forgotten ≡ count → new.held.items ≡ []
     → map (λ g. g.placed) frames ≡ whole → Accepts at x whole count → AreFactsOf new at x whole frames
 facts_forgotten new at x whole frames count refused forgotten held all accepts = record {
-  holds = subst (λ o. HoldsBy o new at x.number whole frames) (sym refused) (record {
+  holds = subst (λ o. HoldsBy o new at x whole frames) (sym refused) (record {
     late = [];
     early = frames;
     split = refl;
@@ -275,29 +275,29 @@ facts_forgotten new at x whole frames count refused forgotten held all accepts =
 }
 
 pub facts_found : (new : ViewFacts) (found : Found) (at : Point) (x : Transfer) (whole : List Placed) (frames : List Framed) → new.refused ≡ Some found
-    → blamed_in at x.number whole frames found.number ≡ Some found.blamed → Refuses at x whole found.number → AreFactsOf new at x whole frames
+    → blamed_in at x whole frames found.number ≡ Some found.blamed → Refuses at x whole found.number → AreFactsOf new at x whole frames
 facts_found new found at x whole frames refused is refuses = record {
-  holds = subst (λ o. HoldsBy o new at x.number whole frames) (sym refused) (record { is = is; stays = refuses.fixed });
+  holds = subst (λ o. HoldsBy o new at x whole frames) (sym refused) (record { is = is; stays = refuses.fixed });
   enough = λ more number rule said. subst (λ o. IsHeldBy o new.forgotten number) (sym refused) (refuses.only more number rule said);
 }
 
 -- what is found among those that are held
 pub found_at : (facts : ViewFacts) (at : Point) (x : Transfer) (whole : List Placed) (frames : List Framed) (number n : ℕ) (result : Option Blamed) → facts.refused ≡ None → n ≡ x.number
     → (facts.forgotten < number → result ≡ option_map (λ q. q.blamed) (slice_get (filter (λ q. is_seen at n whole (placed_by q)) facts.held.items) (number - facts.forgotten - 1)))
-    → AreFactsOf facts at x whole frames → IsHeld facts number → result ≡ blamed_in at x.number whole frames number
+    → AreFactsOf facts at x whole frames → IsHeld facts number → result ≡ blamed_in at x whole frames number
 found_at facts at x whole frames number n result none own finds are held =
     let above : facts.forgotten < number = subst (λ o. IsHeldBy o facts.forgotten number) none held in
     finds above
     ∙ ap (λ k. option_map (λ (q : Passed). q.blamed) (slice_get (filter (λ q. is_seen at k whole (placed_by q)) facts.held.items) (number - facts.forgotten - 1))) own
-    ∙ open_at facts.forgotten facts.held.items at x.number whole frames number (subst (λ o. HoldsBy o facts at x.number whole frames) none are.holds) above
+    ∙ open_at facts.forgotten facts.held.items at x whole frames number (subst (λ o. HoldsBy o facts at x whole frames) none are.holds) above
 
 -- the one that is refused
 pub kept_at : (facts : ViewFacts) (found : Found) (at : Point) (x : Transfer) (whole : List Placed) (frames : List Framed) (number : ℕ) → facts.refused ≡ Some found
-    → AreFactsOf facts at x whole frames → IsHeld facts number → (found.number ≡ number) × (Some found.blamed ≡ blamed_in at x.number whole frames number)
+    → AreFactsOf facts at x whole frames → IsHeld facts number → (found.number ≡ number) × (Some found.blamed ≡ blamed_in at x whole frames number)
 kept_at facts found at x whole frames number is are held =
     let same : number ≡ found.number = subst (λ o. IsHeldBy o facts.forgotten number) is held in
-    let holds : IsFound found at x.number whole frames = subst (λ o. HoldsBy o facts at x.number whole frames) is are.holds in
-    (sym same, sym (ap (blamed_in at x.number whole frames) same ∙ holds.is))
+    let holds : IsFound found at x whole frames = subst (λ o. HoldsBy o facts at x whole frames) is are.holds in
+    (sym same, sym (ap (blamed_in at x whole frames) same ∙ holds.is))
 
 -- ---- the loop over those that are held
 

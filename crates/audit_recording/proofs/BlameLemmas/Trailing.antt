@@ -15,7 +15,7 @@ use Rattle.audit_recording.specs.Judges.{points_of}
 use Rattle.audit_recording.specs.Blame.Frames.{Carried, Framed, framed, framed_after, seen_of, view_of, whole_of}
 use Rattle.audit_recording.specs.Blame.Kept.{AreFactsOf, IsBlameOf, IsNoted, IsPassing, IsTrailBetween, IsTrailOf, comes_to, first_frame, is_about_it, is_copied, is_damaged, last_frame, last_time_in, passed_of, sent_of}
 use Rattle.audit_recording.specs.Reasons.Twice.{IsTwiceAfter, sent}
-use Rattle.audit_recording.specs.Blame.Facts.{blamed_of}
+use Rattle.audit_recording.specs.Blame.Facts.{blamed_of, has_gone_on, is_for_server}
 use Rattle.audit_recording.specs.Endings.Kept.{IsClosingOf}
 use Rattle.audit_recording.specs.declared.blame.passed.Passed.{Passed}
 use Rattle.audit_recording.specs.declared.blame.passing.Passing.{Passing}
@@ -29,8 +29,8 @@ all_placed named [] = refl
 all_placed named (c ∷ carried) = ap (λ l. (framed_after named carried c).placed ∷ l) (all_placed named carried)
 
 -- a datagram is held as it is by its parts
-pub passed_same : (n : ℕ) (f : Framed) (q : Passed) → q.blamed ≡ blamed_of n f → q.place ≡ f.placed.place → q.target ≡ f.placed.datagram.target → q ≡ passed_of n f
-passed_same n f q blamed place target = λ i. record { blamed = blamed i; place = place i; target = target i }
+pub passed_same : (x : Transfer) (f : Framed) (q : Passed) → q.blamed ≡ blamed_of x f → q.place ≡ f.placed.place → q.target ≡ f.placed.datagram.target → q ≡ passed_of x f
+passed_same x f q blamed place target = λ i. record { blamed = blamed i; place = place i; target = target i }
 
 -- ---- what a datagram is of
 
@@ -127,6 +127,16 @@ ends_unheard t n named carried is unheard new =
       answered = new.answered ∙ ap (answered_by t.number) (sym none) ∙ ap (λ k. answered_by k (filter (is_about n) whole)) is ∙ answered_kept n (is_about n) (about_none n) whole ∙ ap (λ k. answered_by k whole) (sym is);
       went_on = new.went_on ∙ ap (went_on_with t.number) (sym none) ∙ ap (λ k. went_on_with k (filter (is_about n) whole)) is ∙ went_on_kept n (is_about n) (about_none n) whole ∙ ap (λ k. went_on_with k whole) (sym is);
     }
+
+-- its client goes on by none that is not about it
+gone_same : (x : Transfer) (p : Placed) (whole : List Placed) → is_about x.number p ≡ false → has_gone_on x (p ∷ whole) ≡ has_gone_on x whole
+gone_same x p whole off = ap (λ b. (b && (same_endpoint p.datagram.source x.client && is_for_server p.datagram.payload)) || has_gone_on x whole) (about_none x.number p off)
+
+gone_unheard : (x : Transfer) (whole : List Placed) → filter (is_about x.number) whole ≡ [] → has_gone_on x whole ≡ false
+gone_unheard x [] unheard = refl
+gone_unheard x (p ∷ whole) unheard = by_test (is_about x.number p)
+    (λ is. let both : p ∷ filter (is_about x.number) whole ≡ [] = sym (filter_one (is_about x.number) p whole is) ∙ unheard in absurd (cc))
+    (λ off. gone_same x p whole off ∙ gone_unheard x whole (sym (filter_none (is_about x.number) p whole off) ∙ unheard))
 
 pub opens_about : (n : ℕ) (f : Framed) → is_about_it n f ≡ false → opened_it n f.placed ≡ false
 opens_about n f off = opens_by n f.placed.datagram f.placed.moment f.placed.place off
@@ -243,13 +253,31 @@ module _ (old mid new : Trail) (judging : Judging) (x : Transfer) (named : List 
         subst (λ l. IsTwiceAfter mid.twice (map sent_of l)) (sym view_more)
         (subst (λ d. IsTwiceAfter mid.twice (d ∷ map sent_of view)) same (own (subst IsSome (sym is) refl)))
 
+  -- its client has gone on by then, or not
+  pub gone_at : (place : Place) → place ≡ f.placed.place → (IsSome (transfer_of place) → IsNoted old mid passing) → (transfer_of place ≡ None → mid ≡ old)
+      → mid.has_gone_on ≡ has_gone_on x (whole_of named (c ∷ carried))
+  gone_at place at own beside = by (transfer_of place) refl where
+    is_own : is_of x.number f.placed ≡ is_some (transfer_of place)
+    is_own = own_about x.number f.placed about ∙ ap (λ p. is_some (transfer_of p)) (sym at)
+
+    among : Bool → Bool
+    among b = (b && (same_endpoint c.datagram.source x.client && is_for_server c.datagram.payload)) || has_gone_on x (whole_of named carried)
+
+    by : (o : Option Transfer) → transfer_of place ≡ o → mid.has_gone_on ≡ has_gone_on x (whole_of named (c ∷ carried))
+    by None none = ap (λ (t : Trail). t.has_gone_on) (beside none) ∙ was.has_gone_on ∙ ap among (sym (is_own ∙ ap is_some none))
+    by (Some y) is =
+        (own (subst IsSome (sym is) refl)).has_gone_on
+        ∙ (λ i. (same_endpoint (passes.source i) (was.transfer i).client && is_for_server (passes.payload i)) || was.has_gone_on i)
+        ∙ ap among (sym (is_own ∙ ap is_some is))
+
   pub trail_more : (place : Place) → place ≡ f.placed.place → (IsSome (transfer_of place) → IsNoted old mid passing) → (transfer_of place ≡ None → mid ≡ old)
       → new.transfer ≡ mid.transfer → new.first ≡ mid.first → new.last ≡ mid.last → new.count ≡ mid.count → new.last_time ≡ mid.last_time → new.is_answered ≡ mid.is_answered
       → new.copied_from ≡ or_this mid.copied_from passing.is_doubtful passing.frame → new.damaged ≡ or_this mid.damaged passing.has_error passing.frame
       → new.ends.number ≡ x.number → AreEndsAfter new.ends (whole_of named (c ∷ carried)) → (opened_it x.number f.placed ≡ true → c.frame ≡ old.first)
+      → new.has_gone_on ≡ has_gone_on x (whole_of named (c ∷ carried))
       → IsTwiceAfter new.twice (map sent_of (view_of Client x.number named (c ∷ carried))) → IsClosingOf new.closing x (view_of Client x.number named (c ∷ carried))
       → IsBlameOf new.blame judging x (whole_of named (c ∷ carried)) (framed named (c ∷ carried)) → IsTrailOf new judging x named (c ∷ carried)
-  trail_more place at own beside transfer first last count last_time is_answered copied_from damaged number ends opens twice closing blame =
+  trail_more place at own beside transfer first last count last_time is_answered copied_from damaged number ends opens gone twice closing blame =
       let m = noted_at place at own beside in
       let frames = framed named carried in
       record {
@@ -262,6 +290,7 @@ module _ (old mid new : Trail) (judging : Judging) (x : Transfer) (named : List 
         count = count ∙ m.told.count;
         last_time = last_time ∙ m.told.last_time;
         is_answered = is_answered ∙ m.told.is_answered;
+        has_gone_on = gone;
         twice = twice;
         copied_from = copied_from ∙ first_one (is_copied x.number) f frames mid.copied_from passing.is_doubtful passing.frame (m.copied_from ∙ was.copied_from)
             (and_first (is_about x.number f.placed) passing.is_doubtful c.is_doubtful about passes.is_doubtful) passes.frame;
@@ -301,6 +330,7 @@ trail_passed_by t judging x named c carried off was =
       count = was.count ∙ ap (λ (l : List Framed). min (length l) (2 ^ 64 - 1)) (sym view_same);
       last_time = was.last_time ∙ ap last_time_in (sym view_same);
       is_answered = was.is_answered ∙ ap (list_any (comes_to x)) (sym view_same);
+      has_gone_on = was.has_gone_on ∙ sym (gone_same x f.placed (whole_of named carried) off);
       twice = subst (λ l. IsTwiceAfter t.twice (map sent_of l)) (sym view_same) was.twice;
       copied_from = was.copied_from ∙ sym (first_same (is_copied x.number) f frames (and_none (is_about x.number f.placed) c.is_doubtful off));
       damaged = was.damaged ∙ sym (first_same (is_damaged x.number) f frames (and_none (is_about x.number f.placed) c.has_error off));
@@ -316,9 +346,9 @@ between_passed_by t judging x named c carried off was there =
 -- ---- none yet
 
 pub trail_new : (t : Trail) (judging : Judging) (x : Transfer) (named : List ℕ) (carried : List Carried) → filter (is_about_it x.number) (framed named carried) ≡ []
-    → t.transfer ≡ x → t.ends.number ≡ x.number → AreEndsAfter t.ends [] → t.last ≡ t.first → t.count ≡ 0 → t.last_time ≡ 0 → t.is_answered ≡ false → t.copied_from ≡ None → t.damaged ≡ None
+    → t.transfer ≡ x → t.ends.number ≡ x.number → AreEndsAfter t.ends [] → t.last ≡ t.first → t.count ≡ 0 → t.last_time ≡ 0 → t.is_answered ≡ false → t.has_gone_on ≡ false → t.copied_from ≡ None → t.damaged ≡ None
     → IsTwiceAfter t.twice [] → IsClosingOf t.closing x [] → IsBlameOf t.blame judging x (whole_of named carried) (framed named carried) → IsTrailOf t judging x named carried
-trail_new t judging x named carried unheard transfer number ends last count last_time is_answered copied_from damaged twice closing blame =
+trail_new t judging x named carried unheard transfer number ends last count last_time is_answered gone copied_from damaged twice closing blame =
     let frames = framed named carried in
     let none : view_of Client x.number named carried ≡ [] = view_unheard x.number frames unheard in
     record {
@@ -330,6 +360,7 @@ trail_new t judging x named carried unheard transfer number ends last count last
       count = count ∙ ap (λ (l : List Framed). min (length l) (2 ^ 64 - 1)) (sym none);
       last_time = last_time ∙ ap last_time_in (sym none);
       is_answered = is_answered ∙ ap (list_any (comes_to x)) (sym none);
+      has_gone_on = gone ∙ sym (gone_unheard x (whole_of named carried) (whole_unheard x.number named carried unheard));
       twice = subst (λ l. IsTwiceAfter t.twice (map sent_of l)) (sym none) twice;
       copied_from = copied_from ∙ sym (no_first x.number (is_copied x.number) (λ f off. and_none (is_about x.number f.placed) f.carried.is_doubtful off) frames unheard);
       damaged = damaged ∙ sym (no_first x.number (is_damaged x.number) (λ f off. and_none (is_about x.number f.placed) f.carried.has_error off) frames unheard);

@@ -15,7 +15,7 @@ may_lose_too lose session named out history carried s is = record {
   noticed = is.noticed;
   kept = record {
     audit = is.kept.audit;
-    notes = record { losses = is.kept.notes.losses; frames = is.kept.notes.frames; intact = is.kept.notes.intact; clock = is.kept.notes.clock };
+    notes = record { losses = is.kept.notes.losses; frames = is.kept.notes.frames; intact = is.kept.notes.intact; clock = is.kept.notes.clock; kinds = is.kept.notes.kinds };
     trails = is.kept.trails;
   };
 }

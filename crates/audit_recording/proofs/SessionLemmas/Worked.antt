@@ -1,8 +1,8 @@
 -- What is noticed of the worked recording.
-use Rattle.std.proofs.Common.{◌≡◌, ◌+◌, ◌↔◌, ◌∷◌, ℕ, true, false, List, [], length, get_or, codes, inl, Some, None, Vec, Global, refl, sym, ap, subst, arith, rules}
+use Rattle.std.proofs.Common.{◌≡◌, ◌+◌, ◌↔◌, ◌∷◌, ℕ, true, false, List, [], length, get_or, codes, ◌<◌, inl, Some, None, Vec, Global, refl, sym, ap, subst, arith, rules}
 use Rattle.std.proofs.lemmas.Bool.{false≢true}
 use Rattle.net_udp.specs.Fragments.{content_of as put_together}
-use Rattle.net_udp.specs.Frames.{HasHeader, IsBetween, Packet, Reached, SpellsFrame, SpellsLink, SpellsUdp, acknowledgement, at, held_of, host, is_opened, is_wrapping, source_of, target_of, udp_bytes}
+use Rattle.net_udp.specs.Frames.{HasHeader, IsBetween, Packet, Reached, SpellsFrame, SpellsLink, SpellsUdp, acknowledgement, at, held_of, host, is_opened, is_wrapping, place, source_of, target_of, udp_bytes}
 use Rattle.net_udp.specs.Frames.Extension.{leads_on}
 use Rattle.net_udp.specs.Frames.Ip.{part_of}
 use Rattle.net_udp.specs.declared.frames.link.Network.TheVariants.{Ipv4}
@@ -15,7 +15,10 @@ use Rattle.net_udp.specs.declared.frames.link.LinkType.TheVariants.{RawIpv4}
 use Rattle.net_udp.specs.declared.frames.packet.Direction.TheVariants.{Unknown}
 use Rattle.net_udp.specs.declared.recording.fate.Datagram.{Datagram as Given}
 use Rattle.net_udp.specs.declared.recording.fate.Fate.TheVariants.{Datagram, Left, Waits}
-use Rattle.net_udp.specs.declared.recording.fate.LeftOut.TheVariants.{Empty}
+use Rattle.net_udp.specs.declared.frames.fault.FrameFault.{FrameFault}
+use Rattle.net_udp.specs.declared.frames.fault.FrameFault.TheVariants as frame
+use Rattle.net_udp.specs.declared.recording.fate.LeftOut.TheVariants.{Copy, Empty, Frame}
+use Rattle.net_udp.specs.declared.recording.likeness.Likeness.TheVariants as likeness
 use Rattle.net_udp.proofs.FramesLemmas.Tunnels.{plainly, spells_ipv4}
 use Rattle.net_udp.proofs.RecordingLemmas.Examples.{last_spells}
 use Rattle.tftp_packet.specs.{Message, Spells}
@@ -27,11 +30,11 @@ use Rattle.audit_flows.specs.{Place}
 use Rattle.audit_recording.specs.Audit.{IsOfEvent}
 use Rattle.audit_recording.specs.Audit.Passed.{IsRequest, end_of}
 use Rattle.audit_recording.specs.Blame.Frames.{framed_after}
-use Rattle.audit_recording.specs.Losses.Noted.Event.{Asks, Finds, Waits as Awaits}
+use Rattle.audit_recording.specs.Losses.Noted.Event.{Asks, Finds, Loses, Waits as Awaits}
 use Rattle.audit_recording.specs.Reasons.Spoilt.{checked}
 use Rattle.audit_recording.specs.Session.Noted.{Noticed, finding, nothing_noticed}
-use Rattle.audit_recording.specs.Session.Recording.{IsNoticedOf, asking, passing_at}
-use Rattle.audit_recording.specs.Session.Worked.{ack_carried, at_second, frame_at, request, request_bytes, request_carried, request_packet, request_udp, step_of, unread_at, worked_noticed, worked_steps}
+use Rattle.audit_recording.specs.Session.Recording.{IsNoticedOf, asking, passing_at, setting_aside}
+use Rattle.audit_recording.specs.Session.Worked.{ack_carried, at_second, frame_at, request, request_bytes, request_carried, request_packet, request_udp, step_of, told_noticed, told_steps, unread_at, worked_noticed, worked_steps}
 
 -- ---- what the frames are
 
@@ -129,6 +132,10 @@ module _ (content : Made) (frames : Vec ℕ Global) (asked acked : Given) (is : 
     seen = checked 2 client.address (Some true) ∷ [];
     gone = [];
     times = 2000000000 ∷ [];
+    copies = [];
+    other_links = [];
+    of_none = [];
+    backwards = [];
   }
 
   asked_noticed : IsNoticedOf [] (second ∷ first ∷ []) (request_carried ∷ []) has_asked
@@ -167,6 +174,10 @@ module _ (content : Made) (frames : Vec ℕ Global) (asked acked : Given) (is : 
     seen = checked 3 client.address (Some true) ∷ checked 2 client.address (Some true) ∷ [];
     gone = [];
     times = 3000000000 ∷ 2000000000 ∷ [];
+    copies = [];
+    other_links = [];
+    of_none = [];
+    backwards = [];
   }
 
   acked_noticed : IsNoticedOf [] (third ∷ second ∷ first ∷ []) (ack_carried ∷ request_carried ∷ []) has_acked
@@ -194,7 +205,7 @@ module _ (content : Made) (frames : Vec ℕ Global) (asked acked : Given) (is : 
         };
       },
       refl,
-      sym (ap (λ (l : List ℕ). asking at 3 (passing_at at Right ack_carried (finding 0 l has_asked))) of),
+      sym (ap (λ (l : List ℕ). setting_aside at 3 (asking at 3 (passing_at at Right ack_carried (finding 0 l has_asked)))) of),
     ),
   ) where
     at : Place
@@ -211,3 +222,54 @@ module _ (content : Made) (frames : Vec ℕ Global) (asked acked : Given) (is : 
     refl,
     (refl, (Some (host 7, host 1), between last_bytes (omega arith, refl, (refl, refl)) (omega arith, refl, omega arith, omega arith) refl refl refl, refl)),
   )
+
+-- ---- three frames of which something is told
+
+none_before_link : (f : FrameFault) → place f < 1 → ⊥
+none_before_link frame.Link low = omega arith
+none_before_link frame.Frame low = omega arith
+none_before_link frame.Network low = omega arith
+none_before_link frame.Header low = omega arith
+none_before_link frame.Protocol low = omega arith
+none_before_link frame.Length low = omega arith
+none_before_link frame.Cut low = omega arith
+none_before_link frame.Extension low = omega arith
+
+abbrev lost_step : Step
+lost_step = step_of (frame_at (at_second 1) last_bytes) (Some Bare) None
+
+abbrev copy_step : Step
+copy_step = record (step_of (frame_at None last_bytes) None None) { likeness = likeness.Copy }
+
+abbrev other_step : Step
+other_step = step_of (record (frame_at None []) { link = 9999 }) None None
+
+abbrev lost_one : Noticed
+lost_one = record nothing_noticed { last = 1; events = Loses (unread_at 1 1000000000) ∷ [] }
+
+one_lost : IsNoticedOf [] (lost_step ∷ []) [] lost_one
+one_lost = (
+  [],
+  nothing_noticed,
+  event_of 1 lost_step,
+  Left Empty,
+  (refl, refl),
+  is_event 1 lost_step [] refl,
+  refl,
+  (refl, (Some (host 7, host 1), between last_bytes (omega arith, refl, (refl, refl)) (omega arith, refl, omega arith, omega arith) refl refl refl, refl)),
+)
+
+one_copied : IsNoticedOf [] (copy_step ∷ lost_step ∷ []) [] (record lost_one { copies = 2 ∷ [] })
+one_copied = ([], lost_one, event_of 2 copy_step, Left Copy, one_lost, is_event 2 copy_step (lost_step ∷ []) refl, refl, (refl, refl))
+
+pub told_is : IsNoticedOf [] told_steps [] told_noticed
+told_is = (
+  [],
+  record lost_one { copies = 2 ∷ [] },
+  event_of 3 other_step,
+  Left (Frame frame.Link),
+  one_copied,
+  is_event 3 other_step (copy_step ∷ lost_step ∷ []) refl,
+  inl (refl, λ earlier low holds. none_before_link earlier low),
+  (refl, refl),
+)

@@ -22,7 +22,7 @@ use Rattle.audit_recording.specs.declared.rows.row.Point.TheVariants.{Client, Se
 use Rattle.audit_recording.specs.Endings.Kept.{IsClosingOf}
 use Rattle.audit_recording.specs.Judges.{points_of}
 use Rattle.audit_recording.specs.Blame.Frames.{Carried, Framed, framed, is_seen, numbered, seen_of, view_of, whole_of}
-use Rattle.audit_recording.specs.Blame.Facts.{IsRefusedAt, blamed_of}
+use Rattle.audit_recording.specs.Blame.Facts.{IsRefusedAt, blamed_of, has_gone_on, is_for_server}
 use Rattle.audit_recording.specs.Reasons.Twice.{IsTwiceAfter, Sent, sent}
 
 -- ---- what a judge tells
@@ -52,8 +52,8 @@ IsTold point x whole (Refused number) = Refuses point x whole number
 -- ---- the facts of one view
 
 -- a datagram about this transfer, as it is held
-abbrev pub passed_of : ℕ → Framed → Passed
-passed_of n f = record { blamed = blamed_of n f; place = f.placed.place; target = f.placed.datagram.target }
+abbrev pub passed_of : Transfer → Framed → Passed
+passed_of x f = record { blamed = blamed_of x f; place = f.placed.place; target = f.placed.datagram.target }
 
 -- a datagram with its place and its ends, as it is held
 abbrev pub placed_by : Passed → Placed
@@ -67,26 +67,26 @@ abbrev pub is_about_it : ℕ → Framed → Bool
 is_about_it n f = is_about n f.placed
 
 -- the facts of the datagram of that number that was seen there
-abbrev pub blamed_in : Point → ℕ → List Placed → List Framed → ℕ → Option Blamed
-blamed_in point n whole frames number = option_map (blamed_of n) (numbered (seen_of point n whole frames) number)
+abbrev pub blamed_in : Point → Transfer → List Placed → List Framed → ℕ → Option Blamed
+blamed_in point x whole frames number = option_map (blamed_of x) (numbered (seen_of point x.number whole frames) number)
 
 -- All is held but for the early ones, of which so many were seen there.
-pub record IsOpen (forgotten : ℕ) (held : List Passed) (point : Point) (n : ℕ) (whole : List Placed) (frames : List Framed) : Type 0 where
+pub record IsOpen (forgotten : ℕ) (held : List Passed) (point : Point) (x : Transfer) (whole : List Placed) (frames : List Framed) : Type 0 where
   pub late : List Framed
   pub early : List Framed
   pub split : frames ≡ late ++ early
-  pub kept : held ≡ map (passed_of n) (reverse (filter (is_about_it n) late))
-  pub counted : forgotten ≡ length (seen_of point n whole early)
-  pub stays : (early ≡ []) ⊎ IsFixed point n whole
+  pub kept : held ≡ map (passed_of x) (reverse (filter (is_about_it x.number) late))
+  pub counted : forgotten ≡ length (seen_of point x.number whole early)
+  pub stays : (early ≡ []) ⊎ IsFixed point x.number whole
 
 -- The refused one is kept.
-pub record IsFound (found : Found) (point : Point) (n : ℕ) (whole : List Placed) (frames : List Framed) : Type 0 where
-  pub is : blamed_in point n whole frames found.number ≡ Some found.blamed
-  pub stays : IsFixed point n whole
+pub record IsFound (found : Found) (point : Point) (x : Transfer) (whole : List Placed) (frames : List Framed) : Type 0 where
+  pub is : blamed_in point x whole frames found.number ≡ Some found.blamed
+  pub stays : IsFixed point x.number whole
 
-abbrev pub HoldsBy : Option Found → ViewFacts → Point → ℕ → List Placed → List Framed → Type 0
-HoldsBy None facts point n whole frames = IsOpen facts.forgotten facts.held.items point n whole frames
-HoldsBy (Some found) facts point n whole frames = IsFound found point n whole frames
+abbrev pub HoldsBy : Option Found → ViewFacts → Point → Transfer → List Placed → List Framed → Type 0
+HoldsBy None facts point x whole frames = IsOpen facts.forgotten facts.held.items point x whole frames
+HoldsBy (Some found) facts point x whole frames = IsFound found point x whole frames
 
 -- the datagram of that number is held
 abbrev pub IsHeldBy : Option Found → ℕ → ℕ → Type 0
@@ -98,7 +98,7 @@ IsHeld facts number = IsHeldBy facts.refused facts.forgotten number
 
 -- They are the facts of what was seen there, and of each that can be refused there, whatever comes.
 pub record AreFactsOf (facts : ViewFacts) (point : Point) (x : Transfer) (whole : List Placed) (frames : List Framed) : Type 0 where
-  pub holds : HoldsBy facts.refused facts point x.number whole frames
+  pub holds : HoldsBy facts.refused facts point x whole frames
   pub enough : (more : List Placed) (number : ℕ) (rule : Rule) → IsRefusedAt point x (more ++ whole) number rule → IsHeld facts number
 
 -- the facts of each end's view where the transfer is judged
@@ -156,6 +156,7 @@ pub record IsSameBut (old new : Trail) : Type 0 where
   pub count : new.count ≡ old.count
   pub last_time : new.last_time ≡ old.last_time
   pub ends : new.ends ≡ old.ends
+  pub has_gone_on : new.has_gone_on ≡ old.has_gone_on
   pub left_out : new.left_out ≡ old.left_out
   pub copied_from : new.copied_from ≡ old.copied_from
   pub damaged : new.damaged ≡ old.damaged
@@ -169,6 +170,7 @@ pub record IsNoted (old new : Trail) (passing : Passing) : Type 0 where
   pub last : new.last ≡ passing.frame
   pub last_time : new.last_time ≡ max old.last_time (unwrap_or passing.time 0)
   pub is_answered : new.is_answered ≡ (same_endpoint passing.target old.transfer.client || old.is_answered)
+  pub has_gone_on : new.has_gone_on ≡ ((same_endpoint passing.source old.transfer.client && is_for_server passing.payload.now) || old.has_gone_on)
   pub transfer : new.transfer ≡ old.transfer
   pub request : new.request ≡ old.request
   pub first : new.first ≡ old.first
@@ -193,6 +195,7 @@ pub record IsTrailOf (t : Trail) (judging : Judging) (x : Transfer) (named : Lis
   pub count : t.count ≡ min (length (view_of Client x.number named carried)) (2 ^ 64 - 1)
   pub last_time : t.last_time ≡ last_time_in (view_of Client x.number named carried)
   pub is_answered : t.is_answered ≡ list_any (comes_to x) (view_of Client x.number named carried)
+  pub has_gone_on : t.has_gone_on ≡ has_gone_on x (whole_of named carried)
   pub twice : IsTwiceAfter t.twice (map sent_of (view_of Client x.number named carried))
   pub copied_from : t.copied_from ≡ first_frame (is_copied x.number) (framed named carried)
   pub damaged : t.damaged ≡ first_frame (is_damaged x.number) (framed named carried)

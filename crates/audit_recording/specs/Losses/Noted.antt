@@ -108,6 +108,10 @@ pub record IsTold (Such : ℕ → ℕ → Type 0) (w : Stretch) (told : Option �
   pub sound : (n : ℕ) → told ≡ Some n → (time : ℕ) × Such n time × (is_soon w n time ≡ true)
   pub first : (n time : ℕ) → Such n time → ((m later : ℕ) → Such m later → n ≤ m) → ((any : ℕ) → Such n any → is_soon w n any ≡ true) → told ≡ Some n
 
+-- such a frame stands among the transfer's datagrams or passed soon after
+abbrev pub MayMiss : Stretch → List Event → Type 0
+MayMiss w history = (n time : ℕ) × IsMissingOf w.client history n time × (is_soon w n time ≡ true)
+
 -- ---- worked
 
 -- a frame of unknown hosts

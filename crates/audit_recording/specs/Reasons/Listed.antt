@@ -125,6 +125,7 @@ worked_blamed frame is_late = record {
   is_late = is_late;
   is_beside = false;
   is_answered = false;
+  has_gone_on = false;
   speaks_first = false;
   says_first_word = false;
   follows_unknown_id = false;

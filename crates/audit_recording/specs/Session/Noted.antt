@@ -1,5 +1,5 @@
 -- What is noted of a recording, and what is kept of it. Lists have the newest first.
-use Rattle.std.specs.Prelude.{◌≤◌, ◌++◌, ◌==◌, not, max, ℕ, Bool, true, false, List, [], ◌∷◌, Option, Some, None, MatchOption, filter, unwrap_or, if◌then◌else◌}
+use Rattle.std.specs.Prelude.{◌≤◌, ◌++◌, ◌==◌, not, max, ℕ, Bool, true, false, List, [], ◌∷◌, Option, Some, None, MatchOption, filter, map, nat_lt, unwrap_or, if◌then◌else◌}
 use Rattle.std.specs.declared.net.ip_addr.IpAddr.{IpAddr}
 use Rattle.net_udp.specs.Fragments.{Sets}
 use Rattle.net_udp.specs.Frames.{IsBetween}
@@ -19,20 +19,46 @@ use Rattle.audit_recording.specs.Losses.Kept.{AreLosses}
 use Rattle.audit_recording.specs.Reasons.Clock.{IsClockAfter, last_of}
 use Rattle.audit_recording.specs.Reasons.Spoilt.{Checked, checked}
 use Rattle.audit_recording.specs.Session.Intact.{AreIntactAfter, Gone}
+use Rattle.audit_recording.specs.Session.Told.{AreKindsOf, Told}
 
 -- ---- what was noted
 
 -- The number of the newest frame that was noted as one that asks, waits or is lost; what befell those that are not there whole; the
--- datagrams of transfers, with what their checksums tell; those that their hosts discarded; and the times of the former.
+-- datagrams of transfers, with what their checksums tell; those that their hosts discarded; and the times of the former. And the frames
+-- that were left out as copies, those of another link type, those of datagrams of no transfer, and those that are older than the one before.
 pub record Noticed : Type 0 where
   pub last : ℕ
   pub events : List Event
   pub seen : List Checked
   pub gone : List Gone
   pub times : List ℕ
+  pub copies : List ℕ
+  pub other_links : List ℕ
+  pub of_none : List ℕ
+  pub backwards : List ℕ
 
 abbrev pub nothing_noticed : Noticed
-nothing_noticed = record { last = 0; events = []; seen = []; gone = []; times = [] }
+nothing_noticed = record { last = 0; events = []; seen = []; gone = []; times = []; copies = []; other_links = []; of_none = []; backwards = [] }
+
+-- the frames that are not there whole: those that are lost, and those that waited in vain
+abbrev pub lost_frames : List Event → List ℕ
+lost_frames [] = []
+lost_frames (Asks host frame ∷ older) = lost_frames older
+lost_frames (Loses f ∷ older) = f.frame ∷ lost_frames older
+lost_frames (Waits f ∷ older) = lost_frames older
+lost_frames (Finds frame clock ∷ older) = lost_frames older
+lost_frames (GivesUp frame ∷ older) = frame ∷ lost_frames older
+
+-- what is to be told of them, each by what became of it
+abbrev pub told_in : Noticed → Told
+told_in s = record {
+  copies = s.copies;
+  discarded = map (λ g. g.frame) s.gone;
+  other_links = s.other_links;
+  of_none = s.of_none;
+  backwards = s.backwards;
+  lost = lost_frames s.events;
+}
 
 -- each that asks, waits or is lost stands in a frame up to this one
 abbrev pub AreUpTo : ℕ → List Event → Type 0
@@ -49,6 +75,7 @@ pub record AreNotesOf (n : Notes) (s : Noticed) : Type 0 where
   pub frames : AreUpTo s.last s.events
   pub intact : AreIntactAfter n.intact s.seen s.gone
   pub clock : IsClockAfter n.clock s.times
+  pub kinds : AreKindsOf n.kinds (told_in s)
 
 -- ---- one more
 
@@ -78,9 +105,26 @@ abbrev pub with_time : Option ℕ → List ℕ → List ℕ
 with_time None times = times
 with_time (Some time) times = time ∷ times
 
+-- its frame, where its time is before that of the datagram before
+abbrev pub going_back : ℕ → Option ℕ → List ℕ → List ℕ → List ℕ
+going_back frame None times older = older
+going_back frame (Some time) times older = if nat_lt time (last_of times) then frame ∷ older else older
+
 -- a datagram of a transfer has passed
 abbrev pub passing_by : Passing → Noticed → Noticed
-passing_by p s = record s { seen = checked p.frame p.source.address p.is_intact ∷ s.seen; times = with_time p.time s.times }
+passing_by p s = record s {
+  seen = checked p.frame p.source.address p.is_intact ∷ s.seen;
+  times = with_time p.time s.times;
+  backwards = going_back p.frame p.time s.times s.backwards;
+}
+
+-- a datagram in that frame is of no transfer
+abbrev pub leaving_aside : ℕ → Noticed → Noticed
+leaving_aside frame s = record s { of_none = frame ∷ s.of_none }
+
+-- a datagram was discarded
+abbrev pub going : Gone → Noticed → Noticed
+going g s = record s { gone = g ∷ s.gone }
 
 -- ---- one frame
 
@@ -126,9 +170,21 @@ is_none (Frame frame.Protocol) = true
 is_none (Udp udp.Port) = true
 is_none _ = false
 
+abbrev pub copies_with : LeftOut → ℕ → List ℕ → List ℕ
+copies_with Copy n older = n ∷ older
+copies_with _ n older = older
+
+abbrev pub other_links_with : LeftOut → ℕ → List ℕ → List ℕ
+other_links_with (Frame frame.Link) n older = n ∷ older
+other_links_with _ n older = older
+
+-- the frame is a copy, or of another link type, where that is why
+abbrev pub keeping : LeftOut → ℕ → Noticed → Noticed
+keeping why n s = record s { copies = copies_with why n s.copies; other_links = other_links_with why n s.other_links }
+
 -- what is left out that is no loss
 abbrev pub leaving : ℕ → LeftOut → EventState → Noticed → Noticed
-leaving reached why event s = if is_none why then finding reached (sharers_of event) s else s
+leaving reached why event s = keeping why event.frame.number (if is_none why then finding reached (sharers_of event) s else s)
 
 -- ---- of a transfer
 

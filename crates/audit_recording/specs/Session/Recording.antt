@@ -18,7 +18,7 @@ use Rattle.audit_recording.specs.Losses.Noted.Event.{Asks, Waits as Awaits}
 use Rattle.audit_recording.specs.Reasons.Clock.{last_of}
 use Rattle.audit_recording.specs.Reasons.Spoilt.{checked}
 use Rattle.audit_recording.specs.Session.Intact.{Gone}
-use Rattle.audit_recording.specs.Session.Noted.{AreHostsOf, Noticed, finding, frames_in, giving_up, leaving, losing, may_be_datagram, nothing_noticed, noting, sharers_of, unread_in, with_time}
+use Rattle.audit_recording.specs.Session.Noted.{AreHostsOf, Noticed, finding, frames_in, giving_up, going, going_back, leaving, leaving_aside, losing, may_be_datagram, nothing_noticed, noting, sharers_of, unread_in, with_time}
 
 -- the latest moment that two in a row have reached, or 0
 abbrev pub reached_by : List ℕ → ℕ
@@ -57,6 +57,7 @@ abbrev pub passing_at : Place → Checksum → Carried → Noticed → Noticed
 passing_at place checksum c s = record s {
   seen = checked c.frame c.datagram.source.address (intact_at place checksum) ∷ s.seen;
   times = with_time c.time s.times;
+  backwards = going_back c.frame c.time s.times s.backwards;
 }
 
 -- where it opens a transfer, its client asks
@@ -64,9 +65,19 @@ abbrev pub asking : Place → ℕ → Noticed → Noticed
 asking (Opens x) frame s = noting (Asks x.client.address frame) frame s
 asking place frame s = s
 
--- its packet is there whole, it has passed, and it may ask
+-- where it is about no transfer, that is noted
+abbrev pub setting_aside : Place → ℕ → Noticed → Noticed
+setting_aside (Opens x) frame s = s
+setting_aside (Repeats x) frame s = s
+setting_aside (Talks x) frame s = s
+setting_aside (Beside x) frame s = s
+setting_aside (Apart c) frame s = leaving_aside frame s
+setting_aside Nowhere frame s = leaving_aside frame s
+
+-- its packet is there whole, it has passed, it may ask, and it may be of no transfer
 abbrev pub placing : Place → EventState → Carried → Noticed → Noticed
-placing place event c s = asking place c.frame (passing_at place (checksum_told event.sent) c (finding (reached_by s.times) (sharers_of event) s))
+placing place event c s =
+    setting_aside place c.frame (asking place c.frame (passing_at place (checksum_told event.sent) c (finding (reached_by s.times) (sharers_of event) s)))
 
 -- ---- what is no datagram of a transfer
 
@@ -78,9 +89,6 @@ gone_by event given times = record {
   frame = event.frame.number;
   time = unwrap_or event.frame.parts.time (last_of times);
 }
-
-abbrev pub going : Gone → Noticed → Noticed
-going g s = record s { gone = g ∷ s.gone }
 
 -- what is left out: it is lost where it may have been a datagram
 abbrev pub Leaves : Bool → LeftOut → EventState → Noticed → Noticed → Type 0

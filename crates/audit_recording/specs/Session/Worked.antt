@@ -11,14 +11,14 @@ use Rattle.net_udp.specs.declared.fragments.outcome.Outcome.{Outcome}
 use Rattle.net_udp.specs.declared.fragments.outcome.Outcome.TheVariants.{Empty, Waits, Whole}
 use Rattle.net_udp.specs.declared.frames.checksum.Checksum.TheVariants.{Right}
 use Rattle.net_udp.specs.declared.frames.packet.Direction.TheVariants.{Unknown}
-use Rattle.net_udp.specs.declared.recording.likeness.Likeness.TheVariants.{New}
+use Rattle.net_udp.specs.declared.recording.likeness.Likeness.TheVariants.{Copy, New}
 use Rattle.net_udp.specs.declared.recording.sent.Sent.{Sent}
 use Rattle.audit_flows.specs.Transfers.{ack_of, client, read_of, service}
 use Rattle.audit_recording.specs.Blame.Frames.{Carried}
 use Rattle.audit_recording.specs.Losses.Noted.{Unread}
 use Rattle.audit_recording.specs.Losses.Noted.Event.{Asks, Finds, Loses, Waits as Awaits}
 use Rattle.audit_recording.specs.Reasons.Spoilt.{checked}
-use Rattle.audit_recording.specs.Session.Noted.{Noticed}
+use Rattle.audit_recording.specs.Session.Noted.{Noticed, nothing_noticed}
 
 -- ---- the request, made by Python's struct, its checksums by RFC 1071, section 4.1
 
@@ -95,4 +95,21 @@ worked_noticed = record {
   seen = checked 3 client.address (Some true) ∷ checked 2 client.address (Some true) ∷ [];
   gone = [];
   times = 3000000000 ∷ 2000000000 ∷ [];
+  copies = [];
+  other_links = [];
+  of_none = [];
+  backwards = [];
 }
+
+-- ---- a recording of which three things are told
+
+-- Frame 1 is the fragment that brings no byte, at second 1, frame 2 a copy, and frame 3 of a link type that is not read.
+abbrev pub told_steps : List Step
+told_steps =
+    step_of (record (frame_at None []) { link = 9999 }) None None
+    ∷ record (step_of (frame_at None last_bytes) None None) { likeness = Copy }
+    ∷ step_of (frame_at (at_second 1) last_bytes) (Some Empty) None
+    ∷ []
+
+abbrev pub told_noticed : Noticed
+told_noticed = record nothing_noticed { last = 1; events = Loses (unread_at 1 1000000000) ∷ []; copies = 2 ∷ []; other_links = 3 ∷ [] }

@@ -34,6 +34,8 @@ pub struct Blamed {
     pub is_beside: bool,
     /// Whether something had come to the client by then.
     pub is_answered: bool,
+    /// Whether the client had gone on with its server by then: it had sent something that is neither a request nor an ERROR 5.
+    pub has_gone_on: bool,
     /// Whether its client sent it to where nothing had passed between the two.
     pub speaks_first: bool,
     /// Whether its client had spoken by then before anything came to it.
@@ -82,12 +84,12 @@ impl Blame {
         watched: &Watched<RingDelivered>,
     ) -> Result<(), AllocError>
         ensures ends { (judging : JudgingKind) (x : Transfer) (f : Framed) (whole : List Placed) (frames : List Framed) → IsBlameOf self.old judging x whole frames
-            → passed ≡ passed_of x.number f → is_about_it x.number f ≡ true
+            → passed ≡ passed_of x f → is_about_it x.number f ≡ true
             → ends.now.number ≡ x.number → AreEndsAfter ends.now (f.placed ∷ whole) → map (λ g. g.placed) frames ≡ whole
             → IsWatching watched.now judging x host_name (f.placed ∷ whole)
             → OnOk result (IsBlameOf self.new judging x (f.placed ∷ whole) (f ∷ frames)) }
         ensures between { (judging : JudgingKind) (x : Transfer) (f : Framed) (whole : List Placed) (frames : List Framed) → IsBlameBetween self.old judging x whole frames
-            → passed ≡ passed_of x.number f → is_about_it x.number f ≡ true
+            → passed ≡ passed_of x f → is_about_it x.number f ≡ true
             → ends.now.number ≡ x.number → AreEndsAfter ends.now (f.placed ∷ whole) → map (λ g. g.placed) frames ≡ whole
             → IsWatching watched.now judging x host_name (f.placed ∷ whole)
             → OnOk result (IsBlameBetween self.new judging x (f.placed ∷ whole) (f ∷ frames)) }
@@ -107,7 +109,7 @@ fn take_client(
     judge: Option<&ClientJudge<RingDelivered>>,
 ) -> Result<(), AllocError>
     ensures { (x : Transfer) (f : Framed) (whole : List Placed) (frames : List Framed) → is_some (option_copied judge.entry) ≡ true → AreFactsOf facts.old PointKind.Client x whole frames
-        → passed ≡ passed_of x.number f → is_about_it x.number f ≡ true
+        → passed ≡ passed_of x f → is_about_it x.number f ≡ true
         → ends.now.number ≡ x.number → AreEndsAfter ends.now (f.placed ∷ whole) → map (λ g. g.placed) frames ≡ whole
         → ClientStands (option_copied judge.entry) x host_name (f.placed ∷ whole)
         → OnOk result (AreFactsOf facts.new PointKind.Client x (f.placed ∷ whole) (f ∷ frames)) }
@@ -126,7 +128,7 @@ fn take_server(
     judge: Option<&ServerView<RingDelivered>>,
 ) -> Result<(), AllocError>
     ensures { (x : Transfer) (f : Framed) (whole : List Placed) (frames : List Framed) → is_some (option_copied judge.entry) ≡ true → AreFactsOf facts.old PointKind.Server x whole frames
-        → passed ≡ passed_of x.number f → is_about_it x.number f ≡ true
+        → passed ≡ passed_of x f → is_about_it x.number f ≡ true
         → ends.now.number ≡ x.number → AreEndsAfter ends.now (f.placed ∷ whole) → map (λ g. g.placed) frames ≡ whole
         → ServerStands (option_copied judge.entry) x host_name (f.placed ∷ whole)
         → OnOk result (AreFactsOf facts.new PointKind.Server x (f.placed ∷ whole) (f ∷ frames)) }
@@ -145,7 +147,7 @@ fn take_between(
     judge: Option<&BetweenView<RingDelivered>>,
 ) -> Result<(), AllocError>
     ensures { (x : Transfer) (f : Framed) (whole : List Placed) (frames : List Framed) → is_some (option_copied judge.entry) ≡ true → AreFactsOf facts.old PointKind.Between x whole frames
-        → passed ≡ passed_of x.number f → is_about_it x.number f ≡ true
+        → passed ≡ passed_of x f → is_about_it x.number f ≡ true
         → ends.now.number ≡ x.number → AreEndsAfter ends.now (f.placed ∷ whole) → map (λ g. g.placed) frames ≡ whole
         → BetweenStands (option_copied judge.entry) x host_name (f.placed ∷ whole)
         → OnOk result (AreFactsOf facts.new PointKind.Between x (f.placed ∷ whole) (f ∷ frames)) }

@@ -59,7 +59,7 @@ impl ViewFacts {
         told: Told,
     ) -> Result<(), AllocError>
         ensures { (x : Transfer) (f : Framed) (whole : List Placed) (frames : List Framed) → AreFactsOf self.old point x whole frames
-            → passed ≡ passed_of x.number f → is_about_it x.number f ≡ true
+            → passed ≡ passed_of x f → is_about_it x.number f ≡ true
             → ends.now.number ≡ x.number → AreEndsAfter ends.now (f.placed ∷ whole)
             → map (λ g. g.placed) frames ≡ whole
             → IsTold point x (f.placed ∷ whole) told
@@ -73,7 +73,7 @@ impl ViewFacts {
     /// Holds a datagram, unless one is refused.
     fn see(&mut self, passed: Passed) -> Result<(), AllocError>
         ensures { (point : PointKind) (x : Transfer) (f : Framed) (whole : List Placed) (frames : List Framed) → AreFactsOf self.old point x whole frames
-            → passed ≡ passed_of x.number f → is_about_it x.number f ≡ true
+            → passed ≡ passed_of x f → is_about_it x.number f ≡ true
             → OnOk result (AreFactsOf self.new point x (f.placed ∷ whole) (f ∷ frames)) }
     {
         match self.refused {
@@ -131,7 +131,7 @@ impl ViewFacts {
     pub fn at(&self, point: Point, ends: &TransferEnds, number: u64) -> Option<Blamed>
         ensures { (x : Transfer) (whole : List Placed) (frames : List Framed) → AreFactsOf self.now point x whole frames
             → ends.now.number ≡ x.number → AreEndsAfter ends.now whole
-            → IsHeld self.now number → result ≡ blamed_in point x.number whole frames number }
+            → IsHeld self.now number → result ≡ blamed_in point x whole frames number }
     {
         match &self.refused {
             None => self.find(point, ends, number),

@@ -1,12 +1,12 @@
 //! What is kept of a transfer beside its judges.
 
-ghost use Rattle.std.specs.Prelude.{◌≡◌, ◌∷◌, ◌||◌, not, [], ℕ, List, IsSome, None, OnOk, Some, filter, map, true};
+ghost use Rattle.std.specs.Prelude.{◌≡◌, ◌∷◌, ◌&&◌, ◌||◌, not, [], ℕ, List, IsSome, None, OnOk, Some, filter, map, true};
 ghost use Rattle.law_model.specs.Rules.{or_this};
 ghost use Rattle.audit_flows.specs.Lines.{Placed, doubts_of, same_endpoint, transfer_of};
 ghost use Rattle.audit_flows.specs.{Transfer};
 ghost use Rattle.audit_flows.specs.Transfers.{IsDoubtedAfter, comes_of_earlier, is_beside, opened_it, server_of, tells_strays};
 ghost use Rattle.audit_recording.specs.Between.{IsBetweenVerdict, between_capture, server_or_asked, sides_of};
-ghost use Rattle.audit_recording.specs.Blame.Facts.{blamed_as, blamed_of, refused_between, refused_in};
+ghost use Rattle.audit_recording.specs.Blame.Facts.{blamed_as, blamed_of, has_gone_on, is_for_server, refused_between, refused_in};
 ghost use Rattle.audit_recording.specs.Blame.Frames.{Carried, Framed, framed, framed_after, view_of, whole_of};
 ghost use Rattle.audit_recording.specs.Blame.Kept.{IsNoted, IsPassing, IsSameBut, IsTrailBetween, IsTrailOf, is_about_it, sent_of};
 ghost use Rattle.audit_recording.specs.Reasons.Twice.{IsTwiceAfter, Sent, are_twice, sent};
@@ -67,6 +67,8 @@ pub struct Trail {
     pub ends: TransferEnds,
     /// Whether something came to the client.
     is_answered: bool,
+    /// Whether the client went on with its server.
+    has_gone_on: bool,
     /// The frame of what was left out, and may be of it by its time.
     left_out: Option<u64>,
     twice: Twice,
@@ -107,6 +109,7 @@ impl Trail {
             last_time: 0,
             ends: TransferEnds::new(transfer.number),
             is_answered: false,
+            has_gone_on: false,
             left_out: None,
             twice: Twice::new(alloc),
             copied_from: None,
@@ -159,7 +162,7 @@ impl Trail {
         self.closing
             .note(&self.transfer, &self.ends, &found.place, passing)?;
         let passed = Passed {
-            blamed: blamed_by(found, passing, &watched.doubts()),
+            blamed: blamed_by(found, passing, &watched.doubts(), self.has_gone_on),
             place: found.place,
             target: passing.target,
         };
@@ -196,8 +199,16 @@ impl Trail {
         self.count = self.count.saturating_add(1);
         self.last = passing.frame;
         self.last_time = self.last_time.max(passing.time.unwrap_or(0));
+        self.has_gone_on = self.goes_on(passing) || self.has_gone_on;
         self.note_way(passing);
         self.twice.note(passing)
+    }
+
+    /// Whether its client goes on with its server by a datagram at the client.
+    fn goes_on(&self, passing: &Passing<'_>) -> bool
+        ensures { result ≡ (same_endpoint passing.now.source self.now.transfer.client && is_for_server passing.now.payload.now) }
+    {
+        passing.source == self.transfer.client && is_for_server(passing.payload)
     }
 
     /// Notes whether a datagram came to its client, and the first spoilt one on each way.
@@ -353,7 +364,7 @@ impl Trail {
         ensures { (judging : JudgingKind) (x : Transfer) (named : List ℕ) (carried : List Carried) → IsTrailOf self.now judging x named carried
             → (points_of judging x).client ≡ true
             → IsJudgedWith (client_header x) (client_capture host_name x (whole_of named carried)) verdict.now
-            → result ≡ blamed_as PointKind.Client x.number named carried (refused_in verdict.now) }
+            → result ≡ blamed_as PointKind.Client x named carried (refused_in verdict.now) }
     {
         match refused_in(verdict) {
             Some(number) => self.blame.at_client.at(Point::Client, &self.ends, number),
@@ -366,7 +377,7 @@ impl Trail {
         ensures { (judging : JudgingKind) (x : Transfer) (named : List ℕ) (carried : List Carried) → IsTrailOf self.now judging x named carried
             → (points_of judging x).server ≡ true
             → IsJudgedWith (server_header x) (server_capture host_name x (whole_of named carried) (whole_of named carried)) verdict.now
-            → result ≡ blamed_as PointKind.Server x.number named carried (refused_in verdict.now) }
+            → result ≡ blamed_as PointKind.Server x named carried (refused_in verdict.now) }
     {
         match refused_in(verdict) {
             Some(number) => self.blame.at_server.at(Point::Server, &self.ends, number),
@@ -379,7 +390,7 @@ impl Trail {
         ensures { (judging : JudgingKind) (x : Transfer) (named : List ℕ) (carried : List Carried) → IsTrailOf self.now judging x named carried
             → IsTrailBetween self.now judging x named carried → (points_of judging x).between ≡ true → AreApart (sides_of x (whole_of named carried))
             → IsBetweenVerdict (sides_of x (whole_of named carried)) (between_capture x (whole_of named carried)) verdict.now
-            → result ≡ blamed_as PointKind.Between x.number named carried (refused_between verdict.now) }
+            → result ≡ blamed_as PointKind.Between x named carried (refused_between verdict.now) }
     {
         match refused_between(verdict) {
             Some(number) => self.blame.between.at(Point::Between, &self.ends, number),
@@ -398,17 +409,24 @@ fn first(known: Option<u64>, holds: bool, frame: u64) -> Option<u64>
     }
 }
 
-/// The facts of a datagram that was found there, by the doubts of its transfer up to it.
-fn blamed_by(found: &Attributed, passing: &Passing<'_>, doubts: &TransferDoubts) -> Blamed
-    ensures { (f : Framed) → IsPassing passing.now f.carried → f.placed.datagram ≡ f.carried.datagram
+/// The facts of a datagram that was found there, by the doubts of its transfer up to it, and by whether the client has gone on.
+fn blamed_by(
+    found: &Attributed,
+    passing: &Passing<'_>,
+    doubts: &TransferDoubts,
+    gone_on: bool,
+) -> Blamed
+    ensures { (x : Transfer) (f : Framed) → IsPassing passing.now f.carried → f.placed.datagram ≡ f.carried.datagram
         → found.now.place ≡ f.placed.place → found.now.doubts ≡ doubts_of f.placed f.before
-        → IsDoubtedAfter doubts.now (f.placed ∷ f.before) → result ≡ blamed_of doubts.now.number f }
+        → IsDoubtedAfter doubts.now (f.placed ∷ f.before) → doubts.now.number ≡ x.number
+        → gone_on ≡ has_gone_on x (f.placed ∷ f.before) → result ≡ blamed_of x f }
 {
     Blamed {
         frame: passing.frame,
         is_late: doubts.is_late(),
         is_beside: is_beside(&found.place),
         is_answered: doubts.comes_in(),
+        has_gone_on: gone_on,
         speaks_first: found.doubts.speaks_first,
         says_first_word: doubts.says_first_word(),
         follows_unknown_id: found.doubts.follows_unknown_id,
@@ -416,6 +434,16 @@ fn blamed_by(found: &Attributed, passing: &Passing<'_>, doubts: &TransferDoubts)
         comes_of_earlier: comes_of_earlier(&found.doubts, doubts),
         source: passing.source,
     }
+}
+
+/// Whether a client says it to nobody but its server: it is neither a request nor an ERROR 5.
+fn is_for_server(payload: &[u8]) -> bool
+    ensures { result ≡ is_for_server payload.now }
+{
+    let kind = opcode(payload);
+    let is_request = kind == 1 || kind == 2;
+    let is_unknown_id = payload.starts_with(ERROR_5.as_slice());
+    !is_request && !is_unknown_id
 }
 
 /// Whether it passed with another than the client.

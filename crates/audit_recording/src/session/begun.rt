@@ -1,7 +1,11 @@
 //! What looks like a transfer that began before the recording.
 
+ghost use Rattle.std.specs.Prelude.{◌≡◌, ◌++◌, IfOk, OnOk, map, string_bytes};
+ghost use Rattle.audit_recording.specs.Session.Lines.{begun_lines, ends_text, from_to_text, pair_line, pair_lines};
+
 use crate::blame::Passing;
 use crate::session::endpoint::shown;
+use crate::session::plain::put_number;
 use audit_flows::lines::Endpoint;
 use std::alloc::{AllocError, Global};
 
@@ -65,7 +69,9 @@ impl Begun {
     }
 
     /// Adds a line for each two endpoints of which this looks like a transfer.
-    pub fn put(&self, alloc: Global, lines: &mut Vec<String>) -> Result<(), AllocError> {
+    pub fn put(&self, alloc: Global, lines: &mut Vec<String>) -> Result<(), AllocError>
+        ensures { OnOk result (map string_bytes lines.new.items ≡ map string_bytes lines.old.items ++ begun_lines self.now) }
+    {
         for pair in self.pairs.iter() {
             pair.put(alloc, lines)?;
         }
@@ -85,16 +91,45 @@ impl Pair {
         self.last = frame;
     }
 
-    fn put(&self, alloc: Global, lines: &mut Vec<String>) -> Result<(), AllocError> {
+    fn put(&self, alloc: Global, lines: &mut Vec<String>) -> Result<(), AllocError>
+        ensures { OnOk result (map string_bytes lines.new.items ≡ map string_bytes lines.old.items ++ pair_lines self.now) }
+    {
         if self.count < LEAST {
             return Ok(());
         }
-        let (one, other) = (shown(alloc, self.one)?, shown(alloc, self.other)?);
-        let (count, first, last) = (self.count, self.first, self.last);
-        lines.push(format!(in alloc;
-            "{count} datagrams between {one} and {other} look like a transfer that began before the recording (frames {first} to {last})"
-        )?)?;
+        lines.push(self.line(alloc)?)?;
         Ok(())
+    }
+
+    fn line(&self, alloc: Global) -> Result<String, AllocError>
+        ensures { IfOk result (λ line. string_bytes line ≡ pair_line self.now) }
+    {
+        let mut line = String::new(alloc);
+        put_number(&mut line, self.count)?;
+        self.put_ends(alloc, &mut line)?;
+        line.push_str(" look like a transfer that began before the recording")?;
+        self.put_from_to(&mut line)?;
+        Ok(line)
+    }
+
+    fn put_ends(&self, alloc: Global, line: &mut String) -> Result<(), AllocError>
+        ensures { OnOk result (string_bytes line.new ≡ string_bytes line.old ++ ends_text self.now) }
+    {
+        let (one, other) = (shown(alloc, self.one)?, shown(alloc, self.other)?);
+        line.push_str(" datagrams between ")?;
+        line.push_str(one.as_str())?;
+        line.push_str(" and ")?;
+        line.push_str(other.as_str())
+    }
+
+    fn put_from_to(&self, line: &mut String) -> Result<(), AllocError>
+        ensures { OnOk result (string_bytes line.new ≡ string_bytes line.old ++ from_to_text self.now) }
+    {
+        line.push_str(" (frames ")?;
+        put_number(line, self.first)?;
+        line.push_str(" to ")?;
+        put_number(line, self.last)?;
+        line.push_str(")")
     }
 }
 

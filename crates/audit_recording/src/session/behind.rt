@@ -1,6 +1,9 @@
 //! Frames that are left out behind a header that is not read, by its name.
 
-use crate::session::notes::Frames;
+ghost use Rattle.std.specs.Prelude.{◌≡◌, ◌++◌, IfOk, OnOk, map, string_bytes};
+ghost use Rattle.audit_recording.specs.Session.Lines.{behind_lines, behind_words, kind_lines};
+
+use crate::session::frames::Frames;
 use net_udp::frames::UnreadHeader;
 use std::alloc::{AllocError, Global};
 
@@ -50,7 +53,9 @@ impl Behind {
     }
 
     /// Adds a line for each header.
-    pub fn put(&self, alloc: Global, lines: &mut Vec<String>) -> Result<(), AllocError> {
+    pub fn put(&self, alloc: Global, lines: &mut Vec<String>) -> Result<(), AllocError>
+        ensures { OnOk result (map string_bytes lines.new.items ≡ map string_bytes lines.old.items ++ behind_lines self.now) }
+    {
         for kind in self.kinds.iter() {
             kind.put(alloc, lines)?;
         }
@@ -59,9 +64,20 @@ impl Behind {
 }
 
 impl Kind {
-    fn put(&self, alloc: Global, lines: &mut Vec<String>) -> Result<(), AllocError> {
-        let name = self.header.name();
-        let what = format!(in alloc; "behind {name}, which is not read")?;
+    fn put(&self, alloc: Global, lines: &mut Vec<String>) -> Result<(), AllocError>
+        ensures { OnOk result (map string_bytes lines.new.items ≡ map string_bytes lines.old.items ++ kind_lines self.now) }
+    {
+        let what = words_of(alloc, self.header)?;
         self.frames.put(alloc, lines, what.as_str())
     }
+}
+
+/// What is told of frames behind a header.
+fn words_of(alloc: Global, header: UnreadHeader) -> Result<String, AllocError>
+    ensures { IfOk result (λ what. string_bytes what ≡ behind_words header) }
+{
+    let mut what = String::from_str(alloc, "behind ")?;
+    what.push_str(header.name())?;
+    what.push_str(", which is not read")?;
+    Ok(what)
 }

@@ -1,15 +1,17 @@
 //! Laws of the definitions in `specs/`. Each is the contract of a function that does nothing.
 
-ghost use Rattle.std.specs.Prelude.{◌≡◌, ◌≤◌, ◌+◌, ◌++◌, ◌||◌, ◌∷◌, ℕ, List, [], None, Some, false, true};
+ghost use Rattle.std.specs.Prelude.{◌≡◌, ◌≤◌, ◌+◌, ◌++◌, ◌||◌, ◌∷◌, ℕ, List, [], None, Some, codes, false, length, true};
 ghost use Rattle.std.specs.Global.{Vec};
+ghost use Rattle.net_pcap.specs.{Truncated};
 ghost use Rattle.net_udp.specs.Fragments.{content_of};
 ghost use Rattle.net_udp.specs.Frames.{acknowledgement};
 ghost use Rattle.net_udp.specs.Recording.{IsDatagram, Step, last_bytes, last_part, worked_content};
 ghost use Rattle.net_udp.specs.declared.fragments.content.Content.{Content};
+ghost use Rattle.net_udp.specs.declared.frames.unread.UnreadHeader.TheVariants.{MacSec};
 ghost use Rattle.net_udp.specs.declared.recording.fate.Datagram.{Datagram};
 ghost use Rattle.audit_flows.specs.{Address, V4};
 ghost use Rattle.audit_recording.specs.declared.session.losses.Stretch.{Stretch};
-ghost use Rattle.audit_recording.specs.Losses.Noted.{Event, IsMissingOf, Unread, is_of_host, is_of_none, is_soon, lost_by, unread, waiting_at};
+ghost use Rattle.audit_recording.specs.Losses.Noted.{Event, IsMissingOf, MayMiss, Unread, is_of_host, is_of_none, is_soon, lost_by, unread, waiting_at};
 ghost use Rattle.audit_recording.specs.Losses.Noted.Event.{Asks, Finds, GivesUp, Loses, Waits};
 ghost use Rattle.audit_recording.specs.Reasons.Clock.{HaveReached};
 ghost use Rattle.audit_recording.specs.Reasons.Unplaced.{after, latest_at, newest_of, worked_end};
@@ -17,10 +19,12 @@ ghost use Rattle.audit_recording.specs.Reasons.Unplaced.Event.{Ends, Opens, Pass
 ghost use Rattle.audit_recording.specs.Audit.Passed.{HasPassed};
 ghost use Rattle.audit_recording.specs.Blame.Frames.{Carried, datagrams_of};
 ghost use Rattle.audit_flows.specs.Lines.{silence};
-ghost use Rattle.audit_recording.specs.Session.Noted.{AreUpTo, Noticed};
+ghost use Rattle.audit_recording.specs.Session.Lines.{behind_words, dropped_lines, fault_lines, left_out_lines, lines_of, pair_lines, ports_text};
+ghost use Rattle.audit_recording.specs.Session.Noted.{AreUpTo, Noticed, going_back, told_in};
 ghost use Rattle.audit_recording.specs.Session.Over.{AreLater, IsPast};
 ghost use Rattle.audit_recording.specs.Session.Recording.{IsNoticedOf};
-ghost use Rattle.audit_recording.specs.Session.Worked.{ack_carried, at_second, frame_at, request, request_bytes, request_carried, request_packet, worked_noticed, worked_steps};
+ghost use Rattle.audit_recording.specs.Session.Told.{AreApart, AreEarlier, AreOfOneKind, AreOnce};
+ghost use Rattle.audit_recording.specs.Session.Worked.{ack_carried, at_second, frame_at, request, request_bytes, request_carried, request_packet, told_noticed, told_steps, worked_noticed, worked_steps};
 ghost use Rattle.audit_recording.specs.Session.Intact.{before_opening, discarded_of, makes_checksums, newest_at, worked_gone, worked_host, worked_seen};
 
 /// A frame of other hosts that is lost, or that waits, makes nothing more missing of a client's host.
@@ -68,6 +72,7 @@ pub fn worked_stretch()
     ensures among { is_soon (record { client = V4 (192 ∷ 0 ∷ 2 ∷ 1 ∷ []); first = 3; last = 6; last_time = 10000000000 }) 5 999000000000 ≡ true }
     ensures soon { is_soon (record { client = V4 (192 ∷ 0 ∷ 2 ∷ 1 ∷ []); first = 3; last = 6; last_time = 10000000000 }) 9 310000000000 ≡ true }
     ensures later { is_soon (record { client = V4 (192 ∷ 0 ∷ 2 ∷ 1 ∷ []); first = 3; last = 6; last_time = 10000000000 }) 9 310000000001 ≡ false }
+    ensures missed { MayMiss (record { client = V4 (192 ∷ 0 ∷ 2 ∷ 1 ∷ []); first = 3; last = 6; last_time = 10000000000 }) (Loses (unread 9 310000000000) ∷ []) }
 {}
 
 /// Of times 4, 30, 5 and 9, in this order, two in a row have reached 5, but not 6: 30 alone may be wrong.
@@ -113,6 +118,14 @@ pub fn what_is_noticed_has_passed()
     ensures { (named : List ℕ) (history : List Step) (carried : List Carried) (s : Noticed) → IsNoticedOf named history carried s → HasPassed history (datagrams_of carried) }
 {}
 
+/// A frame is told once as a copy, as discarded, as one of another link type, as one of no transfer, and as older than the one before:
+/// and it is a frame of the recording. As a copy, as discarded, as one of another link type, or as one of no transfer: as one of
+/// these alone.
+pub fn each_frame_is_told_once()
+    ensures once { (named : List ℕ) (history : List Step) (carried : List Carried) (s : Noticed) → IsNoticedOf named history carried s → AreOnce (length history + 1) (told_in s) }
+    ensures alone { (named : List ℕ) (history : List Step) (carried : List Carried) (s : Noticed) → IsNoticedOf named history carried s → AreOfOneKind (told_in s) }
+{}
+
 /// Of four frames the first is a fragment that waits; in the second its client asks for a file, and opens a transfer; with the third the
 /// packet of the first is there whole, which is an acknowledgement of that transfer; and the fourth, which tells no time, is lost.
 pub fn worked_recording()
@@ -120,4 +133,45 @@ pub fn worked_recording()
         → IsDatagram (frame_at (at_second 2) request_bytes) request_packet request asked
         → IsDatagram (frame_at (at_second 3) last_bytes) last_part acknowledgement acked
         → IsNoticedOf [] (worked_steps content frames) (ack_carried ∷ request_carried ∷ []) worked_noticed }
+{}
+
+/// Of three frames the first is lost, the second is a copy, and the third of another link type: each is told once, and so as text.
+pub fn worked_told()
+    ensures noticed { IsNoticedOf [] told_steps [] told_noticed }
+    ensures left_out { left_out_lines (told_in told_noticed)
+        ≡ codes "1 datagram left out as copies (frame 2)" ∷ codes "1 datagram of another link type (frame 3)" ∷ [] }
+    ensures lost { lines_of (told_in told_noticed).lost (codes "not there whole, so that datagrams may be missing")
+        ≡ codes "1 datagram not there whole, so that datagrams may be missing (frame 1)" ∷ [] }
+{}
+
+/// Frames are told as many as they are, and the first five by their numbers; of none there is no line.
+pub fn worked_lines()
+    ensures none { lines_of [] (codes "left out as copies") ≡ [] }
+    ensures two { lines_of (8 ∷ 3 ∷ []) (codes "left out as copies") ≡ codes "2 datagrams left out as copies (frames 3, 8)" ∷ [] }
+    ensures five { lines_of (8 ∷ 6 ∷ 5 ∷ 3 ∷ 2 ∷ []) (codes "of another link type") ≡ codes "5 datagrams of another link type (frames 2, 3, 5, 6, 8)" ∷ [] }
+    ensures six { lines_of (9 ∷ 8 ∷ 6 ∷ 5 ∷ 3 ∷ 2 ∷ []) (codes "of another link type") ≡ codes "6 datagrams of another link type (frames 2, 3, 5, 6, 8 ..)" ∷ [] }
+{}
+
+/// What is told of a recording beside its frames: a transfer that began before it, a header that is not read, how many packets its
+/// recorder lost, where the reading stopped, and the ports at which something looks like a request.
+pub fn worked_notes()
+    ensures begun { pair_lines (record { one = worked_end 2000; other = worked_end 69; count = 3; first = 1; last = 12 })
+        ≡ codes "3 datagrams between 192.0.2.1:2000 and 192.0.2.1:69 look like a transfer that began before the recording (frames 1 to 12)" ∷ [] }
+    ensures few { pair_lines (record { one = worked_end 2000; other = worked_end 69; count = 2; first = 1; last = 12 }) ≡ [] }
+    ensures behind { behind_words MacSec ≡ codes "behind MACsec (IEEE 802.1AE), which is not read" }
+    ensures dropped { dropped_lines 1 ≡ codes "the recorder lost 1 packet, so that datagrams may be missing" ∷ [] }
+    ensures kept { dropped_lines 0 ≡ [] }
+    ensures fault { fault_lines (Some (record { kind = Truncated; frame = 12 })) ≡ codes "frame 12: the recording is cut" ∷ [] }
+    ensures ports { ports_text (69 ∷ 1069 ∷ []) ≡ Some (codes " 69, 1069") }
+    ensures no_port { ports_text [] ≡ None }
+{}
+
+/// A frame that is told twice is refused, and one that is told as two things. At the time of the datagram before it none goes back.
+pub fn worked_once()
+    ensures once { AreEarlier 4 (3 ∷ 2 ∷ []) }
+    ensures twice { AreEarlier 4 (2 ∷ 2 ∷ []) → ⊥ }
+    ensures apart { AreApart (2 ∷ []) (3 ∷ []) }
+    ensures both { AreApart (3 ∷ 2 ∷ []) (2 ∷ []) → ⊥ }
+    ensures back { going_back 3 (Some 4) (5 ∷ []) (1 ∷ []) ≡ 3 ∷ 1 ∷ [] }
+    ensures same_time { going_back 3 (Some 5) (5 ∷ []) (1 ∷ []) ≡ 1 ∷ [] }
 {}

@@ -1,115 +1,48 @@
 //! What is to be told of a recording as a whole.
 
-ghost use Rattle.std.specs.Prelude.{◌≡◌, ◌≤◌, ◌<◌, ◌∷◌, ◌⊎◌, [], ℕ, List, MatchBool, Option, OnOk, false, true};
+ghost use Rattle.std.specs.Prelude.{◌≡◌, ◌≤◌, ◌<◌, ◌&&◌, ◌∷◌, ◌++◌, ◌⊎◌, [], ℕ, IfOk, IsSome, List, MatchBool, MatchOption, None, Option, OnOk, Some, false, is_none, map, nat_le, option_map, string_bytes, true};
 ghost use Rattle.std.specs.declared.net.ip_addr.IpAddr.{IpAddr as Host};
 ghost use Rattle.audit_flows.specs.Lines.{same_address};
-ghost use Rattle.audit_recording.specs.Losses.Noted.{IsAsked, IsFirst, IsMissingOf, IsTold, Since, longest_wait};
+ghost use Rattle.audit_recording.specs.Losses.Noted.{IsAsked, IsFirst, IsMissingOf, IsTold, MayMiss, Since, longest_wait};
 ghost use Rattle.audit_recording.specs.Losses.Noted.Event.{Asks, Waits};
 ghost use Rattle.audit_recording.specs.Reasons.Clock.{IsClockAfter};
-ghost use Rattle.audit_recording.specs.Session.Noted.{AreHostsOf, AreNotesOf, Noticed, finding, frames_in, giving_up, leaving, losing, may_be_datagram, nothing_noticed, noting, others, passing_by, sharers_of, stretch_of, unread_in};
+ghost use Rattle.audit_recording.specs.Session.Lines.{aside_lines, fault_lines, lines_told, lost_lines, ports_text};
+ghost use Rattle.audit_recording.specs.Session.Noted.{AreHostsOf, AreNotesOf, Noticed, finding, frames_in, giving_up, going, going_back, leaving, leaving_aside, losing, lost_frames, may_be_datagram, nothing_noticed, noting, others, passing_by, stretch_of, told_in, unread_in};
 ghost use Rattle.audit_recording.specs.Session.Over.{IsPast, IsWaitingAt};
 ghost use Rattle.audit_recording.specs.Session.Recording.{reached_by};
+ghost use Rattle.audit_recording.specs.Session.Told.{AreKindsOf, Told, is_nil};
 
-use crate::blame::{Missing, Passing, Reason, Trail};
+use crate::blame::{Missing, Passing, Trail};
 use crate::session::begun::Begun;
 use crate::session::behind::Behind;
 use crate::session::clock::Clock;
+use crate::session::frames::{NAMED, put_numbers};
 use crate::session::intact::IntactHosts;
+use crate::session::kinds::Kinds;
 use crate::session::losses::{Losses, SILENCE, Stretch, WAIT};
-use crate::session::plain::put_number;
+use crate::session::missing::{fault_line, put_dropped};
+use audit_flows::lines::Endpoint;
 use net_pcap::PcapFault;
 use net_udp::fragments::Fragments;
 use net_udp::frames::{FrameFault, UdpFault};
 use net_udp::recording::{Event, LeftOut};
 use std::alloc::{AllocError, Global};
 
-/// How many frames or ports are named.
-const NAMED: usize = 5;
-
-/// Frames of which one thing is told: how many they are, and the first ones.
-#[derive(Drop)]
-pub struct Frames {
-    count: u64,
-    first: Vec<u64>,
-}
-
-impl Frames {
-    /// There is none yet.
-    pub(crate) fn new(alloc: Global) -> Self {
-        Frames {
-            count: 0,
-            first: Vec::new(alloc),
-        }
-    }
-
-    /// Adds a frame.
-    pub(crate) fn add(&mut self, frame: u64) -> Result<(), AllocError> {
-        self.count = self.count.saturating_add(1);
-        if self.first.len() < NAMED {
-            self.first.push(frame)?;
-        }
-        Ok(())
-    }
-
-    /// Adds a line that tells how many they are and which ones, if there are any.
-    pub(crate) fn put(
-        &self,
-        alloc: Global,
-        lines: &mut Vec<String>,
-        what: &str,
-    ) -> Result<(), AllocError> {
-        if self.count == 0 {
-            return Ok(());
-        }
-        let mut named = String::new(alloc);
-        let put = put_numbers(&mut named, self.first.as_slice());
-        put?;
-        let (count, named) = (self.count, named.as_str());
-        let (datagrams, frames) = if count == 1 {
-            ("datagram", "frame")
-        } else {
-            ("datagrams", "frames")
-        };
-        let more = if count > NAMED as u64 { " .." } else { "" };
-        lines.push(format!(in alloc; "{count} {datagrams} {what} ({frames}{named}{more})")?)?;
-        Ok(())
-    }
-}
-
-/// Puts numbers, with a space before the first.
-fn put_numbers(named: &mut String, numbers: &[u64]) -> Result<(), AllocError> {
-    for (place, number) in numbers.iter().enumerate() {
-        named.push_str(if place == 0 { " " } else { ", " })?;
-        put_number(named, *number)?;
-    }
-    Ok(())
-}
-
 /// What is to be told of a recording.
 #[derive(Drop)]
 pub struct Notes {
-    /// Frames that may have been datagrams of UDP, or parts of such, and can't be read.
-    lost: Frames,
-    /// Those of them that stand behind a header that is not read.
+    /// Frames of which something is told, by what is told.
+    kinds: Kinds,
+    /// Those that are lost, and stand behind a header that is not read.
     behind: Behind,
-    /// Those that were lost, by their hosts.
+    /// Those that are lost, by their hosts.
     losses: Losses,
     /// The hosts that make their checksums.
     pub(crate) intact: IntactHosts,
-    /// Frames whose link type is not known.
-    other_links: Frames,
-    /// Datagrams that were left out as copies.
-    copies: Frames,
-    /// Datagrams that were left out as discarded.
-    discarded: Frames,
-    /// Datagrams of no transfer.
-    of_none: Frames,
-    /// Those of them that look like a transfer that goes on.
+    /// Datagrams of no transfer that look like one that goes on.
     begun: Begun,
     /// Ports at which one of these looks like a request.
     asked: Vec<u64>,
-    /// Datagrams that are older than the one before.
-    backwards: Frames,
     /// Why it was read no further.
     pub(crate) fault: Option<PcapFault>,
     pub(crate) clock: Clock,
@@ -122,20 +55,16 @@ pub struct Notes {
 impl Notes {
     /// Nothing was read.
     pub(crate) fn new(alloc: Global) -> Self
-        ensures { AreNotesOf result nothing_noticed }
+        ensures stands { AreNotesOf result nothing_noticed }
+        ensures fault { result.fault ≡ None }
     {
         Notes {
-            lost: Frames::new(alloc),
+            kinds: Kinds::new(alloc),
             behind: Behind::new(alloc),
             losses: Losses::new(alloc),
             intact: IntactHosts::new(alloc),
-            other_links: Frames::new(alloc),
-            copies: Frames::new(alloc),
-            discarded: Frames::new(alloc),
-            of_none: Frames::new(alloc),
             begun: Begun::new(alloc),
             asked: Vec::new(alloc),
-            backwards: Frames::new(alloc),
             fault: None,
             clock: Clock::new(),
             may_lose: false,
@@ -145,7 +74,8 @@ impl Notes {
 
     /// Notes a datagram's time and checksum. After an error they stand for nothing, here and below.
     pub(crate) fn pass(&mut self, passing: &Passing<'_>) -> Result<(), AllocError>
-        ensures { (s : Noticed) → AreNotesOf self.old s → OnOk result (AreNotesOf self.new (passing_by passing.now s)) }
+        ensures stands { (s : Noticed) → AreNotesOf self.old s → OnOk result (AreNotesOf self.new (passing_by passing.now s)) }
+        ensures fault { self.new.fault ≡ self.old.fault }
     {
         self.intact.note(passing)?;
         match passing.time {
@@ -157,19 +87,23 @@ impl Notes {
     /// Notes a datagram's time.
     fn pass_at(&mut self, frame: u64, time: u64) -> Result<(), AllocError>
         ensures clock { (times : List ℕ) → IsClockAfter self.old.clock times → IsClockAfter self.new.clock (time ∷ times) }
+        ensures kinds { (times : List ℕ) (t : Told) → IsClockAfter self.old.clock times → AreKindsOf self.old.kinds t
+            → OnOk result (AreKindsOf self.new.kinds (record t { backwards = going_back frame (Some time) times t.backwards })) }
         ensures losses { self.new.losses ≡ self.old.losses }
         ensures intact { self.new.intact ≡ self.old.intact }
+        ensures fault { self.new.fault ≡ self.old.fault }
     {
         if self.clock.pass(time) {
-            self.backwards.add(frame)?;
+            self.kinds.backwards.add(frame)?;
         }
         Ok(())
     }
 
     /// Notes a client's request, in that frame, which opens a transfer.
     pub(crate) fn ask(&mut self, alloc: Global, trail: &Trail) -> Result<(), AllocError>
-        ensures { (s : Noticed) → AreNotesOf self.old s → s.last < trail.now.first
+        ensures stands { (s : Noticed) → AreNotesOf self.old s → s.last < trail.now.first
             → OnOk result (AreNotesOf self.new (noting (Asks trail.now.transfer.client.address trail.now.first) trail.now.first s)) }
+        ensures fault { self.new.fault ≡ self.old.fault }
     {
         let host = trail.transfer.client.address;
         self.losses.ask(alloc, host, trail.first)
@@ -177,9 +111,10 @@ impl Notes {
 
     /// Notes a frame that waits for others of its packet.
     pub(crate) fn wait(&mut self, alloc: Global, event: &Event) -> Result<(), AllocError>
-        ensures { (s : Noticed) → AreNotesOf self.old s → s.last ≤ event.now.frame.number
+        ensures stands { (s : Noticed) → AreNotesOf self.old s → s.last ≤ event.now.frame.number
             → OnOk result ((hosts : Option (Host × Host)) × AreHostsOf event.now hosts
             × AreNotesOf self.new (noting (Waits (unread_in self.old.clock.reached event.now hosts s.times)) event.now.frame.number s)) }
+        ensures fault { self.new.fault ≡ self.old.fault }
     {
         let time = self.clock.moment_of(event.time());
         self.losses.wait(alloc, event.number(), event.hosts(), time)
@@ -187,7 +122,8 @@ impl Notes {
 
     /// Notes frames for which no others are missing any more.
     pub(crate) fn find(&mut self, alloc: Global, frames: &[u64]) -> Result<(), AllocError>
-        ensures { (s : Noticed) → AreNotesOf self.old s → OnOk result (AreNotesOf self.new (finding self.old.clock.reached frames.now s)) }
+        ensures stands { (s : Noticed) → AreNotesOf self.old s → OnOk result (AreNotesOf self.new (finding self.old.clock.reached frames.now s)) }
+        ensures fault { self.new.fault ≡ self.old.fault }
     {
         for frame in frames {
             self.losses.find(alloc, *frame, self.clock.reached)?;
@@ -202,7 +138,7 @@ impl Notes {
         ensures fault { self.new.fault ≡ self.old.fault }
     {
         for frame in frames {
-            self.lost.add(*frame)?;
+            self.kinds.lost.add(*frame)?;
             self.losses.give_up(alloc, *frame)?;
         }
         Ok(())
@@ -210,13 +146,14 @@ impl Notes {
 
     /// Notes a frame that can't be read, and those that share its fate, of which it may be one.
     fn lose_with(&mut self, alloc: Global, event: &Event) -> Result<(), AllocError>
-        ensures { (s : Noticed) → AreNotesOf self.old s → s.last ≤ event.now.frame.number
+        ensures stands { (s : Noticed) → AreNotesOf self.old s → s.last ≤ event.now.frame.number
             → OnOk result ((hosts : Option (Host × Host)) × AreHostsOf event.now hosts
             × AreNotesOf self.new (losing self.old.clock.reached event.now hosts s)) }
+        ensures fault { self.new.fault ≡ self.old.fault }
     {
         let frame = event.number();
         self.lose_others(alloc, event.sharers(), frame)?;
-        self.lost.add(frame)?;
+        self.kinds.lost.add(frame)?;
         self.behind.note(alloc, event.unread_header(), frame)?;
         let time = self.clock.moment_of(event.time());
         self.losses.lose(alloc, frame, event.hosts(), time)
@@ -226,6 +163,7 @@ impl Notes {
     fn lose_others(&mut self, alloc: Global, frames: &[u64], frame: u64) -> Result<(), AllocError>
         ensures stands { (s : Noticed) → AreNotesOf self.old s → OnOk result (AreNotesOf self.new (giving_up (others frame frames.now) s)) }
         ensures clock { self.new.clock ≡ self.old.clock }
+        ensures fault { self.new.fault ≡ self.old.fault }
     {
         for other in frames {
             self.lose_other(alloc, *other, frame)?;
@@ -237,6 +175,7 @@ impl Notes {
     fn lose_other(&mut self, alloc: Global, other: u64, frame: u64) -> Result<(), AllocError>
         ensures stands { (s : Noticed) → AreNotesOf self.old s → OnOk result (AreNotesOf self.new (giving_up (others frame (other ∷ [])) s)) }
         ensures clock { self.new.clock ≡ self.old.clock }
+        ensures fault { self.new.fault ≡ self.old.fault }
     {
         if other == frame {
             return Ok(());
@@ -271,10 +210,11 @@ impl Notes {
         ensures lost { (s : Noticed) → AreNotesOf self.old s → may_be_datagram why ≡ true → s.last ≤ event.now.frame.number
             → OnOk result ((hosts : Option (Host × Host)) × AreHostsOf event.now hosts
             × AreNotesOf self.new (losing self.old.clock.reached event.now hosts s)) }
+        ensures fault { self.new.fault ≡ self.old.fault }
     {
         match why {
-            LeftOut::Copy => self.copies.add(event.number()),
-            LeftOut::Frame(FrameFault::Link) => self.other_links.add(event.number()),
+            LeftOut::Copy => self.kinds.copies.add(event.number()),
+            LeftOut::Frame(FrameFault::Link) => self.kinds.other_links.add(event.number()),
             LeftOut::Frame(FrameFault::Network | FrameFault::Protocol) => {
                 self.find(alloc, event.sharers())
             }
@@ -284,16 +224,25 @@ impl Notes {
     }
 
     /// Notes a datagram that its host discarded, and is left out.
-    pub(crate) fn discard(&mut self, alloc: Global, event: &Event) -> Result<(), AllocError>
-        ensures { (s : Noticed) → AreNotesOf self.old s → OnOk result (AreNotesOf self.new (finding self.old.clock.reached (sharers_of event.now) s)) }
+    pub(crate) fn discard(
+        &mut self,
+        source: Endpoint,
+        target: Endpoint,
+        frame: u64,
+        time: u64,
+    ) -> Result<(), AllocError>
+        ensures stands { (s : Noticed) → AreNotesOf self.old s
+            → OnOk result (AreNotesOf self.new (going (record { source = source; target = target; frame = frame; time = time }) s)) }
+        ensures fault { self.new.fault ≡ self.old.fault }
     {
-        self.find(alloc, event.sharers())?;
-        self.discarded.add(event.number())
+        self.intact.discard(source, target, frame, time)?;
+        self.kinds.discarded.add(frame)
     }
 
     /// Notes a datagram of no transfer.
     pub(crate) fn leave_out(&mut self, passing: &Passing<'_>) -> Result<(), AllocError>
-        ensures { (s : Noticed) → AreNotesOf self.old s → AreNotesOf self.new s }
+        ensures stands { (s : Noticed) → AreNotesOf self.old s → OnOk result (AreNotesOf self.new (leaving_aside passing.now.frame s)) }
+        ensures fault { self.new.fault ≡ self.old.fault }
     {
         let port = u64::from(passing.target.port);
         let is_request = matches!(passing.payload, [0, 1 | 2, _, ..]);
@@ -301,7 +250,7 @@ impl Notes {
             self.asked.push(port)?;
         }
         self.begun.note(passing)?;
-        self.of_none.add(passing.frame)
+        self.kinds.of_none.add(passing.frame)
     }
 
     /// The frames that may have been of a transfer's client, and are not there whole.
@@ -319,13 +268,17 @@ impl Notes {
     }
 
     /// Whether datagrams of a transfer's client may be missing.
-    pub(crate) fn may_lack(&self, trail: &Trail) -> bool {
+    pub(crate) fn may_lack(&self, trail: &Trail) -> bool
+        ensures none { (s : Noticed) → AreNotesOf self.now s → result ≡ false
+            → (self.now.fault ≡ None) × ((n time : ℕ) → IsMissingOf trail.now.transfer.client.address s.events n time → trail.now.last < n) }
+        ensures some { (s : Noticed) → AreNotesOf self.now s → IsAsked (λ host. same_address host trail.now.transfer.client.address) trail.now.first s.events → result ≡ true
+            → IsSome self.now.fault ⊎ MayMiss (stretch_of trail.now) s.events }
+    {
         let missing = self.missing_of(trail);
-        let is_before = match missing.first {
-            Some(frame) => frame <= trail.last,
-            None => false,
-        };
-        self.fault.is_some() || is_before || missing.within.is_some()
+        if self.fault.is_some() {
+            return true;
+        }
+        is_up_to(missing.first, trail.last) || missing.within.is_some()
     }
 
     /// Whether the recording went on for more than 300 s after a transfer, and for 30 s more where a fragment waits that may be
@@ -351,55 +304,76 @@ impl Notes {
     }
 
     /// Whether the recording was read to its end and nothing is missing.
-    pub fn is_whole(&self) -> bool {
-        self.fault.is_none() && self.lost.count == 0
+    pub fn is_whole(&self) -> bool
+        ensures { (s : Noticed) → AreNotesOf self.now s → result ≡ (is_none self.now.fault && is_nil (lost_frames s.events)) }
+    {
+        self.fault.is_none() && self.kinds.lost.is_none()
     }
 
     /// What there is to tell, a line each.
-    pub fn lines(&self, alloc: Global) -> Result<Vec<String>, AllocError> {
+    pub fn lines(&self, alloc: Global) -> Result<Vec<String>, AllocError>
+        ensures { (s : Noticed) → AreNotesOf self.now s → IfOk result (λ lines. map string_bytes lines.items ≡ lines_told (told_in s) self.now) }
+    {
         let mut lines = Vec::new(alloc);
-        let put = self.put_lines(alloc, &mut lines);
-        put?;
+        self.kinds.put_left_out(alloc, &mut lines)?;
+        self.put_aside(alloc, &mut lines)?;
+        self.put_lost(alloc, &mut lines)?;
+        self.put_fault(alloc, &mut lines)?;
         Ok(lines)
     }
 
-    fn put_lines(&self, alloc: Global, lines: &mut Vec<String>) -> Result<(), AllocError> {
-        self.copies.put(alloc, lines, "left out as copies")?;
-        let discarded = "with a wrong checksum, that a host discarded";
-        self.discarded.put(alloc, lines, discarded)?;
-        self.other_links.put(alloc, lines, "of another link type")?;
-        self.of_none.put(alloc, lines, "of UDP of no transfer")?;
+    /// Adds what there is to tell of what is of no transfer, or out of order.
+    fn put_aside(&self, alloc: Global, lines: &mut Vec<String>) -> Result<(), AllocError>
+        ensures { (t : Told) → AreKindsOf self.now.kinds t
+            → OnOk result (map string_bytes lines.new.items ≡ map string_bytes lines.old.items ++ aside_lines t self.now.begun) }
+    {
+        self.kinds.put_of_none(alloc, lines)?;
         self.begun.put(alloc, lines)?;
-        self.backwards.put(
-            alloc,
-            lines,
-            "older than the one before; reordercap puts them in order",
-        )?;
-        self.lost.put(
-            alloc,
-            lines,
-            "not there whole, so that datagrams may be missing",
-        )?;
+        self.kinds.put_backwards(alloc, lines)
+    }
+
+    /// Adds what there is to tell of what was lost.
+    fn put_lost(&self, alloc: Global, lines: &mut Vec<String>) -> Result<(), AllocError>
+        ensures { (t : Told) → AreKindsOf self.now.kinds t
+            → OnOk result (map string_bytes lines.new.items ≡ map string_bytes lines.old.items ++ lost_lines t self.now.behind self.now.dropped) }
+    {
+        self.kinds.put_lost(alloc, lines)?;
         self.behind.put(alloc, lines)?;
-        if self.dropped > 0 {
-            let dropped = Reason::Dropped(self.dropped);
-            lines.push(format!(in alloc; "{dropped}, so that datagrams may be missing")?)?;
+        put_dropped(alloc, lines, self.dropped)
+    }
+
+    /// Adds where the reading stopped, and why, if it did.
+    fn put_fault(&self, alloc: Global, lines: &mut Vec<String>) -> Result<(), AllocError>
+        ensures { OnOk result (map string_bytes lines.new.items ≡ map string_bytes lines.old.items ++ fault_lines self.now.fault) }
+    {
+        match &self.fault {
+            Some(fault) => {
+                lines.push(fault_line(alloc, fault)?)?;
+                Ok(())
+            }
+            None => Ok(()),
         }
-        if let Some(fault) = &self.fault {
-            let (frame, kind) = (fault.frame, fault.kind);
-            lines.push(format!(in alloc; "frame {frame}: {kind}")?)?;
-        }
-        Ok(())
     }
 
     /// The ports at which something looks like a request, with a space before each; none where nothing does.
-    pub fn asked_ports(&self, alloc: Global) -> Result<Option<String>, AllocError> {
+    pub fn asked_ports(&self, alloc: Global) -> Result<Option<String>, AllocError>
+        ensures { IfOk result (λ ports. option_map string_bytes ports ≡ ports_text self.now.asked.items) }
+    {
         if self.asked.is_empty() {
             return Ok(None);
         }
         let mut ports = String::new(alloc);
-        let put = put_numbers(&mut ports, self.asked.as_slice());
-        put?;
+        put_numbers(&mut ports, self.asked.as_slice())?;
         Ok(Some(ports))
+    }
+}
+
+/// Whether there is such a frame, and it stands up to that one.
+fn is_up_to(frame: Option<u64>, last: u64) -> bool
+    ensures { MatchOption frame (result ≡ false) (λ n. result ≡ nat_le n last) }
+{
+    match frame {
+        Some(frame) => frame <= last,
+        None => false,
     }
 }

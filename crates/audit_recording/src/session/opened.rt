@@ -57,6 +57,8 @@ impl<R: Read + Drop> Opened<R> {
         ensures ends { result ≡ Ok false → HasEnded self.new.recording session.new.notes }
         ensures at_end { standing_of self.old.recording ≡ Standing.Open → result ≡ Ok false → standing_of self.new.recording ≡ Standing.Over → IsAtEnd (left_of R.remaining self.new) }
         ensures goes { result ≡ Ok true → standing_of self.new.recording ≡ Standing.Open }
+        ensures fault { result ≡ Ok true → session.new.notes.fault ≡ session.old.notes.fault }
+        ensures whole { result ≡ Ok false → standing_of self.new.recording ≡ Standing.Over → session.new.notes.fault ≡ session.old.notes.fault }
         ensures judging { session.new.audit.judge.judging ≡ session.old.audit.judge.judging }
     {
         session.notes.may_lose = self.may_lose;

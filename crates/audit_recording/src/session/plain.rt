@@ -1,9 +1,13 @@
 //! Numbers and bytes as plain text.
 
+ghost use Rattle.std.specs.Prelude.{◌≡◌, ◌++◌, decimal, OnOk, string_bytes};
+
 use std::alloc::AllocError;
 
 /// Puts a number.
-pub fn put_number(line: &mut String, number: u64) -> Result<(), AllocError> {
+pub fn put_number(line: &mut String, number: u64) -> Result<(), AllocError>
+    ensures { OnOk result (string_bytes line.new ≡ string_bytes line.old ++ decimal number) }
+{
     let mut buffer = itoa::Buffer::new();
     line.push_str(buffer.format(number))
 }

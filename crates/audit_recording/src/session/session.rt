@@ -17,10 +17,10 @@ ghost use Rattle.audit_recording.specs.Blame.Kept.{IsPassing, IsTrailOf, is_abou
 ghost use Rattle.audit_recording.specs.Judges.{IsWatching, WereOpened, is_among, opened};
 ghost use Rattle.audit_recording.specs.declared.judges.judging.Judging.{Judging as JudgingKind};
 ghost use Rattle.audit_views.specs.Parties.{host_name};
-ghost use Rattle.audit_recording.specs.Losses.Noted.{IsAsked, IsFirst, IsMissingOf, IsTold, Since};
+ghost use Rattle.audit_recording.specs.Losses.Noted.{IsAsked, IsFirst, IsMissingOf, IsTold, MayMiss, Since};
 ghost use Rattle.audit_recording.specs.Losses.Noted.Event.{Asks};
-ghost use Rattle.audit_recording.specs.Session.Noted.{AreNotesOf, Noticed, finding, nothing_noticed, noting, sharers_of, stretch_of};
-ghost use Rattle.audit_recording.specs.Session.Recording.{AddsOne, IsCarriedBy, IsNoticedOf, asking, going, gone_by, intact_at, intact_by, placing, reached_by};
+ghost use Rattle.audit_recording.specs.Session.Noted.{AreNotesOf, Noticed, finding, going, nothing_noticed, noting, sharers_of, stretch_of};
+ghost use Rattle.audit_recording.specs.Session.Recording.{AddsOne, IsCarriedBy, IsNoticedOf, asking, gone_by, intact_at, intact_by, placing, reached_by, setting_aside};
 ghost use Rattle.audit_recording.specs.Session.Kept.{AreJudgesLeft, GivesNone, IsSessionAfter, IsSessionOf, ReadsOn};
 ghost use Rattle.audit_recording.specs.Session.Over.{IsOldestOver};
 ghost use Rattle.audit_recording.specs.Session.Trails.{AreTrailsBegun, AreTrailsKept, IsTrailAfter};
@@ -74,6 +74,7 @@ impl Session {
     ) -> Result<Self, AllocError>
         ensures stands { IfOk result (λ s. IsSessionAfter s services.now [] [] [] nothing_noticed) }
         ensures judging { IfOk result (λ s. s.audit.judge.judging ≡ judging) }
+        ensures fault { IfOk result (λ s. s.notes.fault ≡ None) }
     {
         Ok(Session {
             audit: RecordingAudit::new(alloc, services, judging)?,
@@ -107,6 +108,7 @@ impl Session {
         ensures at_end { standing_of recording.old ≡ Standing.Open → result ≡ Ok false → standing_of recording.new ≡ Standing.Over
             → IsAtEnd (prepend_known recording.new.frames.pieces.ahead (R.remaining reader.new.0)) }
         ensures goes { result ≡ Ok true → standing_of recording.new ≡ Standing.Open }
+        ensures fault { result ≡ Ok true → self.new.notes.fault ≡ self.old.notes.fault }
         ensures judging { self.new.audit.judge.judging ≡ self.old.audit.judge.judging }
     {
         match self.audit.next_into(alloc, reader, recording, event) {
@@ -162,6 +164,7 @@ impl Session {
             → AreTrailsKept self.old.trails self.old.audit.judge.judging named out carried
             → OnOk result (AreTrailsKept self.new.trails self.old.audit.judge.judging named out (c ∷ carried)) }
         ensures goes { result ≢ Ok false }
+        ensures fault { self.new.notes.fault ≡ self.old.notes.fault }
     {
         self.notes.lose(alloc, event.old())?;
         self.notes.lose_all(alloc, event.take_ousted(alloc))?;
@@ -228,6 +231,7 @@ impl Session {
             → WereOpened out (whole_of named carried) → AuditsAfter self.old.audit named out history (datagrams_of (c ∷ carried))
             → AreTrailsKept self.old.trails self.old.audit.judge.judging named out carried
             → OnOk result (AreTrailsKept self.new.trails self.old.audit.judge.judging named out (c ∷ carried)) }
+        ensures fault { self.new.notes.fault ≡ self.old.notes.fault }
     {
         match event.fate() {
             Fate::Datagram(datagram) => self.pass(alloc, event, &datagram, found),
@@ -248,13 +252,14 @@ impl Session {
             → OnOk result (AreNotesOf self.new.notes (going (gone_by event.now datagram.now s.times) (finding (reached_by s.times) (sharers_of event.now) s))) }
         ensures audit { self.new.audit ≡ self.old.audit }
         ensures trails { (judging : JudgingKind) (named out : List ℕ) (carried : List Carried) → AreTrailsKept self.old.trails judging named out carried → AreTrailsKept self.new.trails judging named out carried }
+        ensures fault { self.new.notes.fault ≡ self.old.notes.fault }
     {
-        self.notes.discard(alloc, event)?;
+        self.notes.find(alloc, event.sharers())?;
         let source = party_of(datagram.source, datagram.source_port).end;
         let target = party_of(datagram.target, datagram.target_port).end;
         let time = self.notes.clock.time_of(event.time());
         let frame = event.number();
-        self.notes.intact.discard(source, target, frame, time)?;
+        self.notes.discard(source, target, frame, time)?;
         let spoilt = Spoilt {
             frame,
             host: source.address,
@@ -297,6 +302,7 @@ impl Session {
             → WereOpened out (whole_of named carried) → AuditsAfter self.old.audit named out history (datagrams_of (c ∷ carried))
             → AreTrailsKept self.old.trails self.old.audit.judge.judging named out carried
             → OnOk result (AreTrailsKept self.new.trails self.old.audit.judge.judging named out (c ∷ carried)) }
+        ensures fault { self.new.notes.fault ≡ self.old.notes.fault }
     {
         let Some(found) = found else {
             return Ok(());
@@ -334,6 +340,7 @@ impl Session {
         ensures trails { (judging : JudgingKind) (named out : List ℕ) (c : Carried) (carried : List Carried)
             → place.now ≡ (framed_after named carried c).placed.place → IsPassing request.now c → WereOpened out (whole_of named carried)
             → AreTrailsKept self.old.trails judging named out carried → OnOk result (AreTrailsBegun self.new.trails judging named out c carried) }
+        ensures fault { self.new.notes.fault ≡ self.old.notes.fault }
     {
         match place {
             Place::Opens(transfer) => self.open(alloc, *transfer, request),
@@ -358,6 +365,7 @@ impl Session {
         ensures trails { (judging : JudgingKind) (named out : List ℕ) (c : Carried) (carried : List Carried)
             → Opens transfer ≡ (framed_after named carried c).placed.place → IsPassing request.now c → WereOpened out (whole_of named carried)
             → AreTrailsKept self.old.trails judging named out carried → OnOk result (AreTrailsBegun self.new.trails judging named out c carried) }
+        ensures fault { self.new.notes.fault ≡ self.old.notes.fault }
     {
         let payload = Vec::from_slice(alloc, request.payload)?;
         let mut trail = Trail::new(alloc, transfer, payload, request.frame);
@@ -373,7 +381,22 @@ impl Session {
 
     /// Notes a datagram at the transfer that it is about, or as one of none.
     fn follow(&mut self, found: &Attributed, passing: &Passing<'_>) -> Result<(), AllocError>
-        ensures notes { (s : Noticed) → AreNotesOf self.old.notes s → AreNotesOf self.new.notes s }
+        ensures notes { (s : Noticed) → AreNotesOf self.old.notes s → OnOk result (AreNotesOf self.new.notes (setting_aside found.now.place passing.now.frame s)) }
+        ensures audit { self.new.audit ≡ self.old.audit }
+        ensures trails { (named out : List ℕ) (history : List Step) (c : Carried) (carried : List Carried)
+            → IsAttributed named (datagrams_of carried) c.datagram found.now → IsPassing passing.now c
+            → AuditsAfter self.old.audit named out history (datagrams_of (c ∷ carried))
+            → AreTrailsBegun self.old.trails self.old.audit.judge.judging named out c carried
+            → OnOk result (AreTrailsKept self.new.trails self.old.audit.judge.judging named out (c ∷ carried)) }
+        ensures fault { self.new.notes.fault ≡ self.old.notes.fault }
+    {
+        self.hand_over(found, passing)?;
+        self.set_aside(&found.place, passing)
+    }
+
+    /// Hands a datagram to the transfer that it is about, or to those within whose time it may be.
+    fn hand_over(&mut self, found: &Attributed, passing: &Passing<'_>) -> Result<(), AllocError>
+        ensures notes { self.new.notes ≡ self.old.notes }
         ensures audit { self.new.audit ≡ self.old.audit }
         ensures trails { (named out : List ℕ) (history : List Step) (c : Carried) (carried : List Carried)
             → IsAttributed named (datagrams_of carried) c.datagram found.now → IsPassing passing.now c
@@ -383,7 +406,7 @@ impl Session {
     {
         match about(&found.place) {
             Some(number) => self.hand(number, found, passing),
-            None => self.set_aside(&found.place, passing),
+            None => self.leave_out(&found.place, passing),
         }
     }
 
@@ -412,14 +435,17 @@ impl Session {
         }
     }
 
-    /// Notes a datagram of no transfer, also where its time may be within one's.
+    /// Notes a datagram that is about no transfer.
     fn set_aside(&mut self, place: &Place, passing: &Passing<'_>) -> Result<(), AllocError>
-        ensures notes { (s : Noticed) → AreNotesOf self.old.notes s → AreNotesOf self.new.notes s }
+        ensures notes { (s : Noticed) → AreNotesOf self.old.notes s → OnOk result (AreNotesOf self.new.notes (setting_aside place.now passing.now.frame s)) }
         ensures audit { self.new.audit ≡ self.old.audit }
-        ensures trails { (judging : JudgingKind) (named out : List ℕ) (carried : List Carried) → AreTrailsKept self.old.trails judging named out carried → AreTrailsKept self.new.trails judging named out carried }
+        ensures trails { self.new.trails ≡ self.old.trails }
+        ensures fault { self.new.notes.fault ≡ self.old.notes.fault }
     {
-        self.leave_out(place, passing)?;
-        self.notes.leave_out(passing)
+        match place {
+            Place::Opens(_) | Place::Repeats(_) | Place::Talks(_) | Place::Beside(_) => Ok(()),
+            Place::Apart(_) | Place::Nowhere => self.notes.leave_out(passing),
+        }
     }
 
     /// Notes a datagram of no client's line where its time may be within a transfer's.
@@ -529,7 +555,12 @@ impl Session {
     }
 
     /// Whether datagrams of the client of this transfer may be missing.
-    pub(crate) fn may_lack(&self, trail: &Trail) -> bool {
+    pub(crate) fn may_lack(&self, trail: &Trail) -> bool
+        ensures none { (s : Noticed) → AreNotesOf self.now.notes s → result ≡ false
+            → (self.now.notes.fault ≡ None) × ((n time : ℕ) → IsMissingOf trail.now.transfer.client.address s.events n time → trail.now.last < n) }
+        ensures some { (s : Noticed) → AreNotesOf self.now.notes s → IsAsked (λ host. same_address host trail.now.transfer.client.address) trail.now.first s.events → result ≡ true
+            → IsSome self.now.notes.fault ⊎ MayMiss (stretch_of trail.now) s.events }
+    {
         self.notes.may_lack(trail)
     }
 

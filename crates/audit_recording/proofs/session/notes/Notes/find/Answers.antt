@@ -9,6 +9,7 @@ pub loop-frame-init : goal.loop-frame-init
 loop-frame-init c = record {
   so_far = λ s are. begins (λ n. Finds n c.args.self.now.clock.reached) c.args.self.now c.args.frames.now s are;
   clock = refl;
+  fault = refl;
 }
 
 pub loop-frame-preserved : goal.loop-frame-preserved
@@ -24,10 +25,12 @@ loop-frame-preserved c =
             frames = was.frames;
             intact = was.intact;
             clock = was.clock;
+            kinds = was.kinds;
           })
           (c.loop-frame.invariant.so_far s are);
       clock = c.loop-frame.invariant.clock;
+      fault = c.loop-frame.invariant.fault;
     }
 
-pub returns : goal.returns
-returns c = λ s are. ends (λ n. Finds n c.args.self.now.clock.reached) c.loop-frame.self _ c.args.frames.now s (drop_all c.loop-frame.frame-index c.args.frames.now (omega arith)) (c.loop-frame.invariant.so_far s are)
+pub returns-clause-stands : goal.returns-clause-stands
+returns-clause-stands c = λ s are. ends (λ n. Finds n c.args.self.now.clock.reached) c.loop-frame.self _ c.args.frames.now s (drop_all c.loop-frame.frame-index c.args.frames.now (omega arith)) (c.loop-frame.invariant.so_far s are)

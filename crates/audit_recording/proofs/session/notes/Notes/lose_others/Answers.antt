@@ -9,6 +9,7 @@ pub loop-other-init : goal.loop-other-init
 loop-other-init c = record {
   so_far = λ s are. begins GivesUp c.args.self.now (others c.args.frame c.args.frames.now) s are;
   clock = refl;
+  fault = refl;
 }
 
 pub loop-other-preserved : goal.loop-other-preserved
@@ -25,6 +26,7 @@ loop-other-preserved c =
           (λ more was. c.in_ok-lose_other.ensures.stands more was)
           (c.loop-other.invariant.so_far s are);
       clock = c.in_ok-lose_other.ensures.clock ∙ c.loop-other.invariant.clock;
+      fault = c.in_ok-lose_other.ensures.fault ∙ c.loop-other.invariant.fault;
     }
 
 pub returns-clause-stands : goal.returns-clause-stands

@@ -4,13 +4,15 @@ use Rattle.audit_recording.specs.Losses.Noted.{Unread}
 use Rattle.audit_recording.specs.Losses.Noted.Event.{Loses}
 use Rattle.audit_recording.specs.Losses.Kept.{AreLosses}
 use Rattle.audit_recording.specs.Reasons.Clock.{last_of}
-use Rattle.audit_recording.specs.Session.Noted.{AreNotesOf, Noticed, giving_up, others, sharers_of, unread_in}
+use Rattle.audit_recording.specs.Session.Noted.{AreNotesOf, Noticed, giving_up, lost_frames, others, sharers_of, told_in, unread_in}
+use Rattle.audit_recording.specs.Session.Told.{AreFramesOf}
 use Rattle.audit_recording.proofs.LossesLemmas.Changing.{on_ok}
+use Rattle.audit_recording.proofs.SessionLemmas.Lines.{more_lost}
 use Rattle.audit_recording.proofs.SessionLemmas.Noting.{up_to_more}
 use Rattle.audit_recording.proofs.session.notes.Notes.lose_with.Goals as goal
 
-pub returns : goal.returns
-returns c = λ s are low.
+pub returns-clause-stands : goal.returns-clause-stands
+returns-clause-stands c = λ s are low.
     let event = c.args.event.now in
     let reached = c.args.self.now.clock.reached in
     let left : Noticed = giving_up (others event.frame.number (sharers_of event)) s in
@@ -29,6 +31,8 @@ returns c = λ s are low.
         frames = (omega arith, up_to_more s.last event.frame.number left.events low were.frames);
         intact = were.intact;
         clock = were.clock;
+        kinds = more_lost c.lose_others.new.self.kinds c.add.new.self (told_in left) (event.frame.number ∷ lost_frames left.events) were.kinds
+            (subst (λ n. AreFramesOf c.add.new.self (n ∷ lost_frames left.events)) c.number-frame.ensures (c.in_ok-add.ensures (lost_frames left.events) were.kinds.lost));
       },
     ))
     (c.lose.ensures left.events were.losses)

@@ -9,8 +9,8 @@ use Rattle.audit_recording.proofs.LossesLemmas.Changing.{on_ok}
 use Rattle.audit_recording.proofs.SessionLemmas.Noting.{up_to_more}
 use Rattle.audit_recording.proofs.session.notes.Notes.wait.Goals as goal
 
-pub returns : goal.returns
-returns c = λ s are low.
+pub returns-clause-stands : goal.returns-clause-stands
+returns-clause-stands c = λ s are low.
     let event = c.args.event.now in
     let reached = c.args.self.now.clock.reached in
     let time : c.moment_of-time.result ≡ max (unwrap_or event.frame.parts.time (last_of s.times)) reached =
@@ -26,6 +26,7 @@ returns c = λ s are low.
         frames = (omega arith, up_to_more s.last event.frame.number s.events low are.frames);
         intact = are.intact;
         clock = are.clock;
+        kinds = are.kinds;
       },
     ))
     (c.wait.ensures s.events are.losses)

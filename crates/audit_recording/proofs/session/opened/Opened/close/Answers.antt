@@ -12,7 +12,7 @@ returns-clause-closed g c named out history carried s is =
       noticed = is.noticed;
       kept = record {
         audit = is.kept.audit;
-        notes = record { losses = kept.losses; frames = kept.frames; intact = kept.intact; clock = kept.clock };
+        notes = record { losses = kept.losses; frames = kept.frames; intact = kept.intact; clock = kept.clock; kinds = kept.kinds };
         trails = is.kept.trails;
       };
       may_lose = refl;

@@ -1,8 +1,8 @@
-use Rattle.std.proofs.Common.{◌≡◌, ◌∷◌, ap, sym, subst, ◌∙◌, unwrap_or}
+use Rattle.std.proofs.Common.{◌≡◌, ap, sym, subst, ◌∙◌, unwrap_or}
 use Rattle.audit_recording.specs.Reasons.Clock.{last_of}
-use Rattle.audit_recording.specs.Session.Intact.{AreIntactAfter, Gone}
-use Rattle.audit_recording.specs.Session.Noted.{AreNotesOf, Noticed, finding, sharers_of}
-use Rattle.audit_recording.specs.Session.Recording.{going, gone_by, reached_by}
+use Rattle.audit_recording.specs.Session.Intact.{Gone}
+use Rattle.audit_recording.specs.Session.Noted.{AreNotesOf, Noticed, finding, going, sharers_of}
+use Rattle.audit_recording.specs.Session.Recording.{gone_by, reached_by}
 use Rattle.audit_recording.specs.declared.session.notes.Notes.{Notes}
 use Rattle.audit_recording.proofs.SessionLemmas.Recording.{reached_is}
 use Rattle.audit_recording.proofs.session.session.Session.discard.Goals as goal
@@ -11,17 +11,13 @@ pub returns-clause-notes : goal.returns-clause-notes
 returns-clause-notes c s are =
     let event = c.args.event.now in
     let whole : Noticed = finding (reached_by s.times) (sharers_of event) s in
-    let found : AreNotesOf c.discard.new.self whole =
-    subst (λ r. AreNotesOf c.discard.new.self (finding r (sharers_of event) s)) (reached_is c.args.self.now.notes.clock s.times are.clock) (c.in_ok-discard.ensures s are) in
+    let found : AreNotesOf c.find.new.self whole =
+    subst (λ (t : Noticed). AreNotesOf c.find.new.self t) (λ i. finding (reached_is c.args.self.now.notes.clock s.times are.clock i) (c.sharers.ensures i) s) (c.in_ok-find.ensures.stands s are) in
     let time = c.time_of-time.ensures s.times found.clock ∙ ap (λ t. unwrap_or t (last_of s.times)) c.time.ensures in
     let g : Gone = record { source = c.party_of.result.end; target = c.party_of-2.result.end; frame = c.number-frame.result; time = c.time_of-time.result } in
     let same : g ≡ gone_by event c.args.datagram.now s.times = λ i. record { source = c.party_of.ensures.end i; target = c.party_of-2.ensures.end i; frame = c.number-frame.ensures i; time = time i } in
-    let gone : AreNotesOf (record c.discard.new.self { intact = c.discard-2.new.self }) (going (gone_by event c.args.datagram.now s.times) whole) = record {
-      losses = found.losses;
-      frames = found.frames;
-      intact = subst (λ h. AreIntactAfter c.discard-2.new.self s.seen (h ∷ s.gone)) same (c.in_ok-discard-2.ensures s.seen s.gone found.intact);
-      clock = found.clock;
-    } in
+    let gone : AreNotesOf c.discard.new.self (going (gone_by event c.args.datagram.now s.times) whole) =
+    subst (λ (h : Gone). AreNotesOf c.discard.new.self (going h whole)) same (c.in_ok-discard.ensures.stands whole found) in
     subst (λ (n : Notes). AreNotesOf n (going (gone_by event c.args.datagram.now s.times) whole)) (sym (c.discard_at-2.ensures.notes ∙ c.discard_at.ensures.notes)) gone
 
 pub returns-clause-trails : goal.returns-clause-trails

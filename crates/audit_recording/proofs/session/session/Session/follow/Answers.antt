@@ -1,16 +1,13 @@
-use Rattle.std.proofs.Common.{◌∷◌}
-use Rattle.audit_recording.specs.Blame.Frames.{framed_after}
+use Rattle.std.proofs.Common.{◌∷◌, subst, sym}
+use Rattle.audit_recording.specs.Session.Noted.{AreNotesOf}
+use Rattle.audit_recording.specs.Session.Trails.{AreTrailsKept}
 use Rattle.audit_recording.proofs.SessionLemmas.Recording.{always}
-use Rattle.audit_recording.proofs.SessionLemmas.Trails.{all_passed_by}
 use Rattle.audit_recording.proofs.session.session.Session.follow.Goals as goal
 
-pub returns-in-Some-clause-trails : goal.returns-in-Some-clause-trails
-returns-in-Some-clause-trails c named out history d carried at passes audit begun =
-    c.hand.ensures.trails named out history d carried (λ n. c.in-Some.ensures (framed_after named carried d).placed at.0 n) at passes audit begun
+pub returns-clause-notes : goal.returns-clause-notes
+returns-clause-notes c s are = c.set_aside.ensures.notes s (subst (λ n. AreNotesOf n s) (sym c.hand_over.ensures.notes) are)
 
-pub returns-in-None-clause-trails : goal.returns-in-None-clause-trails
-returns-in-None-clause-trails c named out history d carried at passes audit begun =
-    let judging = c.args.self.now.audit.judge.judging in
+pub returns-clause-trails : goal.returns-clause-trails
+returns-clause-trails c named out history d carried at passes audit begun =
     always c.set_aside.result
-    (c.set_aside.ensures.trails judging named out (d ∷ carried)
-    (all_passed_by c.args.self.now.trails judging named out d carried (λ n. c.in-None.ensures (framed_after named carried d).placed at.0 n) begun))
+    (subst (λ t. AreTrailsKept t c.args.self.now.audit.judge.judging named out (d ∷ carried)) (sym c.set_aside.ensures.trails) (c.in_ok-hand_over.ensures.trails named out history d carried at passes audit begun))

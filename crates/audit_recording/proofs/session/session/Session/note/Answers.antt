@@ -23,7 +23,7 @@ returns-in_ok-leave-in-Left-clause-datagram c named carried s x a given is came 
 pub returns-in_ok-wait-in-Waits-clause-none : goal.returns-in_ok-wait-in-Waits-clause-none
 returns-in_ok-wait-in-Waits-clause-none c named carried s none gives low are =
     let reached = reached_is c.args.self.now.notes.clock s.times are.clock in
-    let told = waits_told c.wait.new.self c.args.event.now s c.args.self.now.notes.clock.reached reached (c.in_ok-wait-in-Waits.ensures s are low) in
+    let told = waits_told c.wait.new.self c.args.event.now s c.args.self.now.notes.clock.reached reached (c.in_ok-wait-in-Waits.ensures.stands s are low) in
     (Waits, told.0, c.in-Waits.ensures.is, (refl, told.1), told.2)
 
 pub returns-in_ok-wait-in-Waits-clause-datagram : goal.returns-in_ok-wait-in-Waits-clause-datagram

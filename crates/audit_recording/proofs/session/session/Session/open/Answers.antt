@@ -15,7 +15,7 @@ returns-clause-notes c s are later =
     let transfer = (c.new-trail.ensures.stands Nowhere [] [] refl).transfer in
     let first = c.new-trail.ensures.first in
     let before : s.last < c.new-trail.result.first = omega arith in
-    subst (λ (t : Noticed). OnOk c.ask-asked.result (AreNotesOf c.ask-asked.new.self t)) (λ i. noting (Asks ((transfer i).client.address) (first i)) (first i) s) (c.ask-asked.ensures s are before)
+    subst (λ (t : Noticed). OnOk c.ask-asked.result (AreNotesOf c.ask-asked.new.self t)) (λ i. noting (Asks ((transfer i).client.address) (first i)) (first i) s) (c.ask-asked.ensures.stands s are before)
 
 pub returns-clause-trails : goal.returns-clause-trails
 returns-clause-trails c judging named out d carried opens passes handed kept =

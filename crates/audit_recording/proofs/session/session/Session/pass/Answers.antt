@@ -2,8 +2,8 @@ use Rattle.std.proofs.Common.{◌≡◌, ◌∷◌, arith, ap, sym, subst, ◌�
 use Rattle.audit_flows.specs.{Attributed}
 use Rattle.net_udp.specs.Recording.{checksum_told}
 use Rattle.audit_recording.specs.Reasons.Spoilt.{checked}
-use Rattle.audit_recording.specs.Session.Noted.{AreNotesOf, Noticed, finding, sharers_of, with_time}
-use Rattle.audit_recording.specs.Session.Recording.{asking, intact_at, passing_at, reached_by}
+use Rattle.audit_recording.specs.Session.Noted.{AreNotesOf, Noticed, finding, going_back, sharers_of, with_time}
+use Rattle.audit_recording.specs.Session.Recording.{asking, intact_at, passing_at, reached_by, setting_aside}
 use Rattle.audit_recording.specs.Audit.{AuditsAfter, RecordingAudit}
 use Rattle.audit_recording.specs.Audit.Audited.{IsAttributed}
 use Rattle.audit_recording.specs.Blame.Frames.{datagrams_of}
@@ -20,19 +20,19 @@ returns-clause-notes c carried s x a is carries later are =
     let same : c.in-Some.found ≡ a = cc in
     let whole : Noticed = finding (reached_by s.times) (sharers_of event) s in
     let found : AreNotesOf c.find.new.self whole =
-    subst (λ (t : Noticed). AreNotesOf c.find.new.self t) (λ i. finding (reached_is c.args.self.now.notes.clock s.times are.clock i) (c.sharers.ensures i) s) (c.in_ok-find.ensures s are) in
+    subst (λ (t : Noticed). AreNotesOf c.find.new.self t) (λ i. finding (reached_is c.args.self.now.notes.clock s.times are.clock i) (c.sharers.ensures i) s) (c.in_ok-find.ensures.stands s are) in
     let frame = c.number.ensures ∙ sym carries.frame in
     let time = c.time.ensures ∙ sym carries.time in
     let source = c.party_of-source.ensures.end ∙ sym carries.taken.source in
     let intact = c.intact_in.ensures ∙ ap (λ (p : Attributed). intact_at p.place (checksum_told event.sent)) same in
     let passed : AreNotesOf c.pass.new.self (passing_at a.place (checksum_told event.sent) x whole) =
     subst (λ (t : Noticed). AreNotesOf c.pass.new.self t)
-    (λ i. record whole { seen = checked (frame i) ((source i).address) (intact i) ∷ whole.seen; times = with_time (time i) whole.times })
-    (c.in_ok-pass.ensures whole found) in
+    (λ i. record whole { seen = checked (frame i) ((source i).address) (intact i) ∷ whole.seen; times = with_time (time i) whole.times; backwards = going_back (frame i) (time i) whole.times whole.backwards })
+    (c.in_ok-pass.ensures.stands whole found) in
     let number = c.number.ensures in
     let asked = c.in_ok-ask.ensures.notes (passing_at a.place (checksum_told event.sent) x whole) passed (omega arith) in
-    let followed = c.follow.ensures.notes (asking c.in-Some.found.place c.number.result (passing_at a.place (checksum_told event.sent) x whole)) asked in
-    subst (λ (t : Noticed). AreNotesOf c.follow.new.self.notes t) (λ i. asking ((same i).place) (frame i) (passing_at a.place (checksum_told event.sent) x whole)) followed
+    let followed = c.in_ok-follow.ensures.notes (asking c.in-Some.found.place c.number.result (passing_at a.place (checksum_told event.sent) x whole)) asked in
+    subst (λ (t : Noticed). AreNotesOf c.follow.new.self.notes t) (λ i. setting_aside ((same i).place) (frame i) (asking ((same i).place) (frame i) (passing_at a.place (checksum_told event.sent) x whole))) followed
 
 pub returns-clause-trails : goal.returns-clause-trails
 returns-clause-trails c named out history carried d a is carries at handed audit kept =

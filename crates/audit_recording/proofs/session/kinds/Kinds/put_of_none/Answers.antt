@@ -1,0 +1,7 @@
+use Rattle.std.proofs.Common.{codes, map, string_bytes}
+use Rattle.audit_recording.proofs.SessionLemmas.Lines.{puts_told_last}
+use Rattle.audit_recording.proofs.session.kinds.Kinds.put_of_none.Goals as goal
+
+pub returns : goal.returns
+returns c t are =
+    puts_told_last c.put.result c.args.self.now.of_none t.of_none (codes "of UDP of no transfer") (map string_bytes c.args.lines.now.items) (map string_bytes c.put.new.lines.items) are.of_none c.put.ensures
