@@ -46,37 +46,50 @@ CASES: tuple[tuple[str, list[Datagram], int | None, bool | None], ...] = (
 )
 
 
+ACKED, STRAYED, STOPPED = sent(ack(1)[0]), sent(error(5, "")[0]), sent(error(3, "full")[0])
 SIZED = Datagram(C, 40_000, S, 69, read_request("a", "octet", blksize=1024)[0])
 SIZE = answered(oack(blksize=1024)[0])
 WRITES = [Datagram(C, 40_000, S, 69, write_request("a", "octet")[0]), answered(ack(0)[0])]
 
 Expected = tuple[Optional[int], Optional[bool]]
-# What passes, and at the client and at the server the rule that the last datagram breaks there and whether that stands.
+# What passes, and at the client and at the server the rule that is broken there and whether that stands.
 # At the server each of these rules stands, since its client is who asked it. At the client they do of what it sent
-# itself; of what came to it nothing is said, since its server may be another one whose answer was missed.
+# itself; and of what came to it once it has gone on with its server, by something that is neither a request nor an
+# ERROR 5. Before that its server may be another one, whose answer was missed.
 AT_ENDS: tuple[tuple[str, list[Datagram], Expected, Expected], ...] = (
     ("a whole read", read("a", 40_000, 41_000), (None, None), (None, None)),
     ("not whole", [ASKED, FULL], (None, None), (None, None)),
     # rule 5
     ("no packet of the client", [ASKED, FULL, sent(b"\0\7x\0")], (5, True), (5, True)),
     ("no packet of the server", [ASKED, FULL, answered(b"\0\7x\0")], (5, None), (5, True)),
+    ("no packet of the server, later", [ASKED, FULL, ACKED, answered(b"\0\7x\0")], (5, True), (5, True)),
     # rule 6
     ("a block of the reader", [ASKED, FULL, sent(data(1, b"x")[0])], (6, True), (6, True)),
     ("an OACK of the client", [ASKED, FULL, sent(oack(blksize=8)[0])], (6, True), (6, True)),
     ("an ACK of the sender", [ASKED, FULL, answered(ack(1)[0])], (6, None), (6, True)),
+    ("an ACK of the sender, later", [ASKED, FULL, ACKED, answered(ack(1)[0])], (6, True), (6, True)),
     ("an ACK of the writer", [*WRITES, sent(ack(0)[0])], (6, True), (6, True)),
-    # rule 7: at the client the first ERROR may have answered a stray, and that is not told by the rule
-    ("another ERROR", [ASKED, FULL, sent(error(3, "full")[0]), sent(error(2, "no")[0])], (7, None), (7, True)),
+    # rule 7: an ERROR 5 may have answered a stray, and any other one did not
+    ("another ERROR", [ASKED, FULL, STOPPED, sent(error(2, "no")[0])], (7, True), (7, True)),
+    ("another ERROR 5", [ASKED, FULL, STRAYED, sent(error(5, "no")[0])], (7, None), (7, True)),
+    ("an ERROR 2 after an ERROR 5", [ASKED, FULL, STRAYED, sent(error(2, "no")[0])], (7, True), (7, True)),
     ("a block after an ERROR", [ASKED, answered(error(0, "x")[0]), FULL], (None, None), (7, True)),
     # rules 13, 16 and 17
     ("an OACK of what was not asked for", [ASKED, answered(oack(blksize=1024)[0])], (13, None), (13, True)),
     ("another OACK", [SIZED, SIZE, answered(oack(blksize=512)[0])], (16, None), (16, True)),
+    ("another OACK, later", [SIZED, SIZE, sent(ack(0)[0]), answered(oack(blksize=512)[0])], (16, True), (16, True)),
     ("an OACK after a block", [SIZED, SIZE, sent(ack(0)[0]), FULL, SIZE], (None, None), (17, True)),
     # rule 19
     ("block 0 of the server", [ASKED, FULL, answered(data(0, b"x")[0])], (19, None), (19, True)),
+    ("block 0 of the server, later", [ASKED, FULL, ACKED, answered(data(0, b"x")[0])], (19, True), (19, True)),
     ("block 0 of the client", [*WRITES, sent(data(0, b"x")[0])], (19, True), (19, True)),
     # rule 25
-    ("the server changes a block", [ASKED, FULL, sent(ack(1)[0]), CHANGED], (25, None), (25, True)),
+    ("the server changes a block", [ASKED, FULL, ACKED, CHANGED], (25, True), (25, True)),
+    ("the server changes a block at once", [ASKED, FULL, CHANGED], (25, None), (25, True)),
+    ("the server changes a block before an ACK", [ASKED, FULL, CHANGED, ACKED], (25, None), (25, True)),
+    ("the server changes a block, asked for twice", [ASKED, ASKED, FULL, CHANGED], (25, None), (25, True)),
+    ("the server changes a block after an ERROR 5", [ASKED, FULL, STRAYED, CHANGED], (25, None), (25, True)),
+    ("the server changes a block after an ERROR 3", [ASKED, FULL, STOPPED, CHANGED], (25, True), (25, True)),
     ("the client changes a block", [*WRITES, sent(data(1, b"x")[0]), sent(data(1, b"y")[0])], (25, True), (25, True)),
     # what is not certain: that which allows it may be missing
     ("an ACK ahead", [ASKED, FULL, sent(ack(3)[0])], (26, None), (26, None)),
@@ -111,8 +124,11 @@ class Stands(Checks):
         said_of = self.words(file_of(read("a", 40_000, 41_000)))
         self.check("accepted", "missing" not in said_of and "accepted" in said_of, said_of)
         said_of = self.words(given, "--end", "client")
+        is_told = said_of.endswith(f" rule {Rule.BLOCK_CHANGED}, whatever is missing")
+        self.check("what came to a client that has gone on", is_told, said_of)
+        said_of = self.words(file_of([ASKED, FULL, CHANGED, ACKED]), "--end", "client")
         is_told = said_of.endswith(f" rule {Rule.BLOCK_CHANGED}, if no frame is missing")
-        self.check("what came to a client", is_told, said_of)
+        self.check("what came to a client before", is_told, said_of)
         doubtful = self.words(file_of(asked_again()))
         self.check("doubtful", "rule" in doubtful and "missing" not in doubtful, doubtful)
         asked, many = Datagram(C, 40_000, S, 69, read_request("a", "octet", tsize=0)[0]), oack(tsize=40_000_000)[0]

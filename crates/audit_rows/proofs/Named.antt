@@ -40,40 +40,40 @@ in_frame None frame is = let none : None ≡ Some frame = is in absurd (cc)
 in_frame (Some b) frame is = let this : Some b.frame ≡ Some frame = is in record { datagram = b; blamed = refl; frame = cc }
 
 -- It is that of the verdict's number.
-pub record IsNamed (at : Point) (n : ℕ) (named : List ℕ) (carried : List Carried) (o : Option ℕ) (b : Blamed) : Type 0 where
+pub record IsNamed (at : Point) (x : Transfer) (named : List ℕ) (carried : List Carried) (o : Option ℕ) (b : Blamed) : Type 0 where
   pub number : ℕ
   pub datagram : Framed
   pub refuses : o ≡ Some number
-  pub seen : seen_as at n named carried number ≡ Some datagram
-  pub is : b ≡ blamed_of n datagram
+  pub seen : seen_as at x.number named carried number ≡ Some datagram
+  pub is : b ≡ blamed_of x datagram
 
-record IsOf (n : ℕ) (o : Option Framed) (b : Blamed) : Type 0 where
+record IsOf (x : Transfer) (o : Option Framed) (b : Blamed) : Type 0 where
   datagram : Framed
   seen : o ≡ Some datagram
-  is : b ≡ blamed_of n datagram
+  is : b ≡ blamed_of x datagram
 
-is_of : (n : ℕ) (o : Option Framed) (b : Blamed) → option_map (blamed_of n) o ≡ Some b → IsOf n o b
-is_of n None b is = let none : None ≡ Some b = is in absurd (cc)
-is_of n (Some f) b is = let this : Some (blamed_of n f) ≡ Some b = is in record { datagram = f; seen = refl; is = cc }
+is_of : (x : Transfer) (o : Option Framed) (b : Blamed) → option_map (blamed_of x) o ≡ Some b → IsOf x o b
+is_of x None b is = let none : None ≡ Some b = is in absurd (cc)
+is_of x (Some f) b is = let this : Some (blamed_of x f) ≡ Some b = is in record { datagram = f; seen = refl; is = cc }
 
-by_number : (at : Point) (n : ℕ) (named : List ℕ) (carried : List Carried) (o : Option ℕ) (b : Blamed) → blamed_as at n named carried o ≡ Some b
-    → IsNamed at n named carried o b
-by_number at n named carried None b is = let none : None ≡ Some b = is in absurd (cc)
-by_number at n named carried (Some number) b is =
-    let it = is_of n (seen_as at n named carried number) b is in
+by_number : (at : Point) (x : Transfer) (named : List ℕ) (carried : List Carried) (o : Option ℕ) (b : Blamed) → blamed_as at x named carried o ≡ Some b
+    → IsNamed at x named carried o b
+by_number at x named carried None b is = let none : None ≡ Some b = is in absurd (cc)
+by_number at x named carried (Some number) b is =
+    let it = is_of x (seen_as at x.number named carried number) b is in
     record { number = number; datagram = it.datagram; refuses = refl; seen = it.seen; is = it.is }
 
 pub named_by : (at : Point) (x : Transfer) (named : List ℕ) (carried : List Carried) (v : Viewed) (b : Blamed) → IsViewAt at x named carried v → v.blamed ≡ Some b
-    → IsNamed at x.number named carried (number_in v.found) b
-named_by at x named carried v b view is = by_number at x.number named carried (number_in v.found) b (sym view.blamed ∙ is)
+    → IsNamed at x named carried (number_in v.found) b
+named_by at x named carried v b view is = by_number at x named carried (number_in v.found) b (sym view.blamed ∙ is)
 
-pub record IsFramed (at : Point) (n : ℕ) (named : List ℕ) (carried : List Carried) (o : Option ℕ) (there : ℕ) : Type 0 where
+pub record IsFramed (at : Point) (x : Transfer) (named : List ℕ) (carried : List Carried) (o : Option ℕ) (there : ℕ) : Type 0 where
   pub datagram : Blamed
-  pub is : IsNamed at n named carried o datagram
+  pub is : IsNamed at x named carried o datagram
   pub frame : datagram.frame ≡ there
 
 pub framed_by : (at : Point) (x : Transfer) (named : List ℕ) (carried : List Carried) (v : Viewed) (frame : ℕ) → IsViewAt at x named carried v
-    → refused_frame (said_in v) ≡ Some frame → IsFramed at x.number named carried (number_in v.found) frame
+    → refused_frame (said_in v) ≡ Some frame → IsFramed at x named carried (number_in v.found) frame
 framed_by at x named carried v frame view is =
     let it = in_frame v.blamed frame (has_frame v.found (option_map (λ b. b.frame) v.blamed) frame is) in
     record { datagram = it.datagram; is = named_by at x named carried v it.datagram view it.blamed; frame = it.frame }

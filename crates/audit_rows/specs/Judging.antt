@@ -1,5 +1,5 @@
 -- What there is to say of a transfer of a recording. Lists have the newest first.
-use Rattle.std.specs.Prelude.{◌≡◌, ◌&&◌, ◌==◌, not, nat_lt, ℕ, Bool, true, false, List, IfSome, Option, Some, None, is_some, option_map, Err}
+use Rattle.std.specs.Prelude.{◌≡◌, ◌&&◌, ◌==◌, not, nat_lt, ℕ, Bool, true, false, List, IfSome, Option, Some, None, is_some, map, option_map, Err}
 use Rattle.tftp_packet.specs.{End, Client, Server}
 use Rattle.law_tap.specs.{AreApart}
 use Rattle.tftp_judge.specs.{Refusal}
@@ -9,11 +9,14 @@ use Rattle.audit_flows.specs.{Transfer}
 use Rattle.audit_flows.specs.Transfers.{IsDoubtedAfter}
 use Rattle.audit_recording.specs.{Judging}
 use Rattle.audit_recording.specs.Between.{sides_of}
-use Rattle.audit_recording.specs.Blame.Frames.{Carried, whole_of}
-use Rattle.audit_recording.specs.Blame.Kept.{IsTrailOf}
+use Rattle.audit_recording.specs.Blame.Frames.{Carried, view_of, whole_of}
+use Rattle.audit_recording.specs.Blame.Kept.{IsTrailOf, sent_of}
 use Rattle.audit_recording.specs.Judges.Kept.{Judges, refused_at_client, refused_at_server, refused_between}
 use Rattle.audit_recording.specs.Judges.Points.{points_of}
+use Rattle.audit_recording.specs.Reasons.Twice.{are_twice}
 use Rattle.audit_recording.specs.declared.blame.blame.Blamed.{Blamed}
+use Rattle.audit_recording.specs.declared.blame.doubted.Doubted.{Doubted}
+use Rattle.audit_recording.specs.declared.blame.trail.Trail.{Trail}
 use Rattle.audit_recording.specs.Rows.Accusing.{role_at}
 use Rattle.audit_recording.specs.Rows.Told.{refused_frame}
 use Rattle.audit_recording.specs.declared.blame.stop.Stop.{Stop}
@@ -27,11 +30,24 @@ use Rattle.audit_rows.specs.declared.judged.Judged.{Judged}
 use Rattle.audit_rows.specs.declared.told.Told.{Told}
 use Rattle.audit_rows.specs.declared.viewed.Viewed.{Viewed}
 
+-- What makes a refusal of this transfer doubtful beside the division is what was kept of it: whether all that passed at its client was
+-- recorded twice or went one way, its first frame, and the first frames that may be copies, are damaged, were discarded or left out.
+pub record AreKeptDoubts (d : Doubted) (t : Trail) (x : Transfer) (named : List ℕ) (carried : List Carried) : Type 0 where
+  pub number : d.doubts.number ≡ x.number
+  pub is_twice : d.is_twice ≡ are_twice (map sent_of (view_of point.Client x.number named carried))
+  pub begins : d.begins ≡ t.first
+  pub is_one_way : d.is_one_way ≡ not t.is_answered
+  pub copied_from : d.copied_from ≡ t.copied_from
+  pub damaged : d.damaged ≡ t.damaged
+  pub discarded : d.discarded ≡ t.discarded
+  pub left_out : d.left_out ≡ t.left_out
+
 -- It is what there is to say of this transfer by these datagrams of a recording: a verdict at each point where it is judged, on what
 -- the point saw, with the datagram that it refuses. Between the ends there is one of a client that did not ask itself.
 pub record IsJudgedOf (j : Judged) (judging : Judging) (x : Transfer) (named : List ℕ) (carried : List Carried) : Type 0 where
   pub trail : IsTrailOf j.trail judging x named carried
   pub doubts : IsDoubtedAfter j.doubted.doubts (whole_of named carried)
+  pub kept : AreKeptDoubts j.doubted j.trail x named carried
   pub at_client : is_some j.client ≡ (points_of judging x).client
   pub at_server : is_some j.server ≡ (points_of judging x).server
   pub at_between : is_some j.between ≡ (points_of judging x).between

@@ -56,11 +56,11 @@ is_whole _ = false
 
 -- ---- what stands
 
--- A refusal by this rule at an end is certain whatever datagrams were missed: at a server, which knows its client by the request, or of
--- what a client sent itself.
+-- A refusal by this rule at an end is certain whatever datagrams were missed: at a server, which knows its client by the request; at a
+-- client that has gone on with its server by then; and else of what a client sent itself.
 abbrev pub IsSureAt : Point → Transfer → Option Blamed → Rule → Type 0
 IsSureAt point.Server x blamed broken = StandsAtEnd broken
-IsSureAt point.Client x (Some b) broken = (same_endpoint b.source x.client ≡ true) × StandsOfItsOwn broken
+IsSureAt point.Client x (Some b) broken = ((b.has_gone_on ≡ true) × StandsAtEnd broken) ⊎ ((same_endpoint b.source x.client ≡ true) × StandsOfItsOwn broken)
 IsSureAt _ x blamed broken = ⊥
 
 -- Of what is refused it is said whether that stands whatever datagrams were missed: between the ends as the judge there tells it, and at
@@ -99,4 +99,4 @@ IsFoundAt _ x whole _ = ⊥
 -- And the blamed datagram is the one of the refusal's number among those that were seen there: its frame, its source, its facts.
 pub record IsViewAt (at : Point) (x : Transfer) (named : List ℕ) (carried : List Carried) (v : Viewed) : Type 0 where
   pub found : IsFoundAt at x (whole_of named carried) v.found
-  pub blamed : v.blamed ≡ blamed_as at x.number named carried (number_in v.found)
+  pub blamed : v.blamed ≡ blamed_as at x named carried (number_in v.found)

@@ -31,6 +31,13 @@ worked_view is_late = record {
   blamed = Some (worked_blamed 5 is_late);
 }
 
+-- the third datagram has another block than was sent before, in frame 5; its client had gone on with its server by then or not
+abbrev pub worked_changed : Bool → Viewed
+worked_changed gone_on = record {
+  found = AtEnd (Err (refusal.Unlawful 3 (Block EndRule.BlockChanged)));
+  blamed = Some (record (worked_blamed 5 false) { has_gone_on = gone_on });
+}
+
 -- it stops early after three datagrams
 abbrev pub worked_early : Viewed
 worked_early = record { found = AtEnd (Err (refusal.Incomplete 3)); blamed = None }

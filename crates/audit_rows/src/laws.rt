@@ -12,6 +12,7 @@ ghost use Rattle.audit_recording.specs.Blame.Facts.{blamed_of};
 ghost use Rattle.audit_recording.specs.declared.blame.blame.Blamed.{Blamed};
 ghost use Rattle.audit_recording.specs.declared.blame.doubted.Doubted.{Doubted};
 ghost use Rattle.audit_recording.specs.declared.blame.reason.Reason.{Reason};
+ghost use Rattle.audit_recording.specs.declared.blame.trail.Trail.{Trail as TrailKind};
 ghost use Rattle.audit_recording.specs.Reasons.Listed.{worked_doubted};
 ghost use Rattle.audit_recording.specs.Rows.Accusing.{accused_in_row, role_at};
 ghost use Rattle.audit_recording.specs.Rows.Told.{is_refused, refused_frame};
@@ -20,12 +21,13 @@ ghost use Rattle.audit_recording.specs.declared.rows.row.Point.{Point as PointKi
 ghost use Rattle.audit_rows.specs.Accusing.{accused_of_row, is_listed};
 ghost use Rattle.audit_rows.specs.Charging.{unless_listed};
 ghost use Rattle.audit_rows.specs.Doubting.{row_reasons};
+ghost use Rattle.audit_rows.specs.Judging.{AreKeptDoubts};
 ghost use Rattle.audit_rows.specs.Standing.{IsCertainAt, IsCertainAtEnd, IsOpenAt};
 ghost use Rattle.audit_rows.specs.Viewing.{IsStanding, IsStandingAs, IsViewAt, number_in, said_in};
 ghost use Rattle.audit_rows.specs.declared.found.Found.TheVariants.{AtEnd};
 ghost use Rattle.audit_views.specs.Parties.{host_name};
 ghost use Rattle.audit_views.specs.Views.{client_capture, client_header, server_capture, server_header};
-ghost use Rattle.audit_rows.specs.Worked.{worked_client, worked_early, worked_telling, worked_transfer, worked_view};
+ghost use Rattle.audit_rows.specs.Worked.{worked_changed, worked_client, worked_early, worked_telling, worked_transfer, worked_view};
 ghost use Rattle.audit_rows.specs.declared.viewed.Viewed.{Viewed};
 
 /// Whom a row accuses sent the datagram that is refused there, and is an end of the transfer; the row tells a refusal, and no
@@ -72,6 +74,21 @@ pub fn worked_row()
     ensures accused { accused_of_row (worked_transfer 2000) [] (worked_telling (worked_view false)) (worked_view false).blamed [] ≡ Some (record { role = ClientEnd; end = worked_client }) }
     ensures doubtful { accused_of_row (worked_transfer 2000) [] (worked_telling (worked_view true)) (worked_view true).blamed (Late ∷ []) ≡ None }
     ensures early { row_reasons (worked_transfer 2000) [] (worked_doubted false false None) (worked_telling worked_early) worked_early ≡ Lost 9 ∷ [] }
+{}
+
+/// A block that the server changed came to a client: that stands once the client has gone on with its server, and before that nothing
+/// is said. A block that the client changed stands at once. Nothing is said of a block that goes back.
+pub fn worked_standing()
+    ensures gone_on { IsStanding PointKind.Client (worked_transfer 3000) (worked_changed true) (Some true) }
+    ensures before { IsStanding PointKind.Client (worked_transfer 3000) (worked_changed false) None }
+    ensures own { IsStanding PointKind.Client (worked_transfer 2000) (worked_changed false) (Some true) }
+    ensures back { IsStanding PointKind.Client (worked_transfer 2000) (worked_view false) None }
+{}
+
+/// Of no datagram it is kept that each was recorded twice; and a transfer to whose client nothing came went one way.
+pub fn worked_kept()
+    ensures twice { (d : Doubted) (t : TrailKind) (x : Transfer) → AreKeptDoubts d t x [] [] → d.is_twice ≡ false }
+    ensures one_way { (d : Doubted) (t : TrailKind) (x : Transfer) (named : List ℕ) (carried : List Carried) → AreKeptDoubts d t x named carried → t.is_answered ≡ false → d.is_one_way ≡ true }
 {}
 
 /// What is said to stand of a refusal between the ends does: no lawful list has the refused datagram after those before it, whatever

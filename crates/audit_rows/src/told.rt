@@ -85,7 +85,8 @@ impl Told<'_> {
         match (self.telling.point, &self.view.blamed) {
             (Point::Server, _) => stands_at_end(rule),
             (Point::Client, Some(blamed)) => {
-                blamed.source == transfer.client && stands_of_its_own(rule)
+                let is_own = blamed.source == transfer.client;
+                (blamed.has_gone_on && stands_at_end(rule)) || (is_own && stands_of_its_own(rule))
             }
             _ => false,
         }
