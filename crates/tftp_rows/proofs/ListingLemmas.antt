@@ -1,21 +1,28 @@
 -- Transfers that are listed one after another.
-use Rattle.std.proofs.Common.{◌≡◌, ◌∷◌, ◌++◌, [], ℕ, false, List, Option, Some, None, IfSome, ap, ◌∙◌, refl, sym, subst}
+use Rattle.std.proofs.Common.{◌≡◌, ◌∷◌, ◌++◌, [], ℕ, false, List, OnErr, Option, Some, None, Result, Ok, Err, IfSome, ap, inl, inr, max, ◌∙◌, refl, sym, subst}
+use Rattle.std.proofs.lemmas.Bool.{false≢true}
 use Rattle.net_udp.specs.Recording.{Step}
 use Rattle.tftp_packet.specs.{End}
 use Rattle.audit_flows.specs.{Transfer}
 use Rattle.audit_recording.specs.Blame.Frames.{Carried, Framed}
+use Rattle.audit_recording.specs.Blame.Kept.{IsTrailOf}
 use Rattle.audit_recording.specs.Endings.Told.{IsEnding}
 use Rattle.audit_recording.specs.Endings.Undelivered.{undelivered_of}
+use Rattle.audit_recording.specs.Reasons.Clock.{IsClockAfter, last_of}
 use Rattle.audit_recording.specs.Session.Kept.{IsSessionOf}
-use Rattle.audit_recording.specs.Session.Noted.{Noticed}
+use Rattle.audit_recording.specs.Session.Noted.{AreNotesOf, Noticed}
 use Rattle.audit_recording.specs.Session.Trails.{IsBegunBy}
 use Rattle.audit_recording.specs.declared.blame.ending.Ending.{Ending}
 use Rattle.audit_recording.specs.declared.blame.trail.Trail.{Trail}
 use Rattle.audit_recording.specs.declared.blame.undelivered.Undelivered.{Undelivered}
+use Rattle.audit_recording.specs.declared.judges.judging.Judging.{Judging}
+use Rattle.audit_recording.specs.declared.judges.judging.Judging.TheVariants.{Nowhere}
 use Rattle.audit_recording.specs.declared.session.session.Session.{Session}
+use Rattle.audit_recording.proofs.SessionLemmas.Recording.{reached_is}
 use Rattle.tftp_rows.specs.Asked.{AreAskedBy}
 use Rattle.tftp_rows.specs.Ended.{Concludes}
-use Rattle.tftp_rows.specs.Listed.{IsEndOf, ListsInTurn, ListsNext, ListsTurns, at_server}
+use Rattle.tftp_rows.specs.Listed.{IsEndOf, IsListRowOf, ListsInTurn, ListsNext, ListsPart, ListsTurns, ListsTurnsPart, at_server}
+use Rattle.tftp_rows.specs.Whole.{moment_of}
 use Rattle.tftp_rows.specs.declared.asked.AskedWords.{AskedWords}
 use Rattle.tftp_rows.specs.declared.conclusion.Conclusion.{Conclusion}
 use Rattle.tftp_rows.specs.declared.lister.Lister.{Lister}
@@ -30,6 +37,39 @@ asked_of w t (Some f) p begun = subst (AreAskedBy w) (sym begun.1) p
 pub ended_of : (c : Conclusion) (t : Trail) (now : ℕ) (x : Transfer) (named : List ℕ) (carried : List Carried) (e : Ending) (u v : Option (End × Undelivered)) → u ≡ undelivered_of t → v ≡ at_server u
     → IsEnding x named carried false now e → Concludes e false false v c → IsEndOf c t now x named carried
 ended_of c t now x named carried e u v p q is told = (e, is, subst (λ w. Concludes e false false w c) (q ∙ ap at_server p) told)
+
+-- what is kept of a transfer is so wherever it is judged, also nowhere
+pub kept_nowhere : (t : Trail) (judging : Judging) (x : Transfer) (named : List ℕ) (carried : List Carried) → IsTrailOf t judging x named carried → IsTrailOf t Nowhere x named carried
+kept_nowhere t judging x named carried is = record {
+  transfer = is.transfer;
+  number = is.number;
+  ends = is.ends;
+  first = is.first;
+  last = is.last;
+  count = is.count;
+  last_time = is.last_time;
+  is_answered = is.is_answered;
+  has_gone_on = is.has_gone_on;
+  twice = is.twice;
+  copied_from = is.copied_from;
+  damaged = is.damaged;
+  closing = is.closing;
+  blame = record { client = λ no. absurd (false≢true no); server = λ no. absurd (false≢true no) };
+}
+
+-- a call fails so, and this holds beside it
+pub both_on_err : {A E P : Type 0} (Q : Type 0) (r : Result A E) → P → OnErr r Q → OnErr r (P × Q)
+both_on_err Q (Ok x) p q = tt
+both_on_err Q (Err e) p q = (p, q)
+
+-- the moment up to which it was read
+pub moment_is : (b : Session) (now : ℕ) (s : Noticed) → AreNotesOf b.notes s → ((times : List ℕ) → IsClockAfter b.notes.clock times → now ≡ max (last_of times) b.notes.clock.reached) → now ≡ moment_of s
+moment_is b now s notes reads = reads s.times notes.clock ∙ ap (λ n. max (last_of s.times) n) (reached_is b.notes.clock s.times notes.clock)
+
+-- the row by that moment
+pub row_then : (row : ListRow) (n now : ℕ) (t : Trail) (s : Noticed) (x : Transfer) (named : List ℕ) (carried : List Carried) → now ≡ moment_of s → IsListRowOf row n t now x named carried
+    → IsListRowOf row n t (moment_of s) x named carried
+row_then row n now t s x named carried same is = subst (λ m. IsListRowOf row n t m x named carried) same is
 
 module _ {W : Type 0} (contents : W → Option (List ℕ)) (Holds : Session → Type 0) (named : List ℕ) (history : List Step) (carried : List Carried) (s : Noticed) where
   -- nothing was listed
@@ -65,3 +105,13 @@ module _ {W : Type 0} (contents : W → Option (List ℕ)) (Holds : Session → 
     turns = subst (λ (k : Lister W). ListsInTurn contents Holds named history carried s p.rows t k out p.left) (sym kept) p.turns;
     handed_out = is;
   }
+
+  -- some were listed, and the next one in part
+  pub part_listed : (t u v : Lister W) (d : Session) (out : List ℕ) (p : ListsTurns contents Holds t u d named out history carried s) → Holds d
+      → ListsPart contents u v named p.left carried s → ListsTurnsPart contents Holds t v named out history carried s
+  part_listed t u v d out p holds (inl same) = record { mid = u; between = d; turns = p; part = inl same }
+  part_listed t u v d out p holds (inr next) = record { mid = u; between = d; turns = p; part = inr (holds, next) }
+
+  -- and then no more was printed
+  pub end_listed : (t u : Lister W) (d : Session) (out : List ℕ) → ListsTurns contents Holds t u d named out history carried s → ListsTurnsPart contents Holds t u named out history carried s
+  end_listed t u d out p = record { mid = u; between = d; turns = p; part = inl refl }

@@ -1,5 +1,5 @@
 -- In which order transfers are told.
-use Rattle.std.proofs.Common.{◌≡◌, ◌≤◌, ◌<◌, ◌==◌, ◌∷◌, ◌++◌, ◌||◌, suc, [], ℕ, Bool, true, false, true≢false, nat_le, max, length, List, Some, None, IsSome, refl, sym, ap, ◌∙◌, subst, arith}
+use Rattle.std.proofs.Common.{◌≡◌, ◌≤◌, ◌<◌, ◌==◌, ◌∷◌, ◌++◌, ◌||◌, suc, [], ℕ, Bool, true, false, true≢false, nat_le, max, length, List, Option, Some, None, IsSome, refl, sym, ap, ◌∙◌, subst, append_assoc, arith}
 use Rattle.std.specs.List.{AllByRecursion}
 use Rattle.std.proofs.lemmas.Bool.{eqb-true, eq-eqb, leb-true, leb-false}
 use Rattle.audit_flows.specs.Lines.{Placed, Recorded, clock}
@@ -12,23 +12,22 @@ use Rattle.audit_recording.specs.Blame.Frames.{Carried, datagrams_of, whole_of}
 use Rattle.audit_recording.specs.Judges.{is_among, opened}
 use Rattle.audit_recording.specs.declared.judges.judging.Judging.{Judging}
 use Rattle.audit_recording.proofs.JudgesLemmas.Keeping.{opened_elsewhere, opened_none}
-use Rattle.tftp_rows.specs.Whole.{AreInOrder, AreTold, Telling, numbers_of}
-use Rattle.tftp_rows.proofs.WholeLemmas.{told_longer}
+use Rattle.tftp_rows.specs.Whole.{AreInOrder, AreTold, IsPartOf, Part, Telling, numbers_of}
 
 -- ---- an opening has the number of datagrams before it
 
-opens_so : (n : ℕ) (d : Recorded) (now : ℕ) (place : Place) → opened_it n (record { datagram = d; moment = now; place = place }) ≡ true → (x : Transfer) × (place ≡ Opens x) × (x.number ≡ n)
+pub opens_so : (n : ℕ) (d : Recorded) (now : ℕ) (place : Place) → opened_it n (record { datagram = d; moment = now; place = place }) ≡ true → (x : Transfer) × (place ≡ Opens x) × (x.number ≡ n)
 opens_so n d now (Opens x) is = (x, refl, eqb-true x.number n is)
 opens_so n d now _ is = absurd (cc)
 
-newest_number : (named : List ℕ) (recorded : List Recorded) (d : Recorded) (n : ℕ) → opened_it n (placed_after named (placed named recorded) d) ≡ true → n ≡ length recorded
+pub newest_number : (named : List ℕ) (recorded : List Recorded) (d : Recorded) (n : ℕ) → opened_it n (placed_after named (placed named recorded) d) ≡ true → n ≡ length recorded
 newest_number named recorded d n is =
     let older = placed named recorded in
     let now = max d.time (clock older) in
     let so = opens_so n d now (place_of named older now d) is in
     sym so.2 ∙ (opening_number named older now d so.0 so.1 ∙ length_placed named recorded)
 
-length_datagrams : (carried : List Carried) → length (datagrams_of carried) ≡ length carried
+pub length_datagrams : (carried : List Carried) → length (datagrams_of carried) ≡ length carried
 length_datagrams [] = refl
 length_datagrams (c ∷ carried) = ap suc (length_datagrams carried)
 
@@ -37,7 +36,7 @@ at_least [] carried = rw (length_datagrams carried) (omega arith)
 at_least (c ∷ later) carried = let more = at_least later carried in omega arith
 
 -- what was opened by fewer datagrams was opened by then
-opened_by_then : (named : List ℕ) (later carried : List Carried) (n : ℕ) → n < length carried → IsSome (opened n (whole_of named (later ++ carried))) → IsSome (opened n (whole_of named carried))
+pub opened_by_then : (named : List ℕ) (later carried : List Carried) (n : ℕ) → n < length carried → IsSome (opened n (whole_of named (later ++ carried))) → IsSome (opened n (whole_of named carried))
 opened_by_then named [] carried n low some = some
 opened_by_then named (c ∷ later) carried n low some =
     let older = whole_of named (later ++ carried) in
@@ -50,7 +49,7 @@ opened_by_then named (c ∷ later) carried n low some =
     (λ off. opened_by_then named later carried n low (subst IsSome (opened_elsewhere n p older off) some))
 
 -- a transfer has fewer datagrams before it than there are
-opened_below : (named : List ℕ) (carried : List Carried) (n : ℕ) (x : Transfer) → opened n (whole_of named carried) ≡ Some x → n < length carried
+pub opened_below : (named : List ℕ) (carried : List Carried) (n : ℕ) (x : Transfer) → opened n (whole_of named carried) ≡ Some x → n < length carried
 opened_below named carried n x is = by_test (nat_le (length carried) n)
     (λ up.
     let most : length (datagrams_of carried) ≤ n = rw (length_datagrams carried) (leb-true (length carried) n up) in
@@ -60,36 +59,51 @@ opened_below named carried n x is = by_test (nat_le (length carried) n)
 
 -- ---- what is told later has a greater number
 
-neither : (a b : Bool) → (a || b) ≡ false → (a ≡ false) × (b ≡ false)
+pub neither : (a b : Bool) → (a || b) ≡ false → (a ≡ false) × (b ≡ false)
 neither false b off = (refl, off)
 neither true b off = absurd (true≢false off)
 
-below_unless_same : (m n : ℕ) → m ≤ n → (m == n) ≡ false → m < n
+pub below_unless_same : (m n : ℕ) → m ≤ n → (m == n) ≡ false → m < n
 below_unless_same m n most other = let apart : m ≡ n → ⊥ = λ same. true≢false (sym (eq-eqb m n same) ∙ other) in omega arith
 
+-- a part of a part is a part
+pub part_of : (p q all : Part) → IsPartOf p q → IsPartOf q all → IsPartOf p all
+part_of p q all one more = record {
+  next_frames = more.next_frames ++ one.next_frames;
+  next_carried = more.next_carried ++ one.next_carried;
+  frames = more.frames ∙ (ap (λ l. more.next_frames ++ l) one.frames ∙ sym (append_assoc more.next_frames one.next_frames p.history));
+  datagrams = more.datagrams ∙ (ap (λ l. more.next_carried ++ l) one.datagrams ∙ sym (append_assoc more.next_carried one.next_carried p.carried));
+}
+
+-- what was told stays so, whatever is read next
+pub told_longer : (name : List ℕ) (judging : Judging) (named : List ℕ) (end : Option Part) (all longer : Part) (ts : List Telling) → IsPartOf all longer
+    → AreTold name judging named end all ts → AreTold name judging named end longer ts
+told_longer name judging named end all longer [] more told = tt
+told_longer name judging named end all longer (t ∷ older) more told = (told.0, part_of told.0 all longer told.1 more, told.2, told.3)
+
 -- each of these that were told is before one that was not
-before_it : (name : List ℕ) (judging : Judging) (named : List ℕ) (all : List Carried) (n : ℕ) (ts : List Telling) → AreTold name judging named all ts → IsSome (opened n (whole_of named all))
-    → is_among n (numbers_of ts) ≡ false → AllByRecursion (λ m. m < n) (numbers_of ts)
-before_it name judging named all n [] told some not = tt
-before_it name judging named all n (u ∷ us) told some not =
-    let later = told.0 in
-    let carried = told.1 in
+before_it : (name : List ℕ) (judging : Judging) (named : List ℕ) (end : Option Part) (all : Part) (n : ℕ) (ts : List Telling) → AreTold name judging named end all ts
+    → IsSome (opened n (whole_of named all.carried)) → is_among n (numbers_of ts) ≡ false → AllByRecursion (λ m. m < n) (numbers_of ts)
+before_it name judging named end all n [] told some not = tt
+before_it name judging named end all n (u ∷ us) told some not =
+    let later = told.1.next_carried in
+    let carried = told.0.carried in
     let others = neither (u.transfer.number == n) (is_among n (numbers_of us)) not in
-    let here : IsSome (opened n (whole_of named (later ++ carried))) = subst (λ l. IsSome (opened n (whole_of named l))) told.2 some in (
+    let here : IsSome (opened n (whole_of named (later ++ carried))) = subst (λ l. IsSome (opened n (whole_of named l))) told.1.datagrams some in (
       by_test (nat_le (length carried) n)
           (λ up.
           let most = leb-true (length carried) n up in
-          let below = opened_below named carried u.transfer.number u.transfer told.3.next.opens in omega arith)
+          let below = opened_below named carried u.transfer.number u.transfer told.2.next.opens in omega arith)
           (λ down.
           let low = leb-false (length carried) n down in
-          let first : u.transfer.number ≤ n = told.3.next.oldest n (opened_by_then named later carried n (omega arith) here) others.1 in
+          let first : u.transfer.number ≤ n = told.2.next.oldest n (opened_by_then named later carried n (omega arith) here) others.1 in
           below_unless_same u.transfer.number n first others.0),
-      before_it name judging named all n us (subst (λ l. AreTold name judging named l us) (sym told.2) (told_longer name judging named later carried us told.4)) some others.1,
+      before_it name judging named end all n us (told_longer name judging named end told.0 all us told.1 told.3) some others.1,
     )
 
-pub are_in_order : (name : List ℕ) (judging : Judging) (named : List ℕ) (all : List Carried) (ts : List Telling) → AreTold name judging named all ts → AreInOrder ts
-are_in_order name judging named all [] told = tt
-are_in_order name judging named all (t ∷ older) told = (
-  before_it name judging named told.1 t.transfer.number older told.4 (subst IsSome (sym told.3.next.opens) refl) told.3.next.first_time,
-  are_in_order name judging named told.1 older told.4,
+pub are_in_order : (name : List ℕ) (judging : Judging) (named : List ℕ) (end : Option Part) (all : Part) (ts : List Telling) → AreTold name judging named end all ts → AreInOrder ts
+are_in_order name judging named end all [] told = tt
+are_in_order name judging named end all (t ∷ older) told = (
+  before_it name judging named end told.0 t.transfer.number older told.3 (subst IsSome (sym told.2.next.opens) refl) told.2.next.first_time,
+  are_in_order name judging named end told.0 older told.3,
 )

@@ -1,5 +1,5 @@
 -- Rows that are printed one after another.
-use Rattle.std.proofs.Common.{◌≡◌, ◌∷◌, ◌++◌, ◌||◌, [], ℕ, Bool, true, false, List, Option, Result, Ok, Err, IsErr, refl, sym, ap, subst, ◌∙◌, true≢false, append_assoc, append-nil}
+use Rattle.std.proofs.Common.{◌≡◌, ◌⊎◌, ◌∷◌, ◌++◌, ◌||◌, [], ℕ, Bool, true, false, List, Option, Result, Ok, Err, IsErr, inl, inr, refl, sym, ap, subst, ◌∙◌, true≢false, append_assoc, append-nil}
 use Rattle.std.specs.Io.KnownBytes.{Appends}
 use Rattle.std.proofs.KnownBytes.{Appends-nil, Appends-trans}
 use Rattle.net_streams.specs.Streams.{AppendsPrefix}
@@ -28,6 +28,14 @@ pub first_of_none : {X : Type 0} (xs ys : List X) → [] ≡ xs ++ ys → xs ≡
 first_of_none [] ys e = refl
 first_of_none (x ∷ xs) ys e = absurd (cc)
 
+or_false : (b : Bool) → (b || false) ≡ b
+or_false true = refl
+or_false false = refl
+
+or_true : (b : Bool) → (b || true) ≡ true
+or_true true = refl
+or_true false = refl
+
 module _ {W R : Type 0} (contents : W → Option (List ℕ)) (lines : Form → Bool → R → List ℕ) where
   pub prints_nothing : (s : RowPrinter W) → PrintsAll contents lines s s []
   prints_nothing s = record { appended = Appends-nil (contents s.writer); form = refl; headed = nothing s.is_headed } where
@@ -52,25 +60,33 @@ module _ {W R : Type 0} (contents : W → Option (List ℕ)) (lines : Form → B
         part = lines_both (lines s.form) s.is_headed xs ys ∙ (ap (λ l. first ++ l) (rw p.headed at (rw p.form at q.part)) ∙ sym (append_assoc first q.written q.unwritten));
         appended = Appends-trans _ _ _ _ _ p.appended q.appended;
         form = q.form ∙ p.form;
-      }
+        headed = headed_part xs ys s.is_headed t.is_headed u.is_headed q.written p.headed q.headed;
+      } where
+        headed_part : (xs ys : List R) (a b c : Bool) (written : List ℕ) → b ≡ (a || is_some_row xs) → ((written ≡ []) × (c ≡ b)) ⊎ ((c ≡ true) × (is_some_row ys ≡ true))
+            → ((all_lines (lines s.form) s.is_headed xs ++ written ≡ []) × (c ≡ a)) ⊎ ((c ≡ true) × (is_some_row (xs ++ ys) ≡ true))
+        headed_part [] ys a b c written e (inl same) = inl (same.0, same.1 ∙ e ∙ or_false a)
+        headed_part (x ∷ xs) ys a b c written e (inl same) = inr (same.1 ∙ e ∙ or_true a, refl)
+        headed_part [] ys a b c written e (inr some) = inr some
+        headed_part (x ∷ xs) ys a b c written e (inr some) = inr (some.0, refl)
 
   -- nothing was printed
   pub prints_no_part : (s : RowPrinter W) (rows : List R) → PrintsPart contents lines s s rows
-  prints_no_part s rows = record { written = []; unwritten = all_lines (lines s.form) s.is_headed rows; part = refl; appended = Appends-nil (contents s.writer); form = refl }
+  prints_no_part s rows = record { written = []; unwritten = all_lines (lines s.form) s.is_headed rows; part = refl; appended = Appends-nil (contents s.writer); form = refl; headed = inl (refl, refl) }
 
   pub prints_err : {A E : Type 0} (s t : RowPrinter W) (r : Result A E) (rows : List R) → IsErr r → PrintsPart contents lines s t rows → Prints contents lines s t r rows
   prints_err s t (Ok x) rows is p = absurd (true≢false (sym is))
   prints_err s t (Err e) rows is p = p
 
   -- a part of a row's lines was written
-  pub prints_short : (s t : RowPrinter W) (row : R) (bytes : List ℕ) → bytes ≡ lines s.form s.is_headed row → t.form ≡ s.form → AppendsPrefix (contents s.writer) (contents t.writer) bytes
+  pub prints_short : (s t : RowPrinter W) (row : R) (bytes : List ℕ) → bytes ≡ lines s.form s.is_headed row → t.form ≡ s.form → t.is_headed ≡ true → AppendsPrefix (contents s.writer) (contents t.writer) bytes
       → PrintsPart contents lines s t (row ∷ [])
-  prints_short s t row bytes are form w = record {
+  prints_short s t row bytes are form headed w = record {
     written = w.written;
     unwritten = w.rest;
     part = lines_one (lines s.form) s.is_headed row ∙ (sym are ∙ w.are);
     appended = w.appended;
     form = form;
+    headed = inr (headed, refl);
   }
 
   -- all of it is a part
@@ -81,7 +97,11 @@ module _ {W R : Type 0} (contents : W → Option (List ℕ)) (lines : Form → B
     part = sym (append-nil (all_lines (lines s.form) s.is_headed rows));
     appended = p.appended;
     form = p.form;
-  }
+    headed = headed_so rows p.headed;
+  } where
+    headed_so : (rows : List R) → t.is_headed ≡ (s.is_headed || is_some_row rows) → ((all_lines (lines s.form) s.is_headed rows ≡ []) × (t.is_headed ≡ s.is_headed)) ⊎ ((t.is_headed ≡ true) × (is_some_row rows ≡ true))
+    headed_so [] e = inl (refl, e ∙ or_false s.is_headed)
+    headed_so (row ∷ rows) e = inr (e ∙ or_true s.is_headed, refl)
 
   -- rows were printed in part, and then no more
   pub prints_part_only : (s t u : RowPrinter W) (rows : List R) → PrintsPart contents lines s t rows → PrintsPart contents lines t u [] → PrintsPart contents lines s u rows
@@ -92,4 +112,10 @@ module _ {W R : Type 0} (contents : W → Option (List ℕ)) (lines : Form → B
     appended = subst (Appends (contents s.writer) (contents u.writer)) (append-nil p.written)
         (Appends-trans _ _ _ _ _ p.appended (subst (Appends (contents t.writer) (contents u.writer)) (first_of_none q.written q.unwritten q.part) q.appended));
     form = q.form ∙ p.form;
-  }
+    headed = headed_only p.headed q.headed;
+  } where
+    headed_only : ((p.written ≡ []) × (t.is_headed ≡ s.is_headed)) ⊎ ((t.is_headed ≡ true) × (is_some_row rows ≡ true)) → ((q.written ≡ []) × (u.is_headed ≡ t.is_headed)) ⊎ ((u.is_headed ≡ true) × (false ≡ true))
+        → ((p.written ≡ []) × (u.is_headed ≡ s.is_headed)) ⊎ ((u.is_headed ≡ true) × (is_some_row rows ≡ true))
+    headed_only (inl same) (inl still) = inl (same.0, still.1 ∙ same.1)
+    headed_only (inr some) (inl still) = inr (still.1 ∙ some.0, some.1)
+    headed_only was (inr none) = absurd (true≢false (sym none.1))

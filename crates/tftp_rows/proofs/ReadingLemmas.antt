@@ -1,5 +1,5 @@
 -- What is read and told of a recording, frame by frame.
-use Rattle.std.proofs.Common.{◌≡◌, ◌⊎◌, ◌∷◌, [], ℕ, Bool, true, false, List, Option, None, IsSome, Result, Ok, Err, OnErr, OnOk, inl, inr, refl, sym, subst, ◌∙◌}
+use Rattle.std.proofs.Common.{◌≡◌, ◌⊎◌, ◌∷◌, [], ℕ, Bool, true, false, List, Option, Some, None, IsSome, Result, Ok, Err, OnErr, OnOk, inl, inr, refl, sym, subst, ◌∙◌}
 use Rattle.std.proofs.lemmas.Bool.{false≢true}
 use Rattle.std.specs.Io.KnownBytes.{Consumes, IsAtEnd}
 use Rattle.net_streams.specs.{Standing}
@@ -15,10 +15,10 @@ use Rattle.audit_recording.specs.declared.judges.judging.Judging.{Judging}
 use Rattle.audit_recording.specs.declared.session.notes.Notes.{Notes}
 use Rattle.audit_recording.specs.declared.session.session.Session.{Session}
 use Rattle.tftp_rows.specs.Telling.{JudgesAs, PrintsAllWith, PrintsPartWith, TellsNextPart, TellsTurns, TellsTurnsPart}
-use Rattle.tftp_rows.specs.Whole.{HasTold, HasToldAll, HasToldInPart, HasToldPart, IsReadAndTold, IsReadInPart, IsReadOn, IsReadThrough, IsRecordingTold, IsRecordingToldInPart, Telling, numbers_of}
+use Rattle.tftp_rows.specs.Whole.{HasTold, HasToldAll, HasToldInPart, HasToldPart, IsPartOf, IsReadAndTold, IsReadInPart, IsReadOn, IsReadThrough, IsRecordingTold, IsRecordingToldInPart, Part, Telling, numbers_of, once_ended, so_far}
 use Rattle.tftp_rows.specs.declared.teller.Teller.{Teller}
-use Rattle.tftp_rows.proofs.OrderLemmas.{are_in_order}
-use Rattle.tftp_rows.proofs.WholeLemmas.{all_part_next, all_so_far, has_told, has_told_all, held_in_part, held_told, loses_too, nothing_told, told_in_turn, told_longer, told_part, told_so_far}
+use Rattle.tftp_rows.proofs.OrderLemmas.{are_in_order, told_longer}
+use Rattle.tftp_rows.proofs.WholeLemmas.{all_part_next, all_so_far, has_told, has_told_all, held_in_part, held_told, loses_too, nothing_told, told_in_turn, told_part, told_so_far}
 
 pub frame_came : (P : List Step → List Carried → Noticed → Type 0) (history : List Step) (carried : List Carried) (s : Noticed) (goes : Bool) → goes ≡ true
     → ReadsOn P history carried s (Ok goes) → (step : Step) × (all : List Carried) × (t : Noticed) × IsOneMore carried all × P (step ∷ history) all t
@@ -30,30 +30,36 @@ pub none_came : (P : List Step → List Carried → Noticed → Type 0) (history
 none_came P history carried s false e p = p
 none_came P history carried s true e p = absurd (false≢true (sym e))
 
-ended_too : (recording : RecordingState) (before after : Notes) → after.fault ≡ before.fault → HasEnded recording before → HasEnded recording after
+pub ended_too : (recording : RecordingState) (before after : Notes) → after.fault ≡ before.fault → HasEnded recording before → HasEnded recording after
 ended_too recording before after same (inl over) = inl over
 ended_too recording before after same (inr failed) = inr (failed.0, failed.1, same ∙ failed.2)
 
-among_them : (n : ℕ) (all : List Placed) (left numbers : List ℕ) → left ≡ numbers → IsSome (opened n all) → (opened n all ≡ None) ⊎ (is_among n left ≡ true) → is_among n numbers ≡ true
+pub not_open : (recording : RecordingState) (notes : Notes) → HasEnded recording notes → standing_of recording ≡ Standing.Open → ⊥
+not_open recording notes (inl over) still = let both : Standing.Over ≡ Standing.Open = sym over ∙ still in cc
+not_open recording notes (inr failed) still = let both : Standing.Failed failed.0 ≡ Standing.Open = sym failed.1 ∙ still in cc
+
+pub among_them : (n : ℕ) (all : List Placed) (left numbers : List ℕ) → left ≡ numbers → IsSome (opened n all) → (opened n all ≡ None) ⊎ (is_among n left ≡ true) → is_among n numbers ≡ true
 among_them n all left numbers are some (inl none) = let no : false ≡ true = subst IsSome none some in absurd (false≢true no)
 among_them n all left numbers are some (inr told) = subst (λ l. is_among n l ≡ true) are told
 
 module _ {W : Type 0} (contents : W → Option (List ℕ)) where
   -- what was told stays so with the next frame
-  told_on : (begun now : Teller W) (judging : Judging) (named : List ℕ) (carried all : List Carried) (ts : List Telling) → IsOneMore carried all
-      → HasTold contents begun now judging named carried ts → HasTold contents begun now judging named all ts
-  told_on begun now judging named carried all ts (inl e) h = subst (λ l. HasTold contents begun now judging named l ts) (sym e) h
-  told_on begun now judging named carried all ts (inr p) h =
-      subst (λ l. HasTold contents begun now judging named l ts) (sym p.1) (record {
-        told = told_longer begun.file.now judging named (p.0 ∷ []) carried ts h.told;
-        printed = h.printed;
-        rows = h.rows;
-        prints = h.prints;
-        file = h.file;
-        number = h.number;
-        status = h.status;
-        dropped = h.dropped;
-      })
+  part_on : (step : Step) (history : List Step) (carried all : List Carried) (s t : Noticed) → IsOneMore carried all → IsPartOf (so_far history carried s) (so_far (step ∷ history) all t)
+  part_on step history carried all s t (inl same) = record { next_frames = step ∷ []; next_carried = []; frames = refl; datagrams = same }
+  part_on step history carried all s t (inr more) = record { next_frames = step ∷ []; next_carried = more.0 ∷ []; frames = refl; datagrams = more.1 }
+
+  pub told_on : (begun now : Teller W) (judging : Judging) (named : List ℕ) (all longer : Part) (ts : List Telling) → IsPartOf all longer
+      → HasTold contents begun now judging named all ts → HasTold contents begun now judging named longer ts
+  told_on begun now judging named all longer ts more h = record {
+    told = told_longer begun.file.now judging named None all longer ts more h.told;
+    printed = h.printed;
+    rows = h.rows;
+    prints = h.prints;
+    file = h.file;
+    number = h.number;
+    status = h.status;
+    dropped = h.dropped;
+  }
 
   -- before the first frame
   pub begins_reading : (begun : Teller W) (Is : List Step → Type 0) (session : Session) (named : List ℕ) → begun.held.items ≡ [] → begun.told ≡ 0 → Is [] → IsSessionAfter session named [] [] [] nothing_noticed
@@ -74,8 +80,8 @@ module _ {W : Type 0} (contents : W → Option (List ℕ)) where
   read_one begun now Was Is old new named step history carried all s t ts is judges one p = record {
     read = p.0;
     session_is = p.1;
-    has_told = told_on begun now new.audit.judge.judging named carried all ts one
-        (subst (λ (k : Judging). HasTold contents begun now k named carried ts) (sym judges) is.has_told);
+    has_told = told_on begun now new.audit.judge.judging named (so_far history carried s) (so_far (step ∷ history) all t) ts (part_on step history carried all s t one)
+        (subst (λ (k : Judging). HasTold contents begun now k named (so_far history carried s) ts) (sym judges) is.has_told);
   }
 
   -- the recording's end
@@ -91,7 +97,7 @@ module _ {W : Type 0} (contents : W → Option (List ℕ)) where
     record {
       read = p.0;
       session_is = p.1;
-      has_told = subst (λ (k : Judging). HasTold contents begun now k named carried ts) (sym judges) is.has_told;
+      has_told = subst (λ (k : Judging). HasTold contents begun now k named (so_far history carried s) ts) (sym judges) is.has_told;
     },
   )
 
@@ -102,9 +108,9 @@ module _ {W : Type 0} (contents : W → Option (List ℕ)) where
       → IsReadOn contents begun new Is after named
   told_over begun old new lose Is before after named history carried s ts is judges turns =
       let more = told_in_turn contents (λ b. IsOldestOver b named carried s × JudgesAs before b) named history carried s
-      (λ t us. HasTold contents begun t before.audit.judge.judging named carried us)
-      (λ t u d e us told holds step. has_told contents begun t u d e before.audit.judge.judging named history carried s us told holds.1 step)
-      turns.told (record old { may_lose = lose }) new ts turns.left (loses_too contents begun old lose _ named carried ts is.has_told) turns.turns in (
+      (λ t us. HasTold contents begun t before.audit.judge.judging named (so_far history carried s) us)
+      (λ t u d e us told at holds step. has_told contents begun t u d e before.audit.judge.judging named history carried s us told holds.1 is.session_is.noticed at holds.0 step)
+      turns.told (record old { may_lose = lose }) new ts turns.left (loses_too contents begun old lose _ named (so_far history carried s) ts is.has_told) turns.turns in (
         history,
         carried,
         s,
@@ -112,7 +118,7 @@ module _ {W : Type 0} (contents : W → Option (List ℕ)) where
         record {
           read = is.read;
           session_is = record { noticed = is.session_is.noticed; kept = subst (λ out. IsSessionOf after named out history carried s) more.2 turns.handed_out };
-          has_told = subst (λ (k : Judging). HasTold contents begun new k named carried more.0) (sym judges) more.1;
+          has_told = subst (λ (k : Judging). HasTold contents begun new k named (so_far history carried s) more.0) (sym judges) more.1;
         },
       )
 
@@ -131,7 +137,7 @@ module _ {W : Type 0} (contents : W → Option (List ℕ)) where
     read = record { bytes = is.4.read.0; left = left; had = is.4.read.1; frames = is.4.read.2; at_end = at_end };
     ended = ended_too recording before.notes after.notes fault ended;
     closed = closes (numbers_of is.3) is.0 is.1 is.2 is.4.session_is;
-    has_told = subst (λ (k : Judging). HasTold contents begun now k named is.1 is.3) (sym judges) is.4.has_told;
+    has_told = subst (λ (k : Judging). HasTold contents begun now k named (so_far is.0 is.1 is.2) is.3) (sym judges) is.4.has_told;
   }
 
   -- what waited was printed, and the rest told
@@ -144,15 +150,18 @@ module _ {W : Type 0} (contents : W → Option (List ℕ)) where
       → IsRecordingTold contents begun now file judging named after.notes
   rest_told begun mid late now file session after judging named is prints none late_is judges same told =
       let lost = lost_in is.recording in
-      let held : HasToldAll contents begun late session.notes.dropped session.audit.judge.judging named is.carried is.tellings =
-      held_told contents begun mid late session.notes.dropped session.audit.judge.judging named is.carried is.tellings is.has_told prints none late_is in
-      let more = told_in_turn contents (JudgesAs session) named is.history is.carried (giving_up (frames_in is.recording.waiting) is.noticed)
-      (λ t us. HasToldAll contents begun t session.notes.dropped session.audit.judge.judging named is.carried us)
-      (λ t u d e us was holds step. has_told_all contents begun t u session.notes.dropped d e session.audit.judge.judging named is.history is.carried (giving_up (frames_in is.recording.waiting) is.noticed) us was holds step)
+      let waiting = frames_in is.recording.waiting in
+      let all = so_far is.history is.carried is.noticed in
+      let last = once_ended is.recording all in
+      let held : HasToldAll contents begun late session.notes.dropped session.audit.judge.judging named (Some last) all is.tellings =
+      held_told contents begun mid late session.notes.dropped session.audit.judge.judging named (Some last) all is.tellings is.has_told prints none late_is in
+      let more = told_in_turn contents (JudgesAs session) named is.history is.carried (giving_up waiting is.noticed)
+      (λ t us. HasToldAll contents begun t session.notes.dropped session.audit.judge.judging named (Some last) all us)
+      (λ t u d e us was at holds step. has_told_all contents begun t u session.notes.dropped d e session.audit.judge.judging named is.history is.carried is.noticed waiting us was holds is.closed.noticed step)
       told.0.told late now is.tellings told.0.left held told.0.turns in
-      let all : HasToldAll contents begun now lost judging named is.carried more.0 =
-      subst (λ (k : Judging). HasToldAll contents begun now lost k named is.carried more.0) judges
-      (subst (λ n. HasToldAll contents begun now n session.audit.judge.judging named is.carried more.0) is.closed.dropped more.1) in
+      let whole : HasToldAll contents begun now lost judging named (Some last) all more.0 =
+      subst (λ (k : Judging). HasToldAll contents begun now lost k named (Some last) all more.0) judges
+      (subst (λ n. HasToldAll contents begun now n session.audit.judge.judging named (Some last) all more.0) is.closed.dropped more.1) in
       record {
         recording = is.recording;
         history = is.history;
@@ -162,15 +171,15 @@ module _ {W : Type 0} (contents : W → Option (List ℕ)) where
         read = is.read;
         ended = subst (λ (n : Notes). HasEnded is.recording n) (sym same) is.ended;
         came = is.closed.noticed;
-        noted = subst (λ (n : Notes). AreNotesOf n (giving_up (frames_in is.recording.waiting) is.noticed)) (sym same) is.closed.kept.notes;
-        told = all;
-        in_order = are_in_order begun.file.now judging named is.carried more.0 all.told;
+        noted = subst (λ (n : Notes). AreNotesOf n (giving_up waiting is.noticed)) (sym same) is.closed.kept.notes;
+        told = whole;
+        in_order = are_in_order begun.file.now judging named (Some last) all more.0 whole.told;
         none_left_out = λ n some. among_them n (whole_of named is.carried) told.0.left (numbers_of more.0) more.2 some (told.1 n);
       }
 
   -- ---- where a call has failed
 
-  judged_as : (begun now : Teller W) (k j : Judging) (named : List ℕ) (all : List Carried) (ts : List Telling) → k ≡ j → HasTold contents begun now k named all ts → HasTold contents begun now j named all ts
+  judged_as : (begun now : Teller W) (k j : Judging) (named : List ℕ) (all : Part) (ts : List Telling) → k ≡ j → HasTold contents begun now k named all ts → HasTold contents begun now j named all ts
   judged_as begun now k j named all ts same h = subst (λ (i : Judging). HasTold contents begun now i named all ts) same h
 
   -- what was read before was told as it should be
@@ -184,7 +193,8 @@ module _ {W : Type 0} (contents : W → Option (List ℕ)) where
     tellings = is.3;
     read = inr (recording, is.4.read.0, left, is.4.read.1, is.4.read.2);
     came = is.4.session_is.noticed;
-    has_told = told_so_far contents begun now judging named is.1 is.3 (judged_as begun now session.audit.judge.judging judging named is.1 is.3 same is.4.has_told);
+    has_told = told_so_far contents begun now judging named (so_far is.0 is.1 is.2) is.3
+        (judged_as begun now session.audit.judge.judging judging named (so_far is.0 is.1 is.2) is.3 same is.4.has_told);
   }
 
   -- nothing was read
@@ -196,13 +206,13 @@ module _ {W : Type 0} (contents : W → Option (List ℕ)) where
     tellings = [];
     read = inl refl;
     came = (refl, refl);
-    has_told = told_so_far contents begun begun judging named [] [] (nothing_told contents begun judging named none zero);
+    has_told = told_so_far contents begun begun judging named (so_far [] [] nothing_noticed) [] (nothing_told contents begun judging named none zero);
   }
 
-  part_told : (begun mid now : Teller W) (judging : Judging) (named : List ℕ) (carried : List Carried) (ts : List Telling) → HasTold contents begun mid judging named carried ts
-      → (now ≡ mid) ⊎ TellsNextPart contents mid now judging named (numbers_of ts) carried → HasToldPart contents begun now judging named carried ts
-  part_told begun mid now judging named carried ts h (inl same) = subst (λ (t : Teller W). HasToldPart contents begun t judging named carried ts) (sym same) (told_so_far contents begun mid judging named carried ts h)
-  part_told begun mid now judging named carried ts h (inr step) = told_part contents begun mid now judging named carried ts h step
+  part_told : (begun mid now : Teller W) (judging : Judging) (named : List ℕ) (all : Part) (ts : List Telling) → HasTold contents begun mid judging named all ts
+      → (now ≡ mid) ⊎ TellsNextPart contents mid now judging named (numbers_of ts) all.carried → HasToldPart contents begun now judging named all ts
+  part_told begun mid now judging named all ts h (inl same) = subst (λ (t : Teller W). HasToldPart contents begun t judging named all ts) (sym same) (told_so_far contents begun mid judging named all ts h)
+  part_told begun mid now judging named all ts h (inr step) = told_part contents begun mid now judging named all ts h step
 
   -- what is over is told, and the last one in part
   pub stops_telling : (begun old new : Teller W) (lose : Bool) (file left : Option (List ℕ)) (recording : RecordingState) (before : Session) (judging : Judging) (named : List ℕ) (history : List Step) (carried : List Carried) (s : Noticed) (ts : List Telling)
@@ -212,9 +222,9 @@ module _ {W : Type 0} (contents : W → Option (List ℕ)) where
   stops_telling begun old new lose file left recording before judging named history carried s ts is same turns =
       let here = before.audit.judge.judging in
       let more = told_in_turn contents (λ b. IsOldestOver b named carried s × JudgesAs before b) named history carried s
-      (λ t us. HasTold contents begun t here named carried us)
-      (λ t u d e us told holds step. has_told contents begun t u d e here named history carried s us told holds.1 step)
-      turns.turns.told (record old { may_lose = lose }) turns.mid ts turns.turns.left (loses_too contents begun old lose here named carried ts is.has_told) turns.turns.turns in
+      (λ t us. HasTold contents begun t here named (so_far history carried s) us)
+      (λ t u d e us told at holds step. has_told contents begun t u d e here named history carried s us told holds.1 is.session_is.noticed at holds.0 step)
+      turns.turns.told (record old { may_lose = lose }) turns.mid ts turns.turns.left (loses_too contents begun old lose here named (so_far history carried s) ts is.has_told) turns.turns.turns in
       record {
         history = history;
         carried = carried;
@@ -222,8 +232,8 @@ module _ {W : Type 0} (contents : W → Option (List ℕ)) where
         tellings = more.0;
         read = inr (recording, is.read.0, left, is.read.1, is.read.2);
         came = is.session_is.noticed;
-        has_told = subst (λ (k : Judging). HasToldPart contents begun new k named carried more.0) same
-            (part_told begun turns.mid new here named carried more.0 more.1
+        has_told = subst (λ (k : Judging). HasToldPart contents begun new k named (so_far history carried s) more.0) same
+            (part_told begun turns.mid new here named (so_far history carried s) more.0 more.1
             (subst (λ out. (new ≡ turns.mid) ⊎ TellsNextPart contents turns.mid new here named out carried) more.2 turns.part));
       }
 
@@ -237,7 +247,8 @@ module _ {W : Type 0} (contents : W → Option (List ℕ)) where
     tellings = is.tellings;
     read = inr (is.recording, is.read.bytes, is.read.left, is.read.had, is.read.frames);
     came = is.closed.noticed;
-    has_told = told_so_far contents begun now judging named is.carried is.tellings (judged_as begun now session.audit.judge.judging judging named is.carried is.tellings same is.has_told);
+    has_told = told_so_far contents begun now judging named (so_far is.history is.carried is.noticed) is.tellings
+        (judged_as begun now session.audit.judge.judging judging named (so_far is.history is.carried is.noticed) is.tellings same is.has_told);
   }
 
   pub either_way : {A E : Type 0} (r : Result A E) (begun now : Teller W) (file : Option (List ℕ)) (session : Session) (judging : Judging) (named : List ℕ) → OnOk r (IsReadThrough contents begun now file session named)
@@ -254,17 +265,19 @@ module _ {W : Type 0} (contents : W → Option (List ℕ)) where
     noticed = is.noticed;
     tellings = is.tellings;
     dropped = dropped;
+    end = None;
     read = is.read;
     came = is.came;
-    told = held_in_part contents begun mid now dropped judging named is.carried is.tellings is.has_told prints none;
-    in_order = are_in_order begun.file.now judging named is.carried is.tellings is.has_told.told;
+    ended = tt;
+    told = held_in_part contents begun mid now dropped judging named (so_far is.history is.carried is.noticed) is.tellings is.has_told prints none;
+    in_order = are_in_order begun.file.now judging named None (so_far is.history is.carried is.noticed) is.tellings is.has_told.told;
   }
 
-  all_told : (begun mid now : Teller W) (dropped : ℕ) (judging : Judging) (named : List ℕ) (carried : List Carried) (ts : List Telling) → HasToldAll contents begun mid dropped judging named carried ts
-      → (now ≡ mid) ⊎ TellsNextPart contents mid now judging named (numbers_of ts) carried → HasToldInPart contents begun now dropped judging named carried ts
-  all_told begun mid now dropped judging named carried ts h (inl same) =
-      subst (λ (t : Teller W). HasToldInPart contents begun t dropped judging named carried ts) (sym same) (all_so_far contents begun mid dropped judging named carried ts h)
-  all_told begun mid now dropped judging named carried ts h (inr step) = all_part_next contents begun mid now dropped judging named carried ts h step
+  all_told : (begun mid now : Teller W) (dropped : ℕ) (judging : Judging) (named : List ℕ) (end : Option Part) (all : Part) (ts : List Telling) → HasToldAll contents begun mid dropped judging named end all ts
+      → (now ≡ mid) ⊎ TellsNextPart contents mid now judging named (numbers_of ts) all.carried → HasToldInPart contents begun now dropped judging named end all ts
+  all_told begun mid now dropped judging named end all ts h (inl same) =
+      subst (λ (t : Teller W). HasToldInPart contents begun t dropped judging named end all ts) (sym same) (all_so_far contents begun mid dropped judging named end all ts h)
+  all_told begun mid now dropped judging named end all ts h (inr step) = all_part_next contents begun mid now dropped judging named end all ts h step
 
   -- what waited is told, and of the rest a part
   pub rest_in_part : (begun mid late now : Teller W) (file : Option (List ℕ)) (session : Session) (judging : Judging) (named : List ℕ) → (is : IsReadThrough contents begun mid file session named)
@@ -276,11 +289,13 @@ module _ {W : Type 0} (contents : W → Option (List ℕ)) where
   rest_in_part begun mid late now file session judging named is prints none late_is same turns =
       let here = session.audit.judge.judging in
       let lost = session.notes.dropped in
-      let s = giving_up (frames_in is.recording.waiting) is.noticed in
-      let held : HasToldAll contents begun late lost here named is.carried is.tellings = held_told contents begun mid late lost here named is.carried is.tellings is.has_told prints none late_is in
-      let more = told_in_turn contents (JudgesAs session) named is.history is.carried s
-      (λ t us. HasToldAll contents begun t lost here named is.carried us)
-      (λ t u d e us was holds step. has_told_all contents begun t u lost d e here named is.history is.carried s us was holds step)
+      let waiting = frames_in is.recording.waiting in
+      let all = so_far is.history is.carried is.noticed in
+      let last = once_ended is.recording all in
+      let held : HasToldAll contents begun late lost here named (Some last) all is.tellings = held_told contents begun mid late lost here named (Some last) all is.tellings is.has_told prints none late_is in
+      let more = told_in_turn contents (JudgesAs session) named is.history is.carried (giving_up waiting is.noticed)
+      (λ t us. HasToldAll contents begun t lost here named (Some last) all us)
+      (λ t u d e us was at holds step. has_told_all contents begun t u lost d e here named is.history is.carried is.noticed waiting us was holds is.closed.noticed step)
       turns.turns.told late turns.mid is.tellings turns.turns.left held turns.turns.turns in
       record {
         history = is.history;
@@ -288,10 +303,12 @@ module _ {W : Type 0} (contents : W → Option (List ℕ)) where
         noticed = is.noticed;
         tellings = more.0;
         dropped = lost;
+        end = Some last;
         read = inr (is.recording, is.read.bytes, is.read.left, is.read.had, is.read.frames);
         came = is.closed.noticed;
-        told = subst (λ (k : Judging). HasToldInPart contents begun now lost k named is.carried more.0) same
-            (all_told begun turns.mid now lost here named is.carried more.0 more.1
+        ended = (is.recording, is.read, not_open is.recording session.notes is.ended, refl);
+        told = subst (λ (k : Judging). HasToldInPart contents begun now lost k named (Some last) all more.0) same
+            (all_told begun turns.mid now lost here named (Some last) all more.0 more.1
             (subst (λ out. (now ≡ turns.mid) ⊎ TellsNextPart contents turns.mid now here named out is.carried) more.2 turns.part));
-        in_order = are_in_order begun.file.now here named is.carried more.0 more.1.told;
+        in_order = are_in_order begun.file.now here named (Some last) all more.0 more.1.told;
       }

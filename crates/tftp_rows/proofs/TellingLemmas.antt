@@ -7,8 +7,12 @@ use Rattle.net_udp.specs.Recording.{Step}
 use Rattle.audit_recording.specs.Blame.Frames.{Carried}
 use Rattle.audit_recording.specs.Session.Kept.{IsSessionOf}
 use Rattle.audit_recording.specs.declared.session.session.Session.{Session}
-use Rattle.audit_recording.specs.Losses.Noted.{IsFirst, IsMissingOf}
-use Rattle.audit_recording.specs.Session.Noted.{Noticed}
+use Rattle.audit_flows.specs.Lines.{same_address}
+use Rattle.audit_recording.specs.Losses.Noted.{IsAsked, IsFirst, IsMissingOf, IsTold, Since}
+use Rattle.audit_recording.specs.Reasons.Clock.{IsClockAfter, last_of}
+use Rattle.audit_recording.specs.Session.Noted.{AreNotesOf, Noticed, stretch_of}
+use Rattle.audit_recording.specs.Session.Recording.{reached_by}
+use Rattle.audit_recording.proofs.SessionLemmas.Recording.{reached_is}
 use Rattle.audit_recording.specs.declared.blame.trail.Trail.{Trail}
 use Rattle.audit_recording.specs.declared.blame.missing.Missing.{Missing}
 use Rattle.audit_recording.specs.declared.judges.judging.Judging.{Judging}
@@ -334,6 +338,21 @@ pub missing_there : (j : Judged) (t : Trail) (m : Missing) (s : Noticed) → j.t
 missing_there j t m s e f p =
     subst (λ (u : Trail). IsFirst (IsMissingOf u.transfer.client.address s.events) j.doubted.missing.first) (sym e)
     (subst (λ (v : Missing). IsFirst (IsMissingOf t.transfer.client.address s.events) v.first) (sym f) p)
+
+pub within_there : (j : Judged) (t : Trail) (m : Missing) (s : Noticed) → j.trail ≡ t → j.doubted.missing ≡ m
+    → (IsAsked (λ host. same_address host t.transfer.client.address) t.first s.events → IsTold (Since (IsMissingOf t.transfer.client.address s.events) (stretch_of t)) (stretch_of t) m.within)
+    → IsAsked (λ host. same_address host j.trail.transfer.client.address) j.trail.first s.events
+    → IsTold (Since (IsMissingOf j.trail.transfer.client.address s.events) (stretch_of j.trail)) (stretch_of j.trail) j.doubted.missing.within
+within_there j t m s e f p =
+    subst (λ (u : Trail). IsAsked (λ host. same_address host u.transfer.client.address) u.first s.events
+    → IsTold (Since (IsMissingOf u.transfer.client.address s.events) (stretch_of u)) (stretch_of u) j.doubted.missing.within) (sym e)
+    (subst (λ (v : Missing). IsAsked (λ host. same_address host t.transfer.client.address) t.first s.events
+    → IsTold (Since (IsMissingOf t.transfer.client.address s.events) (stretch_of t)) (stretch_of t) v.within) (sym f) p)
+
+-- the moment up to which it was read
+pub until_there : (j : Judged) (b : Session) (now : ℕ) (s : Noticed) → AreNotesOf b.notes s → j.until ≡ now
+    → ((times : List ℕ) → IsClockAfter b.notes.clock times → now ≡ max (last_of times) b.notes.clock.reached) → j.until ≡ max (last_of s.times) (reached_by s.times)
+until_there j b now s notes is reads = is ∙ (reads s.times notes.clock ∙ ap (λ n. max (last_of s.times) n) (reached_is b.notes.clock s.times notes.clock))
 
 pub on_err : {A E P : Type 0} (r : Result A E) → P → OnErr r P
 on_err (Ok x) p = tt

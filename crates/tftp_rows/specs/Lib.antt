@@ -14,7 +14,11 @@ pub mod Asked
 pub mod Listing
 pub mod Telling
 pub mod Whole
+pub mod Remarks
+pub mod Files
 pub mod Listed
+pub mod ListedWhole
+pub mod Lists
 pub mod Worked
 pub use Cells.{cell}
 pub use Endings.{before_text, ended_text, fault_text}

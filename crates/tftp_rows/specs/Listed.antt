@@ -1,5 +1,5 @@
 -- What a list says of transfers. Lists of what a recording has have the newest first; rows stand in the order in which they are printed.
-use Rattle.std.specs.Prelude.{◌≡◌, ◌^◌, ◌-◌, ◌+◌, ℕ, false, List, [], ◌∷◌, length, min, IfSome, Option, Some, None}
+use Rattle.std.specs.Prelude.{◌≡◌, ◌⊎◌, ◌^◌, ◌-◌, ◌+◌, ℕ, false, List, [], ◌∷◌, length, min, IfSome, Option, Some, None}
 use Rattle.net_udp.specs.Recording.{Step}
 use Rattle.tftp_packet.specs.{End, Client, Server}
 use Rattle.audit_flows.specs.{Transfer}
@@ -7,7 +7,7 @@ use Rattle.audit_flows.specs.Transfers.{opened_it}
 use Rattle.audit_flows.specs.Transfers.Views.{server_of}
 use Rattle.audit_recording.specs.Between.Captured.{server_or_asked}
 use Rattle.audit_recording.specs.Blame.Frames.{Carried, framed, view_of, whole_of}
-use Rattle.audit_recording.specs.Blame.Kept.{first_frame, last_frame}
+use Rattle.audit_recording.specs.Blame.Kept.{IsTrailOf, first_frame, last_frame}
 use Rattle.audit_recording.specs.Endings.Told.{IsEnding}
 use Rattle.audit_recording.specs.Endings.Undelivered.{undelivered_of}
 use Rattle.audit_recording.specs.Session.Kept.{IsSessionOf}
@@ -16,14 +16,16 @@ use Rattle.audit_recording.specs.Session.Trails.{opening_of}
 use Rattle.audit_recording.specs.declared.blame.ending.Ending.{Ending}
 use Rattle.audit_recording.specs.declared.blame.trail.Trail.{Trail}
 use Rattle.audit_recording.specs.declared.blame.undelivered.Undelivered.{Undelivered}
+use Rattle.audit_recording.specs.declared.judges.judging.Judging.TheVariants.{Nowhere}
 use Rattle.audit_recording.specs.declared.rows.row.Point.TheVariants as point
 use Rattle.audit_recording.specs.declared.session.session.Session.{Session}
 use Rattle.tftp_rows.specs.Asked.{AreAskedBy}
 use Rattle.tftp_rows.specs.Ended.{Concludes}
 use Rattle.tftp_rows.specs.Listing.{list_lines}
-use Rattle.tftp_rows.specs.Printing.{PrintsAll}
+use Rattle.tftp_rows.specs.Printing.{PrintsAll, PrintsPart}
 use Rattle.tftp_rows.specs.Telling.{IsNext}
 use Rattle.tftp_rows.specs.Times.{AreTimesOf}
+use Rattle.tftp_rows.specs.Whole.{moment_of}
 use Rattle.tftp_rows.specs.declared.conclusion.Conclusion.{Conclusion}
 use Rattle.tftp_rows.specs.declared.lister.Lister.{Lister}
 use Rattle.tftp_rows.specs.declared.listing.ListRow.{ListRow}
@@ -56,17 +58,31 @@ pub record IsListRowOf (row : ListRow) (n : ℕ) (t : Trail) (now : ℕ) (x : Tr
 
 -- ---- which transfer is listed
 
--- The next transfer was listed, and not again, in one row.
+-- The next transfer was listed, and not again, in one row, by what was kept of it and up to the moment up to which the recording was read.
 pub record ListsNext {W : Type 0} (contents : W → Option (List ℕ)) (old new : Lister W) (row : ListRow) (after : Session) (named out : List ℕ) (history : List Step) (carried : List Carried) (s : Noticed) : Type 0 where
   pub transfer : Transfer
   pub next : IsNext transfer named out carried
   pub trail : Trail
-  pub now : ℕ
-  pub of : IsListRowOf row new.told trail now transfer named carried
+  pub kept : IsTrailOf trail Nowhere transfer named carried
+  pub of : IsListRowOf row new.told trail (moment_of s) transfer named carried
   pub prints : PrintsAll contents list_lines old.printer new.printer (row ∷ [])
   pub number : new.told ≡ min (old.told + 1) (2 ^ 64 - 1)
   pub status : new.status ≡ old.status
   pub handed_out : IsSessionOf after named (transfer.number ∷ out) history carried s
+
+-- The next transfer was listed in part: of its row.
+pub record ListsNextPart {W : Type 0} (contents : W → Option (List ℕ)) (old new : Lister W) (named out : List ℕ) (carried : List Carried) (s : Noticed) : Type 0 where
+  pub transfer : Transfer
+  pub next : IsNext transfer named out carried
+  pub trail : Trail
+  pub kept : IsTrailOf trail Nowhere transfer named carried
+  pub row : ListRow
+  pub of : IsListRowOf row (min (old.told + 1) (2 ^ 64 - 1)) trail (moment_of s) transfer named carried
+  pub prints : PrintsPart contents list_lines old.printer new.printer (row ∷ [])
+
+-- A call has failed: the next transfer was listed in part, or nothing was printed.
+abbrev pub ListsPart : {W : Type 0} → (W → Option (List ℕ)) → Lister W → Lister W → List ℕ → List ℕ → List Carried → Noticed → Type 0
+ListsPart contents old new named out carried s = (new.printer ≡ old.printer) ⊎ ListsNextPart contents old new named out carried s
 
 -- These rows were printed, one after another: each is that of the transfer that was the next one then, and this held of the session from
 -- which it was handed out.
@@ -83,3 +99,10 @@ pub record ListsTurns {W : Type 0} (contents : W → Option (List ℕ)) (Holds :
   pub left : List ℕ
   pub turns : ListsInTurn contents Holds named history carried s rows old new out left
   pub handed_out : IsSessionOf after named left history carried s
+
+-- Transfers were listed in turn, and then the next one in part, or no more of them.
+pub record ListsTurnsPart {W : Type 0} (contents : W → Option (List ℕ)) (Holds : Session → Type 0) (old new : Lister W) (named out : List ℕ) (history : List Step) (carried : List Carried) (s : Noticed) : Type 0 where
+  pub mid : Lister W
+  pub between : Session
+  pub turns : ListsTurns contents Holds old mid between named out history carried s
+  pub part : (new.printer ≡ mid.printer) ⊎ (Holds between × ListsNextPart contents mid new named turns.left carried s)

@@ -1,5 +1,5 @@
 -- What a refusal rests on, in words: whether it stands whatever frames are missing, and that block numbers may begin again.
-use Rattle.std.specs.Prelude.{ℕ, Bool, true, false, List, [], ◌∷◌, Option, Some, Err, codes, if◌then◌else◌}
+use Rattle.std.specs.Prelude.{ℕ, Bool, true, false, List, [], Option, Some, Err, codes, if◌then◌else◌}
 use Rattle.law_model.specs.{EndRule}
 use Rattle.law_end.specs.declared.rule.Rule.TheVariants as rule
 use Rattle.tftp_judge.specs.declared.refusal.Refusal.TheVariants as refusal

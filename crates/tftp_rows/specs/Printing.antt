@@ -1,5 +1,5 @@
 -- What is printed of rows.
-use Rattle.std.specs.Prelude.{◌≡◌, ◌||◌, ℕ, Bool, true, false, List, [], ◌∷◌, ◌++◌, Option, Result, Ok, Err, codes}
+use Rattle.std.specs.Prelude.{◌≡◌, ◌⊎◌, ◌||◌, ℕ, Bool, true, false, List, [], ◌∷◌, ◌++◌, Option, Result, Ok, Err, codes}
 use Rattle.std.specs.Io.KnownBytes.{Appends}
 use Rattle.tftp_rows.specs.Members.{json_text}
 use Rattle.tftp_rows.specs.Objects.{row_json}
@@ -43,13 +43,15 @@ module _ {W R : Type 0} (contents : W → Option (List ℕ)) (lines : Form → B
     pub form : new.form ≡ old.form
     pub headed : new.is_headed ≡ (old.is_headed || is_some_row rows)
 
-  -- The lines of these rows were printed in part, from their start, behind what stood there, and nothing else.
+  -- The lines of these rows were printed in part, from their start, behind what stood there, and nothing else. The heads stand before what
+  -- comes next once a row was begun.
   pub record PrintsPart (old new : RowPrinter W) (rows : List R) : Type 0 where
     pub written : List ℕ
     pub unwritten : List ℕ
     pub part : all_lines (lines old.form) old.is_headed rows ≡ written ++ unwritten
     pub appended : Appends (contents old.writer) (contents new.writer) written
     pub form : new.form ≡ old.form
+    pub headed : ((written ≡ []) × (new.is_headed ≡ old.is_headed)) ⊎ ((new.is_headed ≡ true) × (is_some_row rows ≡ true))
 
 -- what a call prints, however it ends
 abbrev pub Prints : {W R A E : Type 0} → (W → Option (List ℕ)) → (Form → Bool → R → List ℕ) → RowPrinter W → RowPrinter W → Result A E → List R → Type 0

@@ -2,13 +2,16 @@
 -- they are told.
 use Rattle.std.specs.Prelude.{◌≡◌, ◌⊎◌, ◌+◌, ◌-◌, ◌^◌, ◌≤◌, ℕ, false, max, min, List, [], ◌∷◌, ◌++◌, Option, Some, None, IsSome, Result, Ok, Err, codes, string_bytes}
 use Rattle.net_udp.specs.Recording.{Step}
+use Rattle.audit_flows.specs.Lines.{same_address}
 use Rattle.audit_flows.specs.{Transfer}
 use Rattle.audit_recording.specs.Blame.Frames.{Carried, whole_of}
 use Rattle.audit_recording.specs.Judges.{is_among, opened}
-use Rattle.audit_recording.specs.Losses.Noted.{IsFirst, IsMissingOf}
+use Rattle.audit_recording.specs.Losses.Noted.{IsAsked, IsFirst, IsMissingOf, IsTold, Since}
+use Rattle.audit_recording.specs.Reasons.Clock.{last_of}
 use Rattle.audit_recording.specs.Rows.Told.{refused_frame, rows_told, status_of}
 use Rattle.audit_recording.specs.Session.Kept.{IsSessionOf}
-use Rattle.audit_recording.specs.Session.Noted.{Noticed}
+use Rattle.audit_recording.specs.Session.Noted.{Noticed, stretch_of}
+use Rattle.audit_recording.specs.Session.Recording.{reached_by}
 use Rattle.audit_recording.specs.declared.judges.judging.Judging.{Judging}
 use Rattle.audit_recording.specs.declared.rows.row.Row.{Row}
 use Rattle.audit_recording.specs.declared.session.session.Session.{Session}
@@ -160,13 +163,16 @@ pub record IsNext (x : Transfer) (named out : List ℕ) (carried : List Carried)
   pub oldest : (n : ℕ) → IsSome (opened n (whole_of named carried)) → is_among n out ≡ false → x.number ≤ n
 
 -- The next transfer was told, and not again: the rows of its verdicts, by what there is to say of it, come next. The recording may lack
--- these frames of its client's.
+-- these frames of its client's, and was read up to this moment.
 pub record TellsNext {W : Type 0} (contents : W → Option (List ℕ)) (old new : Teller W) (before after : Session) (named out : List ℕ) (history : List Step) (carried : List Carried) (s : Noticed) : Type 0 where
   pub transfer : Transfer
   pub next : IsNext transfer named out carried
   pub judged : Judged
   pub of : IsJudgedOf judged before.audit.judge.judging transfer named carried
   pub missing : IsFirst (IsMissingOf judged.trail.transfer.client.address s.events) judged.doubted.missing.first
+  pub within : IsAsked (λ host. same_address host judged.trail.transfer.client.address) judged.trail.first s.events
+      → IsTold (Since (IsMissingOf judged.trail.transfer.client.address s.events) (stretch_of judged.trail)) (stretch_of judged.trail) judged.doubted.missing.within
+  pub until : judged.until ≡ max (last_of s.times) (reached_by s.times)
   pub rows : TellsRowsAt contents (record old { told = new.told }) new judged (places_of judged)
   pub number : new.told ≡ min (old.told + 1) (2 ^ 64 - 1)
   pub status : new.status ≡ max old.status (worst_at judged (places_of judged))

@@ -1,6 +1,6 @@
 -- What is told of a whole recording: the rows of its transfers, each once. Lists of what a recording has, and of the transfers that were told,
 -- have the newest first; rows stand in the order in which they are told.
-use Rattle.std.specs.Prelude.{◌≡◌, ◌⊎◌, ◌<◌, ◌^◌, ◌-◌, ◌++◌, ℕ, true, false, List, [], ◌∷◌, length, max, min, IsSome, Option}
+use Rattle.std.specs.Prelude.{◌≡◌, ◌⊎◌, ◌<◌, ◌≤◌, ◌^◌, ◌-◌, ◌++◌, ℕ, true, false, List, [], ◌∷◌, length, max, min, IfSome, IsSome, Option, Some, None}
 use Rattle.std.specs.Io.KnownBytes.{Consumes, IsAtEnd}
 use Rattle.std.specs.List.{AllByRecursion}
 use Rattle.net_streams.specs.{Standing}
@@ -8,10 +8,15 @@ use Rattle.net_udp.specs.Recording.{RecordingState, StandsFor, Step, standing_of
 use Rattle.audit_flows.specs.{Transfer}
 use Rattle.audit_recording.specs.Blame.Frames.{Carried, whole_of}
 use Rattle.audit_recording.specs.Judges.{is_among, opened}
+use Rattle.audit_recording.specs.Losses.Noted.{Event, IsFirst, IsMissingOf, IsTold, Since, is_soon}
+use Rattle.audit_recording.specs.Reasons.Clock.{last_of}
 use Rattle.audit_recording.specs.Session.Kept.{IsSessionAfter}
-use Rattle.audit_recording.specs.Session.Noted.{AreNotesOf, Noticed, frames_in, giving_up}
+use Rattle.audit_recording.specs.Session.Noted.{AreNotesOf, Noticed, frames_in, giving_up, stretch_of}
 use Rattle.audit_recording.specs.Session.Opened.{HasEnded, IsSessionClosed, lost_in}
-use Rattle.audit_recording.specs.Session.Recording.{IsNoticedOf}
+use Rattle.audit_recording.specs.Session.Over.{IsOver}
+use Rattle.audit_recording.specs.Session.Recording.{IsNoticedOf, reached_by}
+use Rattle.audit_recording.specs.declared.blame.missing.Missing.{Missing}
+use Rattle.audit_recording.specs.declared.blame.trail.Trail.{Trail}
 use Rattle.audit_recording.specs.declared.judges.judging.Judging.{Judging}
 use Rattle.audit_recording.specs.declared.rows.row.Row.{Row}
 use Rattle.audit_recording.specs.declared.session.notes.Notes.{Notes}
@@ -22,6 +27,43 @@ use Rattle.tftp_rows.specs.Printing.{PrintsAll, PrintsPart, verdict_lines}
 use Rattle.tftp_rows.specs.Telling.{AreRowsAt, AreRowsWith, IsNext, PrintsAllWith, PrintsPartWith, places_of, worst_at}
 use Rattle.tftp_rows.specs.declared.row.VerdictRow.{VerdictRow}
 use Rattle.tftp_rows.specs.declared.teller.Teller.{Teller}
+
+-- ---- as far as it was read
+
+-- the first frames of a recording, the datagrams that they carried, and what was noticed by then
+pub record Part : Type 0 where
+  pub history : List Step
+  pub carried : List Carried
+  pub noticed : Noticed
+
+abbrev pub so_far : List Step → List Carried → Noticed → Part
+so_far history carried s = record { history = history; carried = carried; noticed = s }
+
+-- The one begins with the frames and the datagrams of the other.
+pub record IsPartOf (part whole : Part) : Type 0 where
+  pub next_frames : List Step
+  pub next_carried : List Carried
+  pub frames : whole.history ≡ next_frames ++ part.history
+  pub datagrams : whole.carried ≡ next_carried ++ part.carried
+
+-- the recording is read no further: the fragments that still wait have waited in vain
+abbrev pub once_ended : RecordingState → Part → Part
+once_ended recording p = record p { noticed = giving_up (frames_in recording.waiting) p.noticed }
+
+-- By these frames these datagrams came, and by then the transfer was over, so that nothing that comes later changes what is told of it; or
+-- the recording has ended so.
+abbrev pub IsDue : Option Part → List ℕ → Part → Trail → Type 0
+IsDue end named p t = (IsNoticedOf named p.history p.carried p.noticed × IsOver t named p.carried p.noticed) ⊎ (end ≡ Some p)
+
+-- They are the frames that may have been of the transfer's client, and were not there whole by then: the first one, and the one that is
+-- told of those that stand among its datagrams or passed soon after.
+pub record AreMissing (m : Missing) (t : Trail) (s : Noticed) : Type 0 where
+  pub first : IsFirst (IsMissingOf t.transfer.client.address s.events) m.first
+  pub within : IsTold (Since (IsMissingOf t.transfer.client.address s.events) (stretch_of t)) (stretch_of t) m.within
+
+-- the moment up to which it was read: the time of its last datagram, or a later one that two in a row have reached
+abbrev pub moment_of : Noticed → ℕ
+moment_of s = max (last_of s.times) (reached_by s.times)
 
 -- ---- the transfers that were told
 
@@ -39,10 +81,14 @@ numbers_of (t ∷ older) = t.transfer.number ∷ numbers_of older
 abbrev pub counted : List Telling → ℕ
 counted tellings = min (length tellings) (2 ^ 64 - 1)
 
--- By these datagrams it is the next transfer behind the older ones, and the rows are those of all its verdicts.
-pub record IsToldNext (name : List ℕ) (judging : Judging) (named : List ℕ) (carried : List Carried) (t : Telling) (older : List Telling) : Type 0 where
-  pub next : IsNext t.transfer named (numbers_of older) carried
-  pub of : IsJudgedOf t.judged judging t.transfer named carried
+-- By this part of the recording it is the next transfer behind the older ones, and all is known of it. What there is to say of it is what the
+-- part says, with what may be missing of it; and the rows are those of all its verdicts.
+pub record IsToldNext (name : List ℕ) (judging : Judging) (named : List ℕ) (end : Option Part) (p : Part) (t : Telling) (older : List Telling) : Type 0 where
+  pub next : IsNext t.transfer named (numbers_of older) p.carried
+  pub due : IsDue end named p t.judged.trail
+  pub of : IsJudgedOf t.judged judging t.transfer named p.carried
+  pub missing : AreMissing t.judged.doubted.missing t.judged.trail p.noticed
+  pub until : t.judged.until ≡ moment_of p.noticed
   pub rows : AreRowsAt name (counted (t ∷ older)) t.judged (places_of t.judged) t.rows
 
 -- By these datagrams it is the next transfer behind the older ones, and the rows are those of its first verdicts.
@@ -58,11 +104,11 @@ pub record IsToldPart (name : List ℕ) (judging : Judging) (named : List ℕ) (
 abbrev pub AreRowsInPart : List ℕ → Judging → List ℕ → List Carried → List Telling → List VerdictRow → Type 0
 AreRowsInPart name judging named carried older rows = (rows ≡ []) ⊎ ((t : Telling) × (rows ≡ t.rows) × IsToldPart name judging named carried t older)
 
--- each was the next one by what had been read when it was told: by the first of these datagrams
-abbrev pub AreTold : List ℕ → Judging → List ℕ → List Carried → List Telling → Type 0
-AreTold name judging named all [] = Unit {0}
-AreTold name judging named all (t ∷ older) =
-    (later carried : List Carried) × (all ≡ later ++ carried) × IsToldNext name judging named carried t older × AreTold name judging named carried older
+-- each was the next one, and all was known of it, by what had been read when it was told: a part of all
+abbrev pub AreTold : List ℕ → Judging → List ℕ → Option Part → Part → List Telling → Type 0
+AreTold name judging named end all [] = Unit {0}
+AreTold name judging named end all (t ∷ older) =
+    (p : Part) × IsPartOf p all × IsToldNext name judging named end p t older × AreTold name judging named end p older
 
 -- the rows of all of them
 abbrev pub all_rows : List Telling → List VerdictRow
@@ -79,6 +125,21 @@ abbrev pub AreInOrder : List Telling → Type 0
 AreInOrder [] = Unit {0}
 AreInOrder (t ∷ older) = AllByRecursion (λ n. n < t.transfer.number) (numbers_of older) × AreInOrder older
 
+-- Each is what these datagrams say: it is one of their transfers, and the rows are those of its verdicts by all of them.
+abbrev pub AreOf : List ℕ → Judging → List ℕ → List Carried → List Telling → Type 0
+AreOf name judging named carried [] = Unit {0}
+AreOf name judging named carried (t ∷ older) =
+    (opened t.transfer.number (whole_of named carried) ≡ Some t.transfer) × IsJudgedOf t.judged judging t.transfer named carried
+    × AreRowsAt name (counted (t ∷ older)) t.judged (places_of t.judged) t.rows × AreOf name judging named carried older
+
+-- Of each: where by these events a frame may have been of its client, was not there whole, and stands among its datagrams or passed at most
+-- 300 s after the last, such a frame is told, that one or an earlier one.
+abbrev pub AreLacking : List Event → List Telling → Type 0
+AreLacking events [] = Unit {0}
+AreLacking events (t ∷ older) =
+    ((n time : ℕ) → IsMissingOf t.transfer.client.address events n time → is_soon (stretch_of t.judged.trail) n time ≡ true
+    → (first : ℕ) × (t.judged.doubted.missing.first ≡ Some first) × (first ≤ n)) × AreLacking events older
+
 -- ---- what was read of a file, whose bytes are told or not
 
 -- The file had these bytes, whose frames these are, and what is left: nothing, where it was read to its end.
@@ -89,6 +150,11 @@ pub record IsFileRead (file : Option (List ℕ)) (recording : RecordingState) (h
   pub frames : StandsFor recording bytes history
   pub at_end : standing_of recording ≡ Standing.Over → IsAtEnd left
 
+-- it was read to its end, or to a fault, and this is what was read by then
+abbrev pub IsEndOf : Option (List ℕ) → Part → Part → Type 0
+IsEndOf file all end =
+    (recording : RecordingState) × IsFileRead file recording all.history × (standing_of recording ≡ Standing.Open → ⊥) × (end ≡ once_ended recording all)
+
 -- it begins with these frames, or none was read
 abbrev pub WereRead : Option (List ℕ) → List Step → Type 0
 WereRead file history =
@@ -97,9 +163,10 @@ WereRead file history =
 -- ---- what was printed of them
 
 module _ {W : Type 0} (contents : W → Option (List ℕ)) where
-  -- Since the file was begun these transfers were told: their rows were printed, each once and in order, but for the last ones, which wait.
-  pub record HasTold (begun now : Teller W) (judging : Judging) (named : List ℕ) (all : List Carried) (tellings : List Telling) : Type 0 where
-    pub told : AreTold begun.file.now judging named all tellings
+  -- Since the file was begun these transfers were told, each once it was over: their rows were printed, each once and in order, but for the
+  -- last ones, which wait.
+  pub record HasTold (begun now : Teller W) (judging : Judging) (named : List ℕ) (all : Part) (tellings : List Telling) : Type 0 where
+    pub told : AreTold begun.file.now judging named None all tellings
     pub printed : List VerdictRow
     pub rows : all_rows tellings ≡ printed ++ now.held.items
     pub prints : PrintsAllWith contents begun.dropped begun.printer now.printer printed
@@ -108,10 +175,10 @@ module _ {W : Type 0} (contents : W → Option (List ℕ)) where
     pub status : now.status ≡ max begun.status (worst_of tellings)
     pub dropped : now.dropped ≡ begun.dropped
 
-  -- The same where none waits: the first rows were printed as they are where nothing is known to be lost, and the last ones as they are where
-  -- the recorder lost so many packets.
-  pub record HasToldAll (begun now : Teller W) (dropped : ℕ) (judging : Judging) (named : List ℕ) (all : List Carried) (tellings : List Telling) : Type 0 where
-    pub told : AreTold begun.file.now judging named all tellings
+  -- The same where none waits, and the recording may have ended: the first rows were printed as they are where nothing is known to be lost,
+  -- and the last ones as they are where the recorder lost so many packets.
+  pub record HasToldAll (begun now : Teller W) (dropped : ℕ) (judging : Judging) (named : List ℕ) (end : Option Part) (all : Part) (tellings : List Telling) : Type 0 where
+    pub told : AreTold begun.file.now judging named end all tellings
     pub early : List VerdictRow
     pub late : List VerdictRow
     pub rows : all_rows tellings ≡ early ++ late
@@ -129,20 +196,20 @@ module _ {W : Type 0} (contents : W → Option (List ℕ)) where
 
   -- A call has failed: the first rows of these transfers, and of one that was told in part, were printed, each once and in order, and nothing else:
   -- whole, and then those that wait come next; or in part, and none waits.
-  pub record HasToldPart (begun now : Teller W) (judging : Judging) (named : List ℕ) (all : List Carried) (tellings : List Telling) : Type 0 where
-    pub told : AreTold begun.file.now judging named all tellings
+  pub record HasToldPart (begun now : Teller W) (judging : Judging) (named : List ℕ) (all : Part) (tellings : List Telling) : Type 0 where
+    pub told : AreTold begun.file.now judging named None all tellings
     pub next : List VerdictRow
-    pub are_next : AreRowsInPart begun.file.now judging named all tellings next
+    pub are_next : AreRowsInPart begun.file.now judging named all.carried tellings next
     pub printed : List VerdictRow
     pub left : List VerdictRow
     pub rows : all_rows tellings ++ next ≡ printed ++ (now.held.items ++ left)
     pub prints : PrintsAllWith contents begun.dropped begun.printer now.printer printed ⊎ (PrintsPartWith contents begun.dropped begun.printer now.printer printed × (now.held.items ≡ []))
 
   -- The same where none waits: what was held back was printed as it is where the recorder lost so many packets.
-  pub record HasToldInPart (begun now : Teller W) (dropped : ℕ) (judging : Judging) (named : List ℕ) (all : List Carried) (tellings : List Telling) : Type 0 where
-    pub told : AreTold begun.file.now judging named all tellings
+  pub record HasToldInPart (begun now : Teller W) (dropped : ℕ) (judging : Judging) (named : List ℕ) (end : Option Part) (all : Part) (tellings : List Telling) : Type 0 where
+    pub told : AreTold begun.file.now judging named end all tellings
     pub next : List VerdictRow
-    pub are_next : AreRowsInPart begun.file.now judging named all tellings next
+    pub are_next : AreRowsInPart begun.file.now judging named all.carried tellings next
     pub early : List VerdictRow
     pub late : List VerdictRow
     pub left : List VerdictRow
@@ -161,7 +228,7 @@ module _ {W : Type 0} (contents : W → Option (List ℕ)) where
   pub record IsReadAndTold (begun now : Teller W) (Read : List Step → Type 0) (session : Session) (named : List ℕ) (history : List Step) (carried : List Carried) (s : Noticed) (tellings : List Telling) : Type 0 where
     pub read : Read history
     pub session_is : IsSessionAfter session named (numbers_of tellings) history carried s
-    pub has_told : HasTold begun now session.audit.judge.judging named carried tellings
+    pub has_told : HasTold begun now session.audit.judge.judging named (so_far history carried s) tellings
 
   -- the same of whatever was read and told
   abbrev pub IsReadOn : Teller W → Teller W → (List Step → Type 0) → Session → List ℕ → Type 0
@@ -179,7 +246,7 @@ module _ {W : Type 0} (contents : W → Option (List ℕ)) where
     pub read : IsFileRead file recording history
     pub ended : HasEnded recording session.notes
     pub closed : IsSessionClosed session recording named (numbers_of tellings) history carried noticed
-    pub has_told : HasTold begun now session.audit.judge.judging named carried tellings
+    pub has_told : HasTold begun now session.audit.judge.judging named (so_far history carried noticed) tellings
 
   -- a call has failed: these frames were read before, and of their transfers these were told, the last one in part
   pub record IsReadInPart (begun now : Teller W) (file : Option (List ℕ)) (judging : Judging) (named : List ℕ) : Type 0 where
@@ -189,12 +256,13 @@ module _ {W : Type 0} (contents : W → Option (List ℕ)) where
     pub tellings : List Telling
     pub read : WereRead file history
     pub came : IsNoticedOf named history carried noticed
-    pub has_told : HasToldPart begun now judging named carried tellings
+    pub has_told : HasToldPart begun now judging named (so_far history carried noticed) tellings
 
   -- ---- all of it
 
   -- The file is a recording that was read to its end, or to a fault that is noted. By the datagrams that its frames carried, each transfer that a
-  -- request opened was told, in the order of the requests, each once; their rows were printed, and nothing else, and none waits.
+  -- request opened was told, in the order of the requests, each once, and none before it was over or the recording had ended; their rows were
+  -- printed, and nothing else, and none waits.
   pub record IsRecordingTold (begun now : Teller W) (file : Option (List ℕ)) (judging : Judging) (named : List ℕ) (notes : Notes) : Type 0 where
     pub recording : RecordingState
     pub history : List Step
@@ -205,19 +273,22 @@ module _ {W : Type 0} (contents : W → Option (List ℕ)) where
     pub ended : HasEnded recording notes
     pub came : IsNoticedOf named history carried noticed
     pub noted : AreNotesOf notes (giving_up (frames_in recording.waiting) noticed)
-    pub told : HasToldAll begun now (lost_in recording) judging named carried tellings
+    pub told : HasToldAll begun now (lost_in recording) judging named (Some (once_ended recording (so_far history carried noticed))) (so_far history carried noticed) tellings
     pub in_order : AreInOrder tellings
     pub none_left_out : (n : ℕ) → IsSome (opened n (whole_of named carried)) → is_among n (numbers_of tellings) ≡ true
 
   -- What a fault leaves of it: of the datagrams that were read before, the first rows of transfers, in the order of the requests, were printed, the
-  -- last one in part, and nothing else; none waits, and how many packets the recorder had lost by then is any number.
+  -- last one in part, and nothing else; none waits, and how many packets the recorder had lost by then is any number. Where the fault came
+  -- behind the recording's end, the last ones may have been told by that.
   pub record IsRecordingToldInPart (begun now : Teller W) (file : Option (List ℕ)) (judging : Judging) (named : List ℕ) : Type 0 where
     pub history : List Step
     pub carried : List Carried
     pub noticed : Noticed
     pub tellings : List Telling
     pub dropped : ℕ
+    pub end : Option Part
     pub read : WereRead file history
     pub came : IsNoticedOf named history carried noticed
-    pub told : HasToldInPart begun now dropped judging named carried tellings
+    pub ended : IfSome end (IsEndOf file (so_far history carried noticed))
+    pub told : HasToldInPart begun now dropped judging named end (so_far history carried noticed) tellings
     pub in_order : AreInOrder tellings

@@ -4,10 +4,13 @@ use Rattle.tftp_packet.specs.{Client, Server}
 use Rattle.audit_flows.specs.{Address, Endpoint, V4, V6}
 use Rattle.audit_recording.specs.{Accused}
 use Rattle.audit_recording.specs.Endings.Told.{sent_of}
+use Rattle.audit_recording.specs.Session.Noted.{Noticed, told_in}
+use Rattle.audit_recording.specs.Session.Told.{nothing_told}
 use Rattle.audit_recording.specs.declared.blame.reason.Reason.{Reason}
 use Rattle.audit_recording.specs.declared.blame.stop.Stop.{Stop}
 use Rattle.audit_recording.specs.declared.blame.undelivered.Undelivered.{Undelivered}
 use Rattle.audit_recording.specs.declared.rows.row.Place.{Place}
+use Rattle.audit_recording.specs.declared.session.notes.Notes.{Notes}
 use Rattle.tftp_rows.specs.declared.listing.ListRow.{ListRow}
 use Rattle.tftp_rows.specs.declared.row.VerdictRow.{VerdictRow}
 use Rattle.tftp_rows.specs.declared.times.Times.{Times}
@@ -96,3 +99,12 @@ pub record IsListed (r : ListRow) (n : ℕ) (client server : Endpoint) (kind mod
 
 abbrev pub end_at : Address → ℕ → Endpoint
 end_at address port = record { port = port; address = address }
+
+-- frame 3 is a copy and frame 8 is lost, there is nothing else to tell of the frames, and nothing looks like a request
+pub record AreOfCopyAndLoss (n : Notes) (s : Noticed) : Type 0 where
+  pub told : told_in s ≡ record nothing_told { copies = 3 ∷ []; lost = 8 ∷ [] }
+  pub begun : n.begun.pairs.items ≡ []
+  pub behind : n.behind.kinds.items ≡ []
+  pub dropped : n.dropped ≡ 0
+  pub fault : n.fault ≡ None
+  pub asked : n.asked.items ≡ []

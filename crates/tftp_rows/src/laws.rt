@@ -1,8 +1,16 @@
 //! Worked examples of the definitions in `specs/`. Each is the contract of a function that does nothing.
 
-ghost use Rattle.std.specs.Prelude.{◌≡◌, ◌∷◌, ◌++◌, [], false, true, codes, Some, None};
+ghost use Rattle.std.specs.Prelude.{◌≡◌, ◌∷◌, ◌++◌, [], ℕ, List, Option, false, true, codes, Some, None};
 ghost use Rattle.json.specs.Json.{string};
+ghost use Rattle.net_udp.specs.Recording.{Step};
 ghost use Rattle.tftp_packet.specs.{Client as ClientEnd, Server as ServerEnd};
+ghost use Rattle.audit_recording.specs.Blame.Frames.{Carried};
+ghost use Rattle.audit_recording.specs.Losses.Noted.{unread};
+ghost use Rattle.audit_recording.specs.Losses.Noted.Event.{Loses};
+ghost use Rattle.audit_recording.specs.Session.Noted.{Noticed, nothing_noticed};
+ghost use Rattle.audit_recording.specs.declared.blame.missing.Missing.{Missing as MissingKind};
+ghost use Rattle.audit_recording.specs.declared.blame.trail.Trail.{Trail as TrailKind};
+ghost use Rattle.audit_recording.specs.declared.judges.judging.Judging.{Judging as JudgingKind};
 ghost use Rattle.audit_recording.specs.declared.blame.reason.Reason.TheVariants.{Late, Lost};
 ghost use Rattle.audit_recording.specs.declared.blame.stop.Stop.{Stop};
 ghost use Rattle.audit_recording.specs.declared.rows.row.Place.TheVariants.{Between, Both, Client as AtClient};
@@ -14,7 +22,7 @@ ghost use Rattle.tftp_rows.specs.Objects.{row_json};
 ghost use Rattle.tftp_rows.specs.Printing.{all_lines, verdict_lines};
 ghost use Rattle.tftp_rows.specs.Rows.{accused_text, head_text, row_text};
 ghost use Rattle.tftp_rows.specs.Times.{slow_text};
-ghost use Rattle.tftp_rows.specs.Whole.{Telling, all_rows, numbers_of};
+ghost use Rattle.tftp_rows.specs.Whole.{AreLacking, AreMissing, AreOf, IsDue, IsEndOf, IsPartOf, Part, Telling, all_rows, moment_of, numbers_of, so_far};
 ghost use Rattle.tftp_rows.specs.Worked.{IsListed, IsNotFound, IsRow, RestsOn, client_at, end_at, first_host, repeated, second_host, server_at, slow, unreached_port, untimed, wide_host};
 ghost use Rattle.tftp_rows.specs.declared.conclusion.Conclusion.TheVariants.{Aborted, Quiet, Silent, Unreached, Whole};
 ghost use Rattle.tftp_rows.specs.declared.listing.ListRow.{ListRow};
@@ -73,6 +81,37 @@ pub fn worked_order()
     ensures objects { (r s : VerdictRow) → all_lines (verdict_lines Json) false (r ∷ s ∷ []) ≡ (json_text (row_json r) ++ codes "\n") ++ (json_text (row_json s) ++ codes "\n") }
     ensures rows { (first second : Telling) → all_rows (second ∷ first ∷ []) ≡ first.rows ++ second.rows }
     ensures numbers { (first second : Telling) → numbers_of (second ∷ first ∷ []) ≡ second.transfer.number ∷ first.transfer.number ∷ [] }
+{}
+
+/// One datagram of two is a part of a recording, and its end has all of them. It was read up to second 9, which two in a row have reached,
+/// and not up to second 30. No transfer is of no datagram.
+pub fn worked_reading()
+    ensures part { (first second : Carried) (s t : Noticed) → IsPartOf (so_far [] (first ∷ []) s) (so_far [] (second ∷ first ∷ []) t) }
+    ensures no_part { (first second : Carried) (s t : Noticed) → IsPartOf (so_far [] (second ∷ first ∷ []) t) (so_far [] (first ∷ []) s) → ⊥ }
+    ensures end { (file : Option (List ℕ)) (all end : Part) → IsEndOf file all end → end.carried ≡ all.carried }
+    ensures moment { moment_of (record nothing_noticed { times = 4000000000 ∷ 30000000000 ∷ 9000000000 ∷ [] }) ≡ 9000000000 }
+    ensures none { (name named : List ℕ) (judging : JudgingKind) (t : Telling) → AreOf name judging named [] (t ∷ []) → ⊥ }
+{}
+
+/// A transfer whose last datagram passed at second 1 is not told at its first datagram, nor up to second 301; but when the recording ends.
+pub fn worked_due()
+    ensures before { (t : TrailKind) → IsDue None [] (so_far [] [] nothing_noticed) t → ⊥ }
+    ensures at_once { (t : TrailKind) (history : List Step) (carried : List Carried) (s : Noticed) → t.last_time ≡ 1000000000 → s.times ≡ 1000000000 ∷ 1000000000 ∷ []
+        → IsDue None [] (so_far history carried s) t → ⊥ }
+    ensures soon { (t : TrailKind) (history : List Step) (carried : List Carried) (s : Noticed) → t.last_time ≡ 1000000000 → s.times ≡ 301000000000 ∷ 301000000000 ∷ []
+        → IsDue None [] (so_far history carried s) t → ⊥ }
+    ensures ended { (t : TrailKind) (history : List Step) (carried : List Carried) (s : Noticed) → IsDue (Some (so_far history carried s)) [] (so_far history carried s) t }
+{}
+
+/// Of a transfer in frames 3 to 6, the last at second 10, frame 5 is missing, and may be of it. Frame 9 is missing too where it passed at
+/// second 311, but not of it. Were frame 5 missing and none told, a doubt would be left out.
+pub fn worked_missing()
+    ensures among { (m : MissingKind) (t : TrailKind) (s : Noticed) → t.first ≡ 3 → t.last ≡ 6 → t.last_time ≡ 10000000000 → s.events ≡ Loses (unread 5 9000000000) ∷ []
+        → AreMissing m t s → (m.first ≡ Some 5) × (m.within ≡ Some 5) }
+    ensures later { (m : MissingKind) (t : TrailKind) (s : Noticed) → t.first ≡ 3 → t.last ≡ 6 → t.last_time ≡ 10000000000 → s.events ≡ Loses (unread 9 311000000000) ∷ []
+        → AreMissing m t s → (m.first ≡ Some 9) × (m.within ≡ None) }
+    ensures left_out { (t : Telling) → t.judged.trail.last ≡ 6 → t.judged.doubted.missing.first ≡ None → AreLacking (Loses (unread 5 9000000000) ∷ []) (t ∷ []) → ⊥ }
+    ensures nothing { (t : Telling) → AreLacking [] (t ∷ []) }
 {}
 
 /// An IPv6 address stands in brackets, less than a second is no silence, and nothing is said where nothing passed for no second.

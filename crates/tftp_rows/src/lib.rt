@@ -5,7 +5,9 @@ mod asked;
 mod cells;
 mod conclusion;
 mod endpoint;
+mod files;
 mod laws;
+mod list_reading;
 mod lister;
 mod listing;
 mod members;
@@ -15,16 +17,20 @@ mod premise;
 mod printing;
 mod reading;
 mod reason;
+mod remarks;
 mod row;
 mod teller;
 mod times;
 mod verdict;
 pub mod whole;
+mod worked_files;
 
 pub use asked::AskedWords;
 pub use cells::{pad, put_cell, put_number_cell};
 pub use conclusion::{Conclusion, concluded, role_name};
 pub use endpoint::{shown, shown_host};
+pub use files::{Outside, check_files, files_are_printed_in_order, list_file};
+pub use list_reading::list_recording;
 pub use lister::Lister;
 pub use listing::{ListRow, put_list_head};
 pub use plain::{put_number, put_plain};
@@ -33,6 +39,7 @@ pub use reading::{
     TellFault, check_recording, recordings_are_told_as_they_are_read, tell_frames, tell_recording,
 };
 pub use reason::ReasonWords;
+pub use remarks::Remarks;
 pub use row::{VerdictRow, place_name, put_head};
 pub use teller::Teller;
 pub use times::{Repeated, Times, times_told};

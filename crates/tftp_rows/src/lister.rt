@@ -1,13 +1,13 @@
 //! Transfers are listed, each in a row.
 
-ghost use Rattle.std.specs.Prelude.{◌≡◌, ◌⊎◌, ℕ, List, None, Ok, OnOk, false, true};
+ghost use Rattle.std.specs.Prelude.{◌≡◌, ◌⊎◌, ℕ, List, None, Ok, OnErr, OnOk, false, if◌then◌else◌, true};
 ghost use Rattle.net_udp.specs.Recording.{Step};
 ghost use Rattle.audit_recording.specs.Blame.Frames.{Carried, whole_of};
 ghost use Rattle.audit_recording.specs.Judges.{is_among, opened};
 ghost use Rattle.audit_recording.specs.Session.Kept.{IsSessionAfter, IsSessionOf};
 ghost use Rattle.audit_recording.specs.Session.Noted.{Noticed};
 ghost use Rattle.audit_recording.specs.Session.Over.{IsOldestOver};
-ghost use Rattle.tftp_rows.specs.Listed.{ListsNext, ListsTurns};
+ghost use Rattle.tftp_rows.specs.Listed.{ListsNext, ListsPart, ListsTurns, ListsTurnsPart};
 ghost use Rattle.tftp_rows.specs.declared.listing.ListRow.{ListRow as ListRowKind};
 
 use crate::listing::ListRow;
@@ -43,8 +43,10 @@ impl<W: Write + Drop> Lister<W> {
 
     /// Lists the transfers of which all is known, from the oldest on.
     pub fn list_over(&mut self, alloc: Global, session: &mut Session) -> Result<(), PrintFault>
-        ensures { (named out : List ℕ) (history : List Step) (carried : List Carried) (s : Noticed) → IsSessionAfter session.old named out history carried s
+        ensures turns { (named out : List ℕ) (history : List Step) (carried : List Carried) (s : Noticed) → IsSessionAfter session.old named out history carried s
             → OnOk result (ListsTurns W.Write.contents (λ before. IsOldestOver before named carried s) self.old self.new session.new named out history carried s) }
+        ensures part { (named out : List ℕ) (history : List Step) (carried : List Carried) (s : Noticed) → IsSessionAfter session.old named out history carried s
+            → OnErr result (ListsTurnsPart W.Write.contents (λ before. IsOldestOver before named carried s) self.old self.new named out history carried s) }
     {
         for _ in 0..session.count() {
             if !self.list_first_over(alloc, session)? {
@@ -58,6 +60,8 @@ impl<W: Write + Drop> Lister<W> {
     fn list_first_over(&mut self, alloc: Global, session: &mut Session) -> Result<bool, PrintFault>
         ensures told { (named out : List ℕ) (history : List Step) (carried : List Carried) (s : Noticed) → IsSessionAfter session.old named out history carried s
             → result ≡ Ok true → IsOldestOver session.old named carried s × ((row : ListRowKind) × ListsNext W.Write.contents self.old self.new row session.new named out history carried s) }
+        ensures part { (named out : List ℕ) (history : List Step) (carried : List Carried) (s : Noticed) → IsSessionAfter session.old named out history carried s
+            → OnErr result (IsOldestOver session.old named carried s × ListsPart W.Write.contents self.old self.new named out carried s) }
         ensures nothing { result ≡ Ok false → self.new ≡ self.old }
         ensures same_session { (named out : List ℕ) (history : List Step) (carried : List Carried) (s : Noticed) → IsSessionAfter session.old named out history carried s
             → result ≡ Ok false → IsSessionAfter session.new named out history carried s }
@@ -70,9 +74,12 @@ impl<W: Write + Drop> Lister<W> {
 
     /// Lists all transfers that were not listed, where the recording has ended.
     pub fn list_all(&mut self, alloc: Global, session: &mut Session) -> Result<(), PrintFault>
-        ensures { (named out : List ℕ) (history : List Step) (carried : List Carried) (s : Noticed) → IsSessionOf session.old named out history carried s
+        ensures turns { (named out : List ℕ) (history : List Step) (carried : List Carried) (s : Noticed) → IsSessionOf session.old named out history carried s
             → OnOk result ((turns : ListsTurns W.Write.contents (λ before. Unit {0}) self.old self.new session.new named out history carried s)
             × ((n : ℕ) → (opened n (whole_of named carried) ≡ None) ⊎ (is_among n turns.left ≡ true))) }
+        ensures part { (named out : List ℕ) (history : List Step) (carried : List Carried) (s : Noticed) → IsSessionOf session.old named out history carried s
+            → OnErr result (ListsTurnsPart W.Write.contents (λ before. Unit {0}) self.old self.new named out history carried s) }
+        ensures notes { session.new.notes ≡ session.old.notes }
     {
         for _ in 0..u64::MAX {
             if !self.list_oldest(alloc, session)? {
@@ -82,13 +89,25 @@ impl<W: Write + Drop> Lister<W> {
         Err(PrintFault::TooMany)
     }
 
+    /// Ends a list, where its recording was read whole, or not.
+    pub(crate) fn end(&mut self, is_whole: bool)
+        ensures { self.new ≡ record self.old { status = if is_whole then self.old.status else 2 } }
+    {
+        if !is_whole {
+            self.status = 2;
+        }
+    }
+
     /// Lists the oldest transfer, if there is one; whether there was. It stays a call, since the room of a transfer that is
     /// handed out would be cleared for each datagram after which none is over.
     #[inline(never)]
     fn list_oldest(&mut self, alloc: Global, session: &mut Session) -> Result<bool, PrintFault>
         ensures told { (named out : List ℕ) (history : List Step) (carried : List Carried) (s : Noticed) → IsSessionOf session.old named out history carried s
             → result ≡ Ok true → (row : ListRowKind) × ListsNext W.Write.contents self.old self.new row session.new named out history carried s }
+        ensures part { (named out : List ℕ) (history : List Step) (carried : List Carried) (s : Noticed) → IsSessionOf session.old named out history carried s
+            → OnErr result (ListsPart W.Write.contents self.old self.new named out carried s) }
         ensures nothing { result ≡ Ok false → self.new ≡ self.old }
+        ensures notes { session.new.notes ≡ session.old.notes }
         ensures same_session { (named out : List ℕ) (history : List Step) (carried : List Carried) (s : Noticed) → IsSessionOf session.old named out history carried s
             → result ≡ Ok false → IsSessionOf session.new named out history carried s }
         ensures all { (named out : List ℕ) (history : List Step) (carried : List Carried) (s : Noticed) → IsSessionOf session.old named out history carried s

@@ -1,6 +1,6 @@
 //! A recording is read, and its transfers told.
 
-ghost use Rattle.std.specs.Prelude.{◌≡◌, [], ℕ, List, IfOk, OnErr, OnOk, Option, false};
+ghost use Rattle.std.specs.Prelude.{◌≡◌, [], ℕ, List, IfOk, None, OnErr, OnOk, Option, false};
 ghost use Rattle.std.specs.Io.KnownBytes.{IsAtEnd};
 ghost use Rattle.net_streams.specs.{Standing};
 ghost use Rattle.net_udp.specs.Recording.{Step, standing_of};
@@ -11,7 +11,7 @@ ghost use Rattle.audit_recording.specs.Session.Opened.{HasEnded, HasRead, left_o
 ghost use Rattle.audit_recording.specs.declared.session.opened.Opened.{Opened as OpenedKind};
 ghost use Rattle.audit_recording.specs.declared.session.session.Session.{Session as SessionKind};
 ghost use Rattle.tftp_rows.specs.Telling.{JudgesAs, PrintsAllWith};
-ghost use Rattle.tftp_rows.specs.Whole.{HasToldAll, IsReadInPart, IsReadOn, IsReadThrough, IsRecordingTold, IsRecordingToldInPart, Telling, numbers_of};
+ghost use Rattle.tftp_rows.specs.Whole.{HasToldAll, IsReadInPart, IsReadOn, IsReadThrough, IsRecordingTold, IsRecordingToldInPart, Telling, numbers_of, so_far};
 ghost use Rattle.tftp_rows.specs.declared.teller.Teller.{Teller as TellerKind};
 
 use crate::printing::PrintFault;
@@ -19,6 +19,7 @@ use crate::teller::Teller;
 use audit_recording::judges::Judging;
 use audit_recording::session::{Kept, Notes, Opened, ReadFault, Session, Wanted};
 use std::alloc::{AllocError, Global};
+use std::io;
 use std::io::{Read, Write};
 use thiserror::Error;
 
@@ -34,6 +35,9 @@ pub enum TellFault {
     /// A row is not printed.
     #[error(transparent)]
     Print(#[from] PrintFault),
+    /// What else there is to tell is not written.
+    #[error(transparent)]
+    Remark(#[from] io::Error),
 }
 
 /// Reads a new recording, whose service ports are these, and tells the verdicts on its transfers; answers what is to be told of it as a whole.
@@ -134,5 +138,5 @@ pub fn recordings_are_told_as_they_are_read<R: Read + Drop, W: Write + Drop>()
         → PrintsAllWith W.Write.contents dropped old.printer new.printer old.held.items → new.held.items ≡ []
         → new ≡ record old { printer = new.printer; held = new.held; may_lose = false; dropped = dropped }
         → (history : List Step) × (carried : List Carried) × (s : Noticed) × (tellings : List Telling) × HasRead R.Read.remaining file opened history × IsSessionAfter session named (numbers_of tellings) history carried s
-        × HasToldAll W.Write.contents begun new dropped session.audit.judge.judging named carried tellings }
+        × HasToldAll W.Write.contents begun new dropped session.audit.judge.judging named None (so_far history carried s) tellings }
 {}

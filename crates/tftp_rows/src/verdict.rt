@@ -1,6 +1,6 @@
 //! The verdict on a transfer at a point, in words.
 
-ghost use Rattle.std.specs.Prelude.{◌≡◌, ◌++◌, ◌∷◌, [], ℕ, List, codes, IfOk, Ok, Err, string_bytes};
+ghost use Rattle.std.specs.Prelude.{◌≡◌, ◌++◌, ◌∷◌, [], ℕ, List, bytes_eq, codes, IfOk, Ok, Err, string_bytes};
 ghost use Rattle.std.specs.Str.{IsAscii};
 ghost use Rattle.tftp_commands.specs.{checked};
 ghost use Rattle.audit_rows.specs.Judging.{view_at};
@@ -31,13 +31,18 @@ pub fn has_same_words(alloc: Global, judged: &Judged) -> Result<bool, AllocError
     ensures { IfOk result (λ same. same ≡ has_same_words (found_in (view_at ClientPoint judged.now)) (found_in (view_at ServerPoint judged.now))) }
 {
     match (judged.view(Point::Client), judged.view(Point::Server)) {
-        (Some(client), Some(server)) => {
-            let client = verdict_line(alloc, &client.found)?;
-            let server = verdict_line(alloc, &server.found)?;
-            Ok(client.as_slice() == server.as_slice())
-        }
+        (Some(client), Some(server)) => are_same_words(alloc, &client.found, &server.found),
         _ => Ok(false),
     }
+}
+
+/// Whether two verdicts have the same words.
+fn are_same_words(alloc: Global, client: &Found, server: &Found) -> Result<bool, AllocError>
+    ensures { IfOk result (λ same. same ≡ bytes_eq (verdict_line client.now) (verdict_line server.now)) }
+{
+    let client = verdict_line(alloc, client)?;
+    let server = verdict_line(alloc, server)?;
+    Ok(client.as_slice() == server.as_slice())
 }
 
 /// The line of a verdict.

@@ -3,7 +3,7 @@
 
 mod checking;
 mod listing;
-mod reading;
+mod machine;
 mod reasoned;
 mod texts;
 

@@ -9,4 +9,5 @@ returns-in_err-lines g c = prints_err g.W.Write.contents list_lines _ _ c.from_r
 pub returns-in_err-put : goal.returns-in_err-put
 returns-in_err-put g c =
     prints_err g.W.Write.contents list_lines _ _ c.from_residual-in_err-put.result _ c.from_residual-in_err-put.ensures.0
-    (prints_short g.W.Write.contents list_lines c.args.self.now c.put.new.self c.args.row.now c.as_slice.result.now (c.as_slice.ensures.value ∙ c.in_ok-lines.ensures) (ap (λ s. s.form) c.in_err-put.ensures.rest) c.in_err-put.ensures.lines)
+    (prints_short g.W.Write.contents list_lines c.args.self.now c.put.new.self c.args.row.now c.as_slice.result.now (c.as_slice.ensures.value ∙ c.in_ok-lines.ensures) (ap (λ s. s.form) c.in_err-put.ensures.rest)
+    (ap (λ s. s.is_headed) c.in_err-put.ensures.rest) c.in_err-put.ensures.lines)

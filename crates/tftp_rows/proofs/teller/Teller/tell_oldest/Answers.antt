@@ -1,5 +1,5 @@
 use Rattle.std.proofs.Common.{◌∙◌}
-use Rattle.tftp_rows.proofs.TellingLemmas.{missing_there, numbered, numbered_part, on_err, told_with}
+use Rattle.tftp_rows.proofs.TellingLemmas.{missing_there, numbered, numbered_part, on_err, told_with, until_there, within_there}
 use Rattle.tftp_rows.proofs.teller.Teller.tell_oldest.Goals as goal
 
 pub returns-in_default-clause-all : goal.returns-in_default-clause-all
@@ -23,6 +23,8 @@ returns-clause-told g c named out history carried s is e =
       judged = c.new-judged.result;
       of = c.new-judged.ensures.judged _ _ named carried (c.in-Some.ensures.trail named out history carried s is) watched.1;
       missing = missing_there c.new-judged.result c.in-Some.ended.trail c.missing_of-missing.result s c.new-judged.ensures.trail c.new-judged.ensures.missing (c.missing_of-missing.ensures.first s stands.notes);
+      within = within_there c.new-judged.result c.in-Some.ended.trail c.missing_of-missing.result s c.new-judged.ensures.trail c.new-judged.ensures.missing (c.missing_of-missing.ensures.within s stands.notes);
+      until = until_there c.new-judged.result c.pop.new.self c.read_until-now.result s stands.notes c.new-judged.ensures.until c.read_until-now.ensures;
       rows = numbered g.W.Write.contents c.args.self.now c.tell_judged.new.self c.saturating_add-self.result _ _ rows;
       number = told_with g.W.Write.contents c.args.self.now c.tell_judged.new.self c.saturating_add-self.result _ _ rows ∙ c.saturating_add-self.ensures;
       status = c.in_ok-tell_judged.ensures.status;
