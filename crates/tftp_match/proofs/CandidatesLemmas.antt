@@ -1,9 +1,9 @@
 -- Which transfers of two recordings have the same request.
-use Rattle.std.proofs.Common.{◌≡◌, ◌↔◌, ◌++◌, ◌∷◌, ◌+◌, ◌<◌, ◌≤◌, [], ℕ, Bool, true, false, List, IsTrue, Option, Some, None, ap, append-nil, append_assoc, arith, get_or, inl, inr, length, map, flat_map, refl, sym, take, ◌∙◌}
+use Rattle.std.proofs.Common.{◌≡◌, ◌↔◌, ◌++◌, ◌∷◌, ◌+◌, ◌<◌, ◌≤◌, [], ℕ, Bool, true, false, List, IsTrue, Some, None, ap, append-nil, append_assoc, arith, get_or, inl, inr, length, map, flat_map, refl, sym, take, ◌∙◌}
 use Rattle.std.proofs.lemmas.Bool.{false≢true}
 use Rattle.std.proofs.Math.Nat.{eq-or-lt_of_le}
 use Rattle.std.proofs.lemmas.List.{flat_map_more, get_or_default, take_more}
-use Rattle.tftp_packet.specs.{Message, Request, RequestParts, Spells, WrittenRequest, parts}
+use Rattle.tftp_packet.specs.{Request, RequestParts, Spells, WrittenRequest, parts}
 use Rattle.tftp_packet.proofs.Unique.{one_message}
 use Rattle.audit_recording.specs.declared.session.requests.Asked.{Asked}
 use Rattle.tftp_match.specs.Candidates.{AreThose, HasSome, HaveOneRequest, IsRequestIn, kept, left_out, nothing}

@@ -1,5 +1,5 @@
 -- Which packets passed of those that were asked for so far.
-use Rattle.std.proofs.Common.{◌≡◌, ◌++◌, ◌∷◌, ◌+◌, [], ℕ, List, Ok, ap, ◌∙◌, add-one, append_assoc, arith, filter, flat_map, map, refl, suc, sym, zero}
+use Rattle.std.proofs.Common.{◌≡◌, ◌++◌, ◌∷◌, ◌+◌, [], ℕ, List, Ok, ap, ◌∙◌, add-one, append_assoc, arith, filter, flat_map, map, suc, sym, zero}
 use Rattle.std.specs.List.{range_with_len}
 use Rattle.std.proofs.lemmas.List.{flat_map_more, map-append}
 use Rattle.std.proofs.lemmas.List.Elements.{filter-append}

@@ -1,4 +1,3 @@
-use Rattle.std.proofs.Common.{rules}
 use Rattle.tftp_match.proofs.CandidatesLemmas.{asks_same, asks_none}
 use Rattle.tftp_match.proofs.candidates.asks.Goals as goal
 

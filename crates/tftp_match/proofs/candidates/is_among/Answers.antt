@@ -1,4 +1,4 @@
-use Rattle.std.proofs.Common.{rules, ◌<◌, ◌≤◌, get_or, refl}
+use Rattle.std.proofs.Common.{rules}
 use Rattle.tftp_match.proofs.CandidatesLemmas.{among_found, among_more, among_none, among_nothing}
 use Rattle.tftp_match.proofs.candidates.is_among.Goals as goal
 
