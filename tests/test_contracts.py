@@ -19,7 +19,7 @@ from tftp_tools.crates import libraries_of
 
 PAGES = pathlib.Path("docs", "contracts")
 # The crates of the copy that is changed: none of them stands on another crate.
-FEW = ("tftp_packet", "tftp_netascii", "tests_trials")
+FEW = ("tftp_packet", "tftp_netascii", "net_streams")
 HEADING = re.compile(r"(?m)^#{3,5} `([\w:]+)`(?: as `[^`]+`)?$")
 # A clause as a page has it, and as a source does: its kind, its name and its text.
 ON_PAGE = re.compile(r"(?m)^- (requires)?(?: ?`(\w+)`)?(?:: )?(?:[^`\n].*?)?(?:`` (.*) ``|`([^`]*)`)$")
@@ -336,13 +336,13 @@ class Contracts(Checks):
         copy.ran()
         before = copy.pages()
         folder = copy.top / PAGES
-        (folder / "tests_trials.md").unlink()
+        (folder / "net_streams.md").unlink()
         (folder / "tftp_none.md").write_text("none\n")
         (folder / "tftp_netascii.md").write_text(before["tftp_netascii.md"].replace("`decode`", "`decoded`"))
         changed = copy.pages()
         output, errors, status = copy.ran("--check")
         names = re.findall(r"(?m)^docs/contracts/(\w+)\.md: (it would be a page|it would be no page|line)", output)
-        wanted = [("tests_trials", "it would be a page"), ("tftp_netascii", "line"), ("tftp_none", "it would be no page")]
+        wanted = [("net_streams", "it would be a page"), ("tftp_netascii", "line"), ("tftp_none", "it would be no page")]
         self.check("pages that are not the sources'", names == wanted and (errors, status) == ("", 1), (output, errors))
         self.check("--check writes nothing", copy.pages() == changed)
         got = copy.ran()

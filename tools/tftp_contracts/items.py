@@ -371,6 +371,14 @@ class Reader:
             if depth == 0:
                 return
 
+    def with_default(self, said: Said) -> Said:
+        """What a trait says of a type, with what it is of a type that says nothing of it, if that stands behind it."""
+        if not self.took("="):
+            return said
+        default = self.statement(said.kind, said.name, said.remark)
+        cited = tuple(dict.fromkeys(said.cited + default.cited))
+        return dataclasses.replace(said, text=f"{said.text} = {default.text}", cited=cited)
+
     def member(self, words: list[Use], ghosts: list[Said], functions: list[Function]) -> None:
         """Reads what stands next in an impl or a trait."""
         doc, _, is_public = self.above()
@@ -386,7 +394,7 @@ class Reader:
             name = self.name_next()
             if not self.took("="):
                 self.expect(":")
-            ghosts.append(self.statement("ghost", name, doc))
+            ghosts.append(self.with_default(self.statement("ghost", name, doc)))
             self.expect(";")
         elif word in ("type", "const"):
             self.until(";")
