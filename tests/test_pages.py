@@ -17,9 +17,9 @@ from tftp_tools.textfaults import MEANINGS
 
 SCRIPTS = ("tftp-explain", "tftp-extract", "tftp-ladder", "tftp-report", "tftp-trial")
 EXAMPLES = TOP / "examples"
-# The programs of which docs/LIBRARIES.md shows code, and a section of that page: its program, and what stands below.
-CALLERS = ("example_judge", "example_recording", "example_normalise")
-OF_CALLER = re.compile(r"(?ms)^## [^\n]*`(example_\w+)`\n(.*?)(?=^## |\Z)")
+# The programs whose code docs/LIBRARIES.md shows; and a section of that page: its program or call, and what is below.
+CALLERS = ("example_judge", "example_recording")
+OF_CALL = re.compile(r"(?ms)^## [^\n]*`(\w+)`\n(.*?)(?=^## |\Z)")
 FENCED = re.compile(r"(?ms)^```(\w*)\n(.*?)^```$")
 # "(`clause`, `other`)"
 IN_BRACKETS = re.compile(r"\((?:`\w+`(?:, )?)+\)")
@@ -168,13 +168,11 @@ class Pages(Checks):
             is_all = set(QUOTED.findall(names)) == below(TOP, crate)
             self.check(f"what {crate} needs in LIBRARIES.md", is_all, sorted(below(TOP, crate)))
         self.check("LIBRARIES.md says what crates need", len(needed) > 1)
-        parts = OF_CALLER.findall(page)
-        self.check("the programs of LIBRARIES.md", tuple(name for name, _ in parts) == CALLERS)
+        parts = OF_CALL.findall(page)
+        self.check("the calls of LIBRARIES.md", tuple(name for name, _ in parts) == (*CALLERS, "normalise"))
         for name, part in parts:
-            source, printed = ((TOP / "crates" / name / file).read_text() for file in ("src/main.rt", "stdout"))
-            (rust, code), shown = FENCED.findall(part)
-            self.check(f"{name} in LIBRARIES.md", rust == "rust" and f"\n{code}" in source)
-            self.check(f"what {name} prints in LIBRARIES.md", shown == ("", printed))
+            if name in CALLERS:
+                self.check_program(name, FENCED.findall(part))
             words = re.findall(r"\w+", " ".join(QUOTED.findall(FENCED.sub("", part))))
             clauses = set().union(*(self.sources.functions.get(word, set()) for word in words))
             for clause in QUOTED.findall(" ".join(IN_BRACKETS.findall(FENCED.sub("", part)))):
@@ -183,6 +181,12 @@ class Pages(Checks):
         source = (TOP / "crates" / CALLERS[0] / "src" / "main.rt").read_text()
         plain = re.sub(r"(?m)\n(?:    (?:requires|ensures) .*\n)+\{$", " {", source)
         self.check("the code of README", code[code.index("\n/// ") :] in plain)
+
+    def check_program(self, name: str, shown: list[tuple[str, str]]) -> None:
+        source, printed = ((TOP / "crates" / name / file).read_text() for file in ("src/main.rt", "stdout"))
+        (rust, code), prints = shown
+        self.check(f"{name} in LIBRARIES.md", rust == "rust" and f"\n{code}" in source)
+        self.check(f"what {name} prints in LIBRARIES.md", prints == ("", printed))
 
     def test_contracts(self) -> None:
         """docs/CONTRACTS.md names nothing that no crate has, and has sections of libraries that have a page of their
