@@ -9,7 +9,7 @@ from typing import NamedTuple, Optional
 
 from captures import EndName, ack, data, error, oack, read_request, write_request
 from fuzzing.slow_judge import Judge
-from fuzzing.spelled import Error, Fault, Request, read
+from fuzzing.spelled import Data, Error, Fault, Oack, Request, read
 from fuzzing.views import Datagram, Peer
 from normal import Side
 
@@ -24,6 +24,8 @@ OTHERS: dict[EndName, tuple[Peer, Peer]] = {
 STANDING_AT_END = frozenset((5, 6, 7, 8, 9, 11, 12, 13, 14, 15, 16, 17, 19, 25))
 # and of those of what the end sent itself, whether it is known or not (`StandsOfItsOwn`)
 STANDING_OF_ITS_OWN = STANDING_AT_END - {7}
+# the rules of blocks whose breach is certain where what was agreed to for an option is known (`StandsByOptions`)
+STANDING_BY_OPTION = {20: "blksize", 21: "blksize", 24: "windowsize"}
 
 
 def alphabet(end: EndName, side: Side) -> list[Datagram]:
@@ -39,6 +41,48 @@ def alphabet(end: EndName, side: Side) -> list[Datagram]:
     begins = data(1, b"a") if side == "get" else ack(0)
     strays = [Datagram(False, local, stranger, begins[0]), Datagram(True, local, stranger, error(5, "x")[0])]
     return [*requests, *passed, *strays]
+
+
+def between_ends(
+    end: EndName, side: Side, options: list[dict[str, int]], words: list[tuple[bytes, str]]
+) -> list[Datagram]:
+    """Requests with these options, and what the two ends may say of it, each from the end that says it; and ERRORs."""
+    asks = read_request if side == "get" else write_request
+    is_client, local, peer = end == "client", CLIENT if end == "client" else OWN, OTHERS[end][0]
+    at_service = (CLIENT, ASKED) if is_client else (SERVICE, peer)
+    requests = [Datagram(is_client, *at_service, asks("a", "octet", **it)[0]) for it in options]
+    sends = {Data: side == "put", Oack: False}
+    of_client = [sends.get(type(read(payload)), side == "get") for payload, _ in words]
+    said = [Datagram(it == is_client, local, peer, payload) for it, (payload, _) in zip(of_client, words)]
+    return [*requests, *said, *(Datagram(it, local, peer, error(3, "x")[0]) for it in (True, False))]
+
+
+def windows(end: EndName, side: Side) -> list[Datagram]:
+    """A transfer of three blocks, of which a window of two is asked for or not."""
+    blocks = [data(1, b"a" * 512), data(2, b"a" * 512), data(3, b"a")]
+    said = [oack(windowsize=1), oack(windowsize=2), *blocks, ack(0), ack(1), ack(2)]
+    return between_ends(end, side, [{}, {"windowsize": 2}], said)
+
+
+def sizes(end: EndName, side: Side) -> list[Datagram]:
+    """A transfer of which a block size is asked for or not, with blocks that fit one of the sizes and not the others;
+    and of a file that is too long for its blocks."""
+    blocks = [data(1, b"a" * 8), data(1, b"a" * 9), data(1, b"a" * 513), data(2, b""), data(65_535, b"a" * 512)]
+    said = [oack(blksize=8), oack(blksize=9), oack(tsize=40_000_000), *blocks, ack(0), ack(1)]
+    return between_ends(end, side, [{}, {"blksize": 9}, {"tsize": 40_000_000}], said)
+
+
+def stands_by_option(judge: Judge, it: Datagram, rule: int) -> bool:
+    """Whether it breaks a rule that is certain by the options of the request and of its answer (`StandsByOptions`)."""
+    said, asked = read(it.payload), judge.request
+    if rule == 20 and isinstance(said, Oack):
+        return True
+    if rule == 27 and asked is not None:
+        return asked.side == "get" and not asked.options
+    name = STANDING_BY_OPTION.get(rule)
+    if name is None or asked is None or not isinstance(said, Data):
+        return False
+    return name.encode() not in dict(asked.options) or isinstance(judge.answer, Oack)
 
 
 def goes_on(it: Datagram) -> bool:
@@ -75,11 +119,12 @@ class Refused(NamedTuple):
     rule: int
     knows_other: bool
     is_certain: bool
+    by_option: bool
 
     def stands(self) -> bool:
-        """Whether it is said to be certain by the rule's name."""
-        is_own = self.datagrams[-1].goes_out and self.rule in STANDING_OF_ITS_OWN
-        return is_own or self.knows_other and self.rule in STANDING_AT_END
+        """Whether it is said to be certain: by the rule's name, or by an option that is known."""
+        is_own = self.datagrams[-1].goes_out and (self.rule in STANDING_OF_ITS_OWN or self.by_option)
+        return is_own or self.knows_other and (self.rule in STANDING_AT_END or self.by_option)
 
 
 # the state of the judge, those that it may have with what was missed, and whether the other end is known
@@ -89,8 +134,8 @@ Joined = tuple[str, frozenset[str], bool]
 class Lists:
     """The lists at one end, by the states of the judge: between two that were recorded any may have passed."""
 
-    def __init__(self, end: EndName, side: Side) -> None:
-        self.end, self.letters = end, alphabet(end, side)
+    def __init__(self, end: EndName, letters: list[Datagram]) -> None:
+        self.end, self.letters = end, letters
         self.states: dict[str, Judge] = {}
         self.nexts: dict[str, list[Optional[str]]] = {}
         self.closures: dict[frozenset[str], frozenset[str]] = {}
@@ -132,8 +177,9 @@ class Lists:
                 still = frozenset(later for before in unseen if (later := self.after(before)[letter]) is not None)
                 known, whole, then = knows_other or goes_on(it), (*datagrams, it), self.after(state)[letter]
                 if then is None:
-                    rule = str(self.states[state].broken(it)).split()[0]
-                    yield Refused(whole, int(rule), known, not still)
+                    judge = self.states[state]
+                    rule = int(str(judge.broken(it)).split()[0])
+                    yield Refused(whole, rule, known, not still, stands_by_option(judge, it, rule))
                 elif (then, still, known) not in seen and len(whole) < longest:
                     seen.add((then, still, known))
                     left.append(((then, still, known), whole))

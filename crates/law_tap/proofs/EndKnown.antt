@@ -34,7 +34,7 @@ any_there (d ∷ seen) any = elim (any_cases GoesOnWith d seen any) [
 
 -- ---- what goes to the other end alone
 
-no_answer : (n : Message) → IsForOtherEnd n → (text : List ℕ) → n ≡ Message.Error 5 text → ⊥
+pub no_answer : (n : Message) → IsForOtherEnd n → (text : List ℕ) → n ≡ Message.Error 5 text → ⊥
 no_answer (Message.Error code t) alone text is = alone (cc)
 no_answer (Message.Request asked) alone text is = absurd alone
 no_answer (Message.Oack options) alone text is = absurd (cc)
@@ -49,7 +49,7 @@ goes_begins g goes begins = let (asked, is) = begins_asked g.payload goes.messag
 
 module _ (h : Header) (m : Meaning) (wire : List ℕ) (ids : TransferIds) where
   -- where a client has gone on, there is its server
-  gone_peer : h.named ≡ Client → (division : Division) (g : Datagram) → WasIn h m wire ids division g → GoesOnWith g → peer_of g ≡ ids.peer
+  pub gone_peer : h.named ≡ Client → (division : Division) (g : Datagram) → WasIn h m wire ids division g → GoesOnWith g → peer_of g ≡ ids.peer
   gone_peer named division g w goes =
       let (deed, is) = out_main h m wire ids w.before g w.label w.has goes.out goes.message goes.says (no_answer goes.message goes.alone) in
       let c = subst (HasLabel h m wire ids w.before g) is w.has in
@@ -58,7 +58,7 @@ module _ (h : Header) (m : Meaning) (wire : List ℕ) (ids : TransferIds) where
       (server_id h m wire ids w.before g (packet_of deed) c.server (λ req. no_request goes.message goes.alone _ (sym says ∙ ap (message_of m wire) req)))
 
   -- who asked a server is its client
-  asking_peer : h.named ≡ Server → (division : Division) (r : Datagram) → WasIn h m wire ids division r → asks h r ≡ true → peer_of r ≡ ids.peer
+  pub asking_peer : h.named ≡ Server → (division : Division) (r : Datagram) → WasIn h m wire ids division r → asks h r ≡ true → peer_of r ≡ ids.peer
   asking_peer named division r w asked =
       let (deed, is) = asked_main h m wire ids w.before r w.label w.has asked in
       let c = subst (HasLabel h m wire ids w.before r) is w.has in

@@ -35,7 +35,7 @@ use Rattle.law_tap.proofs.EndKnown.{first_there, transfer_main}
 
 -- ---- what a deed of a run says breaks no rule that stands, after what passed with it
 
-before : (h : Header) (m : Meaning) (wire : List ℕ) (rest : Division) (x : Deed) → IsOneSided m wire h.named (x ∷ view_in rest) → IsOneSided m wire h.named (view_in rest)
+pub before : (h : Header) (m : Meaning) (wire : List ℕ) (rest : Division) (x : Deed) → IsOneSided m wire h.named (x ∷ view_in rest) → IsOneSided m wire h.named (view_in rest)
 before h m wire rest (Sent p) is = is.1
 before h m wire rest (Took p) is = is.1
 
@@ -63,22 +63,22 @@ module _ (h : Header) (m : Meaning) (wire : List ℕ) (fits : Fits h.rollover m 
     went_on (inl (k, bytes, p)) = inl (k, bytes, more Out (Message.Data k bytes) p)
     went_on (inr (j, p)) = inr (j, more Out (Message.Ack j) p)
 
-    has_more : (n : Message) → HasPassed n passed → HasPassed n through
+    pub has_more : (n : Message) → HasPassed n passed → HasPassed n through
     has_more n (inl p) = inl (more In n p)
     has_more n (inr p) = inr (more Out n p)
 
-    is_oack : (p : MachinePacket) (o : OptionMap) → message_of m wire p ≡ Message.Oack o → o ≡ m.agreed
+    pub is_oack : (p : MachinePacket) (o : OptionMap) → message_of m wire p ≡ Message.Oack o → o ≡ m.agreed
     is_oack Req o e = absurd (cc)
     is_oack Oack o e = cc
     is_oack (Data k) o e = absurd (cc)
     is_oack (Ack j) o e = absurd (cc)
     is_oack (Error code text) o e = absurd (cc)
 
-    agreed_once : (options : OptionMap) → HasPassed (Message.Oack options) through → options ≡ m.agreed
+    pub agreed_once : (options : OptionMap) → HasPassed (Message.Oack options) through → options ≡ m.agreed
     agreed_once options (inl p) = let (x, at, way, says) = passed_told h m wire rest routes In (Message.Oack options) p in is_oack (packet_of x) options says
     agreed_once options (inr p) = let (x, at, way, says) = passed_told h m wire rest routes Out (Message.Oack options) p in is_oack (packet_of x) options says
 
-    something : (x : Deed) → IsOneSided m wire h.named (x ∷ view_in rest) → packet_of x ≡ Oack → SomethingAgreed m
+    pub something : (x : Deed) → IsOneSided m wire h.named (x ∷ view_in rest) → packet_of x ≡ Oack → SomethingAgreed m
     something (Sent Oack) is e = is.0.agreed
     something (Took Oack) is e = is.0.agreed
     something (Sent Req) is e = absurd (cc)
@@ -90,7 +90,7 @@ module _ (h : Header) (m : Meaning) (wire : List ℕ) (fits : Fits h.rollover m 
     something (Took (Ack j)) is e = absurd (cc)
     something (Took (Error code text)) is e = absurd (cc)
 
-    only_oack : (p : MachinePacket) (o : OptionMap) → message_of m wire p ≡ Message.Oack o → p ≡ Oack
+    pub only_oack : (p : MachinePacket) (o : OptionMap) → message_of m wire p ≡ Message.Oack o → p ≡ Oack
     only_oack Req o e = absurd (cc)
     only_oack Oack o e = refl
     only_oack (Data k) o e = absurd (cc)
@@ -159,9 +159,11 @@ from_5 (rule.Block EndRule.BlockZero) stands = omega arith
 from_5 (rule.Block EndRule.BlockChanged) stands = omega arith
 from_5 _ stands = absurd stands
 
--- it is no packet, or says a message that breaks the rule
-broken_by : (h : Header) (earlier : List Datagram) (d : Datagram) (broken : Rule) → StandsAtEnd broken → Broken h earlier d broken
-    → ((is_of_transfer (route_of h earlier d) ≡ true) × (fault : _) × (broken ≡ rule.Malformed fault) × FirstFault d.payload fault) ⊎ MessageBroken h earlier d broken
+-- the datagram is no packet, or says a message that breaks the rule
+abbrev pub IsSaidSo : Header → List Datagram → Datagram → Rule → Type 0
+IsSaidSo h earlier d broken = ((is_of_transfer (route_of h earlier d) ≡ true) × (fault : PacketFault) × (broken ≡ rule.Malformed fault) × FirstFault d.payload fault) ⊎ MessageBroken h earlier d broken
+
+broken_by : (h : Header) (earlier : List Datagram) (d : Datagram) (broken : Rule) → StandsAtEnd broken → Broken h earlier d broken → IsSaidSo h earlier d broken
 broken_by h earlier d (rule.Malformed fault) stands b = inl (b.0, fault, refl, b.1)
 broken_by h earlier d rule.WrongKind stands b = inr b
 broken_by h earlier d rule.AfterError stands b = inr b
@@ -185,7 +187,7 @@ any_at (d ∷ seen) x at on = elim (contains_cases d seen x at) [
   | inr past ↦ any_later GoesOnWith d seen (any_at seen x past on)
 ]
 
-no_unknown_id : (x : Datagram) → (n : Message) → Spells x.payload n → IsForOtherEnd n → SaysUnknownId x → ⊥
+pub no_unknown_id : (x : Datagram) → (n : Message) → Spells x.payload n → IsForOtherEnd n → SaysUnknownId x → ⊥
 no_unknown_id x n s alone (text, t) = subst IsForOtherEnd (spelled_once x.payload n (Message.Error 5 text) s t) alone refl
 
 -- what was asked for first is what was asked for
@@ -195,12 +197,18 @@ same_asked h earlier d m wire ids st asked (r, some, s) =
     let (deed, label) = asked_main h m wire ids w.before r w.label w.has (first_passes (asks h) earlier r some) in
     sym (is_asked h m wire ids (packet_of deed) asked (main_spells h m wire ids w.before r w.label deed label w.has (Message.Request asked) s))
 
-module _ (h : Header) (earlier : List Datagram) (d : Datagram) (broken : Rule) (refused : IsRefused h earlier d broken) (stands : StandsAtEnd broken) where
+-- What a deed of a fuller list says breaks the rule after less of what passed: that can't be.
+abbrev pub IsKept : Header → List Datagram → Datagram → Rule → Type 0
+IsKept h earlier d broken = (m : Meaning) (wire : List ℕ) → Fits h.rollover m wire → (rest : Division) → AreRouted h m wire rest → (deed : Deed) → IsOneSided m wire h.named (deed ∷ view_in rest)
+    → ((dir : Dir) (n : Message) → Passed dir n (transfer_of h earlier) → Passed dir n (transfer_of h (datagrams_of rest))) → FirstAsked h earlier (request_of m)
+    → (n : Message) → Spells d.payload n → message_of m wire (packet_of deed) ≡ n → MessageBreaks h (request_of m) (transfer_of h earlier) (dir_of deed) n broken → ⊥
+
+module _ (h : Header) (earlier : List Datagram) (d : Datagram) (broken : Rule) (refused : IsRefused h earlier d broken) (from : 4 < number_of broken) (said_so : IsSaidSo h earlier d broken) (keep : IsKept h earlier d broken) where
   goes : is_of_transfer (route_of h earlier d) ≡ true
-  goes = elim (broken_by h earlier d broken stands refused.broken.0) [ inl x ↦ x.0 | inr b ↦ b.says.routed ]
+  goes = elim said_so [ inl x ↦ x.0 | inr b ↦ b.says.routed ]
 
   begun : AskedFirst h (d ∷ earlier)
-  begun = (λ none is. refused.broken.1 rule.NoRequest (from_5 broken stands) (none, is), asked_first h earlier refused.lawful)
+  begun = (λ none is. refused.broken.1 rule.NoRequest from (none, is), asked_first h earlier refused.lawful)
 
   sent : (x : Datagram) → Contains (d ∷ earlier) x → GoesOnWith x → Contains (transfer_of h (d ∷ earlier)) x
   sent x at on = elim (contains_cases d earlier x at) [
@@ -228,9 +236,9 @@ module _ (h : Header) (earlier : List Datagram) (d : Datagram) (broken : Rule) (
     }
 
     by_deed : (deed : Deed) → st.label ≡ Main deed → ⊥
-    by_deed deed is = elim (broken_by h earlier d broken stands refused.broken.0) [
+    by_deed deed is = elim said_so [
       | inl (t, fault, e, bad) ↦ no_fault d.payload (message_of m wire (packet_of deed)) fault carried.spells.1 bad.0
-      | inr b ↦ message_stands h m wire fits st.rest routes deed own (transfer_of h earlier) more b.message (said b) broken stands (subst2 b)
+      | inr b ↦ keep m wire fits st.rest routes deed own more (first b) b.message b.says.spells (said b) (subst2 b)
     ]
       where
         carried : HasLabel h m wire ids st.rest d (Main deed)
@@ -262,11 +270,14 @@ module _ (h : Header) (earlier : List Datagram) (d : Datagram) (broken : Rule) (
             subst (λ way. Passed way n (transfer_of h (datagrams_of st.rest))) (sym c.dir ∙ way)
             (subst (λ y. Passed (dir_of deed') y (transfer_of h (datagrams_of st.rest))) says (told_passed h m wire st.rest routes deed' (w.done deed' label)))
 
+        first : (b : MessageBroken h earlier d broken) → FirstAsked h earlier (request_of m)
+        first b = subst (FirstAsked h earlier) (same_asked h earlier d m wire ids st b.asked b.first) b.first
+
         subst2 : (b : MessageBroken h earlier d broken) → MessageBreaks h (request_of m) (transfer_of h earlier) (dir_of deed) b.message broken
         subst2 b = subst (λ way. MessageBreaks h (request_of m) (transfer_of h earlier) way b.message broken) carried.dir
             (subst (λ a. MessageBreaks h a (transfer_of h earlier) d.dir b.message broken) (same_asked h earlier d m wire ids st b.asked b.first) b.breaks)
 
-    unlawful : ⊥
+    pub unlawful : ⊥
     unlawful = let (deed, is) = main d (with_this h d earlier goes) all this in by_deed deed is
 
 -- ---- lists, the oldest first
@@ -299,29 +310,39 @@ module _ {X : Type 0} where
   is_within : (later earlier : List X) (x : X) → length earlier < length (reverse (later ++ x ∷ earlier))
   is_within later earlier x = let one = length-reverse (later ++ x ∷ earlier) in let all = length-append later (x ∷ earlier) in let more : length (x ∷ earlier) ≡ length earlier + 1 = omega arith in omega (arith, one, all, more)
 
--- ---- the law
+-- ---- the list up to a datagram
 
-module _ (h : Header) (later earlier : List Datagram) (d : Datagram) (broken : Rule) (refused : IsRefused h earlier d broken) where
-  abbrev Known : Type 0
-  Known = KnowsOtherEnd h (d ∷ earlier)
-
-  in_fuller : (lossy : IsLawfulWithLosses h (reverse (d ∷ earlier))) (m : Meaning) (wire : List ℕ) (seen : IsSeen h m wire lossy.all) → Stood h m wire seen.dressed.ids earlier d
+module _ (h : Header) (later earlier : List Datagram) (d : Datagram) where
+  pub in_fuller : (lossy : IsLawfulWithLosses h (reverse (d ∷ earlier))) (m : Meaning) (wire : List ℕ) (seen : IsSeen h m wire lossy.all) → Stood h m wire seen.dressed.ids earlier d
   in_fuller lossy m wire seen =
       let dress = seen.dressed in
       let left : Loses Datagram (reverse lossy.all) (d ∷ earlier) = subst (Loses Datagram (reverse lossy.all)) (reverse-reverse (d ∷ earlier)) (loses_reverse lossy.all (reverse (d ∷ earlier)) lossy.left) in
       let view = subst (IsView m wire h.named) (sym dress.main) seen.run in
       stood h m wire dress.ids (reverse lossy.all) (d ∷ earlier) left dress.division dress.whole dress.labels view d earlier refl
 
-  no_list : StandsAtEnd broken → Known → IsLawfulWithLosses h (reverse (d ∷ earlier)) → ⊥
-  no_list stands known lossy =
-      let (m, wire, seen) = lossy.lawful in
-      unlawful h earlier d broken refused stands known m wire seen.fits seen.dressed.ids (in_fuller lossy m wire seen)
-
-  certain : (IsLawfulWithLosses h (reverse (d ∷ earlier)) → ⊥) → IsCertain h (reverse (later ++ d ∷ earlier)) (length earlier)
+  pub certain : (IsLawfulWithLosses h (reverse (d ∷ earlier)) → ⊥) → IsCertain h (reverse (later ++ d ∷ earlier)) (length earlier)
   certain none = record { within = is_within later earlier d; unlawful = λ lossy. none (subst (IsLawfulWithLosses h) (up_to later earlier d) lossy) }
 
+-- ---- the law
+
+module _ (h : Header) (later earlier : List Datagram) (d : Datagram) (broken : Rule) (refused : IsRefused h earlier d broken) where
+  abbrev Known : Type 0
+  Known = KnowsOtherEnd h (d ∷ earlier)
+
+  none_keeps : 4 < number_of broken → IsSaidSo h earlier d broken → IsKept h earlier d broken → Known → IsLawfulWithLosses h (reverse (d ∷ earlier)) → ⊥
+  none_keeps from said_so keep known lossy =
+      let (m, wire, seen) = lossy.lawful in
+      unlawful h earlier d broken refused from said_so keep known m wire seen.fits seen.dressed.ids (in_fuller h later earlier d lossy m wire seen)
+
+  no_list : StandsAtEnd broken → Known → IsLawfulWithLosses h (reverse (d ∷ earlier)) → ⊥
+  no_list stands known lossy = none_keeps (from_5 broken stands) (broken_by h earlier d broken stands refused.broken.0)
+      (λ m wire fits rest routes deed own more first n spells says b. message_stands h m wire fits rest routes deed own (transfer_of h earlier) more n says broken stands b) known lossy
+
+  pub kept_is_certain : 4 < number_of broken → IsSaidSo h earlier d broken → IsKept h earlier d broken → Known → IsCertain h (reverse (later ++ d ∷ earlier)) (length earlier)
+  kept_is_certain from said_so keep known = certain h later earlier d (none_keeps from said_so keep known)
+
   pub known_is_certain : StandsAtEnd broken → Known → IsCertain h (reverse (later ++ d ∷ earlier)) (length earlier)
-  known_is_certain stands known = certain (no_list stands known)
+  known_is_certain stands known = certain h later earlier d (no_list stands known)
 
   -- ---- what the end sent itself
 
@@ -392,10 +413,10 @@ module _ (h : Header) (later earlier : List Datagram) (d : Datagram) (broken : R
     seen_at : (lossy : IsLawfulWithLosses h (reverse (d ∷ earlier))) → (m : Meaning) × (wire : List ℕ) × (ids : TransferIds) × Stood h m wire ids earlier d
     seen_at lossy =
         let (m, wire, seen) = lossy.lawful in
-        (m, wire, seen.dressed.ids, in_fuller lossy m wire seen)
+        (m, wire, seen.dressed.ids, in_fuller h later earlier d lossy m wire seen)
 
     pub own_is_certain : StandsOfItsOwn broken → IsCertain h (reverse (later ++ d ∷ earlier)) (length earlier)
-    own_is_certain stands = certain (λ lossy. by lossy (broken_by h earlier d broken (stands_too broken stands) refused.broken.0)) where
+    own_is_certain stands = certain h later earlier d (λ lossy. by lossy (broken_by h earlier d broken (stands_too broken stands) refused.broken.0)) where
       by : IsLawfulWithLosses h (reverse (d ∷ earlier)) → ((is_of_transfer (route_of h earlier d) ≡ true) × (fault : PacketFault) × (broken ≡ rule.Malformed fault) × FirstFault d.payload fault) ⊎ MessageBroken h earlier d broken → ⊥
       by lossy (inl (t, fault, e, bad)) = let (m, wire, ids, st) = seen_at lossy in no_packet m wire ids st st.label st.has fault bad
       by lossy (inr b) = elim (known_or b.asked b.message b.says.spells broken stands (subst (λ way. MessageBreaks h b.asked (transfer_of h earlier) way b.message broken) out b.breaks)) [

@@ -196,7 +196,7 @@ server_labels = (
   (record { dir = refl; client = refl; server = (refl, λ named. absurd (cc)); spells = request_says }, tt),
 )
 
-begun_lawful : IsLawful at_server (request_in ∷ hi_out ∷ [])
+pub begun_lawful : IsLawful at_server (request_in ∷ hi_out ∷ [])
 begun_lawful = (
   two_bytes,
   two_bytes.file,

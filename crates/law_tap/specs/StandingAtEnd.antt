@@ -1,9 +1,10 @@
 -- Which refusals at an end stand whatever the recorder missed. Lists have the newest first.
-use Rattle.std.specs.Prelude.{◌≡◌, ◌≢◌, ◌⊎◌, List, Any}
-use Rattle.tftp_packet.specs.{Message, Spells, Server, Out}
+use Rattle.std.specs.Prelude.{◌≡◌, ◌≢◌, ◌⊎◌, ℕ, List, Any, None, codes}
+use Rattle.std.specs.FinMap as map
+use Rattle.tftp_packet.specs.{OptionMap, Message, RequestParts, Spells, Get, Server, Out}
 use Rattle.tftp_packet.specs.Hosts.{Datagram, Header}
 use Rattle.law_model.specs.{EndRule}
-use Rattle.law_end.specs.{Rule}
+use Rattle.law_end.specs.{Agrees, FirstAnswer, Rule}
 use Rattle.law_end.specs.declared.rule.Rule.TheVariants as rule
 
 -- What an end says to nobody but the other one: no request, which goes out before anybody has answered, and no ERROR 5, which may answer
@@ -45,3 +46,23 @@ StandsAtEnd _ = ⊥
 abbrev pub StandsOfItsOwn : Rule → Type 0
 StandsOfItsOwn rule.AfterError = ⊥
 StandsOfItsOwn broken = StandsAtEnd broken
+
+-- What was agreed to for this option is known from what was recorded, whatever is missing: the request does not ask for it, or what answered
+-- the request first is an OACK (RFC 2347).
+abbrev pub IsKnownOption : List ℕ → RequestParts → List Datagram → Type 0
+IsKnownOption name asked passed = (map.get asked.options name ≡ None) ⊎ ((agreed : OptionMap) × FirstAnswer asked.side passed (Agrees agreed))
+
+-- no option is asked for, and so none can be agreed to
+abbrev pub AsksForNothing : RequestParts → Type 0
+AsksForNothing asked = (name : List ℕ) → map.get asked.options name ≡ None
+
+-- What breaks these rules is certain by what is known of the options: that a sender goes back, where the window is known (RFC 7440, section
+-- 4); that a block has a wrong length, or is whole and has the greatest number, where the block size is (RFC 2348); and an ACK 0 of a read,
+-- which answers an OACK, where nothing is asked for. An OACK alone tells that the file is too long for the numbers of its blocks.
+abbrev pub StandsByOptions : RequestParts → List Datagram → Message → Rule → Type 0
+StandsByOptions asked passed (Message.Data k bytes) (rule.Block EndRule.GoneBack) = IsKnownOption (codes "windowsize") asked passed
+StandsByOptions asked passed (Message.Data k bytes) (rule.Block EndRule.BlockLength) = IsKnownOption (codes "blksize") asked passed
+StandsByOptions asked passed (Message.Data k bytes) (rule.Block EndRule.BeyondBlock65535) = IsKnownOption (codes "blksize") asked passed
+StandsByOptions asked passed (Message.Oack options) (rule.Block EndRule.BeyondBlock65535) = Unit {0}
+StandsByOptions asked passed (Message.Ack j) (rule.Block EndRule.AckZero) = (asked.side ≡ Get) × AsksForNothing asked
+StandsByOptions asked passed m _ = ⊥

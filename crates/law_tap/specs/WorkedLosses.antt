@@ -70,6 +70,10 @@ hi_out = record { dir = Out; local = 41000; host = codes "10.0.0.2"; remote = 40
 abbrev pub ho_out : Datagram
 ho_out = record { dir = Out; local = 41000; host = codes "10.0.0.2"; remote = 40000; payload = 0 ∷ 3 ∷ 0 ∷ 1 ∷ 104 ∷ 111 ∷ [] }
 
+-- ACK 2, though DATA 1 "hi" was the last block
+abbrev pub second_ack_in : Datagram
+second_ack_in = record { dir = In; local = 41000; host = codes "10.0.0.2"; remote = 40000; payload = 0 ∷ 4 ∷ 0 ∷ 2 ∷ [] }
+
 -- the server changes block 1
 abbrev pub changed_block : List Datagram
 changed_block = request_in ∷ hi_out ∷ ho_out ∷ []

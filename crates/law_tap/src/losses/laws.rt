@@ -1,9 +1,9 @@
 //! Laws of the definitions in `specs/Losses.antt`. Each is the contract of a function that does nothing.
 
-ghost use Rattle.std.specs.Prelude.{◌≡◌, ℕ, ◌+◌, ◌<◌, ◌≤◌, List, [], ◌∷◌, ◌++◌, Contains, length, reverse, take, Option};
-ghost use Rattle.tftp_packet.specs.{End, Message, Out, Spells};
+ghost use Rattle.std.specs.Prelude.{◌≡◌, ◌≢◌, ℕ, ◌+◌, ◌<◌, ◌≤◌, List, [], ◌∷◌, ◌++◌, Contains, Some, length, reverse, take, Option};
+ghost use Rattle.tftp_packet.specs.{Client, End, Message, Out, RequestParts, Server, Spells};
 ghost use Rattle.tftp_packet.specs.{Rollover};
-ghost use Rattle.tftp_packet.specs.Hosts.{Datagram, Header};
+ghost use Rattle.tftp_packet.specs.Hosts.{Datagram, Header, peer_of};
 ghost use Rattle.law_model.specs.Model.{
   Meaning,
   MachinePacket,
@@ -14,7 +14,8 @@ ghost use Rattle.law_model.specs.Model.{
   windowsize_of,
   IsView,
 };
-ghost use Rattle.law_end.specs.{IsLawful, IsLawfulUpTo, IsRefused, Rule};
+ghost use Rattle.law_model.specs.Rules.{asks, first_of, transfer_of};
+ghost use Rattle.law_end.specs.{FirstAsked, IsLawful, IsLawfulUpTo, IsRefused, Rule};
 ghost use Rattle.law_tap.specs.Losses.{
   Loses,
   IsSeenOf,
@@ -24,7 +25,13 @@ ghost use Rattle.law_tap.specs.Losses.{
   IsCertain,
   IsFirstCertain,
 };
-ghost use Rattle.law_tap.specs.StandingAtEnd.{KnowsOtherEnd, StandsAtEnd, StandsOfItsOwn};
+ghost use Rattle.law_tap.specs.StandingAtEnd.{
+  GoesOnWith,
+  KnowsOtherEnd,
+  StandsAtEnd,
+  StandsByOptions,
+  StandsOfItsOwn,
+};
 
 /// What is lawful is lawful with losses, and what is left of what is lawful with losses is so too.
 #[tactic(auto, using(crate::proofs::Certain::lawful_lossy, crate::proofs::Certain::less_lossy))]
@@ -112,4 +119,30 @@ pub fn what_is_refused_at_an_end_by_a_rule_that_stands_is_certain()
         → StandsAtEnd broken → KnowsOtherEnd header (d ∷ earlier) → IsCertain header (reverse (later ++ d ∷ earlier)) (length earlier) }
     ensures own { (header : Header) (later earlier : List Datagram) (d : Datagram) (broken : Rule) → IsRefused header earlier d broken
         → StandsOfItsOwn broken → d.dir ≡ Out → IsCertain header (reverse (later ++ d ∷ earlier)) (length earlier) }
+{}
+
+/// So is a block that goes back where the window is known, a block of a wrong length or beyond the last number where the
+/// block size is, an ACK 0 of a read that asks for nothing, and an OACK of a file that is too long for its blocks: what the
+/// end sent itself, and what came to it where the other end is known.
+pub fn what_is_refused_by_options_that_are_known_is_certain()
+    ensures known { (header : Header) (later earlier : List Datagram) (d : Datagram) (broken : Rule) (asked : RequestParts) (m : Message)
+        → IsRefused header earlier d broken → FirstAsked header earlier asked → Spells d.payload m
+        → StandsByOptions asked (transfer_of header earlier) m broken → KnowsOtherEnd header (d ∷ earlier)
+        → IsCertain header (reverse (later ++ d ∷ earlier)) (length earlier) }
+    ensures own { (header : Header) (later earlier : List Datagram) (d : Datagram) (broken : Rule) (asked : RequestParts) (m : Message)
+        → IsRefused header earlier d broken → FirstAsked header earlier asked → Spells d.payload m
+        → StandsByOptions asked (transfer_of header earlier) m broken → d.dir ≡ Out
+        → IsCertain header (reverse (later ++ d ∷ earlier)) (length earlier) }
+{}
+
+/// An end deals with one other from one port: that it goes on with two is certain, and so it is that a server goes on with
+/// another than asked it first, and that datagrams of one client have two ports there (RFC 1350, section 4).
+pub fn an_end_that_deals_with_two_is_certain()
+    ensures others { (header : Header) (later earlier : List Datagram) (d other : Datagram) → Contains earlier other → GoesOnWith d → GoesOnWith other
+        → peer_of d ≢ peer_of other → IsCertain header (reverse (later ++ d ∷ earlier)) (length earlier) }
+    ensures client { (header : Header) (later earlier : List Datagram) (d request : Datagram) → header.named ≡ Server
+        → first_of (asks header) earlier ≡ Some request → GoesOnWith d → peer_of d ≢ peer_of request
+        → IsCertain header (reverse (later ++ d ∷ earlier)) (length earlier) }
+    ensures port { (header : Header) (later earlier : List Datagram) (d other : Datagram) → header.named ≡ Client → Contains earlier other
+        → d.local ≢ other.local → IsCertain header (reverse (later ++ d ∷ earlier)) (length earlier) }
 {}

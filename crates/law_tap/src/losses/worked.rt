@@ -1,13 +1,22 @@
 //! Worked cases of recordings at an end that miss datagrams. Each is the contract of a function that does nothing.
 
-ghost use Rattle.std.specs.Prelude.{ℕ, List, [], ◌∷◌, Option};
-ghost use Rattle.tftp_packet.specs.{End, Client, Server, Short};
+ghost use Rattle.std.specs.Prelude.{ℕ, List, [], ◌∷◌, Option, codes};
+ghost use Rattle.tftp_packet.specs.{End, Client, Message, Server, Short};
 ghost use Rattle.tftp_packet.specs.{Rollover};
-ghost use Rattle.law_model.specs.Model.{Meaning, IsView, two_bytes, two_bytes_written, ten_bytes, six_blocks};
+ghost use Rattle.law_model.specs.Model.{
+  Meaning,
+  IsView,
+  request_of,
+  two_bytes,
+  two_bytes_written,
+  ten_bytes,
+  six_blocks,
+};
 ghost use Rattle.law_model.specs.{EndRule, PortRule};
 ghost use Rattle.law_end.specs.{Broken, IsRefused, Rule};
 ghost use Rattle.law_tap.specs.Losses.{IsSeenOf, IsNotedOf, IsLawfulWithLosses, IsCertain, IsFirstCertain};
-ghost use Rattle.law_tap.specs.StandingAtEnd.{KnowsOtherEnd};
+ghost use Rattle.law_tap.specs.BesideEnd.{AreSidesOf};
+ghost use Rattle.law_tap.specs.StandingAtEnd.{IsKnownOption, KnowsOtherEnd, StandsByOptions};
 ghost use Rattle.law_tap.specs.WorkedLosses.{
   hi_in,
   odd_in,
@@ -17,7 +26,10 @@ ghost use Rattle.law_tap.specs.WorkedLosses.{
   ack_in,
   at_client,
   at_server,
+  request_in,
   request_out,
+  hi_out,
+  second_ack_in,
   ack_out,
   read_without_block,
   write_in,
@@ -32,6 +44,7 @@ ghost use Rattle.law_tap.specs.WorkedLosses.{
   block_of_unseen_other,
   zero_of_unseen_oack,
 };
+ghost use Rattle.law_tap.specs.WorkedTap.{worked_sides};
 
 /// An ACK of a block that was never seen is not certain: what comes in may have been missed. Without losses the datagram is
 /// refused by rule 2, since nothing came from where it goes.
@@ -111,4 +124,20 @@ pub fn a_request_after_an_answer_to_a_stray_is_not_certain()
     ensures broken { Broken at_client (unknown_out ∷ other_in ∷ request_out ∷ []) request_out Rule.AfterError }
     ensures unknown { KnowsOtherEnd at_client (request_out ∷ unknown_out ∷ other_in ∷ request_out ∷ []) → ⊥ }
     ensures lawful { IsLawfulWithLosses at_client (request_out ∷ other_in ∷ unknown_out ∷ request_out ∷ []) }
+{}
+
+/// An ACK 2 that comes to a server which has sent the whole file in block 1 is certain, whatever is missing: so it is between
+/// the ends.
+pub fn an_ack_above_the_last_block_is_certain_at_an_end()
+    ensures sides { AreSidesOf at_server (codes "10.0.0.1") (second_ack_in ∷ hi_out ∷ request_in ∷ []) worked_sides }
+    ensures certain { IsCertain at_server (request_in ∷ hi_out ∷ second_ack_in ∷ []) 2 }
+{}
+
+/// A read asks for a block size and for no window. So the window is known whatever is missing, and that a block goes back
+/// stands. The block size is not known before an answer was seen, and that a block has a wrong length does not stand.
+pub fn what_was_not_asked_for_is_known()
+    ensures window { IsKnownOption (codes "windowsize") (request_of ten_bytes) [] }
+    ensures size { IsKnownOption (codes "blksize") (request_of ten_bytes) [] → ⊥ }
+    ensures back { StandsByOptions (request_of ten_bytes) [] (Message.Data 1 []) (Rule.Block EndRule.GoneBack) }
+    ensures length { StandsByOptions (request_of ten_bytes) [] (Message.Data 1 []) (Rule.Block EndRule.BlockLength) → ⊥ }
 {}

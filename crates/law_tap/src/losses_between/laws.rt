@@ -1,16 +1,20 @@
 //! Laws of the definitions in `specs/LossesBetween.antt`. Each is the contract of a function that does nothing.
 
-ghost use Rattle.std.specs.Prelude.{◌≡◌, ◌↔◌, ◌≤◌, ℕ, false, List, ◌∷◌, Option};
+ghost use Rattle.std.specs.Prelude.{◌≡◌, ◌↔◌, ◌≤◌, ◌++◌, ℕ, true, false, List, ◌∷◌, Option, length, map, reverse};
 ghost use Rattle.tftp_packet.specs.{End, Client, Message, OptionMap, RequestParts};
 ghost use Rattle.law_model.specs.Model.{Meaning, History};
 ghost use Rattle.law_tap.specs.Tap.{Pass, tapped_at};
+ghost use Rattle.tftp_packet.specs.Hosts.{Datagram, Header};
 ghost use Rattle.law_model.specs.{EndRule};
-ghost use Rattle.law_end.specs.{Rule};
+ghost use Rattle.law_model.specs.Rules.{is_of_transfer, route_of, transfer_of};
+ghost use Rattle.law_end.specs.{FirstAsked, OneEnded, Rule};
+ghost use Rattle.law_tap.specs.BesideEnd.{AreSidesOf, beside};
+ghost use Rattle.law_tap.specs.StandingAtEnd.{KnowsOtherEnd};
 ghost use Rattle.law_tap.specs.TapCapture.{TapDatagram, TapSides, AreApart};
 ghost use Rattle.law_tap.specs.TapDress.{IsLawfulBetween};
 ghost use Rattle.law_tap.specs.TapRules.{SidesBreak, IsTapRead, TapBroken, BreaksNoTapRule};
 ghost use Rattle.law_tap.specs.TapRoutes.{is_passing};
-ghost use Rattle.law_tap.specs.Losses.{Loses, IsSeenOf};
+ghost use Rattle.law_tap.specs.Losses.{Loses, IsCertain, IsLawfulWithLosses, IsSeenOf};
 ghost use Rattle.law_tap.specs.LossesBetween.{IsTapViewWithLosses, IsSentInOneRun, IsLawfulBetweenWithLosses, IsCertainBetween};
 ghost use Rattle.law_tap.specs.SaidFigures.{Figures, AreFigures, FitsAgreed, FitsSaid, FitsUnseen, IsFair, IsOffered};
 ghost use Rattle.law_tap.specs.LossyRules.{lossy_route, LossyBreaks, LossyBroken, LossyPasses, IsSaidBy, IsSaid, NothingExplains, IsOfOrder, StandsWhateverIsMissing, BreaksNoLossyRule, BeginsWithRequest};
@@ -34,6 +38,21 @@ pub fn neighbours_may_change_places_between()
 pub fn what_an_end_was_seen_to_do_passed()
     ensures { (m : Meaning) (wire : List ℕ) (e : End) (seen : History) → IsSeenOf m wire e seen
         → IsTapViewWithLosses m wire (tapped_at e seen) }
+{}
+
+/// What was recorded of a transfer at an end, as it passes beside that end, is lawful with losses between the ends if it is
+/// at the end. So what is certain between the ends is certain at the end too, where the other end is known: what breaks a
+/// rule there whatever is missing.
+pub fn what_is_certain_between_is_certain_at_an_end()
+    ensures lawful { (h : Header) (own : List ℕ) (s : TapSides) (earlier : List Datagram) (d : Datagram) (asked : RequestParts) → OneEnded h earlier
+        → FirstAsked h earlier asked → is_of_transfer (route_of h earlier d) ≡ true → KnowsOtherEnd h (d ∷ earlier) → AreSidesOf h own (d ∷ earlier) s
+        → IsLawfulWithLosses h (reverse (d ∷ earlier)) → IsLawfulBetweenWithLosses s (map (beside own) (transfer_of h (d ∷ earlier))) }
+    ensures certain { (h : Header) (own : List ℕ) (s : TapSides) (later earlier : List Datagram) (d : Datagram) (asked : RequestParts) → OneEnded h earlier
+        → FirstAsked h earlier asked → is_of_transfer (route_of h earlier d) ≡ true → KnowsOtherEnd h (d ∷ earlier) → AreSidesOf h own (d ∷ earlier) s
+        → IsCertainBetween s (map (beside own) (transfer_of h earlier)) (beside own d) → IsCertain h (reverse (later ++ d ∷ earlier)) (length earlier) }
+    ensures broken { (h : Header) (own : List ℕ) (s : TapSides) (later earlier : List Datagram) (d : Datagram) (asked : RequestParts) (broken : Rule) → OneEnded h earlier
+        → FirstAsked h earlier asked → is_of_transfer (route_of h earlier d) ≡ true → KnowsOtherEnd h (d ∷ earlier) → AreSidesOf h own (d ∷ earlier) s → AreApart s
+        → LossyBroken s (map (beside own) (transfer_of h earlier)) (beside own d) broken → IsCertain h (reverse (later ++ d ∷ earlier)) (length earlier) }
 {}
 
 /// Between the ends too what is lawful is lawful with losses, and so is what is left of it; a datagram that is certain stays so
