@@ -1,11 +1,16 @@
 pub mod Alone
+pub mod Counting
+pub mod Distinct
+pub mod Going
 pub mod Intact
 pub mod Lacking
 pub mod Lines
+pub mod Lost
 pub mod Noting
 pub mod Once
 pub mod Opened
 pub mod Over
 pub mod Recording
 pub mod Worked
+pub mod WorkedLost
 pub mod Trails

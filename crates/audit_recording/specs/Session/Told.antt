@@ -73,3 +73,19 @@ abbrev pub AreOfOneKind : Told → Type 0
 AreOfOneKind t =
     AreApart t.copies t.discarded × AreApart t.copies t.other_links × AreApart t.copies t.of_none
     × AreApart t.discarded t.other_links × AreApart t.discarded t.of_none × AreApart t.other_links t.of_none
+
+-- ---- what is lost, in any order: fragments that waited are told when they are given up
+
+-- each of them stands there once
+abbrev pub AreEachOnce : List ℕ → Type 0
+AreEachOnce [] = Unit {0}
+AreEachOnce (frame ∷ older) = IsNotAmong frame older × AreEachOnce older
+
+-- A frame that is not there whole was not left out as a copy, as discarded or as one of another link type; nor did it give a datagram, of no
+-- transfer or older than the one before.
+pub record IsLostAlone (t : Told) : Type 0 where
+  pub copies : AreApart t.lost t.copies
+  pub discarded : AreApart t.lost t.discarded
+  pub other_links : AreApart t.lost t.other_links
+  pub of_none : AreApart t.lost t.of_none
+  pub backwards : AreApart t.lost t.backwards

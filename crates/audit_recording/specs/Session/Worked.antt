@@ -5,7 +5,7 @@ use Rattle.std.specs.Prelude.{◌*◌, ℕ, true, false, List, [], ◌∷◌, Op
 use Rattle.std.specs.Global.{Vec}
 use Rattle.net_pcap.specs.{FrameParts}
 use Rattle.net_udp.specs.Frames.{Packet, Udp, host, ipv4_packet}
-use Rattle.net_udp.specs.Recording.{Step, first_bytes, last_bytes, nothing_brought, raw_frame, sent_with}
+use Rattle.net_udp.specs.Recording.{Step, across_step, begun_step, data_key, first_bytes, last_bytes, nothing_brought, raw_frame, sent_with}
 use Rattle.net_udp.specs.declared.fragments.content.Content.{Content}
 use Rattle.net_udp.specs.declared.fragments.outcome.Outcome.{Outcome}
 use Rattle.net_udp.specs.declared.fragments.outcome.Outcome.TheVariants.{Empty, Waits, Whole}
@@ -16,7 +16,7 @@ use Rattle.net_udp.specs.declared.recording.sent.Sent.{Sent}
 use Rattle.audit_flows.specs.Transfers.{ack_of, client, read_of, service}
 use Rattle.audit_recording.specs.Blame.Frames.{Carried}
 use Rattle.audit_recording.specs.Losses.Noted.{Unread}
-use Rattle.audit_recording.specs.Losses.Noted.Event.{Asks, Finds, Loses, Waits as Awaits}
+use Rattle.audit_recording.specs.Losses.Noted.Event.{Asks, Finds, GivesUp, Loses, Waits as Awaits}
 use Rattle.audit_recording.specs.Reasons.Spoilt.{checked}
 use Rattle.audit_recording.specs.Session.Noted.{Noticed, nothing_noticed}
 
@@ -113,3 +113,19 @@ told_steps =
 
 abbrev pub told_noticed : Noticed
 told_noticed = record nothing_noticed { last = 1; events = Loses (unread_at 1 1000000000) ∷ []; copies = 2 ∷ []; other_links = 3 ∷ [] }
+
+-- ---- a packet of IPv6 in two fragments that overlap, so that none is put together of them
+
+-- Frame 1 waits, and with frame 2 both are lost.
+abbrev pub torn_steps : Vec ℕ → List Step
+torn_steps frames = across_step frames ∷ begun_step ∷ []
+
+-- a frame between its hosts, at second 1
+abbrev pub torn_at : ℕ → Unread
+torn_at frame = record { frame = frame; hosts = Some (data_key.source, data_key.target); time = 1000000000 }
+
+abbrev pub begun_noticed : Noticed
+begun_noticed = record nothing_noticed { last = 1; events = Awaits (torn_at 1) ∷ [] }
+
+abbrev pub torn_noticed : Noticed
+torn_noticed = record nothing_noticed { last = 2; events = Loses (torn_at 2) ∷ GivesUp 1 ∷ Awaits (torn_at 1) ∷ [] }

@@ -2,10 +2,11 @@
 
 ghost use Rattle.std.specs.Prelude.{◌≡◌, ◌≤◌, ◌+◌, ◌++◌, ◌||◌, ◌∷◌, ℕ, List, [], None, Some, codes, false, length, true};
 ghost use Rattle.std.specs.Global.{Vec};
+ghost use Rattle.std.specs.List.{AllByRecursion};
 ghost use Rattle.net_pcap.specs.{Truncated};
 ghost use Rattle.net_udp.specs.Fragments.{content_of};
 ghost use Rattle.net_udp.specs.Frames.{acknowledgement};
-ghost use Rattle.net_udp.specs.Recording.{IsDatagram, Step, last_bytes, last_part, worked_content};
+ghost use Rattle.net_udp.specs.Recording.{IsDatagram, IsHistory, Step, begun_step, last_bytes, last_part, waiting, worked_content};
 ghost use Rattle.net_udp.specs.declared.fragments.content.Content.{Content};
 ghost use Rattle.net_udp.specs.declared.frames.unread.UnreadHeader.TheVariants.{MacSec};
 ghost use Rattle.net_udp.specs.declared.recording.fate.Datagram.{Datagram};
@@ -20,11 +21,11 @@ ghost use Rattle.audit_recording.specs.Audit.Passed.{HasPassed};
 ghost use Rattle.audit_recording.specs.Blame.Frames.{Carried, datagrams_of};
 ghost use Rattle.audit_flows.specs.Lines.{silence};
 ghost use Rattle.audit_recording.specs.Session.Lines.{behind_words, dropped_lines, fault_lines, left_out_lines, lines_of, pair_lines, ports_text};
-ghost use Rattle.audit_recording.specs.Session.Noted.{AreUpTo, Noticed, going_back, told_in};
+ghost use Rattle.audit_recording.specs.Session.Noted.{AreUpTo, Noticed, frames_in, giving_up, going_back, told_in};
 ghost use Rattle.audit_recording.specs.Session.Over.{AreLater, IsPast};
 ghost use Rattle.audit_recording.specs.Session.Recording.{IsNoticedOf};
-ghost use Rattle.audit_recording.specs.Session.Told.{AreApart, AreEarlier, AreOfOneKind, AreOnce};
-ghost use Rattle.audit_recording.specs.Session.Worked.{ack_carried, at_second, frame_at, request, request_bytes, request_carried, request_packet, told_noticed, told_steps, worked_noticed, worked_steps};
+ghost use Rattle.audit_recording.specs.Session.Told.{AreApart, AreEachOnce, AreEarlier, AreOfOneKind, AreOnce, IsLostAlone, nothing_told};
+ghost use Rattle.audit_recording.specs.Session.Worked.{ack_carried, at_second, begun_noticed, frame_at, request, request_bytes, request_carried, request_packet, told_noticed, told_steps, torn_noticed, torn_steps, worked_noticed, worked_steps};
 ghost use Rattle.audit_recording.specs.Session.Intact.{before_opening, discarded_of, makes_checksums, newest_at, worked_gone, worked_host, worked_seen};
 
 /// A frame of other hosts that is lost, or that waits, makes nothing more missing of a client's host.
@@ -118,12 +119,26 @@ pub fn what_is_noticed_has_passed()
     ensures { (named : List ℕ) (history : List Step) (carried : List Carried) (s : Noticed) → IsNoticedOf named history carried s → HasPassed history (datagrams_of carried) }
 {}
 
+/// A fragment that waits for others of its packet waits once: its frame stands in one set, and once there. What a frame lets go, since it
+/// is too old or to make room, and what waits after it are apart, each once.
+pub fn each_fragment_waits_once()
+    ensures waits { (history : List Step) → IsHistory history → AreEachOnce (frames_in (waiting history)) }
+    ensures goes { (before : List Step) (step : Step) → IsHistory (step ∷ before) → AreEachOnce (step.brought.old ++ frames_in step.brought.ousted ++ frames_in step.waits) }
+{}
+
 /// A frame is told once as a copy, as discarded, as one of another link type, as one of no transfer, and as older than the one before:
 /// and it is a frame of the recording. As a copy, as discarded, as one of another link type, or as one of no transfer: as one of
-/// these alone.
+/// these alone. One that is not there whole is told once, whether it was lost at once, was given up, or still waits at the end; and as
+/// nothing else.
 pub fn each_frame_is_told_once()
     ensures once { (named : List ℕ) (history : List Step) (carried : List Carried) (s : Noticed) → IsNoticedOf named history carried s → AreOnce (length history + 1) (told_in s) }
     ensures alone { (named : List ℕ) (history : List Step) (carried : List Carried) (s : Noticed) → IsNoticedOf named history carried s → AreOfOneKind (told_in s) }
+    ensures lost_once { (named : List ℕ) (history : List Step) (carried : List Carried) (s : Noticed) → IsHistory history → IsNoticedOf named history carried s
+        → AreEachOnce (told_in (giving_up (frames_in (waiting history)) s)).lost }
+    ensures lost_alone { (named : List ℕ) (history : List Step) (carried : List Carried) (s : Noticed) → IsHistory history → IsNoticedOf named history carried s
+        → IsLostAlone (told_in (giving_up (frames_in (waiting history)) s)) }
+    ensures lost_within { (named : List ℕ) (history : List Step) (carried : List Carried) (s : Noticed) → IsHistory history → IsNoticedOf named history carried s
+        → AllByRecursion (λ n. (1 ≤ n) × (n ≤ length history)) (told_in (giving_up (frames_in (waiting history)) s)).lost }
 {}
 
 /// Of four frames the first is a fragment that waits; in the second its client asks for a file, and opens a transfer; with the third the
@@ -174,4 +189,17 @@ pub fn worked_once()
     ensures both { AreApart (3 ∷ 2 ∷ []) (2 ∷ []) → ⊥ }
     ensures back { going_back 3 (Some 4) (5 ∷ []) (1 ∷ []) ≡ 3 ∷ 1 ∷ [] }
     ensures same_time { going_back 3 (Some 5) (5 ∷ []) (1 ∷ []) ≡ 1 ∷ [] }
+{}
+
+/// Of a packet of IPv6 in two fragments that overlap the first waits, and with the second both are lost: each is told once. Had the
+/// recording ended before, the first alone would be. What is told twice is refused, and what is told as lost and as a copy.
+pub fn worked_lost()
+    ensures waits { IsNoticedOf [] (begun_step ∷ []) [] begun_noticed }
+    ensures ended { (told_in (giving_up (frames_in begun_step.waits) begun_noticed)).lost ≡ 1 ∷ [] }
+    ensures history { (frames : Vec ℕ) → frames.items ≡ 1 ∷ [] → IsHistory (torn_steps frames) }
+    ensures torn { (frames : Vec ℕ) → frames.items ≡ 1 ∷ [] → IsNoticedOf [] (torn_steps frames) [] torn_noticed }
+    ensures lost { (frames : Vec ℕ) → (told_in (giving_up (frames_in (waiting (torn_steps frames))) torn_noticed)).lost ≡ 2 ∷ 1 ∷ [] }
+    ensures once { AreEachOnce (2 ∷ 1 ∷ []) }
+    ensures twice { AreEachOnce (1 ∷ 2 ∷ 1 ∷ []) → ⊥ }
+    ensures copy { IsLostAlone (record nothing_told { copies = 2 ∷ []; lost = 2 ∷ 1 ∷ [] }) → ⊥ }
 {}
