@@ -1,18 +1,28 @@
 -- The verdict on what a judge was given, and on the text that has just that.
 use Rattle.std.proofs.Common.{◌≡◌, ℕ, ◌+◌, List, [], ◌∷◌, ◌++◌, reverse, Option, Some, None, Result, Ok, Err, refl, sym, ap, ◌∙◌, subst, append_assoc, OnOk, IfErr}
 use Rattle.std.proofs.lemmas.List.{length-reverse, reverse-append, reverse-reverse}
-use Rattle.tftp_capture.specs.{IsCapture, numbered, text_with_hosts}
+use Rattle.tftp_capture.specs.{IsCapture, Numbered, numbered, text_with_hosts}
 use Rattle.tftp_capture.proofs.Beginnings.{capture_begins}
 use Rattle.tftp_capture.proofs.Canonical.{hosts_are_read}
+use Rattle.tftp_packet.specs.{End, Rollover}
 use Rattle.tftp_packet.specs.Hosts.{Datagram, Header}
 use Rattle.law_model.specs.Model.{Meaning}
+use Rattle.law_model.specs.Rules.{transfer_of}
 use Rattle.law_end.specs.{OneEnded, Passes, FirstBroken, Rule}
-use Rattle.tftp_judge.specs.{Refuses, IsJudgeAfter, Judge, IsTextVerdict, unnumbered, IsSaid, IsVerdict, IsVerdictByRules, Refusal, Unlawful, Aborted, Incomplete, NormalTooLong}
+use Rattle.law_rollover.specs.{AreUnrolled, IsUnrolled}
+use Rattle.tftp_judge.specs.{Refuses, IsJudgeAfter, Judge, IsTextVerdictBy, unnumbered, IsSaid, IsSaidBy, IsVerdict, IsVerdictByRules, Refusal, Unlawful, header_by}
 use Rattle.tftp_judge.specs.declared.refusal.Refusal.TheVariants.{Memory}
 use Rattle.tftp_judge.proofs.ByRuns.{verdict}
-use Rattle.audit_views.specs.Views.{AreWritten, HasJudged, IsJudged, IsRefusedIn, JudgedBy, of_text}
+use Rattle.audit_views.specs.Views.{AreWritten, HasJudged, HasJudgedBy, HoldsOf, IsFoundBy, IsRefusedIn, JudgedBy, StandsBy, of_text}
+use Rattle.audit_views.proofs.ViewsLemmas.Numbers.{unrolled_there}
 
 -- ---- one datagram more
+
+-- of one that has refused a datagram
+refused_too : (j : Judge) (h : Header) (given : List Datagram) (d : Datagram) (refusal : Refusal) → j.refused ≡ Some refusal → HasJudged j h given → HasJudged j h (d ∷ given)
+refused_too j h given d refusal is judged =
+    let was : IsRefusedIn h given refusal = subst (λ o. JudgedBy o j h given) is judged in
+    subst (λ o. JudgedBy o j h (d ∷ given)) (sym is) (record { later = d ∷ was.later; datagram = was.datagram; earlier = was.earlier; are = ap (λ l. d ∷ l) was.are; lawful = was.lawful; refused = was.refused })
 
 module _ (old new : Judge) (h : Header) (given : List Datagram) (d : Datagram) (result : Result (Unit {0}) Refusal)
     (accepts : IsJudgeAfter old h given → OnOk result (Passes h given d × IsJudgeAfter new h (d ∷ given)))
@@ -20,10 +30,8 @@ module _ (old new : Judge) (h : Header) (given : List Datagram) (d : Datagram) (
     (keeps : IfErr result (λ refusal. new.refused ≡ Some refusal))
     (for_good : (refusal : Refusal) → old.refused ≡ Some refusal → (result ≡ Err refusal) × (new ≡ old))
     (goes_on : old.refused ≡ None → OnOk result (new.refused ≡ None)) where
-  refused_before : (refusal : Refusal) → old.refused ≡ Some refusal → IsRefusedIn h given refusal → HasJudged new h (d ∷ given)
-  refused_before refusal is was =
-      let same : new.refused ≡ Some refusal = ap (λ (j : Judge). j.refused) (for_good refusal is).1 ∙ is in
-      subst (λ o. JudgedBy o new h (d ∷ given)) (sym same) (record { later = d ∷ was.later; datagram = was.datagram; earlier = was.earlier; are = ap (λ l. d ∷ l) was.are; lawful = was.lawful; refused = was.refused })
+  refused_before : (refusal : Refusal) → old.refused ≡ Some refusal → HasJudged old h given → HasJudged new h (d ∷ given)
+  refused_before refusal is judged = subst (λ (j : Judge). HasJudged j h (d ∷ given)) (sym (for_good refusal is).1) (refused_too old h given d refusal is judged)
 
   fed_now : (r : Result (Unit {0}) Refusal) → OnOk r (Passes h given d × IsJudgeAfter new h (d ∷ given)) → IfErr r (Refuses h given d) → IfErr r (λ refusal. new.refused ≡ Some refusal)
       → OnOk r (new.refused ≡ None) → OneEnded h given → HasJudged new h (d ∷ given)
@@ -34,7 +42,7 @@ module _ (old new : Judge) (h : Header) (given : List Datagram) (d : Datagram) (
   given_more = by old.refused refl where
     by : (o : Option Refusal) → old.refused ≡ o → JudgedBy o old h given → HasJudged new h (d ∷ given)
     by None is after = fed_now result (accepts after) (refuses after) keeps (goes_on is) after.lawful
-    by (Some refusal) is was = refused_before refusal is was
+    by (Some refusal) is was = refused_before refusal is (subst (λ o. JudgedBy o old h given) (sym is) was)
 
 -- what has refused nothing stands for all that it was given
 pub stands_for : (j : Judge) (h : Header) (given : List Datagram) → j.refused ≡ None → HasJudged j h given → IsJudgeAfter j h given
@@ -74,27 +82,109 @@ module _ (h : Header) (given : List Datagram) where
     by (Some refusal) was at of = let same = for_good refusal was in
         subst (IsVerdict h (reverse given)) (sym same) (refused_verdict refusal at (subst IsSaid same of))
 
+-- ---- numbers that begin again
+
+-- what a judge is given by a rollover, of which it accepts or refuses what each datagram is taken for
+module _ (r : Rollover) (old new : Judge) (h : Header) (given : List Datagram) (d : Datagram) (result : Result (Unit {0}) Refusal)
+    (accepts : (k : Header) (taken : List Datagram) (now : Datagram) → IsJudgeAfter old k taken → IsUnrolled r (transfer_of k taken) d now → OnOk result (Passes k taken now × IsJudgeAfter new k (now ∷ taken)))
+    (refuses : (k : Header) (taken : List Datagram) (now : Datagram) → IsJudgeAfter old k taken → IsUnrolled r (transfer_of k taken) d now → IfErr result (Refuses k taken now))
+    (keeps : IfErr result (λ refusal. new.refused ≡ Some refusal))
+    (for_good : (refusal : Refusal) → old.refused ≡ Some refusal → (result ≡ Err refusal) × (new ≡ old))
+    (goes_on : old.refused ≡ None → OnOk result (new.refused ≡ None)) where
+  pub numbered_more : HasJudgedBy (Some r) old h given → HasJudgedBy (Some r) new h (d ∷ given)
+  numbered_more (taken, are, judged) =
+      let k = header_by (Some r) h in
+      let (now, is) = unrolled_there r (transfer_of k taken) d in
+      (now ∷ taken, (is, are), given_more old new k taken now result (λ after. accepts k taken now after is) (λ after. refuses k taken now after is) keeps for_good goes_on judged)
+
+-- it goes on for good with what it has refused
+still_refused : (j : Judge) (refusal : Refusal) → j.refused ≡ Some refusal → (rollover : Option Rollover) (h : Header) (given : List Datagram) (d : Datagram) → HasJudgedBy rollover j h given → HasJudgedBy rollover j h (d ∷ given)
+still_refused j refusal is rollover h given d = by rollover where
+  more : (k : Header) (taken : List Datagram) (now : Datagram) → HasJudged j k taken → HasJudged j k (now ∷ taken)
+  more k taken now judged = refused_too j k taken now refusal is judged
+
+  by : (o : Option Rollover) → HasJudgedBy o j h given → HasJudgedBy o j h (d ∷ given)
+  by None judged = more h given d judged
+  by (Some r) (taken, are, judged) =
+      let k = header_by (Some r) h in
+      let (now, is_now) = unrolled_there r (transfer_of k taken) d in
+      (now ∷ taken, (is_now, are), more k taken now judged)
+
+-- the header of the text says of which rollover it stands
+kept_header : (rollover : Option Rollover) (j : Judge) (h : Header) (given : List Datagram) → j.refused ≡ None → HasJudgedBy rollover j h given → j.state.header ≡ header_by rollover h
+kept_header None j h given none judged = (stands_for j h given none judged).has_kept.header
+kept_header (Some r) j h given none (taken, are, judged) = (stands_for j (header_by (Some r) h) taken none judged).has_kept.header
+
+own_rollover : (rollover : Option Rollover) (h : Header) → h.rollover ≡ None → (header_by rollover h).rollover ≡ rollover
+own_rollover None h plain = plain
+own_rollover (Some r) h plain = refl
+
+-- what stands by one rollover stands by no other
+module _ (own : Option Rollover) (old new : Judge) (d : Datagram) (stands : StandsBy own old)
+    (gives : (h : Header) (given : List Datagram) → HasJudgedBy own old h given → HasJudgedBy own new h (d ∷ given))
+    (for_good : (refusal : Refusal) → old.refused ≡ Some refusal → new ≡ old) where
+  going_on : (rollover : Option Rollover) (h : Header) (given : List Datagram) → h.rollover ≡ None → old.refused ≡ None → HasJudgedBy rollover old h given → HasJudgedBy rollover new h (d ∷ given)
+  going_on rollover h given plain none judged =
+      let one = stands none in
+      let same : own ≡ rollover = sym (own_rollover own one.0 one.2) ∙ ap (λ (k : Header). k.rollover) (sym (kept_header own old one.0 one.1 none one.3) ∙ kept_header rollover old h given none judged) ∙ own_rollover rollover h plain in
+      subst (λ o. HasJudgedBy o new h (d ∷ given)) same (gives h given (subst (λ o. HasJudgedBy o old h given) (sym same) judged))
+
+  pub given_by : (rollover : Option Rollover) (h : Header) (given : List Datagram) → h.rollover ≡ None → HasJudgedBy rollover old h given → HasJudgedBy rollover new h (d ∷ given)
+  given_by rollover h given plain judged = by old.refused refl where
+    by : (o : Option Refusal) → old.refused ≡ o → HasJudgedBy rollover new h (d ∷ given)
+    by None none = going_on rollover h given plain none judged
+    by (Some refusal) is = subst (λ (j : Judge). HasJudgedBy rollover j h (d ∷ given)) (sym (for_good refusal is)) (still_refused old refusal is rollover h given d judged)
+
+  pub stands_on : StandsBy own new
+  stands_on goes = by old.refused refl where
+    by : (o : Option Refusal) → old.refused ≡ o → (h : Header) × (given : List Datagram) × (h.rollover ≡ None) × HasJudgedBy own new h given
+    by None none = let one = stands none in (one.0, d ∷ one.1, one.2, gives one.0 one.1 one.3)
+    by (Some refusal) is = let both : Some refusal ≡ None = sym is ∙ ap (λ (j : Judge). j.refused) (sym (for_good refusal is)) ∙ goes in absurd (cc)
+
+-- before any datagram
+pub begins_by : (rollover : Option Rollover) (j : Judge) (named : End) (service : ℕ) → HasJudged j (record { named = named; service = service; rollover = rollover }) []
+    → HasJudgedBy rollover j (record { named = named; service = service; rollover = None }) []
+begins_by None j named service judged = judged
+begins_by (Some r) j named service judged = ([], tt, judged)
+
+pub stands_new : (h : Header) (j : Judge) → IsJudgeAfter j h [] → StandsBy h.rollover j
+stands_new h j after none = (record { named = h.named; service = h.service; rollover = None }, [], refl, begins_by h.rollover j h.named h.service (subst (λ o. JudgedBy o j h []) (sym none) after))
+
+-- ---- what holds of what the datagrams are taken for
+
+pub holds_of : (rollover : Option Rollover) (One Other : Header → List Datagram → Type 0) (h : Header) (given : List Datagram) → ((k : Header) (taken : List Datagram) → One k taken → Other k taken)
+    → HoldsOf rollover One h given → HoldsOf rollover Other h given
+holds_of None One Other h given so holds = so h given holds
+holds_of (Some r) One Other h given so (taken, are, holds) = (taken, are, so (header_by (Some r) h) taken holds)
+
+-- of the oldest first
+pub said_by : (rollover : Option Rollover) (said : Result Meaning Refusal) (h : Header) (given : List Datagram) → HoldsOf rollover (λ k taken. IsVerdict k (reverse taken) said) h given → IsSaidBy rollover said h (reverse given)
+said_by None said h given is = is
+said_by (Some r) said h given (taken, are, is) = (
+  reverse taken,
+  subst (λ l. AreUnrolled r (header_by (Some r) h) l (reverse (reverse taken))) (sym (reverse-reverse given)) (subst (AreUnrolled r (header_by (Some r) h) given) (sym (reverse-reverse taken)) are),
+  is,
+)
+
 -- ---- the text
 
 without_numbers : (n : ℕ) (ds : List Datagram) → unnumbered (numbered n ds) ≡ ds
 without_numbers n [] = refl
 without_numbers n (d ∷ ds) = ap (λ l. d ∷ l) (without_numbers (n + 1) ds)
 
-module _ (h : Header) (ds : List Datagram) (capture : IsCapture (text_with_hosts h ds) h (numbered 4 ds)) where
-  there : (said : Result Meaning Refusal) → IsVerdict h ds said → IsVerdict h (unnumbered (numbered 4 ds)) said
-  there said is = subst (λ l. IsVerdict h l said) (sym (without_numbers 4 ds)) is
-
-  text_verdict : (said : Result Meaning Refusal) → IsSaid said → IsVerdict h ds said → IsTextVerdict (text_with_hosts h ds) (of_text said)
-  text_verdict (Ok m) of is = (h, numbered 4 ds, capture, there (Ok m) is)
-  text_verdict (Err (Unlawful index rule)) of is = (h, numbered 4 ds, capture_begins (text_with_hosts h ds) h (numbered 4 ds) capture, there (Err (Unlawful index rule)) is)
-  text_verdict (Err (Aborted by code)) of is = (h, numbered 4 ds, capture, there (Err (Aborted by code)) is)
-  text_verdict (Err (Incomplete count)) of is = (h, numbered 4 ds, capture, there (Err (Incomplete count)) is)
-  text_verdict (Err NormalTooLong) of is = (h, numbered 4 ds, capture, there (Err NormalTooLong) is)
+-- a text of a capture has the verdict of its datagrams
+module _ (rollover : Option Rollover) (text : List ℕ) (h : Header) (ds : List Numbered) (capture : IsCapture text h ds) where
+  pub text_verdict : (said : Result Meaning Refusal) → IsSaid said → IsSaidBy rollover said h (unnumbered ds) → IsTextVerdictBy rollover text (of_text said)
+  text_verdict (Err (Unlawful index rule)) of is = (h, ds, capture_begins text h ds capture, is)
   text_verdict (Err (Memory count)) of is = absurd of
+  text_verdict _ of is = (h, ds, capture, is)
 
-pub said_of_text : (h : Header) (given : List Datagram) (said : Result Meaning Refusal) → AreWritten h given → IsSaid said → IsVerdict h (reverse given) said
-    → IsTextVerdict (text_with_hosts h (reverse given)) (of_text said)
-said_of_text h given said written of is = text_verdict h (reverse given) (hosts_are_read h (reverse given) written.service written.plain written.lawful written.short) said of is
+pub said_of_text : (rollover : Option Rollover) (h : Header) (given : List Datagram) (said : Result Meaning Refusal) → AreWritten h given → IsSaid said → IsSaidBy rollover said h (reverse given)
+    → IsTextVerdictBy rollover (text_with_hosts h (reverse given)) (of_text said)
+said_of_text rollover h given said written of is =
+    let ds = reverse given in
+    text_verdict rollover (text_with_hosts h ds) h (numbered 4 ds) (hosts_are_read h ds written.service written.plain written.lawful written.short) said of
+    (subst (λ l. IsSaidBy rollover said h l) (sym (without_numbers 4 ds)) is)
 
-pub judged_with : (h : Header) (given : List Datagram) (said : Result Meaning Refusal) → (IsSaid said → IsVerdict h (reverse given) said) → IsSaid said → IsJudged h given said
-judged_with h given said is of = record { verdict = is of; text = λ written. said_of_text h given said written of (is of) }
+pub judged_with : (rollover : Option Rollover) (h : Header) (given : List Datagram) (said : Result Meaning Refusal) → (IsSaid said → IsSaidBy rollover said h (reverse given)) → IsFoundBy rollover h given said
+judged_with rollover h given said is of = record { verdict = is of; text = λ written. said_of_text rollover h given said written of (is of) }

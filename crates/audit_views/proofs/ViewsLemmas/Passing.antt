@@ -1,14 +1,18 @@
 -- What is not about a transfer changes nothing of it.
-use Rattle.std.proofs.Common.{◌≡◌, ℕ, Bool, false, cond, List, ◌∷◌, sym, ap, ◌∙◌, subst, map, ◌&&◌, ◌||◌, filter}
+use Rattle.std.proofs.Common.{◌≡◌, ℕ, Bool, false, cond, List, ◌∷◌, None, Option, sym, ap, ◌∙◌, subst, map, ◌&&◌, ◌||◌, filter}
+use Rattle.tftp_packet.specs.{Rollover}
 use Rattle.audit_flows.specs.Transfers.{is_answered_apart, is_it, some_of, IsDoubtedAfter, is_about}
 use Rattle.audit_flows.specs.{TransferDoubts}
 use Rattle.audit_flows.specs.Lines.{comes_in, follows_strays, follows_unanswered, agrees_late, goes_on_with_first, is_asked_again, is_disordered, is_late, may_be_answer_of, says_first_word, says_unknown_id, Placed, is_of}
 use Rattle.audit_flows.proofs.TransfersLemmas.OwnDatagrams.{about_none}
-use Rattle.audit_views.specs.Views.{Naming, captured_at_client, client_header, HasJudged, Client, IsClientAfter}
+use Rattle.audit_views.specs.Views.{Naming, captured_at_client, client_header, HasJudgedBy, Client, IsClientAfter, IsClientAfterBy}
+
+pub client_passes : (rollover : Option Rollover) (c : Client) (name : Naming) (p : Placed) (older : List Placed) → is_about c.transfer.number p ≡ false → IsClientAfterBy rollover c name older → IsClientAfterBy rollover c name (p ∷ older)
+client_passes rollover c name p older off = subst (HasJudgedBy rollover c.end.judge (client_header c.transfer))
+    (sym (ap (λ b. map (captured_at_client name c.transfer) (cond b (p ∷ filter (is_of c.transfer.number) older) (filter (is_of c.transfer.number) older))) (about_none c.transfer.number p off)))
 
 pub client_passes_by : (c : Client) (name : Naming) (p : Placed) (older : List Placed) → is_about c.transfer.number p ≡ false → IsClientAfter c name older → IsClientAfter c name (p ∷ older)
-client_passes_by c name p older off = subst (HasJudged c.end.judge (client_header c.transfer))
-    (sym (ap (λ b. map (captured_at_client name c.transfer) (cond b (p ∷ filter (is_of c.transfer.number) older) (filter (is_of c.transfer.number) older))) (about_none c.transfer.number p off)))
+client_passes_by = client_passes None
 
 none_of : (n : ℕ) (test : Placed → List Placed → Bool) (p : Placed) (older : List Placed) → is_about n p ≡ false → some_of n test (p ∷ older) ≡ some_of n test older
 none_of n test p older off = ap (λ b. (b && test p older) || some_of n test older) (about_none n p off)

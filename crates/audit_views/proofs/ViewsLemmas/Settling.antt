@@ -8,8 +8,8 @@ use Rattle.audit_flows.specs.{Endpoint, Place, Beside, Transfer}
 use Rattle.audit_flows.specs.Transfers.{answered_by, asked_of, comes, goes_on, is_at_server, is_end, opened_it, server_of, server_view, went_on_with, is_settled, AreEndsAfter}
 use Rattle.audit_flows.specs.{TransferEnds}
 use Rattle.audit_flows.proofs.TransfersLemmas.OwnDatagrams.{at_server_same, server_same, settled_same}
-use Rattle.tftp_packet.specs.{In, Out}
-use Rattle.audit_views.specs.Views.{Naming, captured, captured_at_server, server_capture, server_header, way_at_server, HasJudged, IsServerAfter, Server}
+use Rattle.tftp_packet.specs.{In, Out, Rollover}
+use Rattle.audit_views.specs.Views.{Naming, captured, captured_at_server, server_capture, server_header, way_at_server, HasJudgedBy, IsServerAfterBy, Server}
 
 first_stays : (test : Placed → Bool) (more placed : List Placed) (e : Placed) → first_of test placed ≡ Some e → first_of test (more ++ placed) ≡ Some e
 first_stays test [] placed e is = is
@@ -72,9 +72,9 @@ module _ (name : Naming) (x : Transfer) (more placed : List Placed) (settled : i
       sym (λ i. map (λ p. same_datagram p i) (filter (is_at_server x.number placed) part))
       ∙ ap (map (captured_at_server name x (more ++ placed))) (sym (filter_agree (is_at_server x.number (more ++ placed)) (is_at_server x.number placed) (at_server_stays x.number more placed settled) part))
 
-pub server_goes_on : (s : Server) (name : Naming) (more placed part : List Placed) → is_settled s.transfer.number placed ≡ true → IsServerAfter s name placed part → IsServerAfter s name (more ++ placed) part
-server_goes_on s name more placed part settled after = record {
+pub server_goes_on : (rollover : Option Rollover) (s : Server) (name : Naming) (more placed part : List Placed) → is_settled s.transfer.number placed ≡ true → IsServerAfterBy rollover s name placed part → IsServerAfterBy rollover s name (more ++ placed) part
+server_goes_on rollover s name more placed part settled after = record {
   number = after.number;
   ends = ends_stay s.transfer.number more placed settled s.ends after.number after.ends;
-  judged = subst (HasJudged s.end.judge (server_header s.transfer)) (capture_stays name s.transfer more placed settled part) after.judged;
+  judged = subst (HasJudgedBy rollover s.end.judge (server_header s.transfer)) (capture_stays name s.transfer more placed settled part) after.judged;
 }

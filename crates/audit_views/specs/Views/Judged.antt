@@ -1,10 +1,12 @@
 -- What a judge stands for that was given each datagram of a capture, also after it refused one. Lists have the newest first.
 use Rattle.std.specs.Prelude.{◌≡◌, ◌^◌, ◌≤◌, List, ◌∷◌, ◌++◌, All, length, reverse, Option, Some, None, Result, Ok, Err}
 use Rattle.tftp_capture.specs.{IsLawful, IsPort, text_with_hosts}
+use Rattle.tftp_packet.specs.{Rollover}
 use Rattle.tftp_packet.specs.Hosts.{Datagram, Header}
 use Rattle.law_model.specs.Model.{Meaning}
 use Rattle.law_end.specs.{OneEnded}
-use Rattle.tftp_judge.specs.{Refuses, IsJudgeAfter, Judge, IsTextVerdict, IsSaid, IsVerdict, Refusal, Verdict, Refused}
+use Rattle.law_rollover.specs.{AreUnrolled}
+use Rattle.tftp_judge.specs.{Refuses, IsJudgeAfter, Judge, IsSaid, IsSaidBy, IsTextVerdictBy, Refusal, Verdict, Refused, header_by}
 
 -- Those before this one break no rule, and this one was refused.
 pub record IsRefusedIn (h : Header) (given : List Datagram) (refusal : Refusal) : Type 0 where
@@ -23,7 +25,21 @@ JudgedBy (Some refusal) j h given = IsRefusedIn h given refusal
 abbrev pub HasJudged : Judge → Header → List Datagram → Type 0
 HasJudged j h given = JudgedBy j.refused j h given
 
--- the same, of a text
+-- This holds of what the datagrams are taken for: themselves; or where numbers begin again after block 65535, each with the block
+-- near in the place of its number.
+abbrev pub HoldsOf : Option Rollover → (Header → List Datagram → Type 0) → Header → List Datagram → Type 0
+HoldsOf None Holds h given = Holds h given
+HoldsOf (Some r) Holds h given = (taken : List Datagram) × AreUnrolled r (header_by (Some r) h) given taken × Holds (header_by (Some r) h) taken
+
+-- so it stands for what they are taken for
+abbrev pub HasJudgedBy : Option Rollover → Judge → Header → List Datagram → Type 0
+HasJudgedBy rollover j = HoldsOf rollover (HasJudged j)
+
+-- By this rollover it stands for some datagrams of a text, unless it has refused one.
+abbrev pub StandsBy : Option Rollover → Judge → Type 0
+StandsBy rollover j = j.refused ≡ None → (h : Header) × (given : List Datagram) × (h.rollover ≡ None) × HasJudgedBy rollover j h given
+
+-- what is said of datagrams, as it is said of a text
 abbrev pub of_text : Result Meaning Refusal → Result Meaning Verdict
 of_text (Ok m) = Ok m
 of_text (Err refusal) = Err (Refused refusal)
@@ -35,11 +51,19 @@ pub record AreWritten (h : Header) (given : List Datagram) : Type 0 where
   pub lawful : All IsLawful (reverse given)
   pub short : length (text_with_hosts h (reverse given)) ≤ 2 ^ 40
 
--- What is said of the datagrams is their verdict; and it is that of the text which has just them.
-pub record IsJudged (h : Header) (given : List Datagram) (said : Result Meaning Refusal) : Type 0 where
-  pub verdict : IsVerdict h (reverse given) said
-  pub text : AreWritten h given → IsTextVerdict (text_with_hosts h (reverse given)) (of_text said)
+-- What is said of the datagrams is the verdict on what they are taken for; and it is that of the text which has just them, by the same
+-- rollover.
+pub record IsJudgedBy (rollover : Option Rollover) (h : Header) (given : List Datagram) (said : Result Meaning Refusal) : Type 0 where
+  pub verdict : IsSaidBy rollover said h (reverse given)
+  pub text : AreWritten h given → IsTextVerdictBy rollover (text_with_hosts h (reverse given)) (of_text said)
 
 -- unless memory ran out
+abbrev pub IsFoundBy : Option Rollover → Header → List Datagram → Result Meaning Refusal → Type 0
+IsFoundBy rollover h given said = IsSaid said → IsJudgedBy rollover h given said
+
+-- the same where blocks go up to 65535
+abbrev pub IsJudged : Header → List Datagram → Result Meaning Refusal → Type 0
+IsJudged = IsJudgedBy None
+
 abbrev pub IsJudgedWith : Header → List Datagram → Result Meaning Refusal → Type 0
-IsJudgedWith h given said = IsSaid said → IsJudged h given said
+IsJudgedWith = IsFoundBy None

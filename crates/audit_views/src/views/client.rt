@@ -1,13 +1,14 @@
 //! The judge of a transfer's client, fed with a recording.
 
-ghost use Rattle.std.specs.Prelude.{◌≡◌, ◌+◌, ◌^◌, ◌<◌, ◌≤◌, ◌∷◌, ℕ, List, [], length, OnOk, OnErr, Ok, Err, None, Some, true, false};
+ghost use Rattle.std.specs.Prelude.{◌≡◌, ◌+◌, ◌^◌, ◌<◌, ◌≤◌, ◌∷◌, ℕ, List, [], length, Option, OnOk, OnErr, Ok, Err, None, Some, true, false};
 ghost use Rattle.law_model.specs.Rules.{transfer_of};
 ghost use Rattle.tftp_judge.specs.{TakesForJoin, Refusal as RefusalKind};
 ghost use Rattle.law_end.specs.{IsEnded};
+ghost use Rattle.tftp_packet.specs.{Rollover};
 ghost use Rattle.audit_flows.specs.Lines.{Placed, is_of};
 ghost use Rattle.audit_views.specs.Views.Captured.{Naming, client_capture, client_header};
-ghost use Rattle.audit_views.specs.Views.Judged.{IsJudgedWith};
-ghost use Rattle.audit_views.specs.Views.Kept.{IsClientAfter, IsFed, held_of};
+ghost use Rattle.audit_views.specs.Views.Judged.{HoldsOf, IsFoundBy, IsJudgedWith};
+ghost use Rattle.audit_views.specs.Views.Kept.{IsClientAfter, IsClientAfterBy, IsFed, held_of};
 
 use crate::views::end_judge::EndJudge;
 use crate::views::fed::Fed;
@@ -19,6 +20,7 @@ use tftp_capture::Header;
 use tftp_ends::blocks::Delivered;
 use tftp_judge::{Meaning, Refusal};
 use tftp_packet::End;
+use tftp_packet::rounds::Rollover;
 
 /// The judge of a transfer at its client (RFC 1350, section 2): it picks the client's view out of a recording.
 #[derive(Drop)]
@@ -41,9 +43,19 @@ impl<D: Delivered + Drop> Model for ClientJudge<D> {
 }
 
 impl<D: Delivered + Drop> ClientJudge<D> {
-    /// Of this transfer, before any datagram. Takes no memory.
+    /// Of this transfer, before any datagram; its blocks go up to 65535. Takes no memory.
     pub fn new(alloc: Global, transfer: Transfer) -> Self
         ensures after { (name : Naming) → IsClientAfter result name [] }
+        ensures transfer { result.transfer ≡ transfer }
+        ensures none { result.end.judge.fed ≡ 0 }
+        ensures goes_on { result.end.judge.refused ≡ None }
+    {
+        ClientJudge::by(alloc, transfer, None)
+    }
+
+    /// The same where this comes after block 65535 (RFC 1350, section 5, gives numbers two bytes and says no more).
+    pub fn by(alloc: Global, transfer: Transfer, rollover: Option<Rollover>) -> Self
+        ensures after { (name : Naming) → IsClientAfterBy rollover result name [] }
         ensures transfer { result.transfer ≡ transfer }
         ensures none { result.end.judge.fed ≡ 0 }
         ensures goes_on { result.end.judge.refused ≡ None }
@@ -51,7 +63,7 @@ impl<D: Delivered + Drop> ClientJudge<D> {
         let header = Header {
             named: End::Client,
             service: transfer.asked.port,
-            rollover: None,
+            rollover,
         };
         ClientJudge {
             transfer,
@@ -66,6 +78,8 @@ impl<D: Delivered + Drop> ClientJudge<D> {
         requires short { length fed.now.payload.now ≤ 65527 }
         ensures after { (name : Naming) (p : Placed) (older : List Placed) → IsClientAfter self.old name older
             → IsFed name p (held_of fed.now) → OnOk result (IsClientAfter self.new name (p ∷ older)) }
+        ensures by_rollover { (rollover : Option Rollover) (name : Naming) (p : Placed) (older : List Placed) → IsClientAfterBy rollover self.old name older
+            → IsFed name p (held_of fed.now) → OnOk result (IsClientAfterBy rollover self.new name (p ∷ older)) }
         ensures others { (p : Placed) → fed.now.place.now ≡ p.place → is_of self.old.transfer.number p ≡ false
             → (result ≡ Ok tt) × (self.new ≡ self.old) }
         ensures longer { OnErr result (self.old.end.room < length fed.now.payload.now) }
@@ -115,11 +129,12 @@ impl<D: Delivered + Drop> ClientJudge<D> {
     pub fn finish(self, alloc: Global) -> Result<Meaning, Refusal>
         ensures judged { (name : Naming) (placed : List Placed) → IsClientAfter self name placed
             → IsJudgedWith (client_header self.transfer) (client_capture name self.transfer placed) result }
+        ensures by_rollover { (rollover : Option Rollover) (name : Naming) (placed : List Placed) → IsClientAfterBy rollover self name placed
+            → IsFoundBy rollover (client_header self.transfer) (client_capture name self.transfer placed) result }
         ensures for_good { (refusal : RefusalKind) → self.end.judge.refused ≡ Some refusal → result ≡ Err refusal }
-        ensures memory { (name : Naming) (placed : List Placed) (count : ℕ) → IsClientAfter self name placed
+        ensures memory { (rollover : Option Rollover) (name : Naming) (placed : List Placed) (count : ℕ) → IsClientAfterBy rollover self name placed
             → self.end.judge.refused ≡ None → result ≡ Err (RefusalKind.Memory count)
-            → IsEnded (client_header self.transfer) (client_capture name self.transfer placed)
-            × TakesForJoin D.join_takes (transfer_of (client_header self.transfer) (client_capture name self.transfer placed)) }
+            → HoldsOf rollover (λ k taken. IsEnded k taken × TakesForJoin D.join_takes (transfer_of k taken)) (client_header self.transfer) (client_capture name self.transfer placed) }
     {
         let ClientJudge { transfer: _, judge } = self;
         judge.finish(alloc)

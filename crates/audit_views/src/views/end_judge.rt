@@ -1,13 +1,14 @@
 //! The judge of one end, which is given each datagram that passed there.
 
-ghost use Rattle.std.specs.Prelude.{◌≡◌, ◌+◌, ◌^◌, ◌<◌, ◌≤◌, ◌∷◌, ℕ, List, [], length, vec_len, Err, None, Some, OnOk, OnErr};
+ghost use Rattle.std.specs.Prelude.{◌≡◌, ◌+◌, ◌^◌, ◌<◌, ◌≤◌, ◌∷◌, ℕ, List, [], length, vec_len, Option, Err, None, Some, OnOk, OnErr};
 ghost use Rattle.tftp_capture.specs.{datagram_of, header_of};
 ghost use Rattle.tftp_packet.specs.Hosts.{Datagram as DatagramParts, Header as HeaderParts};
 ghost use Rattle.law_model.specs.Rules.{transfer_of};
 ghost use Rattle.tftp_judge.specs.{TakesForJoin, Refusal as RefusalKind};
 ghost use Rattle.law_end.specs.{IsEnded};
+ghost use Rattle.tftp_packet.specs.{Rollover};
 ghost use Rattle.audit_views.specs.Views.Captured.{captured_as};
-ghost use Rattle.audit_views.specs.Views.Judged.{HasJudged, IsJudgedWith};
+ghost use Rattle.audit_views.specs.Views.Judged.{HasJudged, HasJudgedBy, HoldsOf, IsFoundBy};
 
 use crate::views::fed::Fed;
 use crate::views::ways::captured;
@@ -18,11 +19,14 @@ use tftp_ends::blocks::Delivered;
 use tftp_judge::{Judge, Meaning, Refusal};
 use tftp_packet::Bytes;
 use tftp_packet::hosts::Dir;
+use tftp_packet::rounds::Rollover;
 
-/// A judge, and memory for one datagram, into which each is copied.
+/// A judge, and memory for one datagram, into which each is copied. Where numbers begin again after block 65535, it takes a
+/// number for the block near the highest that has passed there.
 #[derive(Drop)]
 pub struct EndJudge<D: Delivered + Drop> {
     judge: Judge<D>,
+    rollover: Option<Rollover>,
     datagram: Datagram,
 }
 
@@ -31,6 +35,7 @@ impl<D: Delivered + Drop> Model for EndJudge<D> {
     ghost use Rattle.std.specs.Prelude.{length};
     ghost use Rattle.tftp_ends.specs.StatesKept.{sender_code, receiver_code};
     ghost use Rattle.tftp_packet.specs.Owned.{options_code, parts_code};
+    ghost use Rattle.audit_views.specs.Views.Judged.{StandsBy};
     ghost use Rattle.audit_views.specs.Views.Kept.{OneEnd};
 
     ghost Value = { OneEnd };
@@ -38,10 +43,12 @@ impl<D: Delivered + Drop> Model for EndJudge<D> {
     ghost coded = { Prim.hlevel (codes, sender_code, receiver_code, options_code, parts_code) };
 
     ghost view = { λ e. record { judge = e.judge; room = length e.datagram.payload } };
+
+    ghost invariant = { λ e. StandsBy e.rollover e.judge };
 }
 
 impl<D: Delivered + Drop> EndJudge<D> {
-    /// A judge that was given nothing, of a capture with this header. Takes no memory.
+    /// A judge that was given nothing, of a capture with this header, which says what comes after block 65535. Takes no memory.
     pub fn new(alloc: Global, header: &Header) -> Self
         ensures judged { HasJudged result.judge (header_of header.now) [] }
         ensures none { result.judge.fed ≡ 0 }
@@ -49,6 +56,7 @@ impl<D: Delivered + Drop> EndJudge<D> {
     {
         EndJudge {
             judge: Judge::new(alloc, header),
+            rollover: header.rollover,
             datagram: Datagram::empty(alloc),
         }
     }
@@ -58,8 +66,8 @@ impl<D: Delivered + Drop> EndJudge<D> {
     pub fn put(&mut self, alloc: Global, dir: Dir, fed: &Fed<'_>) -> Result<(), AllocError>
         requires few { self.old.judge.fed < 2 ^ 40 }
         requires short { length fed.now.payload.now ≤ 65527 }
-        ensures judged { (h : HeaderParts) (given : List DatagramParts) → HasJudged self.old.judge h given
-            → OnOk result (HasJudged self.new.judge h (captured_as dir fed.now.source.now fed.now.target.now fed.now.payload.now ∷ given)) }
+        ensures judged { (rollover : Option Rollover) (h : HeaderParts) (given : List DatagramParts) → h.rollover ≡ None → HasJudgedBy rollover self.old.judge h given
+            → OnOk result (HasJudgedBy rollover self.new.judge h (captured_as dir fed.now.source.now fed.now.target.now fed.now.payload.now ∷ given)) }
         ensures room { OnOk result (self.new.room ≡ length fed.now.payload.now) }
         ensures longer { OnErr result (self.old.room < length fed.now.payload.now) }
         ensures same { OnErr result (self.new ≡ self.old) }
@@ -82,17 +90,14 @@ impl<D: Delivered + Drop> EndJudge<D> {
     pub fn give(&mut self, alloc: Global, datagram: Datagram)
         requires few { self.old.judge.fed < 2 ^ 40 }
         requires short { length datagram.payload ≤ 65527 }
-        ensures judged { (h : HeaderParts) (given : List DatagramParts) → HasJudged self.old.judge h given
-            → HasJudged self.new.judge h (datagram_of datagram ∷ given) }
+        ensures judged { (rollover : Option Rollover) (h : HeaderParts) (given : List DatagramParts) → h.rollover ≡ None → HasJudgedBy rollover self.old.judge h given
+            → HasJudgedBy rollover self.new.judge h (datagram_of datagram ∷ given) }
         ensures room { self.new.room ≡ length datagram.payload }
         ensures counts { self.new.judge.fed ≤ self.old.judge.fed + 1 }
         ensures for_good { (refusal : RefusalKind) → self.old.judge.refused ≡ Some refusal → self.new.judge ≡ self.old.judge }
     {
         self.datagram = datagram;
-        match self.judge.feed(alloc, &self.datagram) {
-            Ok(()) => {}
-            Err(_) => {}
-        }
+        feed(&mut self.judge, alloc, self.rollover, &self.datagram);
     }
 
     /// How many datagrams were accepted.
@@ -112,14 +117,39 @@ impl<D: Delivered + Drop> EndJudge<D> {
     /// What there is to say of all that it was given: the verdict of the text that has just them, or being out of memory. That
     /// comes for the datagram that it was wanting for, or of a whole transfer whose store takes memory to join the blocks.
     pub fn finish(self, alloc: Global) -> Result<Meaning, Refusal>
-        ensures judged { (h : HeaderParts) (given : List DatagramParts) → HasJudged self.judge h given → IsJudgedWith h given result }
+        ensures judged { (rollover : Option Rollover) (h : HeaderParts) (given : List DatagramParts) → HasJudgedBy rollover self.judge h given
+            → IsFoundBy rollover h given result }
         ensures for_good { (refusal : RefusalKind) → self.judge.refused ≡ Some refusal → result ≡ Err refusal }
-        ensures memory { (h : HeaderParts) (given : List DatagramParts) (count : ℕ) → HasJudged self.judge h given
+        ensures memory { (rollover : Option Rollover) (h : HeaderParts) (given : List DatagramParts) (count : ℕ) → HasJudgedBy rollover self.judge h given
             → self.judge.refused ≡ None → result ≡ Err (RefusalKind.Memory count)
-            → IsEnded h given × TakesForJoin D.join_takes (transfer_of h given) }
+            → HoldsOf rollover (λ k taken. IsEnded k taken × TakesForJoin D.join_takes (transfer_of k taken)) h given }
     {
-        let EndJudge { judge, datagram: _ } = self;
+        let EndJudge { judge, .. } = self;
         judge.finish(alloc)
+    }
+}
+
+/// Gives a judge the next datagram, whose numbers begin again or do not; a refusal it keeps.
+fn feed<D: Delivered + Drop>(
+    judge: &mut Judge<D>,
+    alloc: Global,
+    rollover: Option<Rollover>,
+    datagram: &Datagram,
+)
+    requires few { judge.old.fed < 2 ^ 40 }
+    requires short { length datagram.now.payload ≤ 65527 }
+    ensures judged { (h : HeaderParts) (given : List DatagramParts) → HasJudgedBy rollover judge.old h given
+        → HasJudgedBy rollover judge.new h (datagram_of datagram.now ∷ given) }
+    ensures counts { judge.new.fed ≤ judge.old.fed + 1 }
+    ensures for_good { (refusal : RefusalKind) → judge.old.refused ≡ Some refusal → judge.new ≡ judge.old }
+{
+    match rollover {
+        Some(rollover) => {
+            let _kept = judge.feed_numbered(alloc, rollover, datagram);
+        }
+        None => {
+            let _kept = judge.feed(alloc, datagram);
+        }
     }
 }
 

@@ -1,14 +1,15 @@
 //! The judge of a transfer's server, fed with a recording once it is known who the server is.
 
-ghost use Rattle.std.specs.Prelude.{◌≡◌, ◌+◌, ◌^◌, ◌<◌, ◌≤◌, ◌∷◌, ℕ, List, [], length, OnOk, OnErr, Ok, Err, None, Some, true, false};
+ghost use Rattle.std.specs.Prelude.{◌≡◌, ◌+◌, ◌^◌, ◌<◌, ◌≤◌, ◌∷◌, ℕ, List, [], length, Option, OnOk, OnErr, Ok, Err, None, Some, true, false};
 ghost use Rattle.law_model.specs.Rules.{transfer_of};
 ghost use Rattle.tftp_judge.specs.{TakesForJoin, Refusal as RefusalKind};
 ghost use Rattle.law_end.specs.{IsEnded};
+ghost use Rattle.tftp_packet.specs.{Rollover};
 ghost use Rattle.audit_flows.specs.Transfers.{AreEndsAfter, is_settled, is_at_server};
 ghost use Rattle.audit_flows.specs.Lines.{Placed};
 ghost use Rattle.audit_views.specs.Views.Captured.{Naming, server_capture, server_header};
-ghost use Rattle.audit_views.specs.Views.Judged.{IsJudgedWith};
-ghost use Rattle.audit_views.specs.Views.Kept.{IsFed, IsServerAfter, held_of};
+ghost use Rattle.audit_views.specs.Views.Judged.{HoldsOf, IsFoundBy};
+ghost use Rattle.audit_views.specs.Views.Kept.{IsFed, IsServerAfterBy, held_of};
 
 use crate::views::end_judge::EndJudge;
 use crate::views::fed::Fed;
@@ -22,6 +23,7 @@ use tftp_capture::Header;
 use tftp_ends::blocks::Delivered;
 use tftp_judge::{Meaning, Refusal};
 use tftp_packet::End;
+use tftp_packet::rounds::Rollover;
 
 /// The judge of a transfer at its server (RFC 1350, section 2): it picks the server's view out of a recording.
 #[derive(Drop)]
@@ -45,10 +47,16 @@ impl<D: Delivered + Drop> Model for ServerJudge<D> {
 }
 
 impl<D: Delivered + Drop> ServerJudge<D> {
-    /// Of this transfer, whose ends are known, before any datagram. Takes no memory.
-    pub fn new(alloc: Global, transfer: Transfer, ends: TransferEnds) -> Self
+    /// Of this transfer, whose ends are known, before any datagram; the rollover is what comes after block 65535, where anything
+    /// does. Takes no memory.
+    pub fn new(
+        alloc: Global,
+        transfer: Transfer,
+        rollover: Option<Rollover>,
+        ends: TransferEnds,
+    ) -> Self
         requires number { ends.number ≡ transfer.number }
-        ensures after { (name : Naming) (whole : List Placed) → AreEndsAfter ends whole → IsServerAfter result name whole [] }
+        ensures after { (name : Naming) (whole : List Placed) → AreEndsAfter ends whole → IsServerAfterBy rollover result name whole [] }
         ensures transfer { result.transfer ≡ transfer }
         ensures none { result.end.judge.fed ≡ 0 }
         ensures goes_on { result.end.judge.refused ≡ None }
@@ -56,7 +64,7 @@ impl<D: Delivered + Drop> ServerJudge<D> {
         let header = Header {
             named: End::Server,
             service: transfer.asked.port,
-            rollover: None,
+            rollover,
         };
         ServerJudge {
             transfer,
@@ -71,14 +79,14 @@ impl<D: Delivered + Drop> ServerJudge<D> {
     pub fn feed(&mut self, alloc: Global, fed: &Fed<'_>) -> Result<(), AllocError>
         requires few { self.old.end.judge.fed < 2 ^ 40 }
         requires short { length fed.now.payload.now ≤ 65527 }
-        ensures after { (name : Naming) (whole : List Placed) (p : Placed) (part : List Placed) → IsServerAfter self.old name whole part
-            → IsFed name p (held_of fed.now) → OnOk result (IsServerAfter self.new name whole (p ∷ part)) }
-        ensures goes_on { (name : Naming) (p : Placed) (older : List Placed) → IsServerAfter self.old name older older
+        ensures after { (rollover : Option Rollover) (name : Naming) (whole : List Placed) (p : Placed) (part : List Placed) → IsServerAfterBy rollover self.old name whole part
+            → IsFed name p (held_of fed.now) → OnOk result (IsServerAfterBy rollover self.new name whole (p ∷ part)) }
+        ensures goes_on { (rollover : Option Rollover) (name : Naming) (p : Placed) (older : List Placed) → IsServerAfterBy rollover self.old name older older
             → is_settled self.old.transfer.number older ≡ true → IsFed name p (held_of fed.now)
-            → OnOk result (IsServerAfter self.new name (p ∷ older) (p ∷ older)) }
+            → OnOk result (IsServerAfterBy rollover self.new name (p ∷ older) (p ∷ older)) }
         ensures settled { (p : Placed) (older : List Placed) → is_settled self.old.transfer.number older ≡ true
             → is_settled self.new.transfer.number (p ∷ older) ≡ true }
-        ensures others { (name : Naming) (whole : List Placed) (p : Placed) (part : List Placed) → IsServerAfter self.old name whole part
+        ensures others { (rollover : Option Rollover) (name : Naming) (whole : List Placed) (p : Placed) (part : List Placed) → IsServerAfterBy rollover self.old name whole part
             → IsFed name p (held_of fed.now) → is_at_server self.old.transfer.number whole p ≡ false
             → (result ≡ Ok tt) × (self.new ≡ self.old) }
         ensures longer { OnErr result (self.old.end.room < length fed.now.payload.now) }
@@ -101,8 +109,8 @@ impl<D: Delivered + Drop> ServerJudge<D> {
     pub fn take(&mut self, alloc: Global, held: Held)
         requires few { self.old.end.judge.fed < 2 ^ 40 }
         requires short { length held.payload ≤ 65527 }
-        ensures after { (name : Naming) (whole : List Placed) (p : Placed) (part : List Placed) → IsServerAfter self.old name whole part
-            → IsFed name p held → IsServerAfter self.new name whole (p ∷ part) }
+        ensures after { (rollover : Option Rollover) (name : Naming) (whole : List Placed) (p : Placed) (part : List Placed) → IsServerAfterBy rollover self.old name whole part
+            → IsFed name p held → IsServerAfterBy rollover self.new name whole (p ∷ part) }
         ensures counts { self.new.end.judge.fed ≤ self.old.end.judge.fed + 1 }
         ensures transfer { self.new.transfer ≡ self.old.transfer }
     {
@@ -140,13 +148,12 @@ impl<D: Delivered + Drop> ServerJudge<D> {
     /// What there is to say of the server's view, once the whole was fed: the verdict of the text that has just it, or want
     /// of memory.
     pub fn finish(self, alloc: Global) -> Result<Meaning, Refusal>
-        ensures judged { (name : Naming) (whole part : List Placed) → IsServerAfter self name whole part
-            → IsJudgedWith (server_header self.transfer) (server_capture name self.transfer whole part) result }
+        ensures judged { (rollover : Option Rollover) (name : Naming) (whole part : List Placed) → IsServerAfterBy rollover self name whole part
+            → IsFoundBy rollover (server_header self.transfer) (server_capture name self.transfer whole part) result }
         ensures for_good { (refusal : RefusalKind) → self.end.judge.refused ≡ Some refusal → result ≡ Err refusal }
-        ensures memory { (name : Naming) (whole part : List Placed) (count : ℕ) → IsServerAfter self name whole part
+        ensures memory { (rollover : Option Rollover) (name : Naming) (whole part : List Placed) (count : ℕ) → IsServerAfterBy rollover self name whole part
             → self.end.judge.refused ≡ None → result ≡ Err (RefusalKind.Memory count)
-            → IsEnded (server_header self.transfer) (server_capture name self.transfer whole part)
-            × TakesForJoin D.join_takes (transfer_of (server_header self.transfer) (server_capture name self.transfer whole part)) }
+            → HoldsOf rollover (λ k taken. IsEnded k taken × TakesForJoin D.join_takes (transfer_of k taken)) (server_header self.transfer) (server_capture name self.transfer whole part) }
     {
         let ServerJudge { judge, .. } = self;
         judge.finish(alloc)

@@ -1,15 +1,16 @@
 //! The server's view of a transfer, judged in one pass over a recording.
 
-ghost use Rattle.std.specs.Prelude.{◌≡◌, ◌+◌, ◌^◌, ◌<◌, ◌≤◌, ◌∷◌, ℕ, List, [], All, filter, length, reverse, OnOk, OnErr, Ok, Err, None, Some, true, false};
+ghost use Rattle.std.specs.Prelude.{◌≡◌, ◌+◌, ◌^◌, ◌<◌, ◌≤◌, ◌∷◌, ℕ, List, [], All, filter, length, reverse, Option, OnOk, OnErr, Ok, Err, None, Some, true, false};
 ghost use Rattle.std.specs.VecDeque.{deque_len};
 ghost use Rattle.law_end.specs.{IsEnded};
+ghost use Rattle.tftp_packet.specs.{Rollover};
 ghost use Rattle.law_model.specs.Rules.{transfer_of};
 ghost use Rattle.tftp_judge.specs.{TakesForJoin, Refusal as RefusalKind};
 ghost use Rattle.audit_flows.specs.Transfers.{AreEndsAfter, is_settled, is_about};
 ghost use Rattle.audit_flows.specs.Lines.{Placed};
 ghost use Rattle.audit_views.specs.Views.Captured.{Naming, server_capture, server_header};
-ghost use Rattle.audit_views.specs.Views.Judged.{IsJudgedWith};
-ghost use Rattle.audit_views.specs.Views.Kept.{AreHeld, IsFed, IsServerAfter, IsViewAfter, Server, fed_to, has_refused, held_of};
+ghost use Rattle.audit_views.specs.Views.Judged.{HoldsOf, IsFoundBy, IsJudgedWith};
+ghost use Rattle.audit_views.specs.Views.Kept.{AreHeld, IsFed, IsServerAfterBy, IsViewAfter, IsViewAfterBy, Server, fed_to, has_refused, held_of};
 
 use crate::views::fed::Fed;
 use crate::views::held::Held;
@@ -22,12 +23,14 @@ use std::marker::Model;
 use std::mem;
 use tftp_ends::blocks::Delivered;
 use tftp_judge::{Meaning, Refusal};
+use tftp_packet::rounds::Rollover;
 
 /// The judge of a transfer at its server (RFC 1350, section 2), fed with a recording from its first datagram to its last.
 /// Until it is known who the server is it holds the transfer's datagrams; then it gives them to the judge, and holds none.
 #[derive(Drop)]
 pub struct ServerView<D: Delivered + Drop> {
     transfer: Transfer,
+    rollover: Option<Rollover>,
     ends: TransferEnds,
     held: VecDeque<Held>,
     judge: Option<ServerJudge<D>>,
@@ -46,20 +49,30 @@ impl<D: Delivered + Drop> Model for ServerView<D> {
 
     ghost coded = { Prim.hlevel (codes, sender_code, receiver_code, options_code, parts_code) };
 
-    ghost view = { λ v. record { transfer = v.transfer; ends = v.ends; held = v.held.items; judge = v.judge } };
+    ghost view = { λ v. record { transfer = v.transfer; rollover = v.rollover; ends = v.ends; held = v.held.items; judge = v.judge } };
 
     ghost invariant = { λ v. (v.ends.number ≡ v.transfer.number) × (deque_len v.held ≤ 2 ^ 40) × All (λ (h : Held). length h.payload ≤ 65527) v.held.items };
 }
 
 impl<D: Delivered + Drop> ServerView<D> {
-    /// Of this transfer, before any datagram. Takes no memory.
+    /// Of this transfer, before any datagram; its blocks go up to 65535. Takes no memory.
     pub fn new(alloc: Global, transfer: Transfer) -> Self
         ensures after { (name : Naming) → IsViewAfter result name [] }
         ensures transfer { result.transfer ≡ transfer }
         ensures none { fed_to result ≡ 0 }
     {
+        ServerView::by(alloc, transfer, None)
+    }
+
+    /// The same where this comes after block 65535 (RFC 1350, section 5, gives numbers two bytes and says no more).
+    pub fn by(alloc: Global, transfer: Transfer, rollover: Option<Rollover>) -> Self
+        ensures after { (name : Naming) → IsViewAfterBy rollover result name [] }
+        ensures transfer { result.transfer ≡ transfer }
+        ensures none { fed_to result ≡ 0 }
+    {
         ServerView {
             transfer,
+            rollover,
             ends: TransferEnds::new(transfer.number),
             held: VecDeque::new(alloc),
             judge: None,
@@ -74,6 +87,8 @@ impl<D: Delivered + Drop> ServerView<D> {
         requires short { length fed.now.payload.now ≤ 65527 }
         ensures after { (name : Naming) (p : Placed) (older : List Placed) → IsViewAfter self.old name older
             → IsFed name p (held_of fed.now) → OnOk result (IsViewAfter self.new name (p ∷ older)) }
+        ensures by_rollover { (rollover : Option Rollover) (name : Naming) (p : Placed) (older : List Placed) → IsViewAfterBy rollover self.old name older
+            → IsFed name p (held_of fed.now) → OnOk result (IsViewAfterBy rollover self.new name (p ∷ older)) }
         ensures others { (p : Placed) → fed.now.place.now ≡ p.place → is_about self.old.transfer.number p ≡ false
             → (result ≡ Ok tt) × (self.new ≡ self.old) }
         ensures longer { (judge : Server) → self.old.judge ≡ Some judge → OnErr result (judge.end.room < length fed.now.payload.now) }
@@ -96,9 +111,9 @@ impl<D: Delivered + Drop> ServerView<D> {
         requires waits { self.old.judge ≡ None }
         requires few { length self.old.held < 2 ^ 40 }
         requires short { length fed.now.payload.now ≤ 65527 }
-        ensures after { (name : Naming) (p : Placed) (older : List Placed) → IsViewAfter self.old name older
+        ensures after { (rollover : Option Rollover) (name : Naming) (p : Placed) (older : List Placed) → IsViewAfterBy rollover self.old name older
             → IsFed name p (held_of fed.now) → is_about self.old.transfer.number p ≡ true
-            → OnOk result (IsViewAfter self.new name (p ∷ older)) }
+            → OnOk result (IsViewAfterBy rollover self.new name (p ∷ older)) }
         ensures same { OnErr result (self.new ≡ self.old) }
         ensures counts { fed_to self.new ≤ fed_to self.old + 1 }
         ensures transfer { self.new.transfer ≡ self.old.transfer }
@@ -108,7 +123,7 @@ impl<D: Delivered + Drop> ServerView<D> {
             .note(fed.place, fed.source.end, fed.target.end, fed.payload);
         if self.ends.is_settled() {
             let held = mem::replace(&mut self.held, VecDeque::new(alloc));
-            self.judge = Some(judge_of(alloc, self.transfer, self.ends, held));
+            self.judge = Some(judge_of(alloc, self.transfer, self.rollover, self.ends, held));
         }
         Ok(())
     }
@@ -150,21 +165,23 @@ impl<D: Delivered + Drop> ServerView<D> {
     pub fn finish(self, alloc: Global) -> Result<Meaning, Refusal>
         ensures judged { (name : Naming) (whole : List Placed) → IsViewAfter self name whole
             → IsJudgedWith (server_header self.transfer) (server_capture name self.transfer whole whole) result }
+        ensures by_rollover { (rollover : Option Rollover) (name : Naming) (whole : List Placed) → IsViewAfterBy rollover self name whole
+            → IsFoundBy rollover (server_header self.transfer) (server_capture name self.transfer whole whole) result }
         ensures for_good { (refusal : RefusalKind) → has_refused self ≡ Some refusal → result ≡ Err refusal }
-        ensures memory { (name : Naming) (whole : List Placed) (judge : Server) (count : ℕ) → IsViewAfter self name whole
+        ensures memory { (rollover : Option Rollover) (name : Naming) (whole : List Placed) (judge : Server) (count : ℕ) → IsViewAfterBy rollover self name whole
             → self.judge ≡ Some judge → judge.end.judge.refused ≡ None → result ≡ Err (RefusalKind.Memory count)
-            → IsEnded (server_header self.transfer) (server_capture name self.transfer whole whole)
-            × TakesForJoin D.join_takes (transfer_of (server_header self.transfer) (server_capture name self.transfer whole whole)) }
+            → HoldsOf rollover (λ k taken. IsEnded k taken × TakesForJoin D.join_takes (transfer_of k taken)) (server_header self.transfer) (server_capture name self.transfer whole whole) }
     {
         let ServerView {
             transfer,
+            rollover,
             ends,
             held,
             judge,
         } = self;
         match judge {
             Some(judge) => judge.finish(alloc),
-            None => judge_of::<D>(alloc, transfer, ends, held).finish(alloc),
+            None => judge_of::<D>(alloc, transfer, rollover, ends, held).finish(alloc),
         }
     }
 }
@@ -173,6 +190,7 @@ impl<D: Delivered + Drop> ServerView<D> {
 fn judge_of<D: Delivered + Drop>(
     alloc: Global,
     transfer: Transfer,
+    rollover: Option<Rollover>,
     ends: TransferEnds,
     mut held: VecDeque<Held>,
 ) -> ServerJudge<D>
@@ -180,11 +198,11 @@ fn judge_of<D: Delivered + Drop>(
     requires few { deque_len held ≤ 2 ^ 40 }
     requires short { All (λ (h : Held). length h.payload ≤ 65527) held.items }
     ensures after { (name : Naming) (whole part : List Placed) → AreEndsAfter ends whole → AreHeld name held.items (reverse part)
-        → IsServerAfter result name whole part }
+        → IsServerAfterBy rollover result name whole part }
     ensures counts { result.end.judge.fed ≤ deque_len held }
     ensures transfer { result.transfer ≡ transfer }
 {
-    let mut judge = ServerJudge::new(alloc, transfer, ends);
+    let mut judge = ServerJudge::new(alloc, transfer, rollover, ends);
     while let Some(next) = held.pop_front() {
         judge.take(alloc, next);
     }

@@ -6,4 +6,4 @@ pub returns-clause-read : goal.returns-clause-read
 returns-clause-read c = λ text h given t port plain lawful short. (numbered_in 4 t.entries, is_read text h given t port plain lawful short, said_so text h given t port plain lawful short)
 
 pub returns-clause-verdict : goal.returns-clause-verdict
-returns-clause-verdict c = λ text h given t port plain lawful short said of is. has_verdict text h given t port plain lawful short said of is
+returns-clause-verdict c = λ text h given t port plain lawful short. has_verdict text h given t port plain lawful short

@@ -10,7 +10,7 @@ use Rattle.audit_views.proofs.views.server_view.judge_of.Given as goal
 -- the oldest were given, and the rest is held
 abbrev pub invariant-loop-next : goal.invariant-loop-next
 invariant-loop-next g l = record {
-  given : (name : Naming) (whole part : List Placed) → AreEndsAfter l.fn.ends whole → AreHeld name l.fn.held.items (reverse part) → IsGivenSoFar l.judge name whole part l.held.items;
+  given : (name : Naming) (whole part : List Placed) → AreEndsAfter l.fn.ends whole → AreHeld name l.fn.held.items (reverse part) → IsGivenSoFar l.fn.rollover l.judge name whole part l.held.items;
   counted : l.judge.end.judge.fed + deque_len l.held ≤ deque_len l.fn.held;
   short : All (λ (h : Held). length h.payload ≤ 65527) l.held.items;
   transfer : l.judge.transfer ≡ l.fn.transfer;

@@ -2,7 +2,7 @@ use Rattle.std.proofs.Common.{◌≡◌, ◌≤◌, ◌∷◌, List, length, Non
 use Rattle.std.specs.List.{All}
 use Rattle.audit_flows.specs.Transfers.{AreEndsAfter, is_settled, is_about}
 use Rattle.audit_flows.specs.{Transfer}
-use Rattle.audit_views.specs.Views.{AreHeld, IsFed, IsGoingOn, IsServerAfter, IsViewAfter, IsWaiting, Server, View, ViewedBy}
+use Rattle.audit_views.specs.Views.{AreHeld, IsFed, IsGoingOnBy, IsServerAfterBy, IsViewAfterBy, IsWaiting, Server, View, ViewedWith}
 use Rattle.audit_views.specs.declared.views.held.Held.{Held}
 use Rattle.audit_views.proofs.ViewsLemmas.Holding.{held_newest, held_short, own_alone}
 use Rattle.audit_views.proofs.views.server_view.ServerView.wait.Goals as goal
@@ -24,17 +24,18 @@ invariant_of-self-else-is_settled g c =
     (c.note.ensures.number ∙ c.self.invariant.0, omega arith, all)
 
 pub returns-else-is_settled-clause-after : goal.returns-else-is_settled-clause-after
-returns-else-is_settled-clause-after g c name p older after fed about =
-    let v : View = record { transfer = c.self.inside.transfer; ends = c.self.inside.ends; held = c.self.inside.held.items; judge = c.self.inside.judge } in
-    let w : View = record { transfer = c.self.inside.transfer; ends = c.note.new.self; held = c.push_back.new.self.items; judge = c.self.inside.judge } in
+returns-else-is_settled-clause-after g c rollover name p older after fed about =
+    let v : View = record { transfer = c.self.inside.transfer; rollover = c.self.inside.rollover; ends = c.self.inside.ends; held = c.self.inside.held.items; judge = c.self.inside.judge } in
+    let w : View = record { transfer = c.self.inside.transfer; rollover = c.self.inside.rollover; ends = c.note.new.self; held = c.push_back.new.self.items; judge = c.self.inside.judge } in
     let none : v.judge ≡ None = ap (λ (v : View). v.judge) c.self.view_is ∙ c.requires.waits in
-    let waits : IsWaiting v name older = subst (λ (o : Option Server). ViewedBy o v name older) none (subst (λ (v : View). IsViewAfter v name older) (sym c.self.view_is) after) in
+    let waits : IsWaiting rollover v name older = subst (λ (o : Option Server). ViewedWith rollover o v name older) none (subst (λ (v : View). IsViewAfterBy rollover v name older) (sym c.self.view_is) after) in
     let h : Held = c.in_ok-held.field-0 in
     let as_held : IsFed name p h = subst (IsFed name p) (sym c.in_ok-held.ensures.held) fed in
     let of_it : is_about v.transfer.number p ≡ true = ap (λ (v : View). is_about v.transfer.number p) c.self.view_is ∙ about in
     let ends : AreEndsAfter c.note.new.self (p ∷ older) = c.note.ensures.stands p older waits.ends fed.belongs fed.from fed.to fed.carries in
     let known = ap (λ k. is_settled k (p ∷ older)) (sym (c.note.ensures.number ∙ c.self.invariant.0)) ∙ sym (c.is_settled.ensures (p ∷ older) ends) in
-    subst (λ (o : Option Server). ViewedBy o w name (p ∷ older)) (sym none) (record {
+    subst (λ (o : Option Server). ViewedWith rollover o w name (p ∷ older)) (sym none) (record {
+      own = waits.own;
       number = c.note.ensures.number ∙ c.self.invariant.0;
       ends = ends;
       unsettled = known ∙ c.if-is_settled.false;
@@ -42,11 +43,11 @@ returns-else-is_settled-clause-after g c name p older after fed about =
     })
 
 pub returns-then-is_settled-clause-after : goal.returns-then-is_settled-clause-after
-returns-then-is_settled-clause-after g c name p older after fed about =
-    let v : View = record { transfer = c.self.inside.transfer; ends = c.self.inside.ends; held = c.self.inside.held.items; judge = c.self.inside.judge } in
-    let w : View = record { transfer = c.self.inside.transfer; ends = c.note.new.self; held = c.replace-held.new.dest.items; judge = Some c.judge_of.result } in
+returns-then-is_settled-clause-after g c rollover name p older after fed about =
+    let v : View = record { transfer = c.self.inside.transfer; rollover = c.self.inside.rollover; ends = c.self.inside.ends; held = c.self.inside.held.items; judge = c.self.inside.judge } in
+    let w : View = record { transfer = c.self.inside.transfer; rollover = c.self.inside.rollover; ends = c.note.new.self; held = c.replace-held.new.dest.items; judge = Some c.judge_of.result } in
     let none : v.judge ≡ None = ap (λ (v : View). v.judge) c.self.view_is ∙ c.requires.waits in
-    let waits : IsWaiting v name older = subst (λ (o : Option Server). ViewedBy o v name older) none (subst (λ (v : View). IsViewAfter v name older) (sym c.self.view_is) after) in
+    let waits : IsWaiting rollover v name older = subst (λ (o : Option Server). ViewedWith rollover o v name older) none (subst (λ (v : View). IsViewAfterBy rollover v name older) (sym c.self.view_is) after) in
     let h : Held = c.in_ok-held.field-0 in
     let as_held : IsFed name p h = subst (IsFed name p) (sym c.in_ok-held.ensures.held) fed in
     let of_it : is_about v.transfer.number p ≡ true = ap (λ (v : View). is_about v.transfer.number p) c.self.view_is ∙ about in
@@ -54,15 +55,16 @@ returns-then-is_settled-clause-after g c name p older after fed about =
     let known = ap (λ k. is_settled k (p ∷ older)) (sym (c.note.ensures.number ∙ c.self.invariant.0)) ∙ sym (c.is_settled.ensures (p ∷ older) ends) in
     let held : AreHeld name c.push_back.new.self.items (reverse (filter (is_about v.transfer.number) (p ∷ older))) =
     subst (λ (l : List Held). AreHeld name l (reverse (filter (is_about v.transfer.number) (p ∷ older)))) (sym c.in_ok-push_back.ensures.items) (held_newest v.transfer.number name v.held older h p of_it waits.held as_held) in
-    let own = c.judge_of.ensures.after name (p ∷ older) (filter (is_about v.transfer.number) (p ∷ older)) ends
-    (subst (λ (l : List Held). AreHeld name l (reverse (filter (is_about v.transfer.number) (p ∷ older)))) (sym (ap (λ q. q.items) c.replace-held.ensures.value)) held) in
-    let goes : IsGoingOn c.judge_of.result w name (p ∷ older) = record {
+    let own = subst (λ o. IsServerAfterBy o c.judge_of.result name (p ∷ older) (filter (is_about v.transfer.number) (p ∷ older))) waits.own
+    (c.judge_of.ensures.after name (p ∷ older) (filter (is_about v.transfer.number) (p ∷ older)) ends
+    (subst (λ (l : List Held). AreHeld name l (reverse (filter (is_about v.transfer.number) (p ∷ older)))) (sym (ap (λ q. q.items) c.replace-held.ensures.value)) held)) in
+    let goes : IsGoingOnBy rollover c.judge_of.result w name (p ∷ older) = record {
       transfer = c.judge_of.ensures.transfer;
       settled = known ∙ c.if-is_settled.true;
       none = ap (λ q. q.items) c.replace-held.ensures.after ∙ c.new.ensures.items;
-      after = own_alone c.judge_of.result name (p ∷ older) (subst (λ (x : Transfer). IsServerAfter c.judge_of.result name (p ∷ older) (filter (is_about x.number) (p ∷ older))) (sym c.judge_of.ensures.transfer) own);
+      after = own_alone rollover c.judge_of.result name (p ∷ older) (subst (λ (x : Transfer). IsServerAfterBy rollover c.judge_of.result name (p ∷ older) (filter (is_about x.number) (p ∷ older))) (sym c.judge_of.ensures.transfer) own);
     } in
     elim c.match-self.branch [
-      | in-Some-1 w' ↦ subst (λ (v : View). IsViewAfter v name (p ∷ older)) (sym w'.self-is) goes
-      | in-None-1 w' ↦ subst (λ (v : View). IsViewAfter v name (p ∷ older)) (sym w'.self-is) goes
+      | in-Some-1 w' ↦ subst (λ (v : View). IsViewAfterBy rollover v name (p ∷ older)) (sym w'.self-is) goes
+      | in-None-1 w' ↦ subst (λ (v : View). IsViewAfterBy rollover v name (p ∷ older)) (sym w'.self-is) goes
     ]
