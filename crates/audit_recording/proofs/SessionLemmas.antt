@@ -14,3 +14,4 @@ pub mod Recording
 pub mod Worked
 pub mod WorkedLost
 pub mod Trails
+pub mod Texts

@@ -4,6 +4,8 @@ pub mod Lines
 pub mod Noted
 pub mod Recording
 pub mod Trails
+pub mod Plain
+pub mod Texts
 pub mod Kept
 pub mod Over
 pub mod Opened

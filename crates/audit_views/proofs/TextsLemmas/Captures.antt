@@ -1,12 +1,10 @@
 -- What an end saw, from the oldest datagram on.
-use Rattle.std.proofs.Common.{◌≡◌, ℕ, Bool, true, false, cond, List, [], ◌∷◌, ◌++◌, map, reverse, refl, sym, ap, ◌∙◌, filter, None}
+use Rattle.std.proofs.Common.{◌≡◌, Bool, true, false, cond, List, [], ◌∷◌, ◌++◌, map, reverse, refl, sym, ap, ◌∙◌, filter, None}
 use Rattle.std.proofs.lemmas.List.{map-append, reverse-append}
 use Rattle.std.proofs.lemmas.List.Elements.{filter-append}
 use Rattle.tftp_packet.specs.{End, Client, Server}
-use Rattle.audit_flows.specs.Lines.{Placed, is_of}
+use Rattle.audit_flows.specs.Lines.{Placed}
 use Rattle.audit_flows.specs.{Transfer}
-use Rattle.audit_flows.specs.Transfers.{is_about, is_at_server}
-use Rattle.audit_flows.proofs.TransfersLemmas.OwnDatagrams.{about_none, filter_kept, seen_none}
 use Rattle.audit_views.specs.Views.{Naming}
 use Rattle.audit_views.specs.Texts.{capture_at, captured_at, header_at, is_seen}
 
@@ -32,14 +30,3 @@ module _ (end : End) (name : Naming) (x : Transfer) (whole : List Placed) where
       ∙ ap (λ l. l ++ capture_at end name x whole (p ∷ [])) (capture_back ps)
       ∙ ap (λ l. reverse (capture_at end name x whole ps) ++ l) (sym (single p))
       ∙ sym (ap reverse (capture_more (p ∷ []) ps) ∙ reverse-append (capture_at end name x whole (p ∷ [])) (capture_at end name x whole ps))
-
-own_seen : (end : End) (n : ℕ) (whole part : List Placed) → filter (is_seen end n whole) (filter (is_about n) part) ≡ filter (is_seen end n whole) part
-own_seen Client n whole part = filter_kept (is_of n) (is_about n) (about_none n) part
-own_seen Server n whole part = filter_kept (is_at_server n whole) (is_about n) (seen_none n whole) part
-
--- the transfer's own datagrams are enough
-pub own_capture : (end : End) (name : Naming) (x : Transfer) (whole : List Placed)
-    → capture_at end name x whole (reverse (filter (is_about x.number) whole)) ≡ reverse (capture_at end name x whole whole)
-own_capture end name x whole =
-    capture_back end name x whole (filter (is_about x.number) whole)
-    ∙ ap (λ l. reverse (map (captured_at end name x whole) l)) (own_seen end x.number whole whole)

@@ -1,5 +1,5 @@
 ghost use Rattle.std.specs.Prelude.{◌≡◌, IfSome, None};
-ghost use Rattle.audit_views.specs.Texts.Views.{IsComment};
+ghost use Rattle.audit_views.specs.Texts.Comments.{IsComment};
 
 use std::marker::Model;
 
@@ -14,7 +14,7 @@ pub struct Comment {
 
 impl Model for Comment {
     ghost use Rattle.std.specs.Prelude.{ℕ, List};
-    ghost use Rattle.audit_views.specs.Texts.Views.{IsComment};
+    ghost use Rattle.audit_views.specs.Texts.Comments.{IsComment};
 
     ghost Value = { List ℕ };
 
@@ -33,6 +33,14 @@ impl Comment {
             return None;
         }
         Some(Comment { words })
+    }
+
+    /// These words, which a comment can hold.
+    pub fn of(words: Vec<u8>) -> Self
+        requires comment { IsComment words.items }
+        ensures words { result ≡ words.items }
+    {
+        Comment { words }
     }
 
     /// The words.

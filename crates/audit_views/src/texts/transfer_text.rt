@@ -2,13 +2,14 @@
 
 ghost use Rattle.std.specs.Prelude.{◌≡◌, ◌+◌, ◌^◌, ◌<◌, ◌≤◌, ◌∷◌, ◌++◌, ℕ, List, [], All, Option, length, IfSome, OnErr, OnOk, None, Ok, true, false};
 ghost use Rattle.tftp_capture.specs.CaptureText.{Header as HeaderParts};
-ghost use Rattle.tftp_capture.specs.{IsPort, Entry, said_in, HasWrittenHosts};
+ghost use Rattle.tftp_capture.specs.{IsPort, Entry, HasWrittenHosts};
 ghost use Rattle.net_streams.specs.Streams.{Sink, Wrote};
 ghost use Rattle.audit_flows.specs.Transfers.{AreEndsAfter, is_about};
 ghost use Rattle.audit_flows.specs.Lines.{Placed};
 ghost use Rattle.audit_views.specs.Views.{Naming, IsFed, held_of};
-ghost use Rattle.audit_views.specs.Texts.Kept.{AreNotesAfter, CanBeWritten};
-ghost use Rattle.audit_views.specs.Texts.Views.{HasComment, IsTextOf, capture_at, header_at, is_seen, way_at};
+ghost use Rattle.audit_views.specs.Texts.Kept.{AreNotesAfter, CanBeWritten, IsNoted};
+ghost use Rattle.audit_views.specs.Texts.Comments.{Worded, placed_in};
+ghost use Rattle.audit_views.specs.Texts.Views.{HasComment, IsTextOf, capture_at, entries_of, header_at, is_seen, text_at, way_at};
 
 use crate::texts::comment::Comment;
 use crate::texts::noted::Noted;
@@ -77,8 +78,8 @@ impl TransferText {
         requires source { IsPort fed.now.source.now.end.port }
         requires target { IsPort fed.now.target.now.end.port }
         requires short { length fed.now.payload.now ≤ 65527 }
-        ensures after { (name : Naming) (p : Placed) (older : List Placed) → AreNotesAfter self.old name older
-            → IsFed name p (held_of fed.now) → OnOk result (AreNotesAfter self.new name (p ∷ older)) }
+        ensures after { (name : Naming) (w : Worded) (older : List Worded) → AreNotesAfter self.old name older
+            → IsFed name w.placed (held_of fed.now) → comment ≡ w.words → OnOk result (AreNotesAfter self.new name (w ∷ older)) }
         ensures others { (p : Placed) → fed.now.place.now ≡ p.place → is_about self.old.transfer.number p ≡ false → (result ≡ Ok tt) × (self.new ≡ self.old) }
         ensures same { OnErr result (self.new ≡ self.old) }
         ensures transfer { self.new.transfer ≡ self.old.transfer }
@@ -96,16 +97,18 @@ impl TransferText {
         Ok(())
     }
 
-    /// Writes the text of an end, with a comment after its header and one before each datagram.
+    /// Writes the text of an end: this comment after its header, and before each datagram that the end saw its own comment.
     pub fn write<W: Write>(
         &self,
         writer: &mut LineWriter<W>,
         end: End,
         heading: &Comment,
     ) -> Result<(), WriteFault>
-        ensures written { (name : Naming) (placed : List Placed) → AreNotesAfter self.now name placed
+        ensures written { (name : Naming) (worded : List Worded) → AreNotesAfter self.now name worded
             → OnOk result ((text : List ℕ) × Wrote W.contents writer.old writer.new text
-            × IsTextOf text (header_at end self.now.transfer) (capture_at end name self.now.transfer placed placed)) }
+            × IsTextOf text (header_at end self.now.transfer) (capture_at end name self.now.transfer (placed_in worded) (placed_in worded))) }
+        ensures exact { (name : Naming) (worded : List Worded) → AreNotesAfter self.now name worded
+            → OnOk result (Wrote W.contents writer.old writer.new (text_at end name self.now.transfer heading.now worded)) }
         ensures failed { OnErr result (writer.new.failed ≡ true) }
     {
         let header = Header {
@@ -136,9 +139,9 @@ impl TransferText {
         ensures written { (start : Sink W) (header : HeaderParts) (entries : List Entry)
             → HasWrittenHosts W.contents start writer.old capture.old header entries
             → OnOk result ((more : List Entry) × HasWrittenHosts W.contents start writer.new capture.new header (entries ++ more) × All HasComment more
-            × ((name : Naming) (p : Placed) (placed : List Placed) → AreEndsAfter self.now.ends placed → self.now.ends.number ≡ self.now.transfer.number
-            → IsFed name p noted.now.held
-            → said_in more ≡ capture_at end name self.now.transfer placed (p ∷ []))) }
+            × ((name : Naming) (w : Worded) (placed : List Placed) → AreEndsAfter self.now.ends placed → self.now.ends.number ≡ self.now.transfer.number
+            → IsNoted name noted.now w
+            → more ≡ entries_of end name self.now.transfer placed w)) }
     {
         let (place, source, target) = (&noted.held.place, &noted.held.source, &noted.held.target);
         if !self.is_seen(end, place, source.end, target.end) {
