@@ -5,6 +5,8 @@ mod cases;
 #[cfg(test)]
 mod judges;
 #[cfg(test)]
+mod losses;
+#[cfg(test)]
 mod lossy;
 #[cfg(test)]
 mod rollover;

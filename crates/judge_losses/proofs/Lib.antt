@@ -1,0 +1,3 @@
+pub mod Filled
+pub mod Mending
+pub mod Reading
