@@ -50,6 +50,13 @@ ACKED, STRAYED, STOPPED = sent(ack(1)[0]), sent(error(5, "")[0]), sent(error(3, 
 SIZED = Datagram(C, 40_000, S, 69, read_request("a", "octet", blksize=1024)[0])
 SIZE = answered(oack(blksize=1024)[0])
 WRITES = [Datagram(C, 40_000, S, 69, write_request("a", "octet")[0]), answered(ack(0)[0])]
+WRITTEN = [sent(data(1, b"." * 512)[0]), answered(ack(1)[0]), sent(data(2, b"." * 512)[0])]
+SECOND, LONGER, LONGER_NEXT = (
+    answered(data(block, b"." * length)[0]) for block, length in ((2, 512), (1, 600), (2, 600))
+)
+IN_WINDOWS = Datagram(C, 40_000, S, 69, read_request("a", "octet", windowsize=2)[0])
+LENGTH_ASKED = Datagram(C, 40_000, S, 69, read_request("a", "octet", tsize=0)[0])
+TOO_LONG = answered(oack(tsize=40_000_000)[0])
 
 Expected = tuple[Optional[int], Optional[bool]]
 # What passes, and at the client and at the server the rule that is broken there and whether that stands.
@@ -91,6 +98,16 @@ AT_ENDS: tuple[tuple[str, list[Datagram], Expected, Expected], ...] = (
     ("the server changes a block after an ERROR 5", [ASKED, FULL, STRAYED, CHANGED], (25, None), (25, True)),
     ("the server changes a block after an ERROR 3", [ASKED, FULL, STOPPED, CHANGED], (25, True), (25, True)),
     ("the client changes a block", [*WRITES, sent(data(1, b"x")[0]), sent(data(1, b"y")[0])], (25, True), (25, True)),
+    # rules 20, 21 and 24, where nothing names the option: the size is 512, and the window one block
+    ("a block that goes back", [ASKED, FULL, ACKED, SECOND, FULL], (None, None), (24, True)),
+    ("a block of the client that goes back", [*WRITES, *WRITTEN, WRITTEN[0]], (24, True), (24, True)),
+    ("a block longer than any", [ASKED, LONGER], (21, None), (21, True)),
+    ("a block longer than any, later", [ASKED, FULL, ACKED, LONGER_NEXT], (21, True), (21, True)),
+    ("a block behind the last", [ASKED, LAST, ACKED, answered(data(2, b"y")[0])], (21, True), (21, True)),
+    ("a file too long for its blocks", [LENGTH_ASKED, TOO_LONG], (20, None), (20, True)),
+    # and where a request names it, and its OACK may be missing
+    ("a block that goes back in a window", [IN_WINDOWS, FULL, ACKED, SECOND, FULL], (None, None), (24, None)),
+    ("a block longer than any but a size that was asked for", [SIZED, LONGER], (21, None), (21, None)),
     # what is not certain: that which allows it may be missing
     ("an ACK ahead", [ASKED, FULL, sent(ack(3)[0])], (26, None), (26, None)),
     ("a block too far", [ASKED, FULL, sent(ack(1)[0]), answered(data(3, b"x")[0])], (22, None), (22, None)),

@@ -3,5 +3,6 @@ mod Named
 mod Behind
 mod GoneOn
 mod Stood
+mod Unnamed
 mod StoodAtEnd
 mod Seen

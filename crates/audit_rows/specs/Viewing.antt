@@ -1,6 +1,8 @@
 -- What is said of a transfer at a point where it was judged, and of which datagram. Lists have the newest first.
 use Rattle.std.specs.Prelude.{◌≡◌, ◌⊎◌, ◌||◌, ℕ, Bool, true, false, List, length, Option, Some, None, option_map, Ok, Err}
+use Rattle.law_model.specs.{EndRule}
 use Rattle.law_end.specs.{Rule}
+use Rattle.law_end.specs.declared.rule.Rule.TheVariants as rule
 use Rattle.law_tap.specs.{StandsAtEnd, StandsOfItsOwn}
 use Rattle.tftp_judge.specs.declared.refusal.Refusal.TheVariants as refusal
 use Rattle.judge_tap.specs.declared.refusal.TapRefusal.TheVariants as tap
@@ -13,6 +15,7 @@ use Rattle.audit_recording.specs.Blame.Facts.{blamed_as, refused_between, refuse
 use Rattle.audit_recording.specs.Blame.Frames.{Carried, whole_of}
 use Rattle.audit_recording.specs.Rows.Told.{said_between, said_of}
 use Rattle.audit_recording.specs.declared.blame.blame.Blamed.{Blamed}
+use Rattle.audit_recording.specs.declared.blame.named.Named.{Named}
 use Rattle.audit_recording.specs.declared.rows.row.Point.{Point}
 use Rattle.audit_recording.specs.declared.rows.row.Point.TheVariants as point
 use Rattle.audit_recording.specs.declared.rows.said.Said.{Said}
@@ -56,23 +59,33 @@ is_whole _ = false
 
 -- ---- what stands
 
+-- What breaks these rules depends on an option that no datagram of the transfer names: that a block goes back, on the window; that it has a
+-- wrong length, or is whole and has the greatest number, on the block size.
+abbrev pub IsSureUnnamed : Named → Rule → Type 0
+IsSureUnnamed options (rule.Block EndRule.GoneBack) = options.windows ≡ false
+IsSureUnnamed options (rule.Block EndRule.BlockLength) = options.sizes ≡ false
+IsSureUnnamed options (rule.Block EndRule.BeyondBlock65535) = options.sizes ≡ false
+IsSureUnnamed options _ = ⊥
+
 -- A refusal by this rule at an end is certain whatever datagrams were missed: at a server, which knows its client by the request; at a
 -- client that has gone on with its server by then; and else of what a client sent itself.
-abbrev pub IsSureAt : Point → Transfer → Option Blamed → Rule → Type 0
-IsSureAt point.Server x blamed broken = StandsAtEnd broken
-IsSureAt point.Client x (Some b) broken = ((b.has_gone_on ≡ true) × StandsAtEnd broken) ⊎ ((same_endpoint b.source x.client ≡ true) × StandsOfItsOwn broken)
-IsSureAt _ x blamed broken = ⊥
+abbrev pub IsSureAt : Point → Transfer → Named → Option Blamed → Rule → Type 0
+IsSureAt point.Server x options blamed broken = StandsAtEnd broken ⊎ IsSureUnnamed options broken
+IsSureAt point.Client x options (Some b) broken =
+    ((b.has_gone_on ≡ true) × (StandsAtEnd broken ⊎ IsSureUnnamed options broken))
+    ⊎ ((same_endpoint b.source x.client ≡ true) × (StandsOfItsOwn broken ⊎ IsSureUnnamed options broken))
+IsSureAt _ x options blamed broken = ⊥
 
 -- Of what is refused it is said whether that stands whatever datagrams were missed: between the ends as the judge there tells it, and at
 -- an end that it does, where it is sure by its rule. Of all else nothing is said.
-abbrev pub IsStandingAs : Point → Transfer → Option Blamed → Found → Option Bool → Type 0
-IsStandingAs at x blamed (Between (Err (tap.Unlawful number broken told))) stands = stands ≡ told
-IsStandingAs at x blamed (AtEnd (Err (refusal.Unlawful number broken))) stands =
-    (IsSureAt at x blamed broken × (stands ≡ Some true)) ⊎ ((IsSureAt at x blamed broken → ⊥) × (stands ≡ None))
-IsStandingAs at x blamed _ stands = stands ≡ None
+abbrev pub IsStandingAs : Point → Transfer → Named → Option Blamed → Found → Option Bool → Type 0
+IsStandingAs at x options blamed (Between (Err (tap.Unlawful number broken told))) stands = stands ≡ told
+IsStandingAs at x options blamed (AtEnd (Err (refusal.Unlawful number broken))) stands =
+    (IsSureAt at x options blamed broken × (stands ≡ Some true)) ⊎ ((IsSureAt at x options blamed broken → ⊥) × (stands ≡ None))
+IsStandingAs at x options blamed _ stands = stands ≡ None
 
-abbrev pub IsStanding : Point → Transfer → Viewed → Option Bool → Type 0
-IsStanding at x v stands = IsStandingAs at x v.blamed v.found stands
+abbrev pub IsStanding : Point → Transfer → Named → Viewed → Option Bool → Type 0
+IsStanding at x options v stands = IsStandingAs at x options v.blamed v.found stands
 
 -- ---- the verdict at a point
 

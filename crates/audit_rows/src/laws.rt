@@ -1,6 +1,6 @@
 //! Laws of the definitions in `specs/`. Each is the contract of a function that does nothing.
 
-ghost use Rattle.std.specs.Prelude.{◌≡◌, ◌∷◌, ◌++◌, [], ℕ, List, None, Option, Result, Some, false, true};
+ghost use Rattle.std.specs.Prelude.{◌≡◌, ◌∷◌, ◌++◌, [], ℕ, Bool, List, None, Option, Result, Some, false, true};
 ghost use Rattle.tftp_packet.specs.{Client as ClientEnd};
 ghost use Rattle.law_model.specs.Model.{Meaning};
 ghost use Rattle.tftp_judge.specs.{Refusal};
@@ -9,7 +9,9 @@ ghost use Rattle.audit_flows.specs.{Transfer};
 ghost use Rattle.audit_recording.specs.{Accused, Telling};
 ghost use Rattle.audit_recording.specs.Blame.Frames.{Carried, Framed, seen_as, whole_of};
 ghost use Rattle.audit_recording.specs.Blame.Facts.{blamed_of};
+ghost use Rattle.audit_recording.specs.Blame.Named.{named_in};
 ghost use Rattle.audit_recording.specs.declared.blame.blame.Blamed.{Blamed};
+ghost use Rattle.audit_recording.specs.declared.blame.named.Named.{Named};
 ghost use Rattle.audit_recording.specs.declared.blame.doubted.Doubted.{Doubted};
 ghost use Rattle.audit_recording.specs.declared.blame.reason.Reason.{Reason};
 ghost use Rattle.audit_recording.specs.declared.blame.trail.Trail.{Trail as TrailKind};
@@ -77,12 +79,14 @@ pub fn worked_row()
 {}
 
 /// A block that the server changed came to a client: that stands once the client has gone on with its server, and before that nothing
-/// is said. A block that the client changed stands at once. Nothing is said of a block that goes back.
+/// is said. A block that the client changed stands at once. Of a block that goes back nothing is said where a datagram names windows; else
+/// it stands.
 pub fn worked_standing()
-    ensures gone_on { IsStanding PointKind.Client (worked_transfer 3000) (worked_changed true) (Some true) }
-    ensures before { IsStanding PointKind.Client (worked_transfer 3000) (worked_changed false) None }
-    ensures own { IsStanding PointKind.Client (worked_transfer 2000) (worked_changed false) (Some true) }
-    ensures back { IsStanding PointKind.Client (worked_transfer 2000) (worked_view false) None }
+    ensures gone_on { (options : Named) → IsStanding PointKind.Client (worked_transfer 3000) options (worked_changed true) (Some true) }
+    ensures before { (options : Named) → IsStanding PointKind.Client (worked_transfer 3000) options (worked_changed false) None }
+    ensures own { (options : Named) → IsStanding PointKind.Client (worked_transfer 2000) options (worked_changed false) (Some true) }
+    ensures back { (sizes : Bool) → IsStanding PointKind.Client (worked_transfer 2000) (record { windows = true; sizes = sizes }) (worked_view false) None }
+    ensures lock_step { (sizes : Bool) → IsStanding PointKind.Client (worked_transfer 2000) (record { windows = false; sizes = sizes }) (worked_view false) (Some true) }
 {}
 
 /// Of no datagram it is kept that each was recorded twice; and a transfer to whose client nothing came went one way.
@@ -96,20 +100,21 @@ pub fn worked_kept()
 /// request.
 pub fn what_stands_is_certain()
     ensures yes { (x : Transfer) (named : List ℕ) (carried : List Carried) (v : Viewed) → IsViewAt PointKind.Between x named carried v
-        → IsStanding PointKind.Between x v (Some true) → (number : ℕ) × (number_in v.found ≡ Some number) × IsCertainAt x (whole_of named carried) number }
+        → (options : Named) → IsStanding PointKind.Between x options v (Some true) → (number : ℕ) × (number_in v.found ≡ Some number) × IsCertainAt x (whole_of named carried) number }
     ensures no { (x : Transfer) (named : List ℕ) (carried : List Carried) (v : Viewed) → IsViewAt PointKind.Between x named carried v
-        → IsStanding PointKind.Between x v (Some false) → (number : ℕ) × (number_in v.found ≡ Some number) × IsOpenAt x (whole_of named carried) number }
+        → (options : Named) → IsStanding PointKind.Between x options v (Some false) → (number : ℕ) × (number_in v.found ≡ Some number) × IsOpenAt x (whole_of named carried) number }
 {}
 
 /// What is said to stand of a refusal at an end does: no lawful list has the refused datagram and those before it that were captured
 /// there, whatever datagrams were missed. That a refusal does not stand is said of none.
 pub fn what_stands_at_an_end_is_certain()
     ensures client { (x : Transfer) (named : List ℕ) (carried : List Carried) (v : Viewed) → IsViewAt PointKind.Client x named carried v
-        → IsStanding PointKind.Client x v (Some true)
+        → IsStanding PointKind.Client x (named_in x (whole_of named carried)) v (Some true)
         → (number : ℕ) × (number_in v.found ≡ Some number) × IsCertainAtEnd (client_header x) (client_capture host_name x (whole_of named carried)) number }
     ensures server { (x : Transfer) (named : List ℕ) (carried : List Carried) (v : Viewed) → IsViewAt PointKind.Server x named carried v
-        → IsStanding PointKind.Server x v (Some true)
+        → IsStanding PointKind.Server x (named_in x (whole_of named carried)) v (Some true)
         → (number : ℕ) × (number_in v.found ≡ Some number)
         × IsCertainAtEnd (server_header x) (server_capture host_name x (whole_of named carried) (whole_of named carried)) number }
-    ensures never { (at : PointKind) (x : Transfer) (b : Option Blamed) (said : Result Meaning Refusal) → IsStandingAs at x b (AtEnd said) (Some false) → ⊥ }
+    ensures never { (at : PointKind) (x : Transfer) (options : Named) (b : Option Blamed) (said : Result Meaning Refusal)
+        → IsStandingAs at x options b (AtEnd said) (Some false) → ⊥ }
 {}

@@ -2,15 +2,16 @@
 
 ghost use Rattle.std.specs.Prelude.{◌≡◌, ◌↔◌, IsTrue};
 ghost use Rattle.audit_rows.specs.Doubting.{goes_over, is_clients_own, is_spoken_first, is_unseen, may_be_between};
-ghost use Rattle.audit_rows.specs.Viewing.{IsStanding, IsSureAt};
+ghost use Rattle.audit_rows.specs.Viewing.{IsStanding, IsSureAt, IsSureUnnamed};
 
 use crate::found::Found;
 use crate::viewed::Viewed;
 use audit_flows::lines::Transfer;
-use audit_recording::blame::Blamed;
+use audit_recording::blame::{Blamed, Named, Trail};
 use audit_recording::rows::{Place, Point, Telling};
 use judge_tap::TapRefusal;
 use law_end::Rule;
+use law_model::rules::EndRule;
 use law_tap::{stands_at_end, stands_of_its_own};
 use tftp_judge::Refusal;
 
@@ -62,13 +63,13 @@ impl Told<'_> {
     }
 
     /// Of what is refused, whether that stands whatever datagrams of the transfer were missed; nothing where that is not known.
-    pub fn stands(&self, transfer: &Transfer) -> Option<bool>
-        ensures { IsStanding self.now.telling.point transfer.now self.now.view.now result }
+    pub fn stands(&self, trail: &Trail) -> Option<bool>
+        ensures { IsStanding self.now.telling.point trail.now.transfer trail.now.options self.now.view.now result }
     {
         match &self.view.found {
             Found::Between(Err(TapRefusal::Unlawful(_, _, stands))) => *stands,
             Found::AtEnd(Err(Refusal::Unlawful(_, rule))) => {
-                if self.is_sure(transfer, *rule) {
+                if self.is_sure(trail, *rule) {
                     Some(true)
                 } else {
                     None
@@ -79,16 +80,29 @@ impl Told<'_> {
     }
 
     /// Whether a refusal by this rule at an end is certain, whatever datagrams were missed.
-    fn is_sure(&self, transfer: &Transfer, rule: Rule) -> bool
-        ensures { IsTrue result ↔ IsSureAt self.now.telling.point transfer.now self.now.view.now.blamed rule }
+    fn is_sure(&self, trail: &Trail, rule: Rule) -> bool
+        ensures { IsTrue result ↔ IsSureAt self.now.telling.point trail.now.transfer trail.now.options self.now.view.now.blamed rule }
     {
+        let is_unnamed = is_sure_unnamed(trail.options, rule);
         match (self.telling.point, &self.view.blamed) {
-            (Point::Server, _) => stands_at_end(rule),
+            (Point::Server, _) => stands_at_end(rule) || is_unnamed,
             (Point::Client, Some(blamed)) => {
-                let is_own = blamed.source == transfer.client;
-                (blamed.has_gone_on && stands_at_end(rule)) || (is_own && stands_of_its_own(rule))
+                let is_own = blamed.source == trail.transfer.client;
+                (blamed.has_gone_on && (stands_at_end(rule) || is_unnamed))
+                    || (is_own && (stands_of_its_own(rule) || is_unnamed))
             }
             _ => false,
         }
+    }
+}
+
+/// Whether what breaks this rule depends on an option alone that no datagram of the transfer names (RFC 2348; RFC 7440, section 4).
+fn is_sure_unnamed(options: Named, rule: Rule) -> bool
+    ensures { IsTrue result ↔ IsSureUnnamed options rule }
+{
+    match rule {
+        Rule::Block(EndRule::GoneBack) => !options.windows,
+        Rule::Block(EndRule::BlockLength | EndRule::BeyondBlock65535) => !options.sizes,
+        _ => false,
     }
 }

@@ -50,6 +50,7 @@ kept_nowhere t judging x named carried is = record {
   last_time = is.last_time;
   is_answered = is.is_answered;
   has_gone_on = is.has_gone_on;
+  options = is.options;
   twice = is.twice;
   copied_from = is.copied_from;
   damaged = is.damaged;

@@ -5,6 +5,7 @@ use Rattle.net_udp.specs.Recording.{Step}
 use Rattle.audit_flows.specs.Lines.{same_address}
 use Rattle.audit_flows.specs.{Transfer}
 use Rattle.audit_recording.specs.Blame.Frames.{Carried, whole_of}
+use Rattle.audit_recording.specs.Blame.Named.{named_in}
 use Rattle.audit_recording.specs.Judges.{is_among, opened}
 use Rattle.audit_recording.specs.Losses.Noted.{IsAsked, IsFirst, IsMissingOf, IsTold, Since}
 use Rattle.audit_recording.specs.Reasons.Clock.{last_of}
@@ -45,7 +46,7 @@ pub record IsRowOf (name : List ℕ) (n : ℕ) (j : Judged) (t : Told) (row : Ve
   pub ended : (judging : Judging) (x : Transfer) (named : List ℕ) (carried : List Carried) → IsJudgedOf j judging x named carried
       → IsConclusionOf row.ended j t x named carried
   pub stands : (judging : Judging) (x : Transfer) (named : List ℕ) (carried : List Carried) → IsJudgedOf j judging x named carried
-      → IsStanding t.telling.point x t.view.now row.stands
+      → IsStanding t.telling.point x (named_in x (whole_of named carried)) t.view.now row.stands
   pub beyond : row.goes_beyond ≡ goes_beyond t.view.now.found
   pub times : (judging : Judging) (x : Transfer) (named : List ℕ) (carried : List Carried) → IsJudgedOf j judging x named carried
       → AreTimesOf row.times x (bytes_in t.view.now.found) named carried

@@ -3,6 +3,7 @@
 ghost use Rattle.std.specs.Prelude.{◌≡◌, ◌++◌, ℕ, List, IfOk, OnOk, Some, codes, flat_map, string_bytes};
 ghost use Rattle.audit_flows.specs.{Transfer};
 ghost use Rattle.audit_recording.specs.Blame.Frames.{Carried, whole_of};
+ghost use Rattle.audit_recording.specs.Blame.Named.{named_in};
 ghost use Rattle.tftp_rows.specs.Reasons.{reason_text};
 ghost use Rattle.audit_recording.specs.Rows.Told.{refused_frame};
 ghost use Rattle.tftp_rows.specs.Plain.{plain};
@@ -89,7 +90,7 @@ impl<'a> VerdictRow<'a> {
         ensures ended { (judging : JudgingKind) (x : Transfer) (named : List ℕ) (carried : List Carried) → IsJudgedOf judged.now judging x named carried
             → IfOk result (λ row. IsConclusionOf row.ended judged.now told.now x named carried) }
         ensures stands { (judging : JudgingKind) (x : Transfer) (named : List ℕ) (carried : List Carried) → IsJudgedOf judged.now judging x named carried
-            → IfOk result (λ row. IsStanding told.now.telling.point x told.now.view.now row.stands) }
+            → IfOk result (λ row. IsStanding told.now.telling.point x (named_in x (whole_of named carried)) told.now.view.now row.stands) }
         ensures beyond { IfOk result (λ row. row.goes_beyond ≡ goes_beyond told.now.view.now.found) }
         ensures times { (judging : JudgingKind) (x : Transfer) (named : List ℕ) (carried : List Carried) → IsJudgedOf judged.now judging x named carried
             → IfOk result (λ row. AreTimesOf row.times x (bytes_in told.now.view.now.found) named carried) }
@@ -105,7 +106,7 @@ impl<'a> VerdictRow<'a> {
             verdict,
             charge,
             ended,
-            stands: told.stands(&judged.trail().transfer),
+            stands: told.stands(judged.trail()),
             goes_beyond: goes_beyond(&told.view.found),
             times: times_told(judged, told),
         })

@@ -1,5 +1,5 @@
 -- What is kept of a transfer, with one datagram more. Lists have the newest first.
-use Rattle.std.proofs.Common.{◌≡◌, ◌≤◌, ◌+◌, ◌-◌, ◌^◌, ◌==◌, ◌&&◌, ◌||◌, ℕ, suc, Bool, true, false, true≢false, cond, List, [], ◌∷◌, ◌++◌, arith, filter, length, map, max, min, Option, Some, None, IfSome, IsSome, is_some, option_map, option_copied, refl, sym, ap, subst, ◌∙◌, unwrap_or}
+use Rattle.std.proofs.Common.{◌≡◌, ◌≤◌, ◌+◌, ◌-◌, ◌^◌, ◌==◌, ◌&&◌, ◌||◌, ℕ, suc, Bool, true, false, true≢false, cond, List, [], ◌∷◌, ◌++◌, arith, filter, length, map, max, min, Option, Some, None, IfSome, IsSome, is_some, option_map, option_copied, codes, refl, sym, ap, subst, ◌∙◌, unwrap_or}
 use Rattle.std.specs.List.{list_any}
 use Rattle.law_model.specs.Rules.{first_of, or_this}
 use Rattle.audit_flows.specs.Lines.{Placed, Recorded, agrees_late, begins_error, begins_unknown_id, is_of, may_be_earlier, rests_on_terms, same_endpoint, says_unknown_id, transfer_of}
@@ -16,6 +16,7 @@ use Rattle.audit_recording.specs.Blame.Frames.{Carried, Framed, framed, framed_a
 use Rattle.audit_recording.specs.Blame.Kept.{AreFactsOf, IsBlameOf, IsNoted, IsPassing, IsTrailBetween, IsTrailOf, comes_to, first_frame, is_about_it, is_copied, is_damaged, last_frame, last_time_in, passed_of, sent_of}
 use Rattle.audit_recording.specs.Reasons.Twice.{IsTwiceAfter, sent}
 use Rattle.audit_recording.specs.Blame.Facts.{blamed_of, has_gone_on, is_for_server}
+use Rattle.audit_recording.specs.Blame.Named.{is_named, named_in, names_option, with_named}
 use Rattle.audit_recording.specs.Endings.Kept.{IsClosingOf}
 use Rattle.audit_recording.specs.declared.blame.passed.Passed.{Passed}
 use Rattle.audit_recording.specs.declared.blame.passing.Passing.{Passing}
@@ -138,6 +139,25 @@ gone_unheard x (p ∷ whole) unheard = by_test (is_about x.number p)
     (λ is. let both : p ∷ filter (is_about x.number) whole ≡ [] = sym (filter_one (is_about x.number) p whole is) ∙ unheard in absurd (cc))
     (λ off. gone_same x p whole off ∙ gone_unheard x whole (sym (filter_none (is_about x.number) p whole off) ∙ unheard))
 
+-- what is not about it names nothing of it
+is_named_same : (name : List ℕ) (x : Transfer) (p : Placed) (whole : List Placed) → is_about x.number p ≡ false → is_named name x (p ∷ whole) ≡ is_named name x whole
+is_named_same name x p whole off = ap (λ b. (b && names_option name p.datagram.payload) || is_named name x whole) off
+
+named_same : (x : Transfer) (p : Placed) (whole : List Placed) → is_about x.number p ≡ false → named_in x (p ∷ whole) ≡ named_in x whole
+named_same x p whole off = λ i. record { windows = is_named_same (codes "windowsize") x p whole off i; sizes = is_named_same (codes "blksize") x p whole off i }
+
+named_unheard : (x : Transfer) (whole : List Placed) → filter (is_about x.number) whole ≡ [] → named_in x whole ≡ record { windows = false; sizes = false }
+named_unheard x [] unheard = refl
+named_unheard x (p ∷ whole) unheard = by_test (is_about x.number p)
+    (λ is. let both : p ∷ filter (is_about x.number) whole ≡ [] = sym (filter_one (is_about x.number) p whole is) ∙ unheard in absurd (cc))
+    (λ off. named_same x p whole off ∙ named_unheard x whole (sym (filter_none (is_about x.number) p whole off) ∙ unheard))
+
+-- what is about it names this too
+named_more : (x : Transfer) (p : Placed) (whole : List Placed) → is_about x.number p ≡ true → with_named p.datagram.payload (named_in x whole) ≡ named_in x (p ∷ whole)
+named_more x p whole is = λ i. record { windows = more (codes "windowsize") i; sizes = more (codes "blksize") i } where
+  more : (name : List ℕ) → (names_option name p.datagram.payload || is_named name x whole) ≡ is_named name x (p ∷ whole)
+  more name = ap (λ b. (b && names_option name p.datagram.payload) || is_named name x whole) (sym is)
+
 pub opens_about : (n : ℕ) (f : Framed) → is_about_it n f ≡ false → opened_it n f.placed ≡ false
 opens_about n f off = opens_by n f.placed.datagram f.placed.moment f.placed.place off
 
@@ -206,6 +226,7 @@ module _ (old mid new : Trail) (judging : Judging) (x : Transfer) (named : List 
     pub transfer : mid.transfer ≡ old.transfer
     pub copied_from : mid.copied_from ≡ old.copied_from
     pub damaged : mid.damaged ≡ old.damaged
+    pub options : mid.options ≡ old.options
     pub told : IsTold mid x (view_of Client x.number named (c ∷ carried))
 
   noted_at : (place : Place) → place ≡ f.placed.place → (IsSome (transfer_of place) → IsNoted old mid passing) → (transfer_of place ≡ None → mid ≡ old) → IsMid
@@ -222,6 +243,7 @@ module _ (old mid new : Trail) (judging : Judging) (x : Transfer) (named : List 
           transfer = ap (λ (t : Trail). t.transfer) same;
           copied_from = ap (λ (t : Trail). t.copied_from) same;
           damaged = ap (λ (t : Trail). t.damaged) same;
+          options = ap (λ (t : Trail). t.options) same;
           told = subst (λ (t : Trail). IsTold t x (view_of Client x.number named (c ∷ carried))) (sym same) (subst (IsTold old x) (sym view_same) tells);
         }
     by (Some y) is =
@@ -232,6 +254,7 @@ module _ (old mid new : Trail) (judging : Judging) (x : Transfer) (named : List 
           transfer = noted.transfer;
           copied_from = noted.copied_from;
           damaged = noted.damaged;
+          options = noted.options;
           told = subst (IsTold mid x) (sym view_more) (told_own old mid x f passing view was.transfer passes refl noted tells);
         }
 
@@ -252,6 +275,14 @@ module _ (old mid new : Trail) (judging : Judging) (x : Transfer) (named : List 
         let same : sent passing.source passing.target passing.payload.now ≡ sent_of f = λ i. sent (passes.source i) (passes.target i) (passes.payload i) in
         subst (λ l. IsTwiceAfter mid.twice (map sent_of l)) (sym view_more)
         (subst (λ d. IsTwiceAfter mid.twice (d ∷ map sent_of view)) same (own (subst IsSome (sym is) refl)))
+
+  -- what some datagram about it names
+  pub named_at : (place : Place) → place ≡ f.placed.place → (IsSome (transfer_of place) → IsNoted old mid passing) → (transfer_of place ≡ None → mid ≡ old)
+      → with_named passing.payload.now mid.options ≡ named_in x (whole_of named (c ∷ carried))
+  named_at place at own beside =
+      (λ i. with_named (passes.payload i) ((noted_at place at own beside).options i))
+      ∙ ap (with_named c.datagram.payload) was.options
+      ∙ named_more x f.placed (whole_of named carried) about
 
   -- its client has gone on by then, or not
   pub gone_at : (place : Place) → place ≡ f.placed.place → (IsSome (transfer_of place) → IsNoted old mid passing) → (transfer_of place ≡ None → mid ≡ old)
@@ -274,10 +305,10 @@ module _ (old mid new : Trail) (judging : Judging) (x : Transfer) (named : List 
       → new.transfer ≡ mid.transfer → new.first ≡ mid.first → new.last ≡ mid.last → new.count ≡ mid.count → new.last_time ≡ mid.last_time → new.is_answered ≡ mid.is_answered
       → new.copied_from ≡ or_this mid.copied_from passing.is_doubtful passing.frame → new.damaged ≡ or_this mid.damaged passing.has_error passing.frame
       → new.ends.number ≡ x.number → AreEndsAfter new.ends (whole_of named (c ∷ carried)) → (opened_it x.number f.placed ≡ true → c.frame ≡ old.first)
-      → new.has_gone_on ≡ has_gone_on x (whole_of named (c ∷ carried))
+      → new.has_gone_on ≡ has_gone_on x (whole_of named (c ∷ carried)) → new.options ≡ named_in x (whole_of named (c ∷ carried))
       → IsTwiceAfter new.twice (map sent_of (view_of Client x.number named (c ∷ carried))) → IsClosingOf new.closing x (view_of Client x.number named (c ∷ carried))
       → IsBlameOf new.blame judging x (whole_of named (c ∷ carried)) (framed named (c ∷ carried)) → IsTrailOf new judging x named (c ∷ carried)
-  trail_more place at own beside transfer first last count last_time is_answered copied_from damaged number ends opens gone twice closing blame =
+  trail_more place at own beside transfer first last count last_time is_answered copied_from damaged number ends opens gone names twice closing blame =
       let m = noted_at place at own beside in
       let frames = framed named carried in
       record {
@@ -291,6 +322,7 @@ module _ (old mid new : Trail) (judging : Judging) (x : Transfer) (named : List 
         last_time = last_time ∙ m.told.last_time;
         is_answered = is_answered ∙ m.told.is_answered;
         has_gone_on = gone;
+        options = names;
         twice = twice;
         copied_from = copied_from ∙ first_one (is_copied x.number) f frames mid.copied_from passing.is_doubtful passing.frame (m.copied_from ∙ was.copied_from)
             (and_first (is_about x.number f.placed) passing.is_doubtful c.is_doubtful about passes.is_doubtful) passes.frame;
@@ -331,6 +363,7 @@ trail_passed_by t judging x named c carried off was =
       last_time = was.last_time ∙ ap last_time_in (sym view_same);
       is_answered = was.is_answered ∙ ap (list_any (comes_to x)) (sym view_same);
       has_gone_on = was.has_gone_on ∙ sym (gone_same x f.placed (whole_of named carried) off);
+      options = was.options ∙ sym (named_same x f.placed (whole_of named carried) off);
       twice = subst (λ l. IsTwiceAfter t.twice (map sent_of l)) (sym view_same) was.twice;
       copied_from = was.copied_from ∙ sym (first_same (is_copied x.number) f frames (and_none (is_about x.number f.placed) c.is_doubtful off));
       damaged = was.damaged ∙ sym (first_same (is_damaged x.number) f frames (and_none (is_about x.number f.placed) c.has_error off));
@@ -346,9 +379,9 @@ between_passed_by t judging x named c carried off was there =
 -- ---- none yet
 
 pub trail_new : (t : Trail) (judging : Judging) (x : Transfer) (named : List ℕ) (carried : List Carried) → filter (is_about_it x.number) (framed named carried) ≡ []
-    → t.transfer ≡ x → t.ends.number ≡ x.number → AreEndsAfter t.ends [] → t.last ≡ t.first → t.count ≡ 0 → t.last_time ≡ 0 → t.is_answered ≡ false → t.has_gone_on ≡ false → t.copied_from ≡ None → t.damaged ≡ None
+    → t.transfer ≡ x → t.ends.number ≡ x.number → AreEndsAfter t.ends [] → t.last ≡ t.first → t.count ≡ 0 → t.last_time ≡ 0 → t.is_answered ≡ false → t.has_gone_on ≡ false → t.options ≡ record { windows = false; sizes = false } → t.copied_from ≡ None → t.damaged ≡ None
     → IsTwiceAfter t.twice [] → IsClosingOf t.closing x [] → IsBlameOf t.blame judging x (whole_of named carried) (framed named carried) → IsTrailOf t judging x named carried
-trail_new t judging x named carried unheard transfer number ends last count last_time is_answered gone copied_from damaged twice closing blame =
+trail_new t judging x named carried unheard transfer number ends last count last_time is_answered gone names copied_from damaged twice closing blame =
     let frames = framed named carried in
     let none : view_of Client x.number named carried ≡ [] = view_unheard x.number frames unheard in
     record {
@@ -361,6 +394,7 @@ trail_new t judging x named carried unheard transfer number ends last count last
       last_time = last_time ∙ ap last_time_in (sym none);
       is_answered = is_answered ∙ ap (list_any (comes_to x)) (sym none);
       has_gone_on = gone ∙ sym (gone_unheard x (whole_of named carried) (whole_unheard x.number named carried unheard));
+      options = names ∙ sym (named_unheard x (whole_of named carried) (whole_unheard x.number named carried unheard));
       twice = subst (λ l. IsTwiceAfter t.twice (map sent_of l)) (sym none) twice;
       copied_from = copied_from ∙ sym (no_first x.number (is_copied x.number) (λ f off. and_none (is_about x.number f.placed) f.carried.is_doubtful off) frames unheard);
       damaged = damaged ∙ sym (no_first x.number (is_damaged x.number) (λ f off. and_none (is_about x.number f.placed) f.carried.has_error off) frames unheard);

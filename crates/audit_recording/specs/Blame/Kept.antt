@@ -22,6 +22,7 @@ use Rattle.audit_recording.specs.declared.rows.row.Point.TheVariants.{Client, Se
 use Rattle.audit_recording.specs.Endings.Kept.{IsClosingOf}
 use Rattle.audit_recording.specs.Judges.{points_of}
 use Rattle.audit_recording.specs.Blame.Frames.{Carried, Framed, framed, is_seen, numbered, seen_of, view_of, whole_of}
+use Rattle.audit_recording.specs.Blame.Named.{named_in}
 use Rattle.audit_recording.specs.Blame.Facts.{IsRefusedAt, blamed_of, has_gone_on, is_for_server}
 use Rattle.audit_recording.specs.Reasons.Twice.{IsTwiceAfter, Sent, sent}
 
@@ -157,6 +158,7 @@ pub record IsSameBut (old new : Trail) : Type 0 where
   pub last_time : new.last_time ≡ old.last_time
   pub ends : new.ends ≡ old.ends
   pub has_gone_on : new.has_gone_on ≡ old.has_gone_on
+  pub options : new.options ≡ old.options
   pub left_out : new.left_out ≡ old.left_out
   pub copied_from : new.copied_from ≡ old.copied_from
   pub damaged : new.damaged ≡ old.damaged
@@ -171,6 +173,7 @@ pub record IsNoted (old new : Trail) (passing : Passing) : Type 0 where
   pub last_time : new.last_time ≡ max old.last_time (unwrap_or passing.time 0)
   pub is_answered : new.is_answered ≡ (same_endpoint passing.target old.transfer.client || old.is_answered)
   pub has_gone_on : new.has_gone_on ≡ ((same_endpoint passing.source old.transfer.client && is_for_server passing.payload.now) || old.has_gone_on)
+  pub options : new.options ≡ old.options
   pub transfer : new.transfer ≡ old.transfer
   pub request : new.request ≡ old.request
   pub first : new.first ≡ old.first
@@ -196,6 +199,7 @@ pub record IsTrailOf (t : Trail) (judging : Judging) (x : Transfer) (named : Lis
   pub last_time : t.last_time ≡ last_time_in (view_of Client x.number named carried)
   pub is_answered : t.is_answered ≡ list_any (comes_to x) (view_of Client x.number named carried)
   pub has_gone_on : t.has_gone_on ≡ has_gone_on x (whole_of named carried)
+  pub options : t.options ≡ named_in x (whole_of named carried)
   pub twice : IsTwiceAfter t.twice (map sent_of (view_of Client x.number named carried))
   pub copied_from : t.copied_from ≡ first_frame (is_copied x.number) (framed named carried)
   pub damaged : t.damaged ≡ first_frame (is_damaged x.number) (framed named carried)

@@ -27,6 +27,7 @@ use crate::blame::closing::{Closing, Word};
 use crate::blame::doubted::Doubted;
 use crate::blame::ending::{Ending, seconds_since};
 use crate::blame::missing::Missing;
+use crate::blame::named::Named;
 use crate::blame::pace::Pace;
 use crate::blame::passed::Passed;
 use crate::blame::passing::Passing;
@@ -69,6 +70,8 @@ pub struct Trail {
     is_answered: bool,
     /// Whether the client went on with its server.
     has_gone_on: bool,
+    /// Which options some datagram about it named.
+    pub options: Named,
     /// The frame of what was left out, and may be of it by its time.
     left_out: Option<u64>,
     twice: Twice,
@@ -110,6 +113,7 @@ impl Trail {
             ends: TransferEnds::new(transfer.number),
             is_answered: false,
             has_gone_on: false,
+            options: Named::none(),
             left_out: None,
             twice: Twice::new(alloc),
             copied_from: None,
@@ -153,6 +157,7 @@ impl Trail {
         self.note_place(&found.place, passing)?;
         self.copied_from = first(self.copied_from, passing.is_doubtful, passing.frame);
         self.damaged = first(self.damaged, passing.has_error, passing.frame);
+        self.options = self.options.with(passing.payload);
         self.ends.note(
             &found.place,
             passing.source,

@@ -11,6 +11,7 @@ returns-clause-stands c judging x named carried was = record {
   last_time = was.last_time;
   is_answered = was.is_answered;
   has_gone_on = was.has_gone_on;
+  options = was.options;
   twice = was.twice;
   copied_from = was.copied_from;
   damaged = was.damaged;
