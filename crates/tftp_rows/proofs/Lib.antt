@@ -14,6 +14,7 @@ pub mod MembersLemmas
 pub mod AskedLemmas
 pub mod LineLemmas
 pub mod ListingLemmas
+pub mod FaultLemmas
 pub mod RemarksLemmas
 pub mod ListedLemmas
 pub mod FilesLemmas

@@ -1,5 +1,5 @@
 -- What is read and listed of a recording, transfer by transfer and frame by frame.
-use Rattle.std.proofs.Common.{◌≡◌, ◌⊎◌, ◌∷◌, ◌++◌, ◌≤◌, ◌<◌, nat_le, length, [], ℕ, Bool, true, false, List, Option, Some, None, IsSome, if◌then◌else◌, inl, inr, refl, sym, ap, ◌∙◌, subst, arith}
+use Rattle.std.proofs.Common.{◌≡◌, ◌⊎◌, ◌∷◌, ◌++◌, ◌+◌, ◌≤◌, ◌<◌, nat_le, length, [], ℕ, Bool, true, false, List, Option, Some, None, IsSome, if◌then◌else◌, inl, inr, refl, sym, ap, ◌∙◌, subst, arith}
 use Rattle.std.specs.Io.KnownBytes.{Consumes, IsAtEnd}
 use Rattle.std.specs.List.{AllByRecursion}
 use Rattle.std.proofs.lemmas.Bool.{leb-true, leb-false}
@@ -28,7 +28,7 @@ use Rattle.tftp_rows.specs.declared.printing.RowPrinter.{RowPrinter}
 use Rattle.tftp_rows.proofs.DueLemmas.{over_then}
 use Rattle.tftp_rows.proofs.OrderLemmas.{below_unless_same, neither, opened_below, opened_by_then, part_of}
 use Rattle.tftp_rows.proofs.PrintingLemmas.{prints_all_so, prints_both, prints_nothing, prints_part}
-use Rattle.tftp_rows.proofs.ReadingLemmas.{among_them, ended_too, not_open}
+use Rattle.tftp_rows.proofs.ReadingLemmas.{among_them, ended_too, not_open, one_frame_more}
 use Rattle.tftp_rows.proofs.WholeLemmas.{one_more}
 
 -- ---- what was listed stays so
@@ -206,6 +206,12 @@ module _ {W : Type 0} (contents : W → Option (List ℕ)) where
     };
   }
 
+  pub frame_on_for : (n : ℕ) (begun now : Lister W) (Was Is : List Step → Type 0) (old new : Session) (named : List ℕ) (step : Step) (all : List Carried) (t : Noticed) → (is : IsListedOn contents begun now Was old named)
+      → (one : IsOneMore is.carried all) → (p : Is (step ∷ is.history) × IsSessionAfter new named (numbers_in is.entries) (step ∷ is.history) all t)
+      → n ≤ length is.history → n + 1 ≤ length (frame_on begun now Was Is old new named step all t is one p).history
+  unfolding frame_on
+  frame_on_for n begun now Was Is old new named step all t is one p le = one_frame_more n step is.history le
+
   -- the recording's end
   pub end_on : (begun now : Lister W) (Was Is : List Step → Type 0) (old new : Session) (named : List ℕ) → (is : IsListedOn contents begun now Was old named)
       → Is is.history × IsSessionAfter new named (numbers_in is.entries) is.history is.carried is.noticed → IsListedOn contents begun now Is new named
@@ -236,6 +242,16 @@ module _ {W : Type 0} (contents : W → Option (List ℕ)) where
         session_is = record { noticed = is.session_is.noticed; kept = subst (λ out. IsSessionOf after named out is.history is.carried is.noticed) more.2 turns.handed_out };
         has_listed = more.1;
       }
+
+  -- so many frames at least were read, and listed as they should be
+  abbrev pub IsListedOnFor : ℕ → Lister W → Lister W → (List Step → Type 0) → Session → List ℕ → Type 0
+  IsListedOnFor n begun now Is session named = (so : IsListedOn contents begun now Is session named) × (n ≤ length so.history)
+
+  pub over_on_for : (n : ℕ) (begun old new : Lister W) (Is : List Step → Type 0) (before after : Session) (named : List ℕ) → (is : IsListedOn contents begun old Is before named)
+      → ListsTurns contents (λ b. IsOldestOver b named is.carried is.noticed) old new after named (numbers_in is.entries) is.history is.carried is.noticed
+      → n ≤ length is.history → IsListedOnFor n begun new Is after named
+  unfolding over_on
+  over_on_for n begun old new Is before after named is turns many = (over_on begun old new Is before after named is turns, many)
 
   -- ---- the same where a call has failed
 

@@ -38,7 +38,7 @@ or_true false = refl
 
 module _ {W R : Type 0} (contents : W → Option (List ℕ)) (lines : Form → Bool → R → List ℕ) where
   pub prints_nothing : (s : RowPrinter W) → PrintsAll contents lines s s []
-  prints_nothing s = record { appended = Appends-nil (contents s.writer); form = refl; headed = nothing s.is_headed } where
+  prints_nothing s = record { appended = Appends-nil (contents s.writer.0); form = refl; headed = nothing s.is_headed } where
     nothing : (b : Bool) → b ≡ (b || false)
     nothing true = refl
     nothing false = refl
@@ -71,14 +71,14 @@ module _ {W R : Type 0} (contents : W → Option (List ℕ)) (lines : Form → B
 
   -- nothing was printed
   pub prints_no_part : (s : RowPrinter W) (rows : List R) → PrintsPart contents lines s s rows
-  prints_no_part s rows = record { written = []; unwritten = all_lines (lines s.form) s.is_headed rows; part = refl; appended = Appends-nil (contents s.writer); form = refl; headed = inl (refl, refl) }
+  prints_no_part s rows = record { written = []; unwritten = all_lines (lines s.form) s.is_headed rows; part = refl; appended = Appends-nil (contents s.writer.0); form = refl; headed = inl (refl, refl) }
 
   pub prints_err : {A E : Type 0} (s t : RowPrinter W) (r : Result A E) (rows : List R) → IsErr r → PrintsPart contents lines s t rows → Prints contents lines s t r rows
   prints_err s t (Ok x) rows is p = absurd (true≢false (sym is))
   prints_err s t (Err e) rows is p = p
 
   -- a part of a row's lines was written
-  pub prints_short : (s t : RowPrinter W) (row : R) (bytes : List ℕ) → bytes ≡ lines s.form s.is_headed row → t.form ≡ s.form → t.is_headed ≡ true → AppendsPrefix (contents s.writer) (contents t.writer) bytes
+  pub prints_short : (s t : RowPrinter W) (row : R) (bytes : List ℕ) → bytes ≡ lines s.form s.is_headed row → t.form ≡ s.form → t.is_headed ≡ true → AppendsPrefix (contents s.writer.0) (contents t.writer.0) bytes
       → PrintsPart contents lines s t (row ∷ [])
   prints_short s t row bytes are form headed w = record {
     written = w.written;
@@ -109,8 +109,8 @@ module _ {W R : Type 0} (contents : W → Option (List ℕ)) (lines : Form → B
     written = p.written;
     unwritten = p.unwritten;
     part = p.part;
-    appended = subst (Appends (contents s.writer) (contents u.writer)) (append-nil p.written)
-        (Appends-trans _ _ _ _ _ p.appended (subst (Appends (contents t.writer) (contents u.writer)) (first_of_none q.written q.unwritten q.part) q.appended));
+    appended = subst (Appends (contents s.writer.0) (contents u.writer.0)) (append-nil p.written)
+        (Appends-trans _ _ _ _ _ p.appended (subst (Appends (contents t.writer.0) (contents u.writer.0)) (first_of_none q.written q.unwritten q.part) q.appended));
     form = q.form ∙ p.form;
     headed = headed_only p.headed q.headed;
   } where

@@ -1,5 +1,5 @@
 -- What is read and told of a recording, frame by frame.
-use Rattle.std.proofs.Common.{◌≡◌, ◌⊎◌, ◌∷◌, [], ℕ, Bool, true, false, List, Option, Some, None, IsSome, Result, Ok, Err, OnErr, OnOk, inl, inr, refl, sym, subst, ◌∙◌}
+use Rattle.std.proofs.Common.{◌≡◌, ◌⊎◌, ◌∷◌, ◌≤◌, ◌+◌, ◌-◌, ◌^◌, [], ℕ, Bool, true, false, List, length, arith, Option, Some, None, IsSome, Result, Ok, Err, OnErr, OnOk, inl, inr, refl, sym, subst, ◌∙◌}
 use Rattle.std.proofs.lemmas.Bool.{false≢true}
 use Rattle.std.specs.Io.KnownBytes.{Consumes, IsAtEnd}
 use Rattle.net_streams.specs.{Standing}
@@ -14,6 +14,7 @@ use Rattle.audit_recording.specs.Session.Over.{IsOldestOver}
 use Rattle.audit_recording.specs.declared.judges.judging.Judging.{Judging}
 use Rattle.audit_recording.specs.declared.session.notes.Notes.{Notes}
 use Rattle.audit_recording.specs.declared.session.session.Session.{Session}
+use Rattle.tftp_rows.specs.Faults.{HasManyFrames}
 use Rattle.tftp_rows.specs.Telling.{JudgesAs, PrintsAllWith, PrintsPartWith, TellsNextPart, TellsTurns, TellsTurnsPart}
 use Rattle.tftp_rows.specs.Whole.{HasTold, HasToldAll, HasToldInPart, HasToldPart, IsPartOf, IsReadAndTold, IsReadInPart, IsReadOn, IsReadThrough, IsRecordingTold, IsRecordingToldInPart, Part, Telling, numbers_of, once_ended, so_far}
 use Rattle.tftp_rows.specs.declared.teller.Teller.{Teller}
@@ -42,7 +43,21 @@ pub among_them : (n : ℕ) (all : List Placed) (left numbers : List ℕ) → lef
 among_them n all left numbers are some (inl none) = let no : false ≡ true = subst IsSome none some in absurd (false≢true no)
 among_them n all left numbers are some (inr told) = subst (λ l. is_among n l ≡ true) are told
 
+pub one_frame_more : (n : ℕ) (step : Step) (history : List Step) → n ≤ length history → n + 1 ≤ length (step ∷ history)
+one_frame_more n step history le = grind arith
+
+at_least : (m n k : ℕ) → m ≤ n → n ≤ k → m ≤ k
+at_least m n k le many = grind arith
+
+pub many_frames : (file left : Option (List ℕ)) (recording : RecordingState) (history : List Step) (n : ℕ) → (bytes : List ℕ) × Consumes file left bytes × StandsFor recording bytes history → n ≤ length history
+    → 2 ^ 64 - 1 ≤ n → HasManyFrames file
+many_frames file left recording history n read many enough = (history, inr (recording, read.0, left, read.1, read.2), at_least (2 ^ 64 - 1) n (length history) enough many)
+
 module _ {W : Type 0} (contents : W → Option (List ℕ)) where
+  -- so many frames at least were read, and told as they should be
+  abbrev pub IsReadOnFor : ℕ → Teller W → Teller W → (List Step → Type 0) → Session → List ℕ → Type 0
+  IsReadOnFor n begun now Is session named = (so : IsReadOn contents begun now Is session named) × (n ≤ length so.0)
+
   -- what was told stays so with the next frame
   part_on : (step : Step) (history : List Step) (carried all : List Carried) (s t : Noticed) → IsOneMore carried all → IsPartOf (so_far history carried s) (so_far (step ∷ history) all t)
   part_on step history carried all s t (inl same) = record { next_frames = step ∷ []; next_carried = []; frames = refl; datagrams = same }
@@ -121,6 +136,13 @@ module _ {W : Type 0} (contents : W → Option (List ℕ)) where
           has_told = subst (λ (k : Judging). HasTold contents begun new k named (so_far history carried s) more.0) (sym judges) more.1;
         },
       )
+
+  pub told_over_for : (n : ℕ) (begun old new : Teller W) (lose : Bool) (Is : List Step → Type 0) (before after : Session) (named : List ℕ) (history : List Step) (carried : List Carried) (s : Noticed) (ts : List Telling)
+      → IsReadAndTold contents begun old Is before named history carried s ts → JudgesAs before after
+      → TellsTurns contents (λ b. IsOldestOver b named carried s × JudgesAs before b) (record old { may_lose = lose }) new after named (numbers_of ts) history carried s
+      → n ≤ length history → IsReadOnFor n begun new Is after named
+  unfolding told_over
+  told_over_for n begun old new lose Is before after named history carried s ts is judges turns many = (told_over begun old new lose Is before after named history carried s ts is judges turns, many)
 
   -- the recording is closed
   pub closed_then : (begun now : Teller W) (file left : Option (List ℕ)) (recording : RecordingState) (before after : Session) (named : List ℕ)

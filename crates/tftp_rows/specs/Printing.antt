@@ -39,7 +39,7 @@ is_some_row (row ∷ more) = true
 module _ {W R : Type 0} (contents : W → Option (List ℕ)) (lines : Form → Bool → R → List ℕ) where
   -- All these rows were printed, each once and in this order, behind what stood there, and nothing else.
   pub record PrintsAll (old new : RowPrinter W) (rows : List R) : Type 0 where
-    pub appended : Appends (contents old.writer) (contents new.writer) (all_lines (lines old.form) old.is_headed rows)
+    pub appended : Appends (contents old.writer.0) (contents new.writer.0) (all_lines (lines old.form) old.is_headed rows)
     pub form : new.form ≡ old.form
     pub headed : new.is_headed ≡ (old.is_headed || is_some_row rows)
 
@@ -49,7 +49,7 @@ module _ {W R : Type 0} (contents : W → Option (List ℕ)) (lines : Form → B
     pub written : List ℕ
     pub unwritten : List ℕ
     pub part : all_lines (lines old.form) old.is_headed rows ≡ written ++ unwritten
-    pub appended : Appends (contents old.writer) (contents new.writer) written
+    pub appended : Appends (contents old.writer.0) (contents new.writer.0) written
     pub form : new.form ≡ old.form
     pub headed : ((written ≡ []) × (new.is_headed ≡ old.is_headed)) ⊎ ((new.is_headed ≡ true) × (is_some_row rows ≡ true))
 

@@ -1,8 +1,9 @@
 //! Several recordings are told, one after another.
 
-ghost use Rattle.std.specs.Prelude.{◌≡◌, ◌==◌, ◌&&◌, [], ℕ, Bool, List, IfOk, IsSome, None, OnErr, OnOk, Option, false, if◌then◌else◌, map, max};
+ghost use Rattle.std.specs.Prelude.{◌≡◌, ◌==◌, ◌&&◌, [], ℕ, Bool, List, IfErr, IfOk, IsOk, IsSome, None, OnErr, OnOk, Option, false, if◌then◌else◌, map, max, true};
 ghost use Rattle.std.specs.Io.KnownBytes.{Appends};
 ghost use Rattle.audit_recording.specs.declared.judges.judging.Judging.{Judging as JudgingKind};
+ghost use Rattle.tftp_rows.specs.Faults.{AreWordsOf, IsToldFor, Why};
 ghost use Rattle.tftp_rows.specs.Files.{AreRowsOfFiles, CameOf, CameOfAll, IsSaidOf, Outcome, SaysOf, TellsFiles, has_fault, has_none, status_of_outcome};
 ghost use Rattle.tftp_rows.specs.Files.Outcome.{Faulty, Told};
 ghost use Rattle.tftp_rows.specs.Lists.{ListsFile};
@@ -32,9 +33,13 @@ pub trait Outside {
     // What the file of a name holds, where that is told.
     ghost holds: { Self → List ℕ → Option (List ℕ) } = { λ _ _. None };
 
+    // Whether the file of a name is known to open.
+    ghost opens: { Self → List ℕ → Bool } = { λ _ _. false };
+
     /// Opens the file of that name.
     fn open(&self, name: &str) -> Result<Self::Reader, Self::Fault>
-        ensures { IfOk result (λ reader. Self.Reader.Read.remaining reader ≡ holds self.now name.now) };
+        ensures holds { IfOk result (λ reader. Self.Reader.Read.remaining reader ≡ holds self.now name.now) }
+        ensures opens { opens self.now name.now ≡ true → IsOk result };
 
     // The words of a fault are known.
     ghost is_worded: { (fault : Self.Fault) → IsSome (Self.Fault.Display.output fault) };
@@ -52,8 +57,9 @@ pub fn check_files<'a, O: Outside, W: Write + Drop, E: Write + Drop>(
     teller: &mut Teller<'a, W>,
     remarks: &mut Remarks<'_, E>,
 ) -> Result<u8, O::Fault>
-    ensures { teller.old.held.items ≡ []
-        → TellsFiles W.Write.contents E.Write.contents (O.holds outside.now) judging services.now (map (λ name. name.now) names.now) teller.old.printer teller.new.printer remarks.old remarks.new result }
+    ensures tells { teller.old.held.items ≡ []
+        → TellsFiles W.Write.contents E.Write.contents (AreWordsOf O.Fault.From.from_gives O.Fault.Display.output) (O.opens outside.now) (O.holds outside.now) judging services.now (map (λ name. name.now) names.now) teller.old.printer teller.new.printer remarks.old remarks.new result }
+    ensures held { teller.old.held.items ≡ [] → teller.new.held.items ≡ [] }
 {
     teller.status = 0;
     let mut lacks_transfers = false;
@@ -85,11 +91,13 @@ fn check_file<'a, O: Outside, W: Write + Drop, E: Write + Drop>(
     remarks: &mut Remarks<'_, E>,
 ) -> Result<bool, O::Fault>
     ensures came { teller.old.held.items ≡ []
-        → IfOk result (λ empty. (outcome : Outcome) × CameOf W.Write.contents name.entry.now (O.holds outside.now name.entry.now) judging services.now teller.old.printer teller.new.printer outcome
+        → IfOk result (λ empty. (outcome : Outcome) × CameOf W.Write.contents remarks.new.errors.1 (O.opens outside.now name.entry.now) name.entry.now (O.holds outside.now name.entry.now) judging services.now teller.old.printer teller.new.printer outcome
         × (teller.new.status ≡ max teller.old.status (status_of_outcome outcome)) × (empty ≡ has_none outcome)
-        × SaysOf (E.Write.contents remarks.old.errors) (E.Write.contents remarks.new.errors) (IsSaidOf remarks.old.program.now name.entry.now outcome)) }
+        × SaysOf (E.Write.contents remarks.old.errors.0) (E.Write.contents remarks.new.errors.0) (IsSaidOf (AreWordsOf O.Fault.From.from_gives O.Fault.Display.output) remarks.old.program.now name.entry.now outcome)) }
     ensures part { teller.old.held.items ≡ []
-        → OnErr result ((rest : List (List ℕ)) × CameOf W.Write.contents name.entry.now (O.holds outside.now name.entry.now) judging services.now teller.old.printer teller.new.printer (Faulty rest)) }
+        → OnErr result ((why : Why) × (rest : List (List ℕ)) × CameOf W.Write.contents remarks.new.errors.1 (O.opens outside.now name.entry.now) name.entry.now (O.holds outside.now name.entry.now) judging services.now teller.old.printer teller.new.printer (Faulty why rest)) }
+    ensures failed { OnErr result (remarks.new.errors.1 ≡ true) }
+    ensures stays { remarks.old.errors.1 ≡ true → remarks.new.errors.1 ≡ true }
     ensures held { teller.old.held.items ≡ [] → teller.new.held.items ≡ [] }
     ensures same { remarks.new ≡ record remarks.old { errors = remarks.new.errors } }
 {
@@ -115,12 +123,14 @@ fn tell_file<'a, O: Outside, W: Write + Drop, E: Write + Drop>(
     remarks: &mut Remarks<'_, E>,
 ) -> Result<(), O::Fault>
     ensures told { teller.old.held.items ≡ []
-        → OnOk result ((tellings : List Telling) × (whole : Bool) × (rest : List (List ℕ)) × CameOf W.Write.contents name.entry.now (O.holds outside.now name.entry.now) judging services.now teller.old.printer teller.new.printer (Told tellings whole rest)
+        → OnOk result ((tellings : List Telling) × (whole : Bool) × (rest : List (List ℕ)) × CameOf W.Write.contents remarks.new.errors.1 (O.opens outside.now name.entry.now) name.entry.now (O.holds outside.now name.entry.now) judging services.now teller.old.printer teller.new.printer (Told tellings whole rest)
         × (teller.new.status ≡ max teller.old.status (status_of_outcome (Told tellings whole rest))) × (teller.new.told ≡ counted tellings)
-        × Appends (E.Write.contents remarks.old.errors) (E.Write.contents remarks.new.errors) (remarks_text remarks.old.program.now name.entry.now rest)) }
+        × Appends (E.Write.contents remarks.old.errors.0) (E.Write.contents remarks.new.errors.0) (remarks_text remarks.old.program.now name.entry.now rest)) }
     ensures part { teller.old.held.items ≡ []
-        → OnErr result ((rest : List (List ℕ)) × CameOf W.Write.contents name.entry.now (O.holds outside.now name.entry.now) judging services.now teller.old.printer teller.new.printer (Faulty rest)
-        × SaysPart (E.Write.contents remarks.old.errors) (E.Write.contents remarks.new.errors) (remarks_text remarks.old.program.now name.entry.now rest)) }
+        → IfErr result (λ fault. (why : Why) × (rest : List (List ℕ)) × IsToldFor O.Fault.From.from_gives why fault
+        × CameOf W.Write.contents remarks.new.errors.1 (O.opens outside.now name.entry.now) name.entry.now (O.holds outside.now name.entry.now) judging services.now teller.old.printer teller.new.printer (Faulty why rest)
+        × SaysPart (E.Write.contents remarks.old.errors.0) (E.Write.contents remarks.new.errors.0) (remarks_text remarks.old.program.now name.entry.now rest)) }
+    ensures stays { remarks.old.errors.1 ≡ true → remarks.new.errors.1 ≡ true }
     ensures held { teller.old.held.items ≡ [] → teller.new.held.items ≡ [] }
     ensures same { remarks.new ≡ record remarks.old { errors = remarks.new.errors } }
 {
@@ -148,7 +158,7 @@ pub fn list_file<O: Outside, W: Write + Drop, E: Write + Drop>(
     lister: &mut Lister<W>,
     remarks: &mut Remarks<'_, E>,
 ) -> Result<u8, O::Fault>
-    ensures { ListsFile W.Write.contents E.Write.contents (record lister.old { told = 0 }) lister.new (O.holds outside.now name.now) services.now name.now remarks.old remarks.new result }
+    ensures { ListsFile W.Write.contents E.Write.contents O.Fault.From.from_gives (O.opens outside.now name.now) (record lister.old { told = 0 }) lister.new (O.holds outside.now name.now) services.now name.now remarks.old remarks.new result }
 {
     let file = outside.open(name)?;
     let notes = list_recording(alloc, file, services, lister)?;
@@ -159,10 +169,10 @@ pub fn list_file<O: Outside, W: Write + Drop, E: Write + Drop>(
 /// What stood on standard output stays there, whatever comes of the files. Where no file has a fault, what follows is the rows of all of
 /// them, and nothing else: those of the first file, behind these those of the second one, and so on.
 pub fn files_are_printed_in_order<W: Write + Drop>()
-    ensures behind { (holds : List ℕ → Option (List ℕ)) (judging : JudgingKind) (named : List ℕ) (names : List (List ℕ)) (before after : Printer W) (outcomes : List Outcome)
-        → CameOfAll W.Write.contents holds judging named names before after outcomes
-        → (written : List ℕ) × Appends (W.Write.contents before.writer) (W.Write.contents after.writer) written }
-    ensures in_order { (holds : List ℕ → Option (List ℕ)) (judging : JudgingKind) (named : List ℕ) (names : List (List ℕ)) (before after : Printer W) (outcomes : List Outcome)
-        → CameOfAll W.Write.contents holds judging named names before after outcomes → has_fault outcomes ≡ false
+    ensures behind { (unheard : Bool) (opens : List ℕ → Bool) (holds : List ℕ → Option (List ℕ)) (judging : JudgingKind) (named : List ℕ) (names : List (List ℕ)) (before after : Printer W) (outcomes : List Outcome)
+        → CameOfAll W.Write.contents unheard opens holds judging named names before after outcomes
+        → (written : List ℕ) × Appends (W.Write.contents before.writer.0) (W.Write.contents after.writer.0) written }
+    ensures in_order { (unheard : Bool) (opens : List ℕ → Bool) (holds : List ℕ → Option (List ℕ)) (judging : JudgingKind) (named : List ℕ) (names : List (List ℕ)) (before after : Printer W) (outcomes : List Outcome)
+        → CameOfAll W.Write.contents unheard opens holds judging named names before after outcomes → has_fault outcomes ≡ false
         → (rows : List RowShown) × PrintsAll W.Write.contents verdict_lines before after rows × AreRowsOfFiles outcomes rows }
 {}

@@ -12,6 +12,7 @@ mod lister;
 mod listing;
 mod members;
 mod objects;
+mod output;
 mod plain;
 mod premise;
 mod printing;
@@ -33,8 +34,9 @@ pub use files::{Outside, check_files, files_are_printed_in_order, list_file};
 pub use list_reading::list_recording;
 pub use lister::Lister;
 pub use listing::{ListRow, put_list_head};
+pub use output::Output;
 pub use plain::{put_number, put_plain};
-pub use printing::{Form, PrintFault, RowPrinter, write_whole};
+pub use printing::{Form, PrintFault, RowPrinter};
 pub use reading::{
     TellFault, check_recording, recordings_are_told_as_they_are_read, tell_frames, tell_recording,
 };

@@ -1,17 +1,19 @@
 //! Transfers are listed, each in a row.
 
-ghost use Rattle.std.specs.Prelude.{◌≡◌, ◌⊎◌, ℕ, List, None, Ok, OnErr, OnOk, false, if◌then◌else◌, true};
+ghost use Rattle.std.specs.Prelude.{◌≡◌, ◌⊎◌, ◌+◌, ◌-◌, ◌^◌, ℕ, IfErr, List, None, Ok, OnErr, OnOk, Option, false, if◌then◌else◌, min, true};
 ghost use Rattle.net_udp.specs.Recording.{Step};
 ghost use Rattle.audit_recording.specs.Blame.Frames.{Carried, whole_of};
 ghost use Rattle.audit_recording.specs.Judges.{is_among, opened};
 ghost use Rattle.audit_recording.specs.Session.Kept.{IsSessionAfter, IsSessionOf};
 ghost use Rattle.audit_recording.specs.Session.Noted.{Noticed};
 ghost use Rattle.audit_recording.specs.Session.Over.{IsOldestOver};
+ghost use Rattle.tftp_rows.specs.Faults.{IsPrintFault, IsTellFault};
 ghost use Rattle.tftp_rows.specs.Listed.{ListsNext, ListsPart, ListsTurns, ListsTurnsPart};
 ghost use Rattle.tftp_rows.specs.declared.listing.ListRow.{ListRow as ListRowKind};
 
 use crate::listing::ListRow;
 use crate::printing::{Form, PrintFault, RowPrinter};
+use crate::reading::TellFault;
 use audit_recording::progress::read_until;
 use audit_recording::session::Session;
 use std::alloc::Global;
@@ -30,7 +32,7 @@ pub struct Lister<W: Drop> {
 impl<W: Write + Drop> Lister<W> {
     /// Nothing was listed.
     pub fn new(writer: W, form: Form) -> Self
-        ensures printer { result.printer ≡ record { writer = writer; form = form; is_headed = false } }
+        ensures printer { result.printer ≡ record { writer = (writer, false); form = form; is_headed = false } }
         ensures told { result.told ≡ 0 }
         ensures status { result.status ≡ 0 }
     {
@@ -47,6 +49,7 @@ impl<W: Write + Drop> Lister<W> {
             → OnOk result (ListsTurns W.Write.contents (λ before. IsOldestOver before named carried s) self.old self.new session.new named out history carried s) }
         ensures part { (named out : List ℕ) (history : List Step) (carried : List Carried) (s : Noticed) → IsSessionAfter session.old named out history carried s
             → OnErr result (ListsTurnsPart W.Write.contents (λ before. IsOldestOver before named carried s) self.old self.new named out history carried s) }
+        ensures why { IfErr result (IsPrintFault self.new.printer.writer.1) }
     {
         for _ in 0..session.count() {
             if !self.list_first_over(alloc, session)? {
@@ -65,6 +68,7 @@ impl<W: Write + Drop> Lister<W> {
         ensures nothing { result ≡ Ok false → self.new ≡ self.old }
         ensures same_session { (named out : List ℕ) (history : List Step) (carried : List Carried) (s : Noticed) → IsSessionAfter session.old named out history carried s
             → result ≡ Ok false → IsSessionAfter session.new named out history carried s }
+        ensures why { IfErr result (IsPrintFault self.new.printer.writer.1) }
     {
         if session.is_first_over() {
             return self.list_oldest(alloc, session);
@@ -73,20 +77,21 @@ impl<W: Write + Drop> Lister<W> {
     }
 
     /// Lists all transfers that were not listed, where the recording has ended.
-    pub fn list_all(&mut self, alloc: Global, session: &mut Session) -> Result<(), PrintFault>
+    pub fn list_all(&mut self, alloc: Global, session: &mut Session) -> Result<(), TellFault>
         ensures turns { (named out : List ℕ) (history : List Step) (carried : List Carried) (s : Noticed) → IsSessionOf session.old named out history carried s
             → OnOk result ((turns : ListsTurns W.Write.contents (λ before. Unit {0}) self.old self.new session.new named out history carried s)
             × ((n : ℕ) → (opened n (whole_of named carried) ≡ None) ⊎ (is_among n turns.left ≡ true))) }
         ensures part { (named out : List ℕ) (history : List Step) (carried : List Carried) (s : Noticed) → IsSessionOf session.old named out history carried s
             → OnErr result (ListsTurnsPart W.Write.contents (λ before. Unit {0}) self.old self.new named out history carried s) }
         ensures notes { session.new.notes ≡ session.old.notes }
+        ensures why { (file : Option (List ℕ)) → IfErr result (IsTellFault file self.new.printer.writer.1 self.new.told) }
     {
-        for _ in 0..u64::MAX {
+        for _turn in 0..u64::MAX {
             if !self.list_oldest(alloc, session)? {
                 return Ok(());
             }
         }
-        Err(PrintFault::TooMany)
+        Err(TellFault::TooMany)
     }
 
     /// Ends a list, where its recording was read whole, or not.
@@ -112,6 +117,8 @@ impl<W: Write + Drop> Lister<W> {
             → result ≡ Ok false → IsSessionOf session.new named out history carried s }
         ensures all { (named out : List ℕ) (history : List Step) (carried : List Carried) (s : Noticed) → IsSessionOf session.old named out history carried s
             → result ≡ Ok false → (n : ℕ) → (opened n (whole_of named carried) ≡ None) ⊎ (is_among n out ≡ true) }
+        ensures why { IfErr result (IsPrintFault self.new.printer.writer.1) }
+        ensures number { result ≡ Ok true → self.new.told ≡ min (self.old.told + 1) (2 ^ 64 - 1) }
     {
         let Some(ended) = session.pop() else {
             return Ok(false);

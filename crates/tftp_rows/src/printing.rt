@@ -1,7 +1,8 @@
 //! Rows are printed, each in a line.
 
-ghost use Rattle.std.specs.Prelude.{◌≡◌, ◌∷◌, ◌++◌, [], IfOk, codes, false, true};
+ghost use Rattle.std.specs.Prelude.{◌≡◌, ◌∷◌, ◌++◌, [], IfErr, IfOk, OnErr, codes, false, true};
 ghost use Rattle.net_streams.specs.Streams.{WritesWhole};
+ghost use Rattle.tftp_rows.specs.Faults.{IsPrintFault};
 ghost use Rattle.tftp_rows.specs.Listing.{list_lines};
 ghost use Rattle.tftp_rows.specs.Members.{json_text};
 ghost use Rattle.tftp_rows.specs.Objects.{row_json};
@@ -9,11 +10,13 @@ ghost use Rattle.tftp_rows.specs.Printing.{Prints, verdict_lines};
 ghost use Rattle.tftp_rows.specs.declared.printing.Form.TheVariants.{Words};
 
 use crate::listing::ListRow;
+use crate::output::Output;
 use crate::row::{VerdictRow, put_head};
 use json::Writer;
-use std::alloc::{AllocError, Global};
+use std::alloc::{AllocError, AllocFailed, Global};
+use std::convert::From;
 use std::io;
-use std::io::{ErrorKind, Write};
+use std::io::Write;
 use thiserror::Error;
 
 /// How rows are printed.
@@ -30,19 +33,49 @@ pub enum Form {
 pub enum PrintFault {
     /// Memory was refused.
     #[error(transparent)]
-    Alloc(#[from(alloc)] AllocError),
-    /// There are more transfers than can be counted.
-    #[error("too many transfers")]
-    TooMany,
+    Alloc(AllocError),
     /// A write failed.
     #[error(transparent)]
-    Write(#[from] io::Error),
+    Write(io::Error),
+}
+
+impl From<AllocError> for PrintFault {
+    ghost use Rattle.std.specs.Prelude.{◌≡◌};
+    ghost use Rattle.tftp_rows.specs.declared.printing.PrintFault.{PrintFault};
+
+    ghost from_gives = { λ error fault. fault ≡ PrintFault.Alloc error };
+
+    fn from(error: AllocError) -> Self {
+        PrintFault::Alloc(error)
+    }
+}
+
+impl<T: Drop> From<AllocFailed<T>> for PrintFault {
+    ghost use Rattle.std.specs.Prelude.{◌≡◌, alloc_error};
+    ghost use Rattle.tftp_rows.specs.declared.printing.PrintFault.{PrintFault};
+
+    ghost from_gives = { λ _ fault. fault ≡ PrintFault.Alloc alloc_error };
+
+    fn from(_failed: AllocFailed<T>) -> Self {
+        PrintFault::Alloc(AllocError)
+    }
+}
+
+impl From<io::Error> for PrintFault {
+    ghost use Rattle.std.specs.Prelude.{◌≡◌};
+    ghost use Rattle.tftp_rows.specs.declared.printing.PrintFault.{PrintFault};
+
+    ghost from_gives = { λ error fault. fault ≡ PrintFault.Write error };
+
+    fn from(error: io::Error) -> Self {
+        PrintFault::Write(error)
+    }
 }
 
 /// Prints rows to a writer, each as soon as it is given.
 #[derive(Drop)]
 pub struct RowPrinter<W: Drop> {
-    writer: W,
+    writer: Output<W>,
     form: Form,
     /// Whether the heads stand before what comes next.
     is_headed: bool,
@@ -51,10 +84,10 @@ pub struct RowPrinter<W: Drop> {
 impl<W: Write + Drop> RowPrinter<W> {
     /// Nothing was printed.
     pub fn new(writer: W, form: Form) -> Self
-        ensures { result ≡ record { writer = writer; form = form; is_headed = false } }
+        ensures { result ≡ record { writer = (writer, false); form = form; is_headed = false } }
     {
         RowPrinter {
-            writer,
+            writer: Output::new(writer),
             form,
             is_headed: false,
         }
@@ -62,7 +95,9 @@ impl<W: Write + Drop> RowPrinter<W> {
 
     /// Prints a row, behind the heads if it is the first one.
     pub fn print(&mut self, alloc: Global, row: &VerdictRow<'_>) -> Result<(), PrintFault>
-        ensures { Prints W.Write.contents verdict_lines self.old self.new result (row.now ∷ []) }
+        ensures prints { Prints W.Write.contents verdict_lines self.old self.new result (row.now ∷ []) }
+        ensures why { IfErr result (IsPrintFault self.new.writer.1) }
+        ensures stays { self.old.writer.1 ≡ true → self.new.writer.1 ≡ true }
     {
         let lines = self.form.lines(alloc, row, self.is_headed)?;
         self.put(lines.as_slice())?;
@@ -71,7 +106,8 @@ impl<W: Write + Drop> RowPrinter<W> {
 
     /// Prints a row of a list, behind the heads if it is the first one.
     pub fn print_listed(&mut self, alloc: Global, row: &ListRow) -> Result<(), PrintFault>
-        ensures { Prints W.Write.contents list_lines self.old self.new result (row.now ∷ []) }
+        ensures prints { Prints W.Write.contents list_lines self.old self.new result (row.now ∷ []) }
+        ensures why { IfErr result (IsPrintFault self.new.writer.1) }
     {
         let lines = row.lines(alloc, self.form, self.is_headed)?;
         self.put(lines.as_slice())?;
@@ -80,11 +116,13 @@ impl<W: Write + Drop> RowPrinter<W> {
 
     /// Writes the lines of a row, before which heads stand then.
     fn put(&mut self, lines: &[u8]) -> io::Result<()>
-        ensures lines { WritesWhole (W.Write.contents self.old.writer) (W.Write.contents self.new.writer) result lines.now }
+        ensures lines { WritesWhole (W.Write.contents self.old.writer.0) (W.Write.contents self.new.writer.0) result lines.now }
         ensures rest { self.new ≡ record self.old { writer = self.new.writer; is_headed = true } }
+        ensures failed { OnErr result (self.new.writer.1 ≡ true) }
+        ensures stays { self.old.writer.1 ≡ true → self.new.writer.1 ≡ true }
     {
         self.is_headed = true;
-        write_whole(&mut self.writer, lines)
+        self.writer.write_whole(lines)
     }
 }
 
@@ -132,19 +170,4 @@ fn json_of(alloc: Global, row: &VerdictRow<'_>) -> Result<Vec<u8>, AllocError>
     let mut line = out.into_inner();
     line.push(b'\n')?;
     Ok(line)
-}
-
-/// Writes all of these bytes, by as many writes as it takes.
-pub fn write_whole<W: Write>(writer: &mut W, bytes: &[u8]) -> io::Result<()>
-    ensures { WritesWhole (W.contents writer.old) (W.contents writer.new) result bytes.now }
-{
-    let mut written = 0;
-    while written < bytes.len() {
-        let count = writer.write(&bytes[written..])?;
-        if count == 0 {
-            return Err(io::Error::from(ErrorKind::WriteZero));
-        }
-        written += count;
-    }
-    Ok(())
 }

@@ -1,6 +1,6 @@
 //! A recording is read, and its transfers told.
 
-ghost use Rattle.std.specs.Prelude.{◌≡◌, [], ℕ, List, IfOk, None, OnErr, OnOk, Option, false};
+ghost use Rattle.std.specs.Prelude.{◌≡◌, [], ℕ, List, IfErr, IfOk, None, OnErr, OnOk, Option, false};
 ghost use Rattle.std.specs.Io.KnownBytes.{IsAtEnd};
 ghost use Rattle.net_streams.specs.{Standing};
 ghost use Rattle.net_udp.specs.Recording.{Step, standing_of};
@@ -10,6 +10,7 @@ ghost use Rattle.audit_recording.specs.Session.Noted.{Noticed, nothing_noticed};
 ghost use Rattle.audit_recording.specs.Session.Opened.{HasEnded, HasRead, left_of};
 ghost use Rattle.audit_recording.specs.declared.session.opened.Opened.{Opened as OpenedKind};
 ghost use Rattle.audit_recording.specs.declared.session.session.Session.{Session as SessionKind};
+ghost use Rattle.tftp_rows.specs.Faults.{IsTellFault};
 ghost use Rattle.tftp_rows.specs.Telling.{JudgesAs, PrintsAllWith};
 ghost use Rattle.tftp_rows.specs.Whole.{HasToldAll, IsReadInPart, IsReadOn, IsReadThrough, IsRecordingTold, IsRecordingToldInPart, Telling, numbers_of, so_far};
 ghost use Rattle.tftp_rows.specs.declared.teller.Teller.{Teller as TellerKind};
@@ -19,6 +20,7 @@ use crate::teller::Teller;
 use audit_recording::judges::Judging;
 use audit_recording::session::{Kept, Notes, Opened, ReadFault, Session, Wanted};
 use std::alloc::{AllocError, Global};
+use std::convert::From;
 use std::io;
 use std::io::{Read, Write};
 use thiserror::Error;
@@ -28,16 +30,66 @@ use thiserror::Error;
 pub enum TellFault {
     /// Memory was refused.
     #[error(transparent)]
-    Alloc(#[from(alloc)] AllocError),
+    Alloc(AllocError),
     /// The recording is not read.
     #[error(transparent)]
-    Read(#[from] ReadFault),
+    Read(ReadFault),
     /// A row is not printed.
     #[error(transparent)]
-    Print(#[from] PrintFault),
+    Print(PrintFault),
+    /// There are more transfers than can be counted.
+    #[error("too many transfers")]
+    TooMany,
+    /// There are more frames than can be counted.
+    #[error("too many frames")]
+    TooManyFrames,
     /// What else there is to tell is not written.
     #[error(transparent)]
-    Remark(#[from] io::Error),
+    Remark(io::Error),
+}
+
+impl From<AllocError> for TellFault {
+    ghost use Rattle.std.specs.Prelude.{◌≡◌};
+    ghost use Rattle.tftp_rows.specs.declared.reading.TellFault.{TellFault};
+
+    ghost from_gives = { λ error fault. fault ≡ TellFault.Alloc error };
+
+    fn from(error: AllocError) -> Self {
+        TellFault::Alloc(error)
+    }
+}
+
+impl From<ReadFault> for TellFault {
+    ghost use Rattle.std.specs.Prelude.{◌≡◌};
+    ghost use Rattle.tftp_rows.specs.declared.reading.TellFault.{TellFault};
+
+    ghost from_gives = { λ error fault. fault ≡ TellFault.Read error };
+
+    fn from(error: ReadFault) -> Self {
+        TellFault::Read(error)
+    }
+}
+
+impl From<PrintFault> for TellFault {
+    ghost use Rattle.std.specs.Prelude.{◌≡◌};
+    ghost use Rattle.tftp_rows.specs.declared.reading.TellFault.{TellFault};
+
+    ghost from_gives = { λ error fault. fault ≡ TellFault.Print error };
+
+    fn from(error: PrintFault) -> Self {
+        TellFault::Print(error)
+    }
+}
+
+impl From<io::Error> for TellFault {
+    ghost use Rattle.std.specs.Prelude.{◌≡◌};
+    ghost use Rattle.tftp_rows.specs.declared.reading.TellFault.{TellFault};
+
+    ghost from_gives = { λ error fault. fault ≡ TellFault.Remark error };
+
+    fn from(error: io::Error) -> Self {
+        TellFault::Remark(error)
+    }
 }
 
 /// Reads a new recording, whose service ports are these, and tells the verdicts on its transfers; answers what is to be told of it as a whole.
@@ -53,6 +105,7 @@ pub fn check_recording<'a, R: Read + Drop, W: Write + Drop>(
         → IfOk result (λ notes. IsRecordingTold W.Write.contents (record teller.old { file = file.entry; told = 0; dropped = 0 }) teller.new (R.Read.remaining reader) judging services.now notes) }
     ensures part { teller.old.held.items ≡ []
         → OnErr result (IsRecordingToldInPart W.Write.contents (record teller.old { file = file.entry; told = 0; dropped = 0 }) teller.new (R.Read.remaining reader) judging services.now) }
+    ensures why { teller.old.held.items ≡ [] → IfErr result (IsTellFault (R.Read.remaining reader) teller.new.printer.writer.1 teller.new.told) }
 {
     let kept = Kept::new(alloc, Wanted::Nothing);
     let mut session = Session::new(alloc, services, judging, kept)?;
@@ -75,6 +128,8 @@ pub fn tell_recording<R: Read + Drop, W: Write + Drop>(
         → OnOk result (IsRecordingTold W.Write.contents teller.old teller.new (R.Read.remaining reader) session.old.audit.judge.judging named session.new.notes) }
     ensures part { (named : List ℕ) → IsSessionAfter session.old named [] [] [] nothing_noticed → teller.old.held.items ≡ [] → teller.old.told ≡ 0
         → OnErr result (IsRecordingToldInPart W.Write.contents teller.old teller.new (R.Read.remaining reader) session.old.audit.judge.judging named) }
+    ensures why { (named : List ℕ) → IsSessionAfter session.old named [] [] [] nothing_noticed → teller.old.held.items ≡ [] → teller.old.told ≡ 0
+        → IfErr result (IsTellFault (R.Read.remaining reader) teller.new.printer.writer.1 teller.new.told) }
 {
     let read = read_through(alloc, reader, session, teller);
     teller.tell_held(alloc, session.notes.dropped)?;
@@ -94,6 +149,8 @@ fn read_through<R: Read + Drop, W: Write + Drop>(
         → OnOk result (IsReadThrough W.Write.contents teller.old teller.new (R.Read.remaining reader) session.new named) }
     ensures part { (named : List ℕ) → IsSessionAfter session.old named [] [] [] nothing_noticed → teller.old.held.items ≡ [] → teller.old.told ≡ 0
         → OnErr result (IsReadInPart W.Write.contents teller.old teller.new (R.Read.remaining reader) session.old.audit.judge.judging named) }
+    ensures why { (named : List ℕ) → IsSessionAfter session.old named [] [] [] nothing_noticed → teller.old.held.items ≡ [] → teller.old.told ≡ 0
+        → IfErr result (IsTellFault (R.Read.remaining reader) teller.new.printer.writer.1 teller.new.told) }
     ensures judging { JudgesAs session.old session.new }
 {
     let mut opened = Opened::begin(alloc, reader)?;
@@ -115,18 +172,20 @@ pub fn tell_frames<R: Read + Drop, W: Write + Drop>(
         → OnOk result (IsReadOn W.Write.contents begun teller.new (HasRead R.Read.remaining file opened.new) session.new named) }
     ensures part { (begun : TellerKind W) (file : Option (List ℕ)) (named : List ℕ) → IsReadOn W.Write.contents begun teller.old (HasRead R.Read.remaining file opened.old) session.old named
         → OnErr result (IsReadInPart W.Write.contents begun teller.new file session.old.audit.judge.judging named) }
+    ensures why { (begun : TellerKind W) (file : Option (List ℕ)) (named : List ℕ) → IsReadOn W.Write.contents begun teller.old (HasRead R.Read.remaining file opened.old) session.old named
+        → IfErr result (IsTellFault file teller.new.printer.writer.1 teller.new.told) }
     ensures ends { OnOk result (HasEnded opened.new.recording session.new.notes) }
     ensures at_end { standing_of opened.old.recording ≡ Standing.Open
         → OnOk result (standing_of opened.new.recording ≡ Standing.Over → IsAtEnd (left_of R.Read.remaining opened.new)) }
     ensures judging { JudgesAs session.old session.new }
 {
-    for _ in 0..u64::MAX {
+    for _turn in 0..u64::MAX {
         if !opened.next(alloc, session)? {
             return Ok(());
         }
         teller.tell_over(alloc, session)?;
     }
-    Err(TellFault::Print(PrintFault::TooMany))
+    Err(TellFault::TooManyFrames)
 }
 
 /// What was read of a recording is told, each transfer once and in order: so it is before the first frame, with a new session

@@ -1,12 +1,13 @@
 //! What is told of a file on standard error.
 
-ghost use Rattle.std.specs.Prelude.{◌≡◌, ◌==◌, ◌++◌, [], IfOk, IfSome, OnOk, if◌then◌else◌, map, string_bytes};
+ghost use Rattle.std.specs.Prelude.{◌≡◌, ◌==◌, ◌++◌, [], IfErr, IfOk, IfSome, OnErr, OnOk, false, if◌then◌else◌, map, string_bytes, true};
 ghost use Rattle.std.specs.Io.KnownBytes.{Appends};
 ghost use Rattle.audit_recording.specs.Session.Lines.{ports_text};
 ghost use Rattle.audit_recording.specs.Session.Noted.{AreNotesOf, Noticed};
+ghost use Rattle.tftp_rows.specs.Faults.{IsRemarkFault};
 ghost use Rattle.tftp_rows.specs.Remarks.{Says, none_lines, ports_line, ports_lines, remark_text, remarks_text, rest_lines};
 
-use crate::printing::write_whole;
+use crate::output::Output;
 use crate::reading::TellFault;
 use audit_recording::session::Notes;
 use std::alloc::{AllocError, Global};
@@ -17,14 +18,15 @@ use std::io::Write;
 #[derive(Drop)]
 pub struct Remarks<'a, E: Drop> {
     program: &'a str,
-    errors: E,
+    errors: Output<E>,
 }
 
 impl<'a, E: Write + Drop> Remarks<'a, E> {
     /// By a program of that name.
     pub fn new(program: &'a str, errors: E) -> Self
-        ensures { result ≡ record { program = program.entry; errors = errors } }
+        ensures { result ≡ record { program = program.entry; errors = (errors, false) } }
     {
+        let errors = Output::new(errors);
         Remarks { program, errors }
     }
 
@@ -37,19 +39,23 @@ impl<'a, E: Write + Drop> Remarks<'a, E> {
         told: u64,
     ) -> Result<(), TellFault>
         ensures rest { (s : Noticed) → AreNotesOf notes.now s
-            → Says (E.Write.contents self.old.errors) (E.Write.contents self.new.errors) result (remarks_text self.old.program.now file.now (rest_lines notes.now s told)) }
+            → Says (E.Write.contents self.old.errors.0) (E.Write.contents self.new.errors.0) result (remarks_text self.old.program.now file.now (rest_lines notes.now s told)) }
         ensures same { self.new ≡ record self.old { errors = self.new.errors } }
+        ensures why { IfErr result (IsRemarkFault self.new.errors.1) }
+        ensures stays { self.old.errors.1 ≡ true → self.new.errors.1 ≡ true }
     {
         let lines = rest_of(alloc, notes, told)?;
         let text = text_of(alloc, self.program, file, lines.as_slice())?;
-        write_whole(&mut self.errors, text.as_bytes())?;
+        self.errors.write_whole(text.as_bytes())?;
         Ok(())
     }
 
     /// Tells why a file is not told, or not to its end.
     pub fn tell_fault<F: Display + Drop>(&mut self, file: &str, fault: F) -> Result<(), TellFault>
-        ensures line { OnOk result (IfSome (F.output fault) (λ words. Appends (E.Write.contents self.old.errors) (E.Write.contents self.new.errors) (remark_text self.old.program.now file.now words))) }
+        ensures line { OnOk result (IfSome (F.output fault) (λ words. Appends (E.Write.contents self.old.errors.0) (E.Write.contents self.new.errors.0) (remark_text self.old.program.now file.now words))) }
         ensures same { self.new ≡ record self.old { errors = self.new.errors } }
+        ensures failed { OnErr result (self.new.errors.1 ≡ true) }
+        ensures stays { self.old.errors.1 ≡ true → self.new.errors.1 ≡ true }
     {
         let program = self.program;
         writeln!(self.errors, "{program}: {file}: {fault}")?;

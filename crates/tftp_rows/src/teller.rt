@@ -1,6 +1,6 @@
 //! The verdicts on transfers are told, each in a row.
 
-ghost use Rattle.std.specs.Prelude.{◌≡◌, ◌≢◌, ◌⊎◌, ◌∷◌, [], ℕ, List, None, Ok, OnErr, OnOk, false, max, option_to_list, true};
+ghost use Rattle.std.specs.Prelude.{◌≡◌, ◌≢◌, ◌⊎◌, ◌∷◌, ◌+◌, ◌-◌, ◌^◌, [], ℕ, IfErr, List, None, Ok, OnErr, OnOk, Option, false, max, min, option_to_list, true};
 ghost use Rattle.net_udp.specs.Recording.{Step};
 ghost use Rattle.audit_recording.specs.Blame.Frames.{Carried, whole_of};
 ghost use Rattle.audit_recording.specs.Judges.{is_among, opened};
@@ -11,9 +11,11 @@ ghost use Rattle.audit_recording.specs.Session.Over.{IsOldestOver};
 ghost use Rattle.audit_recording.specs.declared.rows.row.Row.{Row as RowKind};
 ghost use Rattle.audit_rows.specs.Judging.{IsToldOf};
 ghost use Rattle.audit_rows.specs.Viewing.{said_in};
+ghost use Rattle.tftp_rows.specs.Faults.{IsPrintFault, IsTellFault};
 ghost use Rattle.tftp_rows.specs.Telling.{AreJudgedAt, JudgesAs, PrintsWith, Tells, TellsNext, TellsNextPart, TellsPlaces, TellsTurns, TellsTurnsPart, places_of, worst_at};
 
 use crate::printing::{Form, PrintFault, RowPrinter};
+use crate::reading::TellFault;
 use crate::row::VerdictRow;
 use crate::verdict::has_same_words;
 use audit_recording::progress::read_until;
@@ -43,7 +45,7 @@ pub struct Teller<'a, W: Drop> {
 impl<'a, W: Write + Drop> Teller<'a, W> {
     /// Nothing was told.
     pub fn new(alloc: Global, writer: W, form: Form) -> Self
-        ensures printer { result.printer ≡ record { writer = writer; form = form; is_headed = false } }
+        ensures printer { result.printer ≡ record { writer = (writer, false); form = form; is_headed = false } }
         ensures held { result.held.items ≡ [] }
         ensures status { result.status ≡ 0 }
     {
@@ -74,6 +76,7 @@ impl<'a, W: Write + Drop> Teller<'a, W> {
         ensures part { (named out : List ℕ) (history : List Step) (carried : List Carried) (s : Noticed) → IsSessionAfter session.old named out history carried s
             → OnErr result (TellsTurnsPart W.Write.contents (λ before. IsOldestOver before named carried s × JudgesAs session.old before) (record self.old { may_lose = session.old.notes.may_lose }) self.new session.old.audit.judge.judging named out history carried s) }
         ensures judging { JudgesAs session.old session.new }
+        ensures why { IfErr result (IsPrintFault self.new.printer.writer.1) }
     {
         self.may_lose = session.notes.may_lose;
         for _ in 0..session.count() {
@@ -96,6 +99,7 @@ impl<'a, W: Write + Drop> Teller<'a, W> {
         ensures judging { JudgesAs session.old session.new }
         ensures same_session { (named out : List ℕ) (history : List Step) (carried : List Carried) (s : Noticed) → IsSessionAfter session.old named out history carried s
             → result ≡ Ok false → IsSessionAfter session.new named out history carried s }
+        ensures why { IfErr result (IsPrintFault self.new.printer.writer.1) }
     {
         if session.is_first_over() {
             return self.tell_oldest(alloc, session);
@@ -108,6 +112,8 @@ impl<'a, W: Write + Drop> Teller<'a, W> {
         ensures prints { PrintsWith W.Write.contents dropped self.old.printer self.new.printer result self.old.held.items }
         ensures held { self.new.held.items ≡ [] }
         ensures rest { self.new ≡ record self.old { printer = self.new.printer; held = self.new.held; may_lose = false; dropped = dropped } }
+        ensures why { IfErr result (IsPrintFault self.new.printer.writer.1) }
+        ensures stays { self.old.printer.writer.1 ≡ true → self.new.printer.writer.1 ≡ true }
     {
         self.may_lose = false;
         self.dropped = dropped;
@@ -119,7 +125,7 @@ impl<'a, W: Write + Drop> Teller<'a, W> {
     }
 
     /// Tells all transfers that were not told, where the recording has ended.
-    pub fn tell_all(&mut self, alloc: Global, session: &mut Session) -> Result<(), PrintFault>
+    pub fn tell_all(&mut self, alloc: Global, session: &mut Session) -> Result<(), TellFault>
         ensures turns { (named out : List ℕ) (history : List Step) (carried : List Carried) (s : Noticed) → IsSessionOf session.old named out history carried s
             → OnOk result ((turns : TellsTurns W.Write.contents (JudgesAs session.old) self.old self.new session.new named out history carried s)
             × ((n : ℕ) → (opened n (whole_of named carried) ≡ None) ⊎ (is_among n turns.left ≡ true))) }
@@ -127,13 +133,14 @@ impl<'a, W: Write + Drop> Teller<'a, W> {
             → OnErr result (TellsTurnsPart W.Write.contents (JudgesAs session.old) self.old self.new session.old.audit.judge.judging named out history carried s) }
         ensures judging { JudgesAs session.old session.new }
         ensures notes { session.new.notes ≡ session.old.notes }
+        ensures why { (file : Option (List ℕ)) → IfErr result (IsTellFault file self.new.printer.writer.1 self.new.told) }
     {
-        for _ in 0..u64::MAX {
+        for _turn in 0..u64::MAX {
             if !self.tell_oldest(alloc, session)? {
                 return Ok(());
             }
         }
-        Err(PrintFault::TooMany)
+        Err(TellFault::TooMany)
     }
 
     /// Tells the oldest transfer, if there is one; whether there was. It stays a call, since the room of a transfer that is handed
@@ -151,6 +158,8 @@ impl<'a, W: Write + Drop> Teller<'a, W> {
             → result ≡ Ok false → IsSessionOf session.new named out history carried s }
         ensures all { (named out : List ℕ) (history : List Step) (carried : List Carried) (s : Noticed) → IsSessionOf session.old named out history carried s
             → result ≡ Ok false → (n : ℕ) → (opened n (whole_of named carried) ≡ None) ⊎ (is_among n out ≡ true) }
+        ensures why { IfErr result (IsPrintFault self.new.printer.writer.1) }
+        ensures number { result ≡ Ok true → self.new.told ≡ min (self.old.told + 1) (2 ^ 64 - 1) }
     {
         let Some(ended) = session.pop() else {
             return Ok(false);
@@ -166,6 +175,7 @@ impl<'a, W: Write + Drop> Teller<'a, W> {
     fn tell_judged(&mut self, alloc: Global, judged: &Judged) -> Result<(), PrintFault>
         ensures rows { TellsPlaces W.Write.contents self.old self.new result judged.now (places_of judged.now) }
         ensures status { OnOk result (self.new.status ≡ max self.old.status (worst_at judged.now (places_of judged.now))) }
+        ensures why { IfErr result (IsPrintFault self.new.printer.writer.1) }
     {
         let rows = judged.rows(has_same_words(alloc, judged)?);
         self.tell_at(alloc, judged, rows.client)?;
@@ -183,6 +193,7 @@ impl<'a, W: Write + Drop> Teller<'a, W> {
         ensures rows { AreJudgedAt judged.now (option_to_list row) → TellsPlaces W.Write.contents self.old self.new result judged.now (option_to_list row) }
         ensures status { AreJudgedAt judged.now (option_to_list row)
             → OnOk result (self.new.status ≡ max self.old.status (worst_at judged.now (option_to_list row))) }
+        ensures why { IfErr result (IsPrintFault self.new.printer.writer.1) }
     {
         let Some(row) = row else {
             return Ok(());
@@ -201,6 +212,7 @@ impl<'a, W: Write + Drop> Teller<'a, W> {
     ) -> Result<(), PrintFault>
         ensures rows { (place : RowKind) → IsToldOf told.now place judged.now → TellsPlaces W.Write.contents self.old self.new result judged.now (place ∷ []) }
         ensures status { OnOk result (self.new.status ≡ max self.old.status (status_of (said_in told.now.view.now))) }
+        ensures why { IfErr result (IsPrintFault self.new.printer.writer.1) }
     {
         let row = VerdictRow::of(alloc, self.file, self.told, judged, told)?;
         self.status = self.status.max(told.view.status());
@@ -211,6 +223,7 @@ impl<'a, W: Write + Drop> Teller<'a, W> {
     fn put(&mut self, alloc: Global, row: VerdictRow<'a>) -> Result<(), PrintFault>
         ensures rows { Tells W.Write.contents self.old self.new result (row.entry ∷ []) }
         ensures status { self.new.status ≡ self.old.status }
+        ensures why { IfErr result (IsPrintFault self.new.printer.writer.1) }
     {
         if self.waits(&row) {
             self.held.push(row)?;
@@ -231,6 +244,8 @@ impl<'a, W: Write + Drop> Teller<'a, W> {
     fn print(&mut self, alloc: Global, row: VerdictRow<'a>) -> Result<(), PrintFault>
         ensures prints { PrintsWith W.Write.contents self.old.dropped self.old.printer self.new.printer result (row.entry ∷ []) }
         ensures rest { self.new ≡ record self.old { printer = self.new.printer } }
+        ensures why { IfErr result (IsPrintFault self.new.printer.writer.1) }
+        ensures stays { self.old.printer.writer.1 ≡ true → self.new.printer.writer.1 ≡ true }
     {
         let row = row.with_dropped(self.dropped)?;
         self.printer.print(alloc, &row)

@@ -1,10 +1,12 @@
 //! Worked examples of what is told of several files. Each is the contract of a function that does nothing.
 
-ghost use Rattle.std.specs.Prelude.{◌≡◌, ◌++◌, ◌∷◌, [], ℕ, List, Option, Some, codes, false, true};
+ghost use Rattle.std.specs.Prelude.{◌≡◌, ◌++◌, ◌∷◌, [], ℕ, Bool, List, Option, Some, codes, false, true};
 ghost use Rattle.audit_recording.specs.Session.Lines.{ports_text};
 ghost use Rattle.audit_recording.specs.Session.Noted.{Noticed};
 ghost use Rattle.audit_recording.specs.declared.judges.judging.Judging.{Judging as JudgingKind};
 ghost use Rattle.audit_recording.specs.declared.session.notes.Notes.{Notes as NotesKind};
+ghost use Rattle.tftp_rows.specs.Faults.{Why};
+ghost use Rattle.tftp_rows.specs.Faults.Why.{Unopened};
 ghost use Rattle.tftp_rows.specs.Files.{AreFilesTold, AreFilesToldInPart, IsFileTold, status_among};
 ghost use Rattle.tftp_rows.specs.Files.Outcome.{Faulty, Told};
 ghost use Rattle.tftp_rows.specs.ListedWhole.{Entry, numbers_in, rows_in};
@@ -20,7 +22,7 @@ use std::io::Write;
 /// Statuses: of a file that has a fault beside one that has none, of one that was not read whole, of one with no transfer, of one
 /// with a transfer that is not accepted beside one with no transfer, and of none at all.
 pub fn worked_statuses()
-    ensures faulty { (rest : List (List ℕ)) → status_among (Faulty rest ∷ Told [] true rest ∷ []) ≡ 2 }
+    ensures faulty { (why : Why) (rest : List (List ℕ)) → status_among (Faulty why rest ∷ Told [] true rest ∷ []) ≡ 2 }
     ensures cut { (rest : List (List ℕ)) → status_among (Told [] false rest ∷ []) ≡ 2 }
     ensures none { (rest : List (List ℕ)) → status_among (Told [] true rest ∷ []) ≡ 3 }
     ensures refused { (t : Telling) (rest : List (List ℕ)) → worst_of (t ∷ []) ≡ 1 → status_among (Told (t ∷ []) true rest ∷ Told [] true rest ∷ []) ≡ 1 }
@@ -31,11 +33,11 @@ pub fn worked_statuses()
 /// line with the fault of the first, and behind it what there is to tell of the second. Where the fault of the first can't be told,
 /// nothing is printed.
 pub fn worked_files<W: Write + Drop>()
-    ensures told { (holds : List ℕ → Option (List ℕ)) (judging : JudgingKind) (named program a b words : List ℕ) (before after : Printer W) (tellings : List Telling) (rest : List (List ℕ))
-        → IsFileTold W.Write.contents b (holds b) judging named before after tellings true rest → worst_of tellings ≡ 1
-        → AreFilesTold W.Write.contents holds judging named program (a ∷ b ∷ []) before after (Some []) (Some (remark_text program a words ++ remarks_text program b rest)) 2 }
-    ensures untold { (holds : List ℕ → Option (List ℕ)) (judging : JudgingKind) (named a b : List ℕ) (before : Printer W)
-        → AreFilesToldInPart W.Write.contents holds judging named (a ∷ b ∷ []) before before }
+    ensures told { (opens : List ℕ → Bool) (holds : List ℕ → Option (List ℕ)) (judging : JudgingKind) (named program a b words : List ℕ) (before after : Printer W) (tellings : List Telling) (rest : List (List ℕ))
+        → opens a ≡ false → IsFileTold W.Write.contents b (holds b) judging named before after tellings true rest → worst_of tellings ≡ 1
+        → AreFilesTold W.Write.contents (λ why said. said ≡ words) false opens holds judging named program (a ∷ b ∷ []) before after (Some []) (Some (remark_text program a words ++ remarks_text program b rest)) 2 }
+    ensures untold { (opens : List ℕ → Bool) (holds : List ℕ → Option (List ℕ)) (judging : JudgingKind) (named a b : List ℕ) (before : Printer W)
+        → opens a ≡ false → AreFilesToldInPart W.Write.contents true opens holds judging named (a ∷ b ∷ []) before before }
 {}
 
 /// Of one file frame 3 is a copy and frame 8 is lost: two lines, and a third one where it has no transfer. Where something looks like
@@ -54,5 +56,5 @@ pub fn worked_remarks()
 pub fn worked_listings<W: Write + Drop>()
     ensures rows { (first second : Entry) → rows_in (second ∷ first ∷ []) ≡ first.row ∷ second.row ∷ [] }
     ensures numbers { (first second : Entry) → numbers_in (second ∷ first ∷ []) ≡ second.transfer.number ∷ first.transfer.number ∷ [] }
-    ensures unopened { (begun : ListerKind W) (file : Option (List ℕ)) (named program name said : List ℕ) → IsFileListedInPart W.Write.contents begun begun file named program name (Some said) (Some said) }
+    ensures unopened { (begun : ListerKind W) (file : Option (List ℕ)) (named program name said : List ℕ) → IsFileListedInPart W.Write.contents false false begun begun file named program name (Some said) (Some said) Unopened }
 {}

@@ -1,5 +1,9 @@
 //! The verdict on each transfer of recordings.
 
+ghost use Rattle.std.specs.Prelude.{◌≡◌, false, map, true};
+ghost use Rattle.tftp_rows.specs.declared.printing.Form.TheVariants.{Json, Words};
+ghost use Rattle.tftp_transfers.specs.Choices.{judging_at, widest};
+
 use crate::PROGRAM;
 use crate::machine::Machine;
 use anyhow::Result;
@@ -26,7 +30,9 @@ pub fn check(rt: HostRuntime, asked: &CheckRequest<'_>) -> Result<u8> {
 }
 
 /// Where transfers are judged, where the recordings were made there, if that is said.
-fn judging_at(point: Option<Point>) -> Judging {
+fn judging_at(point: Option<Point>) -> Judging
+    ensures { result ≡ judging_at point }
+{
     match point {
         Some(Point::Client) => Judging::Client,
         Some(Point::Server) => Judging::Server,
@@ -36,13 +42,16 @@ fn judging_at(point: Option<Point>) -> Judging {
 }
 
 /// How the rows are printed: the column of files is as wide as the longest name.
-fn form_of(asked: &CheckRequest<'_>) -> Form {
+fn form_of(asked: &CheckRequest<'_>) -> Form
+    ensures json { asked.now.json ≡ true → result ≡ Json }
+    ensures words { asked.now.json ≡ false → result ≡ Words (widest (map (λ name. name.now) asked.now.files.items)) }
+{
     if asked.json {
         return Form::Json;
     }
     let mut widest = 4;
     for file in asked.files.iter() {
-        widest = widest.max(file.len());
+        widest = file.len().max(widest);
     }
     Form::Words(widest)
 }

@@ -1,6 +1,7 @@
 //! The files of the machine, and its standard input.
 
-ghost use Rattle.std.specs.Prelude.{refl};
+ghost use Rattle.std.specs.Prelude.{codes, refl};
+ghost use Rattle.std.specs.Str.{bytes_eq};
 
 use anyhow::{Error, Result};
 use std::fs::File;
@@ -44,7 +45,9 @@ impl Outside for Machine {
 
     type Fault = Error;
 
-    // `-` is standard input
+    // `-` is standard input, which always opens
+    ghost opens = { λ machine name. bytes_eq name (codes "-") };
+
     fn open(&self, name: &str) -> Result<Source> {
         if name == "-" {
             return Ok(Source::Input(self.rt.reader()));

@@ -1,6 +1,7 @@
 use Rattle.std.proofs.Common.{refl, subst, sym}
 use Rattle.audit_recording.specs.declared.session.notes.Notes.{Notes}
 use Rattle.tftp_rows.specs.ListedWhole.{IsRecordingListed}
+use Rattle.tftp_rows.proofs.FaultLemmas.{same_fault}
 use Rattle.tftp_rows.proofs.ListedLemmas.{lists_none}
 use Rattle.tftp_rows.proofs.TellingLemmas.{on_err}
 use Rattle.tftp_rows.proofs.list_reading.list_recording.Goals as goal
@@ -15,3 +16,6 @@ pub returns-clause-listed : goal.returns-clause-listed
 returns-clause-listed g c =
     subst (λ (n : Notes). IsRecordingListed g.W.Write.contents (record c.args.lister.now { told = 0 }) c.list_to_end-listed.new.lister (g.R.Read.remaining c.args.reader) c.args.services.now n) (sym c.into_notes-notes.ensures)
     (c.in_ok-listed.ensures.listed c.args.services.now c.in_ok-session.ensures.stands refl)
+
+pub returns-in_err-listed-clause-why : goal.returns-in_err-listed-clause-why
+returns-in_err-listed-clause-why g c = same_fault c.from_residual-in_err-listed.result _ _ c.from_residual-in_err-listed.ensures.1 (c.in_err-listed.ensures.why c.args.services.now c.in_ok-session.ensures.stands refl)

@@ -4,6 +4,7 @@ use Rattle.audit_recording.specs.declared.session.notes.Notes.{Notes}
 use Rattle.tftp_rows.specs.Telling.{PrintsAllWith}
 use Rattle.tftp_rows.specs.Whole.{IsRecordingTold, IsRecordingToldInPart}
 use Rattle.tftp_rows.specs.declared.teller.Teller.{Teller}
+use Rattle.tftp_rows.proofs.FaultLemmas.{same_fault}
 use Rattle.tftp_rows.proofs.ReadingLemmas.{part_of_recording, reads_none}
 use Rattle.tftp_rows.proofs.TellingLemmas.{all_none, all_so, on_err}
 use Rattle.tftp_rows.proofs.reading.check_recording.Goals as goal
@@ -41,3 +42,9 @@ returns-clause-told g c none =
     (subst (λ (k : Judging). IsRecordingTold g.W.Write.contents begun now file k services c.tell_recording-told.new.session.notes) c.in_ok-session.ensures.judging
     (subst (λ (b : Teller g.row.W.Denot). IsRecordingTold g.W.Write.contents b now file c.in_ok-session.session.audit.judge.judging services c.tell_recording-told.new.session.notes) c.begin.ensures
     (c.in_ok-told.ensures.told services c.in_ok-session.ensures.stands held told)))
+
+pub returns-in_err-told-clause-why : goal.returns-in_err-told-clause-why
+returns-in_err-told-clause-why g c none =
+    let held = ap {A = Teller g.row.W.Denot} (λ t. t.held.items) c.begin.ensures ∙ none in
+    let told = ap {A = Teller g.row.W.Denot} (λ t. t.told) c.begin.ensures in
+    same_fault c.from_residual-in_err-told.result _ _ c.from_residual-in_err-told.ensures.1 (c.in_err-told.ensures.why c.args.services.now c.in_ok-session.ensures.stands held told)

@@ -1,23 +1,25 @@
-use Rattle.std.proofs.Common.{◌++◌, ◌∷◌, ◌==◌, ◌&&◌, [], ap, append-nil, inl, max, if◌then◌else◌, refl, sym, true}
+use Rattle.std.proofs.Common.{◌++◌, ◌∷◌, ◌==◌, ◌&&◌, [], ap, append-nil, max, if◌then◌else◌, refl, sym, true}
+use Rattle.tftp_rows.specs.Faults.Why.{Unopened}
 use Rattle.tftp_rows.specs.Files.{any_has_none}
 use Rattle.tftp_rows.specs.Files.Outcome.{Faulty, Told}
 use Rattle.tftp_rows.specs.Remarks.{remark_text, remarks_text}
 use Rattle.tftp_rows.proofs.worked_files.worked_files.Goals as goal
 
 pub returns-clause-told : goal.returns-clause-told
-returns-clause-told g c holds judging named program a b words before after tellings rest told is = record {
-  outcomes = Faulty [] ∷ Told tellings true rest ∷ [];
-  came = (before, inl (refl, refl), (after, told, refl));
+returns-clause-told g c opens holds judging named program a b words before after tellings rest not told is = record {
+  outcomes = Faulty Unopened [] ∷ Told tellings true rest ∷ [];
+  came = (before, (not, refl, refl), (after, told, refl));
   said =
       let one = remark_text program a words in
       let other = remarks_text program b rest in
-      (one ++ other, (one, other, refl, ([], [], words, refl, refl), (other, [], sym (append-nil other), refl, refl)), refl);
+      (one ++ other, (one, other, refl, ([], [], words, refl, refl, refl), (other, [], sym (append-nil other), refl, refl)), refl);
   is =
-      sym (ap (λ w. if (max 2 (max (max w 0) 0) == 0) && any_has_none (Faulty [] ∷ Told tellings true rest ∷ []) then 3 else max 2 (max (max w 0) 0)) is);
+      sym (ap (λ w. if (max 2 (max (max w 0) 0) == 0) && any_has_none (Faulty Unopened [] ∷ Told tellings true rest ∷ []) then 3 else max 2 (max (max w 0) 0)) is);
 }
 
 pub returns-clause-untold : goal.returns-clause-untold
-returns-clause-untold g c holds judging named a b before = record {
+returns-clause-untold g c opens holds judging named a b before not = record {
+  fails = refl;
   first = [];
   last = a;
   others = b ∷ [];
@@ -25,6 +27,7 @@ returns-clause-untold g c holds judging named a b before = record {
   between = before;
   outcomes = [];
   came = refl;
+  why = Unopened;
   rest = [];
-  came_last = inl (refl, refl);
+  came_last = (not, refl, refl);
 }

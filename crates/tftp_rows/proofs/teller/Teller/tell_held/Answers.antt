@@ -14,6 +14,7 @@ loop-row-preserved g c =
       printed = all_both g.W.Write.contents c.args.dropped _ _ _ c.loop-row.yielded (c.in-Some.row ∷ []) c.loop-row.invariant.printed
           (rw (ap (λ t. t.dropped) c.loop-row.invariant.rest) at c.in_ok-print.ensures.prints);
       rest = printer_alone (record c.args.self.now { held = c.replace-held.new.dest; may_lose = false; dropped = c.args.dropped }) c.loop-row.self c.print.new.self c.loop-row.invariant.rest c.in_ok-print.ensures.rest;
+      stays = λ failed. c.in_ok-print.ensures.stays (c.loop-row.invariant.stays failed);
     }
 
 pub returns-in_err-print-clause-prints : goal.returns-in_err-print-clause-prints

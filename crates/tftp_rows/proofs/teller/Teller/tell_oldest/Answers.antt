@@ -45,3 +45,6 @@ returns-in_err-tell_judged-clause-part g c named out history carried s is =
       of = c.new-judged.ensures.judged _ _ named carried (c.in-Some.ensures.trail named out history carried s is) watched.1;
       rows = numbered_part g.W.Write.contents c.args.self.now c.tell_judged.new.self c.saturating_add-self.result _ c.new-judged.result _ c.saturating_add-self.ensures c.in_err-tell_judged.ensures.rows;
     })
+
+pub returns-clause-number : goal.returns-clause-number
+returns-clause-number g c e = told_with g.W.Write.contents c.args.self.now c.tell_judged.new.self c.saturating_add-self.result _ _ c.in_ok-tell_judged.ensures.rows ∙ c.saturating_add-self.ensures
