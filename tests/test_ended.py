@@ -26,7 +26,7 @@ LATER = Datagram(THIRD, 50_000, S, 69, read_request("b", "octet")[0])
 FIELDS = ("how", "role", "code", "message", "frame", "seconds", "before_refusal")
 SESSION = TOP / "examples" / "loopback-session.pcap"
 # What a refusal rests on.
-WHATEVER, IF_NONE = "whatever is missing", "if no frame is missing"
+WHATEVER, IF_NONE = "whatever is missing except a request", "if no frame is missing"
 
 
 def acked(block: int) -> Datagram:

@@ -134,14 +134,14 @@ class Stands(Checks):
         """A refusal that nothing makes doubtful says what it rests on, and one of rule 20 who judges such numbers."""
         given, between = file_of([ASKED, FULL, sent(ack(1)[0]), CHANGED]), ("--end", "between")
         said_of = self.words(given, *between)
-        self.check("it stands", said_of == f"{refusal(4, Rule.BLOCK_CHANGED)}, whatever is missing", said_of)
+        self.check("it stands", said_of == f"{refusal(4, Rule.BLOCK_CHANGED)}, whatever is missing except a request", said_of)
         said_of = self.words(file_of([ASKED, FULL, sent(ack(3)[0])]), *between)
         wanted = f"{refusal(3, Rule.ACK_AHEAD)}, if no frame is missing"
         self.check("it may not stand", said_of == wanted, said_of)
         said_of = self.words(file_of(read("a", 40_000, 41_000)))
         self.check("accepted", "missing" not in said_of and "accepted" in said_of, said_of)
         said_of = self.words(given, "--end", "client")
-        is_told = said_of.endswith(f" rule {Rule.BLOCK_CHANGED}, whatever is missing")
+        is_told = said_of.endswith(f" rule {Rule.BLOCK_CHANGED}, whatever is missing except a request")
         self.check("what came to a client that has gone on", is_told, said_of)
         said_of = self.words(file_of([ASKED, FULL, CHANGED, ACKED]), "--end", "client")
         is_told = said_of.endswith(f" rule {Rule.BLOCK_CHANGED}, if no frame is missing")
@@ -150,7 +150,7 @@ class Stands(Checks):
         self.check("doubtful", "rule" in doubtful and "missing" not in doubtful, doubtful)
         asked, many = Datagram(C, 40_000, S, 69, read_request("a", "octet", tsize=0)[0]), oack(tsize=40_000_000)[0]
         said_of = self.words(file_of([asked, answered(many), sent(ack(0)[0])]), *between)
-        wanted = f"{refusal(2, Rule.BEYOND_BLOCK_65535)}, whatever is missing"
+        wanted = f"{refusal(2, Rule.BEYOND_BLOCK_65535)}, whatever is missing except a request"
         wanted += "; tftp-audit check --rollover judges numbers that begin again"
         self.check("rule 20", said_of == wanted, said_of)
 

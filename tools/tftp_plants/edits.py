@@ -31,6 +31,8 @@ class Edit:
         texts, file, old, pairs = dict(given), "", "", 0
         for line in self.text.split("\n"):
             found = LINE.fullmatch(line)
+            if line and not found:
+                raise NotApplied(f"a line begins with none of 'file:', 'old:' and 'new:': {line.strip()}")
             word, rest = (found[1], found[2] or "") if found else ("", "")
             if word == "file":
                 file = rest.strip()

@@ -1,4 +1,4 @@
--- What a refusal rests on, in words: whether it stands whatever frames are missing, and that block numbers may begin again.
+-- What a refusal rests on, in words: whether it stands whatever frames but a request are missing, and that block numbers may begin again.
 use Rattle.std.specs.Prelude.{ℕ, Bool, true, false, List, [], Option, Some, Err, codes, if◌then◌else◌}
 use Rattle.law_model.specs.{EndRule}
 use Rattle.law_end.specs.declared.rule.Rule.TheVariants as rule
@@ -9,9 +9,9 @@ use Rattle.audit_rows.specs.declared.charge.Charge.{Charge}
 use Rattle.audit_rows.specs.declared.found.Found.{Found}
 use Rattle.audit_rows.specs.declared.found.Found.TheVariants.{AtEnd, Between}
 
--- Of a refusal that nothing makes doubtful: it stands whatever frames of the transfer are missing, or it stands if none is.
+-- Of a refusal that nothing makes doubtful: it stands whatever frames are missing but a request of its client, or it stands if none is.
 abbrev pub premise_by : Bool → List Reason → Option Bool → List ℕ
-premise_by true [] (Some true) = codes ", whatever is missing"
+premise_by true [] (Some true) = codes ", whatever is missing except a request"
 premise_by true [] _ = codes ", if no frame is missing"
 premise_by _ _ _ = []
 

@@ -37,13 +37,13 @@ pub fn worked_rows()
         → row_text 23 r ≡ codes "examples/in-erspan.pcap  1       between  -         -                       accepted get octet blocks 3 bytes 1300" }
     ensures unreached { (r : VerdictRow) → IsRow r (codes "examples/loopback-repeated-oack.pcap") 1 Both (Some 8) (client_at second_host 47102) (codes "refused datagram 5 rule 25 BlockChanged") []
         → RestsOn r true (Some true) false → r.ended ≡ Unreached ClientEnd 0 unreached_port → r.times ≡ untimed
-        → row_text 36 r ≡ codes "examples/loopback-repeated-oack.pcap  1       both     8         client 192.0.2.2:47102  refused datagram 5 rule 25 BlockChanged, whatever is missing; ended: ICMP port unreachable from 192.0.2.2 frame 78" }
+        → row_text 36 r ≡ codes "examples/loopback-repeated-oack.pcap  1       both     8         client 192.0.2.2:47102  refused datagram 5 rule 25 BlockChanged, whatever is missing except a request; ended: ICMP port unreachable from 192.0.2.2 frame 78" }
     ensures behind { (r : VerdictRow) (stop : Stop) → IsRow r (codes "examples/loopback-session.pcap") 3 Both (Some 17) (client_at first_host 34056) (codes "refused datagram 3 rule 26 AckAhead") []
         → RestsOn r true None false → IsNotFound stop → r.ended ≡ Aborted stop true → r.times ≡ untimed
         → row_text 30 r ≡ codes "examples/loopback-session.pcap  3       both     17        client 192.0.2.1:34056  aborted by server code 1, and then refused datagram 3 rule 26 AckAhead, if no frame is missing; ended: server ERROR 1 \"File not found\" frame 16" }
     ensures beyond { (r : VerdictRow) → IsRow r (codes "image.pcap") 1 Between (Some 131076) (server_at first_host 41000) (codes "refused datagram 131074 rule 20 BeyondBlock65535") []
         → RestsOn r true (Some true) true → r.ended ≡ Quiet ServerEnd 0 76 → r.times ≡ untimed
-        → row_text 10 r ≡ codes "image.pcap  1       between  131076    server 192.0.2.1:41000  refused datagram 131074 rule 20 BeyondBlock65535, whatever is missing; tftp-audit check --rollover judges numbers that begin again" }
+        → row_text 10 r ≡ codes "image.pcap  1       between  131076    server 192.0.2.1:41000  refused datagram 131074 rule 20 BeyondBlock65535, whatever is missing except a request; tftp-audit check --rollover judges numbers that begin again" }
 {}
 
 /// A doubtful row with two reasons, whose transfer was slow.

@@ -10,7 +10,8 @@ use law_model::rules::EndRule;
 use std::alloc::AllocError;
 use tftp_judge::Refusal;
 
-/// Puts whether a refusal that nothing makes doubtful stands whatever frames are missing, or only if none is.
+/// Puts whether a refusal that nothing makes doubtful stands whatever frames are missing except a request of its client, behind which
+/// another transfer begins, or only if none is.
 pub fn put_premise(
     line: &mut String,
     charge: &Charge,
@@ -22,7 +23,7 @@ pub fn put_premise(
         return Ok(());
     }
     match stands {
-        Some(true) => line.push_str(", whatever is missing"),
+        Some(true) => line.push_str(", whatever is missing except a request"),
         _ => line.push_str(", if no frame is missing"),
     }
 }
