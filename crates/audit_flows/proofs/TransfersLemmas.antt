@@ -7,3 +7,4 @@ pub mod Doubting
 pub mod Seeing
 pub mod OwnDatagrams
 pub mod Numbers
+pub mod Asking

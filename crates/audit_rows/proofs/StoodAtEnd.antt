@@ -25,7 +25,7 @@ use Rattle.audit_recording.specs.declared.blame.named.Named.{Named}
 use Rattle.audit_recording.specs.declared.rows.row.Point.{Point}
 use Rattle.audit_recording.specs.declared.rows.row.Point.TheVariants as point
 use Rattle.audit_rows.specs.Standing.{IsCertainAtEnd}
-use Rattle.audit_rows.specs.Viewing.{IsFoundAt, IsStanding, IsStandingAs, IsSureAt, IsSureUnnamed, IsViewAt, number_in}
+use Rattle.audit_rows.specs.Viewing.{IsFoundAt, IsStandingAlone, IsSureAt, IsSureUnnamed, IsViewAt, number_in}
 use Rattle.audit_rows.specs.declared.found.Found.{Found}
 use Rattle.audit_rows.specs.declared.found.Found.TheVariants.{AtEnd, Between}
 use Rattle.audit_rows.specs.declared.viewed.Viewed.{Viewed}
@@ -134,7 +134,7 @@ module _ (x : Transfer) (named : List ℕ) (carried : List Carried) where
         (known_by_earlier (client_header x) x f.before it.datagram it.earlier it.divided there.before before))
   ]
 
-  pub client_certain : (v : Viewed) → IsViewAt point.Client x named carried v → IsStanding point.Client x options v (Some true)
+  pub client_certain : (v : Viewed) → IsViewAt point.Client x named carried v → IsStandingAlone point.Client x options v.blamed v.found (Some true)
       → (number : ℕ) × (number_in v.found ≡ Some number) × Certain number
   client_certain v view stands = by v.found refl view.found stands where
     sure : (number : ℕ) (broken : Rule) → number_in v.found ≡ Some number → (o : Option Blamed) → v.blamed ≡ o → IsSureAt point.Client x options o broken → AtClient number broken → Certain number
@@ -158,7 +158,7 @@ module _ (x : Transfer) (named : List ℕ) (carried : List Carried) where
               ]
         ]
 
-    by : (found : Found) → v.found ≡ found → IsFoundAt point.Client x (whole_of named carried) found → IsStandingAs point.Client x options v.blamed found (Some true)
+    by : (found : Found) → v.found ≡ found → IsFoundAt point.Client x (whole_of named carried) found → IsStandingAlone point.Client x options v.blamed found (Some true)
         → (number : ℕ) × (number_in found ≡ Some number) × Certain number
     by (Between said) e is standing = absurd is
     by (AtEnd (Ok m)) e is standing = let no : Some true ≡ None = standing in absurd (cc)
@@ -170,7 +170,7 @@ module _ (x : Transfer) (named : List ℕ) (carried : List Carried) where
     by (AtEnd (Err refusal.NormalTooLong)) e is standing = let no : Some true ≡ None = standing in absurd (cc)
     by (AtEnd (Err (refusal.Memory count))) e is standing = let no : Some true ≡ None = standing in absurd (cc)
 
-  pub server_certain : (b : Option Blamed) (found : Found) → IsFoundAt point.Server x (whole_of named carried) found → IsStandingAs point.Server x options b found (Some true)
+  pub server_certain : (b : Option Blamed) (found : Found) → IsFoundAt point.Server x (whole_of named carried) found → IsStandingAlone point.Server x options b found (Some true)
       → (number : ℕ) × (number_in found ≡ Some number) × IsCertainAtEnd (server_header x) (server_capture host_name x (whole_of named carried) (whole_of named carried)) number
   server_certain b (Between said) is standing = absurd is
   server_certain b (AtEnd (Ok m)) is standing = let no : Some true ≡ None = standing in absurd (cc)
@@ -190,7 +190,7 @@ module _ (x : Transfer) (named : List ℕ) (carried : List Carried) where
   server_certain b (AtEnd (Err (refusal.Memory count))) is standing = let no : Some true ≡ None = standing in absurd (cc)
 
 -- that a refusal at an end does not stand is never said
-pub never_so : (at : Point) (x : Transfer) (options : Named) (b : Option Blamed) (said : Result Meaning Refusal) → IsStandingAs at x options b (AtEnd said) (Some false) → ⊥
+pub never_so : (at : Point) (x : Transfer) (options : Named) (b : Option Blamed) (said : Result Meaning Refusal) → IsStandingAlone at x options b (AtEnd said) (Some false) → ⊥
 never_so at x options b (Ok m) standing = let no : Some false ≡ None = standing in absurd (cc)
 never_so at x options b (Err (refusal.Unlawful number broken)) (inl (so, told)) = let no : Some false ≡ Some true = told in absurd (cc)
 never_so at x options b (Err (refusal.Unlawful number broken)) (inr (so, told)) = let no : Some false ≡ None = told in absurd (cc)

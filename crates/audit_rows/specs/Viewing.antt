@@ -76,16 +76,27 @@ IsSureAt point.Client x options (Some b) broken =
     ⊎ ((same_endpoint b.source x.client ≡ true) × (StandsOfItsOwn broken ⊎ IsSureUnnamed options broken))
 IsSureAt _ x options blamed broken = ⊥
 
--- Of what is refused it is said whether that stands whatever datagrams were missed: between the ends as the judge there tells it, and at
--- an end that it does, where it is sure by its rule. Of all else nothing is said.
-abbrev pub IsStandingAs : Point → Transfer → Named → Option Blamed → Found → Option Bool → Type 0
-IsStandingAs at x options blamed (Between (Err (tap.Unlawful number broken told))) stands = stands ≡ told
-IsStandingAs at x options blamed (AtEnd (Err (refusal.Unlawful number broken))) stands =
-    (IsSureAt at x options blamed broken × (stands ≡ Some true)) ⊎ ((IsSureAt at x options blamed broken → ⊥) × (stands ≡ None))
-IsStandingAs at x options blamed _ stands = stands ≡ None
+-- Of what is refused it is known whether that stands by the transfer's own datagrams, whatever others were missed: between the ends as the
+-- judge there tells it, and at an end that it does, where it is sure by its rule. Of all else nothing is known.
+abbrev pub IsStandingAlone : Point → Transfer → Named → Option Blamed → Found → Option Bool → Type 0
+IsStandingAlone at x options blamed (Between (Err (tap.Unlawful number broken told))) alone = alone ≡ told
+IsStandingAlone at x options blamed (AtEnd (Err (refusal.Unlawful number broken))) alone =
+    (IsSureAt at x options blamed broken × (alone ≡ Some true)) ⊎ ((IsSureAt at x options blamed broken → ⊥) × (alone ≡ None))
+IsStandingAlone at x options blamed _ alone = alone ≡ None
 
-abbrev pub IsStanding : Point → Transfer → Named → Viewed → Option Bool → Type 0
-IsStanding at x options v stands = IsStandingAs at x options v.blamed v.found stands
+-- That it stands is said where its client asked once: else, where frames are missing, a datagram of another transfer may count as its own.
+abbrev pub where_asked_once : Bool → Option Bool → Option Bool
+where_asked_once false alone = alone
+where_asked_once true (Some true) = None
+where_asked_once true alone = alone
+
+-- So it is said of what is refused whether that stands, whatever datagrams were missed.
+abbrev pub IsStandingAs : Point → Transfer → Bool → Named → Option Blamed → Found → Option Bool → Type 0
+IsStandingAs at x has_asked_more options blamed found stands =
+    (alone : Option Bool) × IsStandingAlone at x options blamed found alone × (stands ≡ where_asked_once has_asked_more alone)
+
+abbrev pub IsStanding : Point → Transfer → Bool → Named → Viewed → Option Bool → Type 0
+IsStanding at x has_asked_more options v stands = IsStandingAs at x has_asked_more options v.blamed v.found stands
 
 -- ---- the verdict at a point
 

@@ -2,7 +2,10 @@
 
 ghost use Rattle.std.specs.Prelude.{◌≡◌, ◌≢◌, ◌++◌, ℕ, List, [], IfOk, IfSome, IsErr, None, OnOk, option_map};
 ghost use Rattle.audit_flows.specs.{Transfer};
+ghost use Rattle.audit_flows.specs.Lines.{follows_request};
+ghost use Rattle.audit_flows.specs.Transfers.{some_of};
 ghost use Rattle.audit_recording.specs.Blame.Frames.{Carried, whole_of};
+ghost use Rattle.audit_recording.specs.Blame.Named.{named_in};
 ghost use Rattle.audit_recording.specs.Endings.Told.{IsEnding};
 ghost use Rattle.audit_recording.specs.Judges.Kept.{IsWatching};
 ghost use Rattle.audit_recording.specs.Rows.Accusing.{role_at};
@@ -13,7 +16,7 @@ ghost use Rattle.audit_rows.specs.Accusing.{accused_of_row};
 ghost use Rattle.audit_rows.specs.Charging.{IsChargeOf};
 ghost use Rattle.audit_rows.specs.Doubting.{is_strangers, refusal_reasons, row_reasons};
 ghost use Rattle.audit_rows.specs.Judging.{AreRefusalsKept, IsJudgedOf, IsToldOf, are_alike, comes_before, is_one_frame, said_there, view_at};
-ghost use Rattle.audit_rows.specs.Viewing.{is_whole};
+ghost use Rattle.audit_rows.specs.Viewing.{IsStanding, is_whole};
 ghost use Rattle.audit_views.specs.Parties.{host_name};
 
 use crate::charge::Charge;
@@ -220,6 +223,14 @@ impl Judged {
             accused,
             is_refusal: told.telling.said.is_refused(),
         })
+    }
+
+    /// Of what a row refuses, whether that stands whatever datagrams of the transfer were missed; nothing where that is not known.
+    pub fn stands(&self, told: &Told<'_>) -> Option<bool>
+        ensures { (judging : JudgingKind) (x : Transfer) (named : List ℕ) (carried : List Carried) → IsJudgedOf self.now judging x named carried
+            → IsStanding told.now.telling.point x (some_of x.number follows_request (whole_of named carried)) (named_in x (whole_of named carried)) told.now.view.now result }
+    {
+        told.stands(&self.trail, self.doubted.doubts.has_asked_more())
     }
 
     /// What is kept of the transfer beside its judges.

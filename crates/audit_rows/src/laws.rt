@@ -4,8 +4,9 @@ ghost use Rattle.std.specs.Prelude.{◌≡◌, ◌∷◌, ◌++◌, [], ℕ, Boo
 ghost use Rattle.tftp_packet.specs.{Client as ClientEnd};
 ghost use Rattle.law_model.specs.Model.{Meaning};
 ghost use Rattle.tftp_judge.specs.{Refusal};
-ghost use Rattle.audit_flows.specs.Lines.{Placed};
+ghost use Rattle.audit_flows.specs.Lines.{Placed, follows_request};
 ghost use Rattle.audit_flows.specs.{Transfer};
+ghost use Rattle.audit_flows.specs.Transfers.{some_of};
 ghost use Rattle.audit_recording.specs.{Accused, Telling};
 ghost use Rattle.audit_recording.specs.Blame.Frames.{Carried, Framed, seen_as, whole_of};
 ghost use Rattle.audit_recording.specs.Blame.Facts.{blamed_of};
@@ -80,13 +81,15 @@ pub fn worked_row()
 
 /// A block that the server changed came to a client: that stands once the client has gone on with its server, and before that nothing
 /// is said. A block that the client changed stands at once. Of a block that goes back nothing is said where a datagram names windows; else
-/// it stands.
+/// it stands. Where its client asked more than once, of none of these anything is said.
 pub fn worked_standing()
-    ensures gone_on { (options : Named) → IsStanding PointKind.Client (worked_transfer 3000) options (worked_changed true) (Some true) }
-    ensures before { (options : Named) → IsStanding PointKind.Client (worked_transfer 3000) options (worked_changed false) None }
-    ensures own { (options : Named) → IsStanding PointKind.Client (worked_transfer 2000) options (worked_changed false) (Some true) }
-    ensures back { (sizes : Bool) → IsStanding PointKind.Client (worked_transfer 2000) (record { windows = true; sizes = sizes }) (worked_view false) None }
-    ensures lock_step { (sizes : Bool) → IsStanding PointKind.Client (worked_transfer 2000) (record { windows = false; sizes = sizes }) (worked_view false) (Some true) }
+    ensures gone_on { (options : Named) → IsStanding PointKind.Client (worked_transfer 3000) false options (worked_changed true) (Some true) }
+    ensures before { (options : Named) → IsStanding PointKind.Client (worked_transfer 3000) false options (worked_changed false) None }
+    ensures own { (options : Named) → IsStanding PointKind.Client (worked_transfer 2000) false options (worked_changed false) (Some true) }
+    ensures back { (sizes : Bool) → IsStanding PointKind.Client (worked_transfer 2000) false (record { windows = true; sizes = sizes }) (worked_view false) None }
+    ensures lock_step { (sizes : Bool) → IsStanding PointKind.Client (worked_transfer 2000) false (record { windows = false; sizes = sizes }) (worked_view false) (Some true) }
+    ensures asked_more { (options : Named) → IsStanding PointKind.Client (worked_transfer 3000) true options (worked_changed true) None }
+    ensures said_once { (options : Named) → IsStanding PointKind.Client (worked_transfer 3000) true options (worked_changed true) (Some true) → ⊥ }
 {}
 
 /// Of no datagram it is kept that each was recorded twice; and a transfer to whose client nothing came went one way.
@@ -100,21 +103,21 @@ pub fn worked_kept()
 /// request.
 pub fn what_stands_is_certain()
     ensures yes { (x : Transfer) (named : List ℕ) (carried : List Carried) (v : Viewed) → IsViewAt PointKind.Between x named carried v
-        → (options : Named) → IsStanding PointKind.Between x options v (Some true) → (number : ℕ) × (number_in v.found ≡ Some number) × IsCertainAt x (whole_of named carried) number }
+        → (options : Named) → IsStanding PointKind.Between x (some_of x.number follows_request (whole_of named carried)) options v (Some true) → (number : ℕ) × (number_in v.found ≡ Some number) × IsCertainAt x (whole_of named carried) number }
     ensures no { (x : Transfer) (named : List ℕ) (carried : List Carried) (v : Viewed) → IsViewAt PointKind.Between x named carried v
-        → (options : Named) → IsStanding PointKind.Between x options v (Some false) → (number : ℕ) × (number_in v.found ≡ Some number) × IsOpenAt x (whole_of named carried) number }
+        → (options : Named) → IsStanding PointKind.Between x (some_of x.number follows_request (whole_of named carried)) options v (Some false) → (number : ℕ) × (number_in v.found ≡ Some number) × IsOpenAt x (whole_of named carried) number }
 {}
 
 /// What is said to stand of a refusal at an end does: no lawful list has the refused datagram and those before it that were captured
 /// there, whatever datagrams were missed. That a refusal does not stand is said of none.
 pub fn what_stands_at_an_end_is_certain()
     ensures client { (x : Transfer) (named : List ℕ) (carried : List Carried) (v : Viewed) → IsViewAt PointKind.Client x named carried v
-        → IsStanding PointKind.Client x (named_in x (whole_of named carried)) v (Some true)
+        → IsStanding PointKind.Client x (some_of x.number follows_request (whole_of named carried)) (named_in x (whole_of named carried)) v (Some true)
         → (number : ℕ) × (number_in v.found ≡ Some number) × IsCertainAtEnd (client_header x) (client_capture host_name x (whole_of named carried)) number }
     ensures server { (x : Transfer) (named : List ℕ) (carried : List Carried) (v : Viewed) → IsViewAt PointKind.Server x named carried v
-        → IsStanding PointKind.Server x (named_in x (whole_of named carried)) v (Some true)
+        → IsStanding PointKind.Server x (some_of x.number follows_request (whole_of named carried)) (named_in x (whole_of named carried)) v (Some true)
         → (number : ℕ) × (number_in v.found ≡ Some number)
         × IsCertainAtEnd (server_header x) (server_capture host_name x (whole_of named carried) (whole_of named carried)) number }
-    ensures never { (at : PointKind) (x : Transfer) (options : Named) (b : Option Blamed) (said : Result Meaning Refusal)
-        → IsStandingAs at x options b (AtEnd said) (Some false) → ⊥ }
+    ensures never { (at : PointKind) (x : Transfer) (has_asked_more : Bool) (options : Named) (b : Option Blamed) (said : Result Meaning Refusal)
+        → IsStandingAs at x has_asked_more options b (AtEnd said) (Some false) → ⊥ }
 {}

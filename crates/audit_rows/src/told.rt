@@ -2,7 +2,7 @@
 
 ghost use Rattle.std.specs.Prelude.{◌≡◌, ◌↔◌, IsTrue};
 ghost use Rattle.audit_rows.specs.Doubting.{goes_over, is_clients_own, is_spoken_first, is_unseen, may_be_between};
-ghost use Rattle.audit_rows.specs.Viewing.{IsStanding, IsSureAt, IsSureUnnamed};
+ghost use Rattle.audit_rows.specs.Viewing.{IsStanding, IsStandingAlone, IsSureAt, IsSureUnnamed, where_asked_once};
 
 use crate::found::Found;
 use crate::viewed::Viewed;
@@ -62,9 +62,17 @@ impl Told<'_> {
         is_at_client && blamed.source == transfer.client
     }
 
-    /// Of what is refused, whether that stands whatever datagrams of the transfer were missed; nothing where that is not known.
-    pub fn stands(&self, trail: &Trail) -> Option<bool>
-        ensures { IsStanding self.now.telling.point trail.now.transfer trail.now.options self.now.view.now result }
+    /// Of what is refused, whether that stands whatever datagrams of the transfer were missed; nothing where that is not known. Where
+    /// its client has asked more than once, datagrams of another transfer may count as this one's: then it is not said to stand.
+    pub(crate) fn stands(&self, trail: &Trail, has_asked_more: bool) -> Option<bool>
+        ensures { IsStanding self.now.telling.point trail.now.transfer has_asked_more trail.now.options self.now.view.now result }
+    {
+        where_asked_once(has_asked_more, self.stands_alone(trail))
+    }
+
+    /// Whether it stands by the transfer's own datagrams alone, whatever others were missed; nothing where that is not known.
+    fn stands_alone(&self, trail: &Trail) -> Option<bool>
+        ensures { IsStandingAlone self.now.telling.point trail.now.transfer trail.now.options self.now.view.now.blamed self.now.view.now.found result }
     {
         match &self.view.found {
             Found::Between(Err(TapRefusal::Unlawful(_, _, stands))) => *stands,
@@ -93,6 +101,22 @@ impl Told<'_> {
             }
             _ => false,
         }
+    }
+}
+
+/// What is said of what stands alone or does not, by whether the client has asked more than once.
+fn where_asked_once(has_asked_more: bool, alone: Option<bool>) -> Option<bool>
+    ensures { result ≡ where_asked_once has_asked_more alone }
+{
+    match alone {
+        Some(stands) => {
+            if stands && has_asked_more {
+                None
+            } else {
+                Some(stands)
+            }
+        }
+        None => None,
     }
 }
 

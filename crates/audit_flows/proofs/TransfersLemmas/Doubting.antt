@@ -23,6 +23,7 @@ first_of_line d now older x = record {
   follows_unknown_id = false;
   follows_strays = follows_strays (record { datagram = d; moment = now; place = Opens x }) older;
   follows_unanswered = false;
+  follows_request = false;
 }
 
 abbrev pub none : Doubts
@@ -42,6 +43,7 @@ none = record {
   follows_unknown_id = false;
   follows_strays = false;
   follows_unanswered = false;
+  follows_request = false;
 }
 
 pub first_doubted : (d : Recorded) (now : ℕ) (older : List Placed) (x : Transfer) → live now (line x.client older) ≡ []

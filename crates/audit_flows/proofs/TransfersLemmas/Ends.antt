@@ -23,7 +23,7 @@ live_at c now (p ∷ ps) all = by_test (nat_le now (p.moment + silence))
     (λ is. subst (AreAt c) (sym (ap (λ b. if b then p ∷ ps else []) is)) all)
     (λ off. subst (AreAt c) (sym (ap (λ b. if b then p ∷ ps else []) off)) tt)
 
-line_at : (c : Endpoint) (older : List Placed) → AreAt c (line c older)
+pub line_at : (c : Endpoint) (older : List Placed) → AreAt c (line c older)
 line_at c [] = tt
 line_at c (p ∷ older) = by_test (is_at c p)
     (λ is. subst (AreAt c) (sym (line_here c p older is)) (is, live_at c p.moment (line c older) (line_at c older)))

@@ -70,6 +70,14 @@ is_asked_again p older = by p.place where
       && not (list_any says_more (reach (line_before x.client p older)))
   by _ = false
 
+-- its client had asked before, within its line
+abbrev pub follows_request : Placed → List Placed → Bool
+follows_request p older = by p.place where
+  by : Place → Bool
+  by (Opens x) = is_some (latest_in (line_before x.client p older))
+  by (Repeats x) = true
+  by _ = false
+
 -- ---- with whom a client goes on
 
 -- it comes to its client
@@ -307,4 +315,5 @@ doubts_of p older = record {
   follows_unknown_id = follows_unknown_id p older;
   follows_strays = follows_strays p older;
   follows_unanswered = follows_unanswered p older;
+  follows_request = follows_request p older;
 }

@@ -3,7 +3,7 @@ use Rattle.std.specs.Prelude.{◌≡◌, ◌⊎◌, ◌+◌, ℕ, Bool, true, fa
 use Rattle.std.specs.BTreeMap.{get, BTreeMap}
 use Rattle.std.specs.List.{list_any}
 use Rattle.std.specs.Ordering.{nat_cmp, is_eq}
-use Rattle.audit_flows.specs.Lines.{Recorded, endpoint_cmp, Placed, clock, newest_of, silence, AreLinesOf, comes_in, follows_strays, follows_unanswered, goes_on_with_first, agrees_late, says_first_word, says_unknown_id, is_late, is_disordered, is_asked_again, is_near, is_stray_at, may_be_tftp}
+use Rattle.audit_flows.specs.Lines.{Recorded, endpoint_cmp, Placed, clock, newest_of, silence, AreLinesOf, comes_in, follows_request, follows_strays, follows_unanswered, goes_on_with_first, agrees_late, says_first_word, says_unknown_id, is_late, is_disordered, is_asked_again, is_near, is_stray_at, may_be_tftp}
 use Rattle.audit_flows.specs.declared.lines.endpoint.Endpoint.{Endpoint}
 use Rattle.audit_flows.specs.declared.lines.place.Place.{Place}
 use Rattle.audit_flows.specs.declared.lines.place.Place.TheVariants.{Opens, Repeats, Beside, Nowhere}
@@ -86,6 +86,7 @@ pub record IsDoubtedAfter (t : TransferDoubts) (placed : List Placed) : Type 0 w
   pub is_answered_apart : t.is_answered_apart ≡ is_answered_apart t.number placed
   pub follows_strays : t.follows_strays ≡ some_of t.number follows_strays placed
   pub follows_unanswered : t.follows_unanswered ≡ some_of t.number follows_unanswered placed
+  pub follows_request : t.follows_request ≡ some_of t.number follows_request placed
   pub comes_in : t.comes_in ≡ some_of t.number comes_in placed
   pub goes_on_with_first : t.goes_on_with_first ≡ some_of t.number goes_on_with_first placed
 

@@ -1,6 +1,6 @@
 -- Recordings, the newest datagram first, with times in seconds.
 use Rattle.std.specs.Prelude.{ℕ, ◌*◌, ◌&&◌, not, Bool, true, false, List, [], ◌∷◌, ◌++◌, map, codes}
-use Rattle.audit_flows.specs.Lines.{Recorded, Placed, comes_in, follows_strays, follows_unanswered, goes_on_with_first, is_asked_again, is_late, may_be_earlier, speaks_first}
+use Rattle.audit_flows.specs.Lines.{Recorded, Placed, comes_in, follows_request, follows_strays, follows_unanswered, goes_on_with_first, is_asked_again, is_late, may_be_earlier, speaks_first}
 use Rattle.audit_flows.specs.declared.lines.endpoint.Address.TheVariants.{V4}
 use Rattle.audit_flows.specs.declared.lines.endpoint.Endpoint.{Endpoint}
 use Rattle.audit_flows.specs.declared.lines.place.Place.{Place}
@@ -384,6 +384,9 @@ follows_strays_in n recorded = some_of n follows_strays (placed [] recorded)
 
 abbrev pub follows_unanswered_in : ℕ → List Recorded → Bool
 follows_unanswered_in n recorded = some_of n follows_unanswered (placed [] recorded)
+
+abbrev pub follows_request_in : ℕ → List Recorded → Bool
+follows_request_in n recorded = some_of n follows_request (placed [] recorded)
 
 -- of each datagram whether a refusal of the transfer at it is doubtful
 abbrev pub doubtful_by : (ℕ → List Placed → Placed → List Placed → Bool) → ℕ → List Placed → List Placed → List Bool

@@ -53,12 +53,14 @@ pub struct Doubts {
     /// It opens the transfer, and its client had left a request before that nobody had answered for sure: the client had not gone on,
     /// and the host that it asked had not refused it.
     pub follows_unanswered: bool,
+    /// It is a request, and its client had asked before, within its line.
+    pub follows_request: bool,
 }
 
 impl Doubts {
     /// Nothing is doubtful.
     pub fn none() -> Self
-        ensures { result ≡ record { may_be_earlier = false; agrees_late = false; rests_on_terms = false; says_unknown_id = false; is_late = false; is_disordered = false; is_asked_again = false; may_be_answer_of = None; comes_in = false; goes_on_with_first = false; speaks_first = false; says_first_word = false; follows_unknown_id = false; follows_strays = false; follows_unanswered = false } }
+        ensures { result ≡ record { may_be_earlier = false; agrees_late = false; rests_on_terms = false; says_unknown_id = false; is_late = false; is_disordered = false; is_asked_again = false; may_be_answer_of = None; comes_in = false; goes_on_with_first = false; speaks_first = false; says_first_word = false; follows_unknown_id = false; follows_strays = false; follows_unanswered = false; follows_request = false } }
     {
         Doubts {
             may_be_earlier: false,
@@ -76,13 +78,14 @@ impl Doubts {
             follows_unknown_id: false,
             follows_strays: false,
             follows_unanswered: false,
+            follows_request: false,
         }
     }
 
     /// What a datagram makes doubtful that opens a transfer where no line goes on, by whether it is older than one before it in
     /// the recording.
     pub fn of_first(is_disordered: bool, is_after_strays: bool) -> Self
-        ensures { result ≡ record { may_be_earlier = false; agrees_late = false; rests_on_terms = false; says_unknown_id = false; is_late = false; is_disordered = is_disordered; is_asked_again = false; may_be_answer_of = None; comes_in = false; goes_on_with_first = false; speaks_first = false; says_first_word = false; follows_unknown_id = false; follows_strays = is_after_strays; follows_unanswered = false } }
+        ensures { result ≡ record { may_be_earlier = false; agrees_late = false; rests_on_terms = false; says_unknown_id = false; is_late = false; is_disordered = is_disordered; is_asked_again = false; may_be_answer_of = None; comes_in = false; goes_on_with_first = false; speaks_first = false; says_first_word = false; follows_unknown_id = false; follows_strays = is_after_strays; follows_unanswered = false; follows_request = false } }
     {
         Doubts {
             is_disordered,
@@ -137,6 +140,7 @@ impl Line {
         Doubts {
             is_asked_again: self.is_asked_again(seen.target, payload),
             follows_unanswered: self.leaves_unanswered(),
+            follows_request: true,
             ..Doubts::of_first(seen.time < now, is_after_strays)
         }
     }
@@ -148,6 +152,7 @@ impl Line {
     {
         Doubts {
             is_disordered: self.has_later(transfer.number, seen.time),
+            follows_request: true,
             ..Doubts::none()
         }
     }
@@ -176,6 +181,7 @@ impl Line {
             follows_unknown_id: has_told_unknown_id(talked),
             follows_strays: false,
             follows_unanswered: false,
+            follows_request: false,
         }
     }
 

@@ -1,7 +1,7 @@
 //! The doubts of one transfer, of all its datagrams.
 
 ghost use Rattle.std.specs.Prelude.{◌≡◌, ◌∷◌, ℕ, List, []};
-ghost use Rattle.audit_flows.specs.Lines.{Placed, comes_in, doubts_of, follows_strays, follows_unanswered, agrees_late, goes_on_with_first, is_late, says_first_word, says_unknown_id, is_disordered, is_asked_again};
+ghost use Rattle.audit_flows.specs.Lines.{Placed, comes_in, doubts_of, follows_request, follows_strays, follows_unanswered, agrees_late, goes_on_with_first, is_late, says_first_word, says_unknown_id, is_disordered, is_asked_again};
 ghost use Rattle.audit_flows.specs.Transfers.Doubts.{is_answered_apart, is_doubted, some_of};
 ghost use Rattle.audit_flows.specs.Transfers.Kept.{IsDoubtedAfter};
 
@@ -20,6 +20,7 @@ pub struct TransferDoubts {
     is_answered_apart: bool,
     follows_strays: bool,
     follows_unanswered: bool,
+    follows_request: bool,
     comes_in: bool,
     goes_on_with_first: bool,
 }
@@ -41,6 +42,7 @@ impl TransferDoubts {
             is_answered_apart: false,
             follows_strays: false,
             follows_unanswered: false,
+            follows_request: false,
             comes_in: false,
             goes_on_with_first: false,
         }
@@ -62,6 +64,7 @@ impl TransferDoubts {
             self.is_asked_again = doubts.is_asked_again || self.is_asked_again;
             self.follows_strays = doubts.follows_strays || self.follows_strays;
             self.follows_unanswered = doubts.follows_unanswered || self.follows_unanswered;
+            self.follows_request = doubts.follows_request || self.follows_request;
             self.comes_in = doubts.comes_in || self.comes_in;
             self.goes_on_with_first = doubts.goes_on_with_first || self.goes_on_with_first;
         }
@@ -152,6 +155,14 @@ impl TransferDoubts {
         ensures { (placed : List Placed) → IsDoubtedAfter self.now placed → result ≡ some_of self.now.number follows_unanswered placed }
     {
         self.follows_unanswered
+    }
+
+    /// Whether its client has asked more than once in its line, up to the datagram that was noted last: once more in this transfer, or
+    /// before it. This is no doubt of a recording that lacks nothing.
+    pub fn has_asked_more(&self) -> bool
+        ensures { (placed : List Placed) → IsDoubtedAfter self.now placed → result ≡ some_of self.now.number follows_request placed }
+    {
+        self.follows_request
     }
 
     /// Whether something came to its client, up to the datagram that was noted last.

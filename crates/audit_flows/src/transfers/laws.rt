@@ -2,13 +2,13 @@
 
 ghost use Rattle.std.specs.Prelude.{◌≡◌, ◌≢◌, ◌⊎◌, ◌≤◌, ℕ, List, Some, true, false, [], ◌∷◌, codes, filter, length};
 ghost use Rattle.std.specs.List.{All};
-ghost use Rattle.audit_flows.specs.Lines.{Recorded, Placed, asked_part, live, line, is_of};
+ghost use Rattle.audit_flows.specs.Lines.{Recorded, Placed, asked_part, follows_request, is_apart, is_of, latest_in, line, live};
 ghost use Rattle.audit_flows.specs.declared.lines.place.Place.{Place};
 ghost use Rattle.audit_flows.specs.declared.lines.place.Transfer.{Transfer};
 ghost use Rattle.audit_flows.specs.Transfers.Places.{place_of, placed};
 ghost use Rattle.audit_flows.specs.Transfers.Settled.{is_settled};
 ghost use Rattle.audit_flows.specs.Transfers.Views.{client_view, is_about, is_at_server, server_of, server_view};
-ghost use Rattle.audit_flows.specs.Transfers.Doubts.{is_answered_apart, is_beside, is_doubtful, is_doubtful_at_client, is_doubtful_at_server, is_doubtful_between};
+ghost use Rattle.audit_flows.specs.Transfers.Doubts.{is_answered_apart, is_beside, is_doubtful, is_doubtful_at_client, is_doubtful_at_server, is_doubtful_between, some_of};
 ghost use Rattle.audit_flows.specs.Transfers.Worked.{
   Where,
   where_all,
@@ -58,6 +58,7 @@ ghost use Rattle.audit_flows.specs.Transfers.Worked.{
   is_astray_in,
   follows_strays_in,
   follows_unanswered_in,
+  follows_request_in,
   first_words,
 };
 
@@ -224,6 +225,16 @@ pub fn what_follows_no_sure_answer_is_doubtful()
     ensures left_nothing { follows_unanswered_in 5 (asks_on (error_of 1)) ≡ false }
 {}
 
+/// The same request again follows one, and so does a request for another file, in the transfer that it opens; after more than 300 s
+/// without a datagram a request follows none.
+pub fn what_a_client_asks_may_follow_a_request()
+    ensures once { follows_request_in 0 wrong_ports ≡ false }
+    ensures again { follows_request_in 0 asked_twice ≡ true }
+    ensures another { follows_request_in 3 one_port ≡ true }
+    ensures before { follows_request_in 0 one_port ≡ false }
+    ensures silent { follows_request_in 2 silent ≡ false }
+{}
+
 /// The server sees what its client sends to the port that it had asked.
 pub fn the_server_sees_its_service_port()
     ensures { seen_by_server 0 wrong_ports ≡ ack_of 1 ∷ ack_of 1 ∷ data_of 1 ∷ read_of (codes "f") ∷ [] }
@@ -261,4 +272,11 @@ pub fn no_datagram_before_an_opening_is_about_it()
         → place_of named older now d ≡ Place.Opens x → x.number ≡ length older }
     ensures about { (named : List ℕ) (recorded : List Recorded) (n : ℕ) → length recorded ≤ n → All (λ (p : Placed). is_about n p ≡ false) (placed named recorded) }
     ensures answers { (named : List ℕ) (recorded : List Recorded) (n : ℕ) → length recorded ≤ n → is_answered_apart n (placed named recorded) ≡ false }
+{}
+
+/// Where a client asked once, as far as its line was recorded, all that passed in the line is of that transfer, or apart.
+pub fn who_asked_once_has_one_transfer()
+    ensures { (named : List ℕ) (recorded : List Recorded) (x : Transfer) → latest_in (line x.client (placed named recorded)) ≡ Some x
+        → some_of x.number follows_request (placed named recorded) ≡ false
+        → All (λ (p : Placed). (is_of x.number p ≡ true) ⊎ (is_apart p ≡ true)) (line x.client (placed named recorded)) }
 {}

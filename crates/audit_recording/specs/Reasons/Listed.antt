@@ -105,6 +105,7 @@ worked_doubted is_twice is_one_way first = record {
     is_answered_apart = false;
     follows_strays = false;
     follows_unanswered = false;
+    follows_request = false;
     comes_in = false;
     goes_on_with_first = false;
   };

@@ -3,7 +3,7 @@ use Rattle.std.proofs.Common.{◌≡◌, ℕ, Bool, false, cond, List, ◌∷◌
 use Rattle.tftp_packet.specs.{Rollover}
 use Rattle.audit_flows.specs.Transfers.{is_answered_apart, is_it, some_of, IsDoubtedAfter, is_about}
 use Rattle.audit_flows.specs.{TransferDoubts}
-use Rattle.audit_flows.specs.Lines.{comes_in, follows_strays, follows_unanswered, agrees_late, goes_on_with_first, is_asked_again, is_disordered, is_late, may_be_answer_of, says_first_word, says_unknown_id, Placed, is_of}
+use Rattle.audit_flows.specs.Lines.{comes_in, follows_request, follows_strays, follows_unanswered, agrees_late, goes_on_with_first, is_asked_again, is_disordered, is_late, may_be_answer_of, says_first_word, says_unknown_id, Placed, is_of}
 use Rattle.audit_flows.proofs.TransfersLemmas.OwnDatagrams.{about_none}
 use Rattle.audit_views.specs.Views.{Naming, captured_at_client, client_header, HasJudgedBy, Client, IsClientAfter, IsClientAfterBy}
 
@@ -27,6 +27,7 @@ doubts_pass_by t p older off apart after = record {
   is_asked_again = after.is_asked_again ∙ sym (none_of t.number is_asked_again p older off);
   follows_strays = after.follows_strays ∙ sym (none_of t.number follows_strays p older off);
   follows_unanswered = after.follows_unanswered ∙ sym (none_of t.number follows_unanswered p older off);
+  follows_request = after.follows_request ∙ sym (none_of t.number follows_request p older off);
   comes_in = after.comes_in ∙ sym (none_of t.number comes_in p older off);
   goes_on_with_first = after.goes_on_with_first ∙ sym (none_of t.number goes_on_with_first p older off);
   is_answered_apart = after.is_answered_apart ∙ sym (ap (λ b. b || is_answered_apart t.number older) apart);

@@ -51,4 +51,5 @@ returns c d now older client stands seen =
           ∙ (λ j. list_any (is_unknown_talk (client j) (other j)) (live now (line c.args.transfer.now.client older)))) i;
       follows_strays = false;
       follows_unanswered = false;
+      follows_request = false;
     }

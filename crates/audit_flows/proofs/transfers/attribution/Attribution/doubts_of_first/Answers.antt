@@ -30,5 +30,6 @@ returns-in-Opens c named older d x after later seen is silent =
       follows_unknown_id = false;
       follows_strays = strays;
       follows_unanswered = false;
+      follows_request = false;
     } in
     c.of_first.ensures ∙ (λ i. doubts (nat_lt (seen i).time c.args.now) (near i)) ∙ first_doubted d c.args.now older x silent
