@@ -43,6 +43,9 @@ CASES: tuple[tuple[str, list[Datagram], int | None, bool | None], ...] = (
     ("a block behind the last", [ASKED, LAST, sent(ack(1)[0]), answered(data(2, b"y")[0])], 21, True),
     ("an ACK of a block behind the last", [ASKED, LAST, sent(ack(1)[0]), sent(ack(2)[0])], 26, True),
     ("a block beyond the window", [ASKED, FULL, sent(ack(1)[0]), answered(data(3, b"x")[0])], 22, False),
+    # Where its client asked more than once, nothing is told to stand; what may be lawful may be so still.
+    ("a block with other bytes, asked for twice", [ASKED, ASKED, FULL, sent(ack(1)[0]), CHANGED], 25, None),
+    ("an ACK ahead, asked for twice", [ASKED, ASKED, FULL, sent(ack(3)[0])], 26, False),
 )
 
 
@@ -62,7 +65,8 @@ Expected = tuple[Optional[int], Optional[bool]]
 # What passes, and at the client and at the server the rule that is broken there and whether that stands.
 # At the server each of these rules stands, since its client is who asked it. At the client they do of what it sent
 # itself; and of what came to it once it has gone on with its server, by something that is neither a request nor an
-# ERROR 5. Before that its server may be another one, whose answer was missed.
+# ERROR 5. Before that its server may be another one, whose answer was missed. Where the client asked more than once,
+# none does: a datagram of another transfer of its may count as this one's.
 AT_ENDS: tuple[tuple[str, list[Datagram], Expected, Expected], ...] = (
     ("a whole read", read("a", 40_000, 41_000), (None, None), (None, None)),
     ("not whole", [ASKED, FULL], (None, None), (None, None)),
@@ -94,10 +98,15 @@ AT_ENDS: tuple[tuple[str, list[Datagram], Expected, Expected], ...] = (
     ("the server changes a block", [ASKED, FULL, ACKED, CHANGED], (25, True), (25, True)),
     ("the server changes a block at once", [ASKED, FULL, CHANGED], (25, None), (25, True)),
     ("the server changes a block before an ACK", [ASKED, FULL, CHANGED, ACKED], (25, None), (25, True)),
-    ("the server changes a block, asked for twice", [ASKED, ASKED, FULL, CHANGED], (25, None), (25, True)),
+    ("the server changes a block, asked for twice", [ASKED, ASKED, FULL, CHANGED], (25, None), (25, None)),
+    ("the server changes a block later, asked for twice", [ASKED, ASKED, FULL, ACKED, CHANGED], (25, None), (25, None)),
     ("the server changes a block after an ERROR 5", [ASKED, FULL, STRAYED, CHANGED], (25, None), (25, True)),
     ("the server changes a block after an ERROR 3", [ASKED, FULL, STOPPED, CHANGED], (25, True), (25, True)),
     ("the client changes a block", [*WRITES, sent(data(1, b"x")[0]), sent(data(1, b"y")[0])], (25, True), (25, True)),
+    (
+        "the client changes a block, asked for twice",
+        [WRITES[0], *WRITES, sent(data(1, b"x")[0]), sent(data(1, b"y")[0])], (25, None), (25, None),
+    ),
     # rules 20, 21 and 24, where nothing names the option: the size is 512, and the window one block
     ("a block that goes back", [ASKED, FULL, ACKED, SECOND, FULL], (None, None), (24, True)),
     ("a block of the client that goes back", [*WRITES, *WRITTEN, WRITTEN[0]], (24, True), (None, None)),
@@ -113,6 +122,11 @@ AT_ENDS: tuple[tuple[str, list[Datagram], Expected, Expected], ...] = (
     ("a block too far", [ASKED, FULL, sent(ack(1)[0]), answered(data(3, b"x")[0])], (22, None), (22, None)),
     ("a block of the writer that was not asked for", [WRITES[0], sent(data(1, b"x")[0])], (2, None), (1, None)),
 )
+
+
+# Another file, which the same port asks for and another port sends, and its block with other bytes.
+NEXT = read("b", 40_000, 42_000)
+NEXT_CHANGED = Datagram(S, 42_000, C, 40_000, data(1, b"yo")[0])
 
 
 class Stands(Checks):
@@ -148,6 +162,9 @@ class Stands(Checks):
         self.check("what came to a client before", is_told, said_of)
         doubtful = self.words(file_of(asked_again()))
         self.check("doubtful", "rule" in doubtful and "missing" not in doubtful, doubtful)
+        said_of = self.words(file_of([*read("a", 40_000, 41_000), *NEXT, NEXT_CHANGED]), "--end", "server")
+        is_told = said_of.endswith(f" rule {Rule.BLOCK_CHANGED}, if no frame is missing")
+        self.check("of a client that asked before", is_told, said_of)
         asked, many = Datagram(C, 40_000, S, 69, read_request("a", "octet", tsize=0)[0]), oack(tsize=40_000_000)[0]
         said_of = self.words(file_of([asked, answered(many), sent(ack(0)[0])]), *between)
         wanted = f"{refusal(2, Rule.BEYOND_BLOCK_65535)}, whatever is missing except a request"
@@ -168,3 +185,16 @@ class Stands(Checks):
                 told = [row["stands"] for row in rows]
                 holds = rule is None and "refused" not in rows[0]["verdict"] or f" rule {rule} " in rows[0]["verdict"]
                 self.check(f"{name}, at {end}", told == [stands] and holds, rows)
+
+    def test_next_transfer(self) -> None:
+        """What was refused before the client asked for another file stands; what is refused of that is not told to."""
+        cases = (
+            ("the first", [ASKED, FULL, ACKED, CHANGED, *NEXT], 0, [True, None]),
+            ("the next", [*read("a", 40_000, 41_000), *NEXT, NEXT_CHANGED], 1, [None, None]),
+        )
+        for name, passed, place, wanted in cases:
+            for end in ("client", "server", "between"):
+                rows = self.rows(file_of(passed), end)
+                told = [row["stands"] for row in rows]
+                holds = told == wanted and f" rule {Rule.BLOCK_CHANGED}" in rows[place]["verdict"]
+                self.check(f"a block with other bytes of {name}, at {end}", holds, rows)

@@ -125,6 +125,8 @@ class Transfer:
     newest: int = 0
     is_answered: bool = False
     is_left_out: bool = False
+    # whether its client asked more than once, for it or before it, since it was last silent
+    has_asked_more: bool = False
     # whether the client went on with who first sent it something, and those that it sent to where nothing had passed
     is_followed: bool = False
     spoken_first: set[int] = field(default_factory=set)
@@ -362,9 +364,9 @@ class Attribution:
         self.services.add(it.target.port)
         line = self.line(it.source)
         if line and line.ends_in_request and line.request.way() == it.way():
-            line.moment = self.clock
+            line.moment, line.latest.has_asked_more = self.clock, True
             return line.latest
-        one = Transfer(self.count, it.source, it.target)
+        one = Transfer(self.count, it.source, it.target, has_asked_more=line is not None)
         one.is_left_out = self.left_out.get(it.source, 0) > it.nanoseconds()
         self.newest[it.source] = one
         self.transfers.append(one)

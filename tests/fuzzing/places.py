@@ -29,11 +29,14 @@ def beside_of(one: Transfer, it: Datagram) -> tuple[str, ...]:
 
 
 def passed_in(one: Transfer) -> set[str]:
-    """Whether an OACK passed that may be late, an ERROR 5, and its client's first word before anything came to it."""
+    """Whether an OACK passed that may be late, an ERROR 5, and its client's first word before anything came to it; and
+    whether its client asked more than once."""
     talked = list(one.talked())
     agrees = any(begins(it.payload, 6) and one.may_be_earlier(it) for it in talked)
     unknown = any(it.payload[:4] == ERROR_5 for it in talked)
-    told_of = (("agrees", agrees), ("unknown", unknown), ("first", bool(one.first_words)))
+    told_of = (
+        ("agrees", agrees), ("unknown", unknown), ("first", bool(one.first_words)), ("asked", one.has_asked_more)
+    )
     return {word for word, is_so in told_of if is_so}
 
 

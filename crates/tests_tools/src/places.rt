@@ -129,6 +129,7 @@ impl Listing {
             put_doubt(rt, transfer.is_disordered(), "disordered")?;
             put_doubt(rt, transfer.is_asked_again(), "again")?;
             put_doubt(rt, transfer.is_answered_apart(), "apart")?;
+            put_doubt(rt, transfer.has_asked_more(), "asked")?;
             put_doubt(rt, transfer.is_doubted(), "doubted")?;
             println!(rt)?;
             self.put_views(rt, &known.ends)?;

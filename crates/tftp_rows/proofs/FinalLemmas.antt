@@ -3,7 +3,7 @@ use Rattle.std.proofs.Common.{◌≡◌, ℕ, Bool, false, cond, List, [], ◌�
 use Rattle.std.proofs.lemmas.List.Elements.{filter_agree}
 use Rattle.tftp_packet.specs.{In, Out}
 use Rattle.law_tap.specs.{AreApart}
-use Rattle.audit_flows.specs.Lines.{Placed, agrees_late, comes_in, follows_strays, follows_unanswered, goes_on_with_first, is_asked_again, is_disordered, is_late, newest_of, says_first_word, says_unknown_id}
+use Rattle.audit_flows.specs.Lines.{Placed, agrees_late, comes_in, follows_request, follows_strays, follows_unanswered, goes_on_with_first, is_asked_again, is_disordered, is_late, newest_of, says_first_word, says_unknown_id}
 use Rattle.audit_flows.specs.{Beside, Place, Talks, Transfer, TransferDoubts}
 use Rattle.audit_flows.specs.Transfers.{IsDoubtedAfter, is_about, is_end, opened_it, placed, server_of, server_view}
 use Rattle.audit_flows.proofs.LinesLemmas.Lines.{by_test}
@@ -97,6 +97,7 @@ doubted_on d before after same was = record {
   is_answered_apart = was.is_answered_apart ∙ sym same.answered;
   follows_strays = was.follows_strays ∙ sym (same.some follows_strays);
   follows_unanswered = was.follows_unanswered ∙ sym (same.some follows_unanswered);
+  follows_request = was.follows_request ∙ sym (same.some follows_request);
   comes_in = was.comes_in ∙ sym (same.some comes_in);
   goes_on_with_first = was.goes_on_with_first ∙ sym (same.some goes_on_with_first);
 }

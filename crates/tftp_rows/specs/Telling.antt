@@ -2,8 +2,9 @@
 -- they are told.
 use Rattle.std.specs.Prelude.{◌≡◌, ◌⊎◌, ◌+◌, ◌-◌, ◌^◌, ◌≤◌, ℕ, false, max, min, List, [], ◌∷◌, ◌++◌, Option, Some, None, IsSome, Result, Ok, Err, codes, string_bytes}
 use Rattle.net_udp.specs.Recording.{Step}
-use Rattle.audit_flows.specs.Lines.{same_address}
+use Rattle.audit_flows.specs.Lines.{follows_request, same_address}
 use Rattle.audit_flows.specs.{Transfer}
+use Rattle.audit_flows.specs.Transfers.{some_of}
 use Rattle.audit_recording.specs.Blame.Frames.{Carried, whole_of}
 use Rattle.audit_recording.specs.Blame.Named.{named_in}
 use Rattle.audit_recording.specs.Judges.{is_among, opened}
@@ -46,7 +47,7 @@ pub record IsRowOf (name : List ℕ) (n : ℕ) (j : Judged) (t : Told) (row : Ve
   pub ended : (judging : Judging) (x : Transfer) (named : List ℕ) (carried : List Carried) → IsJudgedOf j judging x named carried
       → IsConclusionOf row.ended j t x named carried
   pub stands : (judging : Judging) (x : Transfer) (named : List ℕ) (carried : List Carried) → IsJudgedOf j judging x named carried
-      → IsStanding t.telling.point x (named_in x (whole_of named carried)) t.view.now row.stands
+      → IsStanding t.telling.point x (some_of x.number follows_request (whole_of named carried)) (named_in x (whole_of named carried)) t.view.now row.stands
   pub beyond : row.goes_beyond ≡ goes_beyond t.view.now.found
   pub times : (judging : Judging) (x : Transfer) (named : List ℕ) (carried : List Carried) → IsJudgedOf j judging x named carried
       → AreTimesOf row.times x (bytes_in t.view.now.found) named carried

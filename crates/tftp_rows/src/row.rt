@@ -2,6 +2,8 @@
 
 ghost use Rattle.std.specs.Prelude.{◌≡◌, ◌++◌, ℕ, List, IfOk, OnOk, Some, codes, flat_map, string_bytes};
 ghost use Rattle.audit_flows.specs.{Transfer};
+ghost use Rattle.audit_flows.specs.Lines.{follows_request};
+ghost use Rattle.audit_flows.specs.Transfers.{some_of};
 ghost use Rattle.audit_recording.specs.Blame.Frames.{Carried, whole_of};
 ghost use Rattle.audit_recording.specs.Blame.Named.{named_in};
 ghost use Rattle.tftp_rows.specs.Reasons.{reason_text};
@@ -90,7 +92,7 @@ impl<'a> VerdictRow<'a> {
         ensures ended { (judging : JudgingKind) (x : Transfer) (named : List ℕ) (carried : List Carried) → IsJudgedOf judged.now judging x named carried
             → IfOk result (λ row. IsConclusionOf row.ended judged.now told.now x named carried) }
         ensures stands { (judging : JudgingKind) (x : Transfer) (named : List ℕ) (carried : List Carried) → IsJudgedOf judged.now judging x named carried
-            → IfOk result (λ row. IsStanding told.now.telling.point x (named_in x (whole_of named carried)) told.now.view.now row.stands) }
+            → IfOk result (λ row. IsStanding told.now.telling.point x (some_of x.number follows_request (whole_of named carried)) (named_in x (whole_of named carried)) told.now.view.now row.stands) }
         ensures beyond { IfOk result (λ row. row.goes_beyond ≡ goes_beyond told.now.view.now.found) }
         ensures times { (judging : JudgingKind) (x : Transfer) (named : List ℕ) (carried : List Carried) → IsJudgedOf judged.now judging x named carried
             → IfOk result (λ row. AreTimesOf row.times x (bytes_in told.now.view.now.found) named carried) }
@@ -106,7 +108,7 @@ impl<'a> VerdictRow<'a> {
             verdict,
             charge,
             ended,
-            stands: told.stands(judged.trail()),
+            stands: judged.stands(told),
             goes_beyond: goes_beyond(&told.view.found),
             times: times_told(judged, told),
         })
