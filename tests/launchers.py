@@ -242,6 +242,9 @@ class Launchers(Checks):
             wanted = f"{text}: 3 words {words[0]} --rollover 1: given\n", "", 0 if words[0] == "check" else 2, 0
             holds = got == wanted
             self.check(f"installed, {words}", holds, got)
+        for words in (("check", "--losses"), ("check", "--losses", "-"), ("check", "--losses", "--")):
+            got = self.scratch.run(*words, script=launcher, given="given")
+            self.check(f"installed, {words}", got == (f"{text}: 2 words check --losses: given\n", "", 0, 0), got)
         got = self.scratch.run("x", "y", script=launcher, given="given")
         self.check("installed, x y", got == (f"{text}: 2 words x y: given\n", HINT, 2, 0), got)
         got = self.scratch.run("check", capture, script=AUDIT.name, folder=folder, on_path=launcher.parent)
@@ -284,6 +287,8 @@ class Launchers(Checks):
             (("extract", "--rollover", "x", example), "--rollover takes 0 or 1, not 'x'"),
             (("show", "--rollover=01"), "--rollover takes 0 or 1, not '01'"),
             (("count", "--rollover", "1", example, example), "'count' takes one file, not 2"),
+            (("show", "--losses", example), "--losses is of check alone; tftp-audit --help says more"),
+            (("check", "--losses", "--rollover", "1"), "there is no option '--rollover'; tftp-audit --help says more"),
         )
         for its, message in wrong:
             got = self.scratch.run(*its, script=script)

@@ -49,6 +49,7 @@ help() {
 Whether a recorded TFTP transfer was lawful, and if not, which datagram broke which rule
 
 Usage: tftp-audit <COMMAND> [--rollover <N>] [FILE]
+       tftp-audit check --losses [FILE]
 
 Commands:
   check    The verdict, in one line
@@ -63,6 +64,8 @@ Arguments:
 Options:
       --rollover <N>  What is taken to come after block 65535: 0 or 1; show then names the block
                       beside its number. Without it nothing does, and such a block is refused
+      --losses        Of check: where a datagram is refused, a second line says which datagrams
+                      must be missing so that the capture is lawful, or that none were found
   -h, --help          Print help
   -V, --version       Print version
 
@@ -109,11 +112,18 @@ take_rollover() {
     esac
 }
 
+# The option of check that asks for what is missing.
+take_losses() {
+    [ "$command" = check ] || refuse "--losses is of check alone; $name --help says more"
+    losses=yes
+}
+
 # Answers an option and ends; refuses a file that cannot be read, and an option that there is not. What else is wrong with the
 # words is the program's to tell, and here it is told how it is called. Behind the word -- a file may begin with a -.
 take_words() {
     is_wrong=no
     rollover=
+    losses=
     case $#:${1-}:${2-} in
         1:-h: | 1:--help: | 2:*:-h | 2:*:--help) write_out "$(help)" && exit ;;
         1:-V: | 1:--version:) write_out "$name $version" && exit ;;
@@ -131,6 +141,10 @@ take_words() {
             ;;
         --rollover=*)
             take_rollover "${1#*=}"
+            shift
+            ;;
+        --losses)
+            take_losses
             shift
             ;;
     esac
@@ -154,6 +168,7 @@ ask_for_large_pages() {
 run_command() {
     ask_for_large_pages
     is_command "$@" || exec "$program" "$@"
-    [ "$file" = - ] || exec "$program" "$command" ${rollover:+--rollover "$rollover"} <"$file"
-    exec "$program" "$command" ${rollover:+--rollover "$rollover"}
+    set -- "$command" ${rollover:+--rollover "$rollover"} ${losses:+--losses}
+    [ "$file" = - ] || exec "$program" "$@" <"$file"
+    exec "$program" "$@"
 }

@@ -18,4 +18,6 @@ pub mod Between
 pub mod NumbersKept
 pub mod ShownBlocks
 pub mod PastTheRound
+pub mod ThreeWords
+pub mod Told
 mod WordsNamed

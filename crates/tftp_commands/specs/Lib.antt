@@ -12,6 +12,7 @@ pub mod Checked
 pub mod Extracted
 pub mod Normalised
 pub mod Counted
+pub mod Losses
 pub mod Run
 pub mod One
 pub use Words.{IsCommand, IsNoCommand, audit_app, digit_of, memory_fault, name_of, option_words, rollover_of, with_command}
@@ -28,6 +29,7 @@ pub use Checked.{IsChecked, checked, detail, refusal_line, verdict_status}
 pub use Extracted.{IsExtracted, extracted}
 pub use Normalised.{IsNormalised, IsUnwritten, normalised}
 pub use Counted.{IsCounted, counted}
+pub use Losses.{AsksForLosses, IsCheckedWithLosses, IsFoundIn, IsToldOf, losses_line, newlines, says_unlawful, with_losses}
 pub use Run.{IsOutput, IsOutputOf, IsRefused}
 pub use One.{HasDatagram, IsLeft, IsMemoryOutput, IsNoMemoryEnding, IsUnread, SaysNoMemory, TellsOfMemory, empty_text, first_datagram, first_text}
 pub use declared.status.Status.{Status}

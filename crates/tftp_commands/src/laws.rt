@@ -2,7 +2,7 @@
 //! below. The source may be a text that was given whole, and then the output is the text's. And for what memory may be
 //! wanted: what was read has the datagram, unless nothing was read.
 
-ghost use Rattle.std.specs.Prelude.{◌≡◌, ◌≤◌, ◌+◌, ◌⊎◌, ℕ, List, [], ◌∷◌, Bool, codes, Option, None, Some, Result, false};
+ghost use Rattle.std.specs.Prelude.{◌≡◌, ◌≤◌, ◌+◌, ◌++◌, ◌⊎◌, ℕ, List, [], ◌∷◌, Bool, codes, Option, None, Some, Result, false};
 ghost use Rattle.tftp_packet.specs.{Rollover};
 ghost use Rattle.tftp_packet.specs.Rounds.{half_round};
 ghost use Rattle.tftp_packet.specs.Hosts.{Datagram, Header};
@@ -16,6 +16,7 @@ ghost use Rattle.tftp_judge.specs.{Verdict, header_by};
 ghost use Rattle.tftp_commands.specs.Checked.{IsChecked};
 ghost use Rattle.tftp_commands.specs.Counted.{IsCounted};
 ghost use Rattle.tftp_commands.specs.Extracted.{IsExtracted};
+ghost use Rattle.tftp_commands.specs.Losses.{IsToldOf};
 ghost use Rattle.tftp_commands.specs.Normalised.{IsNormalised};
 ghost use Rattle.tftp_commands.specs.One.{HasDatagram, IsLeft, IsMemoryOutput, IsNoMemoryEnding, IsUnread, SaysNoMemory, TellsOfMemory, empty_text, first_datagram, first_text};
 ghost use Rattle.tftp_commands.specs.Outputs.{IsWritten, Output, memory_line};
@@ -23,7 +24,7 @@ ghost use Rattle.tftp_commands.specs.Run.{IsOutput, IsOutputOf};
 ghost use Rattle.tftp_commands.specs.Beside.{IsHighFor, other_block};
 ghost use Rattle.tftp_commands.specs.WorkedBeside.{past_the_round, shown_by_number, shown_by_one, shown_by_zero};
 ghost use Rattle.tftp_commands.specs.Shown.{AreLines, AreTaken, Faulty, IsShown, WantsToShow};
-ghost use Rattle.tftp_commands.specs.Sources.{Source, so_far};
+ghost use Rattle.tftp_commands.specs.Sources.{Source, given, so_far};
 ghost use Rattle.tftp_commands.specs.declared.status.Status.{Status};
 ghost use Rattle.tftp_commands.specs.declared.words.Action.{Action};
 ghost use Rattle.tftp_commands.specs.Judged.{IsJudged};
@@ -139,4 +140,10 @@ pub fn blocks_past_the_round_are_named()
     ensures zero { AreLines (Some Rollover.Zero) worked_header [] (past_the_round 0) shown_by_zero }
     ensures one { AreLines (Some Rollover.One) worked_header [] (past_the_round 1) shown_by_one }
     ensures none { AreLines None worked_header [] (past_the_round 0) shown_by_number }
+{}
+
+/// `check --losses` says what `check` says of the same text, with the same status, and nothing before it.
+pub fn losses_stand_behind_what_check_says()
+    ensures { (text : List ℕ) (output : Output) → IsToldOf text output
+        → (plain : Output) × (further : List ℕ) × IsChecked None (given text) plain × (output.bytes ≡ plain.bytes ++ further) × (output.status ≡ plain.status) }
 {}

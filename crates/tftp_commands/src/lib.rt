@@ -6,6 +6,7 @@ mod command;
 mod count;
 mod faults;
 pub mod laws;
+mod losses;
 mod names;
 mod numbers;
 mod output;
@@ -16,5 +17,6 @@ mod verdicts;
 mod words;
 
 pub use check::{say_accepted, say_verdict};
+pub use losses::{asks_for_losses, check_with_losses};
 pub use session::run;
 pub use status::Status;
