@@ -70,7 +70,7 @@ def try_text(program: str, text: bytes) -> str:
     verdict, capture = check(program, text), read_capture(text)
     remarks = remarks_of(program, text, verdict)
     told = explain(verdict, text, capture)
-    written = json.loads(explained_line("-", Judged(text, verdict), remarks))
+    written = json.loads(explained_line("-", program, Judged(text, verdict), remarks))
     is_sound = bool(told) and all(words.isprintable() for _, words in told) and written["verdict"] == verdict.line
     if capture.datagrams:
         ElementTree.fromstring(draw(capture, verdict, ROWS, True))

@@ -80,6 +80,15 @@ def check(program: str, text: bytes, rollover: str = "") -> Verdict:
     return Verdict(line, done.returncode)
 
 
+def losses(program: str, text: bytes) -> str:
+    """Which datagrams must be missing of a capture text that is refused, so that it is lawful with them, by the program;
+    nothing where it finds none."""
+    with told(f"cannot run {program!r}"):
+        done = subprocess.run([program, "check", "--losses"], input=text, stdout=subprocess.PIPE, check=False)
+    lines = done.stdout.decode("ascii", "backslashreplace").splitlines()
+    return lines[1] if len(lines) == 2 and lines[1].startswith("lawful if ") else ""
+
+
 def file_of(program: str, text: bytes, rollover: str = "") -> bytes:
     """The file of a capture text that the program accepts."""
     with told(f"cannot run {program!r}"):

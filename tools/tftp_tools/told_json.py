@@ -7,6 +7,7 @@ from typing import Any, Optional
 
 from .capture import Datagram, packet_of
 from .explained import Told, explain
+from .lost import lost
 from .program import Verdict
 from .recording import Judged
 from .remarks import Remark, Remarks
@@ -48,18 +49,18 @@ def what_if_object(it: Remarks) -> Object:
     }
 
 
-def explained_object(path: str, judged: Judged, remarks: Optional[Remarks]) -> Object:
+def explained_object(path: str, audit: str, judged: Judged, remarks: Optional[Remarks]) -> Object:
     capture, verdict, row = judged.capture(), judged.verdict, judged.row
     found, accused = verdict.refused(), judged.accused()
     return {
         "file": path, "number": row.number if row else None, "end": judged.place, "verdict": verdict.line,
         "status": verdict.status, "accused": asdict(accused) if accused else None, "doubts": list(judged.doubts),
         "refused": refused_object(capture.datagrams[found[0] - 1], verdict) if found else None,
-        "told": told_objects(explain(verdict, judged.text, capture)),
+        "told": told_objects([*explain(verdict, judged.text, capture), *lost(audit, judged)]),
         "what_if": what_if_object(remarks) if remarks else None,
     }
 
 
-def explained_line(path: str, judged: Judged, remarks: Optional[Remarks]) -> str:
+def explained_line(path: str, audit: str, judged: Judged, remarks: Optional[Remarks]) -> str:
     """The object in a line."""
-    return json.dumps(explained_object(path, judged, remarks), separators=(",", ":")) + "\n"
+    return json.dumps(explained_object(path, audit, judged, remarks), separators=(",", ":")) + "\n"
