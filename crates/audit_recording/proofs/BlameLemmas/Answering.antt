@@ -9,9 +9,9 @@ use Rattle.judge_tap.specs.{TapRefusal}
 use Rattle.judge_tap.specs.declared.refusal.TapRefusal.TheVariants as tap
 use Rattle.audit_flows.specs.{Transfer}
 use Rattle.audit_views.specs.Parties.{host_name}
-use Rattle.audit_views.specs.Views.{IsJudgedWith, client_capture, client_header, server_capture, server_header}
+use Rattle.audit_views.specs.Views.{IsFoundBy, client_capture, client_header, server_capture, server_header}
 use Rattle.audit_recording.specs.Between.{IsBetweenVerdict, between_capture, sides_of}
-use Rattle.audit_recording.specs.Judges.{points_of}
+use Rattle.audit_recording.specs.Judges.{points_of, rollover_of}
 use Rattle.audit_recording.specs.Blame.Facts.{blamed_as, refused_between, refused_in}
 use Rattle.audit_recording.specs.Blame.Frames.{Carried, framed, whole_of}
 use Rattle.audit_recording.specs.Blame.Kept.{IsHeld, IsTrailBetween, IsTrailOf, blamed_in}
@@ -47,21 +47,21 @@ between_by (Err (tap.Memory count)) number is = absurd (cc)
 
 module _ (t : Trail) (judging : Judging) (x : Transfer) (named : List ℕ) (carried : List Carried) (number : ℕ) (result : Option Blamed) (was : IsTrailOf t judging x named carried) where
   pub blamed_at_client : (v : Result Meaning Refusal) → refused_in v ≡ Some number → (points_of judging x).client ≡ true
-      → IsJudgedWith (client_header x) (client_capture host_name x (whole_of named carried)) v
+      → IsFoundBy (rollover_of judging) (client_header x) (client_capture host_name x (whole_of named carried)) v
       → (IsHeld t.blame.at_client number → result ≡ blamed_in point.Client x (whole_of named carried) (framed named carried) number)
       → result ≡ blamed_as point.Client x named carried (refused_in v)
   blamed_at_client v is there judged finds =
       let at = unlawful_by v number is in
-      let said = (subst (IsJudgedWith (client_header x) (client_capture host_name x (whole_of named carried))) at.is judged) tt in
+      let said = (subst (IsFoundBy (rollover_of judging) (client_header x) (client_capture host_name x (whole_of named carried))) at.is judged) tt in
       finds ((was.blame.client there).enough [] number at.rule said.verdict) ∙ ap (blamed_as point.Client x named carried) (sym is)
 
   pub blamed_at_server : (v : Result Meaning Refusal) → refused_in v ≡ Some number → (points_of judging x).server ≡ true
-      → IsJudgedWith (server_header x) (server_capture host_name x (whole_of named carried) (whole_of named carried)) v
+      → IsFoundBy (rollover_of judging) (server_header x) (server_capture host_name x (whole_of named carried) (whole_of named carried)) v
       → (IsHeld t.blame.at_server number → result ≡ blamed_in point.Server x (whole_of named carried) (framed named carried) number)
       → result ≡ blamed_as point.Server x named carried (refused_in v)
   blamed_at_server v is there judged finds =
       let at = unlawful_by v number is in
-      let said = (subst (IsJudgedWith (server_header x) (server_capture host_name x (whole_of named carried) (whole_of named carried))) at.is judged) tt in
+      let said = (subst (IsFoundBy (rollover_of judging) (server_header x) (server_capture host_name x (whole_of named carried) (whole_of named carried))) at.is judged) tt in
       finds ((was.blame.server there).enough [] number at.rule said.verdict) ∙ ap (blamed_as point.Server x named carried) (sym is)
 
   pub blamed_between : (v : Result Meaning TapRefusal) → refused_between v ≡ Some number → IsTrailBetween t judging x named carried → (points_of judging x).between ≡ true → AreApart (sides_of x (whole_of named carried))

@@ -5,6 +5,7 @@ use Rattle.std.specs.List.{slice_get}
 use Rattle.std.proofs.lemmas.List.{drop_more, length-reverse, map-append, reverse-append}
 use Rattle.std.proofs.lemmas.List.Elements.{filter-append, filter_agree}
 use Rattle.law_end.specs.{Rule}
+use Rattle.tftp_packet.specs.{Rollover}
 use Rattle.audit_flows.specs.Lines.{Placed, Recorded, is_of}
 use Rattle.audit_flows.specs.{Endpoint, Place, Transfer}
 use Rattle.audit_flows.specs.declared.lines.place.Place.TheVariants.{Opens, Repeats, Talks, Apart, Beside, Nowhere}
@@ -123,11 +124,11 @@ same_seen_of : (at : Point) (n : ℕ) (p : Placed) (whole : List Placed) (frames
 same_seen_of at n p whole frames fixed =
     filter_agree (λ f. is_seen at n (p ∷ whole) f.placed) (λ f. is_seen at n whole f.placed) (λ f. fixed (p ∷ []) f.placed) frames
 
-enough_more : (facts : ViewFacts) (at : Point) (x : Transfer) (p : Placed) (whole : List Placed)
-    → ((more : List Placed) (number : ℕ) (rule : Rule) → IsRefusedAt at x (more ++ whole) number rule → IsHeld facts number)
-    → (more : List Placed) (number : ℕ) (rule : Rule) → IsRefusedAt at x (more ++ p ∷ whole) number rule → IsHeld facts number
-enough_more facts at x p whole enough more number rule said =
-    enough (more ++ p ∷ []) number rule (subst (λ w. IsRefusedAt at x w number rule) (sym (grown p more whole)) said)
+enough_more : (rollover : Option Rollover) (facts : ViewFacts) (at : Point) (x : Transfer) (p : Placed) (whole : List Placed)
+    → ((more : List Placed) (number : ℕ) (rule : Rule) → IsRefusedAt rollover at x (more ++ whole) number rule → IsHeld facts number)
+    → (more : List Placed) (number : ℕ) (rule : Rule) → IsRefusedAt rollover at x (more ++ p ∷ whole) number rule → IsHeld facts number
+enough_more rollover facts at x p whole enough more number rule said =
+    enough (more ++ p ∷ []) number rule (subst (λ w. IsRefusedAt rollover at x w number rule) (sym (grown p more whole)) said)
 
 -- ---- what is open
 
@@ -208,9 +209,9 @@ open_at forgotten held at x whole frames number is above =
 
 -- ---- the facts
 
-pub facts_new : (facts : ViewFacts) (at : Point) (x : Transfer) (whole : List Placed) (frames : List Framed) → facts.forgotten ≡ 0 → facts.held.items ≡ [] → facts.refused ≡ None
-    → filter (is_about_it x.number) frames ≡ [] → AreFactsOf facts at x whole frames
-facts_new facts at x whole frames forgotten held refused unheard = record {
+pub facts_new : (rollover : Option Rollover) (facts : ViewFacts) (at : Point) (x : Transfer) (whole : List Placed) (frames : List Framed) → facts.forgotten ≡ 0 → facts.held.items ≡ [] → facts.refused ≡ None
+    → filter (is_about_it x.number) frames ≡ [] → AreFactsOf rollover facts at x whole frames
+facts_new rollover facts at x whole frames forgotten held refused unheard = record {
   holds = subst (λ o. HoldsBy o facts at x whole frames) (sym refused) (record {
     late = frames;
     early = [];
@@ -220,16 +221,16 @@ facts_new facts at x whole frames forgotten held refused unheard = record {
     stays = inl refl;
   });
   enough = λ more number rule said.
-      subst (λ o. IsHeldBy o facts.forgotten number) (sym refused) (subst (λ k. k < number) (sym forgotten) (from_1 at x (more ++ whole) number rule said));
+      subst (λ o. IsHeldBy o facts.forgotten number) (sym refused) (subst (λ k. k < number) (sym forgotten) (from_1 rollover at x (more ++ whole) number rule said));
 }
 
-facts_more : (old new : ViewFacts) (at : Point) (x : Transfer) (f : Framed) (whole : List Placed) (frames : List Framed) → new.refused ≡ old.refused → new.forgotten ≡ old.forgotten
+facts_more : (rollover : Option Rollover) (old new : ViewFacts) (at : Point) (x : Transfer) (f : Framed) (whole : List Placed) (frames : List Framed) → new.refused ≡ old.refused → new.forgotten ≡ old.forgotten
     → (old.refused ≡ None → (late : List Framed) → old.held.items ≡ map (passed_of x) (reverse (filter (is_about_it x.number) late)) → new.held.items ≡ map (passed_of x) (reverse (filter (is_about_it x.number) (f ∷ late))))
-    → AreFactsOf old at x whole frames → AreFactsOf new at x (f.placed ∷ whole) (f ∷ frames)
-facts_more old new at x f whole frames refused forgotten held are = record {
+    → AreFactsOf rollover old at x whole frames → AreFactsOf rollover new at x (f.placed ∷ whole) (f ∷ frames)
+facts_more rollover old new at x f whole frames refused forgotten held are = record {
   holds = by old.refused refl are.holds;
   enough = λ more number rule said.
-      subst (λ o. IsHeldBy o new.forgotten number) (sym refused) (subst (λ k. IsHeldBy old.refused k number) (sym forgotten) (enough_more old at x f.placed whole are.enough more number rule said));
+      subst (λ o. IsHeldBy o new.forgotten number) (sym refused) (subst (λ k. IsHeldBy old.refused k number) (sym forgotten) (enough_more rollover old at x f.placed whole are.enough more number rule said));
 }
   where
     by : (o : Option Found) → old.refused ≡ o → HoldsBy o old at x whole frames → HoldsBy new.refused new at x (f.placed ∷ whole) (f ∷ frames)
@@ -240,28 +241,28 @@ facts_more old new at x f whole frames refused forgotten held are = record {
         subst (λ o. HoldsBy o new at x (f.placed ∷ whole) (f ∷ frames)) (sym (refused ∙ some)) (found_more at x f whole frames found is)
 
 -- one more is held
-pub facts_held : (old new : ViewFacts) (at : Point) (x : Transfer) (f : Framed) (whole : List Placed) (frames : List Framed) (passed : Passed) → new.refused ≡ old.refused → new.forgotten ≡ old.forgotten
+pub facts_held : (rollover : Option Rollover) (old new : ViewFacts) (at : Point) (x : Transfer) (f : Framed) (whole : List Placed) (frames : List Framed) (passed : Passed) → new.refused ≡ old.refused → new.forgotten ≡ old.forgotten
     → new.held.items ≡ old.held.items ++ passed ∷ [] → passed ≡ passed_of x f → is_about_it x.number f ≡ true
-    → AreFactsOf old at x whole frames → AreFactsOf new at x (f.placed ∷ whole) (f ∷ frames)
-facts_held old new at x f whole frames passed refused forgotten held is about are =
-    facts_more old new at x f whole frames refused forgotten
+    → AreFactsOf rollover old at x whole frames → AreFactsOf rollover new at x (f.placed ∷ whole) (f ∷ frames)
+facts_held rollover old new at x f whole frames passed refused forgotten held is about are =
+    facts_more rollover old new at x f whole frames refused forgotten
     (λ none late so. held ∙ ap (λ q. old.held.items ++ q ∷ []) is ∙ held_one x f old.held.items late about so) are
 
 -- none is, where one is refused
-pub facts_kept : (facts : ViewFacts) (found : Found) (at : Point) (x : Transfer) (f : Framed) (whole : List Placed) (frames : List Framed) → facts.refused ≡ Some found
-    → AreFactsOf facts at x whole frames → AreFactsOf facts at x (f.placed ∷ whole) (f ∷ frames)
-facts_kept facts found at x f whole frames is are =
-    facts_more facts facts at x f whole frames refl refl (λ none late so. let both : None ≡ Some found = sym none ∙ is in absurd (cc)) are
+pub facts_kept : (rollover : Option Rollover) (facts : ViewFacts) (found : Found) (at : Point) (x : Transfer) (f : Framed) (whole : List Placed) (frames : List Framed) → facts.refused ≡ Some found
+    → AreFactsOf rollover facts at x whole frames → AreFactsOf rollover facts at x (f.placed ∷ whole) (f ∷ frames)
+facts_kept rollover facts found at x f whole frames is are =
+    facts_more rollover facts facts at x f whole frames refl refl (λ none late so. let both : None ≡ Some found = sym none ∙ is in absurd (cc)) are
 
 -- nor of what is not about the transfer
-pub facts_passed_by : (facts : ViewFacts) (at : Point) (x : Transfer) (f : Framed) (whole : List Placed) (frames : List Framed) → is_about_it x.number f ≡ false
-    → AreFactsOf facts at x whole frames → AreFactsOf facts at x (f.placed ∷ whole) (f ∷ frames)
-facts_passed_by facts at x f whole frames off are =
-    facts_more facts facts at x f whole frames refl refl (λ none late so. held_same x f facts.held.items late off so) are
+pub facts_passed_by : (rollover : Option Rollover) (facts : ViewFacts) (at : Point) (x : Transfer) (f : Framed) (whole : List Placed) (frames : List Framed) → is_about_it x.number f ≡ false
+    → AreFactsOf rollover facts at x whole frames → AreFactsOf rollover facts at x (f.placed ∷ whole) (f ∷ frames)
+facts_passed_by rollover facts at x f whole frames off are =
+    facts_more rollover facts facts at x f whole frames refl refl (λ none late so. held_same x f facts.held.items late off so) are
 
-pub facts_forgotten : (new : ViewFacts) (at : Point) (x : Transfer) (whole : List Placed) (frames : List Framed) (count : ℕ) → new.refused ≡ None → new.forgotten ≡ count → new.held.items ≡ []
-    → map (λ g. g.placed) frames ≡ whole → Accepts at x whole count → AreFactsOf new at x whole frames
-facts_forgotten new at x whole frames count refused forgotten held all accepts = record {
+pub facts_forgotten : (rollover : Option Rollover) (new : ViewFacts) (at : Point) (x : Transfer) (whole : List Placed) (frames : List Framed) (count : ℕ) → new.refused ≡ None → new.forgotten ≡ count → new.held.items ≡ []
+    → map (λ g. g.placed) frames ≡ whole → Accepts rollover at x whole count → AreFactsOf rollover new at x whole frames
+facts_forgotten rollover new at x whole frames count refused forgotten held all accepts = record {
   holds = subst (λ o. HoldsBy o new at x whole frames) (sym refused) (record {
     late = [];
     early = frames;
@@ -274,27 +275,27 @@ facts_forgotten new at x whole frames count refused forgotten held all accepts =
       subst (λ o. IsHeldBy o new.forgotten number) (sym refused) (subst (λ k. k < number) (sym forgotten) (accepts.none more number rule said));
 }
 
-pub facts_found : (new : ViewFacts) (found : Found) (at : Point) (x : Transfer) (whole : List Placed) (frames : List Framed) → new.refused ≡ Some found
-    → blamed_in at x whole frames found.number ≡ Some found.blamed → Refuses at x whole found.number → AreFactsOf new at x whole frames
-facts_found new found at x whole frames refused is refuses = record {
+pub facts_found : (rollover : Option Rollover) (new : ViewFacts) (found : Found) (at : Point) (x : Transfer) (whole : List Placed) (frames : List Framed) → new.refused ≡ Some found
+    → blamed_in at x whole frames found.number ≡ Some found.blamed → Refuses rollover at x whole found.number → AreFactsOf rollover new at x whole frames
+facts_found rollover new found at x whole frames refused is refuses = record {
   holds = subst (λ o. HoldsBy o new at x whole frames) (sym refused) (record { is = is; stays = refuses.fixed });
   enough = λ more number rule said. subst (λ o. IsHeldBy o new.forgotten number) (sym refused) (refuses.only more number rule said);
 }
 
 -- what is found among those that are held
-pub found_at : (facts : ViewFacts) (at : Point) (x : Transfer) (whole : List Placed) (frames : List Framed) (number n : ℕ) (result : Option Blamed) → facts.refused ≡ None → n ≡ x.number
+pub found_at : (rollover : Option Rollover) (facts : ViewFacts) (at : Point) (x : Transfer) (whole : List Placed) (frames : List Framed) (number n : ℕ) (result : Option Blamed) → facts.refused ≡ None → n ≡ x.number
     → (facts.forgotten < number → result ≡ option_map (λ q. q.blamed) (slice_get (filter (λ q. is_seen at n whole (placed_by q)) facts.held.items) (number - facts.forgotten - 1)))
-    → AreFactsOf facts at x whole frames → IsHeld facts number → result ≡ blamed_in at x whole frames number
-found_at facts at x whole frames number n result none own finds are held =
+    → AreFactsOf rollover facts at x whole frames → IsHeld facts number → result ≡ blamed_in at x whole frames number
+found_at rollover facts at x whole frames number n result none own finds are held =
     let above : facts.forgotten < number = subst (λ o. IsHeldBy o facts.forgotten number) none held in
     finds above
     ∙ ap (λ k. option_map (λ (q : Passed). q.blamed) (slice_get (filter (λ q. is_seen at k whole (placed_by q)) facts.held.items) (number - facts.forgotten - 1))) own
     ∙ open_at facts.forgotten facts.held.items at x whole frames number (subst (λ o. HoldsBy o facts at x whole frames) none are.holds) above
 
 -- the one that is refused
-pub kept_at : (facts : ViewFacts) (found : Found) (at : Point) (x : Transfer) (whole : List Placed) (frames : List Framed) (number : ℕ) → facts.refused ≡ Some found
-    → AreFactsOf facts at x whole frames → IsHeld facts number → (found.number ≡ number) × (Some found.blamed ≡ blamed_in at x whole frames number)
-kept_at facts found at x whole frames number is are held =
+pub kept_at : (rollover : Option Rollover) (facts : ViewFacts) (found : Found) (at : Point) (x : Transfer) (whole : List Placed) (frames : List Framed) (number : ℕ) → facts.refused ≡ Some found
+    → AreFactsOf rollover facts at x whole frames → IsHeld facts number → (found.number ≡ number) × (Some found.blamed ≡ blamed_in at x whole frames number)
+kept_at rollover facts found at x whole frames number is are held =
     let same : number ≡ found.number = subst (λ o. IsHeldBy o facts.forgotten number) is held in
     let holds : IsFound found at x whole frames = subst (λ o. HoldsBy o facts at x whole frames) is are.holds in
     (sym same, sym (ap (blamed_in at x whole frames) same ∙ holds.is))

@@ -7,7 +7,9 @@ use Rattle.tftp_packet.specs.Hosts.{Datagram, Header}
 use Rattle.law_end.specs.{OneEnded, Rule}
 use Rattle.law_model.specs.Model.{Meaning}
 use Rattle.law_tap.specs.{AreApart, BreaksNoTapRule, TapDatagram, TapSides}
-use Rattle.tftp_judge.specs.{IsJudgeAfter, IsVerdict, Judge, Refusal, Unlawful}
+use Rattle.tftp_packet.specs.{Rollover}
+use Rattle.tftp_judge.specs.{IsJudgeAfter, IsSaidBy, IsVerdict, Judge, Refusal, Unlawful, header_by}
+use Rattle.tftp_judge.proofs.TakenText.{AreTaken, front_taken, of_held, one_taken, taken_length}
 use Rattle.tftp_judge.proofs.ByRuns.{verdict}
 use Rattle.judge_tap.specs.{IsTapJudge, TapJudge, TapRefusal}
 use Rattle.judge_tap.specs.declared.refusal.TapRefusal.TheVariants as tap
@@ -15,9 +17,9 @@ use Rattle.audit_flows.specs.Lines.{Placed, is_of}
 use Rattle.audit_flows.specs.{Transfer}
 use Rattle.audit_flows.specs.Transfers.{client_view, is_at_server, is_settled, server_view}
 use Rattle.audit_views.specs.Parties.{host_name}
-use Rattle.audit_views.specs.Views.{Client, HasJudged, IsClientAfter, IsGoingOn, IsViewAfter, Server, View, ViewedBy, fed_to, captured_at_client, captured_at_server, client_capture, client_header, server_capture, server_header}
+use Rattle.audit_views.specs.Views.{Client, HasJudged, HasJudgedBy, IsClientAfterBy, IsGoingOnBy, IsViewAfterBy, Server, View, ViewedWith, fed_to, captured_at_client, captured_at_server, client_capture, client_header, server_capture, server_header}
 use Rattle.audit_views.specs.Views.Kept.{has_refused}
-use Rattle.audit_views.proofs.ViewsLemmas.Judging.{finished, stands_for}
+use Rattle.audit_views.proofs.ViewsLemmas.Judging.{finished, holds_of, said_by, stands_for}
 use Rattle.audit_views.proofs.ViewsLemmas.Settling.{at_server_stays, capture_stays}
 use Rattle.audit_recording.specs.Between.{Between, BetweenBy, HasTapped, IsBetweenAfter, IsJudgedIfApart, IsTapRefusedIn, PassedBy, TappedBy, View as Tap, are_apart, between_capture, passed_of, sides_of}
 use Rattle.audit_recording.specs.Between.Kept.{counted_by, given_to, has_refused as has_refused_between, refused_by}
@@ -63,6 +65,57 @@ refused_at_end j h given number rule is judged =
     (λ refusal was. let both : Some (Unlawful number rule) ≡ Some refusal = sym is ∙ was in let same : Unlawful number rule ≡ refusal = cc in ap (λ r. Err r) same)
     judged tt
 
+-- ---- by what comes after block 65535
+
+-- what is said is said of what the datagrams are taken for
+said_taken : (rollover : Option Rollover) (said : Result Meaning Refusal) (h : Header) (given : List Datagram) → IsSaidBy rollover said h (reverse given)
+    → (taken : List Datagram) × AreTaken rollover h given taken × IsVerdict (header_by rollover h) (reverse taken) said
+said_taken rollover said h given is =
+    let (taken, are, verdict) = of_held rollover (λ k ds. IsVerdict k ds said) h (reverse given) is in
+    (taken, subst (λ l. AreTaken rollover h l taken) (reverse-reverse given) are, verdict)
+
+judged_taken : (rollover : Option Rollover) (j : Judge) (h : Header) (given : List Datagram) → HasJudgedBy rollover j h given
+    → (taken : List Datagram) × AreTaken rollover h given taken × HasJudged j (header_by rollover h) taken
+judged_taken None j h given judged = (given, refl, judged)
+judged_taken (Some r) j h given judged = judged
+
+-- the refused one is the first of what the later and these are taken for
+first_by : (rollover : Option Rollover) (h : Header) (later given taken : List Datagram) (number : ℕ) (rule : Rule) → AreTaken rollover h given taken
+    → IsSaidBy rollover (Err (Unlawful number rule)) h (reverse (later ++ given)) → (more : List Datagram) × IsFirst (OneEnded (header_by rollover h)) (more ++ taken) number
+first_by rollover h later given taken number rule are said =
+    let (all, all_are, verdict) = said_taken rollover (Err (Unlawful number rule)) h (later ++ given) said in
+    let (more, rest, split, front) = front_taken rollover h later given all all_are in
+    (more, subst (λ l. IsFirst (OneEnded (header_by rollover h)) l number) (split ∙ ap (λ l. more ++ l) (one_taken rollover h given rest taken front are)) (first_at_end (header_by rollover h) all number rule verdict))
+
+module _ (rollover : Option Rollover) (j : Judge) (h : Header) (given : List Datagram) (judged : HasJudgedBy rollover j h given) where
+  abbrev IsSaid : List Datagram → ℕ → Rule → Type 0
+  IsSaid ds number rule = IsSaidBy rollover (Err (Unlawful number rule)) h (reverse ds)
+
+  accepted_count : j.refused ≡ None → j.fed ≡ length given
+  accepted_count none =
+      let (taken, are, has) = judged_taken rollover j h given judged in
+      (stands_for j (header_by rollover h) taken none has).fed ∙ taken_length rollover h given taken are
+
+  accepts_none : j.refused ≡ None → (later : List Datagram) (number : ℕ) (rule : Rule) → IsSaid (later ++ given) number rule → j.fed < number
+  accepts_none none later number rule said =
+      let (taken, are, has) = judged_taken rollover j h given judged in
+      let k = header_by rollover h in
+      let after : IsJudgeAfter j k taken = stands_for j k taken none has in
+      let (more, first) = first_by rollover h later given taken number rule are said in
+      subst (λ n. n < number) (sym after.fed) (none_of_lawful (OneEnded k) (before_ended k) more taken number after.lawful first)
+
+  refused_said : (number : ℕ) (rule : Rule) → j.refused ≡ Some (Unlawful number rule) → IsSaid given number rule
+  refused_said number rule is =
+      said_by rollover (Err (Unlawful number rule)) h given
+      (holds_of rollover (HasJudged j) (λ k taken. IsVerdict k (reverse taken) (Err (Unlawful number rule))) h given (λ k taken has. refused_at_end j k taken number rule is has) judged)
+
+  refuses_one : (number : ℕ) (rule : Rule) → j.refused ≡ Some (Unlawful number rule) → (later : List Datagram) (other : ℕ) (by_rule : Rule) → IsSaid (later ++ given) other by_rule → other ≡ number
+  refuses_one number rule is later other by_rule said =
+      let (taken, are, has) = judged_taken rollover j h given judged in
+      let k = header_by rollover h in
+      let (more, first) = first_by rollover h later given taken other by_rule are said in
+      one_first (OneEnded k) (before_ended k) more taken number other (first_at_end k taken number rule (refused_at_end j k taken number rule is has)) first
+
 -- ---- at the client
 
 client_more : (x : Transfer) (more whole : List Placed) → client_capture host_name x (more ++ whole) ≡ client_capture host_name x more ++ client_capture host_name x whole
@@ -70,55 +123,52 @@ client_more x more whole =
     ap (map (captured_at_client host_name x)) (filter-append (is_of x.number) more whole)
     ∙ map-append (captured_at_client host_name x) (client_view x.number more) (client_view x.number whole)
 
-client_first : (x : Transfer) (more whole : List Placed) (number : ℕ) (rule : Rule) → IsRefusedAt point.Client x (more ++ whole) number rule
-    → IsFirst (OneEnded (client_header x)) (client_capture host_name x more ++ client_capture host_name x whole) number
-client_first x more whole number rule said =
-    subst (λ l. IsFirst (OneEnded (client_header x)) l number) (client_more x more whole) (first_at_end (client_header x) (client_capture host_name x (more ++ whole)) number rule said)
+client_said : (rollover : Option Rollover) (x : Transfer) (more whole : List Placed) (number : ℕ) (rule : Rule) → IsRefusedAt rollover point.Client x (more ++ whole) number rule
+    → IsSaidBy rollover (Err (Unlawful number rule)) (client_header x) (reverse (client_capture host_name x more ++ client_capture host_name x whole))
+client_said rollover x more whole number rule said = subst (λ l. IsSaidBy rollover (Err (Unlawful number rule)) (client_header x) (reverse l)) (client_more x more whole) said
 
-client_accepts : (c : Client) (whole : List Placed) → c.end.judge.refused ≡ None → IsClientAfter c host_name whole → Accepts point.Client c.transfer whole c.end.judge.fed
-client_accepts c whole none judged =
-    let h = client_header c.transfer in
-    let after : IsJudgeAfter c.end.judge h (client_capture host_name c.transfer whole) = stands_for c.end.judge h (client_capture host_name c.transfer whole) none judged in
+client_accepts : (rollover : Option Rollover) (c : Client) (whole : List Placed) → c.end.judge.refused ≡ None → IsClientAfterBy rollover c host_name whole → Accepts rollover point.Client c.transfer whole c.end.judge.fed
+client_accepts rollover c whole none judged =
+    let x = c.transfer in
+    let h = client_header x in
+    let given = client_capture host_name x whole in
     record {
       fixed = λ more p. refl;
-      all = after.fed ∙ length-map (client_view c.transfer.number whole) (captured_at_client host_name c.transfer);
-      none = λ more number rule said.
-          subst (λ n. n < number) (sym after.fed)
-          (none_of_lawful (OneEnded h) (before_ended h) (client_capture host_name c.transfer more) (client_capture host_name c.transfer whole) number after.lawful (client_first c.transfer more whole number rule said));
+      all = accepted_count rollover c.end.judge h given judged none ∙ length-map (client_view x.number whole) (captured_at_client host_name x);
+      none = λ more number rule said. accepts_none rollover c.end.judge h given judged none (client_capture host_name x more) number rule (client_said rollover x more whole number rule said);
     }
 
-client_refuses : (c : Client) (whole : List Placed) (number : ℕ) (rule : Rule) → c.end.judge.refused ≡ Some (Unlawful number rule) → IsClientAfter c host_name whole
-    → Refuses point.Client c.transfer whole number
-client_refuses c whole number rule is judged =
-    let h = client_header c.transfer in
-    let said : IsRefusedAt point.Client c.transfer whole number rule = refused_at_end c.end.judge h (client_capture host_name c.transfer whole) number rule is judged in
+client_refuses : (rollover : Option Rollover) (c : Client) (whole : List Placed) (number : ℕ) (rule : Rule) → c.end.judge.refused ≡ Some (Unlawful number rule) → IsClientAfterBy rollover c host_name whole
+    → Refuses rollover point.Client c.transfer whole number
+client_refuses rollover c whole number rule is judged =
+    let x = c.transfer in
+    let h = client_header x in
+    let given = client_capture host_name x whole in
     record {
       fixed = λ more p. refl;
       rule = rule;
-      refused = said;
-      only = λ more other by_rule there.
-          one_first (OneEnded h) (before_ended h) (client_capture host_name c.transfer more) (client_capture host_name c.transfer whole) number other
-          (first_at_end h (client_capture host_name c.transfer whole) number rule said) (client_first c.transfer more whole other by_rule there);
+      refused = refused_said rollover c.end.judge h given judged number rule is;
+      only = λ more other by_rule there. refuses_one rollover c.end.judge h given judged number rule is (client_capture host_name x more) other by_rule (client_said rollover x more whole other by_rule there);
     }
 
-pub accepts_at_client : (c : Client) (x : Transfer) (whole : List Placed) → c.transfer ≡ x → c.end.judge.refused ≡ None → IsClientAfter c host_name whole → Accepts point.Client x whole c.end.judge.fed
-accepts_at_client c x whole own none judged = subst (λ (y : Transfer). Accepts point.Client y whole c.end.judge.fed) own (client_accepts c whole none judged)
+pub accepts_at_client : (rollover : Option Rollover) (c : Client) (x : Transfer) (whole : List Placed) → c.transfer ≡ x → c.end.judge.refused ≡ None → IsClientAfterBy rollover c host_name whole → Accepts rollover point.Client x whole c.end.judge.fed
+accepts_at_client rollover c x whole own none judged = subst (λ (y : Transfer). Accepts rollover point.Client y whole c.end.judge.fed) own (client_accepts rollover c whole none judged)
 
-pub refuses_at_client : (c : Client) (x : Transfer) (whole : List Placed) (number : ℕ) (rule : Rule) → c.transfer ≡ x → c.end.judge.refused ≡ Some (Unlawful number rule) → IsClientAfter c host_name whole
-    → Refuses point.Client x whole number
-refuses_at_client c x whole number rule own is judged = subst (λ (y : Transfer). Refuses point.Client y whole number) own (client_refuses c whole number rule is judged)
+pub refuses_at_client : (rollover : Option Rollover) (c : Client) (x : Transfer) (whole : List Placed) (number : ℕ) (rule : Rule) → c.transfer ≡ x → c.end.judge.refused ≡ Some (Unlawful number rule) → IsClientAfterBy rollover c host_name whole
+    → Refuses rollover point.Client x whole number
+refuses_at_client rollover c x whole number rule own is judged = subst (λ (y : Transfer). Refuses rollover point.Client y whole number) own (client_refuses rollover c whole number rule is judged)
 
 -- ---- at the server
 
 -- its judge was given the server's view
-record IsServing (v : View) (whole : List Placed) : Type 0 where
+record IsServing (rollover : Option Rollover) (v : View) (whole : List Placed) : Type 0 where
   pub server : Server
   pub is : v.judge ≡ Some server
-  pub going : IsGoingOn server v host_name whole
+  pub going : IsGoingOnBy rollover server v host_name whole
 
-serving : (v : View) (whole : List Placed) → is_settled v.transfer.number whole ≡ true → IsViewAfter v host_name whole → IsServing v whole
-serving v whole settled = by v.judge refl where
-  by : (o : Option Server) → v.judge ≡ o → ViewedBy o v host_name whole → IsServing v whole
+serving : (rollover : Option Rollover) (v : View) (whole : List Placed) → is_settled v.transfer.number whole ≡ true → IsViewAfterBy rollover v host_name whole → IsServing rollover v whole
+serving rollover v whole settled = by v.judge refl where
+  by : (o : Option Server) → v.judge ≡ o → ViewedWith rollover o v host_name whole → IsServing rollover v whole
   by None none waits = absurd (true≢false (sym settled ∙ waits.unsettled))
   by (Some s) is going = record { server = s; is = is; going = going }
 
@@ -131,37 +181,33 @@ server_more x more whole settled =
     ∙ map-append as_captured (filter seen more) (filter seen whole)
     ∙ ap (λ l. server_capture host_name x (more ++ whole) more ++ l) (sym (capture_stays host_name x more whole settled whole))
 
-server_first : (x : Transfer) (more whole : List Placed) (number : ℕ) (rule : Rule) → is_settled x.number whole ≡ true → IsRefusedAt point.Server x (more ++ whole) number rule
-    → IsFirst (OneEnded (server_header x)) (server_capture host_name x (more ++ whole) more ++ server_capture host_name x whole whole) number
-server_first x more whole number rule settled said =
-    subst (λ l. IsFirst (OneEnded (server_header x)) l number) (server_more x more whole settled) (first_at_end (server_header x) (server_capture host_name x (more ++ whole) (more ++ whole)) number rule said)
+server_said : (rollover : Option Rollover) (x : Transfer) (more whole : List Placed) (number : ℕ) (rule : Rule) → is_settled x.number whole ≡ true → IsRefusedAt rollover point.Server x (more ++ whole) number rule
+    → IsSaidBy rollover (Err (Unlawful number rule)) (server_header x) (reverse (server_capture host_name x (more ++ whole) more ++ server_capture host_name x whole whole))
+server_said rollover x more whole number rule settled said = subst (λ l. IsSaidBy rollover (Err (Unlawful number rule)) (server_header x) (reverse l)) (server_more x more whole settled) said
 
-module _ (s : Server) (whole : List Placed) (settled : is_settled s.transfer.number whole ≡ true) (judged : HasJudged s.end.judge (server_header s.transfer) (server_capture host_name s.transfer whole whole)) where
-  server_accepts : s.end.judge.refused ≡ None → Accepts point.Server s.transfer whole s.end.judge.fed
+module _ (rollover : Option Rollover) (s : Server) (whole : List Placed) (settled : is_settled s.transfer.number whole ≡ true)
+    (judged : HasJudgedBy rollover s.end.judge (server_header s.transfer) (server_capture host_name s.transfer whole whole)) where
+  server_accepts : s.end.judge.refused ≡ None → Accepts rollover point.Server s.transfer whole s.end.judge.fed
   server_accepts none =
       let x = s.transfer in
       let h = server_header x in
-      let after : IsJudgeAfter s.end.judge h (server_capture host_name x whole whole) = stands_for s.end.judge h (server_capture host_name x whole whole) none judged in
+      let given = server_capture host_name x whole whole in
       record {
         fixed = λ more p. at_server_stays x.number more whole settled p;
-        all = after.fed ∙ length-map (filter (is_at_server x.number whole) whole) (captured_at_server host_name x whole);
-        none = λ more number rule said.
-            subst (λ n. n < number) (sym after.fed)
-            (none_of_lawful (OneEnded h) (before_ended h) (server_capture host_name x (more ++ whole) more) (server_capture host_name x whole whole) number after.lawful (server_first x more whole number rule settled said));
+        all = accepted_count rollover s.end.judge h given judged none ∙ length-map (filter (is_at_server x.number whole) whole) (captured_at_server host_name x whole);
+        none = λ more number rule said. accepts_none rollover s.end.judge h given judged none (server_capture host_name x (more ++ whole) more) number rule (server_said rollover x more whole number rule settled said);
       }
 
-  server_refuses : (number : ℕ) (rule : Rule) → s.end.judge.refused ≡ Some (Unlawful number rule) → Refuses point.Server s.transfer whole number
+  server_refuses : (number : ℕ) (rule : Rule) → s.end.judge.refused ≡ Some (Unlawful number rule) → Refuses rollover point.Server s.transfer whole number
   server_refuses number rule is =
       let x = s.transfer in
       let h = server_header x in
-      let said : IsRefusedAt point.Server x whole number rule = refused_at_end s.end.judge h (server_capture host_name x whole whole) number rule is judged in
+      let given = server_capture host_name x whole whole in
       record {
         fixed = λ more p. at_server_stays x.number more whole settled p;
         rule = rule;
-        refused = said;
-        only = λ more other by_rule there.
-            one_first (OneEnded h) (before_ended h) (server_capture host_name x (more ++ whole) more) (server_capture host_name x whole whole) number other
-            (first_at_end h (server_capture host_name x whole whole) number rule said) (server_first x more whole other by_rule settled there);
+        refused = refused_said rollover s.end.judge h given judged number rule is;
+        only = λ more other by_rule there. refuses_one rollover s.end.judge h given judged number rule is (server_capture host_name x (more ++ whole) more) other by_rule (server_said rollover x more whole other by_rule settled there);
       }
 
 has_refused_by : (v : View) (s : Server) → v.judge ≡ Some s → has_refused v ≡ s.end.judge.refused
@@ -170,9 +216,9 @@ has_refused_by v s is = rw is refl
 fed_by : (v : View) (s : Server) → v.judge ≡ Some s → fed_to v ≡ s.end.judge.fed
 fed_by v s is = rw is refl
 
-module _ (v : View) (x : Transfer) (whole : List Placed) (own : v.transfer ≡ x) (settled : is_settled x.number whole ≡ true) (after : IsViewAfter v host_name whole) where
-  serves : IsServing v whole
-  serves = serving v whole (ap (λ (y : Transfer). is_settled y.number whole) own ∙ settled) after
+module _ (rollover : Option Rollover) (v : View) (x : Transfer) (whole : List Placed) (own : v.transfer ≡ x) (settled : is_settled x.number whole ≡ true) (after : IsViewAfterBy rollover v host_name whole) where
+  serves : IsServing rollover v whole
+  serves = serving rollover v whole (ap (λ (y : Transfer). is_settled y.number whole) own ∙ settled) after
 
   its_own : serves.server.transfer ≡ x
   its_own = serves.going.transfer ∙ own
@@ -180,16 +226,16 @@ module _ (v : View) (x : Transfer) (whole : List Placed) (own : v.transfer ≡ x
   its_settled : is_settled serves.server.transfer.number whole ≡ true
   its_settled = ap (λ (y : Transfer). is_settled y.number whole) its_own ∙ settled
 
-  pub accepts_at_server : has_refused v ≡ None → Accepts point.Server x whole (fed_to v)
+  pub accepts_at_server : has_refused v ≡ None → Accepts rollover point.Server x whole (fed_to v)
   accepts_at_server none =
-      subst (λ n. Accepts point.Server x whole n) (sym (fed_by v serves.server serves.is))
-      (subst (λ (y : Transfer). Accepts point.Server y whole serves.server.end.judge.fed) its_own
-      (server_accepts serves.server whole its_settled serves.going.after.judged (sym (has_refused_by v serves.server serves.is) ∙ none)))
+      subst (λ n. Accepts rollover point.Server x whole n) (sym (fed_by v serves.server serves.is))
+      (subst (λ (y : Transfer). Accepts rollover point.Server y whole serves.server.end.judge.fed) its_own
+      (server_accepts rollover serves.server whole its_settled serves.going.after.judged (sym (has_refused_by v serves.server serves.is) ∙ none)))
 
-  pub refuses_at_server : (number : ℕ) (rule : Rule) → has_refused v ≡ Some (Unlawful number rule) → Refuses point.Server x whole number
+  pub refuses_at_server : (number : ℕ) (rule : Rule) → has_refused v ≡ Some (Unlawful number rule) → Refuses rollover point.Server x whole number
   refuses_at_server number rule is =
-      subst (λ (y : Transfer). Refuses point.Server y whole number) its_own
-      (server_refuses serves.server whole its_settled serves.going.after.judged number rule (sym (has_refused_by v serves.server serves.is) ∙ is))
+      subst (λ (y : Transfer). Refuses rollover point.Server y whole number) its_own
+      (server_refuses rollover serves.server whole its_settled serves.going.after.judged number rule (sym (has_refused_by v serves.server serves.is) ∙ is))
 
 -- ---- between the ends
 
@@ -212,9 +258,9 @@ between_more x more whole =
     ap (map (λ p. passed_of p.datagram)) (filter-append (is_of x.number) more whole)
     ∙ map-append (λ p. passed_of p.datagram) (client_view x.number more) (client_view x.number whole)
 
-between_first : (x : Transfer) (more whole : List Placed) (number : ℕ) (rule : Rule) → is_settled x.number whole ≡ true → IsRefusedAt point.Between x (more ++ whole) number rule
+between_first : (rollover : Option Rollover) (x : Transfer) (more whole : List Placed) (number : ℕ) (rule : Rule) → is_settled x.number whole ≡ true → IsRefusedAt rollover point.Between x (more ++ whole) number rule
     → IsFirst (BreaksNoTapRule (sides_of x whole)) (between_capture x more ++ between_capture x whole) number
-between_first x more whole number rule settled said =
+between_first rollover x more whole number rule settled said =
     subst (λ (s : TapSides). IsFirst (BreaksNoTapRule s) (between_capture x more ++ between_capture x whole) number) (sides_stay x more whole settled)
     (subst (λ l. IsFirst (BreaksNoTapRule (sides_of x (more ++ whole))) l number) (between_more x more whole)
     (first_between (sides_of x (more ++ whole)) (between_capture x (more ++ whole)) number rule said.1 said.2))
@@ -242,15 +288,15 @@ is_apart s e =
     let both = neither (same_peer s.client s.server) (same_peer s.client s.asked) e in
     record { server = λ same. true≢false (sym (same_is s.client s.server same) ∙ both.0); asked = λ same. true≢false (sym (same_is s.client s.asked same) ∙ both.1) }
 
-module _ (x : Transfer) (whole : List Placed) (settled : is_settled x.number whole ≡ true) (b : Between) (sides : b.sides ≡ sides_of x whole) (one : IsJudgedIfApart b) where
+module _ (rollover : Option Rollover) (x : Transfer) (whole : List Placed) (settled : is_settled x.number whole ≡ true) (b : Between) (sides : b.sides ≡ sides_of x whole) (one : IsJudgedIfApart b) where
   -- where there is no judge, nothing is said
-  nothing_said : b.judge ≡ None → (more : List Placed) (number : ℕ) (rule : Rule) → IsRefusedAt point.Between x (more ++ whole) number rule → ⊥
+  nothing_said : b.judge ≡ None → (more : List Placed) (number : ℕ) (rule : Rule) → IsRefusedAt rollover point.Between x (more ++ whole) number rule → ⊥
   nothing_said none more number rule said =
       not_apart b.sides (sym one ∙ ap is_some none) (subst AreApart (sides_stay x more whole settled ∙ sym sides) said.0)
 
-  tap_accepts : PassedBy b.judge b (between_capture x whole) → refused_by b ≡ None → Accepts point.Between x whole (counted_by b)
+  tap_accepts : PassedBy b.judge b (between_capture x whole) → refused_by b ≡ None → Accepts rollover point.Between x whole (counted_by b)
   tap_accepts passed clear = by b.judge refl where
-    by : (o : Option TapJudge) → b.judge ≡ o → Accepts point.Between x whole (counted_by b)
+    by : (o : Option TapJudge) → b.judge ≡ o → Accepts rollover point.Between x whole (counted_by b)
     by None none =
         let counted : counted_by b ≡ b.counted = rw none refl in
         let all : b.counted ≡ length (between_capture x whole) = subst (λ o. PassedBy o b (between_capture x whole)) none passed in
@@ -270,12 +316,12 @@ module _ (x : Transfer) (whole : List Placed) (settled : is_settled x.number who
           none = λ more number rule said.
               subst (λ n. n < number) (sym (counted ∙ after.fed))
               (none_of_lawful (BreaksNoTapRule (sides_of x whole)) (before_passed (sides_of x whole)) (between_capture x more) (between_capture x whole) number
-              (subst (λ (s : TapSides). BreaksNoTapRule s (between_capture x whole)) sides after.lawful) (between_first x more whole number rule settled said));
+              (subst (λ (s : TapSides). BreaksNoTapRule s (between_capture x whole)) sides after.lawful) (between_first rollover x more whole number rule settled said));
         }
 
-  tap_refuses : (number : ℕ) (rule : Rule) (stands : Option Bool) → PassedBy b.judge b (between_capture x whole) → refused_by b ≡ Some (tap.Unlawful number rule stands) → Refuses point.Between x whole number
+  tap_refuses : (number : ℕ) (rule : Rule) (stands : Option Bool) → PassedBy b.judge b (between_capture x whole) → refused_by b ≡ Some (tap.Unlawful number rule stands) → Refuses rollover point.Between x whole number
   tap_refuses number rule stands passed refused = by b.judge refl where
-    by : (o : Option TapJudge) → b.judge ≡ o → Refuses point.Between x whole number
+    by : (o : Option TapJudge) → b.judge ≡ o → Refuses rollover point.Between x whole number
     by None none =
         let no : refused_by b ≡ None = rw none refl in
         let both : None ≡ Some (tap.Unlawful number rule stands) = sym no ∙ refused in absurd (cc)
@@ -290,7 +336,7 @@ module _ (x : Transfer) (whole : List Placed) (settled : is_settled x.number who
           refused = (subst AreApart sides (is_apart b.sides (sym one ∙ ap is_some is)), stands, here);
           only = λ more other by_rule there.
               one_first (BreaksNoTapRule (sides_of x whole)) (before_passed (sides_of x whole)) (between_capture x more) (between_capture x whole) number other
-              (first_between (sides_of x whole) (between_capture x whole) number rule stands here) (between_first x more whole other by_rule settled there);
+              (first_between (sides_of x whole) (between_capture x whole) number rule stands here) (between_first rollover x more whole other by_rule settled there);
         }
 
 -- ---- in the view
@@ -298,7 +344,7 @@ module _ (x : Transfer) (whole : List Placed) (settled : is_settled x.number who
 refuses_by : (v : Tap) (b : Between) → v.judge ≡ Some b → has_refused_between v ≡ refused_by b
 refuses_by v b is = rw is refl
 
-module _ (v : Tap) (x : Transfer) (whole : List Placed) (own : v.transfer ≡ x) (settled : is_settled x.number whole ≡ true) (after : IsBetweenAfter v whole)
+module _ (rollover : Option Rollover) (v : Tap) (x : Transfer) (whole : List Placed) (own : v.transfer ≡ x) (settled : is_settled x.number whole ≡ true) (after : IsBetweenAfter v whole)
     (one : IfSome v.judge IsJudgedIfApart) where
   taps : IsTapping v x whole
   taps = subst (λ (y : Transfer). IsTapping v y whole) own (tapping v whole (ap (λ (y : Transfer). is_settled y.number whole) own ∙ settled) after)
@@ -306,18 +352,24 @@ module _ (v : Tap) (x : Transfer) (whole : List Placed) (own : v.transfer ≡ x)
   one_judge : IsJudgedIfApart taps.between
   one_judge = subst (λ o. IfSome o IsJudgedIfApart) taps.is one
 
-  pub accepts_between : has_refused_between v ≡ None → Accepts point.Between x whole (given_to v)
+  pub accepts_between : has_refused_between v ≡ None → Accepts rollover point.Between x whole (given_to v)
   accepts_between none =
-      subst (λ n. Accepts point.Between x whole n) (sym (given_by v taps.between taps.is))
-      (tap_accepts x whole settled taps.between taps.sides one_judge taps.passed (sym (refuses_by v taps.between taps.is) ∙ none))
+      subst (λ n. Accepts rollover point.Between x whole n) (sym (given_by v taps.between taps.is))
+      (tap_accepts rollover x whole settled taps.between taps.sides one_judge taps.passed (sym (refuses_by v taps.between taps.is) ∙ none))
 
-  pub refuses_between : (number : ℕ) (rule : Rule) (stands : Option Bool) → has_refused_between v ≡ Some (tap.Unlawful number rule stands) → Refuses point.Between x whole number
+  pub refuses_between : (number : ℕ) (rule : Rule) (stands : Option Bool) → has_refused_between v ≡ Some (tap.Unlawful number rule stands) → Refuses rollover point.Between x whole number
   refuses_between number rule stands is =
-      tap_refuses x whole settled taps.between taps.sides one_judge number rule stands taps.passed (sym (refuses_by v taps.between taps.is) ∙ is)
+      tap_refuses rollover x whole settled taps.between taps.sides one_judge number rule stands taps.passed (sym (refuses_by v taps.between taps.is) ∙ is)
 
 -- ---- the first datagram is the one with number 1
 
-pub from_1 : (p : Point) (x : Transfer) (whole : List Placed) (number : ℕ) (rule : Rule) → IsRefusedAt p x whole number rule → 0 < number
-from_1 point.Client x whole number rule said = let at = (first_at_end (client_header x) (client_capture host_name x whole) number rule said).number_is in omega (arith, at)
-from_1 point.Server x whole number rule said = let at = (first_at_end (server_header x) (server_capture host_name x whole whole) number rule said).number_is in omega (arith, at)
-from_1 point.Between x whole number rule said = let at = said.2.refused.0 in omega (arith, at)
+above_none : (rollover : Option Rollover) (h : Header) (given : List Datagram) (number : ℕ) (rule : Rule) → IsSaidBy rollover (Err (Unlawful number rule)) h (reverse given) → 0 < number
+above_none rollover h given number rule said =
+    let (taken, are, verdict) = said_taken rollover (Err (Unlawful number rule)) h given said in
+    let at = (first_at_end (header_by rollover h) taken number rule verdict).number_is in
+    omega (arith, at)
+
+pub from_1 : (rollover : Option Rollover) (p : Point) (x : Transfer) (whole : List Placed) (number : ℕ) (rule : Rule) → IsRefusedAt rollover p x whole number rule → 0 < number
+from_1 rollover point.Client x whole number rule said = above_none rollover (client_header x) (client_capture host_name x whole) number rule said
+from_1 rollover point.Server x whole number rule said = above_none rollover (server_header x) (server_capture host_name x whole whole) number rule said
+from_1 rollover point.Between x whole number rule said = let at = said.2.refused.0 in omega (arith, at)

@@ -11,7 +11,7 @@ use Rattle.audit_flows.proofs.TransfersLemmas.OwnDatagrams.{about_none, answered
 use Rattle.audit_recording.specs.declared.blame.blame.Blame.{Blame}
 use Rattle.audit_recording.specs.declared.judges.judging.Judging.{Judging}
 use Rattle.audit_recording.specs.declared.rows.row.Point.TheVariants.{Client, Server, Between}
-use Rattle.audit_recording.specs.Judges.{points_of}
+use Rattle.audit_recording.specs.Judges.{points_of, rollover_of}
 use Rattle.audit_recording.specs.Blame.Frames.{Carried, Framed, framed, framed_after, seen_of, view_of, whole_of}
 use Rattle.audit_recording.specs.Blame.Kept.{AreFactsOf, IsBlameOf, IsNoted, IsPassing, IsTrailBetween, IsTrailOf, comes_to, first_frame, is_about_it, is_copied, is_damaged, last_frame, last_time_in, passed_of, sent_of}
 use Rattle.audit_recording.specs.Reasons.Twice.{IsTwiceAfter, sent}
@@ -91,8 +91,8 @@ comes_by n p older may agrees rests is_may is_late is_resting =
 pub blame_passed_by : (b : Blame) (judging : Judging) (x : Transfer) (f : Framed) (whole : List Placed) (frames : List Framed) → is_about_it x.number f ≡ false
     → IsBlameOf b judging x whole frames → IsBlameOf b judging x (f.placed ∷ whole) (f ∷ frames)
 blame_passed_by b judging x f whole frames off are = record {
-  client = λ there. facts_passed_by b.at_client Client x f whole frames off (are.client there);
-  server = λ there. facts_passed_by b.at_server Server x f whole frames off (are.server there);
+  client = λ there. facts_passed_by (rollover_of judging) b.at_client Client x f whole frames off (are.client there);
+  server = λ there. facts_passed_by (rollover_of judging) b.at_server Server x f whole frames off (are.server there);
 }
 
 -- ---- before any datagram of the transfer
@@ -374,7 +374,7 @@ trail_passed_by t judging x named c carried off was =
 pub between_passed_by : (t : Trail) (judging : Judging) (x : Transfer) (named : List ℕ) (c : Carried) (carried : List Carried) → is_about_it x.number (framed_after named carried c) ≡ false
     → IsTrailBetween t judging x named carried → IsTrailBetween t judging x named (c ∷ carried)
 between_passed_by t judging x named c carried off was there =
-    facts_passed_by t.blame.between Between x (framed_after named carried c) (whole_of named carried) (framed named carried) off (was there)
+    facts_passed_by (rollover_of judging) t.blame.between Between x (framed_after named carried c) (whole_of named carried) (framed named carried) off (was there)
 
 -- ---- none yet
 

@@ -3,6 +3,7 @@ use Rattle.std.proofs.Common.{◌≡◌, Bool, true, false, List, [], ◌∷◌,
 use Rattle.std.proofs.lemmas.Bool.{or_parts}
 use Rattle.std.specs.Bool.{then_some}
 use Rattle.std.proofs.lemmas.List.Elements.{All-head, All-tail}
+use Rattle.tftp_packet.specs.{Rollover}
 use Rattle.audit_flows.specs.Lines.{Placed, may_be_answer_of}
 use Rattle.audit_flows.specs.{Transfer}
 use Rattle.audit_flows.specs.Transfers.{is_about, is_answered_apart, is_it}
@@ -10,9 +11,9 @@ use Rattle.audit_views.specs.Views.{Naming, Client, View}
 use Rattle.audit_recording.specs.Between.{View as Between}
 use Rattle.audit_recording.proofs.BetweenLemmas.Holding.{passes_by as between_passes_by}
 use Rattle.audit_flows.proofs.TransfersLemmas.OwnDatagrams.{about_none}
-use Rattle.audit_views.proofs.ViewsLemmas.Holding.{passes_by}
-use Rattle.audit_views.proofs.ViewsLemmas.Passing.{client_passes_by, doubts_pass_by}
-use Rattle.audit_recording.specs.Judges.{AreJudgesAfter, BetweenStands, ClientStands, IsUnheard, IsWatching, Judges, ServerStands, Watched}
+use Rattle.audit_views.proofs.ViewsLemmas.Holding.{view_passes}
+use Rattle.audit_views.proofs.ViewsLemmas.Passing.{client_passes, doubts_pass_by}
+use Rattle.audit_recording.specs.Judges.{AreJudgesAfter, BetweenStands, ClientStands, IsUnheard, IsWatching, Judges, ServerStands, Watched, rollover_of}
 use Rattle.audit_recording.specs.declared.judges.judging.Judging.{Judging}
 
 -- ---- at each point
@@ -37,15 +38,15 @@ pub away_of : {X : Type 0} (transfer_of : X → Transfer) (judge : Option X) (x 
 away_of transfer_of None x p off of = of
 away_of transfer_of (Some j) x p off of = ap (λ (y : Transfer). is_about y.number p) of ∙ off
 
-client_on : (client : Option Client) (x : Transfer) (name : Naming) (p : Placed) (older : List Placed) → is_about x.number p ≡ false
-    → ClientStands client x name older → ClientStands client x name (p ∷ older)
-client_on None x name p older off stands = stands
-client_on (Some c) x name p older off stands = (stands.0, client_passes_by c name p older (ap (λ (y : Transfer). is_about y.number p) stands.0 ∙ off) stands.1)
+client_on : (rollover : Option Rollover) (client : Option Client) (x : Transfer) (name : Naming) (p : Placed) (older : List Placed) → is_about x.number p ≡ false
+    → ClientStands rollover client x name older → ClientStands rollover client x name (p ∷ older)
+client_on rollover None x name p older off stands = stands
+client_on rollover (Some c) x name p older off stands = (stands.0, client_passes rollover c name p older (ap (λ (y : Transfer). is_about y.number p) stands.0 ∙ off) stands.1)
 
-server_on : (server : Option View) (x : Transfer) (name : Naming) (p : Placed) (older : List Placed) → is_about x.number p ≡ false
-    → ServerStands server x name older → ServerStands server x name (p ∷ older)
-server_on None x name p older off stands = stands
-server_on (Some v) x name p older off stands = (stands.0, passes_by v name p older (ap (λ (y : Transfer). is_about y.number p) stands.0 ∙ off) stands.1)
+server_on : (rollover : Option Rollover) (server : Option View) (x : Transfer) (name : Naming) (p : Placed) (older : List Placed) → is_about x.number p ≡ false
+    → ServerStands rollover server x name older → ServerStands rollover server x name (p ∷ older)
+server_on rollover None x name p older off stands = stands
+server_on rollover (Some v) x name p older off stands = (stands.0, view_passes rollover v name p older (ap (λ (y : Transfer). is_about y.number p) stands.0 ∙ off) stands.1)
 
 between_on : (between : Option Between) (x : Transfer) (name : Naming) (p : Placed) (older : List Placed) → is_about x.number p ≡ false
     → BetweenStands between x name older → BetweenStands between x name (p ∷ older)
@@ -53,12 +54,12 @@ between_on None x name p older off stands = stands
 between_on (Some v) x name p older off stands =
     (stands.0, λ is. between_passes_by v p older (about_none v.transfer.number p (ap (λ (y : Transfer). is_about y.number p) stands.0 ∙ off)) (stands.1 is))
 
-pub judges_on : (j : Judges) (x : Transfer) (name : Naming) (p : Placed) (older : List Placed) → is_about x.number p ≡ false
-    → AreJudgesAfter j x name older → AreJudgesAfter j x name (p ∷ older)
-judges_on j x name p older off after = record {
+pub judges_on : (rollover : Option Rollover) (j : Judges) (x : Transfer) (name : Naming) (p : Placed) (older : List Placed) → is_about x.number p ≡ false
+    → AreJudgesAfter rollover j x name older → AreJudgesAfter rollover j x name (p ∷ older)
+judges_on rollover j x name p older off after = record {
   works = after.works;
-  client = client_on j.client x name p older off after.client;
-  server = server_on j.server x name p older off after.server;
+  client = client_on rollover j.client x name p older off after.client;
+  server = server_on rollover j.server x name p older off after.server;
   between = between_on j.between x name p older off after.between;
 }
 
@@ -69,7 +70,7 @@ pub watching_on : (w : Watched) (judging : Judging) (x : Transfer) (name : Namin
 watching_on w judging x name p older off apart is = record {
   transfer = is.transfer;
   points = is.points;
-  judges = judges_on w.judges x name p older off is.judges;
+  judges = judges_on (rollover_of judging) w.judges x name p older off is.judges;
   number = is.number;
   doubts = doubts_pass_by w.doubts p older (ap (λ n. is_about n p) is.number ∙ off) (ap (λ n. is_it n (may_be_answer_of p older)) is.number ∙ apart) is.doubts;
 }

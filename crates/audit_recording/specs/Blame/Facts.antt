@@ -5,7 +5,8 @@ use Rattle.std.specs.List.{list_any}
 use Rattle.law_model.specs.Model.{Meaning}
 use Rattle.law_end.specs.{Rule}
 use Rattle.law_tap.specs.{AreApart}
-use Rattle.tftp_judge.specs.{IsVerdict, Refusal, Unlawful}
+use Rattle.tftp_packet.specs.{Rollover}
+use Rattle.tftp_judge.specs.{IsSaidBy, Refusal, Unlawful}
 use Rattle.judge_tap.specs.{TapRefusal}
 use Rattle.judge_tap.specs.declared.refusal.TapRefusal.TheVariants as tap
 use Rattle.audit_flows.specs.Lines.{Placed, begins_request, begins_unknown_id, comes_in, follows_unknown_id, is_late, is_of, same_endpoint, says_first_word, speaks_first}
@@ -65,10 +66,10 @@ abbrev pub blamed_as : Point → Transfer → List ℕ → List Carried → Opti
 blamed_as point x named carried None = None
 blamed_as point x named carried (Some number) = option_map (blamed_of x) (seen_as point x.number named carried number)
 
--- Of the whole recording it is said at the point that the datagram of that number, the first that does, breaks the rule. Between
--- the ends nothing is said of a client that asked itself.
-abbrev pub IsRefusedAt : Point → Transfer → List Placed → ℕ → Rule → Type 0
-IsRefusedAt Client x whole number rule = IsVerdict (client_header x) (reverse (client_capture host_name x whole)) (Err (Unlawful number rule))
-IsRefusedAt Server x whole number rule = IsVerdict (server_header x) (reverse (server_capture host_name x whole whole)) (Err (Unlawful number rule))
-IsRefusedAt Between x whole number rule =
+-- Of the whole recording it is said at the point that the datagram of that number, the first that does, breaks the rule; at an end by
+-- what comes after block 65535. Between the ends nothing is said of a client that asked itself.
+abbrev pub IsRefusedAt : Option Rollover → Point → Transfer → List Placed → ℕ → Rule → Type 0
+IsRefusedAt rollover Client x whole number rule = IsSaidBy rollover (Err (Unlawful number rule)) (client_header x) (reverse (client_capture host_name x whole))
+IsRefusedAt rollover Server x whole number rule = IsSaidBy rollover (Err (Unlawful number rule)) (server_header x) (reverse (server_capture host_name x whole whole))
+IsRefusedAt rollover Between x whole number rule =
     AreApart (sides_of x whole) × (stands : Option Bool) × IsBetweenVerdict (sides_of x whole) (between_capture x whole) (Err (tap.Unlawful number rule stands))

@@ -3,6 +3,7 @@
 use Rattle.std.specs.Prelude.{◌≡◌, ◌⊎◌, ◌<◌, ◌+◌, ◌^◌, ◌-◌, ◌&&◌, ◌||◌, ◌++◌, ℕ, Bool, true, List, [], ◌∷◌, filter, length, map, max, min, reverse, unwrap_or, IfSome, Option, Some, None, option_map}
 use Rattle.std.specs.List.{list_any}
 use Rattle.law_end.specs.{Rule}
+use Rattle.tftp_packet.specs.{Rollover}
 use Rattle.law_model.specs.Rules.{first_of}
 use Rattle.audit_flows.specs.Lines.{Placed, Recorded, same_endpoint}
 use Rattle.audit_flows.specs.{Transfer}
@@ -20,7 +21,7 @@ use Rattle.audit_recording.specs.declared.judges.judging.Judging.{Judging}
 use Rattle.audit_recording.specs.declared.rows.row.Point.{Point}
 use Rattle.audit_recording.specs.declared.rows.row.Point.TheVariants.{Client, Server, Between}
 use Rattle.audit_recording.specs.Endings.Kept.{IsClosingOf}
-use Rattle.audit_recording.specs.Judges.{points_of}
+use Rattle.audit_recording.specs.Judges.{points_of, rollover_of}
 use Rattle.audit_recording.specs.Blame.Frames.{Carried, Framed, framed, is_seen, numbered, seen_of, view_of, whole_of}
 use Rattle.audit_recording.specs.Blame.Named.{named_in}
 use Rattle.audit_recording.specs.Blame.Facts.{IsRefusedAt, blamed_of, has_gone_on, is_for_server}
@@ -33,22 +34,22 @@ abbrev pub IsFixed : Point → ℕ → List Placed → Type 0
 IsFixed point n whole = (more : List Placed) (p : Placed) → is_seen point n (more ++ whole) p ≡ is_seen point n whole p
 
 -- The judge at the point has accepted so many: all that was seen there, of which none is refused, whatever comes.
-pub record Accepts (point : Point) (x : Transfer) (whole : List Placed) (count : ℕ) : Type 0 where
+pub record Accepts (rollover : Option Rollover) (point : Point) (x : Transfer) (whole : List Placed) (count : ℕ) : Type 0 where
   pub fixed : IsFixed point x.number whole
   pub all : count ≡ length (filter (is_seen point x.number whole) whole)
-  pub none : (more : List Placed) (number : ℕ) (rule : Rule) → IsRefusedAt point x (more ++ whole) number rule → count < number
+  pub none : (more : List Placed) (number : ℕ) (rule : Rule) → IsRefusedAt rollover point x (more ++ whole) number rule → count < number
 
 -- It has refused the one of that number, and refuses no other, whatever comes.
-pub record Refuses (point : Point) (x : Transfer) (whole : List Placed) (number : ℕ) : Type 0 where
+pub record Refuses (rollover : Option Rollover) (point : Point) (x : Transfer) (whole : List Placed) (number : ℕ) : Type 0 where
   pub fixed : IsFixed point x.number whole
   pub rule : Rule
-  pub refused : IsRefusedAt point x whole number rule
-  pub only : (more : List Placed) (other : ℕ) (by_rule : Rule) → IsRefusedAt point x (more ++ whole) other by_rule → other ≡ number
+  pub refused : IsRefusedAt rollover point x whole number rule
+  pub only : (more : List Placed) (other : ℕ) (by_rule : Rule) → IsRefusedAt rollover point x (more ++ whole) other by_rule → other ≡ number
 
-abbrev pub IsTold : Point → Transfer → List Placed → Told → Type 0
-IsTold point x whole Nothing = Unit {0}
-IsTold point x whole (Accepted count) = Accepts point x whole count
-IsTold point x whole (Refused number) = Refuses point x whole number
+abbrev pub IsTold : Option Rollover → Point → Transfer → List Placed → Told → Type 0
+IsTold rollover point x whole Nothing = Unit {0}
+IsTold rollover point x whole (Accepted count) = Accepts rollover point x whole count
+IsTold rollover point x whole (Refused number) = Refuses rollover point x whole number
 
 -- ---- the facts of one view
 
@@ -98,18 +99,18 @@ abbrev pub IsHeld : ViewFacts → ℕ → Type 0
 IsHeld facts number = IsHeldBy facts.refused facts.forgotten number
 
 -- They are the facts of what was seen there, and of each that can be refused there, whatever comes.
-pub record AreFactsOf (facts : ViewFacts) (point : Point) (x : Transfer) (whole : List Placed) (frames : List Framed) : Type 0 where
+pub record AreFactsOf (rollover : Option Rollover) (facts : ViewFacts) (point : Point) (x : Transfer) (whole : List Placed) (frames : List Framed) : Type 0 where
   pub holds : HoldsBy facts.refused facts point x whole frames
-  pub enough : (more : List Placed) (number : ℕ) (rule : Rule) → IsRefusedAt point x (more ++ whole) number rule → IsHeld facts number
+  pub enough : (more : List Placed) (number : ℕ) (rule : Rule) → IsRefusedAt rollover point x (more ++ whole) number rule → IsHeld facts number
 
 -- the facts of each end's view where the transfer is judged
 pub record IsBlameOf (b : Blame) (judging : Judging) (x : Transfer) (whole : List Placed) (frames : List Framed) : Type 0 where
-  pub client : (points_of judging x).client ≡ true → AreFactsOf b.at_client Client x whole frames
-  pub server : (points_of judging x).server ≡ true → AreFactsOf b.at_server Server x whole frames
+  pub client : (points_of judging x).client ≡ true → AreFactsOf (rollover_of judging) b.at_client Client x whole frames
+  pub server : (points_of judging x).server ≡ true → AreFactsOf (rollover_of judging) b.at_server Server x whole frames
 
 -- the facts of what passed between the ends, where the transfer is judged there
 abbrev pub IsBlameBetween : Blame → Judging → Transfer → List Placed → List Framed → Type 0
-IsBlameBetween b judging x whole frames = (points_of judging x).between ≡ true → AreFactsOf b.between Between x whole frames
+IsBlameBetween b judging x whole frames = (points_of judging x).between ≡ true → AreFactsOf (rollover_of judging) b.between Between x whole frames
 
 -- ---- a transfer, as far as it was read
 

@@ -7,10 +7,11 @@ use Rattle.audit_flows.specs.Transfers.{placed, is_about, opened_it, is_answered
 use Rattle.audit_flows.specs.{Attribution, TransferDoubts}
 use Rattle.audit_flows.specs.Lines.{Recorded, Placed, newest_of, transfer_of}
 use Rattle.audit_flows.specs.{Transfer}
-use Rattle.audit_views.specs.Views.{Naming, Client, IsClientAfter, IsViewAfter, View, fed_to, has_refused}
+use Rattle.audit_views.specs.Views.{Naming, Client, IsClientAfterBy, IsViewAfterBy, View, fed_to, has_refused}
 use Rattle.audit_views.specs.{Party}
 use Rattle.audit_views.specs.Parties.{host_name}
 use Rattle.audit_recording.specs.Between.{IsBetweenAfter, View as Between, given_to, has_refused as refused_there}
+use Rattle.tftp_packet.specs.{Rollover}
 use Rattle.tftp_judge.specs.{Refusal}
 use Rattle.judge_tap.specs.{TapRefusal}
 use Rattle.tftp_judge.specs.declared.refusal.Refusal.TheVariants.{Memory}
@@ -18,7 +19,7 @@ use Rattle.judge_tap.specs.declared.refusal.TapRefusal.TheVariants.{Memory as Ta
 use Rattle.audit_recording.specs.declared.judges.judging.Judging.{Judging}
 use Rattle.audit_recording.specs.declared.judges.judging.Points.{Points}
 use Rattle.audit_recording.specs.declared.judges.verdicts.Verdicts.{Verdicts}
-use Rattle.audit_recording.specs.Judges.Points.{points_of}
+use Rattle.audit_recording.specs.Judges.Points.{points_of, rollover_of}
 
 -- ---- one transfer
 
@@ -33,21 +34,22 @@ pub record Judges : Type 0 where
 abbrev pub StandsAs : {J : Type 0} → (J → Transfer) → (J → Naming → List Placed → Type 0) → Option J → Transfer → Naming → List Placed → Type 0
 StandsAs judged stands judge x name placed = IfSome judge (λ j. (judged j ≡ x) × stands j name placed)
 
-abbrev pub ClientStands : Option Client → Transfer → Naming → List Placed → Type 0
-ClientStands = StandsAs (λ (c : Client). c.transfer) (λ c name placed. IsClientAfter c name placed)
+-- by what comes after block 65535
+abbrev pub ClientStands : Option Rollover → Option Client → Transfer → Naming → List Placed → Type 0
+ClientStands rollover = StandsAs (λ (c : Client). c.transfer) (λ c name placed. IsClientAfterBy rollover c name placed)
 
-abbrev pub ServerStands : Option View → Transfer → Naming → List Placed → Type 0
-ServerStands = StandsAs (λ (v : View). v.transfer) (λ v name placed. IsViewAfter v name placed)
+abbrev pub ServerStands : Option Rollover → Option View → Transfer → Naming → List Placed → Type 0
+ServerStands rollover = StandsAs (λ (v : View). v.transfer) (λ v name placed. IsViewAfterBy rollover v name placed)
 
 -- the judge between the ends wants the hosts called by their addresses
 abbrev pub BetweenStands : Option Between → Transfer → Naming → List Placed → Type 0
 BetweenStands = StandsAs (λ (v : Between). v.transfer) (λ v name placed. name ≡ host_name → IsBetweenAfter v placed)
 
 -- each of them
-pub record AreJudgesAfter (j : Judges) (x : Transfer) (name : Naming) (placed : List Placed) : Type 0 where
+pub record AreJudgesAfter (rollover : Option Rollover) (j : Judges) (x : Transfer) (name : Naming) (placed : List Placed) : Type 0 where
   pub works : j.failed ≡ false
-  pub client : ClientStands j.client x name placed
-  pub server : ServerStands j.server x name placed
+  pub client : ClientStands rollover j.client x name placed
+  pub server : ServerStands rollover j.server x name placed
   pub between : BetweenStands j.between x name placed
 
 -- each is this transfer's
@@ -129,7 +131,7 @@ pub record Watched : Type 0 where
 pub record IsWatching (w : Watched) (judging : Judging) (x : Transfer) (name : Naming) (placed : List Placed) : Type 0 where
   pub transfer : w.transfer ≡ x
   pub points : AreAt w.judges (points_of judging x)
-  pub judges : AreJudgesAfter w.judges x name placed
+  pub judges : AreJudgesAfter (rollover_of judging) w.judges x name placed
   pub number : w.doubts.number ≡ x.number
   pub doubts : IsDoubtedAfter w.doubts placed
 

@@ -66,6 +66,13 @@ impl<D: Delivered + Drop> RecordingAudit<D> {
         })
     }
 
+    /// Where the transfers are judged.
+    pub fn judging(&self) -> Judging
+        ensures { result ≡ self.now.judge.judging }
+    {
+        self.judge.judging()
+    }
+
     /// Takes what became of the next frame. Of a datagram it answers where it belongs and what it makes doubtful; nothing of a
     /// frame that has given none. A datagram of which the recording tells no time passes at that of the one before it. After
     /// a fault it has failed for good.

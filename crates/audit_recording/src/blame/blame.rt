@@ -1,6 +1,7 @@
 //! At which frames a transfer was refused, at each point where it is judged.
 
 ghost use Rattle.std.specs.Prelude.{◌≡◌, ◌∷◌, [], List, Option, OnOk, Some, filter, is_some, map, option_copied, true};
+ghost use Rattle.tftp_packet.specs.{Rollover};
 ghost use Rattle.audit_flows.specs.Lines.{Placed};
 ghost use Rattle.audit_flows.specs.{Transfer};
 ghost use Rattle.audit_flows.specs.Transfers.{AreEndsAfter};
@@ -108,11 +109,11 @@ fn take_client(
     passed: Passed,
     judge: Option<&ClientJudge<RingDelivered>>,
 ) -> Result<(), AllocError>
-    ensures { (x : Transfer) (f : Framed) (whole : List Placed) (frames : List Framed) → is_some (option_copied judge.entry) ≡ true → AreFactsOf facts.old PointKind.Client x whole frames
+    ensures { (rollover : Option Rollover) (x : Transfer) (f : Framed) (whole : List Placed) (frames : List Framed) → is_some (option_copied judge.entry) ≡ true → AreFactsOf rollover facts.old PointKind.Client x whole frames
         → passed ≡ passed_of x f → is_about_it x.number f ≡ true
         → ends.now.number ≡ x.number → AreEndsAfter ends.now (f.placed ∷ whole) → map (λ g. g.placed) frames ≡ whole
-        → ClientStands (option_copied judge.entry) x host_name (f.placed ∷ whole)
-        → OnOk result (AreFactsOf facts.new PointKind.Client x (f.placed ∷ whole) (f ∷ frames)) }
+        → ClientStands rollover (option_copied judge.entry) x host_name (f.placed ∷ whole)
+        → OnOk result (AreFactsOf rollover facts.new PointKind.Client x (f.placed ∷ whole) (f ∷ frames)) }
 {
     match judge {
         Some(judge) => facts.take(Point::Client, ends, passed, told_by_client(judge)),
@@ -127,11 +128,11 @@ fn take_server(
     passed: Passed,
     judge: Option<&ServerView<RingDelivered>>,
 ) -> Result<(), AllocError>
-    ensures { (x : Transfer) (f : Framed) (whole : List Placed) (frames : List Framed) → is_some (option_copied judge.entry) ≡ true → AreFactsOf facts.old PointKind.Server x whole frames
+    ensures { (rollover : Option Rollover) (x : Transfer) (f : Framed) (whole : List Placed) (frames : List Framed) → is_some (option_copied judge.entry) ≡ true → AreFactsOf rollover facts.old PointKind.Server x whole frames
         → passed ≡ passed_of x f → is_about_it x.number f ≡ true
         → ends.now.number ≡ x.number → AreEndsAfter ends.now (f.placed ∷ whole) → map (λ g. g.placed) frames ≡ whole
-        → ServerStands (option_copied judge.entry) x host_name (f.placed ∷ whole)
-        → OnOk result (AreFactsOf facts.new PointKind.Server x (f.placed ∷ whole) (f ∷ frames)) }
+        → ServerStands rollover (option_copied judge.entry) x host_name (f.placed ∷ whole)
+        → OnOk result (AreFactsOf rollover facts.new PointKind.Server x (f.placed ∷ whole) (f ∷ frames)) }
 {
     match judge {
         Some(judge) => facts.take(Point::Server, ends, passed, told_by_server(judge, ends)),
@@ -146,11 +147,11 @@ fn take_between(
     passed: Passed,
     judge: Option<&BetweenView<RingDelivered>>,
 ) -> Result<(), AllocError>
-    ensures { (x : Transfer) (f : Framed) (whole : List Placed) (frames : List Framed) → is_some (option_copied judge.entry) ≡ true → AreFactsOf facts.old PointKind.Between x whole frames
+    ensures { (rollover : Option Rollover) (x : Transfer) (f : Framed) (whole : List Placed) (frames : List Framed) → is_some (option_copied judge.entry) ≡ true → AreFactsOf rollover facts.old PointKind.Between x whole frames
         → passed ≡ passed_of x f → is_about_it x.number f ≡ true
         → ends.now.number ≡ x.number → AreEndsAfter ends.now (f.placed ∷ whole) → map (λ g. g.placed) frames ≡ whole
         → BetweenStands (option_copied judge.entry) x host_name (f.placed ∷ whole)
-        → OnOk result (AreFactsOf facts.new PointKind.Between x (f.placed ∷ whole) (f ∷ frames)) }
+        → OnOk result (AreFactsOf rollover facts.new PointKind.Between x (f.placed ∷ whole) (f ∷ frames)) }
 {
     match judge {
         Some(judge) => facts.take(Point::Between, ends, passed, told_between(judge, ends)),

@@ -1,7 +1,8 @@
 //! The facts of the datagrams of a view, as far as its judge may still refuse them.
 
-ghost use Rattle.std.specs.Prelude.{◌≡◌, ◌<◌, ◌-◌, ◌∷◌, [], List, OnOk, filter, map, option_map, true};
+ghost use Rattle.std.specs.Prelude.{◌≡◌, ◌<◌, ◌-◌, ◌∷◌, [], List, Option, OnOk, filter, map, option_map, true};
 ghost use Rattle.std.specs.List.{slice_get};
+ghost use Rattle.tftp_packet.specs.{Rollover};
 ghost use Rattle.audit_flows.specs.Lines.{Placed};
 ghost use Rattle.audit_flows.specs.{Transfer};
 ghost use Rattle.audit_flows.specs.Transfers.{AreEndsAfter};
@@ -40,8 +41,8 @@ pub struct Found {
 impl ViewFacts {
     /// Before any datagram of the transfer.
     pub fn new(alloc: Global) -> Self
-        ensures { (point : PointKind) (x : Transfer) (whole : List Placed) (frames : List Framed) → filter (is_about_it x.number) frames ≡ []
-            → AreFactsOf result point x whole frames }
+        ensures { (rollover : Option Rollover) (point : PointKind) (x : Transfer) (whole : List Placed) (frames : List Framed) → filter (is_about_it x.number) frames ≡ []
+            → AreFactsOf rollover result point x whole frames }
     {
         ViewFacts {
             forgotten: 0,
@@ -58,12 +59,12 @@ impl ViewFacts {
         passed: Passed,
         told: Told,
     ) -> Result<(), AllocError>
-        ensures { (x : Transfer) (f : Framed) (whole : List Placed) (frames : List Framed) → AreFactsOf self.old point x whole frames
+        ensures { (rollover : Option Rollover) (x : Transfer) (f : Framed) (whole : List Placed) (frames : List Framed) → AreFactsOf rollover self.old point x whole frames
             → passed ≡ passed_of x f → is_about_it x.number f ≡ true
             → ends.now.number ≡ x.number → AreEndsAfter ends.now (f.placed ∷ whole)
             → map (λ g. g.placed) frames ≡ whole
-            → IsTold point x (f.placed ∷ whole) told
-            → OnOk result (AreFactsOf self.new point x (f.placed ∷ whole) (f ∷ frames)) }
+            → IsTold rollover point x (f.placed ∷ whole) told
+            → OnOk result (AreFactsOf rollover self.new point x (f.placed ∷ whole) (f ∷ frames)) }
     {
         self.see(passed)?;
         self.note(point, ends, told);
@@ -72,9 +73,9 @@ impl ViewFacts {
 
     /// Holds a datagram, unless one is refused.
     fn see(&mut self, passed: Passed) -> Result<(), AllocError>
-        ensures { (point : PointKind) (x : Transfer) (f : Framed) (whole : List Placed) (frames : List Framed) → AreFactsOf self.old point x whole frames
+        ensures { (rollover : Option Rollover) (point : PointKind) (x : Transfer) (f : Framed) (whole : List Placed) (frames : List Framed) → AreFactsOf rollover self.old point x whole frames
             → passed ≡ passed_of x f → is_about_it x.number f ≡ true
-            → OnOk result (AreFactsOf self.new point x (f.placed ∷ whole) (f ∷ frames)) }
+            → OnOk result (AreFactsOf rollover self.new point x (f.placed ∷ whole) (f ∷ frames)) }
     {
         match self.refused {
             Some(_) => Ok(()),
@@ -87,9 +88,9 @@ impl ViewFacts {
 
     /// Forgets what the judge refuses no more, or all but the one that it refuses.
     fn note(&mut self, point: Point, ends: &TransferEnds, told: Told)
-        ensures { (x : Transfer) (whole : List Placed) (frames : List Framed) → AreFactsOf self.old point x whole frames
+        ensures { (rollover : Option Rollover) (x : Transfer) (whole : List Placed) (frames : List Framed) → AreFactsOf rollover self.old point x whole frames
             → ends.now.number ≡ x.number → AreEndsAfter ends.now whole → map (λ g. g.placed) frames ≡ whole
-            → IsTold point x whole told → AreFactsOf self.new point x whole frames }
+            → IsTold rollover point x whole told → AreFactsOf rollover self.new point x whole frames }
     {
         match told {
             Told::Nothing => {}
@@ -100,8 +101,8 @@ impl ViewFacts {
 
     /// Forgets what is held, since the judge has accepted so many: all of the view.
     fn forget(&mut self, count: u64)
-        ensures { (point : PointKind) (x : Transfer) (whole : List Placed) (frames : List Framed) → AreFactsOf self.old point x whole frames
-            → map (λ g. g.placed) frames ≡ whole → Accepts point x whole count → AreFactsOf self.new point x whole frames }
+        ensures { (rollover : Option Rollover) (point : PointKind) (x : Transfer) (whole : List Placed) (frames : List Framed) → AreFactsOf rollover self.old point x whole frames
+            → map (λ g. g.placed) frames ≡ whole → Accepts rollover point x whole count → AreFactsOf rollover self.new point x whole frames }
     {
         match self.refused {
             Some(_) => {}
@@ -114,9 +115,9 @@ impl ViewFacts {
 
     /// Keeps the one that is refused alone.
     fn refuse(&mut self, point: Point, ends: &TransferEnds, number: u64)
-        ensures { (x : Transfer) (whole : List Placed) (frames : List Framed) → AreFactsOf self.old point x whole frames
+        ensures { (rollover : Option Rollover) (x : Transfer) (whole : List Placed) (frames : List Framed) → AreFactsOf rollover self.old point x whole frames
             → ends.now.number ≡ x.number → AreEndsAfter ends.now whole
-            → Refuses point x whole number → AreFactsOf self.new point x whole frames }
+            → Refuses rollover point x whole number → AreFactsOf rollover self.new point x whole frames }
     {
         match (self.refused, self.find(point, ends, number)) {
             (None, Some(blamed)) => {
@@ -129,7 +130,7 @@ impl ViewFacts {
 
     /// The facts of the view's datagram with this number, from 1, where it is held.
     pub fn at(&self, point: Point, ends: &TransferEnds, number: u64) -> Option<Blamed>
-        ensures { (x : Transfer) (whole : List Placed) (frames : List Framed) → AreFactsOf self.now point x whole frames
+        ensures { (rollover : Option Rollover) (x : Transfer) (whole : List Placed) (frames : List Framed) → AreFactsOf rollover self.now point x whole frames
             → ends.now.number ≡ x.number → AreEndsAfter ends.now whole
             → IsHeld self.now number → result ≡ blamed_in point x whole frames number }
     {

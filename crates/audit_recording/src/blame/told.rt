@@ -1,6 +1,6 @@
 //! What the judges tell of the datagrams that they were given by now.
 
-ghost use Rattle.std.specs.Prelude.{◌≡◌, List};
+ghost use Rattle.std.specs.Prelude.{◌≡◌, List, Option};
 ghost use Rattle.audit_flows.specs.Lines.{Placed};
 ghost use Rattle.audit_flows.specs.{Transfer};
 ghost use Rattle.audit_flows.specs.Transfers.{AreEndsAfter};
@@ -9,7 +9,8 @@ ghost use Rattle.audit_recording.specs.Blame.Facts.{refused_between, refused_in}
 ghost use Rattle.audit_recording.specs.Blame.Kept.{IsTold};
 ghost use Rattle.audit_recording.specs.declared.rows.row.Point.{Point};
 ghost use Rattle.audit_views.specs.Parties.{host_name};
-ghost use Rattle.audit_views.specs.Views.{IsClientAfter, IsViewAfter};
+ghost use Rattle.audit_views.specs.Views.{IsClientAfterBy, IsViewAfterBy};
+ghost use Rattle.tftp_packet.specs.{Rollover};
 
 use crate::between::BetweenView;
 use audit_flows::transfers::TransferEnds;
@@ -31,8 +32,8 @@ pub enum Told {
 
 /// What the judge at the client tells.
 pub fn told_by_client(judge: &ClientJudge<RingDelivered>) -> Told
-    ensures { (x : Transfer) (whole : List Placed) → judge.now.transfer ≡ x → IsClientAfter judge.now host_name whole
-        → IsTold Point.Client x whole result }
+    ensures { (rollover : Option Rollover) (x : Transfer) (whole : List Placed) → judge.now.transfer ≡ x → IsClientAfterBy rollover judge.now host_name whole
+        → IsTold rollover Point.Client x whole result }
 {
     match judge.refused() {
         None => Told::Accepted(judge.fed()),
@@ -43,8 +44,8 @@ pub fn told_by_client(judge: &ClientJudge<RingDelivered>) -> Told
 
 /// What the judge at the server tells; these ends of the transfer are known by now.
 pub fn told_by_server(judge: &ServerView<RingDelivered>, ends: &TransferEnds) -> Told
-    ensures { (x : Transfer) (whole : List Placed) → judge.now.transfer ≡ x → ends.now.number ≡ x.number → AreEndsAfter ends.now whole
-        → IsViewAfter judge.now host_name whole → IsTold Point.Server x whole result }
+    ensures { (rollover : Option Rollover) (x : Transfer) (whole : List Placed) → judge.now.transfer ≡ x → ends.now.number ≡ x.number → AreEndsAfter ends.now whole
+        → IsViewAfterBy rollover judge.now host_name whole → IsTold rollover Point.Server x whole result }
 {
     if !ends.is_settled() {
         return Told::Nothing;
@@ -58,8 +59,8 @@ pub fn told_by_server(judge: &ServerView<RingDelivered>, ends: &TransferEnds) ->
 
 /// What the judge between the ends tells; these are known by now.
 pub fn told_between(judge: &BetweenView<RingDelivered>, ends: &TransferEnds) -> Told
-    ensures { (x : Transfer) (whole : List Placed) → judge.now.transfer ≡ x → ends.now.number ≡ x.number → AreEndsAfter ends.now whole
-        → IsBetweenAfter judge.now whole → IsTold Point.Between x whole result }
+    ensures { (rollover : Option Rollover) (x : Transfer) (whole : List Placed) → judge.now.transfer ≡ x → ends.now.number ≡ x.number → AreEndsAfter ends.now whole
+        → IsBetweenAfter judge.now whole → IsTold rollover Point.Between x whole result }
 {
     if !ends.is_settled() {
         return Told::Nothing;

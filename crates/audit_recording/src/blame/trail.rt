@@ -14,12 +14,12 @@ ghost use Rattle.audit_recording.specs.Endings.Undelivered.{undelivered_of};
 ghost use Rattle.audit_recording.specs.Endings.Pace.{IsPaceIn};
 ghost use Rattle.audit_recording.specs.Endings.Told.{IsEnding, last_of};
 ghost use Rattle.audit_recording.specs.Judges.Kept.{IsWatching};
-ghost use Rattle.audit_recording.specs.Judges.Points.{points_of};
+ghost use Rattle.audit_recording.specs.Judges.Points.{points_of, rollover_of};
 ghost use Rattle.audit_recording.specs.declared.judges.judging.Judging.{Judging as JudgingKind};
 ghost use Rattle.audit_recording.specs.declared.rows.row.Point.{Point as PointKind};
 ghost use Rattle.audit_recording.specs.Session.Intact.{discarding};
 ghost use Rattle.audit_views.specs.Parties.{host_name};
-ghost use Rattle.audit_views.specs.Views.{IsJudgedWith, client_capture, client_header, server_capture, server_header};
+ghost use Rattle.audit_views.specs.Views.{IsFoundBy, client_capture, client_header, server_capture, server_header};
 ghost use Rattle.law_tap.specs.{AreApart};
 
 use crate::blame::blame::{Blame, Blamed};
@@ -368,7 +368,7 @@ impl Trail {
     pub fn at_client(&self, verdict: &Result<Meaning, Refusal>) -> Option<Blamed>
         ensures { (judging : JudgingKind) (x : Transfer) (named : List ℕ) (carried : List Carried) → IsTrailOf self.now judging x named carried
             → (points_of judging x).client ≡ true
-            → IsJudgedWith (client_header x) (client_capture host_name x (whole_of named carried)) verdict.now
+            → IsFoundBy (rollover_of judging) (client_header x) (client_capture host_name x (whole_of named carried)) verdict.now
             → result ≡ blamed_as PointKind.Client x named carried (refused_in verdict.now) }
     {
         match refused_in(verdict) {
@@ -381,7 +381,7 @@ impl Trail {
     pub fn at_server(&self, verdict: &Result<Meaning, Refusal>) -> Option<Blamed>
         ensures { (judging : JudgingKind) (x : Transfer) (named : List ℕ) (carried : List Carried) → IsTrailOf self.now judging x named carried
             → (points_of judging x).server ≡ true
-            → IsJudgedWith (server_header x) (server_capture host_name x (whole_of named carried) (whole_of named carried)) verdict.now
+            → IsFoundBy (rollover_of judging) (server_header x) (server_capture host_name x (whole_of named carried) (whole_of named carried)) verdict.now
             → result ≡ blamed_as PointKind.Server x named carried (refused_in verdict.now) }
     {
         match refused_in(verdict) {

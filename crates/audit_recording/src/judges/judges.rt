@@ -1,6 +1,6 @@
 //! The judges of one transfer, beside each other.
 
-ghost use Rattle.std.specs.Prelude.{◌≡◌, ◌≤◌, ◌∷◌, ℕ, List, [], length, option_copied, IfSome, IsErr, OnErr, OnOk, Ok, Err, MatchBool, true, false, unwrap_or};
+ghost use Rattle.std.specs.Prelude.{◌≡◌, ◌≤◌, ◌∷◌, ℕ, List, [], length, Option, option_copied, IfSome, IsErr, OnErr, OnOk, Ok, Err, MatchBool, true, false, unwrap_or};
 ghost use Rattle.audit_recording.specs.Between.{between_capture, is_to_itself, sides_of, IsBetweenVerdict};
 ghost use Rattle.audit_views.specs.Parties.{host_name};
 ghost use Rattle.audit_recording.specs.Judges.Kept.{AreAt, AreFew, AreJudgesAfter, AreOf, AreRefusalsTold, AreTold, AreWants, IsCrowded};
@@ -10,7 +10,8 @@ ghost use Rattle.tftp_judge.specs.declared.refusal.Refusal.TheVariants.{Memory};
 ghost use Rattle.audit_flows.specs.Lines.{Placed};
 ghost use Rattle.audit_flows.specs.{Transfer};
 ghost use Rattle.audit_flows.specs.Transfers.{is_about};
-ghost use Rattle.audit_views.specs.Views.{Naming, client_capture, client_header, server_capture, server_header, IsJudgedWith, IsFed, held_of};
+ghost use Rattle.tftp_packet.specs.{Rollover};
+ghost use Rattle.audit_views.specs.Views.{Naming, client_capture, client_header, server_capture, server_header, IsFoundBy, IsFed, held_of};
 
 use crate::between::BetweenView;
 use crate::judges::judging::Points;
@@ -23,6 +24,7 @@ use std::alloc::{AllocError, Global};
 use std::marker::Model;
 use tftp_ends::blocks::Delivered;
 use tftp_judge::Refusal;
+use tftp_packet::rounds::Rollover;
 
 /// How many datagrams a judge can count.
 const MOST: u64 = 1 << 40;
@@ -50,15 +52,22 @@ impl<D: Delivered + Drop> Model for Judges<D> {
 }
 
 impl<D: Delivered + Drop> Judges<D> {
-    /// Of this transfer at these points, before any datagram. Takes no memory.
-    pub(crate) fn new(alloc: Global, transfer: Transfer, points: Points) -> Self
-        ensures after { (name : Naming) → AreJudgesAfter result transfer name [] }
+    /// Of this transfer at these points, before any datagram; at its ends this comes after block 65535. Takes no memory.
+    pub(crate) fn new(
+        alloc: Global,
+        transfer: Transfer,
+        points: Points,
+        rollover: Option<Rollover>,
+    ) -> Self
+        ensures after { (name : Naming) → AreJudgesAfter rollover result transfer name [] }
         ensures points { AreAt result points }
         ensures none { IsCrowded result → ⊥ }
     {
+        let at_client = ClientJudge::by(alloc, transfer, rollover);
+        let at_server = ServerView::by(alloc, transfer, rollover);
         Judges {
-            client: points.client.then_some(ClientJudge::new(alloc, transfer)),
-            server: points.server.then_some(ServerView::new(alloc, transfer)),
+            client: points.client.then_some(at_client),
+            server: points.server.then_some(at_server),
             between: points.between.then_some(BetweenView::new(alloc, transfer)),
             failed: false,
         }
@@ -69,8 +78,8 @@ impl<D: Delivered + Drop> Judges<D> {
     pub(crate) fn feed(&mut self, alloc: Global, fed: &Fed<'_>) -> Result<(), AllocError>
         requires few { AreFew self.old }
         requires short { length fed.now.payload.now ≤ 65527 }
-        ensures after { (x : Transfer) (name : Naming) (p : Placed) (older : List Placed) → AreJudgesAfter self.old x name older
-            → IsFed name p (held_of fed.now) → OnOk result (AreJudgesAfter self.new x name (p ∷ older)) }
+        ensures after { (rollover : Option Rollover) (x : Transfer) (name : Naming) (p : Placed) (older : List Placed) → AreJudgesAfter rollover self.old x name older
+            → IsFed name p (held_of fed.now) → OnOk result (AreJudgesAfter rollover self.new x name (p ∷ older)) }
         ensures others { (x : Transfer) (p : Placed) → fed.now.place.now ≡ p.place → AreOf self.old x → is_about x.number p ≡ false
             → self.old.failed ≡ false → (result ≡ Ok tt) × (self.new ≡ self.old) }
         ensures points { (points : Points) → AreAt self.old points → AreAt self.new points }
@@ -121,13 +130,13 @@ impl<D: Delivered + Drop> Judges<D> {
     /// What there is to say of the whole that was fed, at each point. What was refused there is told, also where memory ran out
     /// since.
     pub(crate) fn finish(self, alloc: Global) -> Verdicts
-        ensures client { (x : Transfer) (name : Naming) (whole : List Placed) → AreJudgesAfter self x name whole
-            → IfSome result.client (IsJudgedWith (client_header x) (client_capture name x whole)) }
-        ensures server { (x : Transfer) (name : Naming) (whole : List Placed) → AreJudgesAfter self x name whole
-            → IfSome result.server (IsJudgedWith (server_header x) (server_capture name x whole whole)) }
-        ensures between { (x : Transfer) (whole : List Placed) → AreJudgesAfter self x host_name whole → AreApart (sides_of x whole)
+        ensures client { (rollover : Option Rollover) (x : Transfer) (name : Naming) (whole : List Placed) → AreJudgesAfter rollover self x name whole
+            → IfSome result.client (IsFoundBy rollover (client_header x) (client_capture name x whole)) }
+        ensures server { (rollover : Option Rollover) (x : Transfer) (name : Naming) (whole : List Placed) → AreJudgesAfter rollover self x name whole
+            → IfSome result.server (IsFoundBy rollover (server_header x) (server_capture name x whole whole)) }
+        ensures between { (rollover : Option Rollover) (x : Transfer) (whole : List Placed) → AreJudgesAfter rollover self x host_name whole → AreApart (sides_of x whole)
             → IfSome result.between (λ said. IsBetweenVerdict (sides_of x whole) (between_capture x whole) said) }
-        ensures to_itself { (x : Transfer) (whole : List Placed) → AreJudgesAfter self x host_name whole → is_to_itself x whole ≡ true
+        ensures to_itself { (rollover : Option Rollover) (x : Transfer) (whole : List Placed) → AreJudgesAfter rollover self x host_name whole → is_to_itself x whole ≡ true
             → IfSome result.between (λ said. said ≡ Err (RefusalKind.Incomplete (length (between_capture x whole)))) }
         ensures points { (points : Points) → AreAt self points → AreTold result points }
         ensures failed { self.failed ≡ true → AreWants self result }

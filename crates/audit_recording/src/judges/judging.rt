@@ -1,10 +1,11 @@
 //! Where a recording's transfers are judged.
 
 ghost use Rattle.std.specs.Prelude.{◌≡◌};
-ghost use Rattle.audit_recording.specs.Judges.Points.{points_of};
+ghost use Rattle.audit_recording.specs.Judges.Points.{points_of, rollover_of};
 
 use crate::judges::loopback::is_loopback;
 use audit_flows::lines::Transfer;
+use tftp_packet::rounds::Rollover;
 
 /// Where the transfers of a recording are judged.
 #[derive(Clone, Copy, Debug, PartialEq, Eq)]
@@ -15,6 +16,10 @@ pub enum Judging {
     Client,
     /// At the server.
     Server,
+    /// At the client, where this comes after block 65535 (RFC 1350, section 5, gives numbers two bytes and says no more).
+    ClientBy(Rollover),
+    /// At the server, where this comes after block 65535.
+    ServerBy(Rollover),
     /// Between the two ends.
     Between,
     /// At both ends where the client asks at its own address, since both were recorded then if the recording was made at that
@@ -47,11 +52,11 @@ impl Judging {
     {
         match self {
             Judging::Nowhere => NOWHERE,
-            Judging::Client => Points {
+            Judging::Client | Judging::ClientBy(_) => Points {
                 client: true,
                 ..NOWHERE
             },
-            Judging::Server => Points {
+            Judging::Server | Judging::ServerBy(_) => Points {
                 server: true,
                 ..NOWHERE
             },
@@ -68,6 +73,16 @@ impl Judging {
                     between: !is_inside,
                 }
             }
+        }
+    }
+
+    /// What comes after block 65535, where anything does.
+    pub fn rollover(self) -> Option<Rollover>
+        ensures { result ≡ rollover_of self }
+    {
+        match self {
+            Judging::ClientBy(rollover) | Judging::ServerBy(rollover) => Some(rollover),
+            _ => None,
         }
     }
 }

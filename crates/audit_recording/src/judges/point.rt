@@ -1,13 +1,14 @@
 //! A transfer's judge at one point, where it is judged there.
 
-ghost use Rattle.std.specs.Prelude.{◌≡◌, ◌^◌, ◌<◌, ◌≤◌, ◌∷◌, ℕ, List, length, is_some, IfSome, OnOk, Ok, false};
+ghost use Rattle.std.specs.Prelude.{◌≡◌, ◌^◌, ◌<◌, ◌≤◌, ◌∷◌, ℕ, List, Option, length, is_some, IfSome, OnOk, Ok, false};
 ghost use Rattle.audit_recording.specs.Between.{IsBetweenAfter, given_to};
 ghost use Rattle.audit_flows.specs.Lines.{Placed};
 ghost use Rattle.audit_flows.specs.{Transfer};
 ghost use Rattle.audit_views.specs.Parties.{host_name};
 ghost use Rattle.audit_recording.specs.Judges.Kept.{StandsAs, fed_by};
 ghost use Rattle.audit_flows.specs.Transfers.{is_about};
-ghost use Rattle.audit_views.specs.Views.{IsClientAfter, IsFed, IsViewAfter, Naming, fed_to, held_of};
+ghost use Rattle.tftp_packet.specs.{Rollover};
+ghost use Rattle.audit_views.specs.Views.{IsClientAfterBy, IsFed, IsViewAfterBy, Naming, fed_to, held_of};
 
 use crate::between::BetweenView;
 use audit_views::views::{ClientJudge, Fed, ServerView};
@@ -22,15 +23,15 @@ pub(crate) trait PointJudge {
     /// How many datagrams it has accepted, or holds.
     ghost counted: { Self → ℕ };
 
-    /// It was fed these datagrams of a recording, and nothing else.
-    ghost stands: { Self → Naming → List Placed → Type 0 };
+    /// By what comes after block 65535, it was fed these datagrams of a recording, and nothing else.
+    ghost stands: { Option Rollover → Self → Naming → List Placed → Type 0 };
 
     /// Takes the next datagram of the recording, of this transfer or of another, which belongs there.
     fn take(&mut self, alloc: Global, fed: &Fed<'_>) -> Result<(), AllocError>
         requires few { counted self.old < 2 ^ 40 }
         requires short { length fed.now.payload.now ≤ 65527 }
-        ensures stands { (name : Naming) (p : Placed) (older : List Placed) → stands self.old name older
-            → IsFed name p (held_of fed.now) → OnOk result (stands self.new name (p ∷ older)) }
+        ensures stands { (rollover : Option Rollover) (name : Naming) (p : Placed) (older : List Placed) → stands rollover self.old name older
+            → IsFed name p (held_of fed.now) → OnOk result (stands rollover self.new name (p ∷ older)) }
         ensures others { (p : Placed) → fed.now.place.now ≡ p.place → is_about (judged self.old).number p ≡ false
             → (result ≡ Ok tt) × (self.new ≡ self.old) }
         ensures judged { judged self.new ≡ judged self.old };
@@ -45,7 +46,7 @@ impl<D: Delivered + Drop> PointJudge for ClientJudge<D> {
 
     ghost counted = { λ c. c.end.judge.fed };
 
-    ghost stands = { IsClientAfter };
+    ghost stands = { IsClientAfterBy };
 
     fn take(&mut self, alloc: Global, fed: &Fed<'_>) -> Result<(), AllocError> {
         self.feed(alloc, fed)
@@ -61,7 +62,7 @@ impl<D: Delivered + Drop> PointJudge for ServerView<D> {
 
     ghost counted = { fed_to };
 
-    ghost stands = { IsViewAfter };
+    ghost stands = { IsViewAfterBy };
 
     fn take(&mut self, alloc: Global, fed: &Fed<'_>) -> Result<(), AllocError> {
         self.feed(alloc, fed)
@@ -77,7 +78,7 @@ impl<D: Delivered + Drop> PointJudge for BetweenView<D> {
 
     ghost counted = { given_to };
 
-    ghost stands = { λ v name placed. name ≡ host_name → IsBetweenAfter v placed };
+    ghost stands = { λ rollover v name placed. name ≡ host_name → IsBetweenAfter v placed };
 
     fn take(&mut self, alloc: Global, fed: &Fed<'_>) -> Result<(), AllocError> {
         self.feed(alloc, fed)
@@ -96,8 +97,8 @@ pub(crate) fn feed<J: PointJudge>(
 ) -> Result<(), AllocError>
     requires few { fed_by J.counted judge.old < 2 ^ 40 }
     requires short { length fed.now.payload.now ≤ 65527 }
-    ensures stands { (x : Transfer) (name : Naming) (p : Placed) (older : List Placed) → StandsAs J.judged J.stands judge.old x name older
-        → IsFed name p (held_of fed.now) → OnOk result (StandsAs J.judged J.stands judge.new x name (p ∷ older)) }
+    ensures stands { (rollover : Option Rollover) (x : Transfer) (name : Naming) (p : Placed) (older : List Placed) → StandsAs J.judged (J.stands rollover) judge.old x name older
+        → IsFed name p (held_of fed.now) → OnOk result (StandsAs J.judged (J.stands rollover) judge.new x name (p ∷ older)) }
     ensures others { (p : Placed) → fed.now.place.now ≡ p.place → IfSome judge.old (λ j. is_about (J.judged j).number p ≡ false)
         → (result ≡ Ok tt) × (judge.new ≡ judge.old) }
     ensures there { is_some judge.new ≡ is_some judge.old }

@@ -58,6 +58,13 @@ impl<D: Delivered + Drop> RecordingJudge<D> {
         })
     }
 
+    /// Where it judges the transfers.
+    pub fn judging(&self) -> Judging
+        ensures { result ≡ self.now.judging }
+    {
+        self.judging
+    }
+
     /// Takes the next datagram of the recording, and answers where it belongs and what it makes doubtful. The time is in
     /// nanoseconds; `is_spelled` says whether the payload spells a request from its first byte to its last. After a fault
     /// it has failed for good.

@@ -4,7 +4,7 @@ ghost use Rattle.std.specs.Prelude.{◌≡◌, ◌≤◌, ◌∷◌, ℕ, List, 
 ghost use Rattle.audit_recording.specs.Between.{between_capture, is_to_itself, sides_of, IsBetweenVerdict};
 ghost use Rattle.audit_views.specs.Parties.{host_name};
 ghost use Rattle.audit_recording.specs.Judges.Kept.{AreRefusalsTold, AreTold, AreWants, IsCrowded, IsWatching};
-ghost use Rattle.audit_recording.specs.Judges.Points.{points_of};
+ghost use Rattle.audit_recording.specs.Judges.Points.{points_of, rollover_of};
 ghost use Rattle.audit_recording.specs.declared.judges.judging.Judging.{Judging as JudgingKind};
 ghost use Rattle.law_tap.specs.{AreApart};
 ghost use Rattle.judge_tap.specs.{TapRefusal};
@@ -12,7 +12,7 @@ ghost use Rattle.audit_flows.specs.Lines.{doubts_of, Placed};
 ghost use Rattle.audit_flows.specs.{Transfer};
 ghost use Rattle.audit_flows.specs.Transfers.{is_about};
 ghost use Rattle.audit_flows.specs.{AttributionFault};
-ghost use Rattle.audit_views.specs.Views.{Naming, client_capture, client_header, server_capture, server_header, IsJudgedWith, IsFed, held_of};
+ghost use Rattle.audit_views.specs.Views.{Naming, client_capture, client_header, server_capture, server_header, IsFoundBy, IsFed, held_of};
 
 use crate::between::BetweenView;
 use crate::judges::judges::Judges;
@@ -64,7 +64,12 @@ impl<D: Delivered + Drop> Watched<D> {
     {
         Watched {
             transfer,
-            judges: Judges::new(alloc, transfer, judging.points(&transfer)),
+            judges: Judges::new(
+                alloc,
+                transfer,
+                judging.points(&transfer),
+                judging.rollover(),
+            ),
             doubts: TransferDoubts::new(transfer.number),
         }
     }
@@ -141,9 +146,9 @@ impl<D: Delivered + Drop> Watched<D> {
     /// itself nothing is said between the ends but how many datagrams there are.
     pub fn finish(self, alloc: Global) -> Verdicts
         ensures client { (judging : JudgingKind) (x : Transfer) (name : Naming) (whole : List Placed) → IsWatching self judging x name whole
-            → IfSome result.client (IsJudgedWith (client_header x) (client_capture name x whole)) }
+            → IfSome result.client (IsFoundBy (rollover_of judging) (client_header x) (client_capture name x whole)) }
         ensures server { (judging : JudgingKind) (x : Transfer) (name : Naming) (whole : List Placed) → IsWatching self judging x name whole
-            → IfSome result.server (IsJudgedWith (server_header x) (server_capture name x whole whole)) }
+            → IfSome result.server (IsFoundBy (rollover_of judging) (server_header x) (server_capture name x whole whole)) }
         ensures between { (judging : JudgingKind) (x : Transfer) (whole : List Placed) → IsWatching self judging x host_name whole
             → AreApart (sides_of x whole)
             → IfSome result.between (λ said. IsBetweenVerdict (sides_of x whole) (between_capture x whole) said) }

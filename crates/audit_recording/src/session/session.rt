@@ -85,6 +85,13 @@ impl Session {
         })
     }
 
+    /// Where the transfers are judged.
+    pub fn judging(&self) -> Judging
+        ensures { result ≡ self.now.audit.judge.judging }
+    {
+        self.audit.judging()
+    }
+
     /// Reads the next frame and takes what became of it; whether the recording goes on.
     pub fn next<R: Read>(
         &mut self,

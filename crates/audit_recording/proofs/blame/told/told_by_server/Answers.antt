@@ -6,13 +6,13 @@ use Rattle.audit_recording.proofs.BlameLemmas.Telling.{accepts_at_server, refuse
 use Rattle.audit_recording.proofs.blame.told.told_by_server.Goals as goal
 
 pub returns-in-None : goal.returns-in-None
-returns-in-None c x whole own number ends after =
+returns-in-None c rollover x whole own number ends after =
     let on : c.is_settled.result ≡ true = search rules in
     let settled : is_settled x.number whole ≡ true = ap (λ n. is_settled n whole) (sym number) ∙ sym (c.is_settled.ensures whole ends) ∙ on in
-    subst (λ n. Accepts Server x whole n) (sym c.fed.ensures) (accepts_at_server c.args.judge.now x whole own settled after (sym c.refused.ensures ∙ c.in-None.is))
+    subst (λ n. Accepts rollover Server x whole n) (sym c.fed.ensures) (accepts_at_server rollover c.args.judge.now x whole own settled after (sym c.refused.ensures ∙ c.in-None.is))
 
 pub returns-in-Some-Unlawful : goal.returns-in-Some-Unlawful
-returns-in-Some-Unlawful c x whole own number ends after =
+returns-in-Some-Unlawful c rollover x whole own number ends after =
     let on : c.is_settled.result ≡ true = search rules in
     let settled : is_settled x.number whole ≡ true = ap (λ n. is_settled n whole) (sym number) ∙ sym (c.is_settled.ensures whole ends) ∙ on in
-    refuses_at_server c.args.judge.now x whole own settled after c.in-Some-Unlawful.number _ (sym c.refused.ensures ∙ c.in-Some-Unlawful.is ∙ ap (λ r. Some r) c.in-Some-Unlawful.field-0-is)
+    refuses_at_server rollover c.args.judge.now x whole own settled after c.in-Some-Unlawful.number _ (sym c.refused.ensures ∙ c.in-Some-Unlawful.is ∙ ap (λ r. Some r) c.in-Some-Unlawful.field-0-is)

@@ -1,7 +1,7 @@
-use Rattle.std.proofs.Common.{rules, sym, subst}
+use Rattle.std.proofs.Common.{refl, rules, sym, subst}
 use Rattle.audit_views.specs.Views.{Client, View}
 use Rattle.audit_recording.specs.Between.{View as Between}
-use Rattle.audit_recording.specs.Judges.{AreOf, Judges}
+use Rattle.audit_recording.specs.Judges.{AreJudgesAfter, AreOf, Judges}
 use Rattle.audit_recording.proofs.JudgesLemmas.Watching.{away_of}
 use Rattle.audit_recording.proofs.judges.judges.Judges.feed.Goals as goal
 
@@ -30,3 +30,14 @@ returns-clause-others g c x p there of off works =
     let at_server = c.in_ok-feed-2.ensures.others p there (away_of (λ (j : View). j.transfer) c.self.inside.server x p off all.server) in
     let between = c.in_ok-feed-3.ensures.others p there (away_of (λ (j : Between). j.transfer) c.self.inside.between x p off all.between) in
     search rules
+
+pub returns-clause-after : goal.returns-clause-after
+returns-clause-after g c rollover x name p older after fed =
+    let all : AreJudgesAfter rollover (record { client = c.self.inside.client; server = c.self.inside.server; between = c.self.inside.between; failed = c.self.inside.failed }) x name older =
+    subst (λ (j : Judges). AreJudgesAfter rollover j x name older) (sym c.self.view_is) after in
+    record {
+      works = refl;
+      client = c.in_ok-feed.ensures.stands rollover x name p older all.client fed;
+      server = c.in_ok-feed-2.ensures.stands rollover x name p older all.server fed;
+      between = c.in_ok-feed-3.ensures.stands rollover x name p older all.between fed;
+    }

@@ -6,7 +6,7 @@ use Rattle.audit_recording.proofs.JudgesLemmas.Watching.{on_ok_when}
 use Rattle.audit_recording.proofs.judges.point.BetweenViewPointJudge.take.Goals as goal
 
 pub returns-clause-stands : goal.returns-clause-stands
-returns-clause-stands g c name p older stands fed =
+returns-clause-stands g c rollover name p older stands fed =
     on_ok_when (IsBetweenAfter c.feed.new.self (p ∷ older)) c.feed.result
     (λ is. c.feed.ensures.after p older (stands is) (subst (λ (n : Naming). IsFed n p (held_of c.args.fed.now)) is fed))
 

@@ -1,5 +1,5 @@
 use Rattle.std.proofs.Common.{sym, subst, ◌∙◌}
-use Rattle.audit_recording.specs.Judges.{IsWatching, Watched}
+use Rattle.audit_recording.specs.Judges.{IsWatching, Watched, rollover_of}
 use Rattle.audit_recording.proofs.JudgesLemmas.Watching.{judges_on}
 use Rattle.audit_recording.proofs.judges.watched.Watched.doubt.Goals as goal
 
@@ -9,7 +9,7 @@ returns-clause-stands g c judging x name p older is belongs doubts off =
     record {
       transfer = old.transfer;
       points = old.points;
-      judges = judges_on c.self.inside.judges x name p older off old.judges;
+      judges = judges_on (rollover_of judging) c.self.inside.judges x name p older off old.judges;
       number = c.note.ensures.number ∙ old.number;
       doubts = c.note.ensures.stands p older old.doubts belongs doubts;
     }

@@ -1,5 +1,5 @@
 use Rattle.std.proofs.Common.{sym, subst, ◌∙◌}
-use Rattle.audit_recording.specs.Judges.{IsWatching, Watched, points_of}
+use Rattle.audit_recording.specs.Judges.{IsWatching, Watched, points_of, rollover_of}
 use Rattle.audit_recording.proofs.judges.watched.Watched.take.Goals as goal
 
 pub returns-clause-stands : goal.returns-clause-stands
@@ -8,7 +8,7 @@ returns-clause-stands g c judging x name p older is fed belongs doubts =
     record {
       transfer = old.transfer;
       points = c.in_ok-feed.ensures.points (points_of judging x) old.points;
-      judges = c.in_ok-feed.ensures.after x name p older old.judges fed;
+      judges = c.in_ok-feed.ensures.after (rollover_of judging) x name p older old.judges fed;
       number = c.note.ensures.number ∙ old.number;
       doubts = c.note.ensures.stands p older old.doubts belongs doubts;
     }
