@@ -4,11 +4,12 @@ scripts tell. The large ones are made and changed here, and sent by real program
 from __future__ import annotations
 
 import itertools
+import json
 import pathlib
 import random
 import re
 import subprocess
-from typing import Optional
+from typing import Any, Optional
 
 import made
 from captures import Capture, Packet, ack, data, oack, read_request, write_request
@@ -286,8 +287,8 @@ class Numbers(Checks):
             self.check(f"{command}, taken", said(text, command, "--rollover", "0")[1:] == (b"", 0))
 
 
-def recorded(first: int) -> bytes:
-    """The recording of a read in lock step, of which nothing is lost."""
+def passed_of(first: int) -> list[Datagram]:
+    """What passes of a read in lock step."""
     passed = [
         Datagram(made.C, 40_000, made.S, 69, read_request("boot.img", "octet", blksize=SIZE)[0]),
         Datagram(made.S, 41_000, made.C, 40_000, oack(blksize=SIZE)[0]),
@@ -297,7 +298,119 @@ def recorded(first: int) -> bytes:
         content = FILE[(block - 1) * SIZE : block * SIZE]
         passed.append(Datagram(made.S, 41_000, made.C, 40_000, numbered(block, first, content)[0]))
         passed.append(Datagram(made.C, 40_000, made.S, 41_000, acked(block, first)[0]))
-    return made.file_of(passed)
+    return passed
+
+
+def recorded(first: int) -> bytes:
+    """The recording of a read in lock step, of which nothing is lost."""
+    return made.file_of(passed_of(first))
+
+
+def changed(first: int, block: int) -> tuple[bytes, int]:
+    """The same, but that after a block the server sends another with its number; and in which frame."""
+    passed = passed_of(first)
+    frame = 3 + 2 * (block - 1) + 2
+    passed.insert(frame - 1, Datagram(made.S, 41_000, made.C, 40_000, numbered(block, first, b"\0" * SIZE)[0]))
+    return made.file_of(passed), frame
+
+
+class Recordings(Checks):
+    """What `tftp-transfers check` says of recordings."""
+
+    needs = (TRANSFERS,)
+    ACCEPTED = f"accepted get octet blocks {COUNT} bytes {len(FILE)}"
+    BEYOND = "; tftp-audit check --rollover judges numbers that begin again"
+
+    def told(self, recording: bytes, *words: str) -> tuple[str, str, int]:
+        """What is written, what is written as errors, and the status."""
+        command = [TRANSFERS.path, *words, "-"]
+        done = subprocess.run(command, input=recording, capture_output=True, timeout=300)
+        return done.stdout.decode(), done.stderr.decode(), done.returncode
+
+    def rows(self, recording: bytes, *words: str) -> list[dict[str, Any]]:
+        return [json.loads(line) for line in self.told(recording, "check", "--json", *words)[0].splitlines()]
+
+    def test_accepted(self) -> None:
+        """At each end it is accepted by the number that it goes on with; by the other it is refused, and by none at the
+        first number that is too high, where it is told who judges such numbers."""
+        for given, end in itertools.product(GIVEN, ENDS):
+            recording = recorded(int(given))
+            for words in (("--end", end, "--rollover", given), (f"--rollover={given}", f"--end={end}")):
+                output, errors, status = self.told(recording, "check", *words)
+                is_told = output.splitlines()[-1].endswith(f" {self.ACCEPTED}")
+                self.check(f"{given}, at the {end}", is_told and (errors, status) == ("", 0), (output, errors, status))
+            row = self.rows(recording, "--end", end, "--rollover", given)[0]
+            wanted = (self.ACCEPTED, end, None, None, [], int(given))
+            got = tuple(row[name] for name in ("verdict", "place", "frame", "accused", "doubts", "rollover"))
+            self.check(f"{given}, at the {end}, JSON", got == wanted, row)
+            output, errors, status = self.told(recording, "check", "--end", end, "--rollover", str(1 - int(given)))
+            is_refused = " refused datagram " in output and self.BEYOND not in output and status == 1
+            self.check(f"{given}, at the {end}, by the other", is_refused, output)
+            output, errors, status = self.told(recording, "check", "--end", end)
+            line = refusal(2 * ROUND, Rule.BEYOND_BLOCK_65535)
+            self.check(f"{given}, at the {end}, by none", f" {line}" in output and self.BEYOND in output, output)
+            row = self.rows(recording, "--end", end)[0]
+            self.check(f"{given}, at the {end}, by none, JSON", row["rollover"] is None, row)
+
+    def test_changed(self) -> None:
+        """A block that is changed behind the first round is refused in its frame, and its server accused, if no frame
+        is missing."""
+        for given, end in itertools.product(GIVEN, ENDS):
+            recording, frame = changed(int(given), ROUND + 3)
+            line, words = refusal(frame, Rule.BLOCK_CHANGED), ("--end", end, "--rollover", given)
+            output, errors, status = self.told(recording, "check", *words)
+            is_told = output.splitlines()[-1].endswith(f" {line}, if no frame is missing")
+            self.check(f"{given}, at the {end}", is_told and (errors, status) == ("", 1), (output, errors))
+            row = self.rows(recording, *words)[0]
+            server = {"role": "server", "host": made.S, "port": 41_000}
+            got = tuple(row[name] for name in ("verdict", "frame", "accused", "doubts", "stands", "rollover"))
+            self.check(f"{given}, at the {end}, JSON", got == (line, frame, server, [], None, int(given)), row)
+
+    def test_stands(self) -> None:
+        """What stands whatever is missing where numbers do not begin again is not said to stand where they do."""
+        passed = made.read("a", 40_000, 41_000, content=b"." * 512)
+        passed.insert(2, Datagram(made.S, 41_000, made.C, 40_000, data(1, b"," * 512)[0]))
+        recording, line = made.file_of(passed), refusal(3, Rule.BLOCK_CHANGED)
+        for by in ((), ("--rollover", "0"), ("--rollover", "1")):
+            words = ("--end", "server", *by)
+            stands, premise = (None, "if no frame is missing") if by else (True, "whatever is missing")
+            got = self.rows(recording, *words)[0]["stands"]
+            output = self.told(recording, "check", *words)[0].splitlines()[-1]
+            self.check(f"by {by}", got is stands and output.endswith(f" {line}, {premise}"), (got, output))
+
+    def test_first_round(self) -> None:
+        """Of the examples, which have few blocks, the same is said by each number as by none, but for what stands."""
+        told = 0
+        for path in sorted((TOP / "examples").glob("*.pcap")):
+            for end, given in itertools.product(ENDS, GIVEN):
+                alone = self.rows(path.read_bytes(), "--end", end)
+                rows = self.rows(path.read_bytes(), "--end", end, "--rollover", given)
+                wanted = [{**row, "stands": None, "rollover": int(given)} for row in alone]
+                self.check(f"{path.stem}, {end}, {given}", rows == wanted, (rows, alone))
+                told += len(rows)
+        self.check("some", told > 20, told)
+
+    def test_words(self) -> None:
+        """The word is one of `check`, says 0 or 1, stands there once, and wants an end."""
+        recording, none = made.file_of(made.read("a", 40_000, 41_000)), "--rollover wants --end client or --end server"
+        for words, why in (
+            (("check", "--rollover", "0"), none),
+            (("check", "--rollover=1", "--json"), none),
+            (("check", "--end", "between", "--rollover", "0"), none),
+            (("check", "--end", "client", "--rollover", "2"), "2"),
+            (("check", "--end", "client", "--rollover="), "--rollover"),
+            (("check", "--end", "client", "--rollover"), "--rollover"),
+            (("check", "--end", "client", "--rollover", "0", "--rollover", "0"), "--rollover"),
+            (("check", "--end", "client", "--rollover", "0", "--rollover=1"), "--rollover"),
+            (("list", "--rollover", "0"), "--rollover"),
+            (("--rollover", "0"), "--rollover"),
+            (("text", "--rollover", "0", "1", "client"), "--rollover"),
+            (("texts", "client", "--rollover", "0"), "--rollover"),
+        ):
+            output, errors, status = self.told(recording, *words)
+            self.check(f"{words}", (output, status) == ("", 2) and why in errors, (output, errors, status))
+        help_of = self.told(b"", "check", "--help")[0]
+        self.check("help", "--rollover <NUMBER>" in help_of, help_of)
 
 
 class Scripts(Checks):

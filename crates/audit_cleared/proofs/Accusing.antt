@@ -1,5 +1,5 @@
 -- The worked accusation: a client asks for a file, gets its block, and asks again at the port that answered.
-use Rattle.std.proofs.Common.{◌≡◌, ℕ, true, false, List, [], ◌∷◌, ◌++◌, Some, codes, reverse, inl, refl, sym, ap, subst, ◌∙◌}
+use Rattle.std.proofs.Common.{◌≡◌, ℕ, true, false, List, [], ◌∷◌, ◌++◌, Some, codes, None, reverse, inl, refl, sym, ap, subst, ◌∙◌}
 use Rattle.std.specs.Fmt.{digits}
 use Rattle.tftp_packet.specs.{Client, Server}
 use Rattle.tftp_packet.specs.Hosts.{Datagram}
@@ -74,7 +74,7 @@ refused = wrong_port (client_header first_transfer) seen sent ((lawful (client_h
 unlawful : IsLawful (client_header first_transfer) (reverse seen ++ sent ∷ []) → ⊥
 unlawful is = ((lawful (client_header first_transfer) (reverse seen ++ sent ∷ [])).0 is).0.lawful (Rule.Port PortRule.Wrong) refused.broken.0
 
-pub accuses : IsRefusedAt point.Client first_transfer (placed [] (asks_elsewhere ∷ block_came)) 3 (Rule.Port PortRule.Wrong)
+pub accuses : IsRefusedAt None point.Client first_transfer (placed [] (asks_elsewhere ∷ block_came)) 3 (Rule.Port PortRule.Wrong)
 accuses = record {
   before = reverse seen;
   datagram = sent;

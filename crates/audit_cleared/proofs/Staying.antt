@@ -2,10 +2,10 @@
 use Rattle.std.proofs.Common.{◌≡◌, ℕ, ◌-◌, Bool, true, false, cond, List, [], ◌∷◌, ◌++◌, Option, Some, None, Err, arith, length, filter, map, reverse, refl, sym, ap, subst, ◌∙◌, if◌then◌else◌}
 use Rattle.std.specs.List.{slice_get}
 use Rattle.std.proofs.lemmas.List.Elements.{filter_agree}
-use Rattle.tftp_packet.specs.{In, Out}
+use Rattle.tftp_packet.specs.{In, Out, Rollover}
 use Rattle.law_end.specs.{Rule}
 use Rattle.law_tap.specs.{AreApart}
-use Rattle.tftp_judge.specs.{IsVerdict, Unlawful}
+use Rattle.tftp_judge.specs.{IsSaidBy, Unlawful}
 use Rattle.judge_tap.specs.declared.refusal.TapRefusal.TheVariants as tap
 use Rattle.audit_flows.specs.Lines.{Placed}
 use Rattle.audit_flows.specs.{Beside, Place, Talks, Transfer}
@@ -88,32 +88,32 @@ module _ (n : ℕ) (named : List ℕ) (carried : List Carried) (x : Transfer) (o
 
 -- ---- the verdict
 
-refused_on : (x : Transfer) (before after : List Placed) → IsFinal x.number before after → (point : Point) (number : ℕ) (rule : Rule) → IsRefusedAt point x before number rule → IsRefusedAt point x after number rule
-refused_on x before after final Client number rule is =
-    subst (λ v. IsVerdict (client_header x) (reverse (map (captured_at_client host_name x) v)) (Err (Unlawful number rule))) (sym final.client) is
-refused_on x before after final Server number rule is =
+refused_on : (o : Option Rollover) (x : Transfer) (before after : List Placed) → IsFinal x.number before after → (point : Point) (number : ℕ) (rule : Rule) → IsRefusedAt o point x before number rule → IsRefusedAt o point x after number rule
+refused_on o x before after final Client number rule is =
+    subst (λ v. IsSaidBy o (Err (Unlawful number rule)) (client_header x) (reverse (map (captured_at_client host_name x) v))) (sym final.client) is
+refused_on o x before after final Server number rule is =
     let same : server_capture host_name x after after ≡ server_capture host_name x before before =
     map_agree (captured_at_server host_name x after) (captured_at_server host_name x before)
     (λ p. ap (λ way. captured host_name way p.datagram) (way_same x after before final.who p)) (server_view x.number after)
     ∙ ap (map (captured_at_server host_name x before)) final.server in
-    subst (λ c. IsVerdict (server_header x) (reverse c) (Err (Unlawful number rule))) (sym same) is
-refused_on x before after final Between number rule is = (
+    subst (λ c. IsSaidBy o (Err (Unlawful number rule)) (server_header x) (reverse c)) (sym same) is
+refused_on o x before after final Between number rule is = (
   subst (λ s. AreApart (sides_with x s)) (sym final.who) is.0,
   is.1,
   subst (λ s. IsBetweenVerdict (sides_with x s) (between_capture x after) (Err (tap.Unlawful number rule is.1))) (sym final.who)
       (subst (λ v. IsBetweenVerdict (sides_of x before) (map (λ p. passed_of p.datagram) v) (Err (tap.Unlawful number rule is.1))) (sym final.client) is.2),
 )
 
-pub stays : (named : List ℕ) (carried later : List Carried) (n : ℕ) (point : Point) (number : ℕ) (rule : Rule) (frame : ℕ) (a : IsAccusation named carried n point number rule frame)
-    → IsSilent a.transfer.client (whole_of named carried) → IsAccusation named (later ++ carried) n point number rule frame
-stays named carried later n point number rule frame a silent =
+pub stays : (o : Option Rollover) (named : List ℕ) (carried later : List Carried) (n : ℕ) (point : Point) (number : ℕ) (rule : Rule) (frame : ℕ) (a : IsAccusation o named carried n point number rule frame)
+    → IsSilent a.transfer.client (whole_of named carried) → IsAccusation o named (later ++ carried) n point number rule frame
+stays o named carried later n point number rule frame a silent =
     let e : a.transfer.number ≡ n = opened_has_number n (whole_of named carried) a.transfer a.opens in
     let same : IsFinal n (whole_of named carried) (whole_of named (later ++ carried)) = final n named carried a.transfer a.opens silent later in
     record {
       transfer = a.transfer;
       blamed = a.blamed;
       opens = same.transfer ∙ a.opens;
-      refused = refused_on a.transfer (whole_of named carried) (whole_of named (later ++ carried))
+      refused = refused_on o a.transfer (whole_of named carried) (whole_of named (later ++ carried))
           (subst (λ m. IsFinal m (whole_of named carried) (whole_of named (later ++ carried))) (sym e) same) point number rule a.refused;
       at = ap (λ v. numbered v number) (view_on n named carried a.transfer a.opens silent point later) ∙ a.at;
       in_frame = a.in_frame;

@@ -1,8 +1,8 @@
 -- A refusal at an end that is said to stand is certain.
-use Rattle.std.proofs.Common.{◌≡◌, ◌&&◌, ℕ, ◌+◌, true, false, List, [], ◌∷◌, ◌++◌, Option, Some, None, Result, Ok, Err, refl, sym, ap, subst, ◌∙◌, arith, inl, inr, append_assoc, length, reverse}
+use Rattle.std.proofs.Common.{◌≡◌, ◌≢◌, ◌&&◌, ℕ, ◌+◌, Bool, true, false, List, [], ◌∷◌, ◌++◌, Option, Some, None, Result, Ok, Err, refl, sym, ap, subst, ◌∙◌, arith, inl, inr, append_assoc, length, reverse}
 use Rattle.std.proofs.lemmas.Bool.{and_parts}
 use Rattle.std.proofs.lemmas.List.{length-reverse, reverse-append, reverse-reverse}
-use Rattle.tftp_packet.specs.{Dir, In, Out}
+use Rattle.tftp_packet.specs.{Dir, In, Out, Rollover}
 use Rattle.tftp_packet.specs.Hosts.{Datagram, Header}
 use Rattle.law_model.specs.Model.{Meaning}
 use Rattle.law_end.specs.{IsRefused, Rule}
@@ -25,7 +25,8 @@ use Rattle.audit_recording.specs.declared.blame.named.Named.{Named}
 use Rattle.audit_recording.specs.declared.rows.row.Point.{Point}
 use Rattle.audit_recording.specs.declared.rows.row.Point.TheVariants as point
 use Rattle.audit_rows.specs.Standing.{IsCertainAtEnd}
-use Rattle.audit_rows.specs.Viewing.{IsFoundAt, IsStandingAlone, IsSureAt, IsSureUnnamed, IsViewAt, number_in}
+use Rattle.audit_rows.specs.Viewing.{IsFoundAt, IsStanding, IsStandingAlone, IsStandingBy, IsSureAt, IsSureUnnamed, IsViewAt, number_in}
+use Rattle.audit_rows.proofs.Stood.{alone_as}
 use Rattle.audit_rows.specs.declared.found.Found.{Found}
 use Rattle.audit_rows.specs.declared.found.Found.TheVariants.{AtEnd, Between}
 use Rattle.audit_rows.specs.declared.viewed.Viewed.{Viewed}
@@ -134,9 +135,9 @@ module _ (x : Transfer) (named : List ℕ) (carried : List Carried) where
         (known_by_earlier (client_header x) x f.before it.datagram it.earlier it.divided there.before before))
   ]
 
-  pub client_certain : (v : Viewed) → IsViewAt point.Client x named carried v → IsStandingAlone point.Client x options v.blamed v.found (Some true)
+  pub client_certain : (more : Bool) (v : Viewed) → IsViewAt point.Client x named carried v → IsStanding point.Client x more options v (Some true)
       → (number : ℕ) × (number_in v.found ≡ Some number) × Certain number
-  client_certain v view stands = by v.found refl view.found stands where
+  client_certain more v view stands = over v.rollover view.found stands where
     sure : (number : ℕ) (broken : Rule) → number_in v.found ≡ Some number → (o : Option Blamed) → v.blamed ≡ o → IsSureAt point.Client x options o broken → AtClient number broken → Certain number
     sure number broken at None is sure_so it = absurd sure_so
     sure number broken at (Some b) is sure_so it =
@@ -158,7 +159,7 @@ module _ (x : Transfer) (named : List ℕ) (carried : List Carried) where
               ]
         ]
 
-    by : (found : Found) → v.found ≡ found → IsFoundAt point.Client x (whole_of named carried) found → IsStandingAlone point.Client x options v.blamed found (Some true)
+    by : (found : Found) → v.found ≡ found → IsFoundAt None point.Client x (whole_of named carried) found → IsStandingAlone point.Client x options v.blamed found (Some true)
         → (number : ℕ) × (number_in found ≡ Some number) × Certain number
     by (Between said) e is standing = absurd is
     by (AtEnd (Ok m)) e is standing = let no : Some true ≡ None = standing in absurd (cc)
@@ -170,11 +171,16 @@ module _ (x : Transfer) (named : List ℕ) (carried : List Carried) where
     by (AtEnd (Err refusal.NormalTooLong)) e is standing = let no : Some true ≡ None = standing in absurd (cc)
     by (AtEnd (Err (refusal.Memory count))) e is standing = let no : Some true ≡ None = standing in absurd (cc)
 
-  pub server_certain : (b : Option Blamed) (found : Found) → IsFoundAt point.Server x (whole_of named carried) found → IsStandingAlone point.Server x options b found (Some true)
+    over : (o : Option Rollover) → IsFoundAt o point.Client x (whole_of named carried) v.found → IsStandingBy o point.Client x more options v.blamed v.found (Some true)
+        → (number : ℕ) × (number_in v.found ≡ Some number) × Certain number
+    over None is standing = by v.found refl is (alone_as point.Client x more options v.blamed v.found true standing)
+    over (Some rollover) is standing = let no : Some true ≡ None = standing in absurd (cc)
+
+  in_one_round : (b : Option Blamed) (found : Found) → IsFoundAt None point.Server x (whole_of named carried) found → IsStandingAlone point.Server x options b found (Some true)
       → (number : ℕ) × (number_in found ≡ Some number) × IsCertainAtEnd (server_header x) (server_capture host_name x (whole_of named carried) (whole_of named carried)) number
-  server_certain b (Between said) is standing = absurd is
-  server_certain b (AtEnd (Ok m)) is standing = let no : Some true ≡ None = standing in absurd (cc)
-  server_certain b (AtEnd (Err (refusal.Unlawful number broken))) is (inl (so, told)) =
+  in_one_round b (Between said) is standing = absurd is
+  in_one_round b (AtEnd (Ok m)) is standing = let no : Some true ≡ None = standing in absurd (cc)
+  in_one_round b (AtEnd (Err (refusal.Unlawful number broken))) is (inl (so, told)) =
       let it = of_verdict (server_header x) (server_capture host_name x (whole_of named carried) (whole_of named carried)) number broken (is tt).verdict in (
         number,
         refl,
@@ -183,11 +189,23 @@ module _ (x : Transfer) (named : List ℕ) (carried : List Carried) where
           | inr sure_too ↦ unnamed_known (server_header x) x (whole_of named carried) it.later it.earlier it.datagram broken it.refused (nothing_at_server (it.later ++ it.datagram ∷ it.earlier) it.are) sure_too (inl refl)
         ]),
       )
-  server_certain b (AtEnd (Err (refusal.Unlawful number broken))) is (inr (so, told)) = let no : Some true ≡ None = told in absurd (cc)
-  server_certain b (AtEnd (Err (refusal.Aborted end code))) is standing = let no : Some true ≡ None = standing in absurd (cc)
-  server_certain b (AtEnd (Err (refusal.Incomplete count))) is standing = let no : Some true ≡ None = standing in absurd (cc)
-  server_certain b (AtEnd (Err refusal.NormalTooLong)) is standing = let no : Some true ≡ None = standing in absurd (cc)
-  server_certain b (AtEnd (Err (refusal.Memory count))) is standing = let no : Some true ≡ None = standing in absurd (cc)
+  in_one_round b (AtEnd (Err (refusal.Unlawful number broken))) is (inr (so, told)) = let no : Some true ≡ None = told in absurd (cc)
+  in_one_round b (AtEnd (Err (refusal.Aborted end code))) is standing = let no : Some true ≡ None = standing in absurd (cc)
+  in_one_round b (AtEnd (Err (refusal.Incomplete count))) is standing = let no : Some true ≡ None = standing in absurd (cc)
+  in_one_round b (AtEnd (Err refusal.NormalTooLong)) is standing = let no : Some true ≡ None = standing in absurd (cc)
+  in_one_round b (AtEnd (Err (refusal.Memory count))) is standing = let no : Some true ≡ None = standing in absurd (cc)
+
+  pub server_certain : (o : Option Rollover) (more : Bool) (b : Option Blamed) (found : Found) → IsFoundAt o point.Server x (whole_of named carried) found → IsStandingBy o point.Server x more options b found (Some true)
+      → (number : ℕ) × (number_in found ≡ Some number) × IsCertainAtEnd (server_header x) (server_capture host_name x (whole_of named carried) (whole_of named carried)) number
+  server_certain None more b found is standing = in_one_round b found is (alone_as point.Server x more options b found true standing)
+  server_certain (Some rollover) more b found is standing = let no : Some true ≡ None = standing in absurd (cc)
+
+-- by a rollover nothing is said to stand
+pub none_by_rollover : (at : Point) (x : Transfer) (more : Bool) (options : Named) (v : Viewed) (stands : Option Bool) → v.rollover ≢ None → IsStanding at x more options v stands → stands ≡ None
+none_by_rollover at x more options v stands some standing = by v.rollover some standing where
+  by : (o : Option Rollover) → o ≢ None → IsStandingBy o at x more options v.blamed v.found stands → stands ≡ None
+  by None not standing = absurd (not refl)
+  by (Some rollover) not standing = standing
 
 -- that a refusal at an end does not stand is never said
 pub never_so : (at : Point) (x : Transfer) (options : Named) (b : Option Blamed) (said : Result Meaning Refusal) → IsStandingAlone at x options b (AtEnd said) (Some false) → ⊥

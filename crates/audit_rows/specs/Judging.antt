@@ -12,7 +12,7 @@ use Rattle.audit_recording.specs.Between.{sides_of}
 use Rattle.audit_recording.specs.Blame.Frames.{Carried, view_of, whole_of}
 use Rattle.audit_recording.specs.Blame.Kept.{IsTrailOf, sent_of}
 use Rattle.audit_recording.specs.Judges.Kept.{Judges, refused_at_client, refused_at_server, refused_between}
-use Rattle.audit_recording.specs.Judges.Points.{points_of}
+use Rattle.audit_recording.specs.Judges.Points.{points_of, rollover_of}
 use Rattle.audit_recording.specs.Reasons.Twice.{are_twice}
 use Rattle.audit_recording.specs.declared.blame.blame.Blamed.{Blamed}
 use Rattle.audit_recording.specs.declared.blame.doubted.Doubted.{Doubted}
@@ -24,7 +24,7 @@ use Rattle.audit_recording.specs.declared.rows.row.Point.{Point}
 use Rattle.audit_recording.specs.declared.rows.row.Point.TheVariants as point
 use Rattle.audit_recording.specs.declared.rows.row.Row.{Row}
 use Rattle.audit_recording.specs.declared.rows.said.Said.{Said}
-use Rattle.audit_rows.specs.Viewing.{IsViewAt, found_in, said_in}
+use Rattle.audit_rows.specs.Viewing.{IsViewBy, found_in, said_in}
 use Rattle.audit_rows.specs.declared.found.Found.TheVariants.{AtEnd, Between}
 use Rattle.audit_rows.specs.declared.judged.Judged.{Judged}
 use Rattle.audit_rows.specs.declared.told.Told.{Told}
@@ -43,7 +43,8 @@ pub record AreKeptDoubts (d : Doubted) (t : Trail) (x : Transfer) (named : List 
   pub left_out : d.left_out ≡ t.left_out
 
 -- It is what there is to say of this transfer by these datagrams of a recording: a verdict at each point where it is judged, on what
--- the point saw, with the datagram that it refuses. Between the ends there is one of a client that did not ask itself.
+-- the point saw, by what comes after block 65535 there, with the datagram that it refuses. Between the ends there is one of a client
+-- that did not ask itself.
 pub record IsJudgedOf (j : Judged) (judging : Judging) (x : Transfer) (named : List ℕ) (carried : List Carried) : Type 0 where
   pub trail : IsTrailOf j.trail judging x named carried
   pub doubts : IsDoubtedAfter j.doubted.doubts (whole_of named carried)
@@ -51,9 +52,9 @@ pub record IsJudgedOf (j : Judged) (judging : Judging) (x : Transfer) (named : L
   pub at_client : is_some j.client ≡ (points_of judging x).client
   pub at_server : is_some j.server ≡ (points_of judging x).server
   pub at_between : is_some j.between ≡ (points_of judging x).between
-  pub client : IfSome j.client (IsViewAt point.Client x named carried)
-  pub server : IfSome j.server (IsViewAt point.Server x named carried)
-  pub between : AreApart (sides_of x (whole_of named carried)) → IfSome j.between (IsViewAt point.Between x named carried)
+  pub client : IfSome j.client (IsViewBy (rollover_of judging) point.Client x named carried)
+  pub server : IfSome j.server (IsViewBy (rollover_of judging) point.Server x named carried)
+  pub between : AreApart (sides_of x (whole_of named carried)) → IfSome j.between (IsViewBy None point.Between x named carried)
 
 -- What is known to be refused at a point is told there, whatever memory there is.
 pub record AreRefusalsKept (judges : Judges) (j : Judged) : Type 0 where

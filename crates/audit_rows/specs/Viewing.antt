@@ -1,5 +1,6 @@
 -- What is said of a transfer at a point where it was judged, and of which datagram. Lists have the newest first.
 use Rattle.std.specs.Prelude.{◌≡◌, ◌⊎◌, ◌||◌, ℕ, Bool, true, false, List, length, Option, Some, None, option_map, Ok, Err}
+use Rattle.tftp_packet.specs.{Rollover}
 use Rattle.law_model.specs.{EndRule}
 use Rattle.law_end.specs.{Rule}
 use Rattle.law_end.specs.declared.rule.Rule.TheVariants as rule
@@ -9,7 +10,7 @@ use Rattle.judge_tap.specs.declared.refusal.TapRefusal.TheVariants as tap
 use Rattle.audit_flows.specs.Lines.{Placed, same_endpoint}
 use Rattle.audit_flows.specs.{Transfer}
 use Rattle.audit_views.specs.Parties.{host_name}
-use Rattle.audit_views.specs.Views.{IsJudgedWith, client_capture, client_header, server_capture, server_header}
+use Rattle.audit_views.specs.Views.{IsFoundBy, client_capture, client_header, server_capture, server_header}
 use Rattle.audit_recording.specs.Between.{IsBetweenVerdict, between_capture, sides_of}
 use Rattle.audit_recording.specs.Blame.Facts.{blamed_as, refused_between, refused_in}
 use Rattle.audit_recording.specs.Blame.Frames.{Carried, whole_of}
@@ -95,8 +96,13 @@ abbrev pub IsStandingAs : Point → Transfer → Bool → Named → Option Blame
 IsStandingAs at x has_asked_more options blamed found stands =
     (alone : Option Bool) × IsStandingAlone at x options blamed found alone × (stands ≡ where_asked_once has_asked_more alone)
 
+-- Where block numbers begin again nothing is said of it: a block that was missed changes how later numbers are read.
+abbrev pub IsStandingBy : Option Rollover → Point → Transfer → Bool → Named → Option Blamed → Found → Option Bool → Type 0
+IsStandingBy None at x has_asked_more options blamed found stands = IsStandingAs at x has_asked_more options blamed found stands
+IsStandingBy (Some rollover) at x has_asked_more options blamed found stands = stands ≡ None
+
 abbrev pub IsStanding : Point → Transfer → Bool → Named → Viewed → Option Bool → Type 0
-IsStanding at x has_asked_more options v stands = IsStandingAs at x has_asked_more options v.blamed v.found stands
+IsStanding at x has_asked_more options v stands = IsStandingBy v.rollover at x has_asked_more options v.blamed v.found stands
 
 -- ---- the verdict at a point
 
@@ -113,14 +119,18 @@ abbrev pub number_in : Found → Option ℕ
 number_in (AtEnd found) = refused_in found
 number_in (Between found) = refused_between found
 
--- It is the verdict on what the point saw of the whole recording.
-abbrev pub IsFoundAt : Point → Transfer → List Placed → Found → Type 0
-IsFoundAt point.Client x whole (AtEnd found) = IsJudgedWith (client_header x) (client_capture host_name x whole) found
-IsFoundAt point.Server x whole (AtEnd found) = IsJudgedWith (server_header x) (server_capture host_name x whole whole) found
-IsFoundAt point.Between x whole (Between found) = IsBetweenVerdict (sides_of x whole) (between_capture x whole) found
-IsFoundAt _ x whole _ = ⊥
+-- It is the verdict on what the point saw of the whole recording, at an end by what comes after block 65535.
+abbrev pub IsFoundAt : Option Rollover → Point → Transfer → List Placed → Found → Type 0
+IsFoundAt rollover point.Client x whole (AtEnd found) = IsFoundBy rollover (client_header x) (client_capture host_name x whole) found
+IsFoundAt rollover point.Server x whole (AtEnd found) = IsFoundBy rollover (server_header x) (server_capture host_name x whole whole) found
+IsFoundAt rollover point.Between x whole (Between found) = IsBetweenVerdict (sides_of x whole) (between_capture x whole) found
+IsFoundAt rollover _ x whole _ = ⊥
 
 -- And the blamed datagram is the one of the refusal's number among those that were seen there: its frame, its source, its facts.
 pub record IsViewAt (at : Point) (x : Transfer) (named : List ℕ) (carried : List Carried) (v : Viewed) : Type 0 where
-  pub found : IsFoundAt at x (whole_of named carried) v.found
+  pub found : IsFoundAt v.rollover at x (whole_of named carried) v.found
   pub blamed : v.blamed ≡ blamed_as at x named carried (number_in v.found)
+
+-- And it is by this rollover, or by none.
+abbrev pub IsViewBy : Option Rollover → Point → Transfer → List ℕ → List Carried → Viewed → Type 0
+IsViewBy rollover at x named carried v = (v.rollover ≡ rollover) × IsViewAt at x named carried v

@@ -29,6 +29,7 @@ abbrev pub worked_view : Bool → Viewed
 worked_view is_late = record {
   found = AtEnd (Err (refusal.Unlawful 3 (Block EndRule.GoneBack)));
   blamed = Some (worked_blamed 5 is_late);
+  rollover = None;
 }
 
 -- the third datagram has another block than was sent before, in frame 5; its client had gone on with its server by then or not
@@ -36,11 +37,12 @@ abbrev pub worked_changed : Bool → Viewed
 worked_changed gone_on = record {
   found = AtEnd (Err (refusal.Unlawful 3 (Block EndRule.BlockChanged)));
   blamed = Some (record (worked_blamed 5 false) { has_gone_on = gone_on });
+  rollover = None;
 }
 
 -- it stops early after three datagrams
 abbrev pub worked_early : Viewed
-worked_early = record { found = AtEnd (Err (refusal.Incomplete 3)); blamed = None }
+worked_early = record { found = AtEnd (Err (refusal.Incomplete 3)); blamed = None; rollover = None }
 
 -- what the row of the client tells, where nothing was judged between
 abbrev pub worked_telling : Viewed → Telling

@@ -23,7 +23,7 @@ use crate::charge::Charge;
 use crate::told::Told;
 use crate::viewed::Viewed;
 use audit_recording::blame::{Blamed, Doubted, Ending, Missing, Reason, Stop, Trail, put_if};
-use audit_recording::judges::Verdicts;
+use audit_recording::judges::{Judging, Verdicts};
 use audit_recording::rows::{
     Accused, Point, Row, Rows, Said, Telling, accused_in_row, role_at, rows_told,
 };
@@ -46,10 +46,10 @@ pub struct Judged {
 }
 
 impl Judged {
-    /// What there is to say of a transfer that has ended, of whose client's datagrams these may be missing, by a recording that
-    /// was read up to now. What was refused is told also where memory has run out since.
-    pub fn new(alloc: Global, ended: Ended, missing: Missing, now: u64) -> Self
-        ensures judged { (judging : JudgingKind) (x : Transfer) (named : List ℕ) (carried : List Carried) → IsTrailAfter ended.trail judging x named carried
+    /// What there is to say of a transfer that has ended, which was judged there, and of whose client's datagrams these may be
+    /// missing, by a recording that was read up to now. What was refused is told also where memory has run out since.
+    pub fn new(alloc: Global, ended: Ended, judging: Judging, missing: Missing, now: u64) -> Self
+        ensures judged { (x : Transfer) (named : List ℕ) (carried : List Carried) → IsTrailAfter ended.trail judging x named carried
             → IsWatching ended.watched judging x host_name (whole_of named carried) → IsJudgedOf result judging x named carried }
         ensures refused { AreRefusalsKept ended.watched.judges result }
         ensures missing { result.doubted.missing ≡ missing }
@@ -64,8 +64,8 @@ impl Judged {
             between,
         } = watched.finish(alloc);
         Judged {
-            client: Viewed::at_client(&trail, client),
-            server: Viewed::at_server(&trail, server),
+            client: Viewed::at_client(&trail, judging, client),
+            server: Viewed::at_server(&trail, judging, server),
             between: Viewed::between(&trail, between),
             trail,
             doubted,

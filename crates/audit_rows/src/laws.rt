@@ -1,7 +1,7 @@
 //! Laws of the definitions in `specs/`. Each is the contract of a function that does nothing.
 
-ghost use Rattle.std.specs.Prelude.{◌≡◌, ◌∷◌, ◌++◌, [], ℕ, Bool, List, None, Option, Result, Some, false, true};
-ghost use Rattle.tftp_packet.specs.{Client as ClientEnd};
+ghost use Rattle.std.specs.Prelude.{◌≡◌, ◌≢◌, ◌∷◌, ◌++◌, [], ℕ, Bool, List, None, Option, Result, Some, false, true};
+ghost use Rattle.tftp_packet.specs.{Client as ClientEnd, Rollover};
 ghost use Rattle.law_model.specs.Model.{Meaning};
 ghost use Rattle.tftp_judge.specs.{Refusal};
 ghost use Rattle.audit_flows.specs.Lines.{Placed, follows_request};
@@ -81,7 +81,7 @@ pub fn worked_row()
 
 /// A block that the server changed came to a client: that stands once the client has gone on with its server, and before that nothing
 /// is said. A block that the client changed stands at once. Of a block that goes back nothing is said where a datagram names windows; else
-/// it stands. Where its client asked more than once, of none of these anything is said.
+/// it stands. Where its client asked more than once, of none of these anything is said, and so of what was judged by a rollover.
 pub fn worked_standing()
     ensures gone_on { (options : Named) → IsStanding PointKind.Client (worked_transfer 3000) false options (worked_changed true) (Some true) }
     ensures before { (options : Named) → IsStanding PointKind.Client (worked_transfer 3000) false options (worked_changed false) None }
@@ -90,6 +90,7 @@ pub fn worked_standing()
     ensures lock_step { (sizes : Bool) → IsStanding PointKind.Client (worked_transfer 2000) false (record { windows = false; sizes = sizes }) (worked_view false) (Some true) }
     ensures asked_more { (options : Named) → IsStanding PointKind.Client (worked_transfer 3000) true options (worked_changed true) None }
     ensures said_once { (options : Named) → IsStanding PointKind.Client (worked_transfer 3000) true options (worked_changed true) (Some true) → ⊥ }
+    ensures again { (rollover : Rollover) (options : Named) → IsStanding PointKind.Client (worked_transfer 3000) false options (record (worked_changed true) { rollover = Some rollover }) None }
 {}
 
 /// Of no datagram it is kept that each was recorded twice; and a transfer to whose client nothing came went one way.
@@ -109,7 +110,7 @@ pub fn what_stands_is_certain()
 {}
 
 /// What is said to stand of a refusal at an end does: no lawful list has the refused datagram and those before it that were captured
-/// there, whatever datagrams were missed. That a refusal does not stand is said of none.
+/// there, whatever datagrams were missed. That a refusal does not stand is said of none, and by a rollover nothing is said.
 pub fn what_stands_at_an_end_is_certain()
     ensures client { (x : Transfer) (named : List ℕ) (carried : List Carried) (v : Viewed) → IsViewAt PointKind.Client x named carried v
         → IsStanding PointKind.Client x (some_of x.number follows_request (whole_of named carried)) (named_in x (whole_of named carried)) v (Some true)
@@ -120,4 +121,6 @@ pub fn what_stands_at_an_end_is_certain()
         × IsCertainAtEnd (server_header x) (server_capture host_name x (whole_of named carried) (whole_of named carried)) number }
     ensures never { (at : PointKind) (x : Transfer) (has_asked_more : Bool) (options : Named) (b : Option Blamed) (said : Result Meaning Refusal)
         → IsStandingAs at x has_asked_more options b (AtEnd said) (Some false) → ⊥ }
+    ensures by_rollover { (at : PointKind) (x : Transfer) (has_asked_more : Bool) (options : Named) (v : Viewed) (stands : Option Bool) → v.rollover ≢ None
+        → IsStanding at x has_asked_more options v stands → stands ≡ None }
 {}

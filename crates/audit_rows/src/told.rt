@@ -2,7 +2,7 @@
 
 ghost use Rattle.std.specs.Prelude.{◌≡◌, ◌↔◌, IsTrue};
 ghost use Rattle.audit_rows.specs.Doubting.{goes_over, is_clients_own, is_spoken_first, is_unseen, may_be_between};
-ghost use Rattle.audit_rows.specs.Viewing.{IsStanding, IsStandingAlone, IsSureAt, IsSureUnnamed, where_asked_once};
+ghost use Rattle.audit_rows.specs.Viewing.{IsStanding, IsStandingAlone, IsStandingAs, IsSureAt, IsSureUnnamed, where_asked_once};
 
 use crate::found::Found;
 use crate::viewed::Viewed;
@@ -62,10 +62,21 @@ impl Told<'_> {
         is_at_client && blamed.source == transfer.client
     }
 
-    /// Of what is refused, whether that stands whatever datagrams of the transfer were missed; nothing where that is not known. Where
-    /// its client has asked more than once, datagrams of another transfer may count as this one's: then it is not said to stand.
+    /// Of what is refused, whether that stands whatever datagrams of the transfer were missed; nothing where that is not known, and
+    /// where block numbers begin again.
     pub(crate) fn stands(&self, trail: &Trail, has_asked_more: bool) -> Option<bool>
         ensures { IsStanding self.now.telling.point trail.now.transfer has_asked_more trail.now.options self.now.view.now result }
+    {
+        match self.view.rollover {
+            Some(_) => None,
+            None => self.stands_in_one_round(trail, has_asked_more),
+        }
+    }
+
+    /// The same where block numbers do not begin again. Where its client has asked more than once, datagrams of another transfer may
+    /// count as this one's: then it is not said to stand.
+    fn stands_in_one_round(&self, trail: &Trail, has_asked_more: bool) -> Option<bool>
+        ensures { IsStandingAs self.now.telling.point trail.now.transfer has_asked_more trail.now.options self.now.view.now.blamed self.now.view.now.found result }
     {
         where_asked_once(has_asked_more, self.stands_alone(trail))
     }

@@ -1,25 +1,27 @@
 //! The verdict at a point, and the datagram that it refuses.
 
-ghost use Rattle.std.specs.Prelude.{◌≡◌, ℕ, List, IfSome, is_some, option_map};
+ghost use Rattle.std.specs.Prelude.{◌≡◌, ℕ, List, IfSome, None, is_some, option_map};
 ghost use Rattle.audit_flows.specs.{Transfer};
 ghost use Rattle.audit_recording.specs.Between.{IsBetweenVerdict, between_capture, sides_of};
 ghost use Rattle.audit_recording.specs.Blame.Frames.{Carried, whole_of};
 ghost use Rattle.audit_recording.specs.Blame.Kept.{IsTrailBetween, IsTrailOf};
-ghost use Rattle.audit_recording.specs.Judges.Points.{points_of};
+ghost use Rattle.audit_recording.specs.Judges.Points.{points_of, rollover_of};
 ghost use Rattle.audit_recording.specs.Rows.Told.{refused_frame, status_of};
 ghost use Rattle.audit_recording.specs.declared.judges.judging.Judging.{Judging as JudgingKind};
 ghost use Rattle.audit_recording.specs.declared.rows.row.Point.{Point as PointKind};
-ghost use Rattle.audit_rows.specs.Viewing.{IsViewAt, found_in, said_in};
+ghost use Rattle.audit_rows.specs.Viewing.{IsViewBy, found_in, said_in};
 ghost use Rattle.audit_rows.specs.declared.found.Found.TheVariants as Found;
 ghost use Rattle.audit_views.specs.Parties.{host_name};
-ghost use Rattle.audit_views.specs.Views.{IsJudgedWith, client_capture, client_header, server_capture, server_header};
+ghost use Rattle.audit_views.specs.Views.{IsFoundBy, client_capture, client_header, server_capture, server_header};
 ghost use Rattle.law_tap.specs.{AreApart};
 
 use crate::found::Found;
 use audit_recording::blame::{Blamed, Trail};
+use audit_recording::judges::Judging;
 use audit_recording::rows::Said;
 use judge_tap::TapRefusal;
 use tftp_judge::{Meaning, Refusal};
+use tftp_packet::rounds::Rollover;
 
 /// The verdict at a point.
 #[derive(Drop)]
@@ -28,40 +30,58 @@ pub struct Viewed {
     pub found: Found,
     /// The datagram that is refused, where one is.
     pub blamed: Option<Blamed>,
+    /// What comes after block 65535, where anything does: at an end the numbers were read so.
+    pub rollover: Option<Rollover>,
 }
 
 impl Viewed {
     /// At its client.
-    pub(crate) fn at_client(trail: &Trail, found: Option<Result<Meaning, Refusal>>) -> Option<Self>
+    pub(crate) fn at_client(
+        trail: &Trail,
+        judging: Judging,
+        found: Option<Result<Meaning, Refusal>>,
+    ) -> Option<Self>
         ensures found { found_in result ≡ option_map (λ it. Found.AtEnd it) found }
-        ensures is { (judging : JudgingKind) (x : Transfer) (named : List ℕ) (carried : List Carried) → IsTrailOf trail.now judging x named carried
+        ensures is { (x : Transfer) (named : List ℕ) (carried : List Carried) → IsTrailOf trail.now judging x named carried
             → is_some found ≡ (points_of judging x).client
-            → IfSome found (IsJudgedWith (client_header x) (client_capture host_name x (whole_of named carried)))
-            → IfSome result (IsViewAt PointKind.Client x named carried) }
+            → IfSome found (IsFoundBy (rollover_of judging) (client_header x) (client_capture host_name x (whole_of named carried)))
+            → IfSome result (IsViewBy (rollover_of judging) PointKind.Client x named carried) }
     {
         match found {
             Some(found) => {
                 let blamed = trail.at_client(&found);
-                let found = Found::AtEnd(found);
-                Some(Viewed { found, blamed })
+                let (found, rollover) = (Found::AtEnd(found), judging.rollover());
+                Some(Viewed {
+                    found,
+                    blamed,
+                    rollover,
+                })
             }
             None => None,
         }
     }
 
     /// At its server.
-    pub(crate) fn at_server(trail: &Trail, found: Option<Result<Meaning, Refusal>>) -> Option<Self>
+    pub(crate) fn at_server(
+        trail: &Trail,
+        judging: Judging,
+        found: Option<Result<Meaning, Refusal>>,
+    ) -> Option<Self>
         ensures found { found_in result ≡ option_map (λ it. Found.AtEnd it) found }
-        ensures is { (judging : JudgingKind) (x : Transfer) (named : List ℕ) (carried : List Carried) → IsTrailOf trail.now judging x named carried
+        ensures is { (x : Transfer) (named : List ℕ) (carried : List Carried) → IsTrailOf trail.now judging x named carried
             → is_some found ≡ (points_of judging x).server
-            → IfSome found (IsJudgedWith (server_header x) (server_capture host_name x (whole_of named carried) (whole_of named carried)))
-            → IfSome result (IsViewAt PointKind.Server x named carried) }
+            → IfSome found (IsFoundBy (rollover_of judging) (server_header x) (server_capture host_name x (whole_of named carried) (whole_of named carried)))
+            → IfSome result (IsViewBy (rollover_of judging) PointKind.Server x named carried) }
     {
         match found {
             Some(found) => {
                 let blamed = trail.at_server(&found);
-                let found = Found::AtEnd(found);
-                Some(Viewed { found, blamed })
+                let (found, rollover) = (Found::AtEnd(found), judging.rollover());
+                Some(Viewed {
+                    found,
+                    blamed,
+                    rollover,
+                })
             }
             None => None,
         }
@@ -74,13 +94,16 @@ impl Viewed {
             → IsTrailBetween trail.now judging x named carried → is_some found ≡ (points_of judging x).between
             → AreApart (sides_of x (whole_of named carried))
             → IfSome found (IsBetweenVerdict (sides_of x (whole_of named carried)) (between_capture x (whole_of named carried)))
-            → IfSome result (IsViewAt PointKind.Between x named carried) }
+            → IfSome result (IsViewBy None PointKind.Between x named carried) }
     {
         match found {
             Some(found) => {
                 let blamed = trail.between(&found);
-                let found = Found::Between(found);
-                Some(Viewed { found, blamed })
+                Some(Viewed {
+                    found: Found::Between(found),
+                    blamed,
+                    rollover: None,
+                })
             }
             None => None,
         }

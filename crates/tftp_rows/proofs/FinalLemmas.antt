@@ -1,7 +1,7 @@
 -- What comes after a client's line is silent leaves all that is said of its transfers as it is.
 use Rattle.std.proofs.Common.{◌≡◌, ℕ, Bool, false, cond, List, [], ◌∷◌, ◌++◌, Option, Some, None, IfSome, option_map, arith, length, filter, map, inl, inr, refl, sym, ap, subst, ◌∙◌, if◌then◌else◌}
 use Rattle.std.proofs.lemmas.List.Elements.{filter_agree}
-use Rattle.tftp_packet.specs.{In, Out}
+use Rattle.tftp_packet.specs.{In, Out, Rollover}
 use Rattle.law_tap.specs.{AreApart}
 use Rattle.audit_flows.specs.Lines.{Placed, agrees_late, comes_in, follows_request, follows_strays, follows_unanswered, goes_on_with_first, is_asked_again, is_disordered, is_late, newest_of, says_first_word, says_unknown_id}
 use Rattle.audit_flows.specs.{Beside, Place, Talks, Transfer, TransferDoubts}
@@ -11,13 +11,13 @@ use Rattle.audit_flows.proofs.TransfersLemmas.OwnDatagrams.{about_none, seen_non
 use Rattle.audit_spared.specs.Finality.{AreSameDoubts, IsFinal, IsSilent, opened as opened_there}
 use Rattle.audit_spared.proofs.FinalityLemmas.Silent.{silent_is_final}
 use Rattle.audit_views.specs.Parties.{host_name}
-use Rattle.audit_views.specs.Views.{IsJudgedWith, captured, captured_at_client, captured_at_server, client_header, server_capture, server_header, way_at_server}
+use Rattle.audit_views.specs.Views.{IsFoundBy, captured, captured_at_client, captured_at_server, client_header, server_capture, server_header, way_at_server}
 use Rattle.audit_recording.specs.Audit.Audited.{placed_after}
 use Rattle.audit_recording.specs.Between.{IsBetweenVerdict, between_capture, passed_of, sides_of, sides_with}
 use Rattle.audit_recording.specs.Blame.Facts.{blamed_as, blamed_of}
 use Rattle.audit_recording.specs.Blame.Frames.{Carried, Framed, datagrams_of, framed, framed_after, is_seen, numbered, view_of, whole_of}
 use Rattle.audit_recording.specs.Blame.Kept.{IsTrailOf, sent_of}
-use Rattle.audit_recording.specs.Judges.{opened}
+use Rattle.audit_recording.specs.Judges.{opened, rollover_of}
 use Rattle.audit_recording.specs.Reasons.Twice.{are_twice}
 use Rattle.audit_recording.specs.Session.Noted.{Noticed}
 use Rattle.audit_recording.specs.Session.Over.{IsOver}
@@ -27,7 +27,7 @@ use Rattle.audit_recording.specs.declared.rows.row.Point.{Point}
 use Rattle.audit_recording.specs.declared.rows.row.Point.TheVariants as point
 use Rattle.audit_recording.proofs.BlameLemmas.Trailing.{trail_passed_by}
 use Rattle.audit_rows.specs.{IsJudgedOf}
-use Rattle.audit_rows.specs.Viewing.{IsFoundAt, IsViewAt, number_in}
+use Rattle.audit_rows.specs.Viewing.{IsFoundAt, IsViewAt, IsViewBy, number_in}
 use Rattle.audit_rows.specs.declared.found.Found.{Found}
 use Rattle.audit_rows.specs.declared.found.Found.TheVariants.{AtEnd, Between}
 use Rattle.audit_rows.specs.declared.judged.Judged.{Judged}
@@ -69,21 +69,21 @@ way_same x one other same p = by p.place refl where
   by (Talks y) is = rw is refl
   by _ is = rw is refl
 
-found_on : (x : Transfer) (before after : List Placed) → IsFinal x.number before after → (at : Point) (found : Found) → IsFoundAt at x before found → IsFoundAt at x after found
-found_on x before after final point.Client (AtEnd found) is =
-    subst (λ v. IsJudgedWith (client_header x) (map (captured_at_client host_name x) v) found) (sym final.client) is
-found_on x before after final point.Server (AtEnd found) is =
+found_on : (o : Option Rollover) (x : Transfer) (before after : List Placed) → IsFinal x.number before after → (at : Point) (found : Found) → IsFoundAt o at x before found → IsFoundAt o at x after found
+found_on o x before after final point.Client (AtEnd found) is =
+    subst (λ v. IsFoundBy o (client_header x) (map (captured_at_client host_name x) v) found) (sym final.client) is
+found_on o x before after final point.Server (AtEnd found) is =
     let same : server_capture host_name x after after ≡ server_capture host_name x before before =
     map_agree (captured_at_server host_name x after) (captured_at_server host_name x before)
     (λ p. ap (λ way. captured host_name way p.datagram) (way_same x after before final.who p)) (server_view x.number after)
     ∙ ap (map (captured_at_server host_name x before)) final.server in
-    subst (λ c. IsJudgedWith (server_header x) c found) (sym same) is
-found_on x before after final point.Between (Between found) is =
+    subst (λ c. IsFoundBy o (server_header x) c found) (sym same) is
+found_on o x before after final point.Between (Between found) is =
     subst (λ s. IsBetweenVerdict (sides_with x s) (between_capture x after) found) (sym final.who)
     (subst (λ v. IsBetweenVerdict (sides_of x before) (map (λ p. passed_of p.datagram) v) found) (sym final.client) is)
-found_on x before after final point.Client (Between found) is = absurd is
-found_on x before after final point.Server (Between found) is = absurd is
-found_on x before after final point.Between (AtEnd found) is = absurd is
+found_on o x before after final point.Client (Between found) is = absurd is
+found_on o x before after final point.Server (Between found) is = absurd is
+found_on o x before after final point.Between (AtEnd found) is = absurd is
 
 -- the doubts of the division are those that they were
 doubted_on : (d : TransferDoubts) (before after : List Placed) → AreSameDoubts d.number before after → IsDoubtedAfter d before → IsDoubtedAfter d after
@@ -151,9 +151,12 @@ module _ (named : List ℕ) (carried : List Carried) (x : Transfer) (opens : ope
 
   viewed_on : (at : Point) (later : List Carried) (v : Viewed) → IsViewAt at x named carried v → IsViewAt at x named (later ++ carried) v
   viewed_on at later v was = record {
-    found = found_on x (whole_of named carried) (whole_of named (later ++ carried)) (final later) at v.found was.found;
+    found = found_on v.rollover x (whole_of named carried) (whole_of named (later ++ carried)) (final later) at v.found was.found;
     blamed = was.blamed ∙ sym (blamed_on at later (number_in v.found));
   }
+
+  viewed_by : (o : Option Rollover) (at : Point) (later : List Carried) (v : Viewed) → IsViewBy o at x named carried v → IsViewBy o at x named (later ++ carried) v
+  viewed_by o at later v was = (was.0, viewed_on at later v was.1)
 
   pub judged_on : (later : List Carried) (j : Judged) (judging : Judging) → IsJudgedOf j judging x named carried → IsJudgedOf j judging x named (later ++ carried)
   judged_on later j judging was = record {
@@ -173,9 +176,11 @@ module _ (named : List ℕ) (carried : List Carried) (x : Transfer) (opens : ope
     at_client = was.at_client;
     at_server = was.at_server;
     at_between = was.at_between;
-    client = if_so (IsViewAt point.Client x named carried) (IsViewAt point.Client x named (later ++ carried)) j.client (viewed_on point.Client later) was.client;
-    server = if_so (IsViewAt point.Server x named carried) (IsViewAt point.Server x named (later ++ carried)) j.server (viewed_on point.Server later) was.server;
-    between = λ apart. if_so (IsViewAt point.Between x named carried) (IsViewAt point.Between x named (later ++ carried)) j.between (viewed_on point.Between later)
+    client = if_so (IsViewBy (rollover_of judging) point.Client x named carried) (IsViewBy (rollover_of judging) point.Client x named (later ++ carried)) j.client
+        (viewed_by (rollover_of judging) point.Client later) was.client;
+    server = if_so (IsViewBy (rollover_of judging) point.Server x named carried) (IsViewBy (rollover_of judging) point.Server x named (later ++ carried)) j.server
+        (viewed_by (rollover_of judging) point.Server later) was.server;
+    between = λ apart. if_so (IsViewBy None point.Between x named carried) (IsViewBy None point.Between x named (later ++ carried)) j.between (viewed_by None point.Between later)
         (was.between (subst (λ s. AreApart (sides_with x s)) (final later).who apart));
   }
 

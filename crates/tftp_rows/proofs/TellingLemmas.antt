@@ -4,10 +4,14 @@ use Rattle.std.proofs.lemmas.List.{take_more}
 use Rattle.audit_recording.specs.Rows.Told.{depends_on_place, row_of, rows_told}
 use Rattle.audit_recording.specs.declared.rows.row.Point.TheVariants.{Between}
 use Rattle.net_udp.specs.Recording.{Step}
-use Rattle.audit_recording.specs.Blame.Frames.{Carried}
+use Rattle.audit_recording.specs.Blame.Frames.{Carried, whole_of}
+use Rattle.audit_recording.specs.Judges.{IsWatching, Watched}
+use Rattle.audit_recording.specs.Session.Trails.{IsTrailAfter}
 use Rattle.audit_recording.specs.Session.Kept.{IsSessionOf}
 use Rattle.audit_recording.specs.declared.session.session.Session.{Session}
+use Rattle.audit_flows.specs.{Transfer}
 use Rattle.audit_flows.specs.Lines.{same_address}
+use Rattle.audit_views.specs.Parties.{host_name}
 use Rattle.audit_recording.specs.Losses.Noted.{IsAsked, IsFirst, IsMissingOf, IsTold, Since}
 use Rattle.audit_recording.specs.Reasons.Clock.{IsClockAfter, last_of}
 use Rattle.audit_recording.specs.Session.Noted.{AreNotesOf, Noticed, stretch_of}
@@ -17,6 +21,7 @@ use Rattle.audit_recording.specs.declared.blame.trail.Trail.{Trail}
 use Rattle.audit_recording.specs.declared.blame.missing.Missing.{Missing}
 use Rattle.audit_recording.specs.declared.judges.judging.Judging.{Judging}
 use Rattle.audit_recording.specs.declared.rows.row.Row.{Row}
+use Rattle.audit_rows.specs.{IsJudgedOf}
 use Rattle.audit_rows.specs.Judging.{said_there}
 use Rattle.audit_rows.specs.Viewing.{said_in}
 use Rattle.audit_rows.specs.declared.judged.Judged.{Judged}
@@ -331,6 +336,13 @@ numbered contents s t n j ps p = subst (λ k. TellsRowsAt contents (record s { t
 
 pub told_with : {W : Type 0} (contents : W → Option (List ℕ)) (s t : Teller W) (n : ℕ) (j : Judged) (ps : List Row) → TellsRowsAt contents (record s { told = n }) t j ps → t.told ≡ n
 told_with contents s t n j ps p = p.tells.told
+
+-- what there is to say of a transfer is by where the session judges
+pub judged_as : (j : Judged) (t : Trail) (w : Watched) (told judging : Judging) (x : Transfer) (named : List ℕ) (carried : List Carried) → told ≡ judging
+    → (IsTrailAfter t told x named carried → IsWatching w told x host_name (whole_of named carried) → IsJudgedOf j told x named carried)
+    → IsTrailAfter t judging x named carried → IsWatching w judging x host_name (whole_of named carried) → IsJudgedOf j judging x named carried
+judged_as j t w told judging x named carried same makes =
+    subst (λ k. IsTrailAfter t k x named carried → IsWatching w k x host_name (whole_of named carried) → IsJudgedOf j k x named carried) same makes
 
 -- what is missing of a transfer is so of what there is to say of it
 pub missing_there : (j : Judged) (t : Trail) (m : Missing) (s : Noticed) → j.trail ≡ t → j.doubted.missing ≡ m → IsFirst (IsMissingOf t.transfer.client.address s.events) m.first

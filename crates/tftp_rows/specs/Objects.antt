@@ -1,7 +1,7 @@
 -- What is printed of a row as JSON (docs/schemas), member by member.
 use Rattle.std.specs.Prelude.{ℕ, Bool, false, List, [], ◌∷◌, map, Option, Some, None, option_map, codes, string_bytes}
 use Rattle.json.specs.Json.{Json, boolean, null, string}
-use Rattle.tftp_packet.specs.{End}
+use Rattle.tftp_packet.specs.{End, Rollover, Zero, One}
 use Rattle.tftp_rows.specs.Reasons.{reason_text}
 use Rattle.audit_recording.specs.{Accused}
 use Rattle.tftp_rows.specs.Plain.{host_text}
@@ -111,6 +111,11 @@ accused_json (Some a) = object_of (
 abbrev pub reason_json : Reason → Json
 reason_json reason = string (reason_text reason)
 
+-- the number that comes after block 65535
+abbrev pub next_number : Rollover → ℕ
+next_number Zero = 0
+next_number One = 1
+
 abbrev pub row_json : VerdictRow → Json
 row_json r = object_of (
     (codes "file", string r.file.now)
@@ -123,4 +128,5 @@ row_json r = object_of (
     ∷ (codes "ended", ended_json r.ended)
     ∷ (codes "stands", flag_or_null r.stands)
     ∷ (codes "times", times_json r.times)
+    ∷ (codes "rollover", count_or_null (option_map next_number r.rollover))
     ∷ [])

@@ -1,5 +1,5 @@
 -- What a refusal rests on, in words: whether it stands whatever frames but a request are missing, and that block numbers may begin again.
-use Rattle.std.specs.Prelude.{ℕ, Bool, true, false, List, [], Option, Some, Err, codes, if◌then◌else◌}
+use Rattle.std.specs.Prelude.{◌&&◌, ℕ, Bool, true, false, List, [], Option, Some, Err, codes, is_none, if◌then◌else◌}
 use Rattle.law_model.specs.{EndRule}
 use Rattle.law_end.specs.declared.rule.Rule.TheVariants as rule
 use Rattle.tftp_judge.specs.declared.refusal.Refusal.TheVariants as refusal
@@ -8,6 +8,7 @@ use Rattle.audit_recording.specs.declared.blame.reason.Reason.{Reason}
 use Rattle.audit_rows.specs.declared.charge.Charge.{Charge}
 use Rattle.audit_rows.specs.declared.found.Found.{Found}
 use Rattle.audit_rows.specs.declared.found.Found.TheVariants.{AtEnd, Between}
+use Rattle.audit_rows.specs.declared.viewed.Viewed.{Viewed}
 
 -- Of a refusal that nothing makes doubtful: it stands whatever frames are missing but a request of its client, or it stands if none is.
 abbrev pub premise_by : Bool → List Reason → Option Bool → List ℕ
@@ -23,6 +24,10 @@ abbrev pub goes_beyond : Found → Bool
 goes_beyond (AtEnd (Err (refusal.Unlawful number (rule.Block EndRule.BeyondBlock65535)))) = true
 goes_beyond (Between (Err (tap.Unlawful number (rule.Block EndRule.BeyondBlock65535) stands))) = true
 goes_beyond _ = false
+
+-- and by numbers that do not begin again
+abbrev pub goes_beyond_once : Viewed → Bool
+goes_beyond_once v = is_none v.rollover && goes_beyond v.found
 
 -- who judges numbers that begin again
 abbrev pub beyond_text : Bool → List ℕ

@@ -25,7 +25,7 @@ use Rattle.audit_rows.specs.declared.judged.Judged.{Judged}
 use Rattle.audit_rows.specs.declared.told.Told.{Told}
 use Rattle.audit_rows.specs.declared.viewed.Viewed.{Viewed}
 use Rattle.tftp_rows.specs.Ended.{IsConclusionOf}
-use Rattle.tftp_rows.specs.Premises.{goes_beyond}
+use Rattle.tftp_rows.specs.Premises.{goes_beyond_once}
 use Rattle.tftp_rows.specs.Printing.{PrintsAll, PrintsPart, verdict_lines}
 use Rattle.tftp_rows.specs.Times.{AreTimesOf}
 use Rattle.tftp_rows.specs.Verdicts.{has_same_words, verdict_line}
@@ -48,7 +48,8 @@ pub record IsRowOf (name : List ℕ) (n : ℕ) (j : Judged) (t : Told) (row : Ve
       → IsConclusionOf row.ended j t x named carried
   pub stands : (judging : Judging) (x : Transfer) (named : List ℕ) (carried : List Carried) → IsJudgedOf j judging x named carried
       → IsStanding t.telling.point x (some_of x.number follows_request (whole_of named carried)) (named_in x (whole_of named carried)) t.view.now row.stands
-  pub beyond : row.goes_beyond ≡ goes_beyond t.view.now.found
+  pub beyond : row.goes_beyond ≡ goes_beyond_once t.view.now
+  pub rollover : row.rollover ≡ t.view.now.rollover
   pub times : (judging : Judging) (x : Transfer) (named : List ℕ) (carried : List Carried) → IsJudgedOf j judging x named carried
       → AreTimesOf row.times x (bytes_in t.view.now.found) named carried
 

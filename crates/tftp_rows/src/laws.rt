@@ -56,8 +56,8 @@ pub fn worked_doubts()
 /// The object of a row of the pages, and signs in a text that are escaped.
 pub fn worked_objects()
     ensures row { (r : VerdictRow) → IsRow r (codes "examples/loopback-repeated-oack.pcap") 2 Between (Some 9) (client_at second_host 46722) (codes "refused datagram 4 rule 25 BlockChanged") []
-        → r.ended ≡ Quiet ServerEnd 0 76 → r.stands ≡ Some true → r.times ≡ repeated
-        → json_text (row_json r) ≡ codes "{\"file\":\"examples/loopback-repeated-oack.pcap\",\"number\":2,\"place\":\"between\",\"frame\":9,\"verdict\":\"refused datagram 4 rule 25 BlockChanged\",\"accused\":{\"role\":\"client\",\"host\":\"192.0.2.2\",\"port\":46722},\"doubts\":[],\"ended\":{\"how\":\"last\",\"role\":\"server\",\"code\":null,\"message\":null,\"frame\":76,\"seconds\":0,\"before_refusal\":false},\"stands\":true,\"times\":{\"nanoseconds\":5270000,\"bytes_per_second\":null,\"repeats\":{\"client\":9,\"server\":9},\"silence\":{\"nanoseconds\":1641000,\"role\":\"server\",\"frame\":3}}}" }
+        → r.ended ≡ Quiet ServerEnd 0 76 → r.stands ≡ Some true → r.times ≡ repeated → r.rollover ≡ None
+        → json_text (row_json r) ≡ codes "{\"file\":\"examples/loopback-repeated-oack.pcap\",\"number\":2,\"place\":\"between\",\"frame\":9,\"verdict\":\"refused datagram 4 rule 25 BlockChanged\",\"accused\":{\"role\":\"client\",\"host\":\"192.0.2.2\",\"port\":46722},\"doubts\":[],\"ended\":{\"how\":\"last\",\"role\":\"server\",\"code\":null,\"message\":null,\"frame\":76,\"seconds\":0,\"before_refusal\":false},\"stands\":true,\"times\":{\"nanoseconds\":5270000,\"bytes_per_second\":null,\"repeats\":{\"client\":9,\"server\":9},\"silence\":{\"nanoseconds\":1641000,\"role\":\"server\",\"frame\":3}},\"rollover\":null}" }
     ensures escaped { json_text (string (codes "a\"b\\c\nd")) ≡ codes "\"a\\\"b\\\\c\\nd\"" }
 {}
 

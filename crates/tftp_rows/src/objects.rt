@@ -3,7 +3,7 @@
 ghost use Rattle.std.specs.Prelude.{◌≡◌, IfOk, OnOk, codes, flat_map, map, option_map, string_bytes};
 ghost use Rattle.json.specs.Tree.{json_tokens};
 ghost use Rattle.tftp_rows.specs.Members.{Adds, AddsMember, array_of};
-ghost use Rattle.tftp_rows.specs.Objects.{accused_json, code_in, ended_json, frame_in, how_word, is_before_in, message_in, reason_json, repeats_json, role_in, row_json, seconds_in, silence_json, times_json};
+ghost use Rattle.tftp_rows.specs.Objects.{accused_json, code_in, ended_json, frame_in, how_word, is_before_in, message_in, next_number, reason_json, repeats_json, role_in, row_json, seconds_in, silence_json, times_json};
 
 use crate::conclusion::{Conclusion, message_words, role_name, unreachable_words};
 use crate::endpoint::shown_host;
@@ -18,6 +18,7 @@ use audit_recording::rows::Accused;
 use json::Writer;
 use std::alloc::{AllocError, Global};
 use tftp_packet::End;
+use tftp_packet::rounds::Rollover;
 
 impl VerdictRow<'_> {
     /// Puts the object of a row.
@@ -35,7 +36,19 @@ impl VerdictRow<'_> {
         self.ended.put_member(alloc, out)?;
         put_some_flag(out, "stands", self.stands)?;
         self.times.put_member(out)?;
+        put_some_count(out, "rollover", next_number(self.rollover))?;
         out.end_object()
+    }
+}
+
+/// The number that comes after block 65535.
+fn next_number(rollover: Option<Rollover>) -> Option<u64>
+    ensures { result ≡ option_map next_number rollover }
+{
+    match rollover {
+        Some(Rollover::Zero) => Some(0),
+        Some(Rollover::One) => Some(1),
+        None => None,
     }
 }
 

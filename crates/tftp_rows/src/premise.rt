@@ -1,9 +1,9 @@
 //! What a refusal rests on, in words.
 
 ghost use Rattle.std.specs.Prelude.{◌≡◌, ◌++◌, OnOk, string_bytes};
-ghost use Rattle.tftp_rows.specs.Premises.{beyond_text, goes_beyond, premise_text};
+ghost use Rattle.tftp_rows.specs.Premises.{beyond_text, goes_beyond, goes_beyond_once, premise_text};
 
-use audit_rows::{Charge, Found};
+use audit_rows::{Charge, Found, Viewed};
 use judge_tap::TapRefusal;
 use law_end::Rule;
 use law_model::rules::EndRule;
@@ -28,8 +28,15 @@ pub fn put_premise(
     }
 }
 
+/// Whether it is refused so where block numbers do not begin again.
+pub fn goes_beyond_once(view: &Viewed) -> bool
+    ensures { result ≡ goes_beyond_once view.now }
+{
+    view.rollover.is_none() && goes_beyond(&view.found)
+}
+
 /// Whether it is refused by rule 20, since the transfer goes on after block 65535 (RFC 1350, section 5).
-pub fn goes_beyond(found: &Found) -> bool
+fn goes_beyond(found: &Found) -> bool
     ensures { result ≡ goes_beyond found.now }
 {
     match found {

@@ -15,7 +15,7 @@ ghost use Rattle.audit_rows.specs.Charging.{IsChargeOf, dropped_reasons, unless_
 ghost use Rattle.audit_rows.specs.Viewing.{IsStanding, bytes_in, said_in};
 ghost use Rattle.tftp_rows.specs.Cells.{cell};
 ghost use Rattle.tftp_rows.specs.Ended.{IsConclusionOf};
-ghost use Rattle.tftp_rows.specs.Premises.{goes_beyond};
+ghost use Rattle.tftp_rows.specs.Premises.{goes_beyond_once};
 ghost use Rattle.tftp_rows.specs.Rows.{accused_text, column_heads, doubtful_text, frame_text, further_reason, head_text, place_name as name_of, reasons_text, row_text, verdict_text};
 ghost use Rattle.tftp_rows.specs.Times.{AreTimesOf};
 ghost use Rattle.tftp_rows.specs.Verdicts.{verdict_line};
@@ -24,7 +24,7 @@ use crate::cells::{put_cell, put_number_cell};
 use crate::conclusion::{Conclusion, concluded, role_name};
 use crate::endpoint::shown;
 use crate::plain::put_plain;
-use crate::premise::{goes_beyond, put_beyond, put_premise};
+use crate::premise::{goes_beyond_once, put_beyond, put_premise};
 use crate::reason::ReasonWords;
 use crate::times::{Times, times_told};
 use crate::verdict::verdict_words;
@@ -32,6 +32,7 @@ use audit_recording::blame::Reason;
 use audit_recording::rows::{Accused, Place};
 use audit_rows::{Charge, Judged, Told};
 use std::alloc::{AllocError, Global};
+use tftp_packet::rounds::Rollover;
 
 /// A row of verdicts.
 #[derive(Drop)]
@@ -52,8 +53,10 @@ pub struct VerdictRow<'a> {
     pub ended: Conclusion,
     /// Of what is refused, whether that stands whatever datagrams of the transfer were missed; nothing where that is not known.
     pub stands: Option<bool>,
-    /// Whether it is refused by rule 20, since it goes on after block 65535.
+    /// Whether it is refused by rule 20, since it goes on after block 65535, and numbers do not begin again there.
     pub goes_beyond: bool,
+    /// What comes after block 65535, where anything does.
+    pub rollover: Option<Rollover>,
     /// How it went in time.
     pub times: Times,
 }
@@ -93,7 +96,8 @@ impl<'a> VerdictRow<'a> {
             → IfOk result (λ row. IsConclusionOf row.ended judged.now told.now x named carried) }
         ensures stands { (judging : JudgingKind) (x : Transfer) (named : List ℕ) (carried : List Carried) → IsJudgedOf judged.now judging x named carried
             → IfOk result (λ row. IsStanding told.now.telling.point x (some_of x.number follows_request (whole_of named carried)) (named_in x (whole_of named carried)) told.now.view.now row.stands) }
-        ensures beyond { IfOk result (λ row. row.goes_beyond ≡ goes_beyond told.now.view.now.found) }
+        ensures beyond { IfOk result (λ row. row.goes_beyond ≡ goes_beyond_once told.now.view.now) }
+        ensures rollover { IfOk result (λ row. row.rollover ≡ told.now.view.now.rollover) }
         ensures times { (judging : JudgingKind) (x : Transfer) (named : List ℕ) (carried : List Carried) → IsJudgedOf judged.now judging x named carried
             → IfOk result (λ row. AreTimesOf row.times x (bytes_in told.now.view.now.found) named carried) }
     {
@@ -109,7 +113,8 @@ impl<'a> VerdictRow<'a> {
             charge,
             ended,
             stands: judged.stands(told),
-            goes_beyond: goes_beyond(&told.view.found),
+            goes_beyond: goes_beyond_once(told.view),
+            rollover: told.view.rollover,
             times: times_told(judged, told),
         })
     }
@@ -130,6 +135,7 @@ impl<'a> VerdictRow<'a> {
             ended,
             stands,
             goes_beyond,
+            rollover,
             times,
         } = self;
         let charge = charge.with_dropped(dropped)?;
@@ -143,6 +149,7 @@ impl<'a> VerdictRow<'a> {
             ended,
             stands,
             goes_beyond,
+            rollover,
             times,
         })
     }

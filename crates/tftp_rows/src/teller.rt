@@ -166,7 +166,7 @@ impl<'a, W: Write + Drop> Teller<'a, W> {
         };
         let (missing, now) = (session.missing_of(&ended), read_until(session));
         self.told = self.told.saturating_add(1);
-        let judged = Judged::new(alloc, ended, missing, now);
+        let judged = Judged::new(alloc, ended, session.judging(), missing, now);
         self.tell_judged(alloc, &judged)?;
         Ok(true)
     }

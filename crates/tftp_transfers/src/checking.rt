@@ -9,6 +9,7 @@ use crate::machine::Machine;
 use anyhow::Result;
 use audit_recording::judges::Judging;
 use std::io;
+use tftp_packet::rounds::Rollover;
 use tftp_rows::{Form, Remarks, Teller, check_files};
 use tftp_words::{CheckRequest, Point};
 
@@ -23,21 +24,23 @@ pub fn check(rt: HostRuntime, asked: &CheckRequest<'_>) -> Result<u8> {
         &machine,
         asked.files.as_slice(),
         asked.services.as_slice(),
-        judging_at(asked.end),
+        judging_at(asked.end, asked.rollover),
         &mut teller,
         &mut remarks,
     )
 }
 
-/// Where transfers are judged, where the recordings were made there, if that is said.
-fn judging_at(point: Option<Point>) -> Judging
-    ensures { result ≡ judging_at point }
+/// Where transfers are judged, where the recordings were made there and this comes after block 65535, if that is said.
+fn judging_at(point: Option<Point>, rollover: Option<Rollover>) -> Judging
+    ensures { result ≡ judging_at point rollover }
 {
-    match point {
-        Some(Point::Client) => Judging::Client,
-        Some(Point::Server) => Judging::Server,
-        Some(Point::Between) => Judging::Between,
-        None => Judging::WhereRecorded,
+    match (point, rollover) {
+        (Some(Point::Client), None) => Judging::Client,
+        (Some(Point::Client), Some(rollover)) => Judging::ClientBy(rollover),
+        (Some(Point::Server), None) => Judging::Server,
+        (Some(Point::Server), Some(rollover)) => Judging::ServerBy(rollover),
+        (Some(Point::Between), _) => Judging::Between,
+        (None, _) => Judging::WhereRecorded,
     }
 }
 

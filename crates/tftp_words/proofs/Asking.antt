@@ -1,6 +1,7 @@
 -- What the words ask for, by the command.
 use Rattle.std.proofs.Common.{◌≡◌, ◌≢◌, inl, inr, ℕ, List, [], ◌∷◌, drop, Option, Some, None, codes, slice_get, get_or, refl, sym, ap, ◌∙◌, subst, arith, ◌≤◌, length, map, Bool, true, false, if◌then◌else◌, option_to_list, Bor}
 use Rattle.std.proofs.lemmas.Option.{slice_get_within}
+use Rattle.tftp_packet.specs.{Rollover}
 use Rattle.tftp_words.specs.{Point, Command, Word, Part, Say, Have, IsOnce, IsTransfer, end_word, plains, Asked, Listed, Written, AllWritten, Judged, Argues, IsRequest, IsNoName, Names, Calls}
 use Rattle.tftp_words.specs.declared.request.Command.TheVariants as command
 
@@ -12,7 +13,7 @@ abbrev pub command_in : Asked → Command
 command_in (Listed services json file) = command.List
 command_in (Written number end services file) = command.Text
 command_in (AllWritten end services file) = command.Texts
-command_in (Judged at services json files) = command.Check
+command_in (Judged at over services json files) = command.Check
 
 pub calls_itself : (a : Asked) → Calls (command_in a) a
 calls_itself (Listed services json file) = tt
@@ -36,10 +37,10 @@ told (Written number end services file) w ws (arguments, (p, are), ps, say, argu
     (2, (refl, second_word p w (codes "text") ws arguments are at), subst (Arguments (Written number end services file)) (sym (ap (drop 2) are)) (ps, say, argues))
 told (AllWritten end services file) w ws (arguments, (p, are), ps, say, argues) at =
     (2, (refl, second_word p w (codes "texts") ws arguments are at), subst (Arguments (AllWritten end services file)) (sym (ap (drop 2) are)) (ps, say, argues))
-told (Judged end services json files) w ws (arguments, (p, inl are), ps, say, argues) at =
-    (2, (refl, inl (second_word p w (codes "check") ws arguments are at)), subst (Arguments (Judged end services json files)) (sym (ap (drop 2) are)) (ps, say, argues))
-told (Judged end services json files) w ws (arguments, (p, inr are), ps, say, argues) at =
-    (2, (refl, inr (second_word p w (codes "--check") ws arguments are at)), subst (Arguments (Judged end services json files)) (sym (ap (drop 2) are)) (ps, say, argues))
+told (Judged end over services json files) w ws (arguments, (p, inl are), ps, say, argues) at =
+    (2, (refl, inl (second_word p w (codes "check") ws arguments are at)), subst (Arguments (Judged end over services json files)) (sym (ap (drop 2) are)) (ps, say, argues))
+told (Judged end over services json files) w ws (arguments, (p, inr are), ps, say, argues) at =
+    (2, (refl, inr (second_word p w (codes "--check") ws arguments are at)), subst (Arguments (Judged end over services json files)) (sym (ap (drop 2) are)) (ps, say, argues))
 
 -- ---- and back
 
@@ -65,13 +66,13 @@ asks (AllWritten end services file) w ws command.Texts count at (two, is) calls 
     let found = two_words w ws at in
     let it = subst (λ n. Arguments (AllWritten end services file) (drop n ws)) two said in
     (drop 2 ws, (found.0, found.1 ∙ ap (λ x. found.0 ∷ x ∷ drop 2 ws) is), it.0, it.1, it.2)
-asks (Judged end services json files) w ws command.Check count at (two, inl is) calls said =
+asks (Judged end over services json files) w ws command.Check count at (two, inl is) calls said =
     let found = two_words w ws at in
-    let it = subst (λ n. Arguments (Judged end services json files) (drop n ws)) two said in
+    let it = subst (λ n. Arguments (Judged end over services json files) (drop n ws)) two said in
     (drop 2 ws, (found.0, inl (found.1 ∙ ap (λ x. found.0 ∷ x ∷ drop 2 ws) is)), it.0, it.1, it.2)
-asks (Judged end services json files) w ws command.Check count at (two, inr is) calls said =
+asks (Judged end over services json files) w ws command.Check count at (two, inr is) calls said =
     let found = two_words w ws at in
-    let it = subst (λ n. Arguments (Judged end services json files) (drop n ws)) two said in
+    let it = subst (λ n. Arguments (Judged end over services json files) (drop n ws)) two said in
     (drop 2 ws, (found.0, inr (found.1 ∙ ap (λ x. found.0 ∷ x ∷ drop 2 ws) is)), it.0, it.1, it.2)
 asks (Listed services json file) w ws command.Text count at names calls said = absurd calls
 asks _ w ws _ count at names calls said = absurd calls
@@ -127,14 +128,19 @@ one_point : (at : Option Point) → length (option_to_list at) ≤ 1
 one_point None = omega arith
 one_point (Some x) = omega arith
 
-once : (ps : List Part) (ports : List ℕ) (json : Bool) (at : Option Point) (words : List Word) → Have ps ports json at words → IsOnce ps
-once ps ports json at words h = (subst (λ n. n ≤ 1) (sym h.1) (at_most_one json), subst (λ l. length l ≤ 1) (sym h.2) (one_point at))
+one_rollover : (over : Option Rollover) → length (option_to_list over) ≤ 1
+one_rollover None = omega arith
+one_rollover (Some x) = omega arith
+
+once : (ps : List Part) (ports : List ℕ) (json : Bool) (at : Option Point) (over : Option Rollover) (words : List Word) → Have ps ports json at over words → IsOnce ps
+once ps ports json at over words h =
+    (subst (λ n. n ≤ 1) (sym h.1) (at_most_one json), subst (λ l. length l ≤ 1) (sym h.2) (one_point at), subst (λ l. length l ≤ 1) (sym h.3) (one_rollover over))
 
 argues_once : (a : Asked) (ps : List Part) → Argues a ps → IsOnce ps
-argues_once (Listed services json file) ps argues = once ps services json None (file ∷ []) argues
-argues_once (Written number end services file) ps argues = once ps services false None (argues.0 ∷ end_word end ∷ file ∷ []) argues.2
-argues_once (AllWritten end services file) ps argues = once ps services false None (end_word end ∷ file ∷ []) argues
-argues_once (Judged at services json files) ps argues = once ps services json at files argues.1
+argues_once (Listed services json file) ps argues = once ps services json None None (file ∷ []) argues
+argues_once (Written number end services file) ps argues = once ps services false None None (argues.0 ∷ end_word end ∷ file ∷ []) argues.2
+argues_once (AllWritten end services file) ps argues = once ps services false None None (end_word end ∷ file ∷ []) argues
+argues_once (Judged at over services json files) ps argues = once ps services json at over files argues.2
 
 pub the_arguments : (a : Asked) (w : Word) (ws : List Word) (c : Command) (k : ℕ) → IsRequest a ws → slice_get ws 1 ≡ Some w → Names w c k → Calls c a × (ps : List Part) × Say (drop k ws) ps × IsOnce ps × Argues a ps
 the_arguments a w ws c k request at names =
@@ -151,8 +157,8 @@ count_fits w ws command.Check k at (two, is) = omega (arith, two, slice_get_with
 
 -- no transfer has this number
 pub no_number : (items : List (Bor Word)) (d : Bor Word) (ps : List Part) (a : Asked) → plains ps ≡ map (λ (w : Bor Word). w.now) items → Calls command.Text a → Argues a ps → ((n : ℕ) → IsTransfer (get_or items 0 d).now n → ⊥) → ⊥
-no_number [] d ps (Written number end services file) are calls argues none = (let bad : [] ≡ argues.0 ∷ end_word end ∷ file ∷ [] = sym are ∙ argues.2.3 in cc)
+no_number [] d ps (Written number end services file) are calls argues none = (let bad : [] ≡ argues.0 ∷ end_word end ∷ file ∷ [] = sym are ∙ argues.2.4 in cc)
 no_number (x ∷ items) d ps (Written number end services file) are calls argues none =
-    let same : argues.0 ≡ x.now = ap (λ l. get_or l 0 []) (sym argues.2.3 ∙ are) in
+    let same : argues.0 ≡ x.now = ap (λ l. get_or l 0 []) (sym argues.2.4 ∙ are) in
     none number (subst (λ t. IsTransfer t number) same argues.1)
 no_number items d ps _ are calls argues none = calls

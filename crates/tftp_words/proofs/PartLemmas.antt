@@ -1,6 +1,7 @@
 -- How the words begin.
 use Rattle.std.proofs.Common.{◌≡◌, ◌≢◌, inl, inr, ℕ, [], ◌∷◌, ◌++◌, length, true, false, Option, Some, codes, ◌==◌, refl, sym, ap, ◌∙◌, append-nil, get_or, subst, arith}
-use Rattle.tftp_words.specs.{Point, Word, Part, Service, Json, At, Plain, IsOption, IsPlain, IsPort, Gives, Begins, point_word}
+use Rattle.tftp_packet.specs.{Rollover}
+use Rattle.tftp_words.specs.{Point, Word, Part, Service, Json, At, Again, Plain, IsOption, IsPlain, IsPort, Gives, Begins, point_word, rollover_word}
 use Rattle.std.proofs.lemmas.List.{append_cancel_left}
 
 pub no_name : (name word : Word) (next : Option Word) → ((rest : Word) → word ≡ name ++ rest → ⊥) → (value : Word) (count : ℕ) → Gives name word next value count → ⊥
@@ -40,14 +41,28 @@ pub point_given : (word : Word) (next : Option Word) (point : Point) (count : �
 point_given word next point count (inl (one, option)) = given_by_one (codes "--end") (point_word point) word next count one option
 point_given word next point count (inr (two, second, at, option)) = given_by_two (codes "--end") (point_word point) word second next count two at option
 
+pub rollover_given : (word : Word) (next : Option Word) (rollover : Rollover) (count : ℕ) → Begins word next (Again rollover) count → Gives (codes "--rollover") word next (rollover_word rollover) count
+rollover_given word next rollover count (inl (one, option)) = given_by_one (codes "--rollover") (rollover_word rollover) word next count one option
+rollover_given word next rollover count (inr (two, second, at, option)) = given_by_two (codes "--rollover") (rollover_word rollover) word second next count two at option
+
 pub third_of : (name word : Word) (next : Option Word) (v : Word) (k x : ℕ) → ((rest : Word) → get_or (name ++ rest) 2 0 ≡ x) → Gives name word next v k → get_or word 2 0 ≡ x
 third_of name word next v k x at (inl (one, is)) = ap (λ w. get_or w 2 0) is ∙ at (61 ∷ v)
 third_of name word next v k x at (inr (two, is, second)) = ap (λ w. get_or w 2 0) (is ∙ sym (append-nil name)) ∙ at []
 
 -- no words begin with two options
-pub two_names : (word : Word) (next : Option Word) (v w : Word) (k l : ℕ) → Gives (codes "--service") word next v k → Gives (codes "--end") word next w l → ⊥
-two_names word next v w k l one other =
+service_or_end : (word : Word) (next : Option Word) (v w : Word) (k l : ℕ) → Gives (codes "--service") word next v k → Gives (codes "--end") word next w l → ⊥
+service_or_end word next v w k l one other =
     let bad : 115 ≡ 101 = sym (third_of (codes "--service") word next v k 115 (λ rest. refl) one) ∙ third_of (codes "--end") word next w l 101 (λ rest. refl) other in
+    absurd (omega (arith, bad))
+
+service_or_rollover : (word : Word) (next : Option Word) (v w : Word) (k l : ℕ) → Gives (codes "--service") word next v k → Gives (codes "--rollover") word next w l → ⊥
+service_or_rollover word next v w k l one other =
+    let bad : 115 ≡ 114 = sym (third_of (codes "--service") word next v k 115 (λ rest. refl) one) ∙ third_of (codes "--rollover") word next w l 114 (λ rest. refl) other in
+    absurd (omega (arith, bad))
+
+end_or_rollover : (word : Word) (next : Option Word) (v w : Word) (k l : ℕ) → Gives (codes "--end") word next v k → Gives (codes "--rollover") word next w l → ⊥
+end_or_rollover word next v w k l one other =
+    let bad : 101 ≡ 114 = sym (third_of (codes "--end") word next v k 101 (λ rest. refl) one) ∙ third_of (codes "--rollover") word next w l 114 (λ rest. refl) other in
     absurd (omega (arith, bad))
 
 not_json : (word : Word) (next : Option Word) (count : ℕ) → word ≢ codes "--json" → Begins word next Json count → ⊥
@@ -65,12 +80,34 @@ no_port word next text k plain json option none (Service port) count begins =
     let given = service_given word next port count begins in
     none port (subst (λ t. IsPort t port) (one_value (codes "--service") word next given.0 text count k given.2 option) given.1)
 no_port word next text k plain json option none Json count begins = not_json word next count json begins
-no_port word next text k plain json option none (At point) count begins = two_names word next text (point_word point) k count option (point_given word next point count begins)
+no_port word next text k plain json option none (At point) count begins = service_or_end word next text (point_word point) k count option (point_given word next point count begins)
+no_port word next text k plain json option none (Again rollover) count begins = service_or_rollover word next text (rollover_word rollover) k count option (rollover_given word next rollover count begins)
 no_port word next text k plain json option none (Plain w) count begins = not_plain word w next count plain begins
 
-pub no_part : (word : Word) (next : Option Word) → (IsPlain word → ⊥) → word ≢ codes "--json" → ((v : Word) (k : ℕ) → Gives (codes "--service") word next v k → ⊥) → ((v : Word) (k : ℕ) → Gives (codes "--end") word next v k → ⊥)
+pub no_point : (word : Word) (next : Option Word) (text : Word) (k : ℕ) → (IsPlain word → ⊥) → word ≢ codes "--json" → Gives (codes "--end") word next text k → ((point : Point) → text ≢ point_word point)
     → (p : Part) (count : ℕ) → Begins word next p count → ⊥
-no_part word next plain json service end (Service port) count begins = let given = service_given word next port count begins in service given.0 count given.2
-no_part word next plain json service end Json count begins = not_json word next count json begins
-no_part word next plain json service end (At at) count begins = end (point_word at) count (point_given word next at count begins)
-no_part word next plain json service end (Plain w) count begins = not_plain word w next count plain begins
+no_point word next text k plain json option none (Service port) count begins =
+    let given = service_given word next port count begins in service_or_end word next given.0 text count k given.2 option
+no_point word next text k plain json option none Json count begins = not_json word next count json begins
+no_point word next text k plain json option none (At point) count begins =
+    none point (one_value (codes "--end") word next text (point_word point) k count option (point_given word next point count begins))
+no_point word next text k plain json option none (Again rollover) count begins = end_or_rollover word next text (rollover_word rollover) k count option (rollover_given word next rollover count begins)
+no_point word next text k plain json option none (Plain w) count begins = not_plain word w next count plain begins
+
+pub no_rollover : (word : Word) (next : Option Word) (text : Word) (k : ℕ) → (IsPlain word → ⊥) → word ≢ codes "--json" → Gives (codes "--rollover") word next text k → ((rollover : Rollover) → text ≢ rollover_word rollover)
+    → (p : Part) (count : ℕ) → Begins word next p count → ⊥
+no_rollover word next text k plain json option none (Service port) count begins =
+    let given = service_given word next port count begins in service_or_rollover word next given.0 text count k given.2 option
+no_rollover word next text k plain json option none Json count begins = not_json word next count json begins
+no_rollover word next text k plain json option none (At point) count begins = end_or_rollover word next (point_word point) text count k (point_given word next point count begins) option
+no_rollover word next text k plain json option none (Again rollover) count begins =
+    none rollover (one_value (codes "--rollover") word next text (rollover_word rollover) k count option (rollover_given word next rollover count begins))
+no_rollover word next text k plain json option none (Plain w) count begins = not_plain word w next count plain begins
+
+pub no_part : (word : Word) (next : Option Word) → (IsPlain word → ⊥) → word ≢ codes "--json" → ((v : Word) (k : ℕ) → Gives (codes "--service") word next v k → ⊥) → ((v : Word) (k : ℕ) → Gives (codes "--end") word next v k → ⊥)
+    → ((v : Word) (k : ℕ) → Gives (codes "--rollover") word next v k → ⊥) → (p : Part) (count : ℕ) → Begins word next p count → ⊥
+no_part word next plain json service end over (Service port) count begins = let given = service_given word next port count begins in service given.0 count given.2
+no_part word next plain json service end over Json count begins = not_json word next count json begins
+no_part word next plain json service end over (At at) count begins = end (point_word at) count (point_given word next at count begins)
+no_part word next plain json service end over (Again rollover) count begins = over (rollover_word rollover) count (rollover_given word next rollover count begins)
+no_part word next plain json service end over (Plain w) count begins = not_plain word w next count plain begins

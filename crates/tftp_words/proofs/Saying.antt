@@ -1,9 +1,10 @@
 -- Words say one list of parts.
 use Rattle.std.proofs.Common.{◌≡◌, ◌≢◌, ◌⊎◌, inl, inr, ℕ, ◌≤◌, List, [], ◌∷◌, ◌++◌, length, drop, map, Option, Some, None, codes, slice_get, refl, sym, ap, ◌∙◌, get_or, subst, arith, append-nil}
 use Rattle.std.proofs.lemmas.List.{append_cancel_left}
-use Rattle.tftp_words.specs.{Point, Word, Part, Service, Json, At, Plain, IsOption, IsPlain, IsPort, IsNumber, Gives, Begins, Says, Say, Done, First, Rest, point_word}
+use Rattle.tftp_packet.specs.{Rollover, Zero, One}
+use Rattle.tftp_words.specs.{Point, Word, Part, Service, Json, At, Again, Plain, IsOption, IsPlain, IsPort, IsNumber, Gives, Begins, Says, Say, Done, First, Rest, point_word, rollover_word}
 use Rattle.tftp_words.specs.declared.point.Point.TheVariants as point
-use Rattle.tftp_words.proofs.PartLemmas.{service_given, point_given, one_value, third_of}
+use Rattle.tftp_words.proofs.PartLemmas.{service_given, point_given, rollover_given, one_value, third_of}
 
 -- ---- the words begin with one part
 
@@ -24,6 +25,7 @@ abbrev third : Part → ℕ
 third (Service port) = 115
 third Json = 106
 third (At point) = 101
+third (Again rollover) = 114
 third (Plain word) = 0
 
 given_dashes : (name rest word : Word) (next : Option Word) (v : Word) (k : ℕ) → name ≡ 45 ∷ 45 ∷ rest → Gives name word next v k → IsPlain word → ⊥
@@ -52,6 +54,11 @@ point_option word next at k begins =
     let given = point_given word next at k begins in
     (third_of (codes "--end") word next (point_word at) k 101 (λ rest. refl) given, given_dashes (codes "--end") (codes "end") word next (point_word at) k refl given)
 
+rollover_option : (word : Word) (next : Option Word) (rollover : Rollover) (k : ℕ) → Begins word next (Again rollover) k → IsOptionWord (Again rollover) word
+rollover_option word next rollover k begins =
+    let given = rollover_given word next rollover k begins in
+    (third_of (codes "--rollover") word next (rollover_word rollover) k 114 (λ rest. refl) given, given_dashes (codes "--rollover") (codes "rollover") word next (rollover_word rollover) k refl given)
+
 json_word : (word : Word) (next : Option Word) (k : ℕ) → Begins word next Json k → IsOptionWord Json word
 json_word word next k begins =
     let is = (json_is word next k begins).1 in
@@ -72,6 +79,11 @@ same_point point.Server point.Between e = (let bad : 115 ≡ 98 = ap (λ w. get_
 same_point point.Between point.Server e = (let bad : 98 ≡ 115 = ap (λ w. get_or w 0 0) e in absurd (omega (arith, bad)))
 same_point _ _ e = refl
 
+same_rollover : (a b : Rollover) → rollover_word a ≡ rollover_word b → a ≡ b
+same_rollover Zero One e = (let bad : 48 ≡ 49 = ap (λ w. get_or w 0 0) e in absurd (omega (arith, bad)))
+same_rollover One Zero e = (let bad : 49 ≡ 48 = ap (λ w. get_or w 0 0) e in absurd (omega (arith, bad)))
+same_rollover _ _ e = refl
+
 same_port : (s t : Word) (p q : ℕ) → s ≡ t → IsPort s p → IsPort t q → p ≡ q
 same_port s t p q e one other = one.0.1 ∙ sym (subst (λ w. IsNumber w q) (sym e) other.0).1
 
@@ -85,10 +97,12 @@ one_begin word next (Service a) (Service b) k l one other =
     (ap Service (same_port x.0 y.0 a b (one_value (codes "--service") word next x.0 y.0 k l x.2 y.2) x.1 y.1), one_count (codes "--service") word next x.0 y.0 k l x.2 y.2)
 one_begin word next (Service a) Json k l one other = absurd (differ (Service a) Json word 115 106 refl refl (λ e. omega (arith, e)) (service_word word next a k one) (json_word word next l other))
 one_begin word next (Service a) (At b) k l one other = absurd (differ (Service a) (At b) word 115 101 refl refl (λ e. omega (arith, e)) (service_word word next a k one) (point_option word next b l other))
+one_begin word next (Service a) (Again b) k l one other = absurd (differ (Service a) (Again b) word 115 114 refl refl (λ e. omega (arith, e)) (service_word word next a k one) (rollover_option word next b l other))
 one_begin word next (Service a) (Plain b) k l one other = absurd (not_both (Service a) word b next l (service_word word next a k one) other)
 one_begin word next Json (Service b) k l one other = absurd (differ Json (Service b) word 106 115 refl refl (λ e. omega (arith, e)) (json_word word next k one) (service_word word next b l other))
 one_begin word next Json Json k l one other = (refl, (json_is word next k one).0 ∙ sym (json_is word next l other).0)
 one_begin word next Json (At b) k l one other = absurd (differ Json (At b) word 106 101 refl refl (λ e. omega (arith, e)) (json_word word next k one) (point_option word next b l other))
+one_begin word next Json (Again b) k l one other = absurd (differ Json (Again b) word 106 114 refl refl (λ e. omega (arith, e)) (json_word word next k one) (rollover_option word next b l other))
 one_begin word next Json (Plain b) k l one other = absurd (not_both Json word b next l (json_word word next k one) other)
 one_begin word next (At a) (Service b) k l one other = absurd (differ (At a) (Service b) word 101 115 refl refl (λ e. omega (arith, e)) (point_option word next a k one) (service_word word next b l other))
 one_begin word next (At a) Json k l one other = absurd (differ (At a) Json word 101 106 refl refl (λ e. omega (arith, e)) (point_option word next a k one) (json_word word next l other))
@@ -96,10 +110,20 @@ one_begin word next (At a) (At b) k l one other =
     let x = point_given word next a k one in
     let y = point_given word next b l other in
     (ap At (same_point a b (one_value (codes "--end") word next (point_word a) (point_word b) k l x y)), one_count (codes "--end") word next (point_word a) (point_word b) k l x y)
+one_begin word next (At a) (Again b) k l one other = absurd (differ (At a) (Again b) word 101 114 refl refl (λ e. omega (arith, e)) (point_option word next a k one) (rollover_option word next b l other))
 one_begin word next (At a) (Plain b) k l one other = absurd (not_both (At a) word b next l (point_option word next a k one) other)
+one_begin word next (Again a) (Service b) k l one other = absurd (differ (Again a) (Service b) word 114 115 refl refl (λ e. omega (arith, e)) (rollover_option word next a k one) (service_word word next b l other))
+one_begin word next (Again a) Json k l one other = absurd (differ (Again a) Json word 114 106 refl refl (λ e. omega (arith, e)) (rollover_option word next a k one) (json_word word next l other))
+one_begin word next (Again a) (At b) k l one other = absurd (differ (Again a) (At b) word 114 101 refl refl (λ e. omega (arith, e)) (rollover_option word next a k one) (point_option word next b l other))
+one_begin word next (Again a) (Again b) k l one other =
+    let x = rollover_given word next a k one in
+    let y = rollover_given word next b l other in
+    (ap Again (same_rollover a b (one_value (codes "--rollover") word next (rollover_word a) (rollover_word b) k l x y)), one_count (codes "--rollover") word next (rollover_word a) (rollover_word b) k l x y)
+one_begin word next (Again a) (Plain b) k l one other = absurd (not_both (Again a) word b next l (rollover_option word next a k one) other)
 one_begin word next (Plain a) (Service b) k l one other = absurd (not_both (Service b) word a next k (service_word word next b l other) one)
 one_begin word next (Plain a) Json k l one other = absurd (not_both Json word a next k (json_word word next l other) one)
 one_begin word next (Plain a) (At b) k l one other = absurd (not_both (At b) word a next k (point_option word next b l other) one)
+one_begin word next (Plain a) (Again b) k l one other = absurd (not_both (Again b) word a next k (rollover_option word next b l other) one)
 one_begin word next (Plain a) (Plain b) k l one other =
     let x = plain_is word a next k one in
     let y = plain_is word b next l other in
@@ -115,6 +139,7 @@ part_size : (p : Part) (mine : List Word) → Says mine p → ((a : Word) × (mi
 part_size (Service port) mine says = option_size (codes "--service") says.0 mine says.2
 part_size Json mine says = inl (codes "--json", says)
 part_size (At point) mine says = option_size (codes "--end") (point_word point) mine says
+part_size (Again rollover) mine says = option_size (codes "--rollover") (rollover_word rollover) mine says
 part_size (Plain word) mine says = inl (word, says.1)
 
 says_begins : (ws mine rest : List Word) (w : Word) (next : Option Word) (p : Part) → ws ≡ mine ++ rest → Says mine p → slice_get ws 0 ≡ Some w → slice_get ws 1 ≡ next
@@ -215,6 +240,7 @@ dashes_begin_nothing : (p : Part) (k : ℕ) (next : Option Word) → Begins (cod
 dashes_begin_nothing (Service port) k next begins = let bad : 0 ≡ 115 = (service_word (codes "--") next port k begins).0 in omega (arith, bad)
 dashes_begin_nothing Json k next begins = let bad : 0 ≡ 106 = (json_word (codes "--") next k begins).0 in omega (arith, bad)
 dashes_begin_nothing (At point) k next begins = let bad : 0 ≡ 101 = (point_option (codes "--") next point k begins).0 in omega (arith, bad)
+dashes_begin_nothing (Again rollover) k next begins = let bad : 0 ≡ 114 = (rollover_option (codes "--") next rollover k begins).0 in omega (arith, bad)
 dashes_begin_nothing (Plain w) k next begins = let plain = plain_is (codes "--") w next k begins in dashes_not_plain [] (subst IsPlain plain.1 plain.2)
 
 dashes_say_nothing : (p : Part) (mine rest words : List Word) → codes "--" ∷ words ≡ mine ++ rest → Says mine p → ⊥

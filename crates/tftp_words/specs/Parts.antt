@@ -2,7 +2,7 @@
 use Rattle.std.specs.Prelude.{◌≡◌, ◌≢◌, ◌⊎◌, ◌≤◌, ◌<◌, ◌^◌, ℕ, ◌+◌, List, [], ◌∷◌, ◌++◌, codes, map, Option, Some, Bool, if◌then◌else◌, option_to_list, length}
 use Rattle.tftp_words.specs.declared.given.Given.{Given}
 use Rattle.std.specs.Str.Parse.{IsNumeral, digits_value, without_leading_plus}
-use Rattle.tftp_packet.specs.{End}
+use Rattle.tftp_packet.specs.{End, Rollover, Zero, One}
 use Rattle.tftp_packet.specs.declared.kinds.End.TheVariants as end
 use Rattle.tftp_words.specs.declared.point.Point.{Point}
 use Rattle.tftp_words.specs.declared.point.Point.TheVariants as point
@@ -12,11 +12,12 @@ use Rattle.tftp_words.specs.declared.part.Part as code_part
 abbrev pub Word : Type 0
 Word = List ℕ
 
--- a port to which requests go, JSON, where the recording was made, a word that is no option
+-- a port to which requests go, JSON, where the recording was made, what comes after block 65535, a word that is no option
 pub data Part : Type 0 where
   Service : (port : ℕ) → Part
   Json : Part
   At : (point : Point) → Part
+  Again : (rollover : Rollover) → Part
   Plain : (word : Word) → Part
 
 -- decimal digits, before which a plus may stand, write this number
@@ -39,6 +40,11 @@ point_word point.Client = codes "client"
 point_word point.Server = codes "server"
 point_word point.Between = codes "between"
 
+-- the number that comes after block 65535
+abbrev pub rollover_word : Rollover → Word
+rollover_word Zero = codes "0"
+rollover_word One = codes "1"
+
 -- an option's name and its value, in two words or with = in one
 abbrev pub IsOption : Word → Word → List Word → Type 0
 IsOption name value words = (words ≡ name ∷ value ∷ []) ⊎ (words ≡ (name ++ (codes "=" ++ value)) ∷ [])
@@ -52,6 +58,7 @@ abbrev pub Says : List Word → Part → Type 0
 Says words (Service port) = (text : Word) × IsPort text port × IsOption (codes "--service") text words
 Says words Json = words ≡ codes "--json" ∷ []
 Says words (At point) = IsOption (codes "--end") (point_word point) words
+Says words (Again rollover) = IsOption (codes "--rollover") (rollover_word rollover) words
 Says words (Plain word) = IsPlain word × (words ≡ word ∷ [])
 
 -- the words begin with this option, which takes one of them or two
@@ -84,6 +91,11 @@ points [] = []
 points (At point ∷ ps) = point ∷ points ps
 points (_ ∷ ps) = points ps
 
+abbrev pub rollovers : List Part → List Rollover
+rollovers [] = []
+rollovers (Again rollover ∷ ps) = rollover ∷ rollovers ps
+rollovers (_ ∷ ps) = rollovers ps
+
 abbrev pub plains : List Part → List Word
 plains [] = []
 plains (Plain word ∷ ps) = word ∷ plains ps
@@ -95,21 +107,23 @@ jsons [] = 0
 jsons (Json ∷ ps) = 1 + jsons ps
 jsons (_ ∷ ps) = jsons ps
 
--- JSON and a point are said once at most
+-- JSON, a point and a rollover are said once at most
 abbrev pub IsOnce : List Part → Type 0
-IsOnce ps = (jsons ps ≤ 1) × (length (points ps) ≤ 1)
+IsOnce ps = (jsons ps ≤ 1) × (length (points ps) ≤ 1) × (length (rollovers ps) ≤ 1)
 
--- the parts have these ports, JSON or not, this point if any, and these words
-abbrev pub Have : List Part → List ℕ → Bool → Option Point → List Word → Type 0
-Have ps ports json at words =
-    (services ps ≡ ports) × (jsons ps ≡ (if json then 1 else 0)) × (points ps ≡ option_to_list at) × (plains ps ≡ words)
+-- the parts have these ports, JSON or not, this point and this rollover if any, and these words
+abbrev pub Have : List Part → List ℕ → Bool → Option Point → Option Rollover → List Word → Type 0
+Have ps ports json at rollover words =
+    (services ps ≡ ports) × (jsons ps ≡ (if json then 1 else 0)) × (points ps ≡ option_to_list at) × (rollovers ps ≡ option_to_list rollover)
+    × (plains ps ≡ words)
 
 -- what the code holds of a part
 abbrev pub part : code_part.Part → Part
 part (code.Service port) = Service port
 part code.Json = Json
 part (code.End point) = At point
+part (code.Rollover rollover) = Again rollover
 part (code.Plain word) = Plain word.now
 
 abbrev pub Holds : Given → List Part → Type 0
-Holds given ps = Have ps given.services.items given.json given.end (map (λ word. word.now) given.plain.items)
+Holds given ps = Have ps given.services.items given.json given.end given.rollover (map (λ word. word.now) given.plain.items)

@@ -1,7 +1,8 @@
 -- What the words of `tftp-transfers` ask for.
-use Rattle.std.specs.Prelude.{◌≡◌, ◌≢◌, ◌⊎◌, ⊤, ◌≤◌, ℕ, List, [], ◌∷◌, length, map, Bool, false, Option, None, codes}
-use Rattle.tftp_packet.specs.{End}
+use Rattle.std.specs.Prelude.{◌≡◌, ◌≢◌, ◌⊎◌, ⊤, ◌≤◌, ℕ, List, [], ◌∷◌, length, map, Bool, false, Option, Some, None, codes}
+use Rattle.tftp_packet.specs.{End, Rollover}
 use Rattle.tftp_words.specs.declared.point.Point.{Point}
+use Rattle.tftp_words.specs.declared.point.Point.TheVariants as point
 use Rattle.tftp_words.specs.declared.request.Request.{Request}
 use Rattle.tftp_words.specs.declared.request.Request.TheVariants as code
 use Rattle.tftp_words.specs.declared.request.Command.{Command}
@@ -13,15 +14,22 @@ pub data Asked : Type 0 where
   Listed : (services : List ℕ) (json : Bool) (file : Word) → Asked
   Written : (number : ℕ) (end : End) (services : List ℕ) (file : Word) → Asked
   AllWritten : (end : End) (services : List ℕ) (file : Word) → Asked
-  Judged : (at : Option Point) (services : List ℕ) (json : Bool) (files : List Word) → Asked
+  Judged : (at : Option Point) (rollover : Option Rollover) (services : List ℕ) (json : Bool) (files : List Word) → Asked
+
+-- Numbers that begin again after block 65535 are judged at an end alone: between the ends it is not known what each has seen.
+abbrev pub IsJudgedAt : Option Rollover → Option Point → Type 0
+IsJudgedAt None at = ⊤
+IsJudgedAt (Some rollover) (Some point.Client) = ⊤
+IsJudgedAt (Some rollover) (Some point.Server) = ⊤
+IsJudgedAt _ _ = ⊥
 
 -- the parts are the arguments of what is asked
 abbrev pub Argues : Asked → List Part → Type 0
-Argues (Listed services json file) ps = Have ps services json None (file ∷ [])
+Argues (Listed services json file) ps = Have ps services json None None (file ∷ [])
 Argues (Written number end services file) ps =
-    (text : Word) × IsTransfer text number × Have ps services false None (text ∷ end_word end ∷ file ∷ [])
-Argues (AllWritten end services file) ps = Have ps services false None (end_word end ∷ file ∷ [])
-Argues (Judged at services json files) ps = (1 ≤ length files) × Have ps services json at files
+    (text : Word) × IsTransfer text number × Have ps services false None None (text ∷ end_word end ∷ file ∷ [])
+Argues (AllWritten end services file) ps = Have ps services false None None (end_word end ∷ file ∷ [])
+Argues (Judged at rollover services json files) ps = (1 ≤ length files) × IsJudgedAt rollover at × Have ps services json at rollover files
 
 -- a word that names no command
 abbrev pub IsNoName : Word → Type 0
@@ -35,7 +43,7 @@ IsCommandLine (Listed services json file) arguments words =
     ⊎ ((word : Word) × (rest : List Word) × IsNoName word × (arguments ≡ word ∷ rest) × (words ≡ program ∷ arguments)))
 IsCommandLine (Written number end services file) arguments words = (program : Word) × (words ≡ program ∷ codes "text" ∷ arguments)
 IsCommandLine (AllWritten end services file) arguments words = (program : Word) × (words ≡ program ∷ codes "texts" ∷ arguments)
-IsCommandLine (Judged at services json files) arguments words =
+IsCommandLine (Judged at rollover services json files) arguments words =
     (program : Word) × ((words ≡ program ∷ codes "check" ∷ arguments) ⊎ (words ≡ program ∷ codes "--check" ∷ arguments))
 
 -- the words ask for this
@@ -55,11 +63,11 @@ abbrev pub Calls : Command → Asked → Type 0
 Calls command.List (Listed services json file) = ⊤
 Calls command.Text (Written number end services file) = ⊤
 Calls command.Texts (AllWritten end services file) = ⊤
-Calls command.Check (Judged at services json files) = ⊤
+Calls command.Check (Judged at rollover services json files) = ⊤
 Calls _ _ = ⊥
 
 abbrev pub asked : Request → Asked
 asked (code.List r) = Listed r.services.items r.json r.file.now
 asked (code.Text r) = Written r.number r.end r.services.items r.file.now
 asked (code.Texts r) = AllWritten r.end r.services.items r.file.now
-asked (code.Check r) = Judged r.end r.services.items r.json (map (λ file. file.now) r.files.items)
+asked (code.Check r) = Judged r.end r.rollover r.services.items r.json (map (λ file. file.now) r.files.items)

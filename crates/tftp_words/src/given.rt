@@ -1,4 +1,4 @@
-ghost use Rattle.std.specs.Prelude.{◌≡◌, ◌++◌, ◌∷◌, [], ◌⊎◌, Err, IfOk, OnOk, IsOkAnd, map, option_map, slice_get};
+ghost use Rattle.std.specs.Prelude.{◌≡◌, ◌≢◌, ◌++◌, ◌∷◌, [], ◌⊎◌, Err, IfOk, OnOk, IsOkAnd, map, option_map, slice_get};
 ghost use Rattle.tftp_words.specs.Parts.{Holds, IsOnce, Plain, Say};
 ghost use Rattle.tftp_words.specs.Parts.{part as part_said};
 ghost use Rattle.tftp_words.specs.declared.given.ReadFault.TheVariants.{Memory};
@@ -7,6 +7,7 @@ use crate::part::{Part, first_part};
 use crate::point::Point;
 use std::alloc::{AllocError, AllocFailed, Global};
 use std::convert::AsStr;
+use tftp_packet::rounds::Rollover;
 
 /// What the parts of the words give.
 #[derive(Debug, Drop)]
@@ -17,6 +18,8 @@ pub struct Given<'a> {
     pub json: bool,
     /// Where the recording was made, if that is said.
     pub end: Option<Point>,
+    /// What comes after block 65535, if that is said.
+    pub rollover: Option<Rollover>,
     /// The words that are no options, in their order.
     pub plain: Vec<&'a str>,
 }
@@ -26,6 +29,8 @@ pub struct Given<'a> {
 pub enum ReadFault {
     /// They say nothing that the program can be asked for.
     Unknown,
+    /// They say what comes after block 65535, and no end at which numbers are judged so.
+    NoEnd,
     /// Memory was refused.
     Memory,
 }
@@ -54,14 +59,16 @@ impl<'a> Given<'a> {
             services: Vec::new(alloc),
             json: false,
             end: None,
+            rollover: None,
             plain: Vec::new(alloc),
         }
     }
 
-    /// Adds a part; JSON and a point are said once at most.
+    /// Adds a part; JSON, a point and a rollover are said once at most.
     fn add(&mut self, part: Part<'a>) -> Result<(), ReadFault>
         ensures ok { (ps : _) → Holds self.old ps → OnOk result (Holds self.new (ps ++ part_said part.entry ∷ [])) }
         ensures once { (ps qs : _) → Holds self.old ps → result ≡ Err ReadFault.Unknown → IsOnce (ps ++ part_said part.entry ∷ qs) → ⊥ }
+        ensures known { result ≢ Err ReadFault.NoEnd }
     {
         match part {
             Part::Service(port) => self.services.push(port)?,
@@ -69,6 +76,8 @@ impl<'a> Given<'a> {
             Part::Json => self.json = true,
             Part::End(_) if self.end.is_some() => return Err(ReadFault::Unknown),
             Part::End(point) => self.end = Some(point),
+            Part::Rollover(_) if self.rollover.is_some() => return Err(ReadFault::Unknown),
+            Part::Rollover(rollover) => self.rollover = Some(rollover),
             Part::Plain(word) => self.plain.push(word)?,
         }
         Ok(())

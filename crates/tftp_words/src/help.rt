@@ -6,6 +6,8 @@ use std::alloc::{AllocError, Global};
 
 static ENDS: [&str; 2] = ["client", "server"];
 
+static ROLLOVERS: [&str; 2] = ["0", "1"];
+
 static POINTS: [&str; 3] = ["client", "server", "between"];
 
 /// The version that the programs on recordings tell.
@@ -75,6 +77,14 @@ fn point<'a>(alloc: Global) -> Arg<'a> {
         .help("Where the recordings were made: at an end, or between the two")
 }
 
+fn rollover<'a>(alloc: Global) -> Arg<'a> {
+    Arg::new(alloc, "rollover")
+        .long("rollover")
+        .value_name("NUMBER")
+        .value_parser(ROLLOVERS.as_slice())
+        .help("Block numbers begin again with this after 65535; with --end client or --end server")
+}
+
 fn files<'a>(alloc: Global) -> Arg<'a> {
     Arg::new(alloc, "file")
         .value_name("FILE")
@@ -89,6 +99,7 @@ fn check<'a>(alloc: Global) -> Result<Command<'a>, AllocError> {
         .about("The verdict on each transfer")
         .alias("--check")?
         .arg(point(alloc))?
+        .arg(rollover(alloc))?
         .arg(args::service(alloc))?
         .arg(args::json(alloc, JSON))?
         .arg(files(alloc))

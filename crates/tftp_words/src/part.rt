@@ -1,10 +1,12 @@
 ghost use Rattle.std.specs.Prelude.{◌≡◌, ◌≢◌, ℕ, List, ◌↔◌, IsTrue, MatchOption, option_map};
-ghost use Rattle.tftp_words.specs.Parts.{Begins, Gives, IsPlain, IsPort, IsTransfer, end_word, part, point_word};
+ghost use Rattle.tftp_packet.specs.{Rollover as RolloverKind};
+ghost use Rattle.tftp_words.specs.Parts.{Begins, Gives, IsPlain, IsPort, IsTransfer, end_word, part, point_word, rollover_word};
 ghost use Rattle.tftp_words.specs.declared.point.Point.{Point as PointKind};
 
 use crate::point::Point;
 use std::str::FromStr;
 use tftp_packet::End;
+use tftp_packet::rounds::Rollover;
 
 /// A part of the words.
 #[derive(Clone, Copy, Debug, PartialEq, Eq)]
@@ -15,6 +17,8 @@ pub enum Part<'a> {
     Json,
     /// Where the recording was made.
     End(Point),
+    /// What comes after block 65535.
+    Rollover(Rollover),
     /// A word that is no option.
     Plain(&'a str),
 }
@@ -71,6 +75,17 @@ fn point_of(word: &str) -> Option<Point>
     }
 }
 
+/// What comes after block 65535, by its number.
+fn rollover_of(word: &str) -> Option<Rollover>
+    ensures { MatchOption result ((rollover : RolloverKind) → word.now ≢ rollover_word rollover) (λ rollover. word.now ≡ rollover_word rollover) }
+{
+    match word {
+        "0" => Some(Rollover::Zero),
+        "1" => Some(Rollover::One),
+        _ => None,
+    }
+}
+
 /// The value of the option with this name where these words begin with it, and how many of them say it.
 fn value_of<'a>(name: &str, word: &'a str, next: Option<&'a str>) -> Option<(&'a str, usize)>
     ensures { MatchOption result
@@ -99,6 +114,9 @@ pub fn first_part<'a>(word: &'a str, next: Option<&'a str>) -> Option<(Part<'a>,
     if let Some((text, count)) = value_of("--service", word, next) {
         return Some((Part::Service(port_of(text)?), count));
     }
-    let (text, count) = value_of("--end", word, next)?;
-    Some((Part::End(point_of(text)?), count))
+    if let Some((text, count)) = value_of("--end", word, next) {
+        return Some((Part::End(point_of(text)?), count));
+    }
+    let (text, count) = value_of("--rollover", word, next)?;
+    Some((Part::Rollover(rollover_of(text)?), count))
 }

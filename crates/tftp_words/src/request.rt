@@ -1,6 +1,6 @@
-ghost use Rattle.std.specs.Prelude.{◌≡◌, ◌⊎◌, ℕ, Err, IfOk, IsOkAnd, MatchOption, map};
+ghost use Rattle.std.specs.Prelude.{◌≡◌, ◌⊎◌, ◌↔◌, ℕ, Err, IfOk, IsOkAnd, IsTrue, MatchOption, map};
 ghost use Rattle.tftp_words.specs.Parts.{Holds};
-ghost use Rattle.tftp_words.specs.Requests.{Argues, Calls, IsRequest, Names, asked};
+ghost use Rattle.tftp_words.specs.Requests.{Argues, Calls, IsJudgedAt, IsRequest, Names, asked};
 ghost use Rattle.tftp_words.specs.declared.given.ReadFault.TheVariants.{Memory};
 
 use crate::given::{Given, ReadFault, given_of, word_at};
@@ -9,6 +9,7 @@ use crate::point::Point;
 use std::alloc::Global;
 use std::convert::AsStr;
 use tftp_packet::End;
+use tftp_packet::rounds::Rollover;
 
 /// What the program is asked for.
 #[derive(Debug, Drop)]
@@ -63,6 +64,8 @@ pub struct TextsRequest<'a> {
 pub struct CheckRequest<'a> {
     /// Where the recordings were made, if that is said.
     pub end: Option<Point>,
+    /// What comes after block 65535, if that is said: there is an end then.
+    pub rollover: Option<Rollover>,
     /// The ports that were named, to which requests go as they do to 69.
     pub services: Vec<u16>,
     /// Whether each line is a JSON object.
@@ -96,23 +99,34 @@ fn command_of(word: &str) -> Option<(Command, usize)>
     }
 }
 
+/// Whether numbers may be judged there by what comes after block 65535: at an end alone.
+fn is_judged_at(rollover: Option<Rollover>, at: Option<Point>) -> bool
+    ensures { IsTrue result ↔ IsJudgedAt rollover at }
+{
+    match (rollover, at) {
+        (None, _) | (Some(_), Some(Point::Client | Point::Server)) => true,
+        _ => false,
+    }
+}
+
 /// What a command asks for with what its arguments give.
 fn request_by<'a>(command: Command, given: Given<'a>) -> Result<Request<'a>, ReadFault>
     ensures ok { (ps : _) → Holds given.entry ps → IfOk result (λ r. Calls command (asked r) × Argues (asked r) ps) }
     ensures only { (ps a : _) → Holds given.entry ps → Calls command a → Argues a ps → IsOkAnd result (λ r. asked r ≡ a) }
+    ensures no_end { result ≡ Err ReadFault.NoEnd → IsJudgedAt given.entry.rollover given.entry.end → ⊥ }
 {
     let (services, plain) = (given.services, given.plain);
     match command {
-        Command::List => match (given.end, plain.as_slice()) {
-            (None, [file]) => Ok(Request::List(ListRequest {
+        Command::List => match (given.end, given.rollover, plain.as_slice()) {
+            (None, None, [file]) => Ok(Request::List(ListRequest {
                 services,
                 json: given.json,
                 file: *file,
             })),
             _ => Err(ReadFault::Unknown),
         },
-        Command::Text => match (given.json, given.end, plain.as_slice()) {
-            (false, None, [number, end, file]) => Ok(Request::Text(TextRequest {
+        Command::Text => match (given.json, given.end, given.rollover, plain.as_slice()) {
+            (false, None, None, [number, end, file]) => Ok(Request::Text(TextRequest {
                 number: transfer_of(*number).ok_or(ReadFault::Unknown)?,
                 end: end_of(*end).ok_or(ReadFault::Unknown)?,
                 services,
@@ -120,8 +134,8 @@ fn request_by<'a>(command: Command, given: Given<'a>) -> Result<Request<'a>, Rea
             })),
             _ => Err(ReadFault::Unknown),
         },
-        Command::Texts => match (given.json, given.end, plain.as_slice()) {
-            (false, None, [at, file]) => Ok(Request::Texts(TextsRequest {
+        Command::Texts => match (given.json, given.end, given.rollover, plain.as_slice()) {
+            (false, None, None, [at, file]) => Ok(Request::Texts(TextsRequest {
                 end: end_of(*at).ok_or(ReadFault::Unknown)?,
                 services,
                 file: *file,
@@ -129,8 +143,10 @@ fn request_by<'a>(command: Command, given: Given<'a>) -> Result<Request<'a>, Rea
             _ => Err(ReadFault::Unknown),
         },
         Command::Check if plain.is_empty() => Err(ReadFault::Unknown),
+        Command::Check if !is_judged_at(given.rollover, given.end) => Err(ReadFault::NoEnd),
         Command::Check => Ok(Request::Check(CheckRequest {
             end: given.end,
+            rollover: given.rollover,
             services,
             json: given.json,
             files: plain,

@@ -25,6 +25,10 @@ pub enum WordsFault {
     Memory,
 }
 
+const NO_REQUEST: &str = "the words make no request";
+
+const NO_END: &str = "--rollover wants --end client or --end server";
+
 /// The request that the words of a command line make, the first of which is the program's name.
 pub fn request_of<'a, S: AsStr>(alloc: Global, words: &'a [S]) -> Result<Request<'a>, WordsFault>
     ensures ok { IfOk result (λ r. IsRequest (asked r) (map S.text words.entry.now)) }
@@ -34,15 +38,16 @@ pub fn request_of<'a, S: AsStr>(alloc: Global, words: &'a [S]) -> Result<Request
     match requested(alloc, words) {
         Ok(request) => Ok(request),
         Err(ReadFault::Memory) => Err(WordsFault::Memory),
-        Err(ReadFault::Unknown) => Err(told(alloc, words)),
+        Err(ReadFault::Unknown) => Err(told(alloc, words, NO_REQUEST)),
+        Err(ReadFault::NoEnd) => Err(told(alloc, words, NO_END)),
     }
 }
 
-/// What there is to tell of words that make no request.
-fn told<S: AsStr>(alloc: Global, words: &[S]) -> WordsFault
+/// What there is to tell of words that make no request, where this is why clap may not know.
+fn told<S: AsStr>(alloc: Global, words: &[S], why: &str) -> WordsFault
     ensures { IsTold result }
 {
-    match refusal(alloc, words) {
+    match refusal(alloc, words, why) {
         Ok(error) => fault_of(error),
         Err(error) => fault_of(error),
     }
@@ -60,11 +65,11 @@ pub fn fault_of(error: Error) -> WordsFault
     }
 }
 
-/// What clap says of the words; where it takes them all the same, that they make no request.
-fn refusal<'a, S: AsStr>(alloc: Global, words: &'a [S]) -> Result<Error, Error> {
+/// What clap says of the words; where it takes them all the same, why they make no request.
+fn refusal<'a, S: AsStr>(alloc: Global, words: &'a [S], why: &str) -> Result<Error, Error> {
     let mut command = command_line(alloc)?;
     match command.try_get_matches_from_mut(words) {
-        Ok(_) => Ok(command.error(ErrorKind::InvalidValue, "the words make no request")?),
+        Ok(_) => Ok(command.error(ErrorKind::InvalidValue, why)?),
         Err(error) => Ok(error),
     }
 }

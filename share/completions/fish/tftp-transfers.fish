@@ -7,6 +7,7 @@ complete -c tftp-transfers -n __fish_use_subcommand -a extract -d 'The file of e
 complete -c tftp-transfers -n __fish_use_subcommand -a help -d 'How it is called'
 complete -c tftp-transfers -n '__fish_seen_subcommand_from text texts' -a 'client server' -d 'The end'
 complete -c tftp-transfers -n '__fish_seen_subcommand_from check extract' -l end -x -a 'client server between' -d 'The end of the recordings, or between'
+complete -c tftp-transfers -n '__fish_seen_subcommand_from check' -l rollover -x -a '0 1' -d 'What comes after block 65535'
 complete -c tftp-transfers -n '__fish_seen_subcommand_from extract' -l partial -d 'Also what came of files that are not accepted'
 complete -c tftp-transfers -n '__fish_seen_subcommand_from extract' -l rollover -x -a '0 1' -d 'What comes after block 65535'
 complete -c tftp-transfers -n '__fish_seen_subcommand_from extract' -l program -r -d 'The program tftp-audit'

@@ -28,3 +28,6 @@ never (Some false) is = let no : Some true ≡ Some false = is in absurd (cc)
 
 pub returns-clause-said_once : goal.returns-clause-said_once
 returns-clause-said_once c options (alone, is, said) = never alone said
+
+pub returns-clause-again : goal.returns-clause-again
+returns-clause-again c rollover options = refl

@@ -8,7 +8,8 @@ use Rattle.audit_rows.proofs.Seen.{seen}
 use Rattle.audit_rows.proofs.judged.Judged.new.Goals as goal
 
 pub returns-clause-judged : goal.returns-clause-judged
-returns-clause-judged c judging x named carried after watching =
+returns-clause-judged c x named carried after watching =
+    let judging = c.args.judging in
     let points = c.finish-client.ensures.points judging x host_name (whole_of named carried) watching in
     record {
       trail = after.own;
@@ -26,9 +27,9 @@ returns-clause-judged c judging x named carried after watching =
       at_client = seen c.at_client.result (λ it. AtEnd it) c.finish-client.result.client c.at_client.ensures.found ∙ points.client;
       at_server = seen c.at_server.result (λ it. AtEnd it) c.finish-client.result.server c.at_server.ensures.found ∙ points.server;
       at_between = seen c.between.result (λ it. Between it) c.finish-client.result.between c.between.ensures.found ∙ points.between;
-      client = c.at_client.ensures.is judging x named carried after.own points.client
+      client = c.at_client.ensures.is x named carried after.own points.client
           (c.finish-client.ensures.client judging x host_name (whole_of named carried) watching);
-      server = c.at_server.ensures.is judging x named carried after.own points.server
+      server = c.at_server.ensures.is x named carried after.own points.server
           (c.finish-client.ensures.server judging x host_name (whole_of named carried) watching);
       between = λ apart. c.between.ensures.is judging x named carried after.own after.between points.between apart
           (c.finish-client.ensures.between judging x (whole_of named carried) watching apart);

@@ -15,4 +15,5 @@ returns c =
     (adds_then r c.put_accused.new.out c.put_doubts.new.out end _ _ (rw c.as_slice.ensures.value at c.in_ok-put_doubts.ensures)
     (adds_then r c.put_doubts.new.out c.put_member.new.out end _ _ c.in_ok-put_member.ensures
     (adds_then r c.put_member.new.out c.put_some_flag.new.out end _ _ c.in_ok-put_some_flag.ensures
-    (adds_then r c.put_some_flag.new.out c.put_member-2.new.out end _ _ c.in_ok-put_member-2.ensures (adds_one r c.put_member-2.new.out end _ c.end_object.ensures)))))))))))
+    (adds_then r c.put_some_flag.new.out c.put_member-2.new.out end _ _ c.in_ok-put_member-2.ensures
+    (adds_then r c.put_member-2.new.out c.put_some_count-2.new.out end _ _ (rw c.next_number.ensures at c.in_ok-put_some_count-2.ensures) (adds_one r c.put_some_count-2.new.out end _ c.end_object.ensures))))))))))))

@@ -1,5 +1,5 @@
 use Rattle.std.proofs.Common.{◌∙◌}
-use Rattle.tftp_rows.proofs.TellingLemmas.{missing_there, numbered, numbered_part, on_err, told_with, until_there, within_there}
+use Rattle.tftp_rows.proofs.TellingLemmas.{judged_as, missing_there, numbered, numbered_part, on_err, told_with, until_there, within_there}
 use Rattle.tftp_rows.proofs.teller.Teller.tell_oldest.Goals as goal
 
 pub returns-in_default-clause-all : goal.returns-in_default-clause-all
@@ -21,7 +21,7 @@ returns-clause-told g c named out history carried s is e =
         oldest = λ n opened left. c.in-Some.ensures.first named out history carried s n is opened left;
       };
       judged = c.new-judged.result;
-      of = c.new-judged.ensures.judged _ _ named carried (c.in-Some.ensures.trail named out history carried s is) watched.1;
+      of = judged_as c.new-judged.result c.in-Some.ended.trail c.in-Some.ended.watched _ _ c.in-Some.ended.watched.transfer named carried (c.judging.ensures ∙ c.pop.ensures.judging) (c.new-judged.ensures.judged _ named carried) (c.in-Some.ensures.trail named out history carried s is) watched.1;
       missing = missing_there c.new-judged.result c.in-Some.ended.trail c.missing_of-missing.result s c.new-judged.ensures.trail c.new-judged.ensures.missing (c.missing_of-missing.ensures.first s stands.notes);
       within = within_there c.new-judged.result c.in-Some.ended.trail c.missing_of-missing.result s c.new-judged.ensures.trail c.new-judged.ensures.missing (c.missing_of-missing.ensures.within s stands.notes);
       until = until_there c.new-judged.result c.pop.new.self c.read_until-now.result s stands.notes c.new-judged.ensures.until c.read_until-now.ensures;
@@ -42,7 +42,7 @@ returns-in_err-tell_judged-clause-part g c named out history carried s is =
         oldest = λ n opened left. c.in-Some.ensures.first named out history carried s n is opened left;
       };
       judged = c.new-judged.result;
-      of = c.new-judged.ensures.judged _ _ named carried (c.in-Some.ensures.trail named out history carried s is) watched.1;
+      of = judged_as c.new-judged.result c.in-Some.ended.trail c.in-Some.ended.watched _ _ c.in-Some.ended.watched.transfer named carried (c.judging.ensures ∙ c.pop.ensures.judging) (c.new-judged.ensures.judged _ named carried) (c.in-Some.ensures.trail named out history carried s is) watched.1;
       rows = numbered_part g.W.Write.contents c.args.self.now c.tell_judged.new.self c.saturating_add-self.result _ c.new-judged.result _ c.saturating_add-self.ensures c.in_err-tell_judged.ensures.rows;
     })
 

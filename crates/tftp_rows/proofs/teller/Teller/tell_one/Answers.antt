@@ -20,6 +20,7 @@ returns-clause-rows g c place told =
         ended = c.in_ok-row.ensures.ended;
         stands = c.in_ok-row.ensures.stands;
         beyond = c.in_ok-row.ensures.beyond;
+        rollover = c.in_ok-row.ensures.rollover;
         times = c.in_ok-row.ensures.times;
       },
     )
