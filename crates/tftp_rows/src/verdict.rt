@@ -112,7 +112,7 @@ fn aborted_text(alloc: Global, role: End, code: u16) -> Result<String, AllocErro
 }
 
 /// A line of ASCII without its end.
-fn without_end(alloc: Global, line: &[u8]) -> Result<String, AllocError>
+pub fn without_end(alloc: Global, line: &[u8]) -> Result<String, AllocError>
     ensures { (words : List ℕ) → line.now ≡ words ++ 10 ∷ [] → IsAscii words → IfOk result (λ text. string_bytes text ≡ words) }
 {
     let words = &line[..line.len().saturating_sub(1)];
