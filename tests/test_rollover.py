@@ -3,6 +3,7 @@ comes after block 65535; captures of fewer blocks, which are the same by each; t
 scripts tell. The large ones are made and changed here, and sent by real programs."""
 from __future__ import annotations
 
+import functools
 import itertools
 import json
 import pathlib
@@ -301,11 +302,13 @@ def passed_of(first: int) -> list[Datagram]:
     return passed
 
 
+@functools.lru_cache(maxsize=1)
 def recorded(first: int) -> bytes:
     """The recording of a read in lock step, of which nothing is lost."""
     return made.file_of(passed_of(first))
 
 
+@functools.lru_cache(maxsize=1)
 def changed(first: int, block: int) -> tuple[bytes, int]:
     """The same, but that after a block the server sends another with its number; and in which frame."""
     passed = passed_of(first)
@@ -373,7 +376,7 @@ class Recordings(Checks):
         recording, line = made.file_of(passed), refusal(3, Rule.BLOCK_CHANGED)
         for by in ((), ("--rollover", "0"), ("--rollover", "1")):
             words = ("--end", "server", *by)
-            stands, premise = (None, "if no frame is missing") if by else (True, "whatever is missing")
+            stands, premise = (None, "if no frame is missing") if by else (True, "whatever is missing except a request")
             got = self.rows(recording, *words)[0]["stands"]
             output = self.told(recording, "check", *words)[0].splitlines()[-1]
             self.check(f"by {by}", got is stands and output.endswith(f" {line}, {premise}"), (got, output))
