@@ -343,7 +343,7 @@ class Recordings(Checks):
                 is_told = output.splitlines()[-1].endswith(f" {self.ACCEPTED}")
                 self.check(f"{given}, at the {end}", is_told and (errors, status) == ("", 0), (output, errors, status))
             row = self.rows(recording, "--end", end, "--rollover", given)[0]
-            wanted = (self.ACCEPTED, end, None, None, [], int(given))
+            wanted: tuple[object, ...] = (self.ACCEPTED, end, None, None, [], int(given))
             got = tuple(row[name] for name in ("verdict", "place", "frame", "accused", "doubts", "rollover"))
             self.check(f"{given}, at the {end}, JSON", got == wanted, row)
             output, errors, status = self.told(recording, "check", "--end", end, "--rollover", str(1 - int(given)))
