@@ -1,5 +1,5 @@
-"""`check --losses`: the verdict as `check` prints it, and where a datagram is refused, one line of what must be missing so
-that the capture is lawful. What is taken out of lawful captures is told again, with its place and its way."""
+"""`check --losses`: the verdict as `check` prints it, and where a datagram is refused, one line of what must be missing
+so that the capture is lawful. What is taken out of lawful captures is told again, with its place and its way."""
 from __future__ import annotations
 
 import subprocess
@@ -73,7 +73,7 @@ CHANGED = [*READ[:3], ("server", data(1, b"x" * SIZE))]
 MALFORMED = [*READ[:1], ("server", (b"\0\3", ""))]
 CLIENT: EndName = "client"
 SERVER: EndName = "server"
-# A client to which nothing came yet sends to no port but the service's, so what answers a missing datagram breaks rule 2.
+# A client to which nothing came yet sends to the service's port alone, so what answers a missing datagram breaks rule 2.
 # A name, the end, what was recorded, which datagram is refused by which rule, and the further line.
 CASES: tuple[tuple[str, EndName, list[Sent], int, Rule, str], ...] = (
     ("block 1 of a read, at its client", CLIENT, without(READ, 2), 2, Rule.WRONG_PORT,

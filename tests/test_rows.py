@@ -603,7 +603,8 @@ class Rows(Checks):
         table = said(self.program, ["check", "-"], file_of(six))[0]
         cells = [" ".join(line.split()) for line in table.splitlines()]
         listed = ["file number place frame accused verdict"]
-        listed.append(f"- 1 between 3 client [{C_6}]:40000 {refusal(3, Rule.ACK_AHEAD)}, whatever is missing except a request")
+        ahead = f"{refusal(3, Rule.ACK_AHEAD)}, whatever is missing except a request"
+        listed.append(f"- 1 between 3 client [{C_6}]:40000 {ahead}")
         self.check("who is accused, in the table", cells == listed, table)
         output = said(self.program, ["check", "--json", "-"], file_of(six))[0]
         accused = {"role": "client", "host": C_6, "port": 40_000}

@@ -148,7 +148,8 @@ class Stands(Checks):
         """A refusal that nothing makes doubtful says what it rests on, and one of rule 20 who judges such numbers."""
         given, between = file_of([ASKED, FULL, sent(ack(1)[0]), CHANGED]), ("--end", "between")
         said_of = self.words(given, *between)
-        self.check("it stands", said_of == f"{refusal(4, Rule.BLOCK_CHANGED)}, whatever is missing except a request", said_of)
+        wanted = f"{refusal(4, Rule.BLOCK_CHANGED)}, whatever is missing except a request"
+        self.check("it stands", said_of == wanted, said_of)
         said_of = self.words(file_of([ASKED, FULL, sent(ack(3)[0])]), *between)
         wanted = f"{refusal(3, Rule.ACK_AHEAD)}, if no frame is missing"
         self.check("it may not stand", said_of == wanted, said_of)
