@@ -247,7 +247,8 @@ RULES = (
     refused(
         3, Rule.ACK_AHEAD, capture(C, (C, READ), (S, data(1, WHOLE)), (C, ack(2))),
         "Block 1 had come in, block 2 had not.", "Block 2 is acknowledged.",
-        "If lost: lawful if 2 datagrams are missing: 1 incoming and 1 outgoing before datagram 3.",
+        "If lost: lawful if 2 datagrams are missing: 1 from the server and 1 from the client",
+        "before datagram 3 (line 6).",
     ),
     refused(
         3, Rule.ACK_AHEAD, capture(C, (C, READ), (S, error(1, "none")), (C, ack(1))),

@@ -128,6 +128,25 @@ class Ladder(Checks):
         arrows = [line.rstrip() for line in lines if ">|" in line or "|<" in line]
         self.check("--text, the lines stand below one another", len({len(line) for line in arrows}) == 1, output)
 
+    def test_missing(self) -> None:
+        """Where datagrams must be missing, so that what is refused is lawful: block 2 and, in lock step, the ACK before
+        it."""
+        read = Capture("client")
+        read.put("client", read_request("a", "octet"))
+        read.put("server", data(1, b"w" * 512))
+        read.put("client", ack(2))
+        missing = "missing here: 1 from the server and 1 from the client"
+        words = ["--program", self.program]
+        picture = Picture(run(words, read.text())[0])
+        self.check("what must be missing is drawn", picture.has(missing), picture.words)
+        described = "It is lawful if some are missing: 1 from the server and 1 from the client before datagram 3"
+        self.check("what must be missing is described", f"{described} (line 6)." in picture.told()[1], picture.told())
+        lines = run([*words, "--text"], read.text())[0].splitlines()
+        places = [at for at, line in enumerate(lines) if missing in line]
+        self.check("what must be missing, --text", len(places) == 1 and lines[places[0] + 1].startswith(">>"), lines)
+        whole = lockstep(2).replace(b"00040002", b"00040003")
+        self.check("an ACK above the last block", "missing here" not in run([*words, "--text"], whole)[0])
+
     def test_large(self) -> None:
         """100,001 datagrams, with a stand-in for the program, which takes minutes for so many."""
         stand_in = self.folder / "program"

@@ -12,6 +12,7 @@ from .colours import picture_style
 from .compared import side
 from .explained import transfer
 from .history import History
+from .lost import Gap, Gaps
 from .packets import Ack, Data, Error, Oack, Packet, Request, count
 from .program import Verdict
 from .rules import RULES
@@ -139,9 +140,9 @@ class Canvas:
 class Drawing(Canvas):
     """The parts of a picture, from its top down."""
 
-    def __init__(self, capture: Capture, verdict: Verdict, by_time: bool, name: str) -> None:
+    def __init__(self, capture: Capture, verdict: Verdict, by_time: bool, name: str, gaps: Gaps) -> None:
         super().__init__()
-        rungs, self.history = rungs_of(capture, verdict)
+        rungs, self.history = rungs_of(capture, verdict, gaps)
         self.capture, self.verdict, self.by_time, self.name = capture, verdict, by_time, name
         self.rungs = rungs
         self.columns = columns_of(capture, self.history, rungs)
@@ -163,7 +164,15 @@ class Drawing(Canvas):
         self.y += distance
         self.last = rung.passed.datagram
 
+    def missing(self, gap: Gap) -> None:
+        """A dotted line where datagrams must be missing."""
+        self.y += STEP
+        self.line(self.columns.client(), self.y, self.columns.server(), self.y, "refused", 'stroke-dasharray="2 6"')
+        self.text(self.middle, self.y - 5, gap.told(self.capture), 11, "refused", "middle")
+
     def rung(self, rung: Rung) -> None:
+        if rung.gap:
+            self.missing(rung.gap)
         self.step(rung)
         self.parts.append(f"<g><title>{escape(self.hover(rung))}</title>")
         if rung.is_aside():
@@ -295,6 +304,8 @@ class Drawing(Canvas):
         refused, rung = self.verdict.refused(), next((rung for rung in self.rungs if rung.is_refused), None)
         if refused and rung:
             told.append(f"Refused is {self.hover(rung)}. The rule: {RULES[refused[1]].says}.")
+        gaps = [rung.gap.at(self.capture) for rung in self.rungs if rung.gap]
+        told += [f"It is lawful if some are missing: {', '.join(gaps)}."] if gaps else []
         return " ".join(told)
 
     def picture(self, is_alone: bool) -> str:
@@ -323,10 +334,17 @@ def framed(size: tuple[float, float], name: str, told: tuple[str, str], parts: l
 
 
 def draw(
-    capture: Capture, verdict: Verdict, rows: int, by_time: bool, name: str = "ladder", is_alone: bool = True
+    capture: Capture,
+    verdict: Verdict,
+    rows: int,
+    by_time: bool,
+    name: str = "ladder",
+    is_alone: bool = True,
+    gaps: Gaps = (),
 ) -> str:
-    """The picture of a capture and its verdict; within a page, which has the style, it is not alone."""
-    drawing = Drawing(capture, verdict, by_time, name)
+    """The picture of a capture and its verdict, with the places where datagrams must be missing; within a page, which
+    has the style, it is not alone."""
+    drawing = Drawing(capture, verdict, by_time, name, gaps)
     drawing.head()
     drawing.asides()
     for row in folded(drawing.rungs, rows):

@@ -15,6 +15,7 @@ from .colours import DARK, LIGHT, lines_of, picture_style
 from .drawn import draw
 from .explained import Told, explain
 from .facts import Facts
+from .lost import Gaps, told_gaps
 from .packets import count, words_of
 from .plotted import plot
 from .recording import Judged, Listed
@@ -67,8 +68,8 @@ section,figure,.beside div{break-inside:avoid}}
 
 @dataclass(frozen=True)
 class Entry:
-    """A transfer, as the page has it; the file where it is accepted, and what would be said further where it is
-    refused."""
+    """A transfer, as the page has it; the file where it is accepted, and where it is refused what would be said
+    further, and which datagrams must be missing so that it is lawful."""
 
     listed: Listed
     judged: Judged
@@ -76,6 +77,7 @@ class Entry:
     facts: Facts
     file: Optional[CameOver]
     remarks: Optional[Remarks] = None
+    gaps: Gaps = ()
 
     def number(self) -> int:
         return self.listed.number
@@ -300,14 +302,14 @@ def pictures(it: Entry) -> str:
     if not it.capture.datagrams:
         return ""
     over_time = plot(it.capture, verdict, f"{name}-plot", is_alone=False)
-    ladder = draw(it.capture, verdict, ROWS, False, f"{name}-ladder", is_alone=False)
+    ladder = draw(it.capture, verdict, ROWS, False, f"{name}-ladder", is_alone=False, gaps=it.gaps)
     shown = (("Blocks over time", over_time), ("The exchange", ladder))
     return "".join(f'<h3>{heading}</h3>\n<figure tabindex="0">{picture}</figure>\n' for heading, picture in shown)
 
 
 def section(it: Entry, is_drawn: bool) -> str:
     """What is said of a transfer, with its pictures where they are drawn."""
-    told = [*explain(it.judged.verdict, it.judged.text, it.capture), *it.judged.told()]
+    told = [*explain(it.judged.verdict, it.judged.text, it.capture), *told_gaps(it.gaps, it.capture), *it.judged.told()]
     if it.judged.row and it.judged.row.ended:
         told.append(("Ended", f"{it.judged.row.ended}."))
     if it.file:

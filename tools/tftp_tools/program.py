@@ -81,8 +81,8 @@ def check(program: str, text: bytes, rollover: str = "") -> Verdict:
 
 
 def losses(program: str, text: bytes) -> str:
-    """Which datagrams must be missing of a refused capture text, so that it is lawful with them, by the program; nothing
-    where it finds none."""
+    """Which datagrams must be missing of a refused capture text, so that it is lawful with them, by the program;
+    nothing where it finds none."""
     with told(f"cannot run {program!r}"):
         done = subprocess.run([program, "check", "--losses"], input=text, stdout=subprocess.PIPE, check=False)
     lines = done.stdout.decode("ascii", "backslashreplace").splitlines()

@@ -4,10 +4,11 @@ from __future__ import annotations
 
 from collections.abc import Callable, Iterable, Iterator
 from dataclasses import dataclass
-from typing import TypeVar, Union
+from typing import Optional, TypeVar, Union
 
 from .capture import Capture
 from .history import History, Passed, repeats
+from .lost import Gap
 from .packets import Ack, Data, Error, Request, count
 from .program import Verdict
 
@@ -21,6 +22,8 @@ class Rung:
     is_refused: bool
     # whether it comes after the refused one, and so is not judged
     is_after: bool
+    # what must be missing before it, so that the refused one is lawful
+    gap: Optional[Gap] = None
 
     def number(self) -> int:
         return self.passed.datagram.number
@@ -39,7 +42,7 @@ class Rung:
 
     def is_of_note(self) -> bool:
         odd = self.passed.place != "main" or not isinstance(self.passed.packet, (Ack, Data))
-        return self.is_refused or self.is_repeat or odd
+        return self.is_refused or self.is_repeat or self.gap is not None or odd
 
 
 @dataclass(frozen=True)
@@ -54,26 +57,27 @@ T = TypeVar("T")
 F = TypeVar("F")
 
 
-def rungs_of(capture: Capture, verdict: Verdict) -> tuple[list[Rung], History]:
-    refused = verdict.refused()
+def rungs_of(capture: Capture, verdict: Verdict, gaps: Iterable[Gap] = ()) -> tuple[list[Rung], History]:
+    refused, before = verdict.refused(), {gap.before: gap for gap in gaps}
     unlawful = refused[0] if refused else len(capture.datagrams) + 1
     history, rungs = History(capture), []
     for datagram, is_repeat in zip(capture.datagrams, repeats(capture)):
         passed = history.take(datagram)
         number = datagram.number
-        rungs.append(Rung(passed, is_repeat, number == unlawful, number > unlawful))
+        rungs.append(Rung(passed, is_repeat, number == unlawful, number > unlawful, before.get(number)))
     return rungs, history
 
 
 def kept(rungs: list[Rung], rows: int) -> set[int]:
-    """The places that are drawn one by one: the ends, what is about the refused one, and what is of note, in turn."""
+    """The places that are drawn one by one: the ends, what is about the refused one and about what must be missing, and
+    what is of note, in turn."""
     judged = [at for at, rung in enumerate(rungs) if not rung.is_after]
     if len(judged) <= rows:
         return set(range(min(len(rungs), len(judged) + NEAR))) | set(range(max(0, len(rungs) - NEAR // 2), len(rungs)))
     last = len(rungs)
     places = set(range(EDGE)) | set(range(last - EDGE, last))
     for at, rung in enumerate(rungs):
-        if rung.is_refused:
+        if rung.is_refused or rung.gap:
             places |= set(range(max(0, at - 2 * NEAR), min(last, at + NEAR)))
     plainly = [at for at, rung in enumerate(rungs) if rung.is_of_note() and not rung.is_after]
     odd = [at for at in plainly if rungs[at].passed.place != "main" or isinstance(rungs[at].passed.packet, Error)]

@@ -8,6 +8,7 @@ from .capture import Capture
 from .compared import side
 from .explained import transfer
 from .history import History
+from .lost import Gaps
 from .program import Verdict
 from .rules import RULES
 from .rungs import Fold, Rung, clipped, folded, rungs_of, told_fold
@@ -46,7 +47,8 @@ class Spelling:
         return "|<" + f"{words}{line * 3}|".rjust(BETWEEN, line)
 
     def rung(self, rung: Rung) -> list[str]:
-        lines = [self.margin(rung) + self.arrow(rung)]
+        lines = [f"{' ' * INDENT}?   {rung.gap.told(self.capture)}"] if rung.gap else []
+        lines.append(self.margin(rung) + self.arrow(rung))
         refused = self.verdict.refused()
         if rung.is_refused and refused:
             lines += [f"{' ' * INDENT}|   {words}" for words in textwrap.wrap(RULES[refused[1]].says, BETWEEN - 6)]
@@ -58,9 +60,9 @@ class Spelling:
         return [self.verdict.line, transfer(self.history), "", f"{HEAD:{INDENT}}{ends}"]
 
 
-def spell(capture: Capture, verdict: Verdict, rows: int) -> str:
-    """The ladder of a capture and its verdict, in lines of text."""
-    rungs, history = rungs_of(capture, verdict)
+def spell(capture: Capture, verdict: Verdict, rows: int, gaps: Gaps = ()) -> str:
+    """The ladder of a capture and its verdict, in lines of text, with the places where datagrams must be missing."""
+    rungs, history = rungs_of(capture, verdict, gaps)
     spelling = Spelling(capture, verdict, history)
     lines = spelling.head()
     for row in folded(rungs, rows):
