@@ -481,8 +481,8 @@ class Scripts(Checks):
             self.check(f"explained, {given}", output.startswith(f"{accepted}\n") and status == 0, output)
             other = str(1 - int(given))
             output, errors, status = self.told("tftp-explain", recording, "-", "1", "client", "--rollover", other)
-            doubt = "Doubtful: its block numbers begin again"
-            self.check(f"by the other, {given}", output.startswith("refused ") and doubt in output, output)
+            accused = f"Accused: the server at {made.S}:41000, which sent the datagram."
+            self.check(f"by the other, {given}", output.startswith("refused ") and accused in output, output)
             output, errors, status = self.told("tftp-explain", recording, "--rollover", given)
             line = refusal(2 * ROUND, Rule.BEYOND_BLOCK_65535)
             why = "tftp-explain: numbers that begin again are judged at an end alone: name the client or the server\n"

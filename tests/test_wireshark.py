@@ -13,7 +13,7 @@ from collections.abc import Sequence
 import made
 from captures import ack
 from checks import Checks
-from programs import AUDIT, TRANSFERS
+from programs import TRANSFERS
 from recorded import Datagram
 from refusals import Rule, refusal
 from repository import TOP
@@ -76,7 +76,7 @@ def lacking() -> str:
 class Plugin(Checks):
     """What tshark shows with the plugin."""
 
-    needs = (AUDIT, TRANSFERS)
+    needs = (TRANSFERS,)
 
     def setUp(self) -> None:
         super().setUp()
@@ -141,7 +141,7 @@ class Plugin(Checks):
         self.check("a place and a port", found == wanted, found)
 
     def test_rollover(self) -> None:
-        """What comes after block 65535 is a preference: by it tftp-audit judges at an end what has more blocks."""
+        """What comes after block 65535 is a preference: by it is judged at an end what has more blocks."""
         path = self.folder / "large.pcap"
         path.write_bytes(recorded(0))
         accepted, server = f"accepted get octet blocks {COUNT} bytes {len(FILE)}", "server 192.0.2.1:41000"
@@ -152,12 +152,11 @@ class Plugin(Checks):
             ("between", "block 0", (beyond, "", "", server)),
         ):
             words = ("-o", f"tftp_audit.place:{place}", "-o", f"tftp_audit.rollover:{first}", "-Y", "frame.number == 9")
-            found = self.tshark.rows(path, "-o", f"tftp_audit.audit:{AUDIT.path}", *words, fields=fields)
+            found = self.tshark.rows(path, *words, fields=fields)
             self.check(f"{place}, {first}", found == [row], found)
         words = ("-o", "tftp_audit.place:server", "-o", "tftp_audit.rollover:block 1", "-Y", "tftp_audit.rule")
-        found = self.tshark.rows(path, "-o", f"tftp_audit.audit:{AUDIT.path}", *words, fields=("frame.number", *fields))
-        doubt = "its block numbers begin again, and of such a refusal it was not looked for what makes it doubtful"
-        wanted = [(str(2 * ROUND + 2), refused, str(Rule.BLOCK_ZERO.number), doubt, "")]
+        found = self.tshark.rows(path, *words, fields=("frame.number", *fields))
+        wanted = [(str(2 * ROUND + 2), refused, str(Rule.BLOCK_ZERO.number), "", server)]
         self.check("server, block 1", found == wanted, found)
 
     def test_failures(self) -> None:

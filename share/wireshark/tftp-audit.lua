@@ -72,14 +72,13 @@ local PLACES = { { 1, "not named", 0 }, { 2, "client", 1 }, { 3, "server", 2 }, 
 local FIRSTS = { { 1, "nothing", 0 }, { 2, "block 0", 1 }, { 3, "block 1", 2 } }
 -- The rule that too many blocks break, and what is said of a refusal that is judged by what comes after them.
 local BEYOND = 20
-local NOT_DOUBTED = "its block numbers begin again, and of such a refusal it was not looked for what makes it doubtful"
+local EACH_ALONE = "both ends have one address, and where block numbers begin again each is judged alone"
 local IS_WINDOWS = package.config:sub(1, 1) == "\\"
 
 audit.prefs.program = Pref.string("Program", "tftp-transfers", "The program tftp-transfers, where it is not on the path")
 audit.prefs.service = Pref.string("Service ports", "", "Ports to which requests go, beside 69, with spaces between")
 audit.prefs.place = Pref.enum("Recorded at", 0, "At which end recordings were made, or between the ends", PLACES, false)
 audit.prefs.rollover = Pref.enum("After block 65535", 0, "What comes after block 65535; more blocks are judged at an end", FIRSTS, false)
-audit.prefs.audit = Pref.string("Program of texts", "tftp-audit", "The program tftp-audit, which judges those, where it is not on the path")
 audit.prefs.file = Pref.string("File", "", "The recording's file, where it is not found by itself")
 
 local fields = {
@@ -241,16 +240,14 @@ local function tell_apart(path, of_client)
     end
 end
 
--- What tftp-audit says of a transfer at an end where numbers begin again, and the frame that it refuses.
-local function by_rollover(path, number, place, first)
-    local text, frames = call("text " .. number .. " " .. place, path), {}
-    local lines = lines_of(text .. " | " .. quoted(audit.prefs.audit) .. " check --rollover " .. first)
-    local verdict = lines[1] or "fault"
-    local refused = tonumber(verdict:match("^refused datagram (%d+)"))
-    for _, line in ipairs(refused and lines_of(text) or {}) do
-        frames[#frames + 1] = tonumber(line:match("^# frame (%d+)"))
+-- The row of a transfer at an end where numbers begin again.
+local function row_by_rollover(path, number, place, first)
+    for _, line in ipairs(lines_of(call("check --json --end " .. place .. " --rollover " .. first, path))) do
+        local row = row_of(line)
+        if row.number == number then
+            return row
+        end
     end
-    return verdict, frames[refused]
 end
 
 -- A row that refuses too many blocks at an end is told by what comes after block 65535, where that is said.
@@ -259,12 +256,20 @@ local function told_by_rollover(path, row)
     if not first or row.rule ~= BEYOND or row.place == "between" then
         return row
     end
-    local place = row.place == "server" and "server" or "client"
-    local verdict, frame = by_rollover(path, row.number, place, first)
-    return {
-        number = row.number, place = row.place, verdict = verdict, frame = frame,
-        doubts = frame and { NOT_DOUBTED } or {}, rule = tonumber(verdict:match("rule (%d+)")),
-    }
+    local is_both = row.place == "both"
+    local it = row_by_rollover(path, row.number, row.place == "server" and "server" or "client", first)
+    if is_both and it and it.verdict:match("^accepted ") then
+        it = row_by_rollover(path, row.number, "server", first)
+    end
+    if not it then
+        return row
+    end
+    it.place = row.place
+    if is_both and it.rule then
+        it.accused = nil
+        table.insert(it.doubts, EACH_ALONE)
+    end
+    return it
 end
 
 -- The program is run, and what it says is kept by the transfer's number, and the transfers by the client's address.

@@ -32,9 +32,9 @@ WORDS = ("client", "server", "kind", "mode", "file", "options")
 NUMBERS = ("number", "datagrams", "first_frame", "last_frame")
 
 
-# The rule that too many blocks break, and what is said of a refusal that is judged by what comes after them.
+# The rule that too many blocks break, and why nobody is accused where both ends have one address.
 BEYOND_BLOCK_65535 = 20
-NOT_DOUBTED = "its block numbers begin again, and of such a refusal it was not looked for what makes it doubtful"
+EACH_ALONE = "both ends have one address, and where block numbers begin again each is judged alone"
 BETWEEN_NONE = "numbers that begin again are judged at an end alone: name the client or the server"
 
 
@@ -192,6 +192,11 @@ def ends_at(place: str) -> tuple[EndName, ...]:
     return tuple(end for end in ENDS if end == place) or ENDS
 
 
+def ends_again(row: Row) -> tuple[EndName, ...]:
+    """The ends at which a row that refuses too many blocks is judged again; between the ends none is."""
+    return () if row.place == "between" else ends_at(row.place)
+
+
 def named(services: Sequence[str]) -> list[str]:
     return [word for port in services for word in ("--service", port)]
 
@@ -224,7 +229,7 @@ class Recording:
                 notes.append(shown(line))
         rows = objects(written, row_of)
         if rows and self.rollover:
-            rows = [self.by_rollover(row) for row in rows]
+            rows = self.by_rollover(rows)
             if any(row.place == "between" and is_beyond(row) for row in rows):
                 tell(script, BETWEEN_NONE)
             status = int(not all(row.is_accepted() for row in rows)) if status == 1 else status
@@ -235,16 +240,20 @@ class Recording:
         refusal = NoTransfer if status in (0, 3) else Refused
         raise refusal(beside[-1] if beside else f"{self.path}: there is no transfer in the recording")
 
-    def by_rollover(self, row: Row) -> Row:
-        """What a row says that refuses too many blocks at an end: tftp-audit judges the text by what comes after block
-        65535, and nobody looks for what makes its refusal doubtful."""
-        if row.place == "between" or not is_beyond(row):
-            return row
-        judged = [self.judged_by(row, end, self.rollover) for end in ends_at(row.place)]
-        it = next((it for it in judged if it.verdict.status), judged[0])
-        found = it.verdict.refused()
-        frame = it.capture().datagrams[found[0] - 1].frame if found else None
-        return replace(row, verdict=it.verdict.line, doubts=(NOT_DOUBTED,) if found else (), frame=frame, accused=None)
+    def by_rollover(self, rows: Sequence[Row]) -> list[Row]:
+        """The rows; those that refuse too many blocks at an end are judged there by what comes after block 65535."""
+        ends = {end for row in rows if is_beyond(row) for end in ends_again(row)}
+        judged = {end: self.rows_by_rollover(end) for end in sorted(ends)}
+        return [of_ends(row, [judged[end][row.number] for end in ends_again(row) if is_beyond(row)]) for row in rows]
+
+    def rows_by_rollover(self, end: EndName) -> dict[int, Row]:
+        """What is said at an end by what comes after block 65535, by the numbers of the transfers."""
+        written, beside, status = self.ask("check", "--json", "--end", end, "--rollover", self.rollover)
+        rows = objects(written, row_of)
+        if not rows:
+            why = beside[-1] if beside else f"{self.transfers!r} ended with status {status}"
+            raise Refused(f"{self.path!r} was not judged by its numbers that begin again: {why}")
+        return {row.number: row for row in rows}
 
     def judged_by(self, row: Row, end: EndName, rollover: str) -> Judged:
         """The text at an end, and the verdict of tftp-audit on it."""
@@ -310,6 +319,15 @@ class Recording:
             return judged.text
         text = self.text(judged.row.number, "server")
         return text if check(self.audit, text) == judged.verdict else None
+
+
+def of_ends(row: Row, judged: Sequence[Row]) -> Row:
+    """A row of which each end was judged again, if any was: that of the end which is not accepted. Of two ends at one
+    address it accuses nobody."""
+    it = next((it for it in judged if not it.is_accepted()), judged[0] if judged else row)
+    if len(judged) < 2 or not it.is_refused():
+        return replace(it, place=row.place)
+    return replace(it, place=row.place, doubts=(*it.doubts, EACH_ALONE), accused=None)
 
 
 def best(rows: Sequence[Row]) -> Row:
