@@ -13,13 +13,14 @@ import subprocess
 from typing import Any, Optional
 
 import made
-from captures import Capture, Packet, ack, data, oack, read_request, write_request
+from captures import Capture, EndName, Packet, ack, data, oack, read_request, write_request
 from checks import Checks
 from commands import COMMANDS
 from fuzzing.cases import ROLLOVERS
 from fuzzing.rounds import Rounds
 from fuzzing.slow_judge import Rollover
 from fuzzing.transfers import ENDS
+from judged import checked
 from loopback import CLIENT, SERVER, Case, OverLoopback, record
 from normal import Meaning
 from programs import AUDIT, TRANSFERS
@@ -523,5 +524,13 @@ class Sent(OverLoopback):
             self.check(f"{case.name}, {end}, by 1", by["1"][0].startswith(b"refused ") and by["1"][2] == 1, by["1"])
             self.check(f"{case.name}, {end}, extracted", said(text, "extract", "--rollover", "0") == (IMAGE, b"", 0))
             normals.add(said(text, "normal", "--rollover", "0"))
+            self.try_recording(f"{case.name}, {end}", recording.read_bytes(), end)
         holds = len(normals) == 1 and all(its[1:] == (b"", 0) and its[0].count(b" 0003") == BLOCKS for its in normals)
         self.check(f"{case.name}, one normal text", holds, [its[1:] for its in normals])
+
+    def try_recording(self, name: str, recording: bytes, end: EndName) -> None:
+        """What tftp-transfers says of it at an end by each number."""
+        for given, kind in zip(GIVEN, ("accepted", "refused")):
+            rows, told, status = checked(TRANSFERS.path, recording, "--end", end, "--rollover", given)
+            is_said = [(row.verdict.split()[0], row.doubts) for row in rows] == [(kind, [])]
+            self.check(f"{name}, recorded, by {given}", is_said and (told, status) == ("", int(kind == "refused")), rows)
