@@ -14,6 +14,9 @@ use tftp_packet::{
 /// The most bytes that a block has (RFC 2348).
 const LARGEST_BLOCK: u16 = 65464;
 
+/// The most bytes that a datagram carries.
+const LARGEST_PAYLOAD: usize = 65527;
+
 /// What a datagram says of blocks.
 #[derive(Clone, Copy)]
 pub enum Said {
@@ -27,6 +30,7 @@ pub enum Said {
 pub enum Missing {
     Block(u16),
     Ack(u16),
+    Oack,
 }
 
 /// How the request was answered (RFC 1350, section 4; RFC 2347).
@@ -105,8 +109,11 @@ impl Course {
         }
     }
 
-    /// What must have passed next before a datagram that says this; nothing once all has.
-    pub fn missing_before(&self, said: Said) -> Option<Missing> {
+    /// What must have passed next before a datagram that says this; nothing once all has. An OACK is told only where there is one.
+    pub fn missing_before(&self, said: Said, has_oack: bool) -> Option<Missing> {
+        if has_oack && self.lacks_oack(said) {
+            return Some(Missing::Oack);
+        }
         match said {
             Said::Block(number) => self.missing_before_block(number),
             Said::Ack(number) => self.missing_before_ack(number),
@@ -114,22 +121,46 @@ impl Course {
         }
     }
 
-    /// A block that is missing has zeros, since nothing tells its bytes.
+    /// Whether the request has passed.
+    pub fn has_begun(&self) -> bool {
+        self.side.is_some()
+    }
+
+    /// Whether a datagram is the server's OACK.
+    pub fn is_oack(&self, datagram: &Datagram) -> bool {
+        self.is_ours(datagram)
+            && datagram.dir == self.way_of_server()
+            && opcode(datagram.payload.as_slice()) == 6
+    }
+
+    /// Whether a block with this number comes late: what has passed shows that it must have passed before, and it has not. A block
+    /// with a higher number shows that, and an ACK of it.
+    pub fn is_late(&self, number: u16) -> bool {
+        if number <= self.front || self.above.contains(&number) {
+            return false;
+        }
+        match self.above.last() {
+            Some(highest) => number < *highest || number <= self.acked,
+            None => number <= self.acked,
+        }
+    }
+
+    /// The datagram that is missing, with the payload that is known of it. A block of which none is known has zeros.
     pub fn made(
         &self,
         alloc: Global,
         missing: Missing,
+        known: Option<&[u8]>,
         beside: &Datagram,
     ) -> Result<Datagram, AllocError>
         ensures short { IfOk result (λ made. length made.payload ≤ 65527) }
     {
-        let way = self.way_of_blocks();
-        let (dir, payload) = match missing {
-            Missing::Block(number) => (way, numbered(alloc, 3, number, self.length_of(number))?),
-            Missing::Ack(number) => (back(way), numbered(alloc, 4, number, 0)?),
+        let payload = match known {
+            Some(payload) => copied(alloc, payload)?,
+            None => self.unknown(alloc, missing)?,
         };
         Ok(Datagram {
-            dir,
+            dir: self.way_of(missing),
             local_port: beside.local_port,
             remote_host: beside.remote_host,
             remote_port: beside.remote_port,
@@ -158,6 +189,16 @@ impl Course {
             Said::Other => self.note_other(datagram.dir, payload),
         }
         Ok(())
+    }
+
+    /// Whether a block or an ACK goes on from an OACK that has not passed. The ACK 0 of a write is a reply itself (RFC 1350, section 4).
+    fn lacks_oack(&self, said: Said) -> bool {
+        let goes_on = match said {
+            Said::Block(_) => true,
+            Said::Ack(number) => number > 0 || self.side == Some(Side::Get),
+            Said::Other => false,
+        };
+        goes_on && self.answer == Answer::Waits
     }
 
     fn missing_before_block(&self, number: u16) -> Option<Missing> {
@@ -207,6 +248,32 @@ impl Course {
         match self.side {
             Some(Side::Put) => self.answer == Answer::Waits,
             _ => self.answer == Answer::Oack && !self.zero,
+        }
+    }
+
+    /// The payload of a datagram that is missing, of which nothing is known.
+    fn unknown(&self, alloc: Global, missing: Missing) -> Result<Vec<u8>, AllocError>
+        ensures short { IfOk result (λ payload. length payload.items ≤ 65527) }
+    {
+        match missing {
+            Missing::Block(number) => numbered(alloc, 3, number, self.length_of(number)),
+            Missing::Ack(number) => numbered(alloc, 4, number, 0),
+            Missing::Oack => copied(alloc, &[0, 6]),
+        }
+    }
+
+    fn way_of(&self, missing: Missing) -> Dir {
+        match missing {
+            Missing::Block(_) => self.way_of_blocks(),
+            Missing::Ack(_) => back(self.way_of_blocks()),
+            Missing::Oack => self.way_of_server(),
+        }
+    }
+
+    fn way_of_server(&self) -> Dir {
+        match self.named {
+            End::Client => Dir::In,
+            End::Server => Dir::Out,
         }
     }
 
@@ -323,4 +390,12 @@ fn numbered(alloc: Global, opcode: u8, number: u16, zeros: u16) -> Result<Vec<u8
     let mut payload = Vec::from_slice(alloc, &[0, opcode, high, low])?;
     payload.resize(4 + usize::from(zeros.min(LARGEST_BLOCK)), 0)?;
     Ok(payload)
+}
+
+/// A payload again, as far as a datagram carries it.
+fn copied(alloc: Global, payload: &[u8]) -> Result<Vec<u8>, AllocError>
+    ensures short { IfOk result (λ copy. length copy.items ≤ 65527) }
+{
+    let size = payload.len().min(LARGEST_PAYLOAD);
+    Vec::from_slice(alloc, &payload[..size])
 }

@@ -6,6 +6,7 @@ ghost use Rattle.tftp_judge.specs.Kept.{IsJudgeAfter};
 ghost use Rattle.judge_losses.specs.Places.{AreMissing, going};
 ghost use Rattle.judge_losses.specs.Mended.{IsMended};
 
+use crate::clues::Clues;
 use crate::course::Course;
 use crate::place::Place;
 use crate::unmended::Unmended;
@@ -33,8 +34,10 @@ pub struct Put {
 }
 
 /// A judge of what was recorded at an end that puts in what must be missing. Before each datagram it puts in blocks and ACKs that must
-/// have passed before it, and has its judge take all of them. A block that it puts in has zeros, so it gives up where that one comes
-/// later with other bytes; so it does where its judge refuses something, where an OACK is missing, and where too much is.
+/// have passed before it, and has its judge take all of them; an OACK too, where clues tell one. A block that it puts in has the bytes
+/// with which it comes later by the clues, else zeros. It gives up where its judge refuses something all the same: where an end did not
+/// keep the rules, and where a request, an ERROR or a stray is missing, or an OACK that no clue tells. So it does where a block was
+/// shorter than can be told, and where too much is missing.
 pub struct Mender {
     judge: Judge<RingDelivered>,
     course: Course,
@@ -87,8 +90,14 @@ impl Mender {
         }
     }
 
-    /// Takes the next datagram, with what must have passed before it. After an error it answers one for good.
-    pub fn feed(&mut self, alloc: Global, datagram: &Datagram) -> Result<(), Unmended>
+    /// Takes the next datagram, with what must have passed before it, of which clues may tell the bytes. After an error it answers
+    /// one for good.
+    pub fn feed(
+        &mut self,
+        alloc: Global,
+        clues: &Clues,
+        datagram: &Datagram,
+    ) -> Result<(), Unmended>
         requires few { self.old.recorded < 2 ^ 40 }
         requires short { length datagram.now.payload ≤ 65527 }
 
@@ -102,13 +111,13 @@ impl Mender {
         if self.gave_up {
             return Err(Unmended::Unexplained);
         }
-        let mended = self.mend(alloc, datagram);
+        let mended = self.mend(alloc, clues, datagram);
         self.gave_up = mended.is_err();
         mended
     }
 
     /// The same of a mender that has not given up.
-    fn mend(&mut self, alloc: Global, datagram: &Datagram) -> Result<(), Unmended>
+    fn mend(&mut self, alloc: Global, clues: &Clues, datagram: &Datagram) -> Result<(), Unmended>
         requires few { self.old.recorded < 2 ^ 40 }
         requires short { length datagram.now.payload ≤ 65527 }
         ensures mends { (h : HeaderParts) (recorded : List DatagramParts) → IsMended self.old h recorded
@@ -116,7 +125,7 @@ impl Mender {
         ensures counts { OnOk result (self.new.recorded ≡ self.old.recorded + 1) }
         ensures gave_up { self.new.gave_up ≡ self.old.gave_up }
     {
-        let put = self.put_in(alloc, datagram)?;
+        let put = self.put_in(alloc, clues, datagram)?;
         self.take(alloc, datagram)?;
         self.recorded += 1;
         if put.came > 0 || put.sent > 0 {
@@ -130,7 +139,7 @@ impl Mender {
     }
 
     /// Puts in what must have passed before this datagram.
-    fn put_in(&mut self, alloc: Global, datagram: &Datagram) -> Result<Put, Unmended>
+    fn put_in(&mut self, alloc: Global, clues: &Clues, datagram: &Datagram) -> Result<Put, Unmended>
         ensures puts { (h : HeaderParts) (all : List DatagramParts) → IsJudgeAfter self.old.judge h all
             → IfOk result (λ made. (put : List DatagramParts) × IsJudgeAfter self.new.judge h (put ++ all)
             × (made.came ≡ going In put) × (made.sent ≡ going Out put)) }
@@ -141,10 +150,11 @@ impl Mender {
         let said = self.course.said(datagram);
         let mut put = Put { came: 0, sent: 0 };
         for turn in 0..MOST_AT_ONE_PLACE {
-            let Some(missing) = self.course.missing_before(said) else {
+            let Some(missing) = self.course.missing_before(said, clues.has_oack()) else {
                 return Ok(put);
             };
-            let made = self.course.made(alloc, missing, datagram)?;
+            let known = clues.payload_of(missing);
+            let made = self.course.made(alloc, missing, known, datagram)?;
             self.spend(made.payload.as_slice().len())?;
             self.take(alloc, &made)?;
             match made.dir {

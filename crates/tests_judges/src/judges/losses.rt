@@ -1,11 +1,9 @@
 //! Where datagrams must be missing of what was recorded at an end. What is wanted is counted by hand.
 
-use judge_losses::{Mender, Place, Unmended, missing_in};
-use net_streams::streams::Latched;
+use judge_losses::{Clues, Mender, Place, Unmended, missing_of};
 use std::alloc::Global;
 use std::test::Fail;
 use tests_wire::trials::comparing::is_so;
-use tests_wire::trials::drip::DripReader;
 use tftp_capture::{CaptureFault, Datagram, Header, TextFault};
 use tftp_packet::hosts::{Dir, Host};
 use tftp_packet::{Bytes, End};
@@ -28,9 +26,24 @@ const SIZED_WRITE: &[u8] = b"\x00\x02a\x00octet\x00blksize\x008\x00windowsize\x0
 
 const AGREED: &[u8] = b"\x00\x06blksize\x008\x00windowsize\x002\x00";
 
-/// A block of 8 bytes, one of none, and an ACK.
+/// The same with a block at a time, and with four.
+const SINGLE: &[u8] = b"\x00\x01a\x00octet\x00blksize\x008\x00";
+
+const SINGLE_WRITE: &[u8] = b"\x00\x02a\x00octet\x00blksize\x008\x00";
+
+const SINGLE_AGREED: &[u8] = b"\x00\x06blksize\x008\x00";
+
+const FOUR: &[u8] = b"\x00\x01a\x00octet\x00blksize\x008\x00windowsize\x004\x00";
+
+const FOUR_AGREED: &[u8] = b"\x00\x06blksize\x008\x00windowsize\x004\x00";
+
+/// A block of 8 bytes, one of bytes of its own, one of none, and an ACK.
 fn block(number: u8) -> [u8; 12] {
     [0, 3, 0, number, 1, 2, 3, 4, 5, 6, 7, 8]
+}
+
+fn own(number: u8) -> [u8; 12] {
+    [0, 3, 0, number, number, 2, 3, 4, 5, 6, 7, number]
 }
 
 fn last(number: u8) -> [u8; 4] {
@@ -44,10 +57,11 @@ fn ack(number: u8) -> [u8; 4] {
 /// What came in or went out.
 type Passed<'a> = (Dir, &'a [u8]);
 
-/// A mender of one end, and whether it has taken all so far.
+/// A mender of one end, and the clues for it.
 #[derive(Drop)]
 struct Trial {
     mender: Mender,
+    clues: Clues,
     end: End,
 }
 
@@ -60,8 +74,18 @@ impl Trial {
         };
         Trial {
             mender: Mender::new(alloc, &header),
+            clues: Clues::new(alloc, &header),
             end,
         }
+    }
+
+    /// Notes all that passed.
+    fn note(&mut self, alloc: Global, all: &[Passed<'_>]) -> Result<(), Fail> {
+        for passed in all {
+            let datagram = self.datagram(alloc, *passed)?;
+            self.clues.note(alloc, &datagram)?;
+        }
+        Ok(())
     }
 
     /// The datagram with this payload, of which a request goes where the server is asked.
@@ -87,17 +111,22 @@ impl Trial {
         if self.mender.recorded() >= 1 << 40 || datagram.payload.as_slice().len() > 65527 {
             return Err(Fail::new("too many"));
         }
-        Ok(self.mender.feed(alloc, &datagram))
+        Ok(self.mender.feed(alloc, &self.clues, &datagram))
     }
 }
 
 /// Fails unless just these are missing.
 fn misses(alloc: Global, end: End, all: &[Passed<'_>], wanted: &[Place]) -> Result<(), Fail> {
     let mut trial = Trial::at(alloc, end);
+    trial.note(alloc, all)?;
     for passed in all {
         is_so(trial.feed(alloc, *passed)?.is_ok(), "it gave up")?;
     }
-    let Trial { mender, end: _ } = trial;
+    let Trial {
+        mender,
+        clues: _clues,
+        end: _,
+    } = trial;
     let places = mender.into_places();
     is_so(places.as_slice() == wanted, "other places")
 }
@@ -105,6 +134,7 @@ fn misses(alloc: Global, end: End, all: &[Passed<'_>], wanted: &[Place]) -> Resu
 /// Fails unless no missing datagrams are found that explain the last one.
 fn gives_up(alloc: Global, end: End, all: &[Passed<'_>]) -> Result<(), Fail> {
     let mut trial = Trial::at(alloc, end);
+    trial.note(alloc, all)?;
     let mut said = Ok(());
     for passed in all {
         is_so(said.is_ok(), "it gave up before")?;
@@ -232,6 +262,122 @@ fn answers_are_missing_where_blocks_go_on(rt: HostRuntime) -> Result<(), Fail> {
 }
 
 #[test]
+fn blocks_that_come_again_are_missing_with_their_bytes(rt: HostRuntime) -> Result<(), Fail> {
+    let alloc = rt.alloc();
+    // block 2 came in before ACK 2, which was lost on the way
+    misses(
+        alloc,
+        End::Client,
+        &[
+            (Dir::Out, SINGLE),
+            (Dir::In, SINGLE_AGREED),
+            (Dir::Out, &ack(0)),
+            (Dir::In, &own(1)),
+            (Dir::Out, &ack(1)),
+            (Dir::Out, &ack(2)),
+            (Dir::In, &own(2)),
+            (Dir::Out, &ack(2)),
+            (Dir::In, &last(3)),
+            (Dir::Out, &ack(3)),
+        ],
+        &[place(6, 1, 0)],
+    )?;
+    // and of a write at the server, where the last block comes again
+    misses(
+        alloc,
+        End::Server,
+        &[
+            (Dir::In, SINGLE_WRITE),
+            (Dir::Out, SINGLE_AGREED),
+            (Dir::In, &own(1)),
+            (Dir::Out, &ack(1)),
+            (Dir::Out, &ack(2)),
+            (Dir::In, &last(2)),
+            (Dir::Out, &ack(2)),
+        ],
+        &[place(5, 1, 0)],
+    )?;
+    // of four blocks two are missing, and all four come again
+    misses(
+        alloc,
+        End::Client,
+        &[
+            (Dir::Out, FOUR),
+            (Dir::In, FOUR_AGREED),
+            (Dir::Out, &ack(0)),
+            (Dir::In, &own(1)),
+            (Dir::In, &own(4)),
+            (Dir::Out, &ack(4)),
+            (Dir::In, &own(1)),
+            (Dir::In, &own(2)),
+            (Dir::In, &own(3)),
+            (Dir::In, &own(4)),
+            (Dir::Out, &ack(4)),
+            (Dir::In, &last(5)),
+            (Dir::Out, &ack(5)),
+        ],
+        &[place(6, 2, 0)],
+    )?;
+    // a block that comes again changed is not the one that is missing
+    gives_up(
+        alloc,
+        End::Client,
+        &[
+            (Dir::Out, SINGLE),
+            (Dir::In, SINGLE_AGREED),
+            (Dir::Out, &ack(0)),
+            (Dir::Out, &ack(1)),
+            (Dir::In, &own(1)),
+            (Dir::Out, &ack(1)),
+            (Dir::In, &block(1)),
+        ],
+    )
+}
+
+#[test]
+fn agreements_that_come_again_are_missing(rt: HostRuntime) -> Result<(), Fail> {
+    let alloc = rt.alloc();
+    misses(
+        alloc,
+        End::Client,
+        &[
+            (Dir::Out, SINGLE),
+            (Dir::Out, &ack(0)),
+            (Dir::In, SINGLE_AGREED),
+            (Dir::Out, &ack(0)),
+            (Dir::In, &own(1)),
+            (Dir::Out, &ack(1)),
+        ],
+        &[place(2, 1, 0)],
+    )?;
+    // the ACK 0 is missing too
+    misses(
+        alloc,
+        End::Client,
+        &[
+            (Dir::Out, SINGLE),
+            (Dir::In, &own(1)),
+            (Dir::Out, &ack(1)),
+            (Dir::In, SINGLE_AGREED),
+        ],
+        &[place(2, 1, 1)],
+    )?;
+    misses(
+        alloc,
+        End::Server,
+        &[
+            (Dir::In, SINGLE_WRITE),
+            (Dir::In, &own(1)),
+            (Dir::Out, SINGLE_AGREED),
+            (Dir::Out, &ack(1)),
+            (Dir::In, &last(2)),
+            (Dir::Out, &ack(2)),
+        ],
+        &[place(2, 0, 1)],
+    )
+}
+
+#[test]
 fn some_is_not_explained_by_losses(rt: HostRuntime) -> Result<(), Fail> {
     let alloc = rt.alloc();
     // a changed block
@@ -269,25 +415,67 @@ fn some_is_not_explained_by_losses(rt: HostRuntime) -> Result<(), Fail> {
 const WITHOUT_BLOCK: &[u8] =
     b"tftp-capture 1\nend client\nservice 69\nout 40000 69 000161006f6374657400\nout 40000 41000 00040001\ntotal 2\n";
 
-/// What is missing of a text.
-fn told(rt: &HostRuntime, text: &[u8]) -> Result<Vec<Place>, Unmended> {
-    let mut reader = Latched::new(DripReader::new(text, 7, 0, None));
-    missing_in(rt.alloc(), &mut reader)
+/// Fails unless just these are missing of a text.
+fn text_misses(alloc: Global, text: &[u8], wanted: &[Place]) -> Result<(), Fail> {
+    match missing_of(alloc, text) {
+        Ok(places) => is_so(places.as_slice() == wanted, "other places"),
+        Err(_) => Err(Fail::new("it gave up")),
+    }
 }
 
 #[test]
 fn texts_tell_what_is_missing(rt: HostRuntime) -> Result<(), Fail> {
-    match told(&rt, WITHOUT_BLOCK) {
-        Ok(places) => is_so(
-            places.as_slice() == [place(2, 1, 0)].as_slice(),
-            "other places",
-        )?,
-        Err(_) => return Err(Fail::new("it gave up")),
-    }
+    let alloc = rt.alloc();
+    text_misses(alloc, WITHOUT_BLOCK, &[place(2, 1, 0)])?;
     let cut = &WITHOUT_BLOCK[..40];
     is_so(
-        told(&rt, cut).err()
+        missing_of(alloc, cut).err()
             == Some(Unmended::Capture(CaptureFault::Text(4, TextFault::Truncated))),
         "another fault",
+    )
+}
+
+/// A read with blocks of 8 bytes, of which the recorder missed the OACK, which does not come again.
+const WITHOUT_OACK: &[u8] = b"tftp-capture 1\nend client\nservice 69\n\
+out 40000 69 000161006f6374657400626c6b73697a65003800\n\
+out 40000 41000 00040000\n\
+in 40000 41000 000300010102030405060708\n\
+out 40000 41000 00040001\n\
+in 40000 41000 00030002\n\
+out 40000 41000 00040002\n\
+total 6\n";
+
+/// The same, where it asked for blocks of 1024 bytes, and the server agreed to blocks of 8.
+const WITH_SMALLER_BLOCKS: &[u8] = b"tftp-capture 1\nend client\nservice 69\n\
+out 40000 69 000161006f6374657400626c6b73697a65003130323400\n\
+out 40000 41000 00040000\n\
+in 40000 41000 000300010102030405060708\n\
+out 40000 41000 00040001\n\
+in 40000 41000 00030002\n\
+out 40000 41000 00040002\n\
+total 6\n";
+
+/// A write with blocks of 8 bytes, of which the recorder missed the OACK.
+const WRITE_WITHOUT_OACK: &[u8] = b"tftp-capture 1\nend client\nservice 69\n\
+out 40000 69 000261006f6374657400626c6b73697a65003800\n\
+out 40000 41000 000300010102030405060708\n\
+in 40000 41000 00040001\n\
+out 40000 41000 00030002\n\
+in 40000 41000 00040002\n\
+total 5\n";
+
+/// A read that asked for nothing, and began with ACK 0.
+const NOTHING_ASKED: &[u8] =
+    b"tftp-capture 1\nend client\nservice 69\nout 40000 69 000161006f6374657400\nout 40000 41000 00040000\ntotal 2\n";
+
+#[test]
+fn what_was_asked_is_agreed_where_the_oack_is_missing(rt: HostRuntime) -> Result<(), Fail> {
+    let alloc = rt.alloc();
+    text_misses(alloc, WITHOUT_OACK, &[place(2, 1, 0)])?;
+    text_misses(alloc, WITH_SMALLER_BLOCKS, &[place(2, 1, 0)])?;
+    text_misses(alloc, WRITE_WITHOUT_OACK, &[place(2, 1, 0)])?;
+    is_so(
+        missing_of(alloc, NOTHING_ASKED).err() == Some(Unmended::Unexplained),
+        "it did not give up",
     )
 }

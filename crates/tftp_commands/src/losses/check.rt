@@ -11,7 +11,7 @@ use crate::losses::line::{NONE_FOUND, line_of};
 use crate::output::{say, write_out};
 use crate::status::Status;
 use crate::verdicts::{put_verdict, status_of};
-use judge_losses::{Unmended, missing_in};
+use judge_losses::{Unmended, missing_of};
 use net_streams::streams::{Latched, LineWriter, WriteFault};
 use std::alloc::{AllocError, Global};
 use std::io::{Read, Write};
@@ -101,7 +101,7 @@ fn say_refused<W: Write>(
 fn line_in(alloc: Global, text: &[u8]) -> Result<String, AllocError>
     ensures { IfOk result (λ line. (found : List PlaceParts) × IsFoundIn text.now found × (string_bytes line ≡ losses_line found)) }
 {
-    match missing_in(alloc, &mut Latched::new(text)) {
+    match missing_of(alloc, text) {
         Ok(places) => line_of(alloc, places.as_slice()),
         Err(why) => line_without(alloc, why),
     }

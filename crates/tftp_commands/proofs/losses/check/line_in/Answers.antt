@@ -4,7 +4,7 @@ use Rattle.tftp_commands.proofs.losses.check.line_in.Goals as goal
 
 pub returns-in-Ok : goal.returns-in-Ok
 returns-in-Ok c =
-    line_found string_bytes c.line_of.result c.args.text.now c.in-Ok.places.items (found_right c.args.text.now c.in-Ok.places.items (c.in-Ok.ensures.whole c.args.text.now (rw c.new.ensures)))
+    line_found string_bytes c.line_of.result c.args.text.now c.in-Ok.places.items (found_right c.args.text.now c.in-Ok.places.items c.in-Ok.ensures)
     (rw c.as_slice.ensures.value at c.line_of.ensures)
 
 pub returns-in-Err : goal.returns-in-Err

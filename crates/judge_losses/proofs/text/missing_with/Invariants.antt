@@ -2,7 +2,7 @@ use Rattle.std.proofs.Common.{◌≡◌, ◌<◌, ◌-◌, ◌^◌}
 use Rattle.std.specs.Io.KnownBytes.{prepend_known}
 use Rattle.net_streams.specs.{Standing}
 use Rattle.judge_losses.proofs.Reading.{MendsOn}
-use Rattle.judge_losses.proofs.text.missing_in.Given as goal
+use Rattle.judge_losses.proofs.text.missing_with.Given as goal
 
 -- the reader goes on, and the mender stands for the datagrams that it gave, each on a line of its own
 abbrev pub invariant-loop-datagram : goal.invariant-loop-datagram

@@ -4,7 +4,7 @@ use Rattle.tftp_capture.specs.{IsReadStanding}
 use Rattle.tftp_judge.specs.{unnumbered}
 use Rattle.judge_losses.specs.Mended.{IsMended}
 use Rattle.judge_losses.proofs.Reading.{found_missing, mends_on, whole_missing}
-use Rattle.judge_losses.proofs.text.missing_in.Goals as goal
+use Rattle.judge_losses.proofs.text.missing_with.Goals as goal
 
 pub loop-datagram-init : goal.loop-datagram-init
 loop-datagram-init g c =
