@@ -15,3 +15,7 @@ pub mod Worked
 pub mod WorkedLost
 pub mod Trails
 pub mod Texts
+pub mod Rising
+pub mod Ordered
+pub mod Finding
+pub mod Reading

@@ -17,6 +17,7 @@ may_lose_too lose session named out history carried s is = record {
     audit = is.kept.audit;
     notes = record { losses = is.kept.notes.losses; frames = is.kept.notes.frames; intact = is.kept.notes.intact; clock = is.kept.notes.clock; kinds = is.kept.notes.kinds };
     trails = is.kept.trails;
+    texts = is.kept.texts;
   };
 }
 

@@ -30,24 +30,24 @@ placed_worded named (c ∷ carried) = ap (λ l. (framed_after named carried c).p
 
 -- ---- how many were opened
 
-abbrev at_place : Recorded → ℕ → Place → Placed
+abbrev pub at_place : Recorded → ℕ → Place → Placed
 at_place d now place = record { datagram = d; moment = now; place = place }
 
-counted_one : (d : Recorded) (now : ℕ) (place : Place) (older : List Placed) → opens (at_place d now place) ≡ true → opened_count (at_place d now place ∷ older) ≡ opened_count older + 1
+pub counted_one : (d : Recorded) (now : ℕ) (place : Place) (older : List Placed) → opens (at_place d now place) ≡ true → opened_count (at_place d now place ∷ older) ≡ opened_count older + 1
 counted_one d now place older is =
     ap (λ (b : Bool). length (cond b (at_place d now place ∷ filter opens older) (filter opens older))) is ∙ sym (add-one (opened_count older))
 
-counted_none : (p : Placed) (older : List Placed) → opens p ≡ false → opened_count (p ∷ older) ≡ opened_count older
+pub counted_none : (p : Placed) (older : List Placed) → opens p ≡ false → opened_count (p ∷ older) ≡ opened_count older
 counted_none p older off = ap (λ (b : Bool). length (cond b (p ∷ filter opens older) (filter opens older))) off
 
-opens_none : (n : ℕ) (d : Recorded) (now : ℕ) (place : Place) → opens (at_place d now place) ≡ false → opened_it n (at_place d now place) ≡ false
+pub opens_none : (n : ℕ) (d : Recorded) (now : ℕ) (place : Place) → opens (at_place d now place) ≡ false → opened_it n (at_place d now place) ≡ false
 opens_none n d now (Opens x) off = absurd (true≢false off)
 opens_none n d now _ off = refl
 
-ordinal_here : (n : ℕ) (p : Placed) (older : List Placed) → opened_it n p ≡ true → ordinal n (p ∷ older) ≡ opened_count (p ∷ older)
+pub ordinal_here : (n : ℕ) (p : Placed) (older : List Placed) → opened_it n p ≡ true → ordinal n (p ∷ older) ≡ opened_count (p ∷ older)
 ordinal_here n p older is = ap (λ (b : Bool). cond b (opened_count (p ∷ older)) (ordinal n older)) is
 
-ordinal_elsewhere : (n : ℕ) (p : Placed) (older : List Placed) → opened_it n p ≡ false → ordinal n (p ∷ older) ≡ ordinal n older
+pub ordinal_elsewhere : (n : ℕ) (p : Placed) (older : List Placed) → opened_it n p ≡ false → ordinal n (p ∷ older) ≡ ordinal n older
 ordinal_elsewhere n p older off = ap (λ (b : Bool). cond b (opened_count (p ∷ older)) (ordinal n older)) off
 
 -- ---- what is kept of one

@@ -1,11 +1,11 @@
 -- A recording that is read frame by frame. Lists have the newest first.
-use Rattle.std.specs.Prelude.{◌≡◌, ◌⊎◌, ℕ, false, List, Option, Some, option_to_list}
-use Rattle.std.specs.Io.KnownBytes.{Consumes, prepend_known}
+use Rattle.std.specs.Prelude.{◌≡◌, ◌⊎◌, [], ℕ, false, List, Option, Some, option_to_list}
+use Rattle.std.specs.Io.KnownBytes.{Consumes, IsAtEnd, prepend_known}
 use Rattle.net_pcap.specs.{PcapFault, lost_of}
 use Rattle.net_streams.specs.{Standing}
 use Rattle.net_udp.specs.Recording.{RecordingState, StandsFor, Step, standing_of}
 use Rattle.audit_recording.specs.Blame.Frames.{Carried}
-use Rattle.audit_recording.specs.Session.Kept.{IsSessionOf}
+use Rattle.audit_recording.specs.Session.Kept.{IsSessionAfter, IsSessionOf}
 use Rattle.audit_recording.specs.Session.Noted.{Noticed, frames_in, giving_up}
 use Rattle.audit_recording.specs.Session.Recording.{IsNoticedOf}
 use Rattle.audit_recording.specs.declared.session.notes.Notes.{Notes}
@@ -37,3 +37,28 @@ pub record IsSessionClosed (session : Session) (recording : RecordingState) (nam
   pub kept : IsSessionOf session named out history carried (giving_up (frames_in recording.waiting) s)
   pub may_lose : session.notes.may_lose ≡ false
   pub dropped : session.notes.dropped ≡ lost_in recording
+
+-- ---- one that is read whole
+
+-- Frames were read, as `Read` says, and it is the session after them. No transfer was handed out.
+pub record IsReadOn (Read : List Step → Type 0) (session : Session) (named : List ℕ) : Type 0 where
+  pub history : List Step
+  pub carried : List Carried
+  pub noticed : Noticed
+  pub read : Read history
+  pub is : IsSessionAfter session named [] history carried noticed
+
+-- The file had these bytes and what is left, nothing where it was read to its end, and these are their frames. It was read to its end, or to a
+-- fault that is noted, and the session is closed. No transfer was handed out.
+pub record IsReadWhole (file : Option (List ℕ)) (session : Session) (named : List ℕ) : Type 0 where
+  pub recording : RecordingState
+  pub bytes : List ℕ
+  pub left : Option (List ℕ)
+  pub history : List Step
+  pub carried : List Carried
+  pub noticed : Noticed
+  pub had : Consumes file left bytes
+  pub frames : StandsFor recording bytes history
+  pub at_end : standing_of recording ≡ Standing.Over → IsAtEnd left
+  pub ended : HasEnded recording session.notes
+  pub closed : IsSessionClosed session recording named [] history carried noticed

@@ -2,6 +2,7 @@
 
 use net_pcap::FaultKind;
 use std::alloc::AllocError;
+use std::convert::From;
 use thiserror::Error;
 
 /// Why a recording is not read.
@@ -38,5 +39,16 @@ pub enum TextFault {
     LongName,
     /// Memory was refused.
     #[error(transparent)]
-    Alloc(#[from(alloc)] AllocError),
+    Alloc(AllocError),
+}
+
+impl From<AllocError> for TextFault {
+    ghost use Rattle.std.specs.Prelude.{◌≡◌};
+    ghost use Rattle.audit_recording.specs.declared.session.fault.TextFault.{TextFault};
+
+    ghost from_gives = { λ error fault. fault ≡ TextFault.Alloc error };
+
+    fn from(error: AllocError) -> Self {
+        TextFault::Alloc(error)
+    }
 }

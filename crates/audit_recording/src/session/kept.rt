@@ -65,6 +65,14 @@ impl Kept {
         }
     }
 
+    /// The texts of the same transfers are wanted of another recording.
+    pub(crate) fn anew(self, alloc: Global) -> Self
+        ensures texts { (named : List ℕ) → AreTextsKept result named [] }
+        ensures wanted { result.wanted ≡ self.wanted }
+    {
+        Kept::new(alloc, self.wanted)
+    }
+
     /// The text of the transfer of which so many datagrams came before the first, if it is wanted.
     pub fn text(&self, number: u64) -> Option<&TransferText>
         ensures { option_map (λ t. t.now) result ≡ get nat_cmp self.now.texts number }

@@ -11,8 +11,9 @@ ghost use Rattle.net_udp.specs.declared.fragments.content.Content.{Content};
 ghost use Rattle.net_udp.specs.declared.frames.unread.UnreadHeader.TheVariants.{MacSec};
 ghost use Rattle.net_udp.specs.declared.recording.fate.Datagram.{Datagram};
 ghost use Rattle.audit_flows.specs.{Address, V4};
-ghost use Rattle.audit_flows.specs.Transfers.{placed};
-ghost use Rattle.audit_flows.specs.Transfers.Worked.{two_clients};
+ghost use Rattle.audit_flows.specs.Transfers.{client, placed};
+ghost use Rattle.audit_flows.specs.Transfers.Worked.{server, two_clients};
+ghost use Rattle.tftp_packet.specs.{Client};
 ghost use Rattle.audit_recording.specs.declared.session.losses.Stretch.{Stretch};
 ghost use Rattle.audit_recording.specs.Losses.Noted.{Event, IsMissingOf, MayMiss, Unread, is_of_host, is_of_none, is_soon, lost_by, unread, waiting_at};
 ghost use Rattle.audit_recording.specs.Losses.Noted.Event.{Asks, Finds, GivesUp, Loses, Waits};
@@ -27,7 +28,7 @@ ghost use Rattle.audit_recording.specs.Session.Noted.{AreUpTo, Noticed, frames_i
 ghost use Rattle.audit_recording.specs.Session.Over.{AreLater, IsPast};
 ghost use Rattle.audit_recording.specs.Session.Recording.{IsNoticedOf};
 ghost use Rattle.audit_recording.specs.Session.Told.{AreApart, AreEachOnce, AreEarlier, AreOfOneKind, AreOnce, IsLostAlone, nothing_told};
-ghost use Rattle.audit_recording.specs.Session.Texts.{frame_text, ordinal};
+ghost use Rattle.audit_recording.specs.Session.Texts.{frame_text, heading_text, ordinal};
 ghost use Rattle.audit_recording.specs.Session.Worked.{ack_carried, at_second, begun_noticed, frame_at, request, request_bytes, request_carried, request_packet, told_noticed, told_steps, torn_noticed, torn_steps, worked_noticed, worked_steps};
 ghost use Rattle.audit_recording.specs.Session.Intact.{before_opening, discarded_of, makes_checksums, newest_at, worked_gone, worked_host, worked_seen};
 
@@ -207,10 +208,12 @@ pub fn worked_lost()
     ensures copy { IsLostAlone (record nothing_told { copies = 2 ∷ []; lost = 2 ∷ 1 ∷ [] }) → ⊥ }
 {}
 
-/// What is said of a datagram in frame 12, at 50 ms behind a second or at no time; and which transfer of two the second client's is.
+/// What is said of a datagram in frame 12, at 50 ms behind a second or at no time; which transfer of two the second client's is; and the
+/// heading of a text.
 pub fn worked_texts()
     ensures told { frame_text 12 (Some 1700000000050000000) ≡ codes "frame 12 time 1700000000.050000000" }
     ensures untold { frame_text 12 None ≡ codes "frame 12" }
     ensures second { ordinal 1 (placed [] two_clients) ≡ 2 }
     ensures unopened { ordinal 2 (placed [] two_clients) ≡ 0 }
+    ensures heading { heading_text 2 (codes "boot.pcap") Client client server ≡ codes "transfer 2 of 'boot.pcap', at the client; client 192.0.2.7:40000, server 192.0.2.1:41000" }
 {}

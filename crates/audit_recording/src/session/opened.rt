@@ -6,8 +6,8 @@ ghost use Rattle.net_streams.specs.{Standing};
 ghost use Rattle.net_udp.specs.Recording.{Step, standing_of};
 ghost use Rattle.audit_recording.specs.Blame.Frames.{Carried};
 ghost use Rattle.audit_recording.specs.Session.Kept.{IsSessionAfter, ReadsOn};
-ghost use Rattle.audit_recording.specs.Session.Noted.{Noticed};
-ghost use Rattle.audit_recording.specs.Session.Opened.{HasEnded, HasRead, IsSessionClosed, left_of};
+ghost use Rattle.audit_recording.specs.Session.Noted.{Noticed, nothing_noticed};
+ghost use Rattle.audit_recording.specs.Session.Opened.{HasEnded, HasRead, IsReadOn, IsReadWhole, IsSessionClosed, left_of};
 
 use crate::session::fault::ReadFault;
 use crate::session::headed::{Headed, hint};
@@ -60,6 +60,7 @@ impl<R: Read + Drop> Opened<R> {
         ensures fault { result ≡ Ok true → session.new.notes.fault ≡ session.old.notes.fault }
         ensures whole { result ≡ Ok false → standing_of self.new.recording ≡ Standing.Over → session.new.notes.fault ≡ session.old.notes.fault }
         ensures judging { session.new.audit.judge.judging ≡ session.old.audit.judge.judging }
+        ensures wanted { session.new.kept.wanted ≡ session.old.kept.wanted }
     {
         session.notes.may_lose = self.may_lose;
         session.next(
@@ -77,6 +78,7 @@ impl<R: Read + Drop> Opened<R> {
             → OnOk result (IsSessionClosed session.new self.recording named out history carried s) }
         ensures judging { session.new.audit.judge.judging ≡ session.old.audit.judge.judging }
         ensures fault { session.new.notes.fault ≡ session.old.notes.fault }
+        ensures kept { session.new.kept ≡ session.old.kept }
     {
         let dropped = self.recording.lost();
         let closed = session.notes.lose_all(alloc, self.recording.into_waiting());
@@ -94,27 +96,40 @@ fn refused<R: Drop>(fault: &PcapFault, file: Headed<R>) -> ReadFault {
     }
 }
 
-/// Reads a recording to its end.
+/// Reads a recording to its end with a new session, and closes it.
 pub fn read_whole<R: Read + Drop>(
     alloc: Global,
     reader: R,
     session: &mut Session,
-) -> Result<(), ReadFault> {
+) -> Result<(), ReadFault>
+    ensures read { (named : List ℕ) → IsSessionAfter session.old named [] [] [] nothing_noticed → OnOk result (IsReadWhole (R.Read.remaining reader) session.new named) }
+    ensures wanted { session.new.kept.wanted ≡ session.old.kept.wanted }
+{
     let mut opened = Opened::begin(alloc, reader)?;
     let read = read_frames(alloc, &mut opened, session);
-    opened.close(alloc, session)?;
-    read
+    let closed = opened.close(alloc, session);
+    read?;
+    closed?;
+    Ok(())
 }
 
+/// Reads a recording to its end, or to a fault, which is noted.
 fn read_frames<R: Read + Drop>(
     alloc: Global,
     opened: &mut Opened<R>,
     session: &mut Session,
-) -> Result<(), ReadFault> {
-    for _ in 0..u64::MAX {
+) -> Result<(), ReadFault>
+    ensures read { (file : Option (List ℕ)) (named : List ℕ) → IsReadOn (HasRead R.Read.remaining file opened.old) session.old named
+        → OnOk result (IsReadOn (HasRead R.Read.remaining file opened.new) session.new named) }
+    ensures ends { OnOk result (HasEnded opened.new.recording session.new.notes) }
+    ensures at_end { standing_of opened.old.recording ≡ Standing.Open
+        → OnOk result (standing_of opened.new.recording ≡ Standing.Over → IsAtEnd (left_of R.Read.remaining opened.new)) }
+    ensures wanted { session.new.kept.wanted ≡ session.old.kept.wanted }
+{
+    for _turn in 0..u64::MAX {
         if !opened.next(alloc, session)? {
             return Ok(());
         }
     }
-    Ok(())
+    Err(ReadFault::TooMany)
 }

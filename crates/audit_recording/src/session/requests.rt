@@ -1,8 +1,7 @@
 //! What the transfers of a recording were asked for.
 
-use crate::session::fault::TextFault;
 use crate::session::session::Session;
-use std::alloc::Global;
+use std::alloc::{AllocError, Global};
 
 /// The request of a transfer.
 #[derive(Clone, Copy)]
@@ -14,7 +13,7 @@ pub struct Asked<'a> {
 }
 
 /// The request of each transfer of a recording, from the oldest on.
-pub fn requests_of(alloc: Global, session: &Session) -> Result<Vec<Asked<'_>>, TextFault> {
+pub fn requests_of(alloc: Global, session: &Session) -> Result<Vec<Asked<'_>>, AllocError> {
     let keys = session.transfers(alloc)?;
     let mut asked = Vec::new(alloc);
     for key in keys.iter() {

@@ -1,7 +1,9 @@
 //! A recording, as far as it was read.
 
-ghost use Rattle.std.specs.Prelude.{◌≡◌, ◌≢◌, ◌==◌, ◌≤◌, ◌<◌, ◌⊎◌, ◌∷◌, ◌++◌, [], ℕ, List, IfOk, IfSome, IsErr, IsSome, MatchBool, OnErr, OnOk, None, Some, Ok, Err, option_map, true, false};
+ghost use Rattle.std.specs.Prelude.{◌≡◌, ◌≢◌, ◌==◌, ◌≤◌, ◌<◌, ◌-◌, ◌⊎◌, ◌∷◌, ◌++◌, [], ℕ, List, IfErr, IfOk, IfSome, IsErr, if◌then◌else◌, IsSome, MatchBool, OnErr, OnOk, None, Some, Ok, Err, option_map, length, slice_get, true, false};
+ghost use Rattle.std.specs.BTreeMap.{get, keys};
 ghost use Rattle.std.specs.Io.KnownBytes.{Consumes, IsAtEnd, prepend_known};
+ghost use Rattle.std.specs.Ordering.{nat_cmp};
 ghost use Rattle.net_pcap.specs.{FaultKind as Kind, PcapFault as Fault};
 ghost use Rattle.net_streams.specs.{Standing};
 ghost use Rattle.net_udp.specs.Frames.{IsSound};
@@ -23,6 +25,7 @@ ghost use Rattle.audit_recording.specs.Session.Noted.{AreNotesOf, Noticed, findi
 ghost use Rattle.audit_recording.specs.Session.Recording.{AddsOne, IsCarriedBy, IsNoticedOf, asking, gone_by, intact_at, intact_by, placing, reached_by, setting_aside};
 ghost use Rattle.audit_recording.specs.Session.Kept.{AreJudgesLeft, GivesNone, IsSessionAfter, IsSessionOf, ReadsOn};
 ghost use Rattle.audit_recording.specs.Session.Over.{IsOldestOver};
+ghost use Rattle.audit_recording.specs.Session.Texts.{AreTextsKept, IsNoneNumbered, opened_numbers, ordinal};
 ghost use Rattle.audit_recording.specs.Session.Trails.{AreTrailsBegun, AreTrailsKept, IsTrailAfter};
 
 use crate::audit::{AuditFault, NextFrame, RecordingAudit};
@@ -53,7 +56,7 @@ pub struct Session {
     unplaced: Unplaced,
     /// What is to be told of the recording as a whole.
     pub notes: Notes,
-    /// The datagrams of the transfer whose text is wanted.
+    /// The datagrams of the transfers whose texts are wanted.
     pub kept: Kept,
 }
 
@@ -65,7 +68,7 @@ pub struct Ended {
 }
 
 impl Session {
-    /// Nothing was read. Requests go to port 69 and to the ports that are named.
+    /// Nothing was read, and nothing is kept yet for the texts that are wanted. Requests go to port 69 and to the ports that are named.
     pub fn new(
         alloc: Global,
         services: &[u16],
@@ -75,13 +78,14 @@ impl Session {
         ensures stands { IfOk result (λ s. IsSessionAfter s services.now [] [] [] nothing_noticed) }
         ensures judging { IfOk result (λ s. s.audit.judge.judging ≡ judging) }
         ensures fault { IfOk result (λ s. s.notes.fault ≡ None) }
+        ensures wanted { IfOk result (λ s. s.kept.wanted ≡ kept.wanted) }
     {
         Ok(Session {
             audit: RecordingAudit::new(alloc, services, judging)?,
             trails: BTreeMap::new(alloc),
             unplaced: Unplaced::new(alloc),
             notes: Notes::new(alloc),
-            kept,
+            kept: kept.anew(alloc),
         })
     }
 
@@ -117,6 +121,7 @@ impl Session {
         ensures goes { result ≡ Ok true → standing_of recording.new ≡ Standing.Open }
         ensures fault { result ≡ Ok true → self.new.notes.fault ≡ self.old.notes.fault }
         ensures judging { self.new.audit.judge.judging ≡ self.old.audit.judge.judging }
+        ensures wanted { self.new.kept.wanted ≡ self.old.kept.wanted }
     {
         match self.audit.next_into(alloc, reader, recording, event) {
             Ok(NextFrame::End) => Ok(false),
@@ -135,6 +140,7 @@ impl Session {
         ensures trails { self.new.trails ≡ self.old.trails }
         ensures over { result ≢ Ok true }
         ensures told { fault.kind ≢ Kind.Memory → result ≡ Ok false }
+        ensures kept { self.new.kept ≡ self.old.kept }
     {
         if let FaultKind::Memory = fault.kind {
             return Err(ReadFault::Memory);
@@ -172,6 +178,13 @@ impl Session {
             → OnOk result (AreTrailsKept self.new.trails self.old.audit.judge.judging named out (c ∷ carried)) }
         ensures goes { result ≢ Ok false }
         ensures fault { self.new.notes.fault ≡ self.old.notes.fault }
+        ensures same_kept { found ≡ None → self.new.kept ≡ self.old.kept }
+        ensures texts { (named : List ℕ) (carried : List Carried) (c : Carried) (a : Found) (given : Given)
+            → found ≡ Some a
+            → IsFateOf event.old.frame.parts event.old.likeness event.old.brought.outcome event.old.is_discarded (Became.Datagram given)
+            → IsCarriedBy event.old given carried c → a.place ≡ (framed_after named carried c).placed.place
+            → AreTextsKept self.old.kept named carried → OnOk result (AreTextsKept self.new.kept named (c ∷ carried)) }
+        ensures wanted { self.new.kept.wanted ≡ self.old.kept.wanted }
     {
         self.notes.lose(alloc, event.old())?;
         self.notes.lose_all(alloc, event.take_ousted(alloc))?;
@@ -185,6 +198,7 @@ impl Session {
         ensures notes { self.new.notes ≡ self.old.notes }
         ensures audit { self.new.audit ≡ self.old.audit }
         ensures trails { (judging : JudgingKind) (named out : List ℕ) (carried : List Carried) → AreTrailsKept self.old.trails judging named out carried → AreTrailsKept self.new.trails judging named out carried }
+        ensures kept { self.new.kept ≡ self.old.kept }
     {
         let Some(told) = event.unreachable() else {
             return;
@@ -205,6 +219,7 @@ impl Session {
         ensures notes { self.new.notes ≡ self.old.notes }
         ensures audit { self.new.audit ≡ self.old.audit }
         ensures trails { (judging : JudgingKind) (named out : List ℕ) (carried : List Carried) → AreTrailsKept self.old.trails judging named out carried → AreTrailsKept self.new.trails judging named out carried }
+        ensures kept { self.new.kept ≡ self.old.kept }
     {
         let Some(number) = self.unplaced.newest(end) else {
             return;
@@ -239,6 +254,13 @@ impl Session {
             → AreTrailsKept self.old.trails self.old.audit.judge.judging named out carried
             → OnOk result (AreTrailsKept self.new.trails self.old.audit.judge.judging named out (c ∷ carried)) }
         ensures fault { self.new.notes.fault ≡ self.old.notes.fault }
+        ensures same_kept { found ≡ None → self.new.kept ≡ self.old.kept }
+        ensures texts { (named : List ℕ) (carried : List Carried) (c : Carried) (a : Found) (given : Given)
+            → found ≡ Some a
+            → IsFateOf event.now.frame.parts event.now.likeness event.now.brought.outcome event.now.is_discarded (Became.Datagram given)
+            → IsCarriedBy event.now given carried c → a.place ≡ (framed_after named carried c).placed.place
+            → AreTextsKept self.old.kept named carried → OnOk result (AreTextsKept self.new.kept named (c ∷ carried)) }
+        ensures wanted { self.new.kept.wanted ≡ self.old.kept.wanted }
     {
         match event.fate() {
             Fate::Datagram(datagram) => self.pass(alloc, event, &datagram, found),
@@ -260,6 +282,7 @@ impl Session {
         ensures audit { self.new.audit ≡ self.old.audit }
         ensures trails { (judging : JudgingKind) (named out : List ℕ) (carried : List Carried) → AreTrailsKept self.old.trails judging named out carried → AreTrailsKept self.new.trails judging named out carried }
         ensures fault { self.new.notes.fault ≡ self.old.notes.fault }
+        ensures kept { self.new.kept ≡ self.old.kept }
     {
         self.notes.find(alloc, event.sharers())?;
         let source = party_of(datagram.source, datagram.source_port).end;
@@ -281,6 +304,7 @@ impl Session {
         ensures notes { self.new.notes ≡ self.old.notes }
         ensures audit { self.new.audit ≡ self.old.audit }
         ensures trails { (judging : JudgingKind) (named out : List ℕ) (carried : List Carried) → AreTrailsKept self.old.trails judging named out carried → AreTrailsKept self.new.trails judging named out carried }
+        ensures kept { self.new.kept ≡ self.old.kept }
     {
         let Some(number) = self.unplaced.newest(end) else {
             return;
@@ -310,6 +334,11 @@ impl Session {
             → AreTrailsKept self.old.trails self.old.audit.judge.judging named out carried
             → OnOk result (AreTrailsKept self.new.trails self.old.audit.judge.judging named out (c ∷ carried)) }
         ensures fault { self.new.notes.fault ≡ self.old.notes.fault }
+        ensures same_kept { found ≡ None → self.new.kept ≡ self.old.kept }
+        ensures texts { (named : List ℕ) (carried : List Carried) (c : Carried) (a : Found) → found ≡ Some a → IsCarriedBy event.now datagram.now carried c
+            → a.place ≡ (framed_after named carried c).placed.place
+            → AreTextsKept self.old.kept named carried → OnOk result (AreTextsKept self.new.kept named (c ∷ carried)) }
+        ensures wanted { self.new.kept.wanted ≡ self.old.kept.wanted }
     {
         let Some(found) = found else {
             return Ok(());
@@ -348,6 +377,7 @@ impl Session {
             → place.now ≡ (framed_after named carried c).placed.place → IsPassing request.now c → WereOpened out (whole_of named carried)
             → AreTrailsKept self.old.trails judging named out carried → OnOk result (AreTrailsBegun self.new.trails judging named out c carried) }
         ensures fault { self.new.notes.fault ≡ self.old.notes.fault }
+        ensures kept { self.new.kept ≡ self.old.kept }
     {
         match place {
             Place::Opens(transfer) => self.open(alloc, *transfer, request),
@@ -373,6 +403,7 @@ impl Session {
             → Opens transfer ≡ (framed_after named carried c).placed.place → IsPassing request.now c → WereOpened out (whole_of named carried)
             → AreTrailsKept self.old.trails judging named out carried → OnOk result (AreTrailsBegun self.new.trails judging named out c carried) }
         ensures fault { self.new.notes.fault ≡ self.old.notes.fault }
+        ensures kept { self.new.kept ≡ self.old.kept }
     {
         let payload = Vec::from_slice(alloc, request.payload)?;
         let mut trail = Trail::new(alloc, transfer, payload, request.frame);
@@ -396,6 +427,7 @@ impl Session {
             → AreTrailsBegun self.old.trails self.old.audit.judge.judging named out c carried
             → OnOk result (AreTrailsKept self.new.trails self.old.audit.judge.judging named out (c ∷ carried)) }
         ensures fault { self.new.notes.fault ≡ self.old.notes.fault }
+        ensures kept { self.new.kept ≡ self.old.kept }
     {
         self.hand_over(found, passing)?;
         self.set_aside(&found.place, passing)
@@ -410,6 +442,7 @@ impl Session {
             → AuditsAfter self.old.audit named out history (datagrams_of (c ∷ carried))
             → AreTrailsBegun self.old.trails self.old.audit.judge.judging named out c carried
             → OnOk result (AreTrailsKept self.new.trails self.old.audit.judge.judging named out (c ∷ carried)) }
+        ensures kept { self.new.kept ≡ self.old.kept }
     {
         match about(&found.place) {
             Some(number) => self.hand(number, found, passing),
@@ -432,6 +465,7 @@ impl Session {
             → AuditsAfter self.old.audit named out history (datagrams_of (c ∷ carried))
             → AreTrailsBegun self.old.trails self.old.audit.judge.judging named out c carried
             → OnOk result (AreTrailsKept self.new.trails self.old.audit.judge.judging named out (c ∷ carried)) }
+        ensures kept { self.new.kept ≡ self.old.kept }
     {
         match self.trails.get_mut(&number) {
             Some(trail) => match self.audit.watched(number) {
@@ -448,6 +482,7 @@ impl Session {
         ensures audit { self.new.audit ≡ self.old.audit }
         ensures trails { self.new.trails ≡ self.old.trails }
         ensures fault { self.new.notes.fault ≡ self.old.notes.fault }
+        ensures kept { self.new.kept ≡ self.old.kept }
     {
         match place {
             Place::Opens(_) | Place::Repeats(_) | Place::Talks(_) | Place::Beside(_) => Ok(()),
@@ -460,6 +495,7 @@ impl Session {
         ensures notes { self.new.notes ≡ self.old.notes }
         ensures audit { self.new.audit ≡ self.old.audit }
         ensures trails { (judging : JudgingKind) (named out : List ℕ) (carried : List Carried) → AreTrailsKept self.old.trails judging named out carried → AreTrailsKept self.new.trails judging named out carried }
+        ensures kept { self.new.kept ≡ self.old.kept }
     {
         let Place::Nowhere = place else {
             return Ok(());
@@ -475,6 +511,7 @@ impl Session {
         ensures notes { self.new.notes ≡ self.old.notes }
         ensures audit { self.new.audit ≡ self.old.audit }
         ensures trails { (judging : JudgingKind) (named out : List ℕ) (carried : List Carried) → AreTrailsKept self.old.trails judging named out carried → AreTrailsKept self.new.trails judging named out carried }
+        ensures kept { self.new.kept ≡ self.old.kept }
     {
         let Some(number) = self.unplaced.newest(end) else {
             return;
@@ -520,6 +557,7 @@ impl Session {
             → result ≡ None → IsSessionOf self.new named out history carried s }
         ensures judging { self.new.audit.judge.judging ≡ self.old.audit.judge.judging }
         ensures notes { self.new.notes ≡ self.old.notes }
+        ensures kept { self.new.kept ≡ self.old.kept }
     {
         let (number, mut trail) = self.trails.pop_first()?;
         self.unplaced.end(trail.transfer.client, number);
@@ -538,12 +576,18 @@ impl Session {
     }
 
     /// The transfer of which so many datagrams came before the first.
-    pub fn trail(&self, number: u64) -> Option<&Trail> {
+    pub fn trail(&self, number: u64) -> Option<&Trail>
+        ensures { option_map (λ t. t.now) result ≡ get nat_cmp self.now.trails number }
+    {
         self.trails.get(&number)
     }
 
     /// How many datagrams came before the first of each transfer that was not handed out, from the oldest on.
-    pub fn transfers(&self, alloc: Global) -> Result<Vec<u64>, AllocError> {
+    pub fn transfers(&self, alloc: Global) -> Result<Vec<u64>, AllocError>
+        ensures keys { IfOk result (λ numbers. numbers.items ≡ keys self.now.trails) }
+        ensures in_order { (named : List ℕ) (history : List Step) (carried : List Carried) (s : Noticed) → IsSessionOf self.now named [] history carried s
+            → IfOk result (λ numbers. numbers.items ≡ opened_numbers (whole_of named carried)) }
+    {
         let mut numbers = Vec::new(alloc);
         for number in self.trails.keys() {
             numbers.push(*number)?;
@@ -552,11 +596,16 @@ impl Session {
     }
 
     /// The key of the transfer with this number from the oldest on, from 1.
-    pub(crate) fn key_of(&self, alloc: Global, number: u64) -> Result<u64, TextFault> {
+    pub(crate) fn key_of(&self, alloc: Global, number: u64) -> Result<u64, TextFault>
+        ensures key { (named : List ℕ) (history : List Step) (carried : List Carried) (s : Noticed) → IsSessionOf self.now named [] history carried s
+            → IfOk result (λ key. ordinal key (whole_of named carried) ≡ number) }
+        ensures there { IfOk result (λ key. IsSome (get nat_cmp self.now.trails key)) }
+        ensures none { (named : List ℕ) (history : List Step) (carried : List Carried) (s : Noticed) → IsSessionOf self.now named [] history carried s
+            → IfErr result (IsNoneNumbered number (whole_of named carried)) }
+    {
         let keys = self.transfers(alloc)?;
-        let place = usize::try_from(number.saturating_sub(1)).unwrap_or(usize::MAX);
-        match keys.get(place) {
-            Some(key) => Ok(*key),
+        match key_at(keys.as_slice(), number) {
+            Some(key) => Ok(key),
             None => Err(TextFault::NoTransfer(number, keys.len())),
         }
     }
@@ -582,9 +631,22 @@ impl Session {
     }
 
     /// How many transfers there are that were not handed out.
-    pub fn count(&self) -> usize {
+    pub fn count(&self) -> usize
+        ensures { result ≡ length (keys self.now.trails) }
+    {
         self.trails.len()
     }
+}
+
+/// The key at the place with this number, from 1.
+fn key_at(keys: &[u64], number: u64) -> Option<u64>
+    ensures { result ≡ if number == 0 then None else slice_get keys.now (number - 1) }
+{
+    if number == 0 {
+        return None;
+    }
+    let place = usize::try_from(number - 1).unwrap_or(usize::MAX);
+    keys.get(place).copied()
 }
 
 /// Notes at a transfer the frame of what was left out before its request, but has a later time.

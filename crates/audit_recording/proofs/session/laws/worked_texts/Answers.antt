@@ -15,3 +15,7 @@ returns-clause-second c = refl
 
 pub returns-clause-unopened : goal.returns-clause-unopened
 returns-clause-unopened c = refl
+
+pub returns-clause-heading : goal.returns-clause-heading
+unfolding digits
+returns-clause-heading c = refl

@@ -14,6 +14,7 @@ returns-clause-closed g c named out history carried s is =
         audit = is.kept.audit;
         notes = record { losses = kept.losses; frames = kept.frames; intact = kept.intact; clock = kept.clock; kinds = kept.kinds };
         trails = is.kept.trails;
+        texts = is.kept.texts;
       };
       may_lose = refl;
       dropped = c.lost-dropped.ensures;

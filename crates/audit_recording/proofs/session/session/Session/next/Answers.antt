@@ -8,11 +8,13 @@ use Rattle.audit_recording.specs.Blame.Frames.{Carried, datagrams_of}
 use Rattle.audit_recording.specs.Session.Kept.{IsSessionAfter}
 use Rattle.audit_recording.specs.Session.Noted.{AreNotesOf}
 use Rattle.audit_recording.specs.Session.Recording.{IsNoticedOf}
+use Rattle.audit_recording.specs.Session.Texts.{AreTextsKept}
 use Rattle.audit_recording.specs.Session.Trails.{AreTrailsKept}
 use Rattle.audit_recording.specs.declared.blame.trail.Trail.{Trail}
 use Rattle.audit_recording.specs.declared.judges.judging.Judging.{Judging}
+use Rattle.audit_recording.specs.declared.session.kept.Kept.{Kept as KeptTexts}
 use Rattle.audit_recording.proofs.SessionLemmas.Recording.{always, carry, errs_so, gives_none, is_carried, reads_on, stops_so}
-use Rattle.audit_recording.proofs.SessionLemmas.Trails.{always_err, told_too}
+use Rattle.audit_recording.proofs.SessionLemmas.Trails.{always_err, on_ok_both, told_too}
 use Rattle.audit_recording.proofs.session.session.Session.next.Goals as goal
 
 pub returns-in-Ok-End-clause-goes_on : goal.returns-in-Ok-End-clause-goes_on
@@ -29,6 +31,7 @@ returns-in-Ok-End-clause-goes_on g c named out bytes history carried s stands is
             audit = goes.1;
             notes = is.kept.notes;
             trails = subst (λ (j : Judging). AreTrailsKept c.args.self.now.trails j named out carried) (sym c.in-Ok-End.ensures.judging) is.kept.trails;
+            texts = is.kept.texts;
           };
         },
       ),
@@ -58,6 +61,7 @@ returns-in-Ok-Nothing-clause-goes_on g c named out bytes history carried s stand
                 audit = subst (λ (a : RecordingAudit). AuditsAfter a named out (step ∷ history) (datagrams_of carried)) (sym c.take.ensures.audit) goes.2.1;
                 notes = notes.0;
                 trails = subst (λ (j : Judging). AreTrailsKept c.take.new.self.trails j named out carried) judged notes.1;
+                texts = subst (λ (k : KeptTexts). AreTextsKept k named carried) (sym (c.take.ensures.same_kept refl)) is.kept.texts;
               };
             },
           )),
@@ -73,7 +77,9 @@ returns-in-Ok-Datagram-clause-goes_on g c named out bytes history carried s stan
     let here = c.args.self.now.audit.judge.judging in
     let next = c.next_into.new.self.judge.judging in
     let judged : next ≡ c.take-in-Ok-Datagram.new.self.audit.judge.judging = sym (ap (λ (a : RecordingAudit). a.judge.judging) c.take-in-Ok-Datagram.ensures.audit) in
-    let Kept : Type 0 = AreTrailsKept c.take-in-Ok-Datagram.new.self.trails next named out (x ∷ carried) in
+    let Trails : Type 0 = AreTrailsKept c.take-in-Ok-Datagram.new.self.trails next named out (x ∷ carried) in
+    let Texts : Type 0 = AreTextsKept c.take-in-Ok-Datagram.new.self.kept named (x ∷ carried) in
+    let Kept : Type 0 = Trails × Texts in
     let were : AreTrailsKept c.args.self.now.trails next named out carried = subst (λ (j : Judging). AreTrailsKept c.args.self.now.trails j named out carried) (sym c.in-Ok-Datagram.ensures.judging) is.kept.trails in (
       read.0,
       read.1,
@@ -83,8 +89,11 @@ returns-in-Ok-Datagram-clause-goes_on g c named out bytes history carried s stan
           (told_too c.take-in-Ok-Datagram.result (λ t. IsNoticedOf named (step ∷ history) (x ∷ carried) t) (λ t. AreNotesOf c.take-in-Ok-Datagram.new.self.notes t) Kept
           (c.take-in-Ok-Datagram.ensures.datagram named history carried s step x c.in-Ok-Datagram.found given refl goes.2 goes.3.1
           (is_carried c.next_into.new.event given carried goes.1 goes.3.2) goes.4.0 is.noticed is.kept.notes)
+          (on_ok_both c.take-in-Ok-Datagram.result (λ (trails : Trails) (texts : Texts). (trails, texts))
           (c.take-in-Ok-Datagram.ensures.trails named out (step ∷ history) carried x c.in-Ok-Datagram.found given refl goes.3.1
-          (is_carried c.next_into.new.event given carried goes.1 goes.3.2) goes.4 is.kept.audit.judges.handed goes.5.1 were))
+          (is_carried c.next_into.new.event given carried goes.1 goes.3.2) goes.4 is.kept.audit.judges.handed goes.5.1 were)
+          (c.take-in-Ok-Datagram.ensures.texts named carried x c.in-Ok-Datagram.found given refl goes.3.1
+          (is_carried c.next_into.new.event given carried goes.1 goes.3.2) goes.4.0 is.kept.texts)))
           (λ t noticed notes. (
             goes.5.0,
             record {
@@ -92,7 +101,8 @@ returns-in-Ok-Datagram-clause-goes_on g c named out bytes history carried s stan
               kept = record {
                 audit = subst (λ (a : RecordingAudit). AuditsAfter a named out (step ∷ history) (datagrams_of (x ∷ carried))) (sym c.take-in-Ok-Datagram.ensures.audit) goes.5.1;
                 notes = notes.0;
-                trails = subst (λ (j : Judging). AreTrailsKept c.take-in-Ok-Datagram.new.self.trails j named out (x ∷ carried)) judged notes.1;
+                trails = subst (λ (j : Judging). AreTrailsKept c.take-in-Ok-Datagram.new.self.trails j named out (x ∷ carried)) judged notes.1.0;
+                texts = notes.1.1;
               };
             },
           )),
@@ -116,6 +126,7 @@ returns-in-Err-Recording-clause-goes_on g c named out bytes history carried s st
                 notes = c.stop.ensures.notes s is.kept.notes;
                 trails = subst (λ (m : BTreeMap ℕ Trail). AreTrailsKept m c.stop.new.self.audit.judge.judging named out carried) (sym c.stop.ensures.trails)
                     (subst (λ (j : Judging). AreTrailsKept c.args.self.now.trails j named out carried) (sym (ap (λ (a : RecordingAudit). a.judge.judging) c.stop.ensures.audit ∙ c.in-Err-Recording.ensures.judging)) is.kept.trails);
+                texts = subst (λ (k : KeptTexts). AreTextsKept k named carried) (sym c.stop.ensures.kept) is.kept.texts;
               };
             },
           )),

@@ -51,3 +51,17 @@ returns-in_err-discard-in-Discarded-clause-same_trails c judging named out carri
 
 pub returns-in_ok-discard-in-Discarded-clause-same_trails : goal.returns-in_ok-discard-in-Discarded-clause-same_trails
 returns-in_ok-discard-in-Discarded-clause-same_trails c judging named out carried none kept = c.discard.ensures.trails judging named out carried kept
+
+pub returns-in-Datagram-clause-texts : goal.returns-in-Datagram-clause-texts
+returns-in-Datagram-clause-texts c named carried x a given is came carries at kept =
+    c.pass.ensures.texts named carried x a is (carried_same c.args.event.now given c.in-Datagram.datagram carried x (given_once c.args.event.now given c.in-Datagram.datagram came c.in-Datagram.ensures.is) carries) at kept
+
+pub returns-in_ok-leave-in-Left-clause-texts : goal.returns-in_ok-leave-in-Left-clause-texts
+returns-in_ok-leave-in-Left-clause-texts c named carried x a given is came carries at kept = absurd (not_left c.args.event.now given c.in-Left.why came c.in-Left.ensures.is)
+
+pub returns-in_ok-wait-in-Waits-clause-texts : goal.returns-in_ok-wait-in-Waits-clause-texts
+returns-in_ok-wait-in-Waits-clause-texts c named carried x a given is came carries at kept = absurd (not_waiting c.args.event.now given came c.in-Waits.ensures.is)
+
+pub returns-in_ok-discard-in-Discarded-clause-texts : goal.returns-in_ok-discard-in-Discarded-clause-texts
+returns-in_ok-discard-in-Discarded-clause-texts c named carried x a given is came carries at kept =
+    absurd (not_discarded c.args.event.now given c.in-Discarded.datagram came c.in-Discarded.ensures.is)

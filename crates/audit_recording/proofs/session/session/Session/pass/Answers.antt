@@ -1,16 +1,21 @@
 use Rattle.std.proofs.Common.{◌≡◌, ◌∷◌, arith, ap, sym, subst, ◌∙◌}
 use Rattle.audit_flows.specs.{Attributed}
+use Rattle.audit_views.specs.Parties.{host_name}
+use Rattle.audit_views.specs.Views.{IsFed}
+use Rattle.audit_views.specs.{Held}
 use Rattle.net_udp.specs.Recording.{checksum_told}
 use Rattle.audit_recording.specs.Reasons.Spoilt.{checked}
 use Rattle.audit_recording.specs.Session.Noted.{AreNotesOf, Noticed, finding, going_back, sharers_of, with_time}
 use Rattle.audit_recording.specs.Session.Recording.{asking, intact_at, passing_at, reached_by, setting_aside}
 use Rattle.audit_recording.specs.Audit.{AuditsAfter, RecordingAudit}
 use Rattle.audit_recording.specs.Audit.Audited.{IsAttributed}
-use Rattle.audit_recording.specs.Blame.Frames.{datagrams_of}
+use Rattle.audit_recording.specs.Blame.Frames.{Framed, datagrams_of, framed_after}
 use Rattle.audit_recording.specs.Blame.Kept.{IsPassing}
+use Rattle.audit_recording.specs.Session.Texts.{AreTextsKept}
 use Rattle.audit_recording.specs.Session.Trails.{AreTrailsBegun, AreTrailsKept}
 use Rattle.audit_recording.specs.declared.blame.passing.Passing.{Passing}
 use Rattle.audit_recording.specs.declared.judges.judging.Judging.{Judging}
+use Rattle.audit_recording.specs.declared.session.kept.Kept.{Kept}
 use Rattle.audit_recording.proofs.SessionLemmas.Recording.{reached_is}
 use Rattle.audit_recording.proofs.session.session.Session.pass.Goals as goal
 
@@ -65,3 +70,38 @@ returns-clause-trails c named out history carried d a is carries at handed audit
     (subst (λ (s : RecordingAudit). AuditsAfter s named out history (datagrams_of (d ∷ carried))) (sym c.ask.ensures.audit) audit)
     (subst (λ (j : Judging). AreTrailsBegun c.ask.new.self.trails j named out d carried) (sym judged) begun) in
     subst (λ (j : Judging). AreTrailsKept c.follow.new.self.trails j named out (d ∷ carried)) judged followed
+
+pub returns-clause-texts : goal.returns-clause-texts
+returns-clause-texts c named carried d a is carries at kept =
+    let f : Framed = framed_after named carried d in
+    let same : c.in-Some.found ≡ a = cc in
+    let fed : Held = record { place = c.in-Some.found.place; source = c.party_of-source.result; target = c.party_of-target.result; payload = c.args.datagram.now.payload.now } in
+    let is_fed : IsFed host_name f.placed fed = record {
+      belongs = ap (λ (p : Attributed). p.place) same ∙ at;
+      from = carries.taken.source ∙ sym c.party_of-source.ensures.end;
+      to = carries.taken.target ∙ sym c.party_of-target.ensures.end;
+      carries = carries.taken.payload;
+      from_host = c.party_of-source.ensures.host;
+      to_host = c.party_of-target.ensures.host;
+    } in
+    let passing : Passing = record {
+      frame = c.number.result;
+      time = c.time.result;
+      is_doubtful = c.is_doubtful.result;
+      has_error = c.has_error.result;
+      is_intact = c.intact_in.result;
+      source = c.party_of-source.result.end;
+      target = c.party_of-target.result.end;
+      payload = c.args.datagram.now.payload;
+    } in
+    let passes : IsPassing passing d = record {
+      frame = c.number.ensures ∙ sym carries.frame;
+      time = c.time.ensures ∙ sym carries.time;
+      is_doubtful = c.is_doubtful.ensures ∙ sym carries.is_doubtful;
+      has_error = c.has_error.ensures ∙ sym carries.has_error;
+      source = c.party_of-source.ensures.end ∙ sym carries.taken.source;
+      target = c.party_of-target.ensures.end ∙ sym carries.taken.target;
+      payload = sym carries.taken.payload;
+    } in
+    let noted = c.in_ok-note.ensures.texts named d carried is_fed passes (subst (λ (k : Kept). AreTextsKept k named carried) (sym c.ask.ensures.kept) kept) in
+    subst (λ (k : Kept). AreTextsKept k named (d ∷ carried)) (sym c.follow.ensures.kept) noted

@@ -32,6 +32,7 @@ returns-clause-stands c named out history carried s is =
       notes = is.notes;
       trails = subst (λ (j : Judging). AreTrailsKept c.pop_first.new.self j named (w.transfer.number ∷ out) carried) (sym c.pop_first-2.ensures.judging)
           (others_kept c.args.self.now.trails judging named out carried k c.in_ok-number.trail c.in_ok-number.ensures.value c.in_ok-number.ensures.least is.trails w.transfer is_so.1.0.0 is_so.1.1.0 is_so.1.1.1 c.pop_first.new.self c.in_ok-number.ensures.updates.0);
+      texts = is.texts;
     })
     (if_both Out (λ w. Is w × (Once w × First w)) c.pop_first-2.result (c.pop_first-2.ensures.stands named out history passed is.audit)
     (if_both Is (λ w. Once w × First w) c.pop_first-2.result (c.pop_first-2.ensures.watched named out history passed is.audit)
@@ -89,6 +90,7 @@ returns-in_err-number-clause-none c named out history carried s is none = record
   audit = is.audit;
   notes = is.notes;
   trails = trails_unchanged c.args.self.now.trails c.pop_first.new.self c.args.self.now.audit.judge.judging named out carried c.in_err-number.ensures.unchanged is.trails;
+  texts = is.texts;
 }
 
 pub returns-clause-none : goal.returns-clause-none

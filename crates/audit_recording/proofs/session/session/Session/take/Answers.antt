@@ -7,7 +7,9 @@ use Rattle.audit_flows.specs.{Place}
 use Rattle.audit_recording.specs.Session.Kept.{GivesNone}
 use Rattle.audit_recording.specs.Session.Noted.{AreNotesOf, Noticed, frames_in, giving_up}
 use Rattle.audit_recording.specs.Session.Recording.{AddsOne, IsCarriedBy, letting_go, placing}
+use Rattle.audit_recording.specs.Session.Texts.{AreTextsKept}
 use Rattle.audit_recording.specs.Session.Trails.{AreTrailsKept}
+use Rattle.audit_recording.specs.declared.session.kept.Kept.{Kept}
 use Rattle.audit_recording.specs.declared.session.notes.Notes.{Notes}
 use Rattle.audit_recording.proofs.SessionLemmas.Recording.{adds_bare, bare, carried_bare, last_up_to}
 use Rattle.audit_recording.proofs.session.session.Session.take.Goals as goal
@@ -80,3 +82,18 @@ returns-clause-trails c named out history carried x a given is came carries at h
 pub returns-clause-same_trails : goal.returns-clause-same_trails
 returns-clause-same_trails c judging named out carried none kept =
     c.note_undelivered.ensures.trails judging named out carried (c.in_ok-note.ensures.same_trails judging named out carried none kept)
+
+pub returns-clause-texts : goal.returns-clause-texts
+returns-clause-texts c named carried x a given is came carries at kept =
+    let event = c.args.event.now in
+    let same : c.take_ousted.new.self ≡ bare event = λ i. record {
+      frame = c.take_ousted.ensures.frame i;
+      likeness = c.take_ousted.ensures.likeness i;
+      brought = record { old = c.take_ousted.ensures.old i; ousted = c.take_ousted.ensures.gone i; outcome = c.take_ousted.ensures.outcome i };
+      sent = c.take_ousted.ensures.sent i;
+      is_discarded = c.take_ousted.ensures.discarded i;
+    } in
+    subst (λ (k : Kept). AreTextsKept k named (x ∷ carried)) (sym c.note_undelivered.ensures.kept)
+    (subst (λ (e : EventState). IsFateOf e.frame.parts e.likeness e.brought.outcome e.is_discarded (Datagram given) → IsCarriedBy e given carried x
+    → AreTextsKept c.note.new.self.kept named (x ∷ carried))
+    same (λ came_so carries_so. c.in_ok-note.ensures.texts named carried x a given is came_so carries_so at kept) came (carried_bare event given carried x carries))

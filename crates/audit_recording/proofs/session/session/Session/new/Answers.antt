@@ -1,0 +1,22 @@
+use Rattle.std.proofs.Common.{ℕ, List, [], inl, refl, subst, sym}
+use Rattle.std.specs.BTreeMap.{is_at}
+use Rattle.std.specs.Map.{lookup}
+use Rattle.std.specs.Ordering.{nat_cmp}
+use Rattle.audit_recording.specs.Blame.Frames.{whole_of}
+use Rattle.audit_recording.specs.Session.Trails.{IsTrailKept}
+use Rattle.audit_recording.specs.declared.blame.trail.Trail.{Trail}
+use Rattle.audit_recording.proofs.session.session.Session.new.Goals as goal
+
+pub returns-clause-stands : goal.returns-clause-stands
+returns-clause-stands c =
+    let named = c.args.services.now in
+    record {
+      noticed = (refl, refl);
+      kept = record {
+        audit = c.in_ok-new.ensures.stands;
+        notes = c.new-4.ensures.stands;
+        trails = λ n. subst (λ (es : List (ℕ × Trail)). IsTrailKept c.in_ok-new.field-0.judge.judging named [] (whole_of named []) [] n (lookup (is_at (nat_cmp n)) es))
+            (sym c.new-2.ensures.empty) (inl refl);
+        texts = c.anew.ensures.texts named;
+      };
+    }
