@@ -323,7 +323,7 @@ class Recordings(Checks):
 
     needs = (TRANSFERS,)
     ACCEPTED = f"accepted get octet blocks {COUNT} bytes {len(FILE)}"
-    BEYOND = "; tftp-audit check --rollover judges numbers that begin again"
+    BEYOND = "; --end client --rollover 0 judges numbers that begin again"
 
     def told(self, recording: bytes, *words: str) -> tuple[str, str, int]:
         """What is written, what is written as errors, and the status."""

@@ -169,7 +169,7 @@ class Stands(Checks):
         asked, many = Datagram(C, 40_000, S, 69, read_request("a", "octet", tsize=0)[0]), oack(tsize=40_000_000)[0]
         said_of = self.words(file_of([asked, answered(many), sent(ack(0)[0])]), *between)
         wanted = f"{refusal(2, Rule.BEYOND_BLOCK_65535)}, whatever is missing except a request"
-        wanted += "; tftp-audit check --rollover judges numbers that begin again"
+        wanted += "; --end client --rollover 0 judges numbers that begin again"
         self.check("rule 20", said_of == wanted, said_of)
 
     def test_between(self) -> None:

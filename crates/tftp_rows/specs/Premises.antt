@@ -29,6 +29,6 @@ goes_beyond _ = false
 abbrev pub goes_beyond_once : Viewed → Bool
 goes_beyond_once v = is_none v.rollover && goes_beyond v.found
 
--- who judges numbers that begin again
+-- the words by which numbers that begin again are judged
 abbrev pub beyond_text : Bool → List ℕ
-beyond_text beyond = if beyond then codes "; tftp-audit check --rollover judges numbers that begin again" else []
+beyond_text beyond = if beyond then codes "; --end client --rollover 0 judges numbers that begin again" else []

@@ -43,7 +43,7 @@ pub fn worked_rows()
         → row_text 30 r ≡ codes "examples/loopback-session.pcap  3       both     17        client 192.0.2.1:34056  aborted by server code 1, and then refused datagram 3 rule 26 AckAhead, if no frame is missing; ended: server ERROR 1 \"File not found\" frame 16" }
     ensures beyond { (r : VerdictRow) → IsRow r (codes "image.pcap") 1 Between (Some 131076) (server_at first_host 41000) (codes "refused datagram 131074 rule 20 BeyondBlock65535") []
         → RestsOn r true (Some true) true → r.ended ≡ Quiet ServerEnd 0 76 → r.times ≡ untimed
-        → row_text 10 r ≡ codes "image.pcap  1       between  131076    server 192.0.2.1:41000  refused datagram 131074 rule 20 BeyondBlock65535, whatever is missing except a request; tftp-audit check --rollover judges numbers that begin again" }
+        → row_text 10 r ≡ codes "image.pcap  1       between  131076    server 192.0.2.1:41000  refused datagram 131074 rule 20 BeyondBlock65535, whatever is missing except a request; --end client --rollover 0 judges numbers that begin again" }
 {}
 
 /// A doubtful row with two reasons, whose transfer was slow.

@@ -47,12 +47,12 @@ fn goes_beyond(found: &Found) -> bool
     }
 }
 
-/// Puts who judges numbers that begin again.
+/// Puts the words by which numbers that begin again are judged.
 pub fn put_beyond(line: &mut String, beyond: bool) -> Result<(), AllocError>
     ensures { OnOk result (string_bytes line.new ≡ string_bytes line.old ++ beyond_text beyond) }
 {
     if beyond {
-        return line.push_str("; tftp-audit check --rollover judges numbers that begin again");
+        return line.push_str("; --end client --rollover 0 judges numbers that begin again");
     }
     Ok(())
 }

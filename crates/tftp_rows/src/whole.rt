@@ -1,14 +1,15 @@
 //! What is told of a whole recording, by the calls that a teller gets for it. Each law is the contract of a function that does
 //! nothing.
 
-ghost use Rattle.std.specs.Prelude.{◌≡◌, ◌++◌, [], ℕ, Bool, List, Option, Some, false, max};
+ghost use Rattle.std.specs.Prelude.{◌≡◌, ◌++◌, [], ℕ, Bool, List, None, Option, Some, false, max};
 ghost use Rattle.net_udp.specs.Recording.{Step};
 ghost use Rattle.audit_flows.specs.{Transfer};
 ghost use Rattle.audit_recording.specs.Blame.Frames.{Carried, whole_of};
 ghost use Rattle.audit_recording.specs.Judges.{opened};
-ghost use Rattle.audit_recording.specs.Session.Noted.{Noticed, frames_in, giving_up, nothing_noticed};
+ghost use Rattle.audit_recording.specs.Session.Noted.{Noticed, frames_in, giving_up, nothing_noticed, told_in};
 ghost use Rattle.audit_recording.specs.Session.Over.{IsOldestOver, IsOver};
 ghost use Rattle.audit_recording.specs.Session.Recording.{IsNoticedOf};
+ghost use Rattle.audit_recording.specs.Session.Told.{AreEachOnce, IsLostAlone};
 ghost use Rattle.audit_recording.specs.declared.judges.judging.Judging.{Judging as JudgingKind};
 ghost use Rattle.audit_recording.specs.declared.session.notes.Notes.{Notes as NotesKind};
 ghost use Rattle.audit_recording.specs.declared.session.session.Session.{Session as SessionKind};
@@ -49,7 +50,8 @@ pub fn recordings_are_told_in_order<W: Write + Drop>()
 /// What is told of a transfer is what the whole recording says of it: once it is over, whatever comes later, it is the same transfer, and
 /// its verdicts, the datagrams that they blame, and what the division doubts are the same (`over`). So each transfer that was told of a
 /// recording is one that the whole recording has, and its rows are those of its verdicts by the whole (`whole`). And no frame that the
-/// whole recording lacks of it is left out of its doubts (`missing`).
+/// whole recording lacks of it is left out of its doubts (`missing`). Of the frames that are told as not there whole each is told once
+/// (`once`), and as nothing else (`alone`), where memory did not run out.
 pub fn what_is_told_is_of_the_whole_recording<W: Write + Drop>()
     ensures over { (j : JudgedKind) (judging : JudgingKind) (x : Transfer) (named : List ℕ) (carried later : List Carried) (s : Noticed) → opened x.number (whole_of named carried) ≡ Some x
         → IsJudgedOf j judging x named carried → IsOver j.trail named carried s
@@ -58,6 +60,12 @@ pub fn what_is_told_is_of_the_whole_recording<W: Write + Drop>()
         → (told : IsRecordingTold W.Write.contents begun now file judging named notes) → AreOf begun.file.now judging named told.carried told.tellings }
     ensures missing { (begun now : TellerKind W) (file : Option (List ℕ)) (judging : JudgingKind) (named : List ℕ) (notes : NotesKind)
         → (told : IsRecordingTold W.Write.contents begun now file judging named notes) → AreLacking (giving_up (frames_in told.recording.waiting) told.noticed).events told.tellings }
+    ensures once { (begun now : TellerKind W) (file : Option (List ℕ)) (judging : JudgingKind) (named : List ℕ) (notes : NotesKind)
+        → (told : IsRecordingTold W.Write.contents begun now file judging named notes) → told.recording.refused ≡ None
+        → AreEachOnce (told_in (giving_up (frames_in told.recording.waiting) told.noticed)).lost }
+    ensures alone { (begun now : TellerKind W) (file : Option (List ℕ)) (judging : JudgingKind) (named : List ℕ) (notes : NotesKind)
+        → (told : IsRecordingTold W.Write.contents begun now file judging named notes) → told.recording.refused ≡ None
+        → IsLostAlone (told_in (giving_up (frames_in told.recording.waiting) told.noticed)) }
 {}
 
 /// What is told of a second file comes behind what was told of the first, and the status is the greatest of both.

@@ -1,5 +1,8 @@
-use Rattle.std.proofs.Common.{[], refl}
-use Rattle.audit_recording.specs.Session.Noted.{frames_in}
+use Rattle.std.proofs.Common.{◌≡◌, ℕ, List, None, [], refl, subst, sym}
+use Rattle.net_udp.specs.Recording.{RecordingState, RefusedTells, StandsFor, Step, waiting}
+use Rattle.audit_recording.specs.Session.Noted.{frames_in, giving_up, told_in}
+use Rattle.audit_recording.specs.Session.Told.{AreEachOnce, IsLostAlone}
+use Rattle.audit_recording.proofs.SessionLemmas.Lost.{lost_alone, lost_once}
 use Rattle.tftp_rows.specs.Whole.{once_ended, so_far}
 use Rattle.tftp_rows.proofs.FinalLemmas.{are_of, of_later}
 use Rattle.tftp_rows.proofs.LackingLemmas.{are_lacking}
@@ -17,3 +20,17 @@ pub returns-clause-missing : goal.returns-clause-missing
 returns-clause-missing g c begun now file judging named notes told =
     let all = so_far told.history told.carried told.noticed in
     are_lacking begun.file.now judging named (frames_in told.recording.waiting) all all told.tellings (record { next_frames = []; next_carried = []; frames = refl; datagrams = refl }) told.came told.told.told
+
+-- what the reader holds is what waits after the frames
+still_waits : (r : RecordingState) (bytes : List ℕ) (history : List Step) → StandsFor r bytes history → r.refused ≡ None → r.waiting ≡ waiting history
+still_waits r bytes history stands none = (subst (λ f. RefusedTells f r bytes history) none stands.1).1
+
+pub returns-clause-once : goal.returns-clause-once
+returns-clause-once g c begun now file judging named notes told none =
+    subst (λ w. AreEachOnce (told_in (giving_up (frames_in w) told.noticed)).lost) (sym (still_waits told.recording told.read.bytes told.history told.read.frames none))
+    (lost_once named told.history told.carried told.noticed told.read.frames.0 told.came)
+
+pub returns-clause-alone : goal.returns-clause-alone
+returns-clause-alone g c begun now file judging named notes told none =
+    subst (λ w. IsLostAlone (told_in (giving_up (frames_in w) told.noticed))) (sym (still_waits told.recording told.read.bytes told.history told.read.frames none))
+    (lost_alone named told.history told.carried told.noticed told.read.frames.0 told.came)
