@@ -51,6 +51,11 @@ def without(passed: list[Sent], *taken: int) -> list[Sent]:
     return [it for number, it in enumerate(passed, 1) if number not in taken]
 
 
+def again(passed: list[Sent], number: int, behind: int) -> list[Sent]:
+    """One datagram passes again behind another; both are told by their numbers."""
+    return [*passed[:behind], passed[number - 1], *passed[behind:]]
+
+
 def told(index: int, rule: Rule, further: str) -> Output:
     return f"{refusal(index, rule)}\n{further}\n".encode(), 1
 
@@ -98,6 +103,14 @@ CASES: tuple[tuple[str, EndName, list[Sent], int, Rule, str], ...] = (
      lawful(1, "1 outgoing before datagram 3")),
     ("both blocks of a window", CLIENT, without(WINDOW, 4, 5), 4, Rule.ACK_AHEAD,
      lawful(2, "2 incoming before datagram 4")),
+    ("a block of a read that comes again", CLIENT, without(again(READ, 4, 5), 4), 4, Rule.ACK_AHEAD,
+     lawful(1, "1 incoming before datagram 4")),
+    ("a block of a write that comes again", SERVER, without(again(WRITE, 3, 4), 3), 3, Rule.ACK_AHEAD,
+     lawful(1, "1 incoming before datagram 3")),
+    ("an OACK that comes again", CLIENT, without(again(WINDOW, 2, 3), 2), 2, Rule.WRONG_PORT,
+     lawful(1, "1 incoming before datagram 2")),
+    ("an OACK that never comes", CLIENT, without(WINDOW, 2), 2, Rule.WRONG_PORT,
+     lawful(1, "1 incoming before datagram 2")),
     ("a changed block", CLIENT, CHANGED, 4, Rule.BLOCK_CHANGED, NONE),
 )
 # What has one line: it is accepted, or no datagram of it is refused.

@@ -515,7 +515,7 @@ class Sent(OverLoopback):
         came = folder / "client" / LARGE
         self.check(f"{case.name}, came over", came.exists() and came.read_bytes() == IMAGE)
         normals = set()
-        for end in ("client", "server"):
+        for end in ENDS:
             words = [TRANSFERS.path, "text", "1", end, "-"]
             text = subprocess.run(words, input=recording.read_bytes(), capture_output=True, timeout=120).stdout
             accepted = f"accepted get octet blocks {BLOCKS} bytes {len(IMAGE)}\n".encode()
@@ -532,5 +532,5 @@ class Sent(OverLoopback):
         """What tftp-transfers says of it at an end by each number."""
         for given, kind in zip(GIVEN, ("accepted", "refused")):
             rows, told, status = checked(TRANSFERS.path, recording, "--end", end, "--rollover", given)
-            is_said = [(row.verdict.split()[0], row.doubts) for row in rows] == [(kind, [])]
+            is_said = [(row.verdict.split()[0], row.doubts) for row in rows] == [(kind, ())]
             self.check(f"{name}, recorded, by {given}", is_said and (told, status) == ("", int(kind == "refused")), rows)
