@@ -1,9 +1,9 @@
 -- Which pairs go together of those that were tried so far.
-use Rattle.std.proofs.Common.{◌≡◌, ℕ, suc, ◌+◌, ◌<◌, List, [], ◌∷◌, ◌++◌, true, length, take, drop, get_or, map, Option, Some, None, refl, sym, ap, ◌∙◌, drop-cons, take-append-drop}
-use Rattle.std.proofs.lemmas.List.{map-append, take_more}
+use Rattle.std.proofs.Common.{◌≡◌, ℕ, suc, ◌+◌, ◌<◌, List, [], ◌∷◌, ◌++◌, true, length, take, drop, get_or, Option, Some, None, refl, sym, ap, ◌∙◌, drop-cons, take-append-drop}
+use Rattle.std.proofs.lemmas.List.{take_more}
 use Rattle.std.proofs.lemmas.List.Elements.{filter-append}
 use Rattle.tftp_match.specs.{Tried}
-use Rattle.tftp_match.specs.Choice.{matched_in, numbers_of, sole}
+use Rattle.tftp_match.specs.Choice.{AreTried, IsTried, Texts, matched_in, nothing, one, sole}
 
 -- a list of none or of one
 abbrev pub listed : Option Tried → List Tried
@@ -25,9 +25,10 @@ two_matched tried i d t within before is =
 
 -- ---- which were tried
 
+pub tried_both : {texts : Texts} {pairs more : List (ℕ × ℕ)} {tried others : List Tried} → AreTried texts pairs tried → AreTried texts more others → AreTried texts (pairs ++ more) (tried ++ others)
+tried_both nothing q = q
+tried_both (one pair t pairs tried is p) q = one pair t _ _ is (tried_both p q)
+
 -- one more was
-pub tried_more : {A : Type 0} (told : A → Option ℕ × Option ℕ) (all : List A) (i : ℕ) (d : A) (was now : List Tried) (t : Tried) → i < length all → map numbers_of was ≡ map told (take i all) → numbers_of t ≡ told (get_or all i d) → now ≡ was ++ t ∷ [] → map numbers_of now ≡ map told (take (i + 1) all)
-tried_more told all i d was now t within before is pushed =
-    let left : map numbers_of now ≡ map numbers_of was ++ numbers_of t ∷ [] = ap (map numbers_of) pushed ∙ map-append numbers_of was (t ∷ []) in
-    let right : map told (take (i + 1) all) ≡ map told (take i all) ++ told (get_or all i d) ∷ [] = ap (map told) (take_more all i d within) ∙ map-append told (take i all) (get_or all i d ∷ []) in
-    left ∙ ap (λ l. l ++ numbers_of t ∷ []) before ∙ ap (λ n. map told (take i all) ++ n ∷ []) is ∙ sym right
+pub tried_more : (texts : Texts) (pairs : List (ℕ × ℕ)) (i : ℕ) (d : ℕ × ℕ) (was now : List Tried) (t : Tried) → i < length pairs → AreTried texts (take i pairs) was → IsTried texts (get_or pairs i d) t → now ≡ was ++ t ∷ [] → AreTried texts (take (i + 1) pairs) now
+tried_more texts pairs i d was now t within before is pushed = rw (take_more pairs i d within) (rw pushed (tried_both before (one (get_or pairs i d) t [] [] is nothing)))

@@ -1,5 +1,6 @@
 pub mod CandidatesLemmas
 pub mod ChoiceLemmas
 pub mod CopiesLemmas
-pub mod MembersLemmas
 pub mod ObjectsLemmas
+pub mod SidesLemmas
+pub mod VerdictLemmas

@@ -58,3 +58,7 @@ IsMeant own others payload = AreSole own others ⊎ HasSome others payload
 -- the numbers of those that are meant
 abbrev pub AreMeant : List Asked → List Asked → List ℕ → Type 0
 AreMeant own others = AreThose (λ asked. IsMeant own others asked.payload.now) (λ asked. asked.number) own
+
+-- one transfer of each side is meant, these being the numbers of those that are
+abbrev pub IsOneEach : List ℕ → List ℕ → Type 0
+IsOneEach own others = (length own ≡ 1) × (length others ≡ 1)

@@ -2,9 +2,13 @@ pub mod Firsts
 pub mod Status
 pub mod Lines
 pub mod Choice
+pub mod Given
+pub mod Faults
+pub mod Notes
+pub mod Untaken
+pub mod Sides
 pub mod Candidates
 pub mod Copies
-pub mod Members
 pub mod Objects
 pub mod Saying
 pub mod Worked

@@ -1,6 +1,5 @@
 -- What is printed of two captures as JSON (docs/schemas), member by member.
 use Rattle.std.specs.Prelude.{ℕ, ◌-◌, ◌++◌, List, [], ◌∷◌, codes, length, map, Option, Some, None, option_map, Result, Ok, Err, take}
-use Rattle.std.specs.Str.Lossy.{utf8_lossy}
 use Rattle.json.specs.Json.{Json, boolean, null, string}
 use Rattle.tftp_packet.specs.{Client, Server}
 use Rattle.tftp_commands.specs.{checked}
@@ -9,16 +8,16 @@ use Rattle.judge_pair.specs.declared.judge.matched.Matched.{Matched}
 use Rattle.judge_pair.specs.declared.match_texts.said.PairSaid.{PairSaid}
 use Rattle.tftp_match.specs.Copies.{block_of, kind_word, sender_word}
 use Rattle.tftp_match.specs.Firsts.{carried, client_first, is_matched, server_first}
-use Rattle.tftp_match.specs.Members.{array_of, count_json, count_or_null, json_text, object_of, text_or_null}
+use Rattle.tftp_rows.specs.Members.{array_of, count_json, count_or_null, json_text, object_of, text_or_null}
 use Rattle.tftp_match.specs.declared.copies.Copies.{Copies}
 use Rattle.tftp_match.specs.declared.facts.First.{First}
 use Rattle.tftp_match.specs.declared.objects.Captured.{Captured}
 
 -- ---- a capture
 
--- a line without its end, as a text
+-- a line without its end
 abbrev pub words_of : List ℕ → List ℕ
-words_of line = utf8_lossy (take (length line - 1) line)
+words_of line = take (length line - 1) line
 
 -- a capture, of whose verdict this is the line
 abbrev pub side_json : Captured → List ℕ → Json

@@ -30,7 +30,7 @@ said client server together = record { client = Err client; server = Err server;
 
 -- the client's transfer with this number was tried with the server's with that one
 abbrev pub tried : ℕ → ℕ → Bool → Tried
-tried client server is_matched = record { client = Some client; server = Some server; is_matched = is_matched }
+tried client server is_matched = record { client = client; server = server; is_matched = is_matched }
 
 -- this packet of an end was sent there so often, and taken at the other end so often
 abbrev pub counted : End → CountedPacket → ℕ → ℕ → Copies

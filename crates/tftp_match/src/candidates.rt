@@ -1,8 +1,8 @@
 //! Which transfers may be those of two captures: they have the same request.
 
-ghost use Rattle.std.specs.Prelude.{◌≡◌, ◌++◌, ◌↔◌, ℕ, List, IsTrue, IfOk, OnOk, option_map};
+ghost use Rattle.std.specs.Prelude.{◌≡◌, ◌++◌, ◌∷◌, [], ◌↔◌, ℕ, List, IsTrue, IfOk, IfSome, None, OnOk, option_map};
 ghost use Rattle.tftp_packet.specs.{Request as RequestMessage, Spells, parts};
-ghost use Rattle.tftp_match.specs.Candidates.{AreMeant, ArePairs, AreThose, HasSome, HaveOne, IsMeant, IsRequestIn, numbers_in, with_each};
+ghost use Rattle.tftp_match.specs.Candidates.{AreMeant, ArePairs, AreThose, HasSome, HaveOne, IsMeant, IsOneEach, IsRequestIn, numbers_in, with_each};
 
 use audit_recording::session::Asked;
 use std::alloc::{AllocError, Global};
@@ -31,6 +31,17 @@ impl Candidates {
             clients: matching(alloc, clients, servers)?,
             servers: matching(alloc, servers, clients)?,
         })
+    }
+
+    /// The sole one of each side, where each has one alone.
+    pub fn sole_pair(&self) -> Option<(u64, u64)>
+        ensures some { IfSome result (λ pair. (self.now.clients.items ≡ pair.0 ∷ []) × (self.now.servers.items ≡ pair.1 ∷ [])) }
+        ensures none { result ≡ None → IsOneEach self.now.clients.items self.now.servers.items → ⊥ }
+    {
+        match (self.clients.as_slice(), self.servers.as_slice()) {
+            ([one], [other]) => Some((*one, *other)),
+            _ => None,
+        }
     }
 }
 

@@ -13,20 +13,50 @@ use tftp_judge::{Meaning, Refusal, Verdict};
 /// A pair of transfers that was tried: the captures of both were judged together.
 #[derive(Clone, Copy, Debug, PartialEq, Eq)]
 pub struct Tried {
-    /// The number of the transfer in the client's recording; none where the client's capture is a text.
-    pub client: Option<u64>,
-    /// The number of the transfer in the server's recording; none where the server's capture is a text.
-    pub server: Option<u64>,
+    /// The number of the transfer in the client's capture.
+    pub client: u64,
+    /// The number of the transfer in the server's capture.
+    pub server: u64,
     /// Whether one run of the two ends has both.
     pub is_matched: bool,
 }
 
+/// A pair of transfers, and what there is to say of its captures.
+#[derive(Drop)]
+pub struct Judged {
+    /// The number of the transfer in the client's capture.
+    pub client: u64,
+    /// The number of the transfer in the server's capture.
+    pub server: u64,
+    /// What there is to say of both.
+    pub said: PairSaid,
+}
+
+/// Which pair is taken of two captures.
+#[derive(Drop)]
+pub enum Choice {
+    /// This one, which was judged.
+    Taken(Judged),
+    /// None.
+    Nothing(Untaken),
+}
+
+/// Why no pair is taken.
+#[derive(Drop)]
+pub enum Untaken {
+    /// So many have one request, too many to try each.
+    TooMany(usize),
+    /// Of these, which were tried, none goes together, or more than one does.
+    NotAlone(Vec<Tried>),
+}
+
 impl Tried {
-    /// The pair of these numbers, of which this is said; none where memory ran out.
-    pub fn of(client: Option<u64>, server: Option<u64>, said: &PairSaid) -> Option<Self>
-        ensures is { IfSome result (λ pair. pair ≡ record { client = client; server = server; is_matched = is_matched said.now }) }
-        ensures wanting { IsNone result ↔ (WantsMemory said.now.client ⊎ WantsMemory said.now.server) }
+    /// The pair that was judged; none where memory ran out.
+    pub fn of(judged: &Judged) -> Option<Self>
+        ensures is { IfSome result (λ pair. pair ≡ record { client = judged.now.client; server = judged.now.server; is_matched = is_matched judged.now.said }) }
+        ensures wanting { IsNone result ↔ (WantsMemory judged.now.said.client ⊎ WantsMemory judged.now.said.server) }
     {
+        let said = &judged.said;
         if wants_memory(&said.client) {
             return None;
         }
@@ -34,8 +64,8 @@ impl Tried {
             return None;
         }
         Some(Tried {
-            client,
-            server,
+            client: judged.client,
+            server: judged.server,
             is_matched: are_matched(said),
         })
     }

@@ -1,17 +1,22 @@
-//! The captures are opened, their transfers found, and both judged.
+//! The captures are read, their transfers found, and both judged.
 
-use crate::PROGRAM;
-use crate::held::{Held, said_of};
-use crate::recorded::{Recorded, Taken, take_beside, take_both};
+use crate::choice::Judged;
+use crate::choosing::Side;
+use crate::faults::MatchFault;
+use crate::held::Held;
+use crate::notes::tell_notes;
+use crate::recorded::Recorded;
+use crate::sides::judge_sides;
 use crate::source::{Source, Whole};
-use crate::told::{Named, tell_session};
+use crate::texts::{Texts, said_of};
 use crate::words::Request;
-use anyhow::{Result, bail};
-use audit_recording::session::{Session, told};
+use audit_recording::session::{Asked, Session};
 use judge_pair::match_texts::PairSaid;
-use std::fs::{self, File};
-use std::io::Read;
+use std::alloc::Global;
+use std::fmt::Display;
+use std::io::{Read, Write};
 use tftp_packet::End;
+use tftp_rows::{Remarks, TellFault};
 
 const TRANSFER: &str = "--transfer";
 
@@ -19,7 +24,8 @@ const SERVER_TRANSFER: &str = "--server-transfer";
 
 /// What there is to say of two captures.
 #[derive(Drop)]
-pub struct Judged {
+pub struct Matching {
+    /// What there is to say of both.
     pub said: PairSaid,
     /// The numbers of their transfers, where they are recordings.
     pub client: Option<u64>,
@@ -27,203 +33,282 @@ pub struct Judged {
 }
 
 /// What there is to say of two captures; none where one can't be judged, which is told.
-pub fn judge_captures(rt: HostRuntime, request: &Request<'_>) -> Result<Option<Judged>> {
-    if request.client == "-" {
-        let Some(server) = opened(rt, request.server)? else {
-            return Ok(None);
-        };
-        return judged_from(rt, request, rt.reader(), server);
-    }
-    let Some(client) = opened(rt, request.client)? else {
+pub fn judge_captures<R: Read + Drop, S: Read + Drop, E: Write + Drop>(
+    alloc: Global,
+    request: &Request<'_>,
+    client: R,
+    server: S,
+    remarks: &mut Remarks<'_, E>,
+) -> Result<Option<Matching>, MatchFault> {
+    let Some(client) = begun(alloc, request, request.client, client, remarks)? else {
         return Ok(None);
     };
-    if request.server == "-" {
-        return judged_from(rt, request, client, rt.reader());
-    }
-    let Some(server) = opened(rt, request.server)? else {
+    let Some(server) = begun(alloc, request, request.server, server, remarks)? else {
         return Ok(None);
     };
-    judged_from(rt, request, client, server)
+    match client {
+        Source::Text(client) => beside_text(alloc, request, client, server, remarks),
+        Source::Recording(client) => beside_recording(alloc, request, &client, server, remarks),
+    }
 }
 
-/// The file of that name; none where it is not opened, which is told.
-fn opened(rt: HostRuntime, path: &str) -> Result<Option<File>> {
-    match fs::open(&rt, path) {
-        Ok(file) => Ok(Some(file)),
-        Err(error) => {
-            eprintln!(rt; "{PROGRAM}: {path}: {error}")?;
+/// What a capture is, whose recording is read; none where it is not read, which is told.
+fn begun<R: Read + Drop, E: Write + Drop>(
+    alloc: Global,
+    request: &Request<'_>,
+    file: &str,
+    reader: R,
+    remarks: &mut Remarks<'_, E>,
+) -> Result<Option<Source<R>>, MatchFault> {
+    let services = request.services.as_slice();
+    let source = told(remarks, file, Source::begin(alloc, services, reader))?;
+    if let Some(Source::Recording(session)) = &source {
+        tell_notes(alloc, file, &session.notes, session.count() == 0, remarks)?;
+    }
+    Ok(source)
+}
+
+/// What a result has; none where that is a fault, which is told of the file.
+fn told<T, F: Display + Drop, E: Write + Drop>(
+    remarks: &mut Remarks<'_, E>,
+    file: &str,
+    outcome: Result<T, F>,
+) -> Result<Option<T>, TellFault> {
+    match outcome {
+        Ok(value) => Ok(Some(value)),
+        Err(fault) => {
+            remarks.tell_fault(file, fault)?;
             Ok(None)
         }
     }
 }
 
-fn judged_from<R: Read + Drop, S: Read + Drop>(
-    rt: HostRuntime,
-    request: &Request<'_>,
-    client: R,
-    server: S,
-) -> Result<Option<Judged>> {
-    let Some(client) = begun(rt, request, request.client, client)? else {
-        return Ok(None);
-    };
-    let Some(server) = begun(rt, request, request.server, server)? else {
-        return Ok(None);
-    };
-    match client {
-        Source::Text(client) => beside_text(rt, request, client, server),
-        Source::Recording(client) => beside_recording(rt, request, client, server),
-    }
-}
-
-/// What a capture is, whose recording is read.
-fn begun<R: Read + Drop>(
-    rt: HostRuntime,
-    request: &Request<'_>,
-    file: &str,
-    reader: R,
-) -> Result<Option<Source<R>>> {
-    let services = request.services.as_slice();
-    let source = told(
-        rt,
-        PROGRAM,
-        file,
-        Source::begin(rt.alloc(), services, reader),
-    )?;
-    if let Some(Source::Recording(session)) = &source {
-        tell_session(rt, file, session)?;
-    }
-    Ok(source)
-}
-
-fn beside_text<R: Read + Drop, S: Read + Drop>(
-    rt: HostRuntime,
+fn beside_text<R: Read + Drop, S: Read + Drop, E: Write + Drop>(
+    alloc: Global,
     request: &Request<'_>,
     client: Whole<R>,
     server: Source<S>,
-) -> Result<Option<Judged>> {
+    remarks: &mut Remarks<'_, E>,
+) -> Result<Option<Matching>, MatchFault> {
     match server {
-        Source::Text(server) => texts(rt, request, client, server),
-        Source::Recording(server) => recorded_server(rt, request, client, &server),
+        Source::Text(server) => texts(alloc, request, client, server),
+        Source::Recording(server) => recorded_server(alloc, request, client, &server, remarks),
     }
 }
 
-fn beside_recording<S: Read + Drop>(
-    rt: HostRuntime,
+fn beside_recording<S: Read + Drop, E: Write + Drop>(
+    alloc: Global,
     request: &Request<'_>,
-    client: Session,
+    client: &Session,
     server: Source<S>,
-) -> Result<Option<Judged>> {
+    remarks: &mut Remarks<'_, E>,
+) -> Result<Option<Matching>, MatchFault> {
     match server {
-        Source::Text(server) => recorded_client(rt, request, &client, server),
-        Source::Recording(server) => recordings(rt, request, &client, &server),
+        Source::Text(server) => recorded_client(alloc, request, client, server, remarks),
+        Source::Recording(server) => recordings(alloc, request, client, &server, remarks),
     }
 }
 
 fn texts<R: Read + Drop, S: Read + Drop>(
-    rt: HostRuntime,
+    alloc: Global,
     request: &Request<'_>,
     client: Whole<R>,
     server: Whole<S>,
-) -> Result<Option<Judged>> {
+) -> Result<Option<Matching>, MatchFault> {
     if request.transfer.is_some() || request.server_transfer.is_some() {
-        bail!("a transfer is named, and there is no recording");
+        return Err(MatchFault::NoRecording);
     }
-    Ok(Some(Judged {
-        said: said_of(rt.alloc(), client, server),
+    Ok(Some(Matching {
+        said: said_of(alloc, client, server),
         client: None,
         server: None,
     }))
 }
 
-fn recorded_client<S: Read + Drop>(
-    rt: HostRuntime,
+fn recorded_client<S: Read + Drop, E: Write + Drop>(
+    alloc: Global,
     request: &Request<'_>,
     client: &Session,
     server: Whole<S>,
-) -> Result<Option<Judged>> {
+    remarks: &mut Remarks<'_, E>,
+) -> Result<Option<Matching>, MatchFault> {
     if request.server_transfer.is_some() {
-        bail!("a transfer at the server is named, and there is no recording of it");
+        return Err(MatchFault::NoServerRecording);
     }
     let recorded = Recorded {
-        named: recording_named(request.client, TRANSFER),
+        file: request.client,
+        option: TRANSFER,
         end: End::Client,
         number: request.transfer,
         session: client,
     };
-    let Some(Taken { number, text, held }) = take_beside(rt, &recorded, request.server, server)?
-    else {
-        return Ok(None);
-    };
-    let text = text.as_slice();
-    Ok(Some(Judged {
-        said: match held {
-            Held::Stream(server) => said_of(rt.alloc(), text, server),
-            Held::Bytes(server) => said_of(rt.alloc(), text, server.as_slice()),
-        },
-        client: Some(number),
-        server: None,
-    }))
+    match beside(alloc, &recorded, request.server, server, remarks)? {
+        Some(judged) => Ok(Some(Matching {
+            said: judged.said,
+            client: Some(judged.client),
+            server: None,
+        })),
+        None => Ok(None),
+    }
 }
 
-fn recorded_server<R: Read + Drop>(
-    rt: HostRuntime,
+fn recorded_server<R: Read + Drop, E: Write + Drop>(
+    alloc: Global,
     request: &Request<'_>,
     client: Whole<R>,
     server: &Session,
-) -> Result<Option<Judged>> {
+    remarks: &mut Remarks<'_, E>,
+) -> Result<Option<Matching>, MatchFault> {
     if request.transfer.is_some() && request.server_transfer.is_some() {
-        bail!("a transfer at the client is named, and there is no recording of it");
+        return Err(MatchFault::NoClientRecording);
     }
     let recorded = Recorded {
-        named: recording_named(request.server, TRANSFER),
+        file: request.server,
+        option: TRANSFER,
         end: End::Server,
         number: request.server_transfer.or(request.transfer),
         session: server,
     };
-    let Some(Taken { number, text, held }) = take_beside(rt, &recorded, request.client, client)?
-    else {
-        return Ok(None);
-    };
-    let text = text.as_slice();
-    Ok(Some(Judged {
-        said: match held {
-            Held::Stream(client) => said_of(rt.alloc(), client, text),
-            Held::Bytes(client) => said_of(rt.alloc(), client.as_slice(), text),
-        },
-        client: None,
-        server: Some(number),
-    }))
+    match beside(alloc, &recorded, request.client, client, remarks)? {
+        Some(judged) => Ok(Some(Matching {
+            said: judged.said,
+            client: None,
+            server: Some(judged.server),
+        })),
+        None => Ok(None),
+    }
 }
 
-fn recordings(
-    rt: HostRuntime,
+fn recordings<E: Write + Drop>(
+    alloc: Global,
     request: &Request<'_>,
     client: &Session,
     server: &Session,
-) -> Result<Option<Judged>> {
+    remarks: &mut Remarks<'_, E>,
+) -> Result<Option<Matching>, MatchFault> {
     let client = Recorded {
-        named: recording_named(request.client, TRANSFER),
+        file: request.client,
+        option: TRANSFER,
         end: End::Client,
         number: request.transfer,
         session: client,
     };
     let server = Recorded {
-        named: recording_named(request.server, SERVER_TRANSFER),
+        file: request.server,
+        option: SERVER_TRANSFER,
         end: End::Server,
         number: request.server_transfer,
         session: server,
     };
-    let Some(both) = take_both(rt, &client, &server)? else {
+    match of_recordings(alloc, &client, &server, remarks)? {
+        Some(judged) => Ok(Some(Matching {
+            said: judged.said,
+            client: Some(judged.client),
+            server: Some(judged.server),
+        })),
+        None => Ok(None),
+    }
+}
+
+/// The transfers of two recordings, judged together.
+fn of_recordings<E: Write + Drop>(
+    alloc: Global,
+    client: &Recorded<'_>,
+    server: &Recorded<'_>,
+    remarks: &mut Remarks<'_, E>,
+) -> Result<Option<Judged>, MatchFault> {
+    let Some(clients) = told(remarks, client.file, client.asked(alloc))? else {
         return Ok(None);
     };
-    let (client, server) = (both.client.as_slice(), both.server.as_slice());
-    Ok(Some(Judged {
-        said: said_of(rt.alloc(), client, server),
-        client: Some(both.client_number),
-        server: Some(both.server_number),
+    let Some(servers) = told(remarks, server.file, server.asked(alloc))? else {
+        return Ok(None);
+    };
+    let client = side_of(client, clients.as_slice());
+    let server = side_of(server, servers.as_slice());
+    judge_sides(alloc, &client, &server, remarks)
+}
+
+/// A recording, of whose transfers one with these requests is to be judged.
+fn side_of<'a>(recorded: &'a Recorded<'a>, asked: &'a [Asked<'a>]) -> Side<'a, Recorded<'a>> {
+    Side {
+        file: recorded.file,
+        option: Some(recorded.option),
+        asked,
+        texts: recorded,
+    }
+}
+
+/// The transfer of a recording, judged together with a text. Where it has one alone, the text is read while it is judged.
+fn beside<R: Read + Drop, E: Write + Drop>(
+    alloc: Global,
+    recorded: &Recorded<'_>,
+    file: &str,
+    text: Whole<R>,
+    remarks: &mut Remarks<'_, E>,
+) -> Result<Option<Judged>, MatchFault> {
+    let Some(asked) = told(remarks, recorded.file, recorded.asked(alloc))? else {
+        return Ok(None);
+    };
+    if let [sole] = asked.as_slice() {
+        return beside_sole(alloc, recorded, sole.number, text, remarks);
+    }
+    let Some(held) = told(remarks, file, Held::read(alloc, text))? else {
+        return Ok(None);
+    };
+    beside_held(alloc, recorded, asked.as_slice(), file, &held, remarks)
+}
+
+/// The sole transfer of a recording, judged together with a text.
+fn beside_sole<R: Read + Drop, E: Write + Drop>(
+    alloc: Global,
+    recorded: &Recorded<'_>,
+    number: u64,
+    text: Whole<R>,
+    remarks: &mut Remarks<'_, E>,
+) -> Result<Option<Judged>, MatchFault> {
+    let Some(own) = told(remarks, recorded.file, recorded.text(alloc, number))? else {
+        return Ok(None);
+    };
+    let own = own.as_slice();
+    Ok(Some(match recorded.end {
+        End::Client => Judged {
+            client: number,
+            server: 1,
+            said: said_of(alloc, own, text),
+        },
+        End::Server => Judged {
+            client: 1,
+            server: number,
+            said: said_of(alloc, text, own),
+        },
     }))
 }
 
-fn recording_named<'a>(file: &'a str, option: &'static str) -> Named<'a> {
-    Named { file, option }
+/// The transfer of a recording that has the request of a text in memory, judged together with it.
+fn beside_held<E: Write + Drop>(
+    alloc: Global,
+    recorded: &Recorded<'_>,
+    asked: &[Asked<'_>],
+    file: &str,
+    held: &Held,
+    remarks: &mut Remarks<'_, E>,
+) -> Result<Option<Judged>, MatchFault> {
+    let Some(payload) = told(remarks, file, held.first_payload(alloc))? else {
+        return Ok(None);
+    };
+    let others = [Asked {
+        number: 1,
+        payload: payload.as_slice(),
+    }];
+    let own = side_of(recorded, asked);
+    let other = Side {
+        file,
+        option: None,
+        asked: &others,
+        texts: held,
+    };
+    match recorded.end {
+        End::Client => judge_sides(alloc, &own, &other, remarks),
+        End::Server => judge_sides(alloc, &other, &own, remarks),
+    }
 }

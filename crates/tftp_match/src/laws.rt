@@ -22,7 +22,7 @@ ghost use Rattle.tftp_match.specs.Choice.{matched_in, sole};
 ghost use Rattle.tftp_match.specs.Copies.{HavePassed, copies_lines, copies_to, told_copies};
 ghost use Rattle.tftp_match.specs.Firsts.{client_first, server_first};
 ghost use Rattle.tftp_match.specs.Lines.{lines, third_line};
-ghost use Rattle.tftp_match.specs.Members.{count_json, object_of};
+ghost use Rattle.tftp_rows.specs.Members.{count_json, object_of};
 ghost use Rattle.tftp_match.specs.Objects.{fault_word, json_line, together_json, words_of};
 ghost use Rattle.tftp_match.specs.Status.{status_of};
 ghost use Rattle.tftp_match.specs.Worked.{AreNamed, Asks, counted, numbers, said, tried};

@@ -3,12 +3,12 @@
 ghost use Rattle.std.specs.Prelude.{◌≡◌, IfOk, OnOk, codes, flat_map, option_map, string_bytes};
 ghost use Rattle.json.specs.Tree.{json_tokens};
 ghost use Rattle.tftp_commands.specs.{checked};
-ghost use Rattle.tftp_match.specs.Members.{Adds, AddsMember};
+ghost use Rattle.tftp_rows.specs.Members.{Adds, AddsMember};
 ghost use Rattle.tftp_match.specs.Objects.{copies_json, counts_json, fault_word, json_line, number_in, numbers_json, pair_json, side_json, together_json, word_in, words_of};
 
 use crate::copies::Copies;
 use crate::facts::{First, are_matched, carried_of, client_first, server_first};
-use crate::members::{put_count, put_flag, put_some_count, put_some_text, put_text};
+use crate::members::put_some_text;
 use crate::verdict::verdict_line;
 use json::Writer;
 use judge_pair::counts::Carried;
@@ -16,6 +16,7 @@ use judge_pair::match_texts::{Apart, PairSaid};
 use std::alloc::{AllocError, Global};
 use tftp_judge::{Meaning, Verdict};
 use tftp_packet::End;
+use tftp_rows::{put_count, put_flag, put_some_count, put_text, without_end};
 
 /// A capture as it is named.
 #[derive(Clone, Copy)]
@@ -86,8 +87,7 @@ fn verdict_in(alloc: Global, said: &Result<Meaning, Verdict>) -> Result<String, 
     ensures { IfOk result (λ text. string_bytes text ≡ words_of (checked said.now).bytes) }
 {
     let line = verdict_line(alloc, said)?;
-    let bytes = line.as_slice();
-    String::from_utf8_lossy(alloc, &bytes[..bytes.len().saturating_sub(1)])
+    without_end(alloc, line.as_slice())
 }
 
 /// The capture that names the other end.

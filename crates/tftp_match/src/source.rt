@@ -1,6 +1,6 @@
 //! A capture is a text or a recording, which its first bytes tell.
 
-use anyhow::Result;
+use crate::faults::SourceFault;
 use audit_recording::judges::Judging;
 use audit_recording::session::{Kept, Session, Wanted, is_recording, read_whole};
 use std::alloc::Global;
@@ -23,7 +23,7 @@ pub enum Source<R: Read + Drop> {
 
 impl<R: Read + Drop> Source<R> {
     /// The capture that a reader gives; requests go to port 69 and to these ports.
-    pub fn begin(alloc: Global, services: &[u16], mut reader: R) -> Result<Self> {
+    pub fn begin(alloc: Global, services: &[u16], mut reader: R) -> Result<Self, SourceFault> {
         let mut head = Vec::new(alloc);
         reader.by_ref().take(HEAD).read_to_end(&mut head)?;
         let is_text = !is_recording(head.as_slice());
@@ -36,7 +36,11 @@ impl<R: Read + Drop> Source<R> {
 }
 
 /// What a recording has.
-fn session_of<R: Read + Drop>(alloc: Global, services: &[u16], reader: R) -> Result<Session> {
+fn session_of<R: Read + Drop>(
+    alloc: Global,
+    services: &[u16],
+    reader: R,
+) -> Result<Session, SourceFault> {
     let kept = Kept::new(alloc, Wanted::All);
     let mut session = Session::new(alloc, services, Judging::Nowhere, kept)?;
     read_whole(alloc, reader, &mut session)?;

@@ -1,5 +1,5 @@
 use Rattle.tftp_match.specs.Objects.{copies_json}
-use Rattle.tftp_match.proofs.MembersLemmas.{adds_one, adds_then, items_tokens_of}
+use Rattle.tftp_rows.proofs.MembersLemmas.{adds_one, adds_then, items_tokens_of}
 use Rattle.tftp_match.proofs.objects.put_counts.Goals as goal
 
 pub returns : goal.returns

@@ -1,6 +1,6 @@
 use Rattle.std.proofs.Common.{flat_map, take}
 use Rattle.json.specs.Tree.{json_tokens}
-use Rattle.tftp_match.specs.Members.{Adds}
+use Rattle.tftp_rows.specs.Members.{Adds}
 use Rattle.tftp_match.specs.Objects.{copies_json}
 use Rattle.tftp_match.proofs.objects.put_each.Given as goal
 

@@ -1,4 +1,4 @@
-use Rattle.tftp_match.proofs.MembersLemmas.{adds_one, adds_then}
+use Rattle.tftp_rows.proofs.MembersLemmas.{adds_one, adds_then}
 use Rattle.tftp_match.proofs.objects.put_pair.Goals as goal
 
 pub returns : goal.returns

@@ -1,6 +1,6 @@
 use Rattle.std.proofs.Common.{OnOk, codes, subst, sym}
-use Rattle.tftp_match.specs.Members.{AddsMember}
-use Rattle.tftp_match.proofs.MembersLemmas.{adds_then}
+use Rattle.tftp_rows.specs.Members.{AddsMember}
+use Rattle.tftp_rows.proofs.MembersLemmas.{adds_then}
 use Rattle.tftp_match.proofs.ObjectsLemmas.{together_told}
 use Rattle.tftp_match.proofs.objects.put_together.Goals as goal
 
