@@ -40,7 +40,7 @@ impl Texts for Recorded<'_> {
     fn text(&self, alloc: Global, number: u64) -> Result<Text<'_>, LackFault> {
         let found = TextAt::find(alloc, self.session, number, self.end, self.file)?;
         let mut written = LineWriter::new(alloc, Vec::new(alloc));
-        match found.text.write(&mut written, self.end, &found.heading) {
+        match found.write(&mut written, self.end) {
             Ok(()) => Ok(Text::Written(written.finish().0)),
             Err(_) => Err(LackFault::Memory),
         }

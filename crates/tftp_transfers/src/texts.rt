@@ -91,7 +91,7 @@ fn read_file(rt: HostRuntime, path: &str, session: &mut Session) -> Result<()> {
 
 fn print_text(rt: HostRuntime, end: End, found: &TextAt<'_>) -> Result<()> {
     let mut writer = LineWriter::new(rt.alloc(), Reasoned::new(io::writer(&rt)));
-    match found.text.write(&mut writer, end, &found.heading) {
+    match found.write(&mut writer, end) {
         Ok(()) => Ok(()),
         Err(_) => writer.finish().0.into_error(),
     }
