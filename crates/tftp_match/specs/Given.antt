@@ -1,5 +1,5 @@
 -- What a capture gives: its transfers' texts, and how they are numbered where something is told of them.
-use Rattle.std.specs.Prelude.{ℕ, List, Option}
+use Rattle.std.specs.Prelude.{ℕ, List, Option, Some, None, codes}
 use Rattle.audit_recording.specs.declared.session.fault.TextFault.TheVariants.{Alloc, LongName, NoTransfer, NotWhole}
 use Rattle.tftp_match.specs.Choice.{Texts}
 use Rattle.tftp_match.specs.declared.texts.LackFault.{LackFault}
@@ -18,6 +18,14 @@ IsMemory (Text (Alloc e)) = Unit {0}
 IsMemory (Text (NoTransfer number count)) = ⊥
 IsMemory (Text NotWhole) = ⊥
 IsMemory (Text LongName) = ⊥
+
+-- the words that tell it, where memory ran out
+abbrev pub lack_words : LackFault → Option (List ℕ)
+lack_words Memory = Some (codes "out of memory")
+lack_words (Text (Alloc e)) = Some (codes "out of memory")
+lack_words (Text (NoTransfer number count)) = None
+lack_words (Text NotWhole) = None
+lack_words (Text LongName) = None
 
 -- the texts of two captures, as each tells them
 abbrev pub texts_of : (ℕ → Option (List ℕ)) → (ℕ → Option (List ℕ)) → Texts

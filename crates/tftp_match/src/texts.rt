@@ -8,8 +8,9 @@ use audit_recording::session::TextFault;
 use judge_pair::match_texts::{PairSaid, judge_pair};
 use net_streams::streams::Latched;
 use std::alloc::Global;
+use std::convert::From;
+use std::fmt;
 use std::io::Read;
-use thiserror::Error;
 
 /// The capture text of a transfer.
 #[derive(Drop)]
@@ -33,14 +34,39 @@ impl Text<'_> {
 }
 
 /// Why there is no text of a transfer.
-#[derive(Debug, Drop, Error)]
+#[derive(Debug, Drop)]
 pub enum LackFault {
     /// The recording has none.
-    #[error(transparent)]
-    Text(#[from] TextFault),
+    Text(TextFault),
     /// Memory was refused while it was written.
-    #[error("out of memory")]
     Memory,
+}
+
+impl fmt::Display for LackFault {
+    ghost use Rattle.tftp_match.specs.Given.{lack_words};
+
+    // What is told is known where memory ran out.
+    ghost output = { λ fault. lack_words fault };
+
+    fn fmt<W: fmt::Write>(&self, f: &mut fmt::Formatter<W>) -> fmt::Result {
+        match self {
+            LackFault::Memory | LackFault::Text(TextFault::Alloc(_)) => f.write_str(
+                "out of memory",
+            ),
+            LackFault::Text(fault) => fault.fmt(f),
+        }
+    }
+}
+
+impl From<TextFault> for LackFault {
+    ghost use Rattle.std.specs.Prelude.{◌≡◌};
+    ghost use Rattle.tftp_match.specs.declared.texts.LackFault.{LackFault};
+
+    ghost from_gives = { λ fault lack. lack ≡ LackFault.Text fault };
+
+    fn from(fault: TextFault) -> Self {
+        LackFault::Text(fault)
+    }
 }
 
 /// The capture texts of the transfers of a capture.
