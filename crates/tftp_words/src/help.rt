@@ -29,11 +29,10 @@ fn file<'a>(alloc: Global) -> Arg<'a> {
 }
 
 fn list<'a>(alloc: Global) -> Result<Command<'a>, AllocError> {
+    let args = vec![in alloc; args::service(alloc), args::json(alloc, JSON), file(alloc)]?;
     Command::new(alloc, "list")
         .about("The transfers, a line each")
-        .arg(args::service(alloc))?
-        .arg(args::json(alloc, JSON))?
-        .arg(file(alloc))
+        .args(args)
 }
 
 fn number<'a>(alloc: Global) -> Arg<'a> {
@@ -53,20 +52,22 @@ fn end<'a>(alloc: Global) -> Arg<'a> {
 }
 
 fn text<'a>(alloc: Global) -> Result<Command<'a>, AllocError> {
+    let args = vec![in alloc;
+        args::service(alloc),
+        number(alloc),
+        end(alloc),
+        file(alloc),
+    ]?;
     Command::new(alloc, "text")
         .about("The capture text of transfer N at an end")
-        .arg(args::service(alloc))?
-        .arg(number(alloc))?
-        .arg(end(alloc))?
-        .arg(file(alloc))
+        .args(args)
 }
 
 fn texts<'a>(alloc: Global) -> Result<Command<'a>, AllocError> {
+    let args = vec![in alloc; args::service(alloc), end(alloc), file(alloc)]?;
     Command::new(alloc, "texts")
         .about("The capture texts of all transfers at an end, one after the other")
-        .arg(args::service(alloc))?
-        .arg(end(alloc))?
-        .arg(file(alloc))
+        .args(args)
 }
 
 fn point<'a>(alloc: Global) -> Arg<'a> {
@@ -95,26 +96,23 @@ fn files<'a>(alloc: Global) -> Arg<'a> {
 }
 
 fn check<'a>(alloc: Global) -> Result<Command<'a>, AllocError> {
+    let (service, json) = (args::service(alloc), args::json(alloc, JSON));
+    let args = vec![in alloc; point(alloc), rollover(alloc), service, json, files(alloc)]?;
     Command::new(alloc, "check")
         .about("The verdict on each transfer")
-        .alias("--check")?
-        .arg(point(alloc))?
-        .arg(rollover(alloc))?
-        .arg(args::service(alloc))?
-        .arg(args::json(alloc, JSON))?
-        .arg(files(alloc))
+        .args(args)?
+        .alias("--check")
 }
 
 /// The words that stand before each subcommand's, and those of `list` where it is left out.
 fn plain<'a>(alloc: Global) -> Result<Command<'a>, AllocError> {
+    let args = vec![in alloc; args::service(alloc), args::json(alloc, JSON), file(alloc)]?;
     Command::new(alloc, "tftp-transfers")
         .version(VERSION)
         .about(ABOUT)
         .after_help(AFTER)
         .args_conflicts_with_subcommands(true)
-        .arg(args::service(alloc))?
-        .arg(args::json(alloc, JSON))?
-        .arg(file(alloc))
+        .args(args)
 }
 
 /// A command with a subcommand, where memory sufficed for both.
