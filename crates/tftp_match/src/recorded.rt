@@ -30,7 +30,7 @@ impl<'a> Recorded<'a> {
         };
         let place = usize::try_from(number.saturating_sub(1)).unwrap_or(usize::MAX);
         match asked.get(place) {
-            Some(one) => Ok(vec![in alloc; *one]?),
+            Some(one) => Ok(Vec::from_slice(alloc, &[*one])?),
             None => Err(TextFault::NoTransfer(number, asked.len())),
         }
     }
