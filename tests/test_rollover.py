@@ -531,6 +531,6 @@ class Sent(OverLoopback):
     def try_recording(self, name: str, recording: bytes, end: EndName) -> None:
         """What tftp-transfers says of it at an end by each number."""
         for given, kind in zip(GIVEN, ("accepted", "refused")):
-            rows, told, status = checked(TRANSFERS.path, recording, "--end", end, "--rollover", given)
-            is_said = [(row.verdict.split()[0], row.doubts) for row in rows] == [(kind, ())]
-            self.check(f"{name}, recorded, by {given}", is_said and (told, status) == ("", int(kind == "refused")), rows)
+            rows, _, status = checked(TRANSFERS.path, recording, "--end", end, "--rollover", given)
+            is_said = [row.verdict.split()[0] for row in rows] == [kind]
+            self.check(f"{name}, recorded, by {given}", is_said and status == int(kind == "refused"), rows)
