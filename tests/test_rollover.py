@@ -482,7 +482,7 @@ class Scripts(Checks):
             self.check(f"explained, {given}", output.startswith(f"{accepted}\n") and status == 0, output)
             other = str(1 - int(given))
             output, errors, status = self.told("tftp-explain", recording, "-", "1", "client", "--rollover", other)
-            accused = f"Accused: the server at {made.S}:41000, which sent the datagram."
+            accused = f"the server at {made.S}:41000, which sent the datagram."
             self.check(f"by the other, {given}", output.startswith("refused ") and accused in output, output)
             output, errors, status = self.told("tftp-explain", recording, "--rollover", given)
             line = refusal(2 * ROUND, Rule.BEYOND_BLOCK_65535)
