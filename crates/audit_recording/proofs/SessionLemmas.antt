@@ -18,4 +18,5 @@ pub mod Texts
 pub mod Rising
 pub mod Ordered
 pub mod Finding
+pub mod Requesting
 pub mod Reading

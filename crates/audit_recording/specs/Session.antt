@@ -6,6 +6,7 @@ pub mod Recording
 pub mod Trails
 pub mod Plain
 pub mod Texts
+pub mod Requests
 pub mod Kept
 pub mod Over
 pub mod Opened

@@ -33,5 +33,5 @@ pub use opened::{Opened, read_whole};
 pub use plain::{put_number, put_plain};
 pub use requests::{Asked, requests_of};
 pub use session::{Ended, Session};
-pub use telling::{ended, tell_asked, tell_notes, told};
+pub use telling::{ended, told};
 pub use text::TextAt;

@@ -31,6 +31,8 @@ remark_later u v (TellFault.Print fault) later p = absurd p
 remark_later u v TellFault.TooMany later p = absurd p
 remark_later u v TellFault.TooManyFrames later p = absurd p
 remark_later u v (TellFault.Remark error) later p = later p
+remark_later u v (TellFault.Text fault) later p = absurd p
+remark_later u v TellFault.Unwritten later p = absurd p
 
 pub tell_later : (file : Option (List ℕ)) (u v : Bool) (told : ℕ) (fault : TellFault) → (u ≡ true → v ≡ true) → IsTellFault file u told fault → IsTellFault file v told fault
 tell_later file u v told (TellFault.Alloc error) later p = p
@@ -39,3 +41,5 @@ tell_later file u v told (TellFault.Print fault) later p = print_later u v fault
 tell_later file u v told TellFault.TooMany later p = p
 tell_later file u v told TellFault.TooManyFrames later p = p
 tell_later file u v told (TellFault.Remark error) later p = absurd p
+tell_later file u v told (TellFault.Text fault) later p = absurd p
+tell_later file u v told TellFault.Unwritten later p = absurd p

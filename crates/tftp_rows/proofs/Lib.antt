@@ -19,3 +19,5 @@ pub mod RemarksLemmas
 pub mod ListedLemmas
 pub mod FilesLemmas
 pub mod ListsLemmas
+pub mod TextsLemmas
+pub mod EachTextLemmas

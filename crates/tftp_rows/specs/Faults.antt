@@ -32,7 +32,7 @@ IsTellFault file failed told (TellFault.Read fault) = Unit {0}
 IsTellFault file failed told (TellFault.Print fault) = IsPrintFault failed fault
 IsTellFault file failed told TellFault.TooMany = 2 ^ 64 - 1 ≤ told
 IsTellFault file failed told TellFault.TooManyFrames = HasManyFrames file
-IsTellFault file failed told (TellFault.Remark error) = ⊥
+IsTellFault file failed told _ = ⊥
 
 -- ---- of a file, and the words that tell it
 

@@ -20,6 +20,7 @@ pub mod Files
 pub mod Listed
 pub mod ListedWhole
 pub mod Lists
+pub mod Texts
 pub mod Worked
 pub use Cells.{cell}
 pub use Endings.{before_text, ended_text, fault_text}

@@ -1,5 +1,5 @@
 -- What is told of a file on standard error, as exact text.
-use Rattle.std.specs.Prelude.{◌≡◌, ◌==◌, ◌++◌, ℕ, List, [], ◌∷◌, Option, Some, None, Result, Ok, Err, codes, flat_map, if◌then◌else◌}
+use Rattle.std.specs.Prelude.{◌≡◌, ◌==◌, ◌++◌, ℕ, List, [], ◌∷◌, Option, Some, None, Result, Ok, Err, codes, decimal, flat_map, if◌then◌else◌}
 use Rattle.std.specs.Io.KnownBytes.{Appends}
 use Rattle.audit_recording.specs.Session.Lines.{lines_told, ports_text}
 use Rattle.audit_recording.specs.Session.Noted.{Noticed, told_in}
@@ -32,6 +32,12 @@ none_lines ports = ports_lines ports ++ codes "no request passed, so there is no
 -- What was noticed, each kind once; and behind it, where no transfer was told, that.
 abbrev pub rest_lines : Notes → Noticed → ℕ → List (List ℕ)
 rest_lines notes s told = lines_told (told_in s) notes ++ (if told == 0 then none_lines (ports_text notes.asked.items) else [])
+
+-- ---- of a transfer without a text
+
+-- that the text of the transfer with this number is not written, since datagrams of it may be missing
+abbrev pub lacking_line : ℕ → List ℕ
+lacking_line number = codes "transfer " ++ (decimal number ++ codes ": nothing is written, since the recording is not whole")
 
 -- ---- what a call says
 

@@ -18,7 +18,8 @@ ghost use Rattle.tftp_rows.specs.declared.teller.Teller.{Teller as TellerKind};
 use crate::printing::PrintFault;
 use crate::teller::Teller;
 use audit_recording::judges::Judging;
-use audit_recording::session::{Kept, Notes, Opened, ReadFault, Session, Wanted};
+use audit_recording::session::{Kept, Notes, Opened, ReadFault, Session, TextFault, Wanted};
+use net_streams::streams::WriteFault;
 use std::alloc::{AllocError, Global};
 use std::convert::From;
 use std::io;
@@ -46,6 +47,12 @@ pub enum TellFault {
     /// What else there is to tell is not written.
     #[error(transparent)]
     Remark(io::Error),
+    /// There is no text of a transfer.
+    #[error(transparent)]
+    Text(TextFault),
+    /// A text is not written.
+    #[error("the text can't be written")]
+    Unwritten,
 }
 
 impl From<AllocError> for TellFault {
@@ -78,6 +85,28 @@ impl From<PrintFault> for TellFault {
 
     fn from(error: PrintFault) -> Self {
         TellFault::Print(error)
+    }
+}
+
+impl From<TextFault> for TellFault {
+    ghost use Rattle.std.specs.Prelude.{◌≡◌};
+    ghost use Rattle.tftp_rows.specs.declared.reading.TellFault.{TellFault};
+
+    ghost from_gives = { λ error fault. fault ≡ TellFault.Text error };
+
+    fn from(error: TextFault) -> Self {
+        TellFault::Text(error)
+    }
+}
+
+impl From<WriteFault> for TellFault {
+    ghost use Rattle.std.specs.Prelude.{◌≡◌};
+    ghost use Rattle.tftp_rows.specs.declared.reading.TellFault.{TellFault};
+
+    ghost from_gives = { λ _ fault. fault ≡ TellFault.Unwritten };
+
+    fn from(_fault: WriteFault) -> Self {
+        TellFault::Unwritten
     }
 }
 

@@ -2,12 +2,13 @@
 
 ghost use Rattle.std.specs.Prelude.{◌≡◌, ◌==◌, ◌++◌, [], IfErr, IfOk, IfSome, OnErr, OnOk, false, if◌then◌else◌, map, string_bytes, true};
 ghost use Rattle.std.specs.Io.KnownBytes.{Appends};
-ghost use Rattle.audit_recording.specs.Session.Lines.{ports_text};
-ghost use Rattle.audit_recording.specs.Session.Noted.{AreNotesOf, Noticed};
+ghost use Rattle.audit_recording.specs.Session.Lines.{lines_told, ports_text};
+ghost use Rattle.audit_recording.specs.Session.Noted.{AreNotesOf, Noticed, told_in};
 ghost use Rattle.tftp_rows.specs.Faults.{IsRemarkFault};
-ghost use Rattle.tftp_rows.specs.Remarks.{Says, none_lines, ports_line, ports_lines, remark_text, remarks_text, rest_lines};
+ghost use Rattle.tftp_rows.specs.Remarks.{Says, lacking_line, none_lines, ports_line, ports_lines, remark_text, remarks_text, rest_lines};
 
 use crate::output::Output;
+use crate::plain::put_number;
 use crate::reading::TellFault;
 use audit_recording::session::Notes;
 use std::alloc::{AllocError, Global};
@@ -50,6 +51,30 @@ impl<'a, E: Write + Drop> Remarks<'a, E> {
         Ok(())
     }
 
+    /// Tells what there is to tell of a recording as a whole, but for whether it has a transfer.
+    pub fn tell_notes(&mut self, alloc: Global, file: &str, notes: &Notes) -> Result<(), TellFault>
+        ensures notes { (s : Noticed) → AreNotesOf notes.now s
+            → Says (E.Write.contents self.old.errors.0) (E.Write.contents self.new.errors.0) result (remarks_text self.old.program.now file.now (lines_told (told_in s) notes.now)) }
+        ensures same { self.new ≡ record self.old { errors = self.new.errors } }
+        ensures why { IfErr result (IsRemarkFault self.new.errors.1) }
+    {
+        let lines = notes.lines(alloc)?;
+        let text = text_of(alloc, self.program, file, lines.as_slice())?;
+        self.errors.write_whole(text.as_bytes())?;
+        Ok(())
+    }
+
+    /// Tells that the transfer with this number has no text, since datagrams of it may be missing.
+    pub fn tell_lacking(&mut self, alloc: Global, file: &str, number: u64) -> Result<(), TellFault>
+        ensures line { Says (E.Write.contents self.old.errors.0) (E.Write.contents self.new.errors.0) result (remark_text self.old.program.now file.now (lacking_line number)) }
+        ensures same { self.new ≡ record self.old { errors = self.new.errors } }
+        ensures why { IfErr result (IsRemarkFault self.new.errors.1) }
+    {
+        let text = lacking_text(alloc, self.program, file, number)?;
+        self.errors.write_whole(text.as_bytes())?;
+        Ok(())
+    }
+
     /// Tells why a file is not told, or not to its end.
     pub fn tell_fault<F: Display + Drop>(&mut self, file: &str, fault: F) -> Result<(), TellFault>
         ensures line { OnOk result (IfSome (F.output fault) (λ words. Appends (E.Write.contents self.old.errors.0) (E.Write.contents self.new.errors.0) (remark_text self.old.program.now file.now words))) }
@@ -61,6 +86,18 @@ impl<'a, E: Write + Drop> Remarks<'a, E> {
         writeln!(self.errors, "{program}: {file}: {fault}")?;
         Ok(())
     }
+}
+
+/// That a transfer has no text, behind the names of the program and the file.
+fn lacking_text(alloc: Global, program: &str, file: &str, number: u64) -> Result<String, AllocError>
+    ensures { IfOk result (λ text. string_bytes text ≡ remark_text program.now file.now (lacking_line number)) }
+{
+    let mut line = String::from_str(alloc, "transfer ")?;
+    put_number(&mut line, number)?;
+    line.push_str(": nothing is written, since the recording is not whole")?;
+    let mut text = String::new(alloc);
+    put_remark(&mut text, program, file, line.as_str())?;
+    Ok(text)
 }
 
 /// What there is to tell of a recording as a whole, of which so many transfers were told, a line each.

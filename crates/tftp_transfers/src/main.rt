@@ -9,7 +9,7 @@ mod texts;
 
 use crate::checking::check;
 use crate::listing::list;
-use crate::texts::{write_text, write_texts};
+use crate::texts::{text, texts};
 use anyhow::Result;
 use audit_recording::session::{ended, told};
 use std::process::ExitCode;
@@ -30,8 +30,8 @@ fn main(rt: HostRuntime) -> ExitCode {
 fn answer(rt: HostRuntime, words: &[String]) -> Result<u8> {
     match request_of(rt.alloc(), words) {
         Ok(Request::List(asked)) => status_of(rt, asked.file, list(rt, &asked)),
-        Ok(Request::Text(asked)) => status_of(rt, asked.file, write_text(rt, &asked)),
-        Ok(Request::Texts(asked)) => status_of(rt, asked.file, write_texts(rt, &asked)),
+        Ok(Request::Text(asked)) => status_of(rt, asked.file, text(rt, &asked)),
+        Ok(Request::Texts(asked)) => status_of(rt, asked.file, texts(rt, &asked)),
         Ok(Request::Check(asked)) => check(rt, &asked),
         Err(fault) => Ok(tell_fault(rt, PROGRAM, &fault)?),
     }

@@ -1,6 +1,5 @@
 //! Why a write failed.
 
-use anyhow::{Result, bail};
 use std::io;
 use std::io::{ErrorKind, Write};
 
@@ -17,12 +16,9 @@ impl<W: Drop> Reasoned<W> {
         Reasoned { inner, why: None }
     }
 
-    /// The error of the write that failed.
-    pub fn into_error(self) -> Result<()> {
-        match self.why {
-            Some(error) => Err(error.into()),
-            None => bail!("the text can't be written"),
-        }
+    /// The error of the write that failed, where one has.
+    pub fn into_error(self) -> Option<io::Error> {
+        self.why
     }
 }
 

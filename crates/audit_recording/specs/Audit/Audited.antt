@@ -13,7 +13,7 @@ use Rattle.audit_recording.specs.declared.audit.next.AuditFault.TheVariants.{Rec
 use Rattle.audit_recording.specs.declared.audit.next.NextFrame.{NextFrame}
 use Rattle.audit_recording.specs.declared.audit.next.NextFrame.TheVariants.{End, Nothing, Datagram}
 use Rattle.audit_flows.specs.Transfers.{place_of, placed}
-use Rattle.audit_flows.specs.{Attributed, Attribution}
+use Rattle.audit_flows.specs.{Attributed}
 use Rattle.audit_flows.specs.Lines.{doubts_of, Placed, clock, Recorded}
 
 -- What the audit of a recording keeps: its judge, and the time of the last datagram in nanoseconds.

@@ -5,7 +5,7 @@ use Rattle.std.specs.List.{list_any}
 use Rattle.law_end.specs.{Rule}
 use Rattle.tftp_packet.specs.{Rollover}
 use Rattle.law_model.specs.Rules.{first_of}
-use Rattle.audit_flows.specs.Lines.{Placed, Recorded, same_endpoint}
+use Rattle.audit_flows.specs.Lines.{Placed, same_endpoint}
 use Rattle.audit_flows.specs.{Transfer}
 use Rattle.audit_flows.specs.Transfers.{AreEndsAfter, is_about, opened_it}
 use Rattle.audit_recording.specs.declared.blame.blame.Blame.{Blame}

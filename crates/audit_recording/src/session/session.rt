@@ -49,7 +49,6 @@ use std::io::Read;
 use tftp_ends::blocks::RingDelivered;
 
 /// What a recording has: its transfers by how many datagrams came before each, and what is to be told of it.
-#[derive(Drop)]
 pub struct Session {
     audit: RecordingAudit<RingDelivered>,
     trails: BTreeMap<u64, Trail>,
@@ -58,6 +57,19 @@ pub struct Session {
     pub notes: Notes,
     /// The datagrams of the transfers whose texts are wanted.
     pub kept: Kept,
+}
+
+impl Drop for Session {
+    // written out, since the prover takes a derived one apart again wherever a value is let go
+    fn drop(self) {
+        let Session {
+            audit: _,
+            trails: _,
+            unplaced: _,
+            notes: _,
+            kept: _,
+        } = self;
+    }
 }
 
 /// A transfer that no datagram joins any more.
@@ -627,7 +639,14 @@ impl Session {
     pub fn into_notes(self) -> Notes
         ensures { result ≡ self.notes }
     {
-        self.notes
+        let Session {
+            audit: _,
+            trails: _,
+            unplaced: _,
+            notes,
+            kept: _,
+        } = self;
+        notes
     }
 
     /// How many transfers there are that were not handed out.

@@ -1,6 +1,5 @@
 //! What a program on recordings tells on standard error, after its own name.
 
-use crate::session::notes::Notes;
 use anyhow::Result;
 use std::process::ExitCode;
 
@@ -30,23 +29,4 @@ pub fn told<T>(
             Ok(None)
         }
     }
-}
-
-/// Tells what there is to tell of a recording as a whole.
-pub fn tell_notes(rt: HostRuntime, program: &str, file: &str, notes: &Notes) -> Result<()> {
-    let lines = notes.lines(rt.alloc())?;
-    for line in lines.iter() {
-        eprintln!(rt; "{program}: {file}: {line}")?;
-    }
-    Ok(())
-}
-
-/// Tells at which ports something looks like a request, where no transfer was found.
-pub fn tell_asked(rt: HostRuntime, program: &str, file: &str, notes: &Notes) -> Result<()> {
-    if let Some(ports) = notes.asked_ports(rt.alloc())? {
-        eprintln!(rt;
-            "{program}: {file}: what looks like a request went to port{ports}: name the port by --service"
-        )?;
-    }
-    Ok(())
 }
