@@ -1,5 +1,5 @@
 -- Which pair of transfers is judged: the one that is meant on each side, or else the one that alone goes together of those tried.
-use Rattle.std.specs.Prelude.{◌≡◌, ◌≤◌, ◌<◌, ℕ, Bool, List, [], ◌∷◌, Option, Some, None, IfSome, filter, length}
+use Rattle.std.specs.Prelude.{◌≡◌, ◌≤◌, ◌<◌, ℕ, Bool, List, [], ◌∷◌, Option, Some, None, filter, length}
 use Rattle.audit_recording.specs.declared.session.requests.Asked.{Asked}
 use Rattle.judge_pair.specs.MatchTexts.Said.{IsPairSaid}
 use Rattle.judge_pair.specs.declared.match_texts.said.PairSaid.{PairSaid}
@@ -27,17 +27,17 @@ pub record IsSaidOf (client server : Option (List ℕ)) (s : PairSaid) : Type 0 
   pub server_failed : Bool
   pub said : IsPairSaid client client_left server server_left client_failed server_failed s.client s.server s.together
 
--- of each of two captures the text of its transfer with a number, where that is told
-pub record Texts : Type 0 where
-  pub client : ℕ → Option (List ℕ)
-  pub server : ℕ → Option (List ℕ)
+-- of each of two captures which text its transfer with a number has
+pub record Texts : Type 1 where
+  pub client : ℕ → List ℕ → Type 0
+  pub server : ℕ → List ℕ → Type 0
 
--- These texts are those of the pair with these numbers, as far as they are told, and this is said of them.
+-- These are the texts of the pair with these numbers, and this is said of them.
 pub record IsSaidOfPair (texts : Texts) (pair : ℕ × ℕ) (s : PairSaid) : Type 0 where
   pub client : List ℕ
   pub server : List ℕ
-  pub client_is : IfSome (texts.client pair.0) (λ text. client ≡ text)
-  pub server_is : IfSome (texts.server pair.1) (λ text. server ≡ text)
+  pub client_is : texts.client pair.0 client
+  pub server_is : texts.server pair.1 server
   pub said : IsSaidOf (Some client) (Some server) s
 
 -- the pair was judged

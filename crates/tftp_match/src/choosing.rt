@@ -51,8 +51,8 @@ pub fn choose<C: Texts, S: Texts>(
     server: &Side<'_, S>,
     meant: &Candidates,
 ) -> Result<Choice, ChoiceFault>
-    ensures choice { IfOk result (IsChoice (texts_of (C.text_of client.now.texts.now) (S.text_of server.now.texts.now)) client.now.asked.now server.now.asked.now meant.now.clients.items meant.now.servers.items) }
-    ensures fault { IfErr result (IsUnchosen (C.may_lack client.now.texts.now) (S.may_lack server.now.texts.now)) }
+    ensures choice { IfOk result (IsChoice (texts_of (C.is_text client.now.texts.now) (S.is_text server.now.texts.now)) client.now.asked.now server.now.asked.now meant.now.clients.items meant.now.servers.items) }
+    ensures fault { IfErr result (IsUnchosen (C.is_lack client.now.texts.now) (S.is_lack server.now.texts.now)) }
 {
     match meant.sole_pair() {
         Some(pair) => Ok(Choice::Taken(judge(alloc, client, server, pair)?)),
@@ -66,8 +66,8 @@ fn choose_of_pairs<C: Texts, S: Texts>(
     client: &Side<'_, C>,
     server: &Side<'_, S>,
 ) -> Result<Choice, ChoiceFault>
-    ensures choice { IfOk result (IsOfPairs (texts_of (C.text_of client.now.texts.now) (S.text_of server.now.texts.now)) client.now.asked.now server.now.asked.now) }
-    ensures fault { IfErr result (IsUnchosen (C.may_lack client.now.texts.now) (S.may_lack server.now.texts.now)) }
+    ensures choice { IfOk result (IsOfPairs (texts_of (C.is_text client.now.texts.now) (S.is_text server.now.texts.now)) client.now.asked.now server.now.asked.now) }
+    ensures fault { IfErr result (IsUnchosen (C.is_lack client.now.texts.now) (S.is_lack server.now.texts.now)) }
 {
     let pairs = paired(alloc, client.asked, server.asked)?;
     if pairs.len() > MOST_PAIRS {
@@ -106,8 +106,8 @@ fn try_pairs<C: Texts, S: Texts>(
     pairs: &[(u64, u64)],
 ) -> Result<Vec<Tried>, ChoiceFault>
     requires few { length pairs.now ≤ most_pairs }
-    ensures tried { IfOk result (λ tried. AreTried (texts_of (C.text_of client.now.texts.now) (S.text_of server.now.texts.now)) pairs.now tried.items) }
-    ensures fault { IfErr result (IsUnchosen (C.may_lack client.now.texts.now) (S.may_lack server.now.texts.now)) }
+    ensures tried { IfOk result (λ tried. AreTried (texts_of (C.is_text client.now.texts.now) (S.is_text server.now.texts.now)) pairs.now tried.items) }
+    ensures fault { IfErr result (IsUnchosen (C.is_lack client.now.texts.now) (S.is_lack server.now.texts.now)) }
 {
     let mut tried = Vec::new(alloc);
     for pair in pairs {
@@ -135,8 +135,8 @@ fn try_pair<C: Texts, S: Texts>(
     server: &Side<'_, S>,
     pair: (u64, u64),
 ) -> Result<Tried, ChoiceFault>
-    ensures tried { IfOk result (IsTried (texts_of (C.text_of client.now.texts.now) (S.text_of server.now.texts.now)) pair) }
-    ensures fault { IfErr result (IsUnjudged (C.may_lack client.now.texts.now) (S.may_lack server.now.texts.now) pair) }
+    ensures tried { IfOk result (IsTried (texts_of (C.is_text client.now.texts.now) (S.is_text server.now.texts.now)) pair) }
+    ensures fault { IfErr result (IsUnjudged (C.is_lack client.now.texts.now) (S.is_lack server.now.texts.now) pair) }
 {
     let judged = judge(alloc, client, server, pair)?;
     match Tried::of(&judged) {
@@ -153,8 +153,8 @@ fn judge<C: Texts, S: Texts>(
     pair: (u64, u64),
 ) -> Result<Judged, ChoiceFault>
     ensures numbers { IfOk result (λ judged. (judged.client, judged.server) ≡ pair) }
-    ensures judged { IfOk result (IsJudged (texts_of (C.text_of client.now.texts.now) (S.text_of server.now.texts.now))) }
-    ensures fault { IfErr result (IsUnjudged (C.may_lack client.now.texts.now) (S.may_lack server.now.texts.now) pair) }
+    ensures judged { IfOk result (IsJudged (texts_of (C.is_text client.now.texts.now) (S.is_text server.now.texts.now))) }
+    ensures fault { IfErr result (IsUnjudged (C.is_lack client.now.texts.now) (S.is_lack server.now.texts.now) pair) }
 {
     let (one, other) = pair;
     let text = match client.texts.text(alloc, one) {

@@ -1,6 +1,6 @@
 //! A capture text in memory.
 
-ghost use Rattle.std.specs.Prelude.{Some, false};
+ghost use Rattle.std.specs.Prelude.{◌≡◌};
 
 use crate::faults::SourceFault;
 use crate::texts::{LackFault, Text, Texts};
@@ -37,9 +37,9 @@ impl Held {
 }
 
 impl Texts for Held {
-    ghost text_of = { λ t _. Some t.bytes.items };
+    ghost is_text = { λ t _ bytes. bytes ≡ t.bytes.items };
 
-    ghost may_lack = { λ _ _. false };
+    ghost is_lack = { λ _ _ _. ⊥ };
 
     // it has one alone
     fn text(&self, _alloc: Global, _number: u64) -> Result<Text<'_>, LackFault> {

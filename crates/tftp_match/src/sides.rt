@@ -28,11 +28,11 @@ pub fn judge_sides<C: Texts, S: Texts, E: Write + Drop>(
     server: &Side<'_, S>,
     remarks: &mut Remarks<'_, E>,
 ) -> Result<Option<Judged>, MatchFault>
-    ensures taken { IfOk result (λ found. IfSome found (λ judged. IsTaken (texts_of (C.text_of client.now.texts.now) (S.text_of server.now.texts.now)) client.now.asked.now server.now.asked.now judged
+    ensures taken { IfOk result (λ found. IfSome found (λ judged. IsTaken (texts_of (C.is_text client.now.texts.now) (S.is_text server.now.texts.now)) client.now.asked.now server.now.asked.now judged
         × (remarks.new ≡ remarks.old))) }
     ensures untaken { IfOk result (λ found. IfNone found (
-        IsUntaken (texts_of (C.text_of client.now.texts.now) (S.text_of server.now.texts.now)) client.now server.now remarks.old.program.now (E.Write.contents remarks.old.errors.0) (E.Write.contents remarks.new.errors.0)
-        ⊎ IsLackTold ⟦<LackFault as Display>⟧.output (C.may_lack client.now.texts.now) (S.may_lack server.now.texts.now) client.now server.now remarks.old.program.now (E.Write.contents remarks.old.errors.0) (E.Write.contents remarks.new.errors.0))) }
+        IsUntaken (texts_of (C.is_text client.now.texts.now) (S.is_text server.now.texts.now)) client.now server.now remarks.old.program.now (E.Write.contents remarks.old.errors.0) (E.Write.contents remarks.new.errors.0)
+        ⊎ IsLackTold ⟦<LackFault as Display>⟧.output (C.is_lack client.now.texts.now) (S.is_lack server.now.texts.now) client.now server.now remarks.old.program.now (E.Write.contents remarks.old.errors.0) (E.Write.contents remarks.new.errors.0))) }
     ensures fault { IfErr result IsUntold }
     ensures same { remarks.new ≡ record remarks.old { errors = remarks.new.errors } }
 {

@@ -1,6 +1,6 @@
 //! Worked examples of what is told of several files. Each is the contract of a function that does nothing.
 
-ghost use Rattle.std.specs.Prelude.{◌≡◌, ◌++◌, ◌∷◌, [], ℕ, Bool, List, Option, Some, codes, false, true};
+ghost use Rattle.std.specs.Prelude.{◌≡◌, ◌++◌, ◌∷◌, [], ℕ, Bool, List, None, Option, Some, codes, false, true};
 ghost use Rattle.audit_recording.specs.Session.Lines.{ports_text};
 ghost use Rattle.audit_recording.specs.Session.Noted.{Noticed};
 ghost use Rattle.audit_recording.specs.declared.judges.judging.Judging.{Judging as JudgingKind};
@@ -12,6 +12,7 @@ ghost use Rattle.tftp_rows.specs.Files.Outcome.{Faulty, Told};
 ghost use Rattle.tftp_rows.specs.ListedWhole.{Entry, numbers_in, rows_in};
 ghost use Rattle.tftp_rows.specs.Lists.{IsFileListedInPart};
 ghost use Rattle.tftp_rows.specs.Remarks.{none_lines, remark_text, remarks_text, rest_lines};
+ghost use Rattle.tftp_rows.specs.Texts.{all_texts, lacking_lines, status_of_texts};
 ghost use Rattle.tftp_rows.specs.Whole.{Telling, worst_of};
 ghost use Rattle.tftp_rows.specs.Worked.{AreOfCopyAndLoss};
 ghost use Rattle.tftp_rows.specs.declared.lister.Lister.{Lister as ListerKind};
@@ -49,6 +50,17 @@ pub fn worked_remarks()
         ≡ remarks_text (codes "tftp-transfers") (codes "a.pcap") (rest_lines n s 1) ++ codes "tftp-transfers: a.pcap: no request passed, so there is no transfer\n" }
     ensures port { none_lines (ports_text (1069 ∷ []))
         ≡ codes "what looks like a request went to port 1069: name the port by --service" ∷ codes "no request passed, so there is no transfer" ∷ [] }
+{}
+
+/// Of two transfers the first has no text: that of the second one stands alone, a line tells of the first, and the status is 2. Where both have
+/// one, that of the first stands first.
+pub fn worked_texts()
+    ensures lacking { (text : List ℕ) → all_texts (Some text ∷ None ∷ []) ≡ text }
+    ensures line { (text : List ℕ) → lacking_lines (Some text ∷ None ∷ []) ≡ codes "transfer 1: nothing is written, since the recording is not whole" ∷ [] }
+    ensures status { (text : List ℕ) → status_of_texts (Some text ∷ None ∷ []) ≡ 2 }
+    ensures both { (first second : List ℕ) → all_texts (Some second ∷ Some first ∷ []) ≡ first ++ second }
+    ensures untold { (first second : List ℕ) → lacking_lines (Some second ∷ Some first ∷ []) ≡ [] }
+    ensures whole { (first second : List ℕ) → status_of_texts (Some second ∷ Some first ∷ []) ≡ 0 }
 {}
 
 /// The rows of a list stand in the order in which its transfers were listed; and of a file that is not opened nothing
