@@ -1,7 +1,7 @@
 //! Tests of the judge, and of the verdicts on texts.
 
 #[cfg(test)]
-mod cases;
+pub mod cases;
 #[cfg(test)]
 mod judges;
 #[cfg(test)]
@@ -10,5 +10,3 @@ mod losses;
 mod lossy;
 #[cfg(test)]
 mod rollover;
-#[cfg(test)]
-mod verdicts;

@@ -7,4 +7,4 @@ mod commands;
 pub mod ends;
 pub mod judges;
 #[cfg(test)]
-mod normals;
+mod scripts;

@@ -2,10 +2,14 @@
 //! a text, for the tests of what is judged; and what the tests share.
 #![tactic(auto)]
 
-pub mod captures;
+#[cfg(test)]
+mod captures;
 #[cfg(test)]
 mod net;
-pub mod netascii;
-pub mod packets;
+#[cfg(test)]
+mod netascii;
+#[cfg(test)]
+mod packets;
 pub mod trials;
-pub mod writers;
+#[cfg(test)]
+mod writers;

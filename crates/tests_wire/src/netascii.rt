@@ -1,4 +1,3 @@
 //! Tests of netascii.
 
-#[cfg(test)]
 mod netascii;

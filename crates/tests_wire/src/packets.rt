@@ -1,8 +1,6 @@
 //! Tests of packets, options and hosts, and of what OACKs agree to.
 
-#[cfg(test)]
 mod agreements;
-#[cfg(test)]
+mod names;
 mod packets;
-#[cfg(test)]
 mod views;

@@ -2,6 +2,7 @@
 
 use law_model::rules::PortRule;
 use std::test::Fail;
+use tests_wire::trials::comparing::is_so;
 use tftp_ends::{PortFault, Ports, Route, says_unknown_id};
 use tftp_packet::End;
 use tftp_packet::hosts::{Dir, Host};
@@ -17,43 +18,25 @@ const BAD_ANSWER: Result<Route, PortFault> = Err(PortFault::Broken(PortRule::Bad
 /// opcode; and what is answered.
 type Row = (Dir, u16, &'static [u8], u16, u16, Result<Route, PortFault>);
 
-/// Asks where a datagram belongs. It promises nothing.
-fn class_once(
+/// Asks where a datagram belongs, and again where a growth was refused: nothing may have changed.
+fn class(
     ports: &mut Ports,
-    (dir, local, host, remote, opcode): &(Dir, u16, Host, u16, u16),
+    (dir, local, host, remote, opcode): (Dir, u16, &Host, u16, u16),
 ) -> Result<Route, PortFault> {
-    ports.class(*dir, *local, host, *remote, *opcode)
-}
-
-/// Asks so, and again where a growth was refused: nothing may have changed.
-fn class(ports: &mut Ports, datagram: (Dir, u16, Host, u16, u16)) -> Result<Route, PortFault> {
-    match class_once(ports, &datagram) {
-        Err(PortFault::Memory) => class_once(ports, &datagram),
+    match ports.class(dir, local, host, remote, opcode) {
+        Err(PortFault::Memory) => ports.class(dir, local, host, remote, opcode),
         answer => answer,
-    }
-}
-
-/// Fails unless a datagram has its answer.
-fn has_answer(
-    ports: &mut Ports,
-    index: usize,
-    (dir, local, host, remote, opcode, wanted): &Row,
-) -> Result<(), Fail> {
-    let Some(host) = Host::new(*host) else {
-        return Err(Fail::new("no host"));
-    };
-    let found = class(ports, (*dir, *local, host, *remote, *opcode));
-    if found == *wanted {
-        Ok(())
-    } else {
-        Err(Fail::from((index, found, *wanted)))
     }
 }
 
 /// Fails unless each datagram has its answer after those before it.
 fn all_have_answers(ports: &mut Ports, rows: &[Row]) -> Result<(), Fail> {
-    for (index, row) in rows.iter().enumerate() {
-        has_answer(ports, index, row)?;
+    for (dir, local, host, remote, opcode, wanted) in rows {
+        let Some(host) = Host::new(*host) else {
+            return Err(Fail::new("no host"));
+        };
+        let found = class(ports, (*dir, *local, &host, *remote, *opcode));
+        is_so(found == *wanted, "another route")?;
     }
     Ok(())
 }
@@ -202,91 +185,43 @@ fn datagrams_belong_where_their_ports_say(rt: HostRuntime) -> Result<(), Fail> {
     for (end, service, rows) in ROWS {
         answers(&rt, *end, *service, rows)?;
     }
-    all_say_so()
+    is_so(says_unknown_id(b"\0\x05\0\x05\0"), "ERROR 5")
 }
 
-/// Fails unless ERROR 5 alone says "Unknown transfer ID".
-fn all_say_so() -> Result<(), Fail> {
-    let rows: &[(&[u8], bool)] = &[
-        (b"\0\x05\0\x05\0", true),
-        (b"\0\x05\0\x04\0", false),
-        (b"\0\x05\0\x05", false),
-        (b"\0\x04\0\x05", false),
-    ];
-    for (payload, wanted) in rows {
-        if says_unknown_id(payload) != *wanted {
-            return Err(Fail::new("an ERROR says something else"));
-        }
-    }
-    Ok(())
-}
+/// A client that was answered.
+const ANSWERED: &[Row] = &[
+    (Dir::Out, 40000, b"-", 69, 1, Ok(Route::Request)),
+    (Dir::In, 40000, b"-", 65535, 3, Ok(Route::Peer)),
+];
 
-/// Whether a datagram between the client's port and a port of the host is answered so.
-fn belongs(
+/// The answer again, and what would answer a host that was not heard of.
+const STILL: &[Row] = &[
+    (Dir::In, 40000, b"-", 65535, 3, Ok(Route::Peer)),
+    (Dir::Out, 40000, b"10.0.0.1", 1, 5, WRONG),
+];
+
+/// Fails unless a datagram of each port below the server's has this answer, the highest first.
+fn all_have(
     ports: &mut Ports,
     dir: Dir,
-    host: Host,
-    remote: u16,
     opcode: u16,
-    wanted: Route,
-) -> bool {
-    class(ports, (dir, 40000, host, remote, opcode)) == Ok(wanted)
-}
-
-/// Fails unless a datagram of each port below the server's is a stray.
-fn all_are_strays(ports: &mut Ports) -> Result<(), Fail> {
-    for below in 1..65535u16 {
-        let remote = 65535 - below;
-        if !belongs(ports, Dir::In, Host::none(), remote, 3, Route::Stray) {
-            return Err(Fail::from(remote));
-        }
-    }
-    Ok(())
-}
-
-/// Fails unless each stray may come again, and be answered.
-fn all_are_answered(ports: &mut Ports) -> Result<(), Fail> {
-    for remote in 1..65535u16 {
-        if !belongs(ports, Dir::In, Host::none(), remote, 3, Route::Stray)
-            || !belongs(ports, Dir::Out, Host::none(), remote, 5, Route::StrayAnswer)
-        {
-            return Err(Fail::from(remote));
-        }
-    }
-    Ok(())
-}
-
-/// Whether the request is routed, whether the server is then known, and still is after all strays, and what is answered to a
-/// datagram to another host.
-type Noted = (bool, bool, bool, Result<Route, PortFault>);
-
-/// That of a client, with each stray and what answers it between.
-fn noted(ports: &mut Ports) -> Result<Noted, Fail> {
+    wanted: Result<Route, PortFault>,
+) -> Result<(), Fail> {
     let host = Host::none();
-    let asked = belongs(ports, Dir::Out, host, 69, 1, Route::Request);
-    let known = belongs(ports, Dir::In, host, 65535, 3, Route::Peer);
-    all_are_strays(ports)?;
-    all_are_answered(ports)?;
-    let still = belongs(ports, Dir::In, host, 65535, 3, Route::Peer);
-    let Some(other) = Host::new(b"10.0.0.1") else {
-        return Err(Fail::new("no host"));
-    };
-    let refused = class(ports, (Dir::Out, 40000, other, 1, 5));
-    Ok((asked, known, still, refused))
+    for below in 1..65535u16 {
+        let found = class(ports, (dir, 40000, &host, 65535 - below, opcode));
+        is_so(found == wanted, "another stray")?;
+    }
+    Ok(())
 }
 
-/// That of a new client.
-fn noted_at_a_client(rt: &HostRuntime) -> Result<Noted, Fail> {
-    let mut ports = Ports::new(rt.alloc(), End::Client, 69);
-    noted(&mut ports)
-}
-
+/// Each stray is noted, may come again, and may be answered.
 #[test]
 fn client_notes_each_stray(rt: HostRuntime) -> Result<(), Fail> {
-    let (asked, known, still, refused) = noted_at_a_client(&rt)?;
-    if asked && known && still && refused == WRONG {
-        Ok(())
-    } else {
-        Err(Fail::from((asked, known, still, refused)))
-    }
+    let mut ports = Ports::new(rt.alloc(), End::Client, 69);
+    all_have_answers(&mut ports, ANSWERED)?;
+    all_have(&mut ports, Dir::In, 3, Ok(Route::Stray))?;
+    all_have(&mut ports, Dir::In, 3, Ok(Route::Stray))?;
+    all_have(&mut ports, Dir::Out, 5, Ok(Route::StrayAnswer))?;
+    all_have_answers(&mut ports, STILL)
 }

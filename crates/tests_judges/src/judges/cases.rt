@@ -1,11 +1,12 @@
-//! Captures, and what is said of each: by `judge_text`, and by a judge on each store. What the commands print of them is
-//! tried on the built program, from the same scripts.
+//! Captures, and what is said of each: by the commands, of texts that come whole and in pieces. The same scripts are tried
+//! on the built program.
 
-use crate::judges::verdicts::{is_judged, is_verdict};
+use crate::commands::prints;
+use crate::scripts::Script;
+use std::alloc::{AllocError, Global};
 use std::test::Fail;
+use tests_wire::trials::comparing::is_so;
 use tests_wire::trials::normals;
-use tests_wire::trials::scripts::Script;
-use tftp_ends::blocks::{MapDelivered, RingDelivered};
 
 mod errors;
 mod files;
@@ -16,29 +17,30 @@ mod reads;
 mod rules;
 mod windows;
 
-/// Fails unless all say this of a capture text.
-pub fn holds(rt: &HostRuntime, text: &[u8], line: &str) -> Result<(), Fail> {
-    is_verdict(rt, text, line)?;
-    is_judged::<MapDelivered>(rt, text, line)?;
-    is_judged::<RingDelivered>(rt, text, line)
+/// A line, with its end.
+fn line_of(alloc: Global, words: &[u8]) -> Result<Vec<u8>, AllocError> {
+    let mut line = Vec::from_slice(alloc, words)?;
+    line.push(b'\n')?;
+    Ok(line)
 }
 
-/// Fails unless all say this of a capture text: behind the status of `check`, its line.
-fn is_said(rt: &HostRuntime, text: &[u8], said: &str) -> Result<(), Fail> {
-    let Some((_, line)) = said.split_once(" ") else {
-        return Err(Fail::new("no status"));
-    };
-    let line = format!(in rt.alloc(); "{line}\n")?;
-    holds(rt, text, line.as_str())
-}
-
-/// Fails unless all say of the next capture of a script what is wanted.
+/// Fails unless `check` says of the next capture of a script what is wanted: a status, and a line.
 fn next_holds(rt: &HostRuntime, script: &mut Script<'_>) -> Result<(), Fail> {
     let (text, said) = script.next(rt.alloc())?;
-    is_said(rt, text.as_bytes(), said)
+    let [status @ (b'0' | b'1' | b'2'), b' ', words @ ..] = said else {
+        return Err(Fail::new("no status"));
+    };
+    let line = line_of(rt.alloc(), words)?;
+    prints(
+        rt,
+        "check",
+        text.as_slice(),
+        *status - b'0',
+        line.as_slice(),
+    )
 }
 
-/// Fails unless all say of each capture of a script what is wanted, and it has as many as this.
+/// Fails unless that is so of each capture of a script, and it has as many as this.
 fn all_hold(rt: &HostRuntime, script: &str, count: u32) -> Result<(), Fail> {
     let mut script = Script::new(script);
     for _ in 0..count {
@@ -59,18 +61,17 @@ fn captures_of_all_scripts(rt: HostRuntime) -> Result<(), Fail> {
     all_hold(&rt, limits::SCRIPT, 12)
 }
 
-/// Fails unless a line, with a line end after it, is said of two texts.
-fn both_are_said(rt: &HostRuntime, text: &str, normal: &str, said: &str) -> Result<(), Fail> {
-    let line = format!(in rt.alloc(); "{said}\n")?;
-    holds(rt, text.as_bytes(), line.as_str())?;
-    holds(rt, normal.as_bytes(), line.as_str())
-}
-
-/// Fails unless of the next capture of a script is said what is wanted, and the same of its normal text after it.
+/// Fails unless of the next capture of a script is said what is wanted, and the same of its normal text after it, which is
+/// written for both.
 fn next_are_said(rt: &HostRuntime, script: &mut Script<'_>) -> Result<(), Fail> {
     let (text, said) = script.next(rt.alloc())?;
     let (normal, _) = script.next(rt.alloc())?;
-    both_are_said(rt, text.as_str(), normal.as_str(), said)
+    let line = line_of(rt.alloc(), said)?;
+    for text in [text.as_slice(), normal.as_slice()] {
+        prints(rt, "check", text, 0, line.as_slice())?;
+        prints(rt, "normal", text, 0, normal.as_slice())?;
+    }
+    Ok(())
 }
 
 #[test]
@@ -80,4 +81,38 @@ fn captures_and_their_normal_texts(rt: HostRuntime) -> Result<(), Fail> {
         next_are_said(&rt, &mut script)?;
     }
     script.ends()
+}
+
+/// The read of `hi` (RFC 1350, sections 4 and 5) with block 2 for block 1, and a payload of one digit after it.
+pub const OVERRUN: &str =
+    "tftp-capture 1\nend client\nservice 69\nout 40000 69 000161006f6374657400\nin 40000 41000 000300026869\nout 40000 41000 0\ntotal 3\n";
+
+/// Texts with a fault, or a refusal before it, and what is said of each.
+const FAULTS: &[(&str, u8, &str)] = &[
+    (OVERRUN, 1, "refused datagram 2 rule 22 WindowOverrun\n"),
+    (
+        "tftp-capture 1\nend client\nservice 69\nout 40000 69 000161006f6374657400\nin 40000 41000 000300016869\nout 40000 41000 0\ntotal 3\n",
+        2,
+        "fault line 6 BadHex\n",
+    ),
+    (
+        "tftp-capture 1\nend client\nservice 69\ntotal 0\n",
+        1,
+        "incomplete after 0\n",
+    ),
+    (
+        "tftp-capture 1\nend client\nservice 69\nout 40000 69 000161006f6374657400\n",
+        2,
+        "fault line 5 Truncated\n",
+    ),
+    ("tftp-capture 1\nend peer\n", 2, "fault line 2 BadEnd\n"),
+    ("", 2, "fault line 1 Truncated\n"),
+];
+
+#[test]
+fn texts_with_a_fault(rt: HostRuntime) -> Result<(), Fail> {
+    for (text, status, line) in FAULTS {
+        prints(&rt, "check", text.as_bytes(), *status, line.as_bytes())?;
+    }
+    Ok(())
 }

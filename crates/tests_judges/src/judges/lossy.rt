@@ -4,6 +4,7 @@ use judge_tap::{LossyJudge, LossyRefusal, TapDatagram};
 use law_model::rules::EndRule;
 use law_tap::Sides;
 use std::alloc::{AllocError, Global};
+use std::marker::Model;
 use std::test::Fail;
 use tests_wire::trials::comparing::is_so;
 use tftp_judge::Rule;
@@ -20,7 +21,7 @@ const PLAIN: &[u8] = b"\x00\x01a\x00octet\x00";
 const SIZED: &[u8] = b"\x00\x01a\x00octet\x00blksize\x008\x00windowsize\x004\x00";
 
 /// A datagram from a port to another.
-type Passing<'a> = (u16, u16, &'a [u8]);
+type Passing = (u16, u16, &'static [u8]);
 
 fn peer(port: u16) -> Peer {
     Peer {
@@ -29,137 +30,145 @@ fn peer(port: u16) -> Peer {
     }
 }
 
-fn datagram(alloc: Global, passing: Passing<'_>) -> Result<TapDatagram, AllocError> {
-    let (from, to, payload) = passing;
-    Ok(TapDatagram {
-        source: peer(from),
-        destination: peer(to),
-        payload: Bytes::of(Vec::from_slice(alloc, payload)?),
-    })
+/// A judge. Contracts see nothing of it, so that what the library promises of it is read only where it is called.
+#[derive(Drop)]
+struct Judging {
+    judge: LossyJudge,
 }
 
-/// Feeds a judge that has not yet accepted 2^40 datagrams.
-fn feed(
-    judge: &mut LossyJudge,
-    alloc: Global,
-    passing: Passing<'_>,
-) -> Result<Option<LossyRefusal>, AllocError> {
-    let datagram = datagram(alloc, passing)?;
-    if judge.fed() >= 1 << 40 {
-        return Err(AllocError);
+impl Model for Judging {
+    ghost Value = { Unit {0} };
+
+    ghost view = { λ _. tt };
+}
+
+impl Judging {
+    fn new() -> Self {
+        Judging {
+            judge: LossyJudge::new(Sides {
+                client: peer(CLIENT),
+                asked: peer(69),
+                server: peer(SERVER),
+                rollover: None,
+            }),
+        }
     }
-    Ok(judge.feed(alloc, &datagram).err())
-}
 
-/// What is refused for good of a request and what was recorded after it.
-fn refused(
-    alloc: Global,
-    request: &[u8],
-    rest: &[Passing<'_>],
-) -> Result<Option<LossyRefusal>, AllocError> {
-    let mut judge = LossyJudge::new(Sides {
-        client: peer(CLIENT),
-        asked: peer(69),
-        server: peer(SERVER),
-        rollover: None,
-    });
-    feed(&mut judge, alloc, (CLIENT, 69, request))?;
-    for passing in rest {
-        feed(&mut judge, alloc, *passing)?;
+    /// Feeds a judge that has not yet accepted 2^40 datagrams. What is refused is asked for at the end.
+    fn feed(&mut self, alloc: Global, (from, to, payload): &Passing) -> Result<(), AllocError> {
+        let datagram = TapDatagram {
+            source: peer(*from),
+            destination: peer(*to),
+            payload: Bytes::of(Vec::from_slice(alloc, *payload)?),
+        };
+        if self.judge.fed() < 1 << 40 {
+            let _ = self.judge.feed(alloc, &datagram);
+        }
+        Ok(())
     }
-    Ok(judge.refused())
+
+    fn refused(&self) -> Option<LossyRefusal> {
+        self.judge.refused()
+    }
 }
 
-/// Fails unless nothing of it is certain to break the law.
-fn passes(alloc: Global, request: &[u8], rest: &[Passing<'_>]) -> Result<(), Fail> {
-    is_so(
-        refused(alloc, request, rest)?.is_none(),
-        "something is refused",
-    )
+/// Feeds a judge what was recorded, in turn.
+fn feed_all(alloc: Global, judging: &mut Judging, rows: &[Passing]) -> Result<(), AllocError> {
+    for passing in rows {
+        judging.feed(alloc, passing)?;
+    }
+    Ok(())
 }
 
-/// Fails unless the last datagram is certain to break this rule.
-fn breaks(alloc: Global, request: &[u8], rest: &[Passing<'_>], rule: Rule) -> Result<(), Fail> {
-    let last = (rest.len() as u64).saturating_add(1);
-    is_so(
-        refused(alloc, request, rest)? == Some(LossyRefusal::Certain(last, rule)),
-        "something else is refused",
-    )
-}
+/// What was recorded between the ends, and the rule that its last datagram is certain to break; none where it may be lawful.
+type Case = (&'static [Passing], Option<Rule>);
 
-#[test]
-fn acks_may_be_of_blocks_that_were_missed(rt: HostRuntime) -> Result<(), Fail> {
-    let alloc = rt.alloc();
-    passes(alloc, PLAIN, &[(CLIENT, SERVER, b"\x00\x04\x00\x01")])?;
-    let last = (SERVER, CLIENT, b"\x00\x03\x00\x01hi".as_slice());
-    passes(alloc, PLAIN, &[last, (CLIENT, SERVER, b"\x00\x04\x00\x01")])?;
-    let ahead = (CLIENT, SERVER, b"\x00\x04\x00\x02".as_slice());
-    breaks(alloc, PLAIN, &[last, ahead], Rule::Block(EndRule::AckAhead))?;
-    let zero = (CLIENT, SERVER, b"\x00\x04\x00\x00".as_slice());
-    breaks(alloc, PLAIN, &[zero], Rule::Block(EndRule::AckZero))?;
-    passes(alloc, SIZED, &[zero])
-}
+/// Requests from the client, and what came after them from either.
+const ASKED: Passing = (CLIENT, 69, PLAIN);
 
-#[test]
-fn a_changed_block_is_certain(rt: HostRuntime) -> Result<(), Fail> {
-    let alloc = rt.alloc();
-    let first = (SERVER, CLIENT, b"\x00\x03\x00\x01hi".as_slice());
-    passes(alloc, PLAIN, &[first, first])?;
-    let changed = (SERVER, CLIENT, b"\x00\x03\x00\x01ho".as_slice());
-    breaks(
-        alloc,
-        PLAIN,
-        &[first, changed],
-        Rule::Block(EndRule::BlockChanged),
-    )
-}
+const ASKED_SIZES: Passing = (CLIENT, 69, SIZED);
 
-#[test]
-fn sizes_bind_after_their_oack(rt: HostRuntime) -> Result<(), Fail> {
-    let alloc = rt.alloc();
-    let second = (SERVER, CLIENT, b"\x00\x03\x00\x0212345678".as_slice());
-    let third = (SERVER, CLIENT, b"\x00\x03\x00\x03123".as_slice());
-    passes(alloc, SIZED, &[second, third])?;
-    let fourth = (SERVER, CLIENT, b"\x00\x03\x00\x041".as_slice());
-    breaks(
-        alloc,
-        SIZED,
-        &[third, second, fourth],
-        Rule::Block(EndRule::BlockLength),
-    )?;
-    let oack = (SERVER, CLIENT, b"\x00\x06blksize\x008\x00".as_slice());
-    passes(
-        alloc,
-        SIZED,
-        &[oack, (SERVER, CLIENT, b"\x00\x06BLKSIZE\x0008\x00")],
-    )?;
-    let other = (SERVER, CLIENT, b"\x00\x06windowsize\x004\x00".as_slice());
-    breaks(alloc, SIZED, &[oack, other], Rule::OackChanged)
-}
+const ACK_0: Passing = (CLIENT, SERVER, b"\x00\x04\x00\x00");
 
-#[test]
-fn strays_and_errors_pass(rt: HostRuntime) -> Result<(), Fail> {
-    let alloc = rt.alloc();
-    passes(
-        alloc,
-        PLAIN,
+const ACK_1: Passing = (CLIENT, SERVER, b"\x00\x04\x00\x01");
+
+const ACK_2: Passing = (CLIENT, SERVER, b"\x00\x04\x00\x02");
+
+const HI: Passing = (SERVER, CLIENT, b"\x00\x03\x00\x01hi");
+
+const HO: Passing = (SERVER, CLIENT, b"\x00\x03\x00\x01ho");
+
+const SECOND: Passing = (SERVER, CLIENT, b"\x00\x03\x00\x0212345678");
+
+const THIRD: Passing = (SERVER, CLIENT, b"\x00\x03\x00\x03123");
+
+const FOURTH: Passing = (SERVER, CLIENT, b"\x00\x03\x00\x041");
+
+const OACK: Passing = (SERVER, CLIENT, b"\x00\x06blksize\x008\x00");
+
+const SAME_OACK: Passing = (SERVER, CLIENT, b"\x00\x06BLKSIZE\x0008\x00");
+
+const OTHER_OACK: Passing = (SERVER, CLIENT, b"\x00\x06windowsize\x004\x00");
+
+const ERROR: Passing = (SERVER, CLIENT, b"\x00\x05\x00\x01no\x00");
+
+const OTHER_ERROR: Passing = (SERVER, CLIENT, b"\x00\x05\x00\x01\x00");
+
+/// ACKs may be of blocks that were missed; a changed block is certain; sizes bind after their OACK; strays and ERRORs pass.
+const CASES: &[Case] = &[
+    (&[ASKED, ACK_1], None),
+    (&[ASKED, HI, ACK_1], None),
+    (&[ASKED, HI, ACK_2], Some(Rule::Block(EndRule::AckAhead))),
+    (&[ASKED, ACK_0], Some(Rule::Block(EndRule::AckZero))),
+    (&[ASKED_SIZES, ACK_0], None),
+    (&[ASKED, HI, HI], None),
+    (&[ASKED, HI, HO], Some(Rule::Block(EndRule::BlockChanged))),
+    (&[ASKED_SIZES, SECOND, THIRD], None),
+    (
+        &[ASKED_SIZES, THIRD, SECOND, FOURTH],
+        Some(Rule::Block(EndRule::BlockLength)),
+    ),
+    (&[ASKED_SIZES, OACK, SAME_OACK], None),
+    (&[ASKED_SIZES, OACK, OTHER_OACK], Some(Rule::OackChanged)),
+    (
         &[
+            ASKED,
             (42_000, CLIENT, b"x"),
             (CLIENT, 42_000, b"\x00\x05\x00\x05\x00"),
         ],
-    )?;
-    let error = (SERVER, CLIENT, b"\x00\x05\x00\x01no\x00".as_slice());
-    passes(
-        alloc,
-        PLAIN,
-        &[error, (CLIENT, SERVER, b"\x00\x05\x00\x00\x00"), error],
-    )?;
-    let other = (SERVER, CLIENT, b"\x00\x05\x00\x01\x00".as_slice());
-    breaks(alloc, PLAIN, &[error, other], Rule::AfterError)?;
-    breaks(
-        alloc,
-        PLAIN,
-        &[(SERVER, CLIENT, b"\x00\x04\x00\x01")],
-        Rule::WrongKind,
-    )
+        None,
+    ),
+    (
+        &[
+            ASKED,
+            ERROR,
+            (CLIENT, SERVER, b"\x00\x05\x00\x00\x00"),
+            ERROR,
+        ],
+        None,
+    ),
+    (&[ASKED, ERROR, OTHER_ERROR], Some(Rule::AfterError)),
+    (
+        &[ASKED, (SERVER, CLIENT, b"\x00\x04\x00\x01")],
+        Some(Rule::WrongKind),
+    ),
+];
+
+/// Fails unless that is refused of it, and nothing else.
+fn holds(alloc: Global, (rows, rule): &Case) -> Result<(), Fail> {
+    let mut judging = Judging::new();
+    feed_all(alloc, &mut judging, *rows)?;
+    let wanted = match rule {
+        Some(rule) => Some(LossyRefusal::Certain(rows.len() as u64, *rule)),
+        None => None,
+    };
+    is_so(judging.refused() == wanted, "another refusal, or none")
+}
+
+#[test]
+fn what_is_certain_is_refused(rt: HostRuntime) -> Result<(), Fail> {
+    for case in CASES {
+        holds(rt.alloc(), case)?;
+    }
+    Ok(())
 }

@@ -1,257 +1,300 @@
-//! Each fault of a text by its name, with the lines that have it, in both versions.
+//! Each fault of a text by its name, with the lines that have it, in both versions; and lines that have none.
 
 use crate::captures::outcomes::gives;
-use crate::captures::texts::{Line, with_line};
-use crate::trials::texts::{NAMED, READ, long};
-use std::alloc::AllocError;
+use crate::captures::texts::{Line, NAMED_LINES, READ_LINES, changed};
 use std::test::Fail;
 use tftp_capture::{CaptureFault, TextFault};
 
-/// Nothing after the start.
-const NO_MORE: (u8, usize) = (b' ', 0);
+/// A changed line, and its fault, or the sum of the lines of the three datagrams.
+type Row = (Line, Result<u64, TextFault>);
 
-/// A fault, and lines of `READ` and of `NAMED` that have it.
-type Row = (TextFault, &'static [Line], &'static [Line]);
-
-/// Faults of short lines.
-const FAULTS: &[Row] = &[
+/// Of version 1. Those without a fault: the longest payload and comment; comments and empty lines, which are no datagrams;
+/// hex digits of either case; and the text itself.
+const IN_READ: &[Row] = &[
+    ((1, b"tftp-capture 3", (b' ', 0)), Err(TextFault::BadHeader)),
     (
-        TextFault::BadHeader,
-        &[
-            (1, b"tftp-capture 3", NO_MORE),
-            (1, b"tftp-capture 1\r", NO_MORE),
-        ],
-        &[
-            (1, b"tftp-capture 3", NO_MORE),
-            (1, b"tftp-capture 2 ", NO_MORE),
-        ],
+        (1, b"tftp-capture 1\r", (b' ', 0)),
+        Err(TextFault::BadHeader),
     ),
+    ((2, b"end peer", (b' ', 0)), Err(TextFault::BadEnd)),
+    ((2, b"total 3", (b' ', 0)), Err(TextFault::BadEnd)),
+    ((3, b"service 0", (b' ', 0)), Err(TextFault::BadService)),
+    ((3, b"service 069", (b' ', 0)), Err(TextFault::BadService)),
+    ((3, b"service 69 ", (b' ', 0)), Err(TextFault::BadService)),
+    ((4, b"out 40000  69 00", (b' ', 0)), Err(TextFault::BadLine)),
     (
-        TextFault::BadEnd,
-        &[(2, b"end peer", NO_MORE), (2, b"total 3", NO_MORE)],
-        &[(2, b"end peer", NO_MORE)],
+        (4, b"out 40000 - 69 00", (b' ', 0)),
+        Err(TextFault::BadLine),
     ),
+    ((4, b" ", (b' ', 0)), Err(TextFault::BadLine)),
+    ((4, b"\r", (b' ', 0)), Err(TextFault::BadLine)),
+    ((4, b"total", (b' ', 0)), Err(TextFault::BadLine)),
+    ((4, b"total 3 ", (b' ', 0)), Err(TextFault::BadLine)),
+    ((4, b"out 040000 69 00", (b' ', 0)), Err(TextFault::BadPort)),
+    ((4, b"out 65536 69 00", (b' ', 0)), Err(TextFault::BadPort)),
+    ((4, b"out 1 0 00", (b' ', 0)), Err(TextFault::BadPort)),
+    ((4, b"out  69 00", (b' ', 0)), Err(TextFault::BadPort)),
+    ((4, b"out 1 69 ", (b' ', 0)), Err(TextFault::BadHex)),
     (
-        TextFault::BadService,
-        &[
-            (3, b"service 0", NO_MORE),
-            (3, b"service 069", NO_MORE),
-            (3, b"service 69 ", NO_MORE),
-        ],
-        &[(3, b"service - 69", NO_MORE)],
+        (4, b"out 40000 69 00016", (b' ', 0)),
+        Err(TextFault::BadHex),
     ),
+    ((4, b"out 40000 69 0g", (b' ', 0)), Err(TextFault::BadHex)),
+    ((7, b"total 4", (b' ', 0)), Err(TextFault::TotalWrong)),
+    ((7, b"total 03", (b' ', 0)), Err(TextFault::TotalWrong)),
+    ((7, b"total +3", (b' ', 0)), Err(TextFault::TotalWrong)),
+    ((7, b"total ", (b' ', 0)), Err(TextFault::TotalWrong)),
+    ((7, b"total x", (b' ', 0)), Err(TextFault::TotalWrong)),
+    ((4, b"in 1 1 ", (b'0', 131_055)), Err(TextFault::BadHex)),
+    ((4, b"in 1 1 ", (b'g', 131_056)), Err(TextFault::BadHex)),
     (
-        TextFault::BadLine,
-        &[
-            (4, b"out 40000  69 00", NO_MORE),
-            (4, b"out 40000 - 69 00", NO_MORE),
-            (4, b" ", NO_MORE),
-            (4, b"\r", NO_MORE),
-            (4, b"total", NO_MORE),
-            (4, b"total 3 ", NO_MORE),
-        ],
-        &[
-            (4, b"out 40000 69 00", NO_MORE),
-            (4, b"out 40000 a b 69 00", NO_MORE),
-            (4, b"out  40000 a 69 00", NO_MORE),
-            (4, b"in", NO_MORE),
-            (4, b"total - 3", NO_MORE),
-        ],
+        (4, b"in 1 1 ", (b'0', 131_056)),
+        Err(TextFault::PayloadTooLong),
     ),
-    (
-        TextFault::BadPort,
-        &[
-            (4, b"out 040000 69 00", NO_MORE),
-            (4, b"out 65536 69 00", NO_MORE),
-            (4, b"out 1 0 00", NO_MORE),
-            (4, b"out  69 00", NO_MORE),
-        ],
-        &[(4, b"out 0  69 0", NO_MORE), (4, b"out 1  0 0", NO_MORE)],
-    ),
-    (
-        TextFault::BadHost,
-        &[],
-        &[
-            (4, b"out 1  69 0", NO_MORE),
-            (4, b"out 1  69 00", NO_MORE),
-            (4, b"out 1 a\x1fb 69 00", NO_MORE),
-            (4, b"out 1 a\x7f 69 00", NO_MORE),
-            (4, b"out 1 \xff 69 00", NO_MORE),
-            (4, b"out 1 a\r 69 00", NO_MORE),
-            (
-                4,
-                b"out 40000 aaaaaaaaaaaaaaaaaaaaaaaaaaaaaaaaaaaaaaaaaaaaaa 69 000161006f6374657400",
-                NO_MORE,
-            ),
-        ],
-    ),
-    (
-        TextFault::BadHex,
-        &[
-            (4, b"out 1 69 ", NO_MORE),
-            (4, b"out 40000 69 00016", NO_MORE),
-            (4, b"out 40000 69 0g", NO_MORE),
-        ],
-        &[
-            (4, b"out 1 a 69 0", NO_MORE),
-            (4, b"out 1 a 69 ", NO_MORE),
-            (4, b"out 1 a 69 0g", NO_MORE),
-        ],
-    ),
-    (
-        TextFault::TotalWrong,
-        &[
-            (7, b"total 4", NO_MORE),
-            (7, b"total 03", NO_MORE),
-            (7, b"total +3", NO_MORE),
-            (7, b"total ", NO_MORE),
-            (7, b"total x", NO_MORE),
-        ],
-        &[(7, b"total 4", NO_MORE)],
-    ),
+    ((4, b"#", (b'#', 131_070)), Err(TextFault::LineTooLong)),
+    ((4, b"in 1 1 ", (b'0', 131_054)), Ok(15)),
+    ((3, b"service 69\n#", (b'#', 131_069)), Ok(18)),
+    ((3, b"service 69\n# x", (b' ', 0)), Ok(18)),
+    ((2, b"\n#\x00\xff\nend server", (b' ', 0)), Ok(21)),
+    ((6, b"out 1 2 -\n\n", (b' ', 0)), Ok(15)),
+    ((5, b"in 40000 41000 000300016A6B", (b' ', 0)), Ok(15)),
+    ((1, b"tftp-capture 1", (b' ', 0)), Ok(15)),
 ];
 
-/// Faults of long lines.
-const LONG: &[Row] = &[
+/// Of version 2. Those without a fault: hosts of one and of 45 signs, comments, and the longest lines; and the text itself.
+const IN_NAMED: &[Row] = &[
+    ((1, b"tftp-capture 3", (b' ', 0)), Err(TextFault::BadHeader)),
     (
-        TextFault::BadHeader,
-        &[],
-        &[(1, b"tftp-capture 2", (b' ', 131_056))],
+        (1, b"tftp-capture 2 ", (b' ', 0)),
+        Err(TextFault::BadHeader),
+    ),
+    ((2, b"end peer", (b' ', 0)), Err(TextFault::BadEnd)),
+    ((3, b"service - 69", (b' ', 0)), Err(TextFault::BadService)),
+    ((4, b"out 40000 69 00", (b' ', 0)), Err(TextFault::BadLine)),
+    (
+        (4, b"out 40000 a b 69 00", (b' ', 0)),
+        Err(TextFault::BadLine),
     ),
     (
-        TextFault::BadHost,
-        &[],
-        &[(
+        (4, b"out  40000 a 69 00", (b' ', 0)),
+        Err(TextFault::BadLine),
+    ),
+    ((4, b"in", (b' ', 0)), Err(TextFault::BadLine)),
+    ((4, b"total - 3", (b' ', 0)), Err(TextFault::BadLine)),
+    ((4, b"out 0  69 0", (b' ', 0)), Err(TextFault::BadPort)),
+    ((4, b"out 1  0 0", (b' ', 0)), Err(TextFault::BadPort)),
+    ((4, b"out 1  69 0", (b' ', 0)), Err(TextFault::BadHost)),
+    ((4, b"out 1  69 00", (b' ', 0)), Err(TextFault::BadHost)),
+    (
+        (4, b"out 1 a\x1fb 69 00", (b' ', 0)),
+        Err(TextFault::BadHost),
+    ),
+    (
+        (4, b"out 1 a\x7f 69 00", (b' ', 0)),
+        Err(TextFault::BadHost),
+    ),
+    ((4, b"out 1 \xff 69 00", (b' ', 0)), Err(TextFault::BadHost)),
+    ((4, b"out 1 a\r 69 00", (b' ', 0)), Err(TextFault::BadHost)),
+    (
+        (
+            4,
+            b"out 40000 aaaaaaaaaaaaaaaaaaaaaaaaaaaaaaaaaaaaaaaaaaaaaa 69 000161006f6374657400",
+            (b' ', 0),
+        ),
+        Err(TextFault::BadHost),
+    ),
+    ((4, b"out 1 a 69 0", (b' ', 0)), Err(TextFault::BadHex)),
+    ((4, b"out 1 a 69 ", (b' ', 0)), Err(TextFault::BadHex)),
+    ((4, b"out 1 a 69 0g", (b' ', 0)), Err(TextFault::BadHex)),
+    ((7, b"total 4", (b' ', 0)), Err(TextFault::TotalWrong)),
+    (
+        (1, b"tftp-capture 2", (b' ', 131_056)),
+        Err(TextFault::BadHeader),
+    ),
+    (
+        (
             4,
             b"in 65535 aaaaaaaaaaaaaaaaaaaaaaaaaaaaaaaaaaaaaaaaaaaaaa 65535 ",
             (b'0', 131_054),
-        )],
+        ),
+        Err(TextFault::BadHost),
     ),
     (
-        TextFault::BadHex,
-        &[
-            (4, b"in 1 1 ", (b'0', 131_055)),
-            (4, b"in 1 1 ", (b'g', 131_056)),
-        ],
-        &[(
+        (
             4,
             b"in 65535 aaaaaaaaaaaaaaaaaaaaaaaaaaaaaaaaaaaaaaaaaaaaa 65535 ",
             (b'0', 131_055),
-        )],
+        ),
+        Err(TextFault::BadHex),
     ),
     (
-        TextFault::PayloadTooLong,
-        &[(4, b"in 1 1 ", (b'0', 131_056))],
-        &[(4, b"in 65535 - 65535 ", (b'0', 131_056))],
+        (4, b"in 65535 - 65535 ", (b'0', 131_056)),
+        Err(TextFault::PayloadTooLong),
     ),
+    ((7, b"total 3", (b'#', 131_109)), Err(TextFault::TotalWrong)),
     (
-        TextFault::TotalWrong,
-        &[],
-        &[(7, b"total 3", (b'#', 131_109))],
-    ),
-];
-
-/// Lines that are too long.
-const TOO_LONG: &[Row] = &[(
-    TextFault::LineTooLong,
-    &[(4, b"#", (b'#', 131_070))],
-    &[
         (
             4,
             b"out 65535 aaaaaaaaaaaaaaaaaaaaaaaaaaaaaaaaaaaaaaaaaaaaa 65535 ",
             (b'0', 131_055),
         ),
-        (4, b"#", (b'#', 131_116)),
-        (2, b"#", (b'#', 131_116)),
+        Err(TextFault::LineTooLong),
+    ),
+    ((4, b"#", (b'#', 131_116)), Err(TextFault::LineTooLong)),
+    ((2, b"#", (b'#', 131_116)), Err(TextFault::LineTooLong)),
+    (
         (7, b"total 3", (b'#', 131_110)),
+        Err(TextFault::LineTooLong),
+    ),
+    (
         (1, b"tftp-capture 2", (b' ', 131_057)),
-    ],
-)];
+        Err(TextFault::LineTooLong),
+    ),
+    ((4, b"in 1 ! 65535 -", (b' ', 0)), Ok(15)),
+    ((4, b"in 1 ~ 65535 AB", (b' ', 0)), Ok(15)),
+    ((3, b"#\n\nservice 69\n# in 1 2 3", (b' ', 0)), Ok(24)),
+    (
+        (
+            4,
+            b"out 40000 aaaaaaaaaaaaaaaaaaaaaaaaaaaaaaaaaaaaaaaaaaaaa 69 00",
+            (b' ', 0),
+        ),
+        Ok(15),
+    ),
+    (
+        (
+            4,
+            b"out 65535 aaaaaaaaaaaaaaaaaaaaaaaaaaaaaaaaaaaaaaaaaaaaa 65535 ",
+            (b'0', 131_054),
+        ),
+        Ok(15),
+    ),
+    ((3, b"service 69\n#", (b'#', 131_115)), Ok(18)),
+    ((1, b"tftp-capture 2", (b' ', 0)), Ok(15)),
+];
 
-/// Fails unless the changed line of the text has that fault.
-fn has(rt: &HostRuntime, whole: &str, fault: TextFault, line: &Line) -> Result<(), Fail> {
-    let text = with_line(rt, whole, line)?;
-    let found = CaptureFault::Text(line.0 as u64, fault);
-    gives(rt.alloc(), text.as_slice(), Err(found))
-}
-
-/// Fails unless each changed line of the text has that fault.
-fn all_have(rt: &HostRuntime, whole: &str, fault: TextFault, lines: &[Line]) -> Result<(), Fail> {
-    for line in lines {
-        has(rt, whole, fault, line)?;
-    }
-    Ok(())
+/// Fails unless a changed line has its fault, or none.
+fn has(rt: &HostRuntime, lines: &[&[u8]], (line, wanted): &Row) -> Result<(), Fail> {
+    let text = changed(rt, lines, line)?;
+    let wanted = match wanted {
+        Ok(lines) => Ok((3, *lines)),
+        Err(fault) => Err(CaptureFault::Text(line.0 as u64, *fault)),
+    };
+    gives(rt.alloc(), text.as_slice(), wanted)
 }
 
 /// Fails unless that is so of each row.
-fn all_hold(rt: &HostRuntime, rows: &[Row]) -> Result<(), Fail> {
-    for (fault, lines, named_lines) in rows {
-        all_have(rt, READ, *fault, *lines)?;
-        all_have(rt, NAMED, *fault, *named_lines)?;
+fn all_have(rt: &HostRuntime, lines: &[&[u8]], rows: &[Row]) -> Result<(), Fail> {
+    for row in rows {
+        has(rt, lines, row)?;
     }
     Ok(())
 }
 
 #[test]
-fn lines_with_a_fault(rt: HostRuntime) -> Result<(), Fail> {
-    all_hold(&rt, FAULTS)
+fn lines_of_version_1(rt: HostRuntime) -> Result<(), Fail> {
+    all_have(&rt, READ_LINES, IN_READ)
 }
 
 #[test]
-fn long_lines_with_a_fault(rt: HostRuntime) -> Result<(), Fail> {
-    all_hold(&rt, LONG)
+fn lines_of_version_2(rt: HostRuntime) -> Result<(), Fail> {
+    all_have(&rt, NAMED_LINES, IN_NAMED)
 }
+
+/// Texts with a fault on this line, whatever was changed: comments before it, the first line of the other version, and
+/// what comes after the total.
+const ELSEWHERE: &[(&[&[u8]], Line, u64, TextFault)] = &[
+    (
+        READ_LINES,
+        (4, b"#\n#\nin", (b' ', 0)),
+        6,
+        TextFault::BadLine,
+    ),
+    (
+        READ_LINES,
+        (5, b"#\nin 1", (b' ', 0)),
+        6,
+        TextFault::BadLine,
+    ),
+    (
+        READ_LINES,
+        (7, b"#\n#\ntotal 4", (b' ', 0)),
+        9,
+        TextFault::TotalWrong,
+    ),
+    (
+        READ_LINES,
+        (1, b"tftp-capture 2", (b' ', 0)),
+        4,
+        TextFault::BadLine,
+    ),
+    (
+        NAMED_LINES,
+        (1, b"tftp-capture 1", (b' ', 0)),
+        4,
+        TextFault::BadLine,
+    ),
+    (
+        READ_LINES,
+        (7, b"total 3\n#", (b' ', 0)),
+        8,
+        TextFault::TrailingText,
+    ),
+    (
+        READ_LINES,
+        (7, b"total 3\n", (b' ', 0)),
+        8,
+        TextFault::TrailingText,
+    ),
+    (
+        READ_LINES,
+        (7, b"total 3\nx", (b' ', 0)),
+        8,
+        TextFault::TrailingText,
+    ),
+    (
+        READ_LINES,
+        (7, b"total 3\n", (b'a', 131_071)),
+        8,
+        TextFault::TrailingText,
+    ),
+];
 
 #[test]
-fn lines_that_are_too_long(rt: HostRuntime) -> Result<(), Fail> {
-    all_hold(&rt, TOO_LONG)
-}
-
-/// How many bytes are cut from the text's end, and what comes after it: a start and that many of one byte.
-type End = (usize, &'static [u8], usize);
-
-/// The text that ends so.
-fn ended(rt: &HostRuntime, (left, start, count): &End) -> Result<Vec<u8>, AllocError> {
-    let more = long(rt.alloc(), *start, (b'a', *count))?;
-    let whole = READ.as_bytes();
-    let size = whole.len().saturating_sub(*left);
-    let mut text = Vec::from_slice(rt.alloc(), whole.get(..size).unwrap_or(whole))?;
-    text.extend_from_slice(more.as_slice())?;
-    Ok(text)
-}
-
-/// Fails unless each text ends with that fault, at the line.
-fn all_end(rt: &HostRuntime, fault: TextFault, line: u64, ends: &[End]) -> Result<(), Fail> {
-    for end in ends {
-        let text = ended(rt, end)?;
-        gives(
-            rt.alloc(),
-            text.as_slice(),
-            Err(CaptureFault::Text(line, fault)),
-        )?;
+fn faults_of_other_lines(rt: HostRuntime) -> Result<(), Fail> {
+    for (lines, line, number, fault) in ELSEWHERE {
+        let text = changed(&rt, *lines, line)?;
+        let wanted = Err(CaptureFault::Text(*number, *fault));
+        gives(rt.alloc(), text.as_slice(), wanted)?;
     }
     Ok(())
 }
+
+/// Texts that end too early or go on, each with the line and the fault. They are tried with growths refused.
+const ENDS: &[(&[u8], u64, TextFault)] = &[
+    (b"", 1, TextFault::Truncated),
+    (b"tftp-capture 2\nend client\n", 3, TextFault::Truncated),
+    (
+        b"tftp-capture 1\nend client\nservice 69\nin 40000 41000 000300016869\n",
+        5,
+        TextFault::Truncated,
+    ),
+    (
+        b"tftp-capture 1\nend client\nservice 69\nin 40000 41000 000300016869\ntotal 1",
+        5,
+        TextFault::Truncated,
+    ),
+    (
+        b"tftp-capture 1\nend client\nservice 69\nin 40000 41000 000300016869\ntotal 1\nx",
+        6,
+        TextFault::TrailingText,
+    ),
+];
 
 #[test]
 fn truncated(rt: HostRuntime) -> Result<(), Fail> {
-    all_end(&rt, TextFault::Truncated, 1, &[(132, b"", 0)])?;
-    all_end(&rt, TextFault::Truncated, 7, &[(8, b"", 0), (1, b"", 0)])?;
-    let found = CaptureFault::Text(3, TextFault::Truncated);
-    gives(rt.alloc(), b"tftp-capture 2\nend client\n", Err(found))
-}
-
-#[test]
-fn trailing_text(rt: HostRuntime) -> Result<(), Fail> {
-    all_end(
-        &rt,
-        TextFault::TrailingText,
-        8,
-        &[
-            (0, b"#\n", 0),
-            (0, b"\n", 0),
-            (0, b"x", 0),
-            (0, b"", 131_071),
-        ],
-    )
+    for (text, line, fault) in ENDS {
+        gives(rt.alloc(), *text, Err(CaptureFault::Text(*line, *fault)))?;
+    }
+    Ok(())
 }

@@ -35,16 +35,6 @@ impl<'a> Reading<'a> {
         }
     }
 
-    /// The next datagram, in memory of its own.
-    pub fn next(&mut self, alloc: Global) -> Result<Option<Datagram>, CaptureFault> {
-        let mut datagram = Datagram::empty(alloc);
-        if self.fill(&mut datagram)? {
-            Ok(Some(datagram))
-        } else {
-            Ok(None)
-        }
-    }
-
     /// Reads the next datagram into one that is held.
     pub fn fill(&mut self, held: &mut Datagram) -> Result<bool, CaptureFault> {
         self.capture.next_into(&mut self.reader, held)
@@ -68,13 +58,5 @@ impl<'a> Reading<'a> {
     /// Whether a read failed.
     pub fn has_failed(&self) -> bool {
         self.reader.failed()
-    }
-
-    /// The line of the next datagram.
-    pub fn next_line(&mut self, alloc: Global) -> Result<Option<u64>, CaptureFault> {
-        match self.next(alloc)? {
-            Some(_) => Ok(Some(self.line())),
-            None => Ok(None),
-        }
     }
 }

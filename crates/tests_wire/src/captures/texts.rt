@@ -1,7 +1,7 @@
 //! Texts with a line that is changed, and what they give where a growth is refused.
 
 use crate::captures::reads;
-use crate::trials::texts::{NAMED, READ, long};
+use crate::trials::texts::{NAMED, READ};
 use std::alloc::AllocError;
 use std::test::Fail;
 use tftp_capture::{CaptureFault, TextFault};
@@ -10,47 +10,67 @@ use tftp_capture::{CaptureFault, TextFault};
 pub const BLOCKS: &str =
     "tftp-capture 1\nend client\nservice 69\nin 40000 41000 0003000161626364\nin 40000 41000 000300026A6b6C6d\nin 40000 41000 0003000365666768\ntotal 3\n";
 
-/// Adds a text with its line `number`, counted from 1, changed.
-fn add_changed(
+/// The lines of `READ`, of `NAMED` and of `BLOCKS`.
+pub const READ_LINES: &[&[u8]] = &[
+    b"tftp-capture 1",
+    b"end client",
+    b"service 69",
+    b"out 40000 69 000161006f6374657400",
+    b"in 40000 41000 000300016869",
+    b"out 40000 41000 00040001",
+    b"total 3",
+];
+
+pub const NAMED_LINES: &[&[u8]] = &[
+    b"tftp-capture 2",
+    b"end client",
+    b"service 69",
+    b"out 40000 10.0.0.1 69 000161006f6374657400",
+    b"in 40000 10.0.0.1 41000 000300016869",
+    b"out 40000 10.0.0.1 41000 00040001",
+    b"total 3",
+];
+
+pub const BLOCKS_LINES: &[&[u8]] = &[
+    b"tftp-capture 1",
+    b"end client",
+    b"service 69",
+    b"in 40000 41000 0003000161626364",
+    b"in 40000 41000 000300026A6b6C6d",
+    b"in 40000 41000 0003000365666768",
+    b"total 3",
+];
+
+/// A line of a text, by its number, counted from 1, changed to this start and that many of one byte.
+pub type Line = (usize, &'static [u8], (u8, usize));
+
+/// Adds a line that begins so, with that many of one byte behind it.
+fn add_line(
     text: &mut Vec<u8>,
-    whole: &str,
-    number: usize,
-    line: &[u8],
+    start: &[u8],
+    (byte, count): (u8, usize),
 ) -> Result<(), AllocError> {
-    for (index, old) in whole.lines().enumerate() {
-        text.extend_from_slice(if index + 1 == number {
-            line
-        } else {
-            old.as_bytes()
-        })?;
-        text.push(b'\n')?;
-    }
+    text.extend_from_slice(start)?;
+    text.resize(text.len().saturating_add(count), byte)?;
+    text.push(b'\n')?;
     Ok(())
 }
 
-/// A text with its line `number`, counted from 1, changed.
+/// The text of these lines, one of them changed.
 pub fn changed(
     rt: &HostRuntime,
-    whole: &str,
-    number: usize,
-    line: &[u8],
-) -> Result<Vec<u8>, AllocError> {
-    let mut text = Vec::new(rt.alloc());
-    add_changed(&mut text, whole, number, line)?;
-    Ok(text)
-}
-
-/// A line of a text, by its number, changed to this start and that many of one byte.
-pub type Line = (usize, &'static [u8], (u8, usize));
-
-/// The text with that line.
-pub fn with_line(
-    rt: &HostRuntime,
-    whole: &str,
+    lines: &[&[u8]],
     (number, start, more): &Line,
 ) -> Result<Vec<u8>, AllocError> {
-    let line = long(rt.alloc(), *start, *more)?;
-    changed(rt, whole, *number, line.as_slice())
+    let mut text = Vec::new(rt.alloc());
+    for (index, old) in (1usize..).zip(lines) {
+        if index == *number {
+            add_line(&mut text, *start, *more)?;
+        } else {
+            add_line(&mut text, *old, (b' ', 0))?;
+        }
+    }
+    Ok(text)
 }
 
 /// With a growth refused the answer is the text's own, or being out of memory on one of its lines.

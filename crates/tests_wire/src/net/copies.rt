@@ -1,5 +1,6 @@
 //! Which packets are told to be copies.
 
+use crate::trials::comparing::is_so;
 use net_udp::copies::{Interface, Recent};
 use std::alloc::AllocError;
 use std::test::Fail;
@@ -48,17 +49,6 @@ const TAKEN: &[Taken] = &[
     (ONE, Some(4_001_000), b"", false),
 ];
 
-/// Takes a packet. It promises nothing.
-fn take_once(
-    rt: &HostRuntime,
-    recent: &mut Recent,
-    interface: Interface,
-    time: Option<u64>,
-    bytes: &[u8],
-) -> Result<bool, AllocError> {
-    recent.take(rt.alloc(), interface, time, bytes)
-}
-
 /// Takes a packet. Where a growth is refused nothing may have changed, and it is taken again.
 fn take(
     rt: &HostRuntime,
@@ -66,10 +56,10 @@ fn take(
     interface: Interface,
     time: Option<u64>,
     bytes: &[u8],
-) -> Result<bool, Fail> {
-    match take_once(rt, recent, interface, time, bytes) {
+) -> Result<bool, AllocError> {
+    match recent.take(rt.alloc(), interface, time, bytes) {
         Ok(copy) => Ok(copy),
-        Err(_) => Ok(take_once(rt, recent, interface, time, bytes)?),
+        Err(AllocError) => recent.take(rt.alloc(), interface, time, bytes),
     }
 }
 
@@ -77,34 +67,32 @@ fn take(
 #[test]
 fn copies_are_told(rt: HostRuntime) -> Result<(), Fail> {
     let mut recent = Recent::new(rt.alloc())?;
-    for (index, (interface, time, bytes, copy)) in TAKEN.iter().enumerate() {
-        if take(&rt, &mut recent, *interface, *time, *bytes)? != *copy {
-            return Err(Fail::from(index));
-        }
+    for (interface, time, bytes, copy) in TAKEN {
+        let found = take(&rt, &mut recent, *interface, *time, *bytes)?;
+        is_so(found == *copy, "a copy, or none")?;
     }
     Ok(())
 }
 
-/// Packets of one byte that come at once, at an interface, from one number up to another, and whether they are copies: of
-/// sixteen packets between a packet and its copy one is too many.
+/// At which interface packets of one byte come at once, the first and the last one, and whether they are copies: of sixteen
+/// packets between a packet and its copy one is too many.
 const AT_ONCE: &[(Interface, u8, u8, bool)] = &[
-    (ONE, 0, 1, false),
-    (ONE, 1, 16, false),
-    (OTHER, 0, 1, true),
-    (ONE, 16, 32, false),
-    (ONE, 0, 1, false),
+    (ONE, 0, 0, false),
+    (ONE, 1, 15, false),
+    (OTHER, 0, 0, true),
+    (ONE, 16, 31, false),
+    (ONE, 0, 0, false),
 ];
 
 /// Fails unless each of the packets is a copy, or none is.
 fn all_are(
     rt: &HostRuntime,
     recent: &mut Recent,
-    (interface, from, until, copy): (Interface, u8, u8, bool),
+    (interface, first, last, copy): &(Interface, u8, u8, bool),
 ) -> Result<(), Fail> {
-    for number in from..until {
-        if take(rt, recent, interface, Some(0), &[number])? != copy {
-            return Err(Fail::from(number));
-        }
+    for number in *first..=*last {
+        let found = take(rt, recent, *interface, Some(0), &[number])?;
+        is_so(found == *copy, "a copy, or none")?;
     }
     Ok(())
 }
@@ -113,7 +101,7 @@ fn all_are(
 fn the_seventeenth_before_is_forgotten(rt: HostRuntime) -> Result<(), Fail> {
     let mut recent = Recent::new(rt.alloc())?;
     for packets in AT_ONCE {
-        all_are(&rt, &mut recent, *packets)?;
+        all_are(&rt, &mut recent, packets)?;
     }
     Ok(())
 }

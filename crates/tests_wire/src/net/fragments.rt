@@ -12,23 +12,53 @@ const CONTENT: &[u8; 40] = b"0123456789abcdefghijklmnopqrstuvwxyzABCD";
 /// 30 s in nanoseconds.
 const PATIENCE: u64 = 30_000_000_000;
 
-/// The key of a packet from one host of the network for examples to another (RFC 5737, section 3).
-fn key(target: u8, id: u32) -> Key {
+/// The key of a packet from one host of the network for examples to another (RFC 3849).
+fn key_of_ipv6() -> Key {
     Key {
-        source: IpAddr::V4(Ipv4Addr::new(192, 0, 2, 1)),
-        target: IpAddr::V4(Ipv4Addr::new(192, 0, 2, target)),
-        protocol: Some(17),
-        id,
+        source: IpAddr::V6(Ipv6Addr::new(0x2001, 0xdb8, 0, 0, 0, 0, 0, 1)),
+        target: IpAddr::V6(Ipv6Addr::new(0x2001, 0xdb8, 0, 0, 0, 0, 0, 2)),
+        protocol: None,
+        id: 7,
     }
 }
 
-/// The same of IPv6 (RFC 3849).
-fn key_of_ipv6(target: u8) -> Key {
-    Key {
-        source: IpAddr::V6(Ipv6Addr::new(0x2001, 0xdb8, 0, 0, 0, 0, 0, 1)),
-        target: IpAddr::V6(Ipv6Addr::new(0x2001, 0xdb8, 0, 0, 0, 0, 0, u16::from(target))),
-        protocol: None,
+/// That key; and of IPv4 those of packets to two targets, and then such that differ from the first in one other thing (RFC
+/// 5737, section 3).
+fn key_in(version: Version, which: u8) -> Key {
+    if let Version::Six = version {
+        return key_of_ipv6();
+    }
+    let one = Key {
+        source: IpAddr::V4(Ipv4Addr::new(192, 0, 2, 1)),
+        target: IpAddr::V4(Ipv4Addr::new(192, 0, 2, 2)),
+        protocol: Some(17),
         id: 7,
+    };
+    let third = IpAddr::V4(Ipv4Addr::new(192, 0, 2, 3));
+    let mapped = IpAddr::V6(Ipv6Addr::new(0, 0, 0, 0, 0, 0xffff, 0xc000, 0x0202));
+    match which {
+        3 => Key {
+            target: third,
+            ..one
+        },
+        4 => Key { id: 8, ..one },
+        5 => Key {
+            protocol: Some(6),
+            ..one
+        },
+        6 => Key {
+            target: one.source,
+            ..one
+        },
+        7 => Key {
+            source: one.target,
+            ..one
+        },
+        8 => Key {
+            target: mapped,
+            ..one
+        },
+        _ => one,
     }
 }
 
@@ -37,14 +67,6 @@ fn key_of_ipv6(target: u8) -> Key {
 enum Version {
     Four,
     Six,
-}
-
-/// The key of a packet to a target.
-fn key_in(version: Version, target: u8) -> Key {
-    match version {
-        Version::Four => key(target, 7),
-        Version::Six => key_of_ipv6(target),
-    }
 }
 
 /// A part: the protocol that it names, its place, whether others follow it, and its bytes.
@@ -124,25 +146,19 @@ fn answers(
     Ok(is_told(&outcome, told))
 }
 
-/// A part by the last byte of its target, with its frame and what becomes of it.
+/// A part by which key it has, with its frame and what becomes of it.
 type Row = (u8, Named, u64, Told);
 
-/// Fails unless that becomes of each part, in turn.
+/// Fails unless that becomes of each part, in turn, at a time.
 fn all_answer(
     rt: &HostRuntime,
     fragments: &mut Fragments,
-    (name, version): (&'static str, Version),
+    (name, version, time): (&'static str, Version, u64),
     rows: &[Row],
 ) -> Result<(), Fail> {
-    for (target, part, frame, told) in rows {
-        if !answers(
-            rt,
-            fragments,
-            key_in(version, *target),
-            *part,
-            (5, *frame),
-            *told,
-        )? {
+    for (which, part, frame, told) in rows {
+        let key = key_in(version, *which);
+        if !answers(rt, fragments, key, *part, (time, *frame), *told)? {
             return Err(Fail::from((name, *frame)));
         }
     }
@@ -159,36 +175,21 @@ const ORDERS: &[[Named; 3]] = &[
     [LAST, MIDDLE, FIRST],
 ];
 
-/// Fails unless each of these parts waits.
-fn all_wait(
-    rt: &HostRuntime,
-    fragments: &mut Fragments,
-    (name, key): (&'static str, Key),
-    parts: &[Named],
-    (time, frame): (u64, u64),
-) -> Result<(), Fail> {
-    for part in parts {
-        let waits = answers(rt, fragments, key, *part, (time, frame), Told::Waits)?;
-        is_so(waits, name)?;
-    }
-    Ok(())
-}
-
 /// Fails unless the parts give the content in this order, and nothing is left then.
 fn order_gives(
     rt: &HostRuntime,
     fragments: &mut Fragments,
     [first, second, third]: &[Named; 3],
 ) -> Result<(), Fail> {
-    let parts = [*first, *first, *second, *first];
-    all_wait(rt, fragments, ("an order", key(2, 7)), &parts, (5, 1))?;
-    let is_whole = answers(rt, fragments, key(2, 7), *third, (5, 1), Told::Whole)?;
-    is_so(is_whole, "an order")?;
-    if fragments.room() == 0 {
-        Ok(())
-    } else {
-        Err(Fail::from(fragments.room()))
-    }
+    let rows = [
+        (2, *first, 1, Told::Waits),
+        (2, *first, 1, Told::Waits),
+        (2, *second, 1, Told::Waits),
+        (2, *first, 1, Told::Waits),
+        (2, *third, 1, Told::Whole),
+    ];
+    all_answer(rt, fragments, ("an order", Version::Four, 5), &rows)?;
+    is_so(fragments.room() == 0, "something is left")
 }
 
 #[test]
@@ -310,87 +311,114 @@ const NAMES_ANOTHER: &[Row] = &[
     (2, ANOTHER, 2, Told::Apart(&[1])),
 ];
 
-/// What comes in turn in IPv6 where nothing waits before.
-const CASES_OF_IPV6: &[(&str, &[Row])] = &[
-    ("a part that begins in another", BEGINS_IN_ANOTHER),
-    ("a part in another", IN_ANOTHER),
-    ("what comes again", COMES_AGAIN),
-    ("what comes again, of another name", NAMES_ANOTHER),
-    ("other bytes", OTHER_BYTES),
-    ("the first part names the protocol", FIRST_NAMES),
-    ("it does so where it comes last", FIRST_NAMES_AT_LAST),
+/// The parts before the last, and the last of a packet whose key is another in one thing.
+const OF_ANOTHER: &[Row] = &[
+    (2, FIRST, 1, Told::Waits),
+    (2, MIDDLE, 1, Told::Waits),
+    (3, LAST, 1, Told::Waits),
+    (4, LAST, 1, Told::Waits),
+    (5, LAST, 1, Told::Waits),
+    (6, LAST, 1, Told::Waits),
+    (7, LAST, 1, Told::Waits),
+    (8, LAST, 1, Told::Waits),
+    (2, LAST, 1, Told::Whole),
 ];
 
 /// What comes in turn where nothing waits before.
-const CASES: &[(&str, &[Row])] = &[
-    ("the same bytes may come twice", THE_SAME_BYTES),
-    ("other bytes are never put together", OTHER_BYTES),
-    ("what is apart leaves the others", APART_FROM_ONE),
-    ("a later end", LATER_END),
-    ("an earlier end", EARLIER_END),
-    ("an end that is none", NO_END),
-    ("a part behind the end", BEHIND_THE_END),
-    ("parts of no packet", OF_NO_PACKET),
-    ("the first part names the protocol", FIRST_NAMES),
-    ("it does so where it comes last", FIRST_NAMES_AT_LAST),
-    ("two protocols are apart", TWO_FIRST),
+const CASES: &[(&str, Version, &[Row])] = &[
+    (
+        "the same bytes may come twice",
+        Version::Four,
+        THE_SAME_BYTES,
+    ),
+    (
+        "other bytes are never put together",
+        Version::Four,
+        OTHER_BYTES,
+    ),
+    (
+        "what is apart leaves the others",
+        Version::Four,
+        APART_FROM_ONE,
+    ),
+    ("a later end", Version::Four, LATER_END),
+    ("an earlier end", Version::Four, EARLIER_END),
+    ("an end that is none", Version::Four, NO_END),
+    ("a part behind the end", Version::Four, BEHIND_THE_END),
+    ("parts of no packet", Version::Four, OF_NO_PACKET),
+    (
+        "the first part names the protocol",
+        Version::Four,
+        FIRST_NAMES,
+    ),
+    (
+        "it does so where it comes last",
+        Version::Four,
+        FIRST_NAMES_AT_LAST,
+    ),
+    ("two protocols are apart", Version::Four, TWO_FIRST),
+    ("keys are told apart", Version::Four, OF_ANOTHER),
+    (
+        "a part that begins in another",
+        Version::Six,
+        BEGINS_IN_ANOTHER,
+    ),
+    ("a part in another", Version::Six, IN_ANOTHER),
+    ("what comes again", Version::Six, COMES_AGAIN),
+    (
+        "what comes again, of another name",
+        Version::Six,
+        NAMES_ANOTHER,
+    ),
+    ("other bytes", Version::Six, OTHER_BYTES),
+    (
+        "the first part names the protocol",
+        Version::Six,
+        FIRST_NAMES,
+    ),
+    (
+        "it does so where it comes last",
+        Version::Six,
+        FIRST_NAMES_AT_LAST,
+    ),
 ];
-
-/// Fails unless that becomes of the parts of a case.
-fn holds(rt: &HostRuntime, named: (&'static str, Version), rows: &[Row]) -> Result<(), Fail> {
-    let mut fragments = Fragments::new(rt.alloc());
-    all_answer(rt, &mut fragments, named, rows)
-}
 
 #[test]
 fn parts_and_what_becomes_of_them(rt: HostRuntime) -> Result<(), Fail> {
-    for (name, rows) in CASES {
-        holds(&rt, (*name, Version::Four), *rows)?;
+    for (name, version, rows) in CASES {
+        let mut fragments = Fragments::new(rt.alloc());
+        all_answer(&rt, &mut fragments, (*name, *version, 5), *rows)?;
     }
     Ok(())
-}
-
-#[test]
-fn parts_of_ipv6_and_what_becomes_of_them(rt: HostRuntime) -> Result<(), Fail> {
-    for (name, rows) in CASES_OF_IPV6 {
-        holds(&rt, (*name, Version::Six), *rows)?;
-    }
-    Ok(())
-}
-
-/// Whether the frames of the old set are gone, or none is.
-fn is_gone(gone: &Option<Vec<u64>>, whole: bool) -> bool {
-    match gone {
-        Some(frames) => !whole && frames.as_slice() == [9u64, 9].as_slice(),
-        None => whole,
-    }
 }
 
 /// The parts before the last.
-const BOTH: &[Named] = &[FIRST, MIDDLE];
-
-/// Fails unless a last part at this time makes two others whole, which came earlier, or waits alone.
-fn joins(rt: &HostRuntime, time: u64, told: Told) -> Result<(), Fail> {
-    let mut fragments = Fragments::new(rt.alloc());
-    all_wait(
-        rt,
-        &mut fragments,
-        ("waits", key(2, 7)),
-        BOTH,
-        (PATIENCE, 9),
-    )?;
-    let gone = fragments.let_go_old(key(2, 7), Some(time));
-    is_so(is_gone(&gone, matches!(told, Told::Whole)), "old")?;
-    let joins = answers(rt, &mut fragments, key(2, 7), LAST, (time, 10), told)?;
-    is_so(joins, "the last part")
-}
+const BOTH: &[Row] = &[(2, FIRST, 9, Told::Waits), (2, MIDDLE, 9, Told::Waits)];
 
 /// After 30 s to the nanosecond a part still comes to the others; after more, or before, it begins anew.
 #[test]
 fn an_old_set_is_not_joined(rt: HostRuntime) -> Result<(), Fail> {
-    joins(&rt, PATIENCE, Told::Whole)?;
-    joins(&rt, 2 * PATIENCE, Told::Whole)?;
-    joins(&rt, 2 * PATIENCE + 1, Told::Waits)
+    for (time, told) in [
+        (PATIENCE, Told::Whole),
+        (2 * PATIENCE, Told::Whole),
+        (2 * PATIENCE + 1, Told::Waits),
+    ] {
+        let mut fragments = Fragments::new(rt.alloc());
+        all_answer(
+            &rt,
+            &mut fragments,
+            ("waits", Version::Four, PATIENCE),
+            BOTH,
+        )?;
+        let last = [(2, LAST, 10, told)];
+        all_answer(
+            &rt,
+            &mut fragments,
+            ("the last part", Version::Four, time),
+            &last,
+        )?;
+    }
+    Ok(())
 }
 
 /// The furthest part.
@@ -400,10 +428,19 @@ const FURTHEST: Named = (17, 65_528, false, b"1234567");
 fn waiting_of(rt: &HostRuntime, fragments: &mut Fragments) -> Result<u32, Fail> {
     let mut waiting = 0u32;
     for id in 0..600u32 {
-        match put(rt, fragments, key(2, id), FURTHEST, (5, u64::from(id)))? {
-            Outcome::Waits => waiting = waiting.saturating_add(1),
-            Outcome::Full => {}
-            _ => return Err(Fail::new("full")),
+        let key = Key {
+            id,
+            ..key_in(Version::Four, 2)
+        };
+        if answers(
+            rt,
+            fragments,
+            key,
+            FURTHEST,
+            (5, u64::from(id)),
+            Told::Waits,
+        )? {
+            waiting = waiting.saturating_add(1);
         }
     }
     Ok(waiting)
@@ -428,54 +465,7 @@ fn no_more_than_64_mb_wait(rt: HostRuntime) -> Result<(), Fail> {
     let mut fragments = Fragments::new(rt.alloc());
     let waiting = waiting_of(&rt, &mut fragments)?;
     for id in 0..510u64 {
-        if !goes_next(&mut fragments, id) {
-            return Err(Fail::from(id));
-        }
+        is_so(goes_next(&mut fragments, id), "another packet")?;
     }
-    if waiting == 510 && let_go_any(&mut fragments).is_none() {
-        Ok(())
-    } else {
-        Err(Fail::from(waiting))
-    }
-}
-
-/// Fails unless a last part of this key is of another packet than the parts of the first.
-fn is_another(rt: &HostRuntime, one: Key, other: Key) -> Result<(), Fail> {
-    let mut fragments = Fragments::new(rt.alloc());
-    all_wait(rt, &mut fragments, ("waits", one), BOTH, (5, 1))?;
-    let waits = answers(rt, &mut fragments, other, LAST, (5, 1), Told::Waits)?;
-    is_so(waits, "waits")
-}
-
-/// Keys that differ from one in one thing alone.
-fn other_keys(one: Key) -> [Key; 5] {
-    let mapped = IpAddr::V6(Ipv6Addr::new(0, 0, 0, 0, 0, 0xffff, 0xc000, 0x0202));
-    [
-        Key { id: 8, ..one },
-        Key {
-            protocol: Some(6),
-            ..one
-        },
-        Key {
-            target: one.source,
-            ..one
-        },
-        Key {
-            source: one.target,
-            ..one
-        },
-        Key {
-            target: mapped,
-            ..one
-        },
-    ]
-}
-
-#[test]
-fn keys_are_told_apart(rt: HostRuntime) -> Result<(), Fail> {
-    let one = key(2, 7);
-    for other in other_keys(one) {
-        is_another(&rt, one, other)?;
-    }
-    Ok(())
+    is_so(waiting == 510 && fragments.room() == 0, "others wait")
 }

@@ -103,18 +103,18 @@ fn next(rt: &HostRuntime, reading: &mut Reading<'_>) -> Result<bool, PcapFault> 
         .next_into(rt.alloc(), &mut reading.reader, &mut reading.event)
 }
 
-/// Whether this is told of the last frame, which has this number.
-fn was_told(event: &Event, number: u64, (told, sharers, old): &(Told, &[u64], &[u64])) -> bool {
-    let is_shared = event.sharers() == *sharers && event.old() == *old;
-    event.number() == number && is_shared && is_told(&event.fate(), told)
-}
-
 /// Whether there was another frame, or a fault as the tests tell it.
 fn is_next(rt: &HostRuntime, reading: &mut Reading<'_>) -> Result<bool, Fail> {
     match next(rt, reading) {
         Ok(is_read) => Ok(is_read),
         Err(fault) => Err(failed(fault)),
     }
+}
+
+/// Whether this is told of the last frame, which has this number.
+fn was_told(event: &Event, number: u64, (told, sharers, old): &(Told, &[u64], &[u64])) -> bool {
+    let is_shared = event.sharers() == *sharers && event.old() == *old;
+    event.number() == number && is_shared && is_told(&event.fate(), told)
 }
 
 /// Fails unless the next frame has this number and this fate.
@@ -131,25 +131,12 @@ fn has_fate(
     )
 }
 
-/// Fails unless there are frames so often, or none.
-fn has_frames(
-    rt: &HostRuntime,
-    reading: &mut Reading<'_>,
-    count: u32,
-    is_read: bool,
-) -> Result<(), Fail> {
-    for _ in 0..count {
-        is_so(is_next(rt, reading)? == is_read, "a frame or none")?;
-    }
-    Ok(())
-}
-
 /// Fails unless the next frames have their fates, and none follows.
 fn all_have_fates(rt: &HostRuntime, reading: &mut Reading<'_>) -> Result<(), Fail> {
     for (number, wanted) in (1u64..).zip(FATES) {
         has_fate(rt, reading, number, wanted)?;
     }
-    has_frames(rt, reading, 2, false)
+    is_so(!is_next(rt, reading)?, "another frame")
 }
 
 /// The frames that wait at the end for others.
@@ -188,22 +175,6 @@ const CUT: PcapFault = PcapFault {
     frame: 12,
 };
 
-/// Fails unless the next frame has that fault.
-fn is_cut(rt: &HostRuntime, reading: &mut Reading<'_>) -> Result<(), Fail> {
-    match next(rt, reading) {
-        Ok(_) => Err(Fail::new("a frame")),
-        Err(fault) if fault == CUT => Ok(()),
-        Err(fault) => Err(failed(fault)),
-    }
-}
-
-/// Fails unless so many frames are read, and that fault is answered for good.
-fn is_cut_after(rt: &HostRuntime, reading: &mut Reading<'_>, count: u32) -> Result<(), Fail> {
-    has_frames(rt, reading, count, true)?;
-    is_cut(rt, reading)?;
-    is_cut(rt, reading)
-}
-
 /// A recording that is cut within its last record has a fault there for good, and the frames before it.
 #[test]
 fn a_cut_recording_has_the_frames_before(rt: HostRuntime) -> Result<(), Fail> {
@@ -211,5 +182,12 @@ fn a_cut_recording_has_the_frames_before(rt: HostRuntime) -> Result<(), Fail> {
         return Err(Fail::new("empty"));
     };
     let mut reading = begun(&rt, front, 5)?;
-    is_cut_after(&rt, &mut reading, 11)
+    for frame in 1..14u64 {
+        match next(&rt, &mut reading) {
+            Ok(is_read) => is_so(is_read && frame < 12, "a frame, or none")?,
+            Err(fault) if fault == CUT => is_so(12 <= frame, "a fault before")?,
+            Err(fault) => return Err(failed(fault)),
+        }
+    }
+    Ok(())
 }

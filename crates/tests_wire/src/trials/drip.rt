@@ -40,6 +40,13 @@ impl<'a> DripReader<'a> {
             reads: 0,
         }
     }
+
+    /// How many bytes are left.
+    pub fn left(&self) -> usize
+        ensures { result ≡ length self.now.bytes }
+    {
+        self.bytes.len()
+    }
 }
 
 impl Read for DripReader<'_> {

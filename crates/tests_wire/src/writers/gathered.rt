@@ -8,13 +8,6 @@ use net_streams::streams::{LineWriter, WriteFault};
 use std::alloc::AllocError;
 use std::test::Fail;
 
-/// Adds two bytes as they are, and the others as digits; what waits is written.
-fn take_digits(writer: &mut LineWriter<DripWriter>, bytes: &[u8]) -> Result<(), WriteFault> {
-    writer.add(b"- ")?;
-    writer.add_hex(bytes)?;
-    writer.flush()
-}
-
 /// Adds the bytes in pieces of 100, of 16,384, of 16,385 and of what is left; what waits is written.
 fn take_pieces(writer: &mut LineWriter<DripWriter>, bytes: &[u8]) -> Result<(), WriteFault> {
     let (short, rest) = bytes.split_at(bytes.len().min(100));
@@ -25,18 +18,12 @@ fn take_pieces(writer: &mut LineWriter<DripWriter>, bytes: &[u8]) -> Result<(), 
     writer.flush()
 }
 
-/// Adds two lines, of two bytes and the others in either order; what waits is written.
+/// Adds two lines, of two bytes and the others in either order, and the others' digits; what waits is written.
 fn take_lines(writer: &mut LineWriter<DripWriter>, bytes: &[u8]) -> Result<(), WriteFault> {
     writer.add_hex_line(b"- ", b"\x00\x1f", bytes)?;
     writer.add_hex_line(b"- ", bytes, b"\x00\x1f")?;
+    writer.add_hex(bytes)?;
     writer.flush()
-}
-
-/// Gathers digits there.
-fn digits_gathered(rt: &HostRuntime, drip: DripWriter, bytes: &[u8]) -> Written {
-    let mut writer = LineWriter::new(rt.alloc(), drip);
-    let answer = take_digits(&mut writer, bytes);
-    written(writer, answer)
 }
 
 /// Gathers lines there.
@@ -61,36 +48,15 @@ fn add_digits(text: &mut Vec<u8>, count: usize) -> Result<(), AllocError> {
     Ok(())
 }
 
-/// The digits of two bytes and 9,000 times another, after what is as it was.
-fn many_digits(rt: &HostRuntime) -> Result<Vec<u8>, AllocError> {
-    let mut text = Vec::from_slice(rt.alloc(), b"- 001f")?;
-    add_digits(&mut text, 9000)?;
-    Ok(text)
-}
-
-/// A line of the digits of two bytes and so many times another, and a line that has them last.
+/// A line of the digits of two bytes and so many times another, a line that has them last, and those of the other.
 fn two_lines(rt: &HostRuntime, count: usize) -> Result<Vec<u8>, AllocError> {
     let mut text = Vec::from_slice(rt.alloc(), b"- 001f")?;
     add_digits(&mut text, count)?;
     text.extend_from_slice(b"\n- ")?;
     add_digits(&mut text, count)?;
     text.extend_from_slice(b"001f\n")?;
+    add_digits(&mut text, count)?;
     Ok(text)
-}
-
-/// Fails unless these bytes are gathered as those digits where each write takes so many bytes.
-fn are_digits_in(rt: &HostRuntime, piece: usize, bytes: &[u8], text: &[u8]) -> Result<(), Fail> {
-    let drip = DripWriter::new(rt.alloc(), text.len(), piece, 0, false)?;
-    has_written(&digits_gathered(rt, drip, bytes), Ok(()), text)
-}
-
-/// More digits than wait together.
-#[test]
-fn bytes_are_gathered_as_digits(rt: HostRuntime) -> Result<(), Fail> {
-    let bytes = long(rt.alloc(), b"\x00\x1f", (0xab, 9000))?;
-    let text = many_digits(&rt)?;
-    are_digits_in(&rt, usize::MAX, bytes.as_slice(), text.as_slice())?;
-    are_digits_in(&rt, 7, bytes.as_slice(), text.as_slice())
 }
 
 /// Fails unless a byte so many times is gathered as two lines where each write takes so many bytes.
@@ -155,17 +121,12 @@ fn takes(
     has_written(&pieces_gathered(rt, drip, bytes), wanted, front)
 }
 
-/// Fails unless that is so of each row.
-fn all_take(rt: &HostRuntime, bytes: &[u8]) -> Result<(), Fail> {
-    for row in ROWS {
-        takes(rt, bytes, row, false)?;
-        takes(rt, bytes, row, true)?;
-    }
-    Ok(())
-}
-
 #[test]
 fn pieces_of_any_length_are_gathered(rt: HostRuntime) -> Result<(), Fail> {
     let bytes = other_bytes(&rt)?;
-    all_take(&rt, bytes.as_slice())
+    for row in ROWS {
+        takes(&rt, bytes.as_slice(), row, false)?;
+        takes(&rt, bytes.as_slice(), row, true)?;
+    }
+    Ok(())
 }

@@ -37,17 +37,12 @@ pub fn has_written(
     is_same(drip.taken(), text)
 }
 
-/// Fails unless the text of `READ` is written where each write takes so many bytes.
-fn is_written_in(rt: &HostRuntime, piece: usize) -> Result<(), Fail> {
-    let drip = DripWriter::new(rt.alloc(), READ.len(), piece, 0, false)?;
-    let found = write(rt.alloc(), drip, &HEADER, DATAGRAMS);
-    has_written(&found, Ok(()), READ.as_bytes())
-}
-
 #[test]
 fn a_read_is_written(rt: HostRuntime) -> Result<(), Fail> {
-    for piece in &[usize::MAX, 1, 5] {
-        is_written_in(&rt, *piece)?;
+    for piece in [usize::MAX, 1, 5] {
+        let drip = DripWriter::new(rt.alloc(), READ.len(), piece, 0, false)?;
+        let found = write(rt.alloc(), drip, &HEADER, DATAGRAMS);
+        has_written(&found, Ok(()), READ.as_bytes())?;
     }
     Ok(())
 }

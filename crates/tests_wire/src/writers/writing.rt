@@ -158,22 +158,20 @@ impl HostWriting {
         Ok(())
     }
 
-    fn put_all(&mut self, host: &Host, rows: &[Row<'_>]) -> Result<(), WriteFault> {
+    /// Writes a comment, where there is one, and then the datagrams.
+    fn put_all(
+        &mut self,
+        comment: Option<&[u8]>,
+        host: &Host,
+        rows: &[Row<'_>],
+    ) -> Result<(), WriteFault> {
+        if let Some(words) = comment {
+            self.capture.comment(&mut self.writer, words)?;
+        }
         for row in rows {
             self.put(host, row)?;
         }
         Ok(())
-    }
-
-    /// Writes a comment, and then the datagrams.
-    fn comment_all(
-        &mut self,
-        words: &[u8],
-        host: &Host,
-        rows: &[Row<'_>],
-    ) -> Result<(), WriteFault> {
-        self.capture.comment(&mut self.writer, words)?;
-        self.put_all(host, rows)
     }
 
     fn close(self) -> Written {
@@ -193,34 +191,17 @@ impl HostWriting {
     }
 }
 
-/// Writes a text of version 2 there, whose datagrams all have this host.
+/// Writes a text of version 2 there, with a comment or none, whose datagrams all have this host.
 pub fn write_with_host(
     alloc: Global,
     drip: DripWriter,
     header: &Header,
+    comment: Option<&[u8]>,
     host: &Host,
     rows: &[Row<'_>],
 ) -> Written {
     match HostWriting::begin(alloc, drip, header) {
-        Ok(mut writing) => match writing.put_all(host, rows) {
-            Ok(()) => writing.close(),
-            Err(fault) => writing.leave(fault),
-        },
-        Err(written) => written,
-    }
-}
-
-/// Writes the same text with a comment before its datagrams.
-pub fn write_with_comment(
-    alloc: Global,
-    drip: DripWriter,
-    header: &Header,
-    words: &[u8],
-    host: &Host,
-    rows: &[Row<'_>],
-) -> Written {
-    match HostWriting::begin(alloc, drip, header) {
-        Ok(mut writing) => match writing.comment_all(words, host, rows) {
+        Ok(mut writing) => match writing.put_all(comment, host, rows) {
             Ok(()) => writing.close(),
             Err(fault) => writing.leave(fault),
         },

@@ -1,7 +1,6 @@
-use crate::judges::verdicts::is_file;
+use crate::commands::prints;
+use crate::scripts::Script;
 use std::test::Fail;
-use tests_wire::trials::scripts::Script;
-use tftp_ends::blocks::{MapDelivered, RingDelivered};
 
 /// Captures of whole transfers, and their files, in hex digits; `-` where the file is empty.
 pub const SCRIPT: &str = "
@@ -30,18 +29,16 @@ READ_TEXT, in 40000 41000 000300010d0d0a, ACK_1 => 0d0a
 READ_TEXT, in 40000 41000 000300010d41, ACK_1 => 0d41
 ";
 
-/// Fails unless this is the file of a text, by a judge on each store.
-fn is_file_of(rt: &HostRuntime, text: &[u8], file: &[u8]) -> Result<(), Fail> {
-    is_file::<MapDelivered>(rt, text, file)?;
-    is_file::<RingDelivered>(rt, text, file)
-}
-
-/// Fails unless the next capture of a script has its file.
+/// Fails unless `extract` writes the file of the next capture of a script.
 fn next_has_file(rt: &HostRuntime, script: &mut Script<'_>) -> Result<(), Fail> {
     let (text, digits) = script.next(rt.alloc())?;
-    let digits = if digits == "-" { "" } else { digits };
-    let file = hex::decode(rt.alloc(), digits.as_bytes())?;
-    is_file_of(rt, text.as_bytes(), file.as_slice())
+    let digits = if digits == b"-".as_slice() {
+        b""
+    } else {
+        digits
+    };
+    let file = hex::decode(rt.alloc(), digits)?;
+    prints(rt, "extract", text.as_slice(), 0, file.as_slice())
 }
 
 #[test]
