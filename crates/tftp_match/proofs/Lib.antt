@@ -4,3 +4,4 @@ pub mod CopiesLemmas
 pub mod ObjectsLemmas
 pub mod SidesLemmas
 pub mod VerdictLemmas
+pub mod RecordedLemmas

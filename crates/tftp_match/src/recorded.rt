@@ -1,6 +1,6 @@
 //! The transfers of a recording at its end, with their texts.
 
-ghost use Rattle.std.specs.Prelude.{◌≡◌, ◌==◌, ◌-◌, ◌∷◌, [], ℕ, List, IfErr, IfOk, None, Some, if◌then◌else◌};
+ghost use Rattle.std.specs.Prelude.{◌≡◌, ◌==◌, ◌-◌, ◌∷◌, [], ℕ, List, IfErr, IfOk, None, if◌then◌else◌, slice_get};
 ghost use Rattle.audit_recording.specs.Blame.Frames.{Carried, whole_of};
 ghost use Rattle.audit_recording.specs.Session.Requests.{AreAsked, IsAskedAs};
 ghost use Rattle.audit_recording.specs.Session.Texts.{IsNoneNumbered};
@@ -48,20 +48,21 @@ fn one_of<'a>(alloc: Global, asked: &[Asked<'a>], number: u64) -> Result<Vec<Ask
         → IfOk result (λ found. (one : AskedKind) × (found.items ≡ one ∷ []) × IsAskedAs named carried number one) }
     ensures none { (named : List ℕ) (carried : List Carried) → AreAsked named carried asked.now → IfErr result (IsNoneNumbered number (whole_of named carried)) }
 {
-    match place_of(number) {
-        Some(place) if place < asked.len() => Ok(Vec::from_slice(alloc, &asked[place..place + 1])?),
-        _ => Err(TextFault::NoTransfer(number, asked.len())),
+    match request_at(asked, number) {
+        Some(one) => Ok(Vec::from_slice(alloc, &[one])?),
+        None => Err(TextFault::NoTransfer(number, asked.len())),
     }
 }
 
-/// The place of what has this number, from 1; none of number 0.
-fn place_of(number: u64) -> Option<usize>
-    ensures { result ≡ if number == 0 then None else Some (number - 1) }
+/// The request with this number, from 1.
+fn request_at<'a>(asked: &[Asked<'a>], number: u64) -> Option<Asked<'a>>
+    ensures { result ≡ if number == 0 then None else slice_get asked.now (number - 1) }
 {
-    match number.checked_sub(1) {
-        Some(place) => Some(place as usize),
-        None => None,
+    if number == 0 {
+        return None;
     }
+    let place = usize::try_from(number - 1).unwrap_or(usize::MAX);
+    asked.get(place).copied()
 }
 
 impl Texts for Recorded<'_> {

@@ -54,7 +54,16 @@ impl fmt::Display for LackFault {
             LackFault::Memory | LackFault::Text(TextFault::Alloc(_)) => f.write_str(
                 "out of memory",
             ),
-            LackFault::Text(fault) => fault.fmt(f),
+            LackFault::Text(TextFault::NotWhole) => f.write_str(
+                "nothing is written, since the recording is not whole",
+            ),
+            LackFault::Text(TextFault::LongName) => f.write_str(
+                "the file's name is too long for a text",
+            ),
+            LackFault::Text(TextFault::NoTransfer(number, count)) => write!(
+                f,
+                "there is no transfer {number}: the recording has 1 to {count}"
+            ),
         }
     }
 }
