@@ -7,12 +7,13 @@ ghost use Rattle.tftp_match.specs.Faults.{IsLack};
 ghost use Rattle.tftp_match.specs.Given.{bytes_of};
 
 use audit_recording::session::TextFault;
-use judge_pair::match_texts::{PairSaid, judge_pair};
+use judge_pair::match_texts::{PairSaid, judge_pair_by};
 use net_streams::streams::Latched;
 use std::alloc::Global;
 use std::convert::From;
 use std::fmt;
 use std::io::Read;
+use tftp_packet::rounds::Rollover;
 
 /// The capture text of a transfer.
 #[derive(Drop)]
@@ -93,11 +94,16 @@ pub trait Texts {
         ensures fault { IfErr result (IsLack (is_lack self.now number)) };
 }
 
-/// What there is to say of a text of the client and one of the server.
-pub fn said_of<R: Read + Drop, S: Read + Drop>(alloc: Global, client: R, server: S) -> PairSaid
-    ensures { IsSaidOf (R.Read.remaining client) (S.Read.remaining server) result }
+/// What there is to say of a text of the client and one of the server, by what comes after block 65535.
+pub fn said_of<R: Read + Drop, S: Read + Drop>(
+    alloc: Global,
+    rollover: Option<Rollover>,
+    client: R,
+    server: S,
+) -> PairSaid
+    ensures { IsSaidOf rollover (R.Read.remaining client) (S.Read.remaining server) result }
 {
     let mut client = Latched::new(client);
     let mut server = Latched::new(server);
-    judge_pair(alloc, &mut client, &mut server)
+    judge_pair_by(alloc, rollover, &mut client, &mut server)
 }
