@@ -47,7 +47,10 @@ pub fn texts(rt: HostRuntime, asked: &TextsRequest<'_>) -> Result<u8> {
 }
 
 /// What was answered; where a write has failed, why it did.
-fn reasoned<T, W: Write + Drop>(writer: LineWriter<Reasoned<W>>, answer: Result<T>) -> Result<T> {
+fn reasoned<T: Drop, W: Write + Drop>(
+    writer: LineWriter<Reasoned<W>>,
+    answer: Result<T>,
+) -> Result<T> {
     match writer.finish().0.into_error() {
         Some(error) => Err(error.into()),
         None => answer,
