@@ -444,11 +444,13 @@ class Pairs(Checks):
             server = made.file_of(passed[: place + 1] + passed[place : place + 2] + passed[place + 1 :])
             client = made.file_of(passed)
             got = self.told(client, server, "--rollover", given)
-            self.check(f"{given}, lost", got == ([self.ACCEPTED, self.ACCEPTED, "matched lost 1 repeated 1"], "", 0), got)
+            wanted = [self.ACCEPTED, self.ACCEPTED, "matched lost 1 repeated 1"], "", 0
+            self.check(f"{given}, lost", got == wanted, got)
             for words in (("--rollover", str(1 - int(given))), ()):
                 lines, errors, status = self.told(recording, recording, *words)
                 are = all(line.startswith("refused datagram ") for line in lines[:2]) and len(lines) == 3
-                self.check(f"{given}, by {words}", are and lines[2].startswith("unmatched ") and (errors, status) == ("", 1), lines)
+                holds = are and lines[2].startswith("unmatched ") and (errors, status) == ("", 1)
+                self.check(f"{given}, by {words}", holds, (lines, errors, status))
             line = refusal(2 * ROUND, Rule.BEYOND_BLOCK_65535)
             self.check(f"{given}, by none, the rule", self.told(recording, recording)[0][:2] == [line, line])
 
@@ -468,7 +470,10 @@ class Pairs(Checks):
     def test_pair_words(self) -> None:
         """The word says 0 or 1, and packets are not counted beside it."""
         recording = made.file_of(made.read("a", 40_000, 41_000))
-        for words, why in ((("--rollover", "2"), "2"), (("--rollover",), "--rollover"), (("--rollover", "0", "--counts"), "--counts")):
+        refused: tuple[tuple[tuple[str, ...], str], ...] = (
+            (("--rollover", "2"), "2"), (("--rollover",), "--rollover"), (("--rollover", "0", "--counts"), "--counts"),
+        )
+        for words, why in refused:
             lines, errors, status = self.told(recording, recording, *words)
             self.check(f"{words}", (lines, status) == ([], 2) and why in errors, (lines, errors, status))
         for given in GIVEN:
