@@ -84,7 +84,7 @@ fn captures_and_their_normal_texts(rt: HostRuntime) -> Result<(), Fail> {
 }
 
 /// The read of `hi` (RFC 1350, sections 4 and 5) with block 2 for block 1, and a payload of one digit after it.
-pub const OVERRUN: &str =
+pub(crate) const OVERRUN: &str =
     "tftp-capture 1\nend client\nservice 69\nout 40000 69 000161006f6374657400\nin 40000 41000 000300026869\nout 40000 41000 0\ntotal 3\n";
 
 /// Texts with a fault, or a refusal before it, and what is said of each.
