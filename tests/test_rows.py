@@ -257,7 +257,8 @@ class Rows(Checks):
         holds = output == "" and "began before the recording" in told and status == 0
         self.check("a recording that began late has no texts", holds, (output, told, status))
         got = said(self.program, ["texts", "client", "-"], file_of([]))
-        self.check("no transfers, no texts", got == ("", "", 0), got)
+        told = "tftp-transfers: -: no request passed, so there is no transfer\n"
+        self.check("no transfers, no texts", got == ("", told, 0), got)
         request = Datagram(C, 40_000, S, 6969, read_request("a", "octet")[0][:-1])
         other = file_of([request])
         got = said(self.program, ["texts", "client", "-"], other)
