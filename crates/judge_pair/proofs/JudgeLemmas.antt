@@ -1,5 +1,3 @@
-pub mod Blocks
-pub mod Highest
 pub mod Merging
 pub mod Sides
 pub mod Rests

@@ -2,7 +2,6 @@
 //! far the two go together, and what the network between them lost and repeated.
 #![tactic(auto)]
 
-mod blocks;
 pub mod counts;
 pub mod judge;
 pub mod match_texts;

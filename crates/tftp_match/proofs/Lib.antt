@@ -4,4 +4,3 @@ pub mod CopiesLemmas
 pub mod ObjectsLemmas
 pub mod SidesLemmas
 pub mod VerdictLemmas
-pub mod RecordedLemmas

@@ -11,7 +11,6 @@ pub mod Candidates
 pub mod Copies
 pub mod Objects
 pub mod Saying
-pub mod Recorded
 pub mod Worked
 pub use declared.choice.Tried.{Tried}
 pub use declared.facts.First.{First}

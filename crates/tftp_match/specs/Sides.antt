@@ -2,7 +2,6 @@
 use Rattle.std.specs.Prelude.{ℕ, Bool, List, Option, IfSome}
 use Rattle.std.specs.Io.KnownBytes.{Appends}
 use Rattle.tftp_packet.specs.{End, Client, Server}
-use Rattle.audit_recording.specs.declared.session.fault.TextFault.{TextFault}
 use Rattle.audit_recording.specs.declared.session.requests.Asked.{Asked}
 use Rattle.tftp_rows.specs.Remarks.{remark_text}
 use Rattle.tftp_match.specs.Candidates.{AreMeant}
@@ -38,12 +37,12 @@ abbrev pub file_at : {C S : Type 0} → End → Side C → Side S → List ℕ
 file_at Client client server = client.file.now
 file_at Server client server = server.file.now
 
-abbrev pub lack_at : End → (ℕ → TextFault → Type 0) → (ℕ → TextFault → Type 0) → ℕ → TextFault → Type 0
+abbrev pub lack_at : End → (ℕ → Bool) → (ℕ → Bool) → ℕ → Bool
 lack_at Client client server = client
 lack_at Server client server = server
 
 -- a transfer at an end has no text, and that is told, where its words are known
-abbrev pub IsLackTold : {C S : Type 0} → (LackFault → Option (List ℕ)) → (ℕ → TextFault → Type 0) → (ℕ → TextFault → Type 0) → Side C → Side S → List ℕ → Option (List ℕ) → Option (List ℕ) → Type 0
+abbrev pub IsLackTold : {C S : Type 0} → (LackFault → Option (List ℕ)) → (ℕ → Bool) → (ℕ → Bool) → Side C → Side S → List ℕ → Option (List ℕ) → Option (List ℕ) → Type 0
 IsLackTold words client_lacks server_lacks client server program before after =
     (end : End) × (number : ℕ) × (fault : LackFault) × IsLack (lack_at end client_lacks server_lacks number) fault
     × IfSome (words fault) (λ w. Appends before after (remark_text program (file_at end client server) w))

@@ -1,6 +1,6 @@
 //! A capture text in memory.
 
-ghost use Rattle.std.specs.Prelude.{◌≡◌};
+ghost use Rattle.std.specs.Prelude.{Some, false};
 
 use crate::faults::SourceFault;
 use crate::texts::{LackFault, Text, Texts};
@@ -37,9 +37,9 @@ impl Held {
 }
 
 impl Texts for Held {
-    ghost is_text = { λ t _ bytes. bytes ≡ t.bytes.items };
+    ghost text_of = { λ t _. Some t.bytes.items };
 
-    ghost is_lack = { λ _ _ _. ⊥ };
+    ghost may_lack = { λ _ _. false };
 
     // it has one alone
     fn text(&self, _alloc: Global, _number: u64) -> Result<Text<'_>, LackFault> {

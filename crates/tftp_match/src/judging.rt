@@ -119,7 +119,7 @@ fn texts<R: Read + Drop, S: Read + Drop>(
         return Err(MatchFault::NoRecording);
     }
     Ok(Some(Matching {
-        said: said_of(alloc, request.rollover, client, server),
+        said: said_of(alloc, client, server),
         client: None,
         server: None,
     }))
@@ -142,7 +142,7 @@ fn recorded_client<S: Read + Drop, E: Write + Drop>(
         number: request.transfer,
         session: client,
     };
-    match beside(alloc, request, &recorded, request.server, server, remarks)? {
+    match beside(alloc, &recorded, request.server, server, remarks)? {
         Some(judged) => Ok(Some(Matching {
             said: judged.said,
             client: Some(judged.client),
@@ -169,7 +169,7 @@ fn recorded_server<R: Read + Drop, E: Write + Drop>(
         number: request.server_transfer.or(request.transfer),
         session: server,
     };
-    match beside(alloc, request, &recorded, request.client, client, remarks)? {
+    match beside(alloc, &recorded, request.client, client, remarks)? {
         Some(judged) => Ok(Some(Matching {
             said: judged.said,
             client: None,
@@ -200,7 +200,7 @@ fn recordings<E: Write + Drop>(
         number: request.server_transfer,
         session: server,
     };
-    match of_recordings(alloc, request, &client, &server, remarks)? {
+    match of_recordings(alloc, &client, &server, remarks)? {
         Some(judged) => Ok(Some(Matching {
             said: judged.said,
             client: Some(judged.client),
@@ -213,7 +213,6 @@ fn recordings<E: Write + Drop>(
 /// The transfers of two recordings, judged together.
 fn of_recordings<E: Write + Drop>(
     alloc: Global,
-    request: &Request<'_>,
     client: &Recorded<'_>,
     server: &Recorded<'_>,
     remarks: &mut Remarks<'_, E>,
@@ -226,7 +225,7 @@ fn of_recordings<E: Write + Drop>(
     };
     let client = side_of(client, clients.as_slice());
     let server = side_of(server, servers.as_slice());
-    judge_sides(alloc, request.rollover, &client, &server, remarks)
+    judge_sides(alloc, &client, &server, remarks)
 }
 
 /// A recording, of whose transfers one with these requests is to be judged.
@@ -242,7 +241,6 @@ fn side_of<'a>(recorded: &'a Recorded<'a>, asked: &'a [Asked<'a>]) -> Side<'a, R
 /// The transfer of a recording, judged together with a text. Where it has one alone, the text is read while it is judged.
 fn beside<R: Read + Drop, E: Write + Drop>(
     alloc: Global,
-    request: &Request<'_>,
     recorded: &Recorded<'_>,
     file: &str,
     text: Whole<R>,
@@ -252,26 +250,17 @@ fn beside<R: Read + Drop, E: Write + Drop>(
         return Ok(None);
     };
     if let [sole] = asked.as_slice() {
-        return beside_sole(alloc, request, recorded, sole.number, text, remarks);
+        return beside_sole(alloc, recorded, sole.number, text, remarks);
     }
     let Some(held) = told(remarks, file, Held::read(alloc, text))? else {
         return Ok(None);
     };
-    beside_held(
-        alloc,
-        request,
-        recorded,
-        asked.as_slice(),
-        file,
-        &held,
-        remarks,
-    )
+    beside_held(alloc, recorded, asked.as_slice(), file, &held, remarks)
 }
 
 /// The sole transfer of a recording, judged together with a text.
 fn beside_sole<R: Read + Drop, E: Write + Drop>(
     alloc: Global,
-    request: &Request<'_>,
     recorded: &Recorded<'_>,
     number: u64,
     text: Whole<R>,
@@ -285,12 +274,12 @@ fn beside_sole<R: Read + Drop, E: Write + Drop>(
         End::Client => Judged {
             client: number,
             server: 1,
-            said: said_of(alloc, request.rollover, own, text),
+            said: said_of(alloc, own, text),
         },
         End::Server => Judged {
             client: 1,
             server: number,
-            said: said_of(alloc, request.rollover, text, own),
+            said: said_of(alloc, text, own),
         },
     }))
 }
@@ -298,7 +287,6 @@ fn beside_sole<R: Read + Drop, E: Write + Drop>(
 /// The transfer of a recording that has the request of a text in memory, judged together with it.
 fn beside_held<E: Write + Drop>(
     alloc: Global,
-    request: &Request<'_>,
     recorded: &Recorded<'_>,
     asked: &[Asked<'_>],
     file: &str,
@@ -320,7 +308,7 @@ fn beside_held<E: Write + Drop>(
         texts: held,
     };
     match recorded.end {
-        End::Client => judge_sides(alloc, request.rollover, &own, &other, remarks),
-        End::Server => judge_sides(alloc, request.rollover, &other, &own, remarks),
+        End::Client => judge_sides(alloc, &own, &other, remarks),
+        End::Server => judge_sides(alloc, &other, &own, remarks),
     }
 }

@@ -17,7 +17,6 @@ use std::alloc::Global;
 use std::fmt::Display;
 use std::io::Write;
 use tftp_packet::End;
-use tftp_packet::rounds::Rollover;
 use tftp_rows::{Remarks, TellFault};
 
 /// What there is to say of the transfers of two captures that are one transfer's at its two ends: those that are named or that
@@ -25,16 +24,15 @@ use tftp_rows::{Remarks, TellFault};
 /// or where one has no text: that is told on standard error.
 pub fn judge_sides<C: Texts, S: Texts, E: Write + Drop>(
     alloc: Global,
-    rollover: Option<Rollover>,
     client: &Side<'_, C>,
     server: &Side<'_, S>,
     remarks: &mut Remarks<'_, E>,
 ) -> Result<Option<Judged>, MatchFault>
-    ensures taken { IfOk result (λ found. IfSome found (λ judged. IsTaken (texts_of rollover (C.is_text client.now.texts.now) (S.is_text server.now.texts.now)) client.now.asked.now server.now.asked.now judged
+    ensures taken { IfOk result (λ found. IfSome found (λ judged. IsTaken (texts_of (C.text_of client.now.texts.now) (S.text_of server.now.texts.now)) client.now.asked.now server.now.asked.now judged
         × (remarks.new ≡ remarks.old))) }
     ensures untaken { IfOk result (λ found. IfNone found (
-        IsUntaken (texts_of rollover (C.is_text client.now.texts.now) (S.is_text server.now.texts.now)) client.now server.now remarks.old.program.now (E.Write.contents remarks.old.errors.0) (E.Write.contents remarks.new.errors.0)
-        ⊎ IsLackTold ⟦<LackFault as Display>⟧.output (C.is_lack client.now.texts.now) (S.is_lack server.now.texts.now) client.now server.now remarks.old.program.now (E.Write.contents remarks.old.errors.0) (E.Write.contents remarks.new.errors.0))) }
+        IsUntaken (texts_of (C.text_of client.now.texts.now) (S.text_of server.now.texts.now)) client.now server.now remarks.old.program.now (E.Write.contents remarks.old.errors.0) (E.Write.contents remarks.new.errors.0)
+        ⊎ IsLackTold ⟦<LackFault as Display>⟧.output (C.may_lack client.now.texts.now) (S.may_lack server.now.texts.now) client.now server.now remarks.old.program.now (E.Write.contents remarks.old.errors.0) (E.Write.contents remarks.new.errors.0))) }
     ensures fault { IfErr result IsUntold }
     ensures same { remarks.new ≡ record remarks.old { errors = remarks.new.errors } }
 {
@@ -42,7 +40,7 @@ pub fn judge_sides<C: Texts, S: Texts, E: Write + Drop>(
         Ok(meant) => meant,
         Err(fault) => return Err(MatchFault::Alloc(fault)),
     };
-    match choose(alloc, rollover, client, server, &meant) {
+    match choose(alloc, client, server, &meant) {
         Ok(Choice::Taken(judged)) => Ok(Some(judged)),
         Ok(Choice::Nothing(why)) => {
             as_none(tell_untaken(alloc, client, server, &meant, &why, remarks))
