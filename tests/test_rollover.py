@@ -23,7 +23,7 @@ from fuzzing.transfers import ENDS
 from judged import checked
 from loopback import CLIENT, SERVER, Case, OverLoopback, record
 from normal import Meaning
-from programs import AUDIT, TRANSFERS
+from programs import AUDIT, MATCH, TRANSFERS
 from recorded import Datagram
 from refusals import Rule, refusal
 from repository import TOP
@@ -415,6 +415,70 @@ class Recordings(Checks):
             self.check(f"{words}", (output, status) == ("", 2) and why in errors, (output, errors, status))
         help_of = self.told(b"", "check", "--help")[0]
         self.check("help", "--rollover <NUMBER>" in help_of, help_of)
+
+
+class Pairs(Checks):
+    """What `tftp-match` says of recordings of both ends."""
+
+    needs = (MATCH,)
+    ACCEPTED = f"accepted get octet blocks {COUNT} bytes {len(FILE)}"
+
+    def told(self, client: bytes, server: bytes, *words: str) -> tuple[list[str], str, int]:
+        """The lines that are written, what is written as errors, and the status."""
+        path = self.folder / "client.pcap"
+        path.write_bytes(client)
+        command = [MATCH.path, *words, str(path), "-"]
+        done = subprocess.run(command, input=server, capture_output=True, timeout=300)
+        return done.stdout.decode().splitlines(), done.stderr.decode(), done.returncode
+
+    def test_matched(self) -> None:
+        """By the number with which both go on they are matched; by the other both are refused, and by none, where no
+        block may have such a number. Of a block behind the first round a copy is lost, and an ACK is repeated."""
+        for given in GIVEN:
+            passed = passed_of(int(given))
+            recording = made.file_of(passed)
+            got = self.told(recording, recording, "--rollover", given)
+            self.check(f"{given}", got == ([self.ACCEPTED, self.ACCEPTED, "matched lost 0 repeated 0"], "", 0), got)
+            block = ROUND + 2
+            place = 3 + 2 * (block - 1)
+            server = made.file_of(passed[: place + 1] + passed[place : place + 2] + passed[place + 1 :])
+            client = made.file_of(passed)
+            got = self.told(client, server, "--rollover", given)
+            wanted = [self.ACCEPTED, self.ACCEPTED, "matched lost 1 repeated 1"], "", 0
+            self.check(f"{given}, lost", got == wanted, got)
+            for words in (("--rollover", str(1 - int(given))), ()):
+                lines, errors, status = self.told(recording, recording, *words)
+                are = all(line.startswith("refused datagram ") for line in lines[:2]) and len(lines) == 3
+                holds = are and lines[2].startswith("unmatched ") and (errors, status) == ("", 1)
+                self.check(f"{given}, by {words}", holds, (lines, errors, status))
+            line = refusal(2 * ROUND, Rule.BEYOND_BLOCK_65535)
+            self.check(f"{given}, by none, the rule", self.told(recording, recording)[0][:2] == [line, line])
+
+    def test_unsent(self) -> None:
+        """What came in behind the first round and was not sent by its block, but by its number, is unsent."""
+        for given in GIVEN:
+            first, block = int(given), ROUND + 2
+            passed = passed_of(first)
+            place = 3 + 2 * (block - 1)
+            other = list(passed)
+            content = b"\0" * SIZE
+            other[place] = Datagram(made.S, 41_000, made.C, 40_000, numbered(block, first, content)[0])
+            lines, errors, status = self.told(made.file_of(other), made.file_of(passed), "--rollover", given)
+            third = f"unmatched client datagram {place + 1} unsent server datagram {place + 2} waits"
+            self.check(f"{given}", (lines[2:], errors, status) == ([third], "", 1), (lines, errors, status))
+
+    def test_pair_words(self) -> None:
+        """The word says 0 or 1, and packets are not counted beside it."""
+        recording = made.file_of(made.read("a", 40_000, 41_000))
+        refused: tuple[tuple[tuple[str, ...], str], ...] = (
+            (("--rollover", "2"), "2"), (("--rollover",), "--rollover"), (("--rollover", "0", "--counts"), "--counts"),
+        )
+        for words, why in refused:
+            lines, errors, status = self.told(recording, recording, *words)
+            self.check(f"{words}", (lines, status) == ([], 2) and why in errors, (lines, errors, status))
+        for given in GIVEN:
+            got = self.told(recording, recording, "--rollover", given)
+            self.check(f"few blocks, {given}", got == self.told(recording, recording), got)
 
 
 class Scripts(Checks):

@@ -1,3 +1,4 @@
+pub mod Headed
 pub mod Intact
 pub mod Told
 pub mod Lines

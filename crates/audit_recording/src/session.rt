@@ -22,6 +22,7 @@ mod requests;
 mod session;
 mod telling;
 mod text;
+mod trails;
 mod unplaced;
 
 pub use endpoint::{shown, shown_host};

@@ -32,7 +32,6 @@ use std::alloc::{AllocError, Global};
 use tftp_packet::End;
 
 /// What there is to say of a transfer.
-#[derive(Drop)]
 pub struct Judged {
     client: Option<Viewed>,
     server: Option<Viewed>,
@@ -43,6 +42,20 @@ pub struct Judged {
     doubted: Doubted,
     /// Up to when the recording was read, in nanoseconds since 1970.
     until: u64,
+}
+
+impl Drop for Judged {
+    // written out, since the prover takes a derived one apart again wherever a value is let go
+    fn drop(self) {
+        let Judged {
+            client: _,
+            server: _,
+            between: _,
+            trail: _,
+            doubted: _,
+            until: _,
+        } = self;
+    }
 }
 
 impl Judged {

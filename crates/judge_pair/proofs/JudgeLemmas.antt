@@ -1,3 +1,5 @@
+pub mod Blocks
+pub mod Highest
 pub mod Merging
 pub mod Sides
 pub mod Rests

@@ -2,6 +2,7 @@
 //! far the two go together, and what the network between them lost and repeated.
 #![tactic(auto)]
 
+mod blocks;
 pub mod counts;
 pub mod judge;
 pub mod match_texts;

@@ -9,5 +9,5 @@ mod rest;
 mod said;
 
 pub use crate::judge::{Matched, Wait};
-pub use pair::judge_pair;
+pub use pair::{judge_pair, judge_pair_by};
 pub use said::{Apart, PairSaid};

@@ -16,26 +16,26 @@ use std::io::{BufRead, BufReader};
 
 /// Lists the recordings on standard input.
 pub fn list(rt: HostRuntime) -> Result<()> {
-    let alloc = rt.alloc();
-    let mut listing = Listing::new(alloc)?;
-    for line in BufReader::new(alloc, rt.reader())?.lines(alloc) {
-        let line = line?;
-        if line.is_empty() {
-            listing.put_transfers(rt)?;
-            listing = Listing::new(alloc)?;
-        } else {
-            listing.put_line(rt, line.as_str())?;
-        }
-    }
-    listing.put_transfers(rt)
+    let mut listing = Listing::new(rt.alloc())?;
+    listing.put_lines(rt)
 }
 
 /// One recording.
-#[derive(Drop)]
 struct Listing {
     attribution: Attribution,
     datagrams: Vec<Passed>,
     transfers: Vec<Known>,
+}
+
+impl Drop for Listing {
+    // written out, since the prover takes a derived one apart again wherever a value is let go
+    fn drop(self) {
+        let Listing {
+            attribution: _,
+            datagrams: _,
+            transfers: _,
+        } = self;
+    }
 }
 
 /// A datagram's place and ends.
@@ -60,6 +60,24 @@ impl Listing {
             datagrams: Vec::new(alloc),
             transfers: Vec::new(alloc),
         })
+    }
+
+    /// Takes the lines on standard input, and ends the last recording.
+    fn put_lines(&mut self, rt: HostRuntime) -> Result<()> {
+        for line in BufReader::new(rt.alloc(), rt.reader())?.lines(rt.alloc()) {
+            self.put(rt, line?.as_str())?;
+        }
+        self.put_transfers(rt)
+    }
+
+    /// Takes a line: a datagram's, or an empty one, behind which the next recording begins.
+    fn put(&mut self, rt: HostRuntime, line: &str) -> Result<()> {
+        if !line.is_empty() {
+            return self.put_line(rt, line);
+        }
+        self.put_transfers(rt)?;
+        *self = Listing::new(rt.alloc())?;
+        Ok(())
     }
 
     /// Takes a datagram's line.
@@ -120,18 +138,7 @@ impl Listing {
     /// The doubts of each transfer and its views, and the end.
     fn put_transfers(&self, rt: HostRuntime) -> Result<()> {
         for known in self.transfers.iter() {
-            let transfer = &known.doubts;
-            print!(rt; "transfer {}", transfer.number())?;
-            put_doubt(rt, transfer.agrees_late(), "agrees")?;
-            put_doubt(rt, transfer.says_unknown_id(), "unknown")?;
-            put_doubt(rt, transfer.says_first_word(), "first")?;
-            put_doubt(rt, transfer.is_late(), "late")?;
-            put_doubt(rt, transfer.is_disordered(), "disordered")?;
-            put_doubt(rt, transfer.is_asked_again(), "again")?;
-            put_doubt(rt, transfer.is_answered_apart(), "apart")?;
-            put_doubt(rt, transfer.has_asked_more(), "asked")?;
-            put_doubt(rt, transfer.is_doubted(), "doubted")?;
-            println!(rt)?;
+            put_transfer(rt, &known.doubts)?;
             self.put_views(rt, &known.ends)?;
         }
         println!(rt; "end")?;
@@ -173,27 +180,64 @@ fn read_payload(alloc: Global, digits: &str) -> Result<Vec<u8>> {
     Ok(hex::decode(alloc, digits)?)
 }
 
+/// A transfer's doubts.
+fn put_transfer(rt: HostRuntime, transfer: &TransferDoubts) -> Result<()> {
+    let doubts = [
+        (transfer.agrees_late(), "agrees"),
+        (transfer.says_unknown_id(), "unknown"),
+        (transfer.says_first_word(), "first"),
+        (transfer.is_late(), "late"),
+        (transfer.is_disordered(), "disordered"),
+        (transfer.is_asked_again(), "again"),
+        (transfer.is_answered_apart(), "apart"),
+        (transfer.has_asked_more(), "asked"),
+        (transfer.is_doubted(), "doubted"),
+    ];
+    print!(rt; "transfer {}", transfer.number())?;
+    put_doubts(rt, &doubts)?;
+    println!(rt)?;
+    Ok(())
+}
+
 /// A datagram's place, and what it makes doubtful.
 fn put_found(rt: HostRuntime, found: &Attributed) -> Result<()> {
-    match &found.place {
-        Place::Opens(transfer) => print!(rt; "opens {}", transfer.number)?,
-        Place::Repeats(transfer) => print!(rt; "repeats {}", transfer.number)?,
-        Place::Talks(transfer) => print!(rt; "client {}", transfer.number)?,
-        Place::Beside(transfer) => print!(rt; "server {}", transfer.number)?,
-        Place::Apart(_) => print!(rt; "apart")?,
-        Place::Nowhere => print!(rt; "nowhere")?,
-    }
     let doubts = &found.doubts;
-    put_doubt(rt, doubts.may_be_earlier, "earlier")?;
-    put_doubt(rt, doubts.rests_on_terms, "terms")?;
-    put_doubt(rt, doubts.follows_unknown_id, "anew")?;
-    put_doubt(rt, doubts.is_late, "late")?;
-    put_doubt(rt, doubts.is_disordered, "disordered")?;
-    put_doubt(rt, doubts.is_asked_again, "again")?;
+    put_place(rt, &found.place)?;
+    put_doubts(
+        rt,
+        &[
+            (doubts.may_be_earlier, "earlier"),
+            (doubts.rests_on_terms, "terms"),
+            (doubts.follows_unknown_id, "anew"),
+            (doubts.is_late, "late"),
+            (doubts.is_disordered, "disordered"),
+            (doubts.is_asked_again, "again"),
+        ],
+    )?;
     if let Some(number) = doubts.may_be_answer_of {
         print!(rt; " answer-of {number}")?;
     }
     println!(rt)?;
+    Ok(())
+}
+
+/// A datagram's place.
+fn put_place(rt: HostRuntime, place: &Place) -> Result<()> {
+    let (word, transfer) = match place {
+        Place::Opens(transfer) => ("opens", transfer),
+        Place::Repeats(transfer) => ("repeats", transfer),
+        Place::Talks(transfer) => ("client", transfer),
+        Place::Beside(transfer) => ("server", transfer),
+        Place::Apart(_) => return put_word(rt, "apart"),
+        Place::Nowhere => return put_word(rt, "nowhere"),
+    };
+    print!(rt; "{word} {}", transfer.number)?;
+    Ok(())
+}
+
+/// A place that is no transfer's.
+fn put_word(rt: HostRuntime, word: &str) -> Result<()> {
+    print!(rt; "{word}")?;
     Ok(())
 }
 
@@ -204,9 +248,12 @@ fn put_number(rt: HostRuntime, is_there: bool, number: usize) -> Result<()> {
     Ok(())
 }
 
-fn put_doubt(rt: HostRuntime, is_there: bool, word: &str) -> Result<()> {
-    if is_there {
-        print!(rt; " {word}")?;
+/// The words of the doubts that are there, each after a space.
+fn put_doubts(rt: HostRuntime, doubts: &[(bool, &str)]) -> Result<()> {
+    for (is_there, word) in doubts {
+        if *is_there {
+            print!(rt; " {word}")?;
+        }
     }
     Ok(())
 }

@@ -14,17 +14,22 @@ const PIECE: usize = 65_536;
 /// How many datagrams come astray, at a client whose server answers from port 65535. Each pair of the input's bytes is
 /// the port at the other side of a datagram that comes in.
 pub fn count_strays<R: Read>(alloc: Global, reader: &mut R) -> io::Result<u64> {
-    let mut piece = vec![in alloc; 0u8; PIECE]?;
     let mut ports = Ports::new(alloc, End::Client, 69);
+    count_all(alloc, reader, &mut ports)
+}
+
+/// How many datagrams come astray at ports that are new.
+fn count_all<R: Read>(alloc: Global, reader: &mut R, ports: &mut Ports) -> io::Result<u64> {
+    let mut piece = vec![in alloc; 0u8; PIECE]?;
     let mut count = 0u64;
-    route(&mut ports, Dir::Out, 69, 1)?;
-    route(&mut ports, Dir::In, 65_535, 3)?;
+    route(ports, Dir::Out, 69, 1)?;
+    route(ports, Dir::In, 65_535, 3)?;
     for _ in 0..u64::MAX {
         let len = fill(reader, &mut piece)?;
         if len == 0 {
             break;
         }
-        count = count.saturating_add(count_among(&mut ports, &piece[..len])?);
+        count = count.saturating_add(count_among(ports, &piece[..len])?);
     }
     Ok(count)
 }

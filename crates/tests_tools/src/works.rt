@@ -5,7 +5,7 @@ use crate::strays::count_strays;
 use memchr::{memchr, memrchr};
 use net_streams::streams::{Latched, LineWriter};
 use net_udp::recording::{Event, Fate, RecordingReader};
-use std::alloc::Global;
+use std::alloc::{AllocError, Global};
 use std::io;
 use std::io::{ErrorKind, Read, Write};
 use tftp_capture::{CaptureReader, CaptureWriter, Datagram, Header};
@@ -48,30 +48,29 @@ pub fn work(rt: HostRuntime, word: &str) -> io::Result<()> {
         "netascii-decode" => translate(alloc, &mut reader, &mut writer, Way::Decode),
         "netascii-encode" => translate(alloc, &mut reader, &mut writer, Way::Encode),
         "copy" => translate(alloc, &mut reader, &mut writer, Way::Copy),
-        "capture" => {
-            let count = count_datagrams(alloc, reader)?;
-            println!(rt; "{count} datagrams")
-        }
-        "recording" => {
-            let count = count_recorded(alloc, reader)?;
-            println!(rt; "{count} datagrams")
-        }
         "write" => {
-            write_datagrams(rt.alloc(), &mut reader, writer)?;
+            write_datagrams(alloc, &mut reader, writer)?;
             Ok(())
         }
-        "hex" => {
-            let count = decode_digits(alloc, &mut reader)?;
-            println!(rt; "{count} fields of digits")
-        }
-        "strays" => {
-            let count = count_strays(alloc, &mut reader)?;
-            println!(rt; "{count} datagrams of strays")
-        }
         _ => {
-            let count = fill_named(alloc, &mut reader, word)?;
-            println!(rt; "{count} blocks")
+            let (count, things) = counted(alloc, reader, word);
+            println!(rt; "{} {things}", count?)
         }
+    }
+}
+
+/// How many things a work that counts has found, and what they are.
+fn counted<R: Read + Drop>(
+    alloc: Global,
+    mut reader: R,
+    word: &str,
+) -> (io::Result<u64>, &'static str) {
+    match word {
+        "capture" => (count_datagrams(alloc, reader), "datagrams"),
+        "recording" => (count_recorded(alloc, reader), "datagrams"),
+        "hex" => (decode_digits(alloc, &mut reader), "fields of digits"),
+        "strays" => (count_strays(alloc, &mut reader), "datagrams of strays"),
+        _ => (fill_named(alloc, &mut reader, word), "blocks"),
     }
 }
 
@@ -105,17 +104,28 @@ fn translate<R: Read, W: Write>(
         if count == 0 {
             break;
         }
-        let bytes = &piece[..count];
-        match way {
-            Way::Decode => decoder.feed(bytes, &mut out)?,
-            Way::Encode => out = encode(alloc, bytes)?,
-            Way::Copy => out.extend_from_slice(bytes)?,
-        }
+        turn(alloc, &piece[..count], &mut out, &mut decoder, way)?;
         writer.write_all(&out)?;
         out.clear();
     }
     decoder.finish(&mut out)?;
     writer.write_all(&out)
+}
+
+/// Appends what a piece becomes; where it is encoded, puts that in its place.
+fn turn(
+    alloc: Global,
+    piece: &[u8],
+    out: &mut Vec<u8>,
+    decoder: &mut Decoder,
+    way: Way,
+) -> Result<(), AllocError> {
+    match way {
+        Way::Decode => decoder.feed(piece, out)?,
+        Way::Encode => *out = encode(alloc, piece)?,
+        Way::Copy => out.extend_from_slice(piece)?,
+    }
+    Ok(())
 }
 
 /// How many datagrams the capture reader gives.

@@ -4,3 +4,6 @@ pub mod CopiesLemmas
 pub mod ObjectsLemmas
 pub mod SidesLemmas
 pub mod VerdictLemmas
+pub mod RecordedLemmas
+pub mod CapturesLemmas
+pub mod MatchingLemmas

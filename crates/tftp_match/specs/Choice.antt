@@ -1,7 +1,8 @@
 -- Which pair of transfers is judged: the one that is meant on each side, or else the one that alone goes together of those tried.
-use Rattle.std.specs.Prelude.{◌≡◌, ◌≤◌, ◌<◌, ℕ, Bool, List, [], ◌∷◌, Option, Some, None, IfSome, filter, length}
+use Rattle.std.specs.Prelude.{◌≡◌, ◌≤◌, ◌<◌, ℕ, Bool, List, [], ◌∷◌, Option, Some, None, filter, length}
 use Rattle.audit_recording.specs.declared.session.requests.Asked.{Asked}
-use Rattle.judge_pair.specs.MatchTexts.Said.{IsPairSaid}
+use Rattle.tftp_packet.specs.{Rollover}
+use Rattle.judge_pair.specs.MatchTexts.Said.{IsPairSaidBy}
 use Rattle.judge_pair.specs.declared.match_texts.said.PairSaid.{PairSaid}
 use Rattle.tftp_match.specs.Candidates.{ArePairs, IsOneEach}
 use Rattle.tftp_match.specs.Firsts.{is_matched}
@@ -19,26 +20,27 @@ sole (x ∷ y ∷ more) = None
 
 -- ---- what there is to say of a pair
 
--- this is said of the client's text and of the server's, as far as it is told what they are
-pub record IsSaidOf (client server : Option (List ℕ)) (s : PairSaid) : Type 0 where
+-- this is said of the client's text and of the server's, as far as it is told what they are, by what comes after block 65535
+pub record IsSaidOf (rollover : Option Rollover) (client server : Option (List ℕ)) (s : PairSaid) : Type 0 where
   pub client_left : Option (List ℕ)
   pub server_left : Option (List ℕ)
   pub client_failed : Bool
   pub server_failed : Bool
-  pub said : IsPairSaid client client_left server server_left client_failed server_failed s.client s.server s.together
+  pub said : IsPairSaidBy rollover client client_left server server_left client_failed server_failed s.client s.server s.together
 
--- of each of two captures the text of its transfer with a number, where that is told
-pub record Texts : Type 0 where
-  pub client : ℕ → Option (List ℕ)
-  pub server : ℕ → Option (List ℕ)
+-- of each of two captures which text its transfer with a number has, and what comes after block 65535
+pub record Texts : Type 1 where
+  pub rollover : Option Rollover
+  pub client : ℕ → List ℕ → Type 0
+  pub server : ℕ → List ℕ → Type 0
 
--- These texts are those of the pair with these numbers, as far as they are told, and this is said of them.
+-- These are the texts of the pair with these numbers, and this is said of them.
 pub record IsSaidOfPair (texts : Texts) (pair : ℕ × ℕ) (s : PairSaid) : Type 0 where
   pub client : List ℕ
   pub server : List ℕ
-  pub client_is : IfSome (texts.client pair.0) (λ text. client ≡ text)
-  pub server_is : IfSome (texts.server pair.1) (λ text. server ≡ text)
-  pub said : IsSaidOf (Some client) (Some server) s
+  pub client_is : texts.client pair.0 client
+  pub server_is : texts.server pair.1 server
+  pub said : IsSaidOf texts.rollover (Some client) (Some server) s
 
 -- the pair was judged
 abbrev pub IsJudged : Texts → Judged → Type 0

@@ -11,6 +11,8 @@ use Rattle.judge_pair.specs.declared.counts.packets.CountedPacket.TheVariants.{O
 use Rattle.judge_pair.specs.declared.judge.matched.Matched.{Matched}
 use Rattle.judge_pair.specs.declared.match_texts.said.PairSaid.{PairSaid}
 use Rattle.tftp_match.specs.declared.copies.Copies.{Copies}
+use Rattle.tftp_match.specs.declared.faults.MatchFault.{MatchFault}
+use Rattle.tftp_match.specs.declared.faults.MatchFault.TheVariants.{Alloc, Uncounted}
 
 -- ---- the packets, in the order in which they are told
 
@@ -62,6 +64,12 @@ told_copies true s client server = by s.together where
   by : Result Matched Apart → Option (List Copies)
   by (Ok m) = Some (all_copies client server)
   by (Err why) = None
+
+-- why they are not told: memory ran out
+abbrev pub IsCountFault : MatchFault → Type 0
+IsCountFault (Alloc e) = Unit {0}
+IsCountFault Uncounted = Unit {0}
+IsCountFault _ = ⊥
 
 -- ---- their words
 

@@ -4,13 +4,16 @@ pub mod Lines
 pub mod Choice
 pub mod Given
 pub mod Faults
-pub mod Notes
 pub mod Untaken
 pub mod Sides
 pub mod Candidates
 pub mod Copies
 pub mod Objects
 pub mod Saying
+pub mod Recorded
+pub mod Captures
+pub mod Matching
+pub mod Matches
 pub mod Worked
 pub use declared.choice.Tried.{Tried}
 pub use declared.facts.First.{First}

@@ -2,19 +2,21 @@
 use Rattle.std.specs.Prelude.{ℕ, Bool, List, Option, IfSome}
 use Rattle.std.specs.Io.KnownBytes.{Appends}
 use Rattle.tftp_packet.specs.{End, Client, Server}
+use Rattle.audit_recording.specs.declared.session.fault.TextFault.{TextFault}
 use Rattle.audit_recording.specs.declared.session.requests.Asked.{Asked}
+use Rattle.tftp_rows.specs.Faults.{IsRemarkFault}
 use Rattle.tftp_rows.specs.Remarks.{remark_text}
 use Rattle.tftp_match.specs.Candidates.{AreMeant}
 use Rattle.tftp_match.specs.Choice.{IsChoice, Texts}
 use Rattle.tftp_match.specs.Faults.{IsLack}
-use Rattle.tftp_match.specs.Untaken.{untaken_text}
+use Rattle.tftp_match.specs.Given.{lack_words}
+use Rattle.tftp_match.specs.Untaken.{Shown, untaken_text}
 use Rattle.tftp_match.specs.declared.choice.Choice.{Choice}
 use Rattle.tftp_match.specs.declared.choice.Choice.TheVariants.{Nothing, Taken}
 use Rattle.tftp_match.specs.declared.choice.Judged.{Judged}
 use Rattle.tftp_match.specs.declared.choice.Untaken.{Untaken}
-use Rattle.tftp_match.specs.declared.choosing.Side.{Side}
 use Rattle.tftp_match.specs.declared.faults.MatchFault.{MatchFault}
-use Rattle.tftp_match.specs.declared.faults.MatchFault.TheVariants.{Alloc, Memory, NoClientRecording, NoRecording, NoServerRecording, Tell}
+use Rattle.tftp_match.specs.declared.faults.MatchFault.TheVariants.{Alloc, Memory, Tell}
 use Rattle.tftp_match.specs.declared.texts.LackFault.{LackFault}
 
 -- This is what is chosen of transfers that were asked for this; these have the request of the other side.
@@ -28,30 +30,27 @@ abbrev pub IsTaken : Texts → List Asked → List Asked → Judged → Type 0
 IsTaken texts clients servers judged = (own others : List ℕ) × Chooses texts clients servers own others (Taken judged)
 
 -- none is, and that is told
-abbrev pub IsUntaken : {C S : Type 0} → Texts → Side C → Side S → List ℕ → Option (List ℕ) → Option (List ℕ) → Type 0
+abbrev pub IsUntaken : Texts → Shown → Shown → List ℕ → Option (List ℕ) → Option (List ℕ) → Type 0
 IsUntaken texts client server program before after =
-    (own others : List ℕ) × (why : Untaken) × Chooses texts client.asked.now server.asked.now own others (Nothing why)
+    (own others : List ℕ) × (why : Untaken) × Chooses texts client.asked server.asked own others (Nothing why)
     × Appends before after (untaken_text program client server own others why)
 
-abbrev pub file_at : {C S : Type 0} → End → Side C → Side S → List ℕ
-file_at Client client server = client.file.now
-file_at Server client server = server.file.now
+abbrev pub file_at : End → Shown → Shown → List ℕ
+file_at Client client server = client.file
+file_at Server client server = server.file
 
-abbrev pub lack_at : End → (ℕ → Bool) → (ℕ → Bool) → ℕ → Bool
+abbrev pub lack_at : End → (ℕ → TextFault → Type 0) → (ℕ → TextFault → Type 0) → ℕ → TextFault → Type 0
 lack_at Client client server = client
 lack_at Server client server = server
 
 -- a transfer at an end has no text, and that is told, where its words are known
-abbrev pub IsLackTold : {C S : Type 0} → (LackFault → Option (List ℕ)) → (ℕ → Bool) → (ℕ → Bool) → Side C → Side S → List ℕ → Option (List ℕ) → Option (List ℕ) → Type 0
-IsLackTold words client_lacks server_lacks client server program before after =
-    (end : End) × (number : ℕ) × (fault : LackFault) × IsLack (lack_at end client_lacks server_lacks number) fault
-    × IfSome (words fault) (λ w. Appends before after (remark_text program (file_at end client server) w))
+abbrev pub IsLackTold : (ℕ → TextFault → Type 0) → (ℕ → TextFault → Type 0) → Shown → Shown → List ℕ → Option (List ℕ) → Option (List ℕ) → Type 0
+IsLackTold client_lacks server_lacks client server program before after =
+    (end : End) × (number : ℕ) × (fault : LackFault) × IsLack (lack_at end client_lacks server_lacks number) fault × IfSome (lack_words fault) (λ w. Appends before after (remark_text program (file_at end client server) w))
 
--- memory ran out, or what there is to tell is not told
-abbrev pub IsUntold : MatchFault → Type 0
-IsUntold (Alloc e) = Unit {0}
-IsUntold Memory = Unit {0}
-IsUntold (Tell fault) = Unit {0}
-IsUntold NoRecording = ⊥
-IsUntold NoServerRecording = ⊥
-IsUntold NoClientRecording = ⊥
+-- memory ran out, or what there is to tell is not told: memory was refused for it, or a write on standard error has failed
+abbrev pub IsUntold : Bool → MatchFault → Type 0
+IsUntold unheard (Alloc e) = Unit {0}
+IsUntold unheard Memory = Unit {0}
+IsUntold unheard (Tell fault) = IsRemarkFault unheard fault
+IsUntold unheard _ = ⊥

@@ -55,8 +55,14 @@ pairs_line n (NotAlone tried) = count_line n tried.items
 
 -- ---- of one of two captures
 
-abbrev pub option_of : {T : Type 0} → Side T → Option (List ℕ)
-option_of s = option_map (λ o. o.now) s.option
+-- the file's name, the option that names a transfer, if it is a recording, and what its transfers were asked for
+pub record Shown : Type 0 where
+  pub file : List ℕ
+  pub option : Option (List ℕ)
+  pub asked : List Asked
+
+abbrev pub shown : {T : Type 0} → Side T → Shown
+shown s = record { file = s.file.now; option = option_map (λ o. o.now) s.option; asked = s.asked.now }
 
 abbrev pub apart_line : Bool → List ℕ → Option (List ℕ)
 apart_line has_none other = if has_none then None else Some (codes "no transfer has the request of " ++ other)
@@ -83,19 +89,19 @@ abbrev pub goes_on : Option (List ℕ) → List ℕ → Bool
 goes_on None meant = true
 goes_on (Some option) meant = not (is_nil meant)
 
-abbrev pub numbered_of : {C S : Type 0} → Side C → Side S → Numbered
+abbrev pub numbered_of : Shown → Shown → Numbered
 numbered_of client server = record { client = is_some client.option; server = is_some server.option }
 
 -- of the pairs, in a line behind both files
-abbrev pub pairs_text : {C S : Type 0} → List ℕ → Side C → Side S → Untaken → List ℕ
-pairs_text program client server why = line_text program (client.file.now ++ codes ", " ++ server.file.now) (pairs_line (numbered_of client server) why)
+abbrev pub pairs_text : List ℕ → Shown → Shown → Untaken → List ℕ
+pairs_text program client server why = line_text program (client.file ++ codes ", " ++ server.file) (pairs_line (numbered_of client server) why)
 
 -- of one of two captures, of whose transfers these have the request of the other, which has this name
-abbrev pub side_text : {T : Type 0} → List ℕ → Side T → List ℕ → List ℕ → List ℕ
-side_text program side other meant = line_text program side.file.now (side_line (option_of side) side.asked.now other meant)
+abbrev pub side_text : List ℕ → Shown → List ℕ → List ℕ → List ℕ
+side_text program side other meant = line_text program side.file (side_line side.option side.asked other meant)
 
 -- Of the pairs; of the client's capture; and of the server's.
-abbrev pub untaken_text : {C S : Type 0} → List ℕ → Side C → Side S → List ℕ → List ℕ → Untaken → List ℕ
+abbrev pub untaken_text : List ℕ → Shown → Shown → List ℕ → List ℕ → Untaken → List ℕ
 untaken_text program client server own others why =
-    pairs_text program client server why ++ side_text program client server.file.now own
-    ++ (if goes_on (option_of client) own then side_text program server client.file.now others else [])
+    pairs_text program client server why ++ side_text program client server.file own
+    ++ (if goes_on client.option own then side_text program server client.file others else [])

@@ -12,6 +12,7 @@ use crate::texts::{LackFault, Texts, said_of};
 use audit_recording::session::Asked;
 use std::alloc::{AllocError, Global};
 use tftp_packet::End;
+use tftp_packet::rounds::Rollover;
 use thiserror::Error;
 
 /// So many pairs of transfers with the same request are tried at most.
@@ -44,40 +45,42 @@ pub enum ChoiceFault {
     Memory,
 }
 
-/// The pair of transfers that is judged of two captures, in which these are meant; or why none is.
+/// The pair of transfers that is judged of two captures, in which these are meant, by what comes after block 65535; or why none is.
 pub fn choose<C: Texts, S: Texts>(
     alloc: Global,
+    rollover: Option<Rollover>,
     client: &Side<'_, C>,
     server: &Side<'_, S>,
     meant: &Candidates,
 ) -> Result<Choice, ChoiceFault>
-    ensures choice { IfOk result (IsChoice (texts_of (C.text_of client.now.texts.now) (S.text_of server.now.texts.now)) client.now.asked.now server.now.asked.now meant.now.clients.items meant.now.servers.items) }
-    ensures fault { IfErr result (IsUnchosen (C.may_lack client.now.texts.now) (S.may_lack server.now.texts.now)) }
+    ensures choice { IfOk result (IsChoice (texts_of rollover (C.is_text client.now.texts.now) (S.is_text server.now.texts.now)) client.now.asked.now server.now.asked.now meant.now.clients.items meant.now.servers.items) }
+    ensures fault { IfErr result (IsUnchosen (C.is_lack client.now.texts.now) (S.is_lack server.now.texts.now)) }
 {
     match meant.sole_pair() {
-        Some(pair) => Ok(Choice::Taken(judge(alloc, client, server, pair)?)),
-        None => choose_of_pairs(alloc, client, server),
+        Some(pair) => Ok(Choice::Taken(judge(alloc, rollover, client, server, pair)?)),
+        None => choose_of_pairs(alloc, rollover, client, server),
     }
 }
 
 /// The pair with one request that alone goes together; or why there is none.
 fn choose_of_pairs<C: Texts, S: Texts>(
     alloc: Global,
+    rollover: Option<Rollover>,
     client: &Side<'_, C>,
     server: &Side<'_, S>,
 ) -> Result<Choice, ChoiceFault>
-    ensures choice { IfOk result (IsOfPairs (texts_of (C.text_of client.now.texts.now) (S.text_of server.now.texts.now)) client.now.asked.now server.now.asked.now) }
-    ensures fault { IfErr result (IsUnchosen (C.may_lack client.now.texts.now) (S.may_lack server.now.texts.now)) }
+    ensures choice { IfOk result (IsOfPairs (texts_of rollover (C.is_text client.now.texts.now) (S.is_text server.now.texts.now)) client.now.asked.now server.now.asked.now) }
+    ensures fault { IfErr result (IsUnchosen (C.is_lack client.now.texts.now) (S.is_lack server.now.texts.now)) }
 {
     let pairs = paired(alloc, client.asked, server.asked)?;
     if pairs.len() > MOST_PAIRS {
         return Ok(Choice::Nothing(Untaken::TooMany(pairs.len())));
     }
-    let tried = try_pairs(alloc, client, server, pairs.as_slice())?;
+    let tried = try_pairs(alloc, rollover, client, server, pairs.as_slice())?;
     match chosen(tried.as_slice()) {
         Some(pair) => {
             let numbers = (pair.client, pair.server);
-            Ok(Choice::Taken(judge(alloc, client, server, numbers)?))
+            Ok(Choice::Taken(judge(alloc, rollover, client, server, numbers)?))
         }
         None => Ok(Choice::Nothing(Untaken::NotAlone(tried))),
     }
@@ -101,17 +104,18 @@ fn paired(
 /// Each of these pairs, judged.
 fn try_pairs<C: Texts, S: Texts>(
     alloc: Global,
+    rollover: Option<Rollover>,
     client: &Side<'_, C>,
     server: &Side<'_, S>,
     pairs: &[(u64, u64)],
 ) -> Result<Vec<Tried>, ChoiceFault>
     requires few { length pairs.now ≤ most_pairs }
-    ensures tried { IfOk result (λ tried. AreTried (texts_of (C.text_of client.now.texts.now) (S.text_of server.now.texts.now)) pairs.now tried.items) }
-    ensures fault { IfErr result (IsUnchosen (C.may_lack client.now.texts.now) (S.may_lack server.now.texts.now)) }
+    ensures tried { IfOk result (λ tried. AreTried (texts_of rollover (C.is_text client.now.texts.now) (S.is_text server.now.texts.now)) pairs.now tried.items) }
+    ensures fault { IfErr result (IsUnchosen (C.is_lack client.now.texts.now) (S.is_lack server.now.texts.now)) }
 {
     let mut tried = Vec::new(alloc);
     for pair in pairs {
-        let one = try_pair(alloc, client, server, *pair)?;
+        let one = try_pair(alloc, rollover, client, server, *pair)?;
         add(&mut tried, one)?;
     }
     Ok(tried)
@@ -131,14 +135,15 @@ fn add(tried: &mut Vec<Tried>, one: Tried) -> Result<(), ChoiceFault>
 /// This pair, judged.
 fn try_pair<C: Texts, S: Texts>(
     alloc: Global,
+    rollover: Option<Rollover>,
     client: &Side<'_, C>,
     server: &Side<'_, S>,
     pair: (u64, u64),
 ) -> Result<Tried, ChoiceFault>
-    ensures tried { IfOk result (IsTried (texts_of (C.text_of client.now.texts.now) (S.text_of server.now.texts.now)) pair) }
-    ensures fault { IfErr result (IsUnjudged (C.may_lack client.now.texts.now) (S.may_lack server.now.texts.now) pair) }
+    ensures tried { IfOk result (IsTried (texts_of rollover (C.is_text client.now.texts.now) (S.is_text server.now.texts.now)) pair) }
+    ensures fault { IfErr result (IsUnjudged (C.is_lack client.now.texts.now) (S.is_lack server.now.texts.now) pair) }
 {
-    let judged = judge(alloc, client, server, pair)?;
+    let judged = judge(alloc, rollover, client, server, pair)?;
     match Tried::of(&judged) {
         Some(tried) => Ok(tried),
         None => Err(ChoiceFault::Memory),
@@ -148,13 +153,14 @@ fn try_pair<C: Texts, S: Texts>(
 /// What there is to say of the texts of a pair.
 fn judge<C: Texts, S: Texts>(
     alloc: Global,
+    rollover: Option<Rollover>,
     client: &Side<'_, C>,
     server: &Side<'_, S>,
     pair: (u64, u64),
 ) -> Result<Judged, ChoiceFault>
     ensures numbers { IfOk result (λ judged. (judged.client, judged.server) ≡ pair) }
-    ensures judged { IfOk result (IsJudged (texts_of (C.text_of client.now.texts.now) (S.text_of server.now.texts.now))) }
-    ensures fault { IfErr result (IsUnjudged (C.may_lack client.now.texts.now) (S.may_lack server.now.texts.now) pair) }
+    ensures judged { IfOk result (IsJudged (texts_of rollover (C.is_text client.now.texts.now) (S.is_text server.now.texts.now))) }
+    ensures fault { IfErr result (IsUnjudged (C.is_lack client.now.texts.now) (S.is_lack server.now.texts.now) pair) }
 {
     let (one, other) = pair;
     let text = match client.texts.text(alloc, one) {
@@ -168,6 +174,6 @@ fn judge<C: Texts, S: Texts>(
     Ok(Judged {
         client: one,
         server: other,
-        said: said_of(alloc, text.as_slice(), other_text.as_slice()),
+        said: said_of(alloc, rollover, text.as_slice(), other_text.as_slice()),
     })
 }

@@ -1,11 +1,11 @@
 //! How often each packet was sent and taken.
 
-ghost use Rattle.std.specs.Prelude.{◌≡◌, ◌++◌, ◌∷◌, [], List, IfOk, OnOk, option_map};
+ghost use Rattle.std.specs.Prelude.{◌≡◌, ◌++◌, ◌∷◌, [], List, IfErr, IfOk, OnOk, option_map};
 ghost use Rattle.tftp_packet.specs.Hosts.{Datagram};
 ghost use Rattle.judge_pair.specs.Counts.{IsCountOf};
-ghost use Rattle.tftp_match.specs.Copies.{HavePassed, all_copies, block_of, blocks, kind_word, passed_copies, sender_word, told_copies, packets_to};
+ghost use Rattle.tftp_match.specs.Copies.{HavePassed, IsCountFault, all_copies, block_of, blocks, kind_word, passed_copies, sender_word, told_copies, packets_to};
 
-use anyhow::{Result as Outcome, bail};
+use crate::faults::MatchFault;
 use judge_pair::counts::{CountedPacket, Counts};
 use judge_pair::match_texts::PairSaid;
 use std::alloc::{AllocError, Global};
@@ -76,8 +76,13 @@ impl fmt::Display for Copies {
 }
 
 /// How often each packet was sent and taken, where that is wanted and it is told how far the captures go together.
-pub fn copies_of(alloc: Global, said: &PairSaid, is_wanted: bool) -> Outcome<Option<Vec<Copies>>>
-    ensures { (client server : List Datagram) → HavePassed said.now client server → IfOk result (λ copies. option_map (λ all. all.items) copies ≡ told_copies is_wanted said.now client server) }
+pub fn copies_of(
+    alloc: Global,
+    said: &PairSaid,
+    is_wanted: bool,
+) -> Result<Option<Vec<Copies>>, MatchFault>
+    ensures copies { (client server : List Datagram) → HavePassed said.now client server → IfOk result (λ copies. option_map (λ all. all.items) copies ≡ told_copies is_wanted said.now client server) }
+    ensures fault { IfErr result IsCountFault }
 {
     let Ok(matched) = &said.together else {
         return Ok(None);
@@ -87,7 +92,7 @@ pub fn copies_of(alloc: Global, said: &PairSaid, is_wanted: bool) -> Outcome<Opt
     }
     match (&matched.client_counts, &matched.server_counts) {
         (Some(client), Some(server)) => Ok(Some(copies_in(alloc, client, server)?)),
-        _ => bail!("the packets are not counted: out of memory"),
+        _ => Err(MatchFault::Uncounted),
     }
 }
 

@@ -1,9 +1,7 @@
 //! Why two captures are not judged.
 
-use audit_recording::session::{ReadFault, TextFault};
 use std::alloc::AllocError;
-use std::io;
-use tftp_capture::CaptureFault;
+use std::convert::From;
 use tftp_rows::TellFault;
 use thiserror::Error;
 
@@ -12,13 +10,19 @@ use thiserror::Error;
 pub enum MatchFault {
     /// Memory was refused.
     #[error(transparent)]
-    Alloc(#[from(alloc)] AllocError),
+    Alloc(AllocError),
     /// Memory ran out while captures were judged.
     #[error("out of memory")]
     Memory,
     /// What there is to tell on standard error is not told.
     #[error(transparent)]
-    Tell(#[from] TellFault),
+    Tell(TellFault),
+    /// The packets are not counted, for want of memory.
+    #[error("the packets are not counted: out of memory")]
+    Uncounted,
+    /// What there is to say is not written.
+    #[error("standard output: a write failed")]
+    Output,
     /// A transfer is named of two texts.
     #[error("a transfer is named, and there is no recording")]
     NoRecording,
@@ -30,22 +34,24 @@ pub enum MatchFault {
     NoClientRecording,
 }
 
-/// Why a capture is not read.
-#[derive(Debug, Drop, Error)]
-pub enum SourceFault {
-    /// Memory was refused.
-    #[error(transparent)]
-    Alloc(#[from(alloc)] AllocError),
-    /// A read failed.
-    #[error(transparent)]
-    Input(#[from] io::Error),
-    /// The recording is not read.
-    #[error(transparent)]
-    Recording(#[from] ReadFault),
-    /// The capture text has a fault before its first datagram's end.
-    #[error(transparent)]
-    Text(#[from] CaptureFault),
-    /// The recording has no such transfer.
-    #[error(transparent)]
-    Transfer(#[from] TextFault),
+impl From<AllocError> for MatchFault {
+    ghost use Rattle.std.specs.Prelude.{◌≡◌};
+    ghost use Rattle.tftp_match.specs.declared.faults.MatchFault.{MatchFault};
+
+    ghost from_gives = { λ error fault. fault ≡ MatchFault.Alloc error };
+
+    fn from(error: AllocError) -> Self {
+        MatchFault::Alloc(error)
+    }
+}
+
+impl From<TellFault> for MatchFault {
+    ghost use Rattle.std.specs.Prelude.{◌≡◌};
+    ghost use Rattle.tftp_match.specs.declared.faults.MatchFault.{MatchFault};
+
+    ghost from_gives = { λ error fault. fault ≡ MatchFault.Tell error };
+
+    fn from(error: TellFault) -> Self {
+        MatchFault::Tell(error)
+    }
 }

@@ -1,9 +1,11 @@
 //! A capture text in memory.
 
-ghost use Rattle.std.specs.Prelude.{Some, false};
+ghost use Rattle.std.specs.Prelude.{◌≡◌, IfOk, IfSome, true};
+ghost use Rattle.tftp_match.specs.Captures.{IsFirstPayload};
 
-use crate::faults::SourceFault;
 use crate::texts::{LackFault, Text, Texts};
+use anyhow::Result;
+use audit_recording::session::Asked;
 use net_streams::streams::Latched;
 use std::alloc::Global;
 use std::io::Read;
@@ -13,33 +15,56 @@ use tftp_capture::{CaptureReader, Datagram};
 #[derive(Drop)]
 pub struct Held {
     bytes: Vec<u8>,
+    /// The payload of its first datagram, where that was wanted; without one nothing.
+    request: Vec<u8>,
 }
 
 impl Held {
-    /// All that a reader gives.
-    pub fn read<R: Read + Drop>(alloc: Global, mut reader: R) -> Result<Self, SourceFault> {
+    /// All that a reader gives, and the payload of its first datagram, where that is wanted.
+    pub fn read<R: Read + Drop>(alloc: Global, mut reader: R, wants_request: bool) -> Result<Self>
+        ensures bytes { IfOk result (λ held. IfSome (R.Read.remaining reader) (λ text. held.bytes.items ≡ text)) }
+        ensures request { wants_request ≡ true → IfOk result (λ held. IsFirstPayload held.bytes.items held.request.items) }
+    {
         let mut bytes = Vec::new(alloc);
         reader.read_to_end(&mut bytes)?;
-        Ok(Held { bytes })
+        let request = if wants_request {
+            first_payload(alloc, bytes.as_slice())?
+        } else {
+            Vec::new(alloc)
+        };
+        Ok(Held { bytes, request })
     }
 
-    /// The payload of its first datagram; without one an empty one.
-    pub fn first_payload(&self, alloc: Global) -> Result<Vec<u8>, SourceFault> {
-        let mut reader = Latched::new(self.bytes.as_slice());
-        let mut capture = CaptureReader::begin(alloc, &mut reader)?;
-        let mut datagram = Datagram::empty(alloc);
-        if capture.next_into(&mut reader, &mut datagram)? {
-            Ok(datagram.payload.into_vec())
-        } else {
-            Ok(Vec::new(alloc))
+    /// What its one transfer was asked for.
+    pub fn asked(&self) -> Asked<'_>
+        ensures number { result.number ≡ 1 }
+        ensures payload { result.payload.now ≡ self.now.request.items }
+    {
+        Asked {
+            number: 1,
+            payload: self.request.as_slice(),
         }
     }
 }
 
-impl Texts for Held {
-    ghost text_of = { λ t _. Some t.bytes.items };
+/// The payload of a text's first datagram; without one nothing.
+fn first_payload(alloc: Global, text: &[u8]) -> Result<Vec<u8>>
+    ensures { IfOk result (λ payload. IsFirstPayload text.now payload.items) }
+{
+    let mut reader = Latched::new(text);
+    let mut capture = CaptureReader::begin(alloc, &mut reader)?;
+    let mut datagram = Datagram::empty(alloc);
+    if capture.next_into(&mut reader, &mut datagram)? {
+        Ok(datagram.payload.into_vec())
+    } else {
+        Ok(Vec::new(alloc))
+    }
+}
 
-    ghost may_lack = { λ _ _. false };
+impl Texts for Held {
+    ghost is_text = { λ t _ bytes. bytes ≡ t.bytes.items };
+
+    ghost is_lack = { λ _ _ _. ⊥ };
 
     // it has one alone
     fn text(&self, _alloc: Global, _number: u64) -> Result<Text<'_>, LackFault> {

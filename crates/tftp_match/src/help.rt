@@ -29,6 +29,14 @@ fn counts<'a>(alloc: Global) -> Arg<'a> {
         .help("How often each packet was sent at one end and taken at the other")
 }
 
+fn rollover<'a>(alloc: Global) -> Arg<'a> {
+    Arg::new(alloc, "rollover")
+        .long("rollover")
+        .value_name("N")
+        .value_parser(value_parser!(u64).range(..=1))
+        .help("The block number that comes after 65535, where numbers begin again: 0 or 1")
+}
+
 /// A capture.
 fn capture<'a>(alloc: Global, name: &'a str, value: &'a str, help: &'a str) -> Arg<'a> {
     Arg::new(alloc, name)
@@ -46,6 +54,7 @@ pub fn command_line<'a>(alloc: Global) -> Result<Command<'a>, AllocError> {
         .arg(transfer(alloc, "transfer", TRANSFER))?
         .arg(transfer(alloc, "server-transfer", SERVER_TRANSFER))?
         .arg(args::service(alloc))?
+        .arg(rollover(alloc))?
         .arg(counts(alloc))?
         .arg(args::json(alloc, "One JSON object"))?
         .arg(capture(alloc, "client", "CLIENT", "The capture at the client"))?

@@ -1,19 +1,33 @@
 //! The captures are read, their transfers found, and both judged.
 
+ghost use Rattle.std.specs.Prelude.{◌≡◌, ◌⊎◌, [], ℕ, List, IfErr, IfNone, IfOk, IfSome, None, Ok, OnOk, Some, false, if◌then◌else◌, option_map, true};
+ghost use Rattle.std.specs.Io.KnownBytes.{Appends};
+ghost use Rattle.std.specs.Option.{option_or};
+ghost use Rattle.net_udp.specs.Recording.{Step};
+ghost use Rattle.audit_recording.specs.Blame.Frames.{Carried, whole_of};
+ghost use Rattle.audit_recording.specs.Session.Kept.{IsSessionOf};
+ghost use Rattle.audit_recording.specs.Session.Noted.{Noticed};
+ghost use Rattle.audit_recording.specs.Session.Texts.{opened_count};
+ghost use Rattle.tftp_rows.specs.Remarks.{remarks_text, rest_lines};
+ghost use Rattle.tftp_rows.specs.Faults.{IsRemarkFault};
+ghost use Rattle.tftp_match.specs.Captures.{IsCaptureOf, IsFirstPayload, IsNoted, capture_of, whole_left};
+ghost use Rattle.tftp_match.specs.Captures.Capture.{Recording, Text as TextCapture};
+ghost use Rattle.tftp_match.specs.Matching.{IsMisnamed, IsSaidOfBoth, IsSaidOfFiles, IsTakenAs, IsTakenOf, IsTold, IsToldOfBoth, IsToldOfFiles, IsUnknown, IsUnsaidOfFiles, IsUntakenOf, is_alone};
+ghost use Rattle.tftp_match.specs.Recorded.{AreRecordedRequests};
+ghost use Rattle.tftp_match.specs.Sides.{IsUntold};
+
 use crate::choice::Judged;
 use crate::choosing::Side;
 use crate::faults::MatchFault;
 use crate::held::Held;
-use crate::notes::tell_notes;
-use crate::recorded::Recorded;
+use crate::recorded::{Recorded, asked_in};
 use crate::sides::judge_sides;
 use crate::source::{Source, Whole};
-use crate::texts::{Texts, said_of};
+use crate::texts::{LackFault, said_of};
 use crate::words::Request;
 use audit_recording::session::{Asked, Session};
 use judge_pair::match_texts::PairSaid;
 use std::alloc::Global;
-use std::fmt::Display;
 use std::io::{Read, Write};
 use tftp_packet::End;
 use tftp_rows::{Remarks, TellFault};
@@ -32,48 +46,95 @@ pub struct Matching {
     pub server: Option<u64>,
 }
 
-/// What there is to say of two captures; none where one can't be judged, which is told.
+/// What there is to say of the captures that two readers give; none where one can't be judged, which is told.
 pub fn judge_captures<R: Read + Drop, S: Read + Drop, E: Write + Drop>(
     alloc: Global,
     request: &Request<'_>,
     client: R,
     server: S,
     remarks: &mut Remarks<'_, E>,
-) -> Result<Option<Matching>, MatchFault> {
+) -> Result<Option<Matching>, MatchFault>
+    ensures said { IfOk result (λ found. IfSome found (IsSaidOfFiles request.now remarks.old.program.now (R.Read.remaining client) (S.Read.remaining server) (E.Write.contents remarks.old.errors.0) (E.Write.contents remarks.new.errors.0))) }
+    ensures told { IfOk result (λ found. IfNone found (IsToldOfFiles request.now remarks.old.program.now (R.Read.remaining client) (S.Read.remaining server) (E.Write.contents remarks.old.errors.0) (E.Write.contents remarks.new.errors.0))) }
+    ensures fault { IfErr result (IsUnsaidOfFiles request.now (R.Read.remaining client) (S.Read.remaining server) remarks.new.errors.1) }
+    ensures same { remarks.new ≡ record remarks.old { errors = remarks.new.errors } }
+{
     let Some(client) = begun(alloc, request, request.client, client, remarks)? else {
         return Ok(None);
     };
     let Some(server) = begun(alloc, request, request.server, server, remarks)? else {
         return Ok(None);
     };
-    match client {
-        Source::Text(client) => beside_text(alloc, request, client, server, remarks),
-        Source::Recording(client) => beside_recording(alloc, request, &client, server, remarks),
-    }
+    judge_read(alloc, request, client, server, remarks)
 }
 
-/// What a capture is, whose recording is read; none where it is not read, which is told.
+/// The capture of a file, and a recording is read and told of; none where it is not read, which is told.
 fn begun<R: Read + Drop, E: Write + Drop>(
     alloc: Global,
     request: &Request<'_>,
     file: &str,
     reader: R,
     remarks: &mut Remarks<'_, E>,
-) -> Result<Option<Source<R>>, MatchFault> {
-    let services = request.services.as_slice();
-    let source = told(remarks, file, Source::begin(alloc, services, reader))?;
-    if let Some(Source::Recording(session)) = &source {
-        tell_notes(alloc, file, &session.notes, session.count() == 0, remarks)?;
+) -> Result<Option<Source<R>>, MatchFault>
+    ensures begun { IfOk result (λ found. IfSome found (λ source. IsCaptureOf request.now.services.items (R.Read.remaining reader) (capture_of R.Read.remaining source)
+        × IsNoted remarks.old.program.now file.now request.now.services.items (capture_of R.Read.remaining source) (E.Write.contents remarks.old.errors.0) (E.Write.contents remarks.new.errors.0))) }
+    ensures unread { IfOk result (λ found. IfNone found (IsTold remarks.old.program.now file.now (E.Write.contents remarks.old.errors.0) (E.Write.contents remarks.new.errors.0))) }
+    ensures fault { IfErr result (IsUntold remarks.new.errors.1) }
+    ensures same { remarks.new ≡ record remarks.old { errors = remarks.new.errors } }
+{
+    let source = Source::begin(alloc, request.services.as_slice(), reader);
+    let Some(source) = told(remarks, file, source)? else {
+        return Ok(None);
+    };
+    tell_of(alloc, file, &source, remarks)?;
+    Ok(Some(source))
+}
+
+/// Tells what there is to tell of a recording as a whole, and of a text nothing.
+fn tell_of<R: Read + Drop, E: Write + Drop>(
+    alloc: Global,
+    file: &str,
+    source: &Source<R>,
+    remarks: &mut Remarks<'_, E>,
+) -> Result<(), MatchFault>
+    ensures noted { (named : List ℕ) → OnOk result (IsNoted remarks.old.program.now file.now named (capture_of R.Read.remaining source.now) (E.Write.contents remarks.old.errors.0) (E.Write.contents remarks.new.errors.0)) }
+    ensures fault { IfErr result (IsUntold remarks.new.errors.1) }
+    ensures same { remarks.new ≡ record remarks.old { errors = remarks.new.errors } }
+{
+    match source {
+        Source::Text(_) => Ok(()),
+        Source::Recording(session) => tell_recording(alloc, file, session, remarks),
     }
-    Ok(source)
+}
+
+/// Tells what there is to tell of a recording as a whole.
+fn tell_recording<E: Write + Drop>(
+    alloc: Global,
+    file: &str,
+    session: &Session,
+    remarks: &mut Remarks<'_, E>,
+) -> Result<(), MatchFault>
+    ensures noted { (named : List ℕ) (history : List Step) (carried : List Carried) (s : Noticed) → IsSessionOf session.now named [] history carried s
+        → OnOk result (Appends (E.Write.contents remarks.old.errors.0) (E.Write.contents remarks.new.errors.0) (remarks_text remarks.old.program.now file.now (rest_lines session.now.notes s (opened_count (whole_of named carried))))) }
+    ensures fault { IfErr result (IsUntold remarks.new.errors.1) }
+    ensures same { remarks.new ≡ record remarks.old { errors = remarks.new.errors } }
+{
+    let transfers = session.transfers(alloc)?;
+    remarks.tell_rest(alloc, file, &session.notes, transfers.len() as u64)?;
+    Ok(())
 }
 
 /// What a result has; none where that is a fault, which is told of the file.
-fn told<T, F: Display + Drop, E: Write + Drop>(
+pub fn told<T, E: Write + Drop>(
     remarks: &mut Remarks<'_, E>,
     file: &str,
-    outcome: Result<T, F>,
-) -> Result<Option<T>, TellFault> {
+    outcome: anyhow::Result<T>,
+) -> Result<Option<T>, TellFault>
+    ensures some { (value : T) → outcome ≡ Ok value → (result ≡ Ok (Some value)) × (remarks.new ≡ remarks.old) }
+    ensures none { IfErr outcome (λ fault. IfOk result (λ found. (found ≡ None) × IsTold remarks.old.program.now file.now (E.Write.contents remarks.old.errors.0) (E.Write.contents remarks.new.errors.0))) }
+    ensures fault { IfErr result (IsRemarkFault remarks.new.errors.1) }
+    ensures same { remarks.new ≡ record remarks.old { errors = remarks.new.errors } }
+{
     match outcome {
         Ok(value) => Ok(Some(value)),
         Err(fault) => {
@@ -83,232 +144,335 @@ fn told<T, F: Display + Drop, E: Write + Drop>(
     }
 }
 
+/// What there is to say of two captures that were read as far as it is told of them.
+fn judge_read<R: Read + Drop, S: Read + Drop, E: Write + Drop>(
+    alloc: Global,
+    request: &Request<'_>,
+    client: Source<R>,
+    server: Source<S>,
+    remarks: &mut Remarks<'_, E>,
+) -> Result<Option<Matching>, MatchFault>
+    ensures said { IfOk result (λ found. IfSome found (λ m. IsSaidOfBoth request.now (capture_of R.Read.remaining client) (capture_of S.Read.remaining server) m × (remarks.new ≡ remarks.old))) }
+    ensures told { IfOk result (λ found. IfNone found (IsToldOfBoth request.now (capture_of R.Read.remaining client) (capture_of S.Read.remaining server) remarks.old.program.now (E.Write.contents remarks.old.errors.0) (E.Write.contents remarks.new.errors.0))) }
+    ensures fault { IfErr result (λ fault. IsUntold remarks.new.errors.1 fault ⊎ IsMisnamed request.now (capture_of R.Read.remaining client) (capture_of S.Read.remaining server) fault) }
+    ensures same { remarks.new ≡ record remarks.old { errors = remarks.new.errors } }
+{
+    match client {
+        Source::Text(client) => beside_text(alloc, request, client, server, remarks),
+        Source::Recording(client) => beside_recording(alloc, request, &client, server, remarks),
+    }
+}
+
+/// The same beside a text of the client.
 fn beside_text<R: Read + Drop, S: Read + Drop, E: Write + Drop>(
     alloc: Global,
     request: &Request<'_>,
     client: Whole<R>,
     server: Source<S>,
     remarks: &mut Remarks<'_, E>,
-) -> Result<Option<Matching>, MatchFault> {
+) -> Result<Option<Matching>, MatchFault>
+    ensures said { IfOk result (λ found. IfSome found (λ m. IsSaidOfBoth request.now (TextCapture (whole_left R.Read.remaining client)) (capture_of S.Read.remaining server) m × (remarks.new ≡ remarks.old))) }
+    ensures told { IfOk result (λ found. IfNone found (IsToldOfBoth request.now (TextCapture (whole_left R.Read.remaining client)) (capture_of S.Read.remaining server) remarks.old.program.now (E.Write.contents remarks.old.errors.0) (E.Write.contents remarks.new.errors.0))) }
+    ensures fault { IfErr result (λ fault. IsUntold remarks.new.errors.1 fault ⊎ IsMisnamed request.now (TextCapture (whole_left R.Read.remaining client)) (capture_of S.Read.remaining server) fault) }
+    ensures same { remarks.new ≡ record remarks.old { errors = remarks.new.errors } }
+{
     match server {
-        Source::Text(server) => texts(alloc, request, client, server),
-        Source::Recording(server) => recorded_server(alloc, request, client, &server, remarks),
+        Source::Text(server) => Ok(Some(texts(alloc, request, client, server)?)),
+        Source::Recording(server) => {
+            let judged = recorded_server(alloc, request, client, &server, remarks)?;
+            Ok(numbered(judged, false, true))
+        }
     }
 }
 
+/// The same beside a recording of the client.
 fn beside_recording<S: Read + Drop, E: Write + Drop>(
     alloc: Global,
     request: &Request<'_>,
     client: &Session,
     server: Source<S>,
     remarks: &mut Remarks<'_, E>,
-) -> Result<Option<Matching>, MatchFault> {
+) -> Result<Option<Matching>, MatchFault>
+    ensures said { IfOk result (λ found. IfSome found (λ m. IsSaidOfBoth request.now (Recording client.now) (capture_of S.Read.remaining server) m × (remarks.new ≡ remarks.old))) }
+    ensures told { IfOk result (λ found. IfNone found (IsToldOfBoth request.now (Recording client.now) (capture_of S.Read.remaining server) remarks.old.program.now (E.Write.contents remarks.old.errors.0) (E.Write.contents remarks.new.errors.0))) }
+    ensures fault { IfErr result (λ fault. IsUntold remarks.new.errors.1 fault ⊎ IsMisnamed request.now (Recording client.now) (capture_of S.Read.remaining server) fault) }
+    ensures same { remarks.new ≡ record remarks.old { errors = remarks.new.errors } }
+{
     match server {
-        Source::Text(server) => recorded_client(alloc, request, client, server, remarks),
-        Source::Recording(server) => recordings(alloc, request, client, &server, remarks),
+        Source::Text(server) => {
+            let judged = recorded_client(alloc, request, client, server, remarks)?;
+            Ok(numbered(judged, true, false))
+        }
+        Source::Recording(server) => {
+            let judged = recordings(alloc, request, client, &server, remarks)?;
+            Ok(numbered(judged, true, true))
+        }
     }
 }
 
+/// What was found, with the numbers of the transfers in those captures that are recordings.
+fn numbered(found: Option<Judged>, has_client: bool, has_server: bool) -> Option<Matching>
+    ensures { result ≡ option_map (λ judged. record { said = judged.said; client = if has_client then Some judged.client else None; server = if has_server then Some judged.server else None }) found }
+{
+    let Judged {
+        client,
+        server,
+        said,
+    } = found?;
+    Some(Matching {
+        said,
+        client: if has_client { Some(client) } else { None },
+        server: if has_server { Some(server) } else { None },
+    })
+}
+
+/// Two texts, of which no transfer can be named.
 fn texts<R: Read + Drop, S: Read + Drop>(
     alloc: Global,
     request: &Request<'_>,
     client: Whole<R>,
     server: Whole<S>,
-) -> Result<Option<Matching>, MatchFault> {
+) -> Result<Matching, MatchFault>
+    ensures said { IfOk result (IsSaidOfBoth request.now (TextCapture (whole_left R.Read.remaining client)) (TextCapture (whole_left S.Read.remaining server))) }
+    ensures fault { IfErr result (IsMisnamed request.now (TextCapture (whole_left R.Read.remaining client)) (TextCapture (whole_left S.Read.remaining server))) }
+{
     if request.transfer.is_some() || request.server_transfer.is_some() {
         return Err(MatchFault::NoRecording);
     }
-    Ok(Some(Matching {
-        said: said_of(alloc, client, server),
+    Ok(Matching {
+        said: said_of(alloc, request.rollover, client, server),
         client: None,
         server: None,
-    }))
+    })
 }
 
+/// A recording of the client and a text of the server.
 fn recorded_client<S: Read + Drop, E: Write + Drop>(
     alloc: Global,
     request: &Request<'_>,
     client: &Session,
     server: Whole<S>,
     remarks: &mut Remarks<'_, E>,
-) -> Result<Option<Matching>, MatchFault> {
+) -> Result<Option<Judged>, MatchFault>
+    ensures taken { IfOk result (λ found. IfSome found (λ judged. IsTakenAs request.now (Recording client.now) (TextCapture (whole_left S.Read.remaining server)) judged × (remarks.new ≡ remarks.old))) }
+    ensures told { IfOk result (λ found. IfNone found (IsToldOfBoth request.now (Recording client.now) (TextCapture (whole_left S.Read.remaining server)) remarks.old.program.now (E.Write.contents remarks.old.errors.0) (E.Write.contents remarks.new.errors.0))) }
+    ensures fault { IfErr result (λ fault. IsUntold remarks.new.errors.1 fault ⊎ IsMisnamed request.now (Recording client.now) (TextCapture (whole_left S.Read.remaining server)) fault) }
+    ensures same { remarks.new ≡ record remarks.old { errors = remarks.new.errors } }
+{
     if request.server_transfer.is_some() {
         return Err(MatchFault::NoServerRecording);
     }
-    let recorded = Recorded {
-        file: request.client,
-        option: TRANSFER,
-        end: End::Client,
-        number: request.transfer,
-        session: client,
+    let Some(asked) = asked_of(alloc, request.client, client, request.transfer, remarks)? else {
+        return Ok(None);
     };
-    match beside(alloc, &recorded, request.server, server, remarks)? {
-        Some(judged) => Ok(Some(Matching {
-            said: judged.said,
-            client: Some(judged.client),
-            server: None,
-        })),
-        None => Ok(None),
-    }
+    let Some(held) = held_of(alloc, request.server, server, asked.len() != 1, remarks)? else {
+        return Ok(None);
+    };
+    beside_held_server(alloc, request, client, asked.as_slice(), &held, remarks)
 }
 
+/// The same where the requests of the recording are known, and the text is in memory.
+fn beside_held_server<E: Write + Drop>(
+    alloc: Global,
+    request: &Request<'_>,
+    client: &Session,
+    asked: &[Asked<'_>],
+    server: &Held,
+    remarks: &mut Remarks<'_, E>,
+) -> Result<Option<Judged>, MatchFault>
+    ensures taken { AreRecordedRequests client.now request.now.transfer asked.now → (is_alone asked.now ≡ false → IsFirstPayload server.now.bytes.items server.now.request.items)
+        → IfOk result (λ found. IfSome found (λ judged. IsTakenOf request.now (Recording client.now) (TextCapture (Some server.now.bytes.items)) judged × (remarks.new ≡ remarks.old))) }
+    ensures untaken { AreRecordedRequests client.now request.now.transfer asked.now → (is_alone asked.now ≡ false → IsFirstPayload server.now.bytes.items server.now.request.items)
+        → IfOk result (λ found. IfNone found (IsUntakenOf request.now (Recording client.now) (TextCapture (Some server.now.bytes.items)) remarks.old.program.now (E.Write.contents remarks.old.errors.0) (E.Write.contents remarks.new.errors.0))) }
+    ensures fault { IfErr result (IsUntold remarks.new.errors.1) }
+    ensures same { remarks.new ≡ record remarks.old { errors = remarks.new.errors } }
+{
+    let recorded = Recorded {
+        file: request.client,
+        end: End::Client,
+        session: client,
+    };
+    let others = [server.asked()];
+    let own = Side {
+        file: request.client,
+        option: Some(TRANSFER),
+        asked,
+        texts: &recorded,
+    };
+    let other = Side {
+        file: request.server,
+        option: None,
+        asked: &others,
+        texts: server,
+    };
+    judge_sides(alloc, request.rollover, &own, &other, remarks)
+}
+
+/// A text of the client and a recording of the server, whose transfer either word names.
 fn recorded_server<R: Read + Drop, E: Write + Drop>(
     alloc: Global,
     request: &Request<'_>,
     client: Whole<R>,
     server: &Session,
     remarks: &mut Remarks<'_, E>,
-) -> Result<Option<Matching>, MatchFault> {
+) -> Result<Option<Judged>, MatchFault>
+    ensures taken { IfOk result (λ found. IfSome found (λ judged. IsTakenAs request.now (TextCapture (whole_left R.Read.remaining client)) (Recording server.now) judged × (remarks.new ≡ remarks.old))) }
+    ensures told { IfOk result (λ found. IfNone found (IsToldOfBoth request.now (TextCapture (whole_left R.Read.remaining client)) (Recording server.now) remarks.old.program.now (E.Write.contents remarks.old.errors.0) (E.Write.contents remarks.new.errors.0))) }
+    ensures fault { IfErr result (λ fault. IsUntold remarks.new.errors.1 fault ⊎ IsMisnamed request.now (TextCapture (whole_left R.Read.remaining client)) (Recording server.now) fault) }
+    ensures same { remarks.new ≡ record remarks.old { errors = remarks.new.errors } }
+{
     if request.transfer.is_some() && request.server_transfer.is_some() {
         return Err(MatchFault::NoClientRecording);
     }
-    let recorded = Recorded {
-        file: request.server,
-        option: TRANSFER,
-        end: End::Server,
-        number: request.server_transfer.or(request.transfer),
-        session: server,
+    let number = request.server_transfer.or(request.transfer);
+    let Some(asked) = asked_of(alloc, request.server, server, number, remarks)? else {
+        return Ok(None);
     };
-    match beside(alloc, &recorded, request.client, client, remarks)? {
-        Some(judged) => Ok(Some(Matching {
-            said: judged.said,
-            client: None,
-            server: Some(judged.server),
-        })),
-        None => Ok(None),
-    }
+    let Some(held) = held_of(alloc, request.client, client, asked.len() != 1, remarks)? else {
+        return Ok(None);
+    };
+    beside_held_client(alloc, request, &held, server, asked.as_slice(), remarks)
 }
 
+/// The same where the text is in memory, and the requests of the recording are known.
+fn beside_held_client<E: Write + Drop>(
+    alloc: Global,
+    request: &Request<'_>,
+    client: &Held,
+    server: &Session,
+    asked: &[Asked<'_>],
+    remarks: &mut Remarks<'_, E>,
+) -> Result<Option<Judged>, MatchFault>
+    ensures taken { AreRecordedRequests server.now (option_or request.now.server_transfer request.now.transfer) asked.now → (is_alone asked.now ≡ false → IsFirstPayload client.now.bytes.items client.now.request.items)
+        → IfOk result (λ found. IfSome found (λ judged. IsTakenOf request.now (TextCapture (Some client.now.bytes.items)) (Recording server.now) judged × (remarks.new ≡ remarks.old))) }
+    ensures untaken { AreRecordedRequests server.now (option_or request.now.server_transfer request.now.transfer) asked.now → (is_alone asked.now ≡ false → IsFirstPayload client.now.bytes.items client.now.request.items)
+        → IfOk result (λ found. IfNone found (IsUntakenOf request.now (TextCapture (Some client.now.bytes.items)) (Recording server.now) remarks.old.program.now (E.Write.contents remarks.old.errors.0) (E.Write.contents remarks.new.errors.0))) }
+    ensures fault { IfErr result (IsUntold remarks.new.errors.1) }
+    ensures same { remarks.new ≡ record remarks.old { errors = remarks.new.errors } }
+{
+    let recorded = Recorded {
+        file: request.server,
+        end: End::Server,
+        session: server,
+    };
+    let others = [client.asked()];
+    let own = Side {
+        file: request.client,
+        option: None,
+        asked: &others,
+        texts: client,
+    };
+    let other = Side {
+        file: request.server,
+        option: Some(TRANSFER),
+        asked,
+        texts: &recorded,
+    };
+    judge_sides(alloc, request.rollover, &own, &other, remarks)
+}
+
+/// Two recordings.
 fn recordings<E: Write + Drop>(
     alloc: Global,
     request: &Request<'_>,
     client: &Session,
     server: &Session,
     remarks: &mut Remarks<'_, E>,
-) -> Result<Option<Matching>, MatchFault> {
-    let client = Recorded {
+) -> Result<Option<Judged>, MatchFault>
+    ensures taken { IfOk result (λ found. IfSome found (λ judged. IsTakenAs request.now (Recording client.now) (Recording server.now) judged × (remarks.new ≡ remarks.old))) }
+    ensures told { IfOk result (λ found. IfNone found (IsToldOfBoth request.now (Recording client.now) (Recording server.now) remarks.old.program.now (E.Write.contents remarks.old.errors.0) (E.Write.contents remarks.new.errors.0))) }
+    ensures fault { IfErr result (IsUntold remarks.new.errors.1) }
+    ensures same { remarks.new ≡ record remarks.old { errors = remarks.new.errors } }
+{
+    let Some(clients) = asked_of(alloc, request.client, client, request.transfer, remarks)? else {
+        return Ok(None);
+    };
+    let number = request.server_transfer;
+    let Some(servers) = asked_of(alloc, request.server, server, number, remarks)? else {
+        return Ok(None);
+    };
+    let (clients, servers) = (clients.as_slice(), servers.as_slice());
+    both_recorded(alloc, request, client, clients, server, servers, remarks)
+}
+
+/// The same where their requests are known.
+fn both_recorded<E: Write + Drop>(
+    alloc: Global,
+    request: &Request<'_>,
+    client: &Session,
+    clients: &[Asked<'_>],
+    server: &Session,
+    servers: &[Asked<'_>],
+    remarks: &mut Remarks<'_, E>,
+) -> Result<Option<Judged>, MatchFault>
+    ensures taken { AreRecordedRequests client.now request.now.transfer clients.now → AreRecordedRequests server.now request.now.server_transfer servers.now
+        → IfOk result (λ found. IfSome found (λ judged. IsTakenOf request.now (Recording client.now) (Recording server.now) judged × (remarks.new ≡ remarks.old))) }
+    ensures untaken { AreRecordedRequests client.now request.now.transfer clients.now → AreRecordedRequests server.now request.now.server_transfer servers.now
+        → IfOk result (λ found. IfNone found (IsUntakenOf request.now (Recording client.now) (Recording server.now) remarks.old.program.now (E.Write.contents remarks.old.errors.0) (E.Write.contents remarks.new.errors.0))) }
+    ensures fault { IfErr result (IsUntold remarks.new.errors.1) }
+    ensures same { remarks.new ≡ record remarks.old { errors = remarks.new.errors } }
+{
+    let recorded = Recorded {
         file: request.client,
-        option: TRANSFER,
         end: End::Client,
-        number: request.transfer,
         session: client,
     };
-    let server = Recorded {
+    let others = Recorded {
         file: request.server,
-        option: SERVER_TRANSFER,
         end: End::Server,
-        number: request.server_transfer,
         session: server,
     };
-    match of_recordings(alloc, &client, &server, remarks)? {
-        Some(judged) => Ok(Some(Matching {
-            said: judged.said,
-            client: Some(judged.client),
-            server: Some(judged.server),
-        })),
-        None => Ok(None),
-    }
-}
-
-/// The transfers of two recordings, judged together.
-fn of_recordings<E: Write + Drop>(
-    alloc: Global,
-    client: &Recorded<'_>,
-    server: &Recorded<'_>,
-    remarks: &mut Remarks<'_, E>,
-) -> Result<Option<Judged>, MatchFault> {
-    let Some(clients) = told(remarks, client.file, client.asked(alloc))? else {
-        return Ok(None);
+    let own = Side {
+        file: request.client,
+        option: Some(TRANSFER),
+        asked: clients,
+        texts: &recorded,
     };
-    let Some(servers) = told(remarks, server.file, server.asked(alloc))? else {
-        return Ok(None);
-    };
-    let client = side_of(client, clients.as_slice());
-    let server = side_of(server, servers.as_slice());
-    judge_sides(alloc, &client, &server, remarks)
-}
-
-/// A recording, of whose transfers one with these requests is to be judged.
-fn side_of<'a>(recorded: &'a Recorded<'a>, asked: &'a [Asked<'a>]) -> Side<'a, Recorded<'a>> {
-    Side {
-        file: recorded.file,
-        option: Some(recorded.option),
-        asked,
-        texts: recorded,
-    }
-}
-
-/// The transfer of a recording, judged together with a text. Where it has one alone, the text is read while it is judged.
-fn beside<R: Read + Drop, E: Write + Drop>(
-    alloc: Global,
-    recorded: &Recorded<'_>,
-    file: &str,
-    text: Whole<R>,
-    remarks: &mut Remarks<'_, E>,
-) -> Result<Option<Judged>, MatchFault> {
-    let Some(asked) = told(remarks, recorded.file, recorded.asked(alloc))? else {
-        return Ok(None);
-    };
-    if let [sole] = asked.as_slice() {
-        return beside_sole(alloc, recorded, sole.number, text, remarks);
-    }
-    let Some(held) = told(remarks, file, Held::read(alloc, text))? else {
-        return Ok(None);
-    };
-    beside_held(alloc, recorded, asked.as_slice(), file, &held, remarks)
-}
-
-/// The sole transfer of a recording, judged together with a text.
-fn beside_sole<R: Read + Drop, E: Write + Drop>(
-    alloc: Global,
-    recorded: &Recorded<'_>,
-    number: u64,
-    text: Whole<R>,
-    remarks: &mut Remarks<'_, E>,
-) -> Result<Option<Judged>, MatchFault> {
-    let Some(own) = told(remarks, recorded.file, recorded.text(alloc, number))? else {
-        return Ok(None);
-    };
-    let own = own.as_slice();
-    Ok(Some(match recorded.end {
-        End::Client => Judged {
-            client: number,
-            server: 1,
-            said: said_of(alloc, own, text),
-        },
-        End::Server => Judged {
-            client: 1,
-            server: number,
-            said: said_of(alloc, text, own),
-        },
-    }))
-}
-
-/// The transfer of a recording that has the request of a text in memory, judged together with it.
-fn beside_held<E: Write + Drop>(
-    alloc: Global,
-    recorded: &Recorded<'_>,
-    asked: &[Asked<'_>],
-    file: &str,
-    held: &Held,
-    remarks: &mut Remarks<'_, E>,
-) -> Result<Option<Judged>, MatchFault> {
-    let Some(payload) = told(remarks, file, held.first_payload(alloc))? else {
-        return Ok(None);
-    };
-    let others = [Asked {
-        number: 1,
-        payload: payload.as_slice(),
-    }];
-    let own = side_of(recorded, asked);
     let other = Side {
-        file,
-        option: None,
-        asked: &others,
-        texts: held,
+        file: request.server,
+        option: Some(SERVER_TRANSFER),
+        asked: servers,
+        texts: &others,
     };
-    match recorded.end {
-        End::Client => judge_sides(alloc, &own, &other, remarks),
-        End::Server => judge_sides(alloc, &other, &own, remarks),
+    judge_sides(alloc, request.rollover, &own, &other, remarks)
+}
+
+/// The requests of a recording's transfers, or of the one that is named; none where there is none with that number, which is told.
+fn asked_of<'a, E: Write + Drop>(
+    alloc: Global,
+    file: &str,
+    session: &'a Session,
+    number: Option<u64>,
+    remarks: &mut Remarks<'_, E>,
+) -> Result<Option<Vec<Asked<'a>>>, TellFault>
+    ensures asked { IfOk result (λ found. IfSome found (λ asked. AreRecordedRequests session.now number asked.items × (remarks.new ≡ remarks.old))) }
+    ensures unknown { IfOk result (λ found. IfNone found (IsUnknown remarks.old.program.now file.now number (Recording session.now) (E.Write.contents remarks.old.errors.0) (E.Write.contents remarks.new.errors.0))) }
+    ensures fault { IfErr result (IsRemarkFault remarks.new.errors.1) }
+    ensures same { remarks.new ≡ record remarks.old { errors = remarks.new.errors } }
+{
+    match asked_in(alloc, session, number) {
+        Ok(asked) => Ok(Some(asked)),
+        Err(fault) => {
+            remarks.tell_fault(file, LackFault::Text(fault))?;
+            Ok(None)
+        }
     }
+}
+
+/// A text in memory, with its request, where that is wanted; none where it is not read, which is told.
+fn held_of<R: Read + Drop, E: Write + Drop>(
+    alloc: Global,
+    file: &str,
+    text: R,
+    wants_request: bool,
+    remarks: &mut Remarks<'_, E>,
+) -> Result<Option<Held>, TellFault>
+    ensures held { IfOk result (λ found. IfSome found (λ held. IfSome (R.Read.remaining text) (λ bytes. held.bytes.items ≡ bytes)
+        × (wants_request ≡ true → IsFirstPayload held.bytes.items held.request.items) × (remarks.new ≡ remarks.old))) }
+    ensures unread { IfOk result (λ found. IfNone found (IsTold remarks.old.program.now file.now (E.Write.contents remarks.old.errors.0) (E.Write.contents remarks.new.errors.0))) }
+    ensures fault { IfErr result (IsRemarkFault remarks.new.errors.1) }
+    ensures same { remarks.new ≡ record remarks.old { errors = remarks.new.errors } }
+{
+    let held = Held::read(alloc, text, wants_request);
+    told(remarks, file, held)
 }

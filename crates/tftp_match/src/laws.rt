@@ -3,6 +3,7 @@
 ghost use Rattle.std.specs.Prelude.{◌≡◌, ◌∷◌, [], ℕ, List, true, false, codes, Option, Some, None, Ok, Err};
 ghost use Rattle.json.specs.Json.{boolean, null, string};
 ghost use Rattle.audit_recording.specs.declared.session.requests.Asked.{Asked};
+ghost use Rattle.audit_recording.specs.declared.session.session.Session.{Session};
 ghost use Rattle.tftp_capture.specs.{Numbered};
 ghost use Rattle.tftp_judge.specs.{Refused, Incomplete, Unlawful};
 ghost use Rattle.tftp_packet.specs.{Client, Server};
@@ -23,8 +24,11 @@ ghost use Rattle.tftp_match.specs.Copies.{HavePassed, copies_lines, copies_to, t
 ghost use Rattle.tftp_match.specs.Firsts.{client_first, server_first};
 ghost use Rattle.tftp_match.specs.Lines.{lines, third_line};
 ghost use Rattle.tftp_rows.specs.Members.{count_json, object_of};
+ghost use Rattle.tftp_match.specs.Captures.Capture.{Recording, Text};
+ghost use Rattle.tftp_match.specs.Matching.{server_number};
 ghost use Rattle.tftp_match.specs.Objects.{fault_word, json_line, together_json, words_of};
 ghost use Rattle.tftp_match.specs.Status.{status_of};
+ghost use Rattle.tftp_match.specs.declared.words.Request.{Request};
 ghost use Rattle.tftp_match.specs.Worked.{AreNamed, Asks, counted, numbers, said, tried};
 
 use tftp_judge::Rule;
@@ -98,4 +102,11 @@ pub fn worked_pairs()
     ensures pairs { (first second one other : Asked) → Asks first 1 (codes "a") → Asks second 2 (codes "b") → Asks one 1 (codes "b") → Asks other 2 (codes "a") → ArePairs (first ∷ second ∷ []) (one ∷ other ∷ []) ((1, 2) ∷ (2, 1) ∷ []) }
     ensures meant { (first second one : Asked) → Asks first 1 (codes "a") → Asks second 2 (codes "b") → Asks one 1 (codes "b") → AreMeant (first ∷ second ∷ []) (one ∷ []) (2 ∷ []) }
     ensures sole { (first one : Asked) → Asks first 1 (codes "a") → Asks one 1 (codes "b") → AreMeant (first ∷ []) (one ∷ []) (1 ∷ []) }
+{}
+
+/// Beside a text one word or the other names the recorded transfer; beside a recording the word of the server does.
+pub fn worked_names()
+    ensures beside_text { (r : Request) → r.transfer ≡ Some 2 → r.server_transfer ≡ None → server_number r (Text None) ≡ Some 2 }
+    ensures at_the_server { (r : Request) → r.server_transfer ≡ Some 3 → server_number r (Text None) ≡ Some 3 }
+    ensures beside_recording { (r : Request) (session : Session) → r.transfer ≡ Some 2 → r.server_transfer ≡ None → server_number r (Recording session) ≡ None }
 {}

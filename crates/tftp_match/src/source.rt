@@ -1,13 +1,19 @@
 //! A capture is a text or a recording, which its first bytes tell.
 
-use crate::faults::SourceFault;
+ghost use Rattle.std.specs.Prelude.{◌≡◌, ◌⊎◌, IfOk, length};
+ghost use Rattle.std.specs.Io.KnownBytes.{Consumes, IsAtEnd};
+ghost use Rattle.audit_recording.specs.Session.Opened.{IsReadWhole};
+ghost use Rattle.audit_recording.specs.declared.session.kept.Wanted.TheVariants.{All};
+ghost use Rattle.tftp_match.specs.Captures.{IsCaptureOf, capture_of};
+
+use anyhow::Result;
 use audit_recording::judges::Judging;
 use audit_recording::session::{Kept, Session, Wanted, is_recording, read_whole};
 use std::alloc::Global;
 use std::io::{Chain, Cursor, Read};
 
 /// So many bytes tell a recording.
-const HEAD: u64 = 4;
+const HEAD: usize = 4;
 
 /// A reader whose first bytes were read and are read again.
 pub type Whole<R> = Chain<Cursor<Vec<u8>>, R>;
@@ -23,9 +29,10 @@ pub enum Source<R: Read + Drop> {
 
 impl<R: Read + Drop> Source<R> {
     /// The capture that a reader gives; requests go to port 69 and to these ports.
-    pub fn begin(alloc: Global, services: &[u16], mut reader: R) -> Result<Self, SourceFault> {
-        let mut head = Vec::new(alloc);
-        reader.by_ref().take(HEAD).read_to_end(&mut head)?;
+    pub fn begin(alloc: Global, services: &[u16], mut reader: R) -> Result<Self>
+        ensures begun { IfOk result (λ source. IsCaptureOf services.now (R.Read.remaining reader) (capture_of R.Read.remaining source)) }
+    {
+        let head = head_of(alloc, &mut reader)?;
         let is_text = !is_recording(head.as_slice());
         let whole = Cursor::new(head).chain(reader);
         if is_text {
@@ -35,12 +42,27 @@ impl<R: Read + Drop> Source<R> {
     }
 }
 
+/// The first bytes that a reader gives: four, or all where there are fewer.
+fn head_of<R: Read>(alloc: Global, reader: &mut R) -> Result<Vec<u8>>
+    ensures head { IfOk result (λ head. Consumes (R.remaining reader.old) (R.remaining reader.new) head.items) }
+    ensures all { IfOk result (λ head. (length head.items ≡ 4) ⊎ IsAtEnd (R.remaining reader.new)) }
+{
+    let mut head = Vec::new(alloc);
+    for _ in 0..HEAD {
+        let mut byte = [0; 1];
+        if reader.read(&mut byte)? == 0 {
+            return Ok(head);
+        }
+        head.push(byte[0])?;
+    }
+    Ok(head)
+}
+
 /// What a recording has.
-fn session_of<R: Read + Drop>(
-    alloc: Global,
-    services: &[u16],
-    reader: R,
-) -> Result<Session, SourceFault> {
+fn session_of<R: Read + Drop>(alloc: Global, services: &[u16], reader: R) -> Result<Session>
+    ensures read { IfOk result (λ session. IsReadWhole (R.Read.remaining reader) session services.now) }
+    ensures wanted { IfOk result (λ session. session.kept.wanted ≡ All) }
+{
     let kept = Kept::new(alloc, Wanted::All);
     let mut session = Session::new(alloc, services, Judging::Nowhere, kept)?;
     read_whole(alloc, reader, &mut session)?;

@@ -2,7 +2,7 @@
 
 ghost use Rattle.std.specs.Prelude.{◌≡◌, ◌++◌, IfOk, OnOk, decimal, flat_map, option_map, string_bytes};
 ghost use Rattle.tftp_match.specs.Choice.{matched_in};
-ghost use Rattle.tftp_match.specs.Untaken.{apart_line, count_line, further, listed, many_words, numbered_of, option_of, pair_text, pairs_line, several_words, side_line, together_words, tried_words};
+ghost use Rattle.tftp_match.specs.Untaken.{apart_line, count_line, further, listed, many_words, numbered_of, pair_text, pairs_line, several_words, shown, side_line, together_words, tried_words};
 
 use crate::choice::{Tried, Untaken};
 use crate::choosing::{MOST_PAIRS, Side};
@@ -19,7 +19,7 @@ pub struct Numbered {
 impl Numbered {
     /// Those of these captures that are recordings.
     pub fn of<C, S>(client: &Side<'_, C>, server: &Side<'_, S>) -> Self
-        ensures { result ≡ numbered_of client.now server.now }
+        ensures { result ≡ numbered_of (shown client.now) (shown server.now) }
     {
         Numbered {
             client: client.option.is_some(),
@@ -154,7 +154,7 @@ impl<T> Side<'_, T> {
         other: &str,
         meant: &[u64],
     ) -> Result<Option<String>, AllocError>
-        ensures { IfOk result (λ line. option_map string_bytes line ≡ side_line (option_of self.now) self.now.asked.now other.now meant.now) }
+        ensures { IfOk result (λ line. option_map string_bytes line ≡ side_line (shown self.now).option self.now.asked.now other.now meant.now) }
     {
         let Some(option) = self.option else {
             return Ok(None);

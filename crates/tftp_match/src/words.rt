@@ -5,6 +5,7 @@ use clap::error::ErrorKind;
 use clap::{ArgMatches, Command, Error};
 use std::alloc::{AllocError, Global};
 use std::convert::AsStr;
+use tftp_packet::rounds::Rollover;
 
 /// What the program is asked for.
 #[derive(Debug, Drop)]
@@ -18,6 +19,8 @@ pub struct Request<'a> {
     pub server_transfer: Option<u64>,
     /// The ports to which requests go, beside 69.
     pub services: Vec<u16>,
+    /// What comes after block 65535, where numbers begin again.
+    pub rollover: Option<Rollover>,
     /// Whether it is wanted how often each packet was sent and taken.
     pub counts: bool,
     /// Whether the answer is wanted in JSON.
@@ -45,15 +48,30 @@ fn request_in<'a>(
             "one capture at most is standard input",
         )?);
     }
+    let rollover = rollover_in(matches);
+    let counts = matches.get_flag("counts");
+    if counts && rollover.is_some() {
+        return Err(command.error(ErrorKind::ArgumentConflict, "--counts has no --rollover")?);
+    }
     Ok(Request {
         client,
         server,
         transfer: matches.get_one::<u64>("transfer"),
         server_transfer: matches.get_one::<u64>("server-transfer"),
         services: services_of(alloc, matches)?,
-        counts: matches.get_flag("counts"),
+        rollover,
+        counts,
         json: matches.get_flag("json"),
     })
+}
+
+/// What comes after block 65535, if that is said.
+fn rollover_in(matches: &ArgMatches<'_>) -> Option<Rollover> {
+    match matches.get_one::<u64>("rollover") {
+        Some(0) => Some(Rollover::Zero),
+        Some(_) => Some(Rollover::One),
+        None => None,
+    }
 }
 
 fn services_of(alloc: Global, matches: &ArgMatches<'_>) -> Result<Vec<u16>, AllocError> {

@@ -58,11 +58,6 @@ kept_nowhere t judging x named carried is = record {
   blame = record { client = λ no. absurd (false≢true no); server = λ no. absurd (false≢true no) };
 }
 
--- a call fails so, and this holds beside it
-pub both_on_err : {A E P : Type 0} (Q : Type 0) (r : Result A E) → P → OnErr r Q → OnErr r (P × Q)
-both_on_err Q (Ok x) p q = tt
-both_on_err Q (Err e) p q = (p, q)
-
 -- the moment up to which it was read
 pub moment_is : (b : Session) (now : ℕ) (s : Noticed) → AreNotesOf b.notes s → ((times : List ℕ) → IsClockAfter b.notes.clock times → now ≡ max (last_of times) b.notes.clock.reached) → now ≡ moment_of s
 moment_is b now s notes reads = reads s.times notes.clock ∙ ap (λ n. max (last_of s.times) n) (reached_is b.notes.clock s.times notes.clock)

@@ -52,28 +52,14 @@ impl<W: Write + Drop> Lister<W> {
         ensures why { IfErr result (IsPrintFault self.new.printer.writer.1) }
     {
         for _ in 0..session.count() {
-            if !self.list_first_over(alloc, session)? {
+            if !session.is_first_over() {
+                return Ok(());
+            }
+            if !self.list_oldest(alloc, session)? {
                 return Ok(());
             }
         }
         Ok(())
-    }
-
-    /// Lists the oldest transfer, if nothing that comes later changes what is told of it; whether it did.
-    fn list_first_over(&mut self, alloc: Global, session: &mut Session) -> Result<bool, PrintFault>
-        ensures told { (named out : List ℕ) (history : List Step) (carried : List Carried) (s : Noticed) → IsSessionAfter session.old named out history carried s
-            → result ≡ Ok true → IsOldestOver session.old named carried s × ((row : ListRowKind) × ListsNext W.Write.contents self.old self.new row session.new named out history carried s) }
-        ensures part { (named out : List ℕ) (history : List Step) (carried : List Carried) (s : Noticed) → IsSessionAfter session.old named out history carried s
-            → OnErr result (IsOldestOver session.old named carried s × ListsPart W.Write.contents self.old self.new named out carried s) }
-        ensures nothing { result ≡ Ok false → self.new ≡ self.old }
-        ensures same_session { (named out : List ℕ) (history : List Step) (carried : List Carried) (s : Noticed) → IsSessionAfter session.old named out history carried s
-            → result ≡ Ok false → IsSessionAfter session.new named out history carried s }
-        ensures why { IfErr result (IsPrintFault self.new.printer.writer.1) }
-    {
-        if session.is_first_over() {
-            return self.list_oldest(alloc, session);
-        }
-        Ok(false)
     }
 
     /// Lists all transfers that were not listed, where the recording has ended.

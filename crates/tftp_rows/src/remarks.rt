@@ -80,6 +80,7 @@ impl<'a, E: Write + Drop> Remarks<'a, E> {
         ensures line { OnOk result (IfSome (F.output fault) (λ words. Appends (E.Write.contents self.old.errors.0) (E.Write.contents self.new.errors.0) (remark_text self.old.program.now file.now words))) }
         ensures same { self.new ≡ record self.old { errors = self.new.errors } }
         ensures failed { OnErr result (self.new.errors.1 ≡ true) }
+        ensures why { IfErr result (IsRemarkFault self.new.errors.1) }
         ensures stays { self.old.errors.1 ≡ true → self.new.errors.1 ≡ true }
     {
         let program = self.program;

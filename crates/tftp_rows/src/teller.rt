@@ -80,31 +80,14 @@ impl<'a, W: Write + Drop> Teller<'a, W> {
     {
         self.may_lose = session.notes.may_lose;
         for _ in 0..session.count() {
-            if !self.tell_first_over(alloc, session)? {
+            if !session.is_first_over() {
+                return Ok(());
+            }
+            if !self.tell_oldest(alloc, session)? {
                 return Ok(());
             }
         }
         Ok(())
-    }
-
-    /// Tells the oldest transfer, if nothing that comes later changes what is told of it; whether it did.
-    fn tell_first_over(&mut self, alloc: Global, session: &mut Session) -> Result<bool, PrintFault>
-        ensures over { (named out : List ℕ) (history : List Step) (carried : List Carried) (s : Noticed) → IsSessionAfter session.old named out history carried s
-            → IsOldestOver session.old named carried s ⊎ ((result ≡ Ok false) × (self.new ≡ self.old) × (session.new ≡ session.old)) }
-        ensures told { (named out : List ℕ) (history : List Step) (carried : List Carried) (s : Noticed) → IsSessionAfter session.old named out history carried s
-            → result ≡ Ok true → IsOldestOver session.old named carried s × TellsNext W.Write.contents self.old self.new session.old session.new named out history carried s }
-        ensures part { (named out : List ℕ) (history : List Step) (carried : List Carried) (s : Noticed) → IsSessionAfter session.old named out history carried s
-            → OnErr result (TellsNextPart W.Write.contents self.old self.new session.old.audit.judge.judging named out carried) }
-        ensures nothing { result ≡ Ok false → self.new ≡ self.old }
-        ensures judging { JudgesAs session.old session.new }
-        ensures same_session { (named out : List ℕ) (history : List Step) (carried : List Carried) (s : Noticed) → IsSessionAfter session.old named out history carried s
-            → result ≡ Ok false → IsSessionAfter session.new named out history carried s }
-        ensures why { IfErr result (IsPrintFault self.new.printer.writer.1) }
-    {
-        if session.is_first_over() {
-            return self.tell_oldest(alloc, session);
-        }
-        Ok(false)
     }
 
     /// Tells what was held back, where the recording is read no further and its recorder has lost so many packets.

@@ -5,12 +5,11 @@ ghost use Rattle.tftp_rows.specs.declared.printing.Form.TheVariants.{Json, Words
 ghost use Rattle.tftp_transfers.specs.Choices.{judging_at, widest};
 
 use crate::PROGRAM;
-use crate::machine::Machine;
 use anyhow::Result;
 use audit_recording::judges::Judging;
 use std::io;
 use tftp_packet::rounds::Rollover;
-use tftp_rows::{Form, Remarks, Teller, check_files};
+use tftp_rows::{Form, Machine, Remarks, Teller, check_files};
 use tftp_words::{CheckRequest, Point};
 
 /// Judges the transfers of recordings. A recording that can't be read does not end it. The status is 3 where nothing else is to

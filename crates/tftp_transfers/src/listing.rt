@@ -1,10 +1,9 @@
 //! The transfers of a recording, a line each.
 
 use crate::PROGRAM;
-use crate::machine::Machine;
 use anyhow::Result;
 use std::io;
-use tftp_rows::{Form, Lister, Remarks, list_file};
+use tftp_rows::{Form, Lister, Machine, Remarks, list_file};
 use tftp_words::ListRequest;
 
 /// Lists the transfers of a recording, and tells all that there is to tell of it; `-` is standard input.

@@ -3,7 +3,6 @@
 
 mod checking;
 mod listing;
-mod machine;
 mod reasoned;
 mod texts;
 

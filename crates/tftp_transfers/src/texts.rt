@@ -1,13 +1,12 @@
 //! The capture texts of transfers at an end.
 
 use crate::PROGRAM;
-use crate::machine::Machine;
 use crate::reasoned::Reasoned;
 use anyhow::Result;
 use net_streams::streams::LineWriter;
 use std::io;
 use std::io::Write;
-use tftp_rows::{Remarks, TextsOf, write_text, write_texts};
+use tftp_rows::{Machine, Remarks, TextsOf, write_text, write_texts};
 use tftp_words::{TextRequest, TextsRequest};
 
 /// Writes the capture text of a transfer at an end, unless datagrams of it may be missing.

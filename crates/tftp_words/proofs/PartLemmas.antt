@@ -74,36 +74,6 @@ not_plain word w next count not (inl (one, (plain, is))) = not (subst IsPlain (s
 not_plain word w next count not (inr (two, second, at, (plain, is))) = cc
 
 -- the words of an option without its value are no part
-pub no_port : (word : Word) (next : Option Word) (text : Word) (k : ℕ) → (IsPlain word → ⊥) → word ≢ codes "--json" → Gives (codes "--service") word next text k → ((port : ℕ) → IsPort text port → ⊥)
-    → (p : Part) (count : ℕ) → Begins word next p count → ⊥
-no_port word next text k plain json option none (Service port) count begins =
-    let given = service_given word next port count begins in
-    none port (subst (λ t. IsPort t port) (one_value (codes "--service") word next given.0 text count k given.2 option) given.1)
-no_port word next text k plain json option none Json count begins = not_json word next count json begins
-no_port word next text k plain json option none (At point) count begins = service_or_end word next text (point_word point) k count option (point_given word next point count begins)
-no_port word next text k plain json option none (Again rollover) count begins = service_or_rollover word next text (rollover_word rollover) k count option (rollover_given word next rollover count begins)
-no_port word next text k plain json option none (Plain w) count begins = not_plain word w next count plain begins
-
-pub no_point : (word : Word) (next : Option Word) (text : Word) (k : ℕ) → (IsPlain word → ⊥) → word ≢ codes "--json" → Gives (codes "--end") word next text k → ((point : Point) → text ≢ point_word point)
-    → (p : Part) (count : ℕ) → Begins word next p count → ⊥
-no_point word next text k plain json option none (Service port) count begins =
-    let given = service_given word next port count begins in service_or_end word next given.0 text count k given.2 option
-no_point word next text k plain json option none Json count begins = not_json word next count json begins
-no_point word next text k plain json option none (At point) count begins =
-    none point (one_value (codes "--end") word next text (point_word point) k count option (point_given word next point count begins))
-no_point word next text k plain json option none (Again rollover) count begins = end_or_rollover word next text (rollover_word rollover) k count option (rollover_given word next rollover count begins)
-no_point word next text k plain json option none (Plain w) count begins = not_plain word w next count plain begins
-
-pub no_rollover : (word : Word) (next : Option Word) (text : Word) (k : ℕ) → (IsPlain word → ⊥) → word ≢ codes "--json" → Gives (codes "--rollover") word next text k → ((rollover : Rollover) → text ≢ rollover_word rollover)
-    → (p : Part) (count : ℕ) → Begins word next p count → ⊥
-no_rollover word next text k plain json option none (Service port) count begins =
-    let given = service_given word next port count begins in service_or_rollover word next given.0 text count k given.2 option
-no_rollover word next text k plain json option none Json count begins = not_json word next count json begins
-no_rollover word next text k plain json option none (At point) count begins = end_or_rollover word next (point_word point) text count k (point_given word next point count begins) option
-no_rollover word next text k plain json option none (Again rollover) count begins =
-    none rollover (one_value (codes "--rollover") word next text (rollover_word rollover) k count option (rollover_given word next rollover count begins))
-no_rollover word next text k plain json option none (Plain w) count begins = not_plain word w next count plain begins
-
 pub no_part : (word : Word) (next : Option Word) → (IsPlain word → ⊥) → word ≢ codes "--json" → ((v : Word) (k : ℕ) → Gives (codes "--service") word next v k → ⊥) → ((v : Word) (k : ℕ) → Gives (codes "--end") word next v k → ⊥)
     → ((v : Word) (k : ℕ) → Gives (codes "--rollover") word next v k → ⊥) → (p : Part) (count : ℕ) → Begins word next p count → ⊥
 no_part word next plain json service end over (Service port) count begins = let given = service_given word next port count begins in service given.0 count given.2

@@ -1,12 +1,16 @@
 -- What is read of the words, and what is left of them.
 use Rattle.std.proofs.Common.{◌≡◌, ◌≢◌, ℕ, ◌+◌, ◌<◌, List, [], ◌∷◌, ◌++◌, length, drop, take, map, Bool, Option, Some, None, codes, slice_get, get_or, Bor, refl, sym, ap, ◌∙◌, subst, append-nil, append_assoc, add-one}
-use Rattle.std.proofs.lemmas.List.{map-append}
+use Rattle.std.proofs.lemmas.List.{drop-map, map-append}
 use Rattle.std.proofs.Math.Seq.{take-suc}
 use Rattle.tftp_packet.specs.{Rollover}
 use Rattle.tftp_words.specs.{Point, Given, ReadFault, Word, Part, Plain, Begins, Say, Have, Holds, IsOnce}
 use Rattle.tftp_words.specs.declared.given.ReadFault.TheVariants as fault
 use Rattle.tftp_words.proofs.Having.{have_word}
 use Rattle.tftp_words.proofs.Saying.{say_on, say_step, say_nothing, say_end, said_end, say_plain, said_plain}
+
+-- the texts of the words that are left
+pub texts_left : {A : Type 0} (f : A → Word) (n : ℕ) (words left : List A) → left ≡ drop n words → map f left ≡ drop n (map f words)
+texts_left f n words left e = ap (map f) e ∙ sym (drop-map f n words)
 
 -- what is read of the words so far, and what those that are left say are what all say
 abbrev pub Read : List Word → List Word → Given → Type 0

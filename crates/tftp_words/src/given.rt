@@ -10,7 +10,7 @@ use std::convert::AsStr;
 use tftp_packet::rounds::Rollover;
 
 /// What the parts of the words give.
-#[derive(Debug, Drop)]
+#[derive(Drop)]
 pub struct Given<'a> {
     /// The ports to which requests go, in the order of the words.
     pub services: Vec<u16>,
@@ -25,7 +25,7 @@ pub struct Given<'a> {
 }
 
 /// Why words are not read.
-#[derive(Clone, Copy, Debug, PartialEq, Eq)]
+#[derive(Clone, Copy)]
 pub enum ReadFault {
     /// They say nothing that the program can be asked for.
     Unknown,

@@ -9,7 +9,7 @@ use tftp_packet::End;
 use tftp_packet::rounds::Rollover;
 
 /// A part of the words.
-#[derive(Clone, Copy, Debug, PartialEq, Eq)]
+#[derive(Clone, Copy)]
 pub enum Part<'a> {
     /// A port to which requests go.
     Service(u16),
@@ -112,11 +112,20 @@ pub fn first_part<'a>(word: &'a str, next: Option<&'a str>) -> Option<(Part<'a>,
         return Some((Part::Json, 1));
     }
     if let Some((text, count)) = value_of("--service", word, next) {
-        return Some((Part::Service(port_of(text)?), count));
+        return match port_of(text) {
+            Some(port) => Some((Part::Service(port), count)),
+            None => None,
+        };
     }
     if let Some((text, count)) = value_of("--end", word, next) {
-        return Some((Part::End(point_of(text)?), count));
+        return match point_of(text) {
+            Some(point) => Some((Part::End(point), count)),
+            None => None,
+        };
     }
     let (text, count) = value_of("--rollover", word, next)?;
-    Some((Part::Rollover(rollover_of(text)?), count))
+    match rollover_of(text) {
+        Some(rollover) => Some((Part::Rollover(rollover), count)),
+        None => None,
+    }
 }

@@ -75,7 +75,7 @@ pub struct CheckRequest<'a> {
 }
 
 /// What the program is told to do.
-#[derive(Clone, Copy, Debug, PartialEq, Eq)]
+#[derive(Clone, Copy)]
 enum Command {
     List,
     Text,

@@ -5,8 +5,8 @@ ghost use Rattle.tftp_words.specs.Told.{IsTold};
 use crate::given::ReadFault;
 use crate::help::command_line;
 use crate::request::{Request, requested};
-use clap::Error;
 use clap::error::ErrorKind;
+use clap::{Command, Error};
 use std::alloc::Global;
 use std::convert::AsStr;
 use thiserror::Error as Fault;
@@ -68,6 +68,15 @@ pub fn fault_of(error: Error) -> WordsFault
 /// What clap says of the words; where it takes them all the same, why they make no request.
 fn refusal<'a, S: AsStr>(alloc: Global, words: &'a [S], why: &str) -> Result<Error, Error> {
     let mut command = command_line(alloc)?;
+    refused_by(&mut command, words, why)
+}
+
+/// What this command says of the words, or why they make no request.
+fn refused_by<'a, S: AsStr>(
+    command: &mut Command<'a>,
+    words: &'a [S],
+    why: &str,
+) -> Result<Error, Error> {
     match command.try_get_matches_from_mut(words) {
         Ok(_) => Ok(command.error(ErrorKind::InvalidValue, why)?),
         Err(error) => Ok(error),

@@ -1,5 +1,5 @@
 -- What is kept of a transfer stands for each datagram that tells nothing of it.
-use Rattle.std.proofs.Common.{◌≡◌, Bool, true, false, List, [], ◌∷◌, Option, Some, None, Result, Ok, Err, sym, ap, ◌∙◌, subst, IfSome, IsSomeAnd, MatchOption, OnOk}
+use Rattle.std.proofs.Common.{◌≡◌, Bool, true, false, List, [], ◌∷◌, Option, Some, None, Result, Ok, Err, sym, ap, ◌∙◌, subst, IfSome, OnOk}
 use Rattle.std.proofs.lemmas.Bool.{or_parts}
 use Rattle.std.specs.Bool.{then_some}
 use Rattle.std.proofs.lemmas.List.Elements.{All-head, All-tail}
@@ -25,12 +25,6 @@ on_ok_when C (Err e) then = tt
 pub on_some_if : {A : Type 0} (P : A → Type 0) {o : Option A} (b : Bool) (a : A) → o ≡ then_some b a → P a → IfSome o P
 on_some_if P true a is holds = subst (λ o. IfSome o P) (sym is) holds
 on_some_if P false a none holds = subst (λ o. IfSome o P) (sym none) tt
-
-pub on_mapped : {A B : Type 0} {P : A → Type 0} {Q : B → Type 0} {R : A → B → Type 0} (o : Option A) (r : Option B) → MatchOption o (r ≡ None) (λ a. IsSomeAnd r (R a))
-    → ((a : A) (b : B) → R a b → P a → Q b) → IfSome o P → IfSome r Q
-on_mapped {Q = Q} None r none f is = subst (λ o. IfSome o Q) (sym none) tt
-on_mapped (Some a) (Some b) made f is = f a b made is
-on_mapped (Some a) None made f is = tt
 
 -- the judge of a transfer is of none that the datagram is about
 pub away_of : {X : Type 0} (transfer_of : X → Transfer) (judge : Option X) (x : Transfer) (p : Placed) → is_about x.number p ≡ false

@@ -11,10 +11,11 @@ use Rattle.audit_flows.specs.{Opens, Transfer}
 use Rattle.audit_flows.specs.Transfers.{is_about, opened_it}
 use Rattle.audit_flows.proofs.LinesLemmas.Lines.{by_test}
 use Rattle.audit_recording.specs.Blame.Frames.{Carried, Framed, datagrams_of, framed, framed_after, whole_of}
-use Rattle.audit_recording.specs.Blame.Kept.{IsTrailBetween, IsTrailOf, is_about_it}
+use Rattle.audit_recording.specs.Blame.Kept.{IsBlameBetween, IsTrailBetween, IsTrailOf, is_about_it}
 use Rattle.audit_recording.specs.Judges.{IsNew, WereOpened, is_among, opened}
 use Rattle.audit_recording.specs.Session.Intact.{discarding}
 use Rattle.audit_recording.specs.Session.Trails.{AreTrailsBegun, AreTrailsKept, IsBegunBy, IsTrailAfter, IsTrailKept, opening_of}
+use Rattle.audit_recording.specs.declared.blame.blame.Blame.{Blame}
 use Rattle.audit_recording.specs.declared.blame.trail.Trail.{Trail}
 use Rattle.audit_recording.specs.declared.judges.judging.Judging.{Judging}
 use Rattle.audit_recording.proofs.BlameLemmas.Holding.{filter_none}
@@ -79,6 +80,15 @@ begun_so t u first request g is = (is.0 ∙ sym first, is.1 ∙ sym (ap (λ r. r
 pub begun_if : (t u : Trail) → u.first ≡ t.first → u.request ≡ t.request → (o : Option Framed) → IfSome o (IsBegunBy t) → IfSome o (IsBegunBy u)
 begun_if t u first request None was = tt
 begun_if t u first request (Some g) was = begun_so t u first request g was
+
+-- what a change keeps that leaves what is blamed and how it began
+pub stays_so : (t u : Trail) → u.blame ≡ t.blame → u.first ≡ t.first → u.request ≡ t.request
+    → ((judging : Judging) (x : Transfer) (named : List ℕ) (carried : List Carried) → IsTrailOf t judging x named carried → IsTrailOf u judging x named carried) → Stays t u
+stays_so t u blame first request own judging x named carried was = record {
+  own = own judging x named carried was.own;
+  between = subst (λ (b : Blame). IsBlameBetween b judging x (whole_of named carried) (framed named carried)) (sym blame) was.between;
+  begun = begun_if t u first request (opening_of x.number named carried) was.begun;
+}
 
 -- ---- one trail of all
 

@@ -1,9 +1,10 @@
 //! What makes the refusals of a transfer doubtful.
 
-ghost use Rattle.std.specs.Prelude.{◌≡◌, ◌≢◌, ◌++◌, List, [], IsErr, None, OnOk, option_map, option_to_list, true};
+ghost use Rattle.std.specs.Prelude.{◌≡◌, ◌≢◌, ◌++◌, List, [], IsErr, None, OnOk, option_to_list, true};
 ghost use Rattle.audit_flows.specs.Lines.{Placed};
 ghost use Rattle.audit_flows.specs.Transfers.{IsDoubtedAfter};
-ghost use Rattle.audit_recording.specs.Reasons.Listed.{frame_reasons, is_astray, is_one_way, missing_reasons, reasons_of, up_to, where_so, whole_reasons};
+ghost use Rattle.audit_recording.specs.Reasons.Listed.{frame_reasons, is_astray, is_one_way, missing_reasons, reasons_of, up_to, where_so, whole_reasons, with_frame};
+ghost use Rattle.audit_recording.specs.declared.blame.reason.Reason.TheVariants.{Copied, Damaged, Discarded, LeftOut, Lost};
 
 use crate::blame::blame::Blamed;
 use crate::blame::missing::Missing;
@@ -62,7 +63,7 @@ impl Doubted {
     {
         let doubts = &self.doubts;
         put_if(reasons, doubts.is_disordered(), Reason::Disordered)?;
-        put_some(reasons, self.left_out.map(|frame| Reason::LeftOut(frame)))?;
+        put_some(reasons, left_out(self.left_out))?;
         put_if(
             reasons,
             doubts.follows_unanswered(),
@@ -92,14 +93,10 @@ impl Doubted {
         ensures added { OnOk result (reasons.new.items ≡ reasons.old.items ++ frame_reasons self.now blamed.now) }
         ensures spare { IsErr result → frame_reasons self.now blamed.now ≢ [] }
     {
-        let lost = up_to(self.missing.first, blamed.frame);
-        put_some(reasons, lost.map(|frame| Reason::Lost(frame)))?;
-        let copied = up_to(self.copied_from, blamed.frame);
-        put_some(reasons, copied.map(|frame| Reason::Copied(frame)))?;
-        let damaged = up_to(self.damaged, blamed.frame);
-        put_some(reasons, damaged.map(|frame| Reason::Damaged(frame)))?;
-        let discarded = up_to(self.discarded, blamed.frame);
-        put_some(reasons, discarded.map(|frame| Reason::Discarded(frame)))
+        put_some(reasons, lost_in(up_to(self.missing.first, blamed.frame)))?;
+        put_some(reasons, copied_from(up_to(self.copied_from, blamed.frame)))?;
+        put_some(reasons, damaged_in(up_to(self.damaged, blamed.frame)))?;
+        put_some(reasons, discarded_in(up_to(self.discarded, blamed.frame)))
     }
 
     /// Adds why a transfer that stops early may have gone on.
@@ -107,11 +104,8 @@ impl Doubted {
         ensures added { OnOk result (reasons.new.items ≡ reasons.old.items ++ missing_reasons self.now) }
         ensures spare { IsErr result → missing_reasons self.now ≢ [] }
     {
-        put_some(reasons, self.left_out.map(|frame| Reason::LeftOut(frame)))?;
-        put_some(
-            reasons,
-            self.missing.within.map(|frame| Reason::Lost(frame)),
-        )
+        put_some(reasons, left_out(self.left_out))?;
+        put_some(reasons, lost_in(self.missing.within))
     }
 }
 
@@ -144,5 +138,55 @@ fn up_to(frame: Option<u64>, last: u64) -> Option<u64>
     match frame {
         Some(frame) if frame <= last => Some(frame),
         _ => None,
+    }
+}
+
+/// The reason that a frame was left out, if one was.
+fn left_out(frame: Option<u64>) -> Option<Reason>
+    ensures { option_to_list result ≡ with_frame LeftOut frame }
+{
+    match frame {
+        Some(frame) => Some(Reason::LeftOut(frame)),
+        None => None,
+    }
+}
+
+/// The reason that a frame is lost, if one is.
+fn lost_in(frame: Option<u64>) -> Option<Reason>
+    ensures { option_to_list result ≡ with_frame Lost frame }
+{
+    match frame {
+        Some(frame) => Some(Reason::Lost(frame)),
+        None => None,
+    }
+}
+
+/// The reason that a frame may be a copy, if one may.
+fn copied_from(frame: Option<u64>) -> Option<Reason>
+    ensures { option_to_list result ≡ with_frame Copied frame }
+{
+    match frame {
+        Some(frame) => Some(Reason::Copied(frame)),
+        None => None,
+    }
+}
+
+/// The reason that a frame was received with an error, if one was.
+fn damaged_in(frame: Option<u64>) -> Option<Reason>
+    ensures { option_to_list result ≡ with_frame Damaged frame }
+{
+    match frame {
+        Some(frame) => Some(Reason::Damaged(frame)),
+        None => None,
+    }
+}
+
+/// The reason that a frame was discarded, if one was.
+fn discarded_in(frame: Option<u64>) -> Option<Reason>
+    ensures { option_to_list result ≡ with_frame Discarded frame }
+{
+    match frame {
+        Some(frame) => Some(Reason::Discarded(frame)),
+        None => None,
     }
 }

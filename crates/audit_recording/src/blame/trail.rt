@@ -50,7 +50,6 @@ use tftp_packet::{End, opcode};
 const ERROR_5: [u8; 4] = [0, 5, 0, 5];
 
 /// A transfer, as far as it was read.
-#[derive(Drop)]
 pub struct Trail {
     /// Which transfer it is.
     pub transfer: Transfer,
@@ -90,6 +89,34 @@ pub struct Trail {
     /// How it ended, as far as it was read.
     closing: Closing,
     blame: Blame,
+}
+
+impl Drop for Trail {
+    // written out, since the prover takes a derived one apart again wherever a value is let go
+    fn drop(self) {
+        let Trail {
+            transfer: _,
+            request: _,
+            first: _,
+            last: _,
+            count: _,
+            last_time: _,
+            ends: _,
+            is_answered: _,
+            has_gone_on: _,
+            options: _,
+            left_out: _,
+            twice: _,
+            copied_from: _,
+            damaged: _,
+            from_client: _,
+            to_client: _,
+            discarded: _,
+            undelivered: _,
+            closing: _,
+            blame: _,
+        } = self;
+    }
 }
 
 impl Trail {

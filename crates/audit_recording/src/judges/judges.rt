@@ -1,11 +1,12 @@
 //! The judges of one transfer, beside each other.
 
-ghost use Rattle.std.specs.Prelude.{◌≡◌, ◌≤◌, ◌∷◌, ℕ, List, [], length, Option, option_copied, IfSome, IsErr, OnErr, OnOk, Ok, Err, MatchBool, true, false, unwrap_or};
+ghost use Rattle.std.specs.Prelude.{◌≡◌, ◌≤◌, ◌∷◌, List, [], length, Option, Some, IfSome, IsErr, OnErr, OnOk, Ok, Err, MatchBool, is_some, true, false, unwrap_or};
 ghost use Rattle.audit_recording.specs.Between.{between_capture, is_to_itself, sides_of, IsBetweenVerdict};
 ghost use Rattle.audit_views.specs.Parties.{host_name};
-ghost use Rattle.audit_recording.specs.Judges.Kept.{AreAt, AreFew, AreJudgesAfter, AreOf, AreRefusalsTold, AreTold, AreWants, IsCrowded};
+ghost use Rattle.audit_recording.specs.Judges.Kept.{AreAt, AreFew, AreJudgesAfter, AreOf, AreRefusalsTold, AreTold, AreWants, BetweenStands, ClientStands, IsCrowded, ServerStands, fed_at_client, fed_at_server, fed_between, refused_at_client, refused_at_server, refused_between};
 ghost use Rattle.law_tap.specs.{AreApart};
 ghost use Rattle.judge_tap.specs.{TapRefusal as RefusalKind};
+ghost use Rattle.tftp_judge.specs.{Refusal as RefusalAtEnd};
 ghost use Rattle.tftp_judge.specs.declared.refusal.Refusal.TheVariants.{Memory};
 ghost use Rattle.audit_flows.specs.Lines.{Placed};
 ghost use Rattle.audit_flows.specs.{Transfer};
@@ -23,7 +24,7 @@ use judge_tap::TapRefusal;
 use std::alloc::{AllocError, Global};
 use std::marker::Model;
 use tftp_ends::blocks::Delivered;
-use tftp_judge::Refusal;
+use tftp_judge::{Meaning, Refusal};
 use tftp_packet::rounds::Rollover;
 
 /// How many datagrams a judge can count.
@@ -32,9 +33,9 @@ const MOST: u64 = 1 << 40;
 /// The judges of a transfer, each where it is judged.
 #[derive(Drop)]
 pub(crate) struct Judges<D: Delivered + Drop> {
-    client: Option<ClientJudge<D>>,
-    server: Option<ServerView<D>>,
-    between: Option<BetweenView<D>>,
+    pub(crate) client: Option<ClientJudge<D>>,
+    pub(crate) server: Option<ServerView<D>>,
+    pub(crate) between: Option<BetweenView<D>>,
     failed: bool,
 }
 
@@ -106,27 +107,6 @@ impl<D: Delivered + Drop> Judges<D> {
             || counted(&self.between) >= MOST
     }
 
-    /// The judge at the client, where it is judged there.
-    pub(crate) fn client(&self) -> Option<&ClientJudge<D>>
-        ensures { option_copied result ≡ self.now.client }
-    {
-        self.client.as_ref()
-    }
-
-    /// The judge at the server, where it is judged there.
-    pub(crate) fn server(&self) -> Option<&ServerView<D>>
-        ensures { option_copied result ≡ self.now.server }
-    {
-        self.server.as_ref()
-    }
-
-    /// The judge between the ends, where it is judged there.
-    pub(crate) fn between(&self) -> Option<&BetweenView<D>>
-        ensures { option_copied result ≡ self.now.between }
-    {
-        self.between.as_ref()
-    }
-
     /// What there is to say of the whole that was fed, at each point. What was refused there is told, also where memory ran out
     /// since.
     pub(crate) fn finish(self, alloc: Global) -> Verdicts
@@ -148,21 +128,82 @@ impl<D: Delivered + Drop> Judges<D> {
             between,
             failed,
         } = self;
-        if failed {
-            return Verdicts {
-                client: client.map(|judge| Err(refused_or_wanting(judge.refused(), judge.fed()))),
-                server: server.map(|judge| Err(refused_or_wanting(judge.refused(), judge.fed()))),
-                between: between.map(|judge| Err(refused_or_wanting_between(
-                    judge.refused(),
-                    judge.fed(),
-                ))),
-            };
-        }
         Verdicts {
-            client: client.map(|judge| judge.finish(alloc)),
-            server: server.map(|judge| judge.finish(alloc)),
-            between: between.map(|judge| judge.finish(alloc)),
+            client: said_at_client(client, alloc, failed),
+            server: said_at_server(server, alloc, failed),
+            between: said_between(between, alloc, failed),
         }
+    }
+}
+
+/// What there is to say at the client, where it is judged there; or it failed for want of memory.
+fn said_at_client<D: Delivered + Drop>(
+    judge: Option<ClientJudge<D>>,
+    alloc: Global,
+    failed: bool,
+) -> Option<Result<Meaning, Refusal>>
+    ensures there { is_some result ≡ is_some judge }
+    ensures found { (rollover : Option Rollover) (x : Transfer) (name : Naming) (whole : List Placed) → failed ≡ false → ClientStands rollover judge x name whole
+        → IfSome result (IsFoundBy rollover (client_header x) (client_capture name x whole)) }
+    ensures wants { failed ≡ true → IfSome result (λ said. said ≡ Err (unwrap_or (refused_at_client judge) (Memory (fed_at_client judge)))) }
+    ensures refused { (refusal : RefusalAtEnd) → refused_at_client judge ≡ Some refusal → result ≡ Some (Err refusal) }
+{
+    match judge {
+        Some(judge) => {
+            if failed {
+                return Some(Err(refused_or_wanting(judge.refused(), judge.fed())));
+            }
+            Some(judge.finish(alloc))
+        }
+        None => None,
+    }
+}
+
+/// The same at the server.
+fn said_at_server<D: Delivered + Drop>(
+    judge: Option<ServerView<D>>,
+    alloc: Global,
+    failed: bool,
+) -> Option<Result<Meaning, Refusal>>
+    ensures there { is_some result ≡ is_some judge }
+    ensures found { (rollover : Option Rollover) (x : Transfer) (name : Naming) (whole : List Placed) → failed ≡ false → ServerStands rollover judge x name whole
+        → IfSome result (IsFoundBy rollover (server_header x) (server_capture name x whole whole)) }
+    ensures wants { failed ≡ true → IfSome result (λ said. said ≡ Err (unwrap_or (refused_at_server judge) (Memory (fed_at_server judge)))) }
+    ensures refused { (refusal : RefusalAtEnd) → refused_at_server judge ≡ Some refusal → result ≡ Some (Err refusal) }
+{
+    match judge {
+        Some(view) => {
+            if failed {
+                return Some(Err(refused_or_wanting(view.refused(), view.fed())));
+            }
+            Some(view.finish(alloc))
+        }
+        None => None,
+    }
+}
+
+/// The same between the ends.
+fn said_between<D: Delivered + Drop>(
+    judge: Option<BetweenView<D>>,
+    alloc: Global,
+    failed: bool,
+) -> Option<Result<Meaning, TapRefusal>>
+    ensures there { is_some result ≡ is_some judge }
+    ensures found { (x : Transfer) (whole : List Placed) → failed ≡ false → BetweenStands judge x host_name whole → AreApart (sides_of x whole)
+        → IfSome result (λ said. IsBetweenVerdict (sides_of x whole) (between_capture x whole) said) }
+    ensures to_itself { (x : Transfer) (whole : List Placed) → failed ≡ false → BetweenStands judge x host_name whole → is_to_itself x whole ≡ true
+        → IfSome result (λ said. said ≡ Err (RefusalKind.Incomplete (length (between_capture x whole)))) }
+    ensures wants { failed ≡ true → IfSome result (λ said. said ≡ Err (unwrap_or (refused_between judge) (RefusalKind.Memory (fed_between judge)))) }
+    ensures refused { (refusal : RefusalKind) → refused_between judge ≡ Some refusal → result ≡ Some (Err refusal) }
+{
+    match judge {
+        Some(judge) => {
+            if failed {
+                return Some(Err(refused_or_wanting_between(judge.refused(), judge.fed())));
+            }
+            Some(judge.finish(alloc))
+        }
+        None => None,
     }
 }
 

@@ -117,21 +117,21 @@ impl<D: Delivered + Drop> Watched<D> {
     pub fn client(&self) -> Option<&ClientJudge<D>>
         ensures { option_copied result ≡ self.now.judges.client }
     {
-        self.judges.client()
+        self.judges.client.as_ref()
     }
 
     /// The judge at its server, if it is judged there.
     pub fn server(&self) -> Option<&ServerView<D>>
         ensures { option_copied result ≡ self.now.judges.server }
     {
-        self.judges.server()
+        self.judges.server.as_ref()
     }
 
     /// The judge between its ends, if it is judged there.
     pub fn between(&self) -> Option<&BetweenView<D>>
         ensures { option_copied result ≡ self.now.judges.between }
     {
-        self.judges.between()
+        self.judges.between.as_ref()
     }
 
     /// What is doubtful of it.

@@ -3,6 +3,7 @@
 ghost use Rattle.std.specs.Prelude.{◌≡◌, ◌<◌, ◌∷◌, ℕ, List, [], None, Option, length, option_to_list};
 ghost use Rattle.std.specs.Io.{ReadsAtMost};
 ghost use Rattle.std.specs.Io.KnownBytes.{Keeps, ReadConsumes, prepend_known};
+ghost use Rattle.audit_recording.specs.Session.Headed.{is_recording};
 
 use std::io;
 use std::io::Read;
@@ -118,7 +119,9 @@ pub fn hint(head: &[u8]) -> &'static str {
 }
 
 /// Whether a file that begins so is a recording: pcap, in both orders of bytes, in microseconds or nanoseconds, or pcapng.
-pub fn is_recording(head: &[u8]) -> bool {
+pub fn is_recording(head: &[u8]) -> bool
+    ensures { result ≡ is_recording head.now }
+{
     match head {
         [0xa1, 0xb2, 0xc3, 0xd4, ..] | [0xd4, 0xc3, 0xb2, 0xa1, ..] => true,
         [0xa1, 0xb2, 0x3c, 0x4d, ..] | [0x4d, 0x3c, 0xb2, 0xa1, ..] => true,

@@ -1,6 +1,6 @@
 //! Which frames of one host are not there whole.
 
-ghost use Rattle.std.specs.Prelude.{◌≡◌, ℕ, MatchBool, None, OnOk, Some, true};
+ghost use Rattle.std.specs.Prelude.{◌≡◌, ◌<◌, ◌≤◌, ℕ, IfSome, MatchBool, None, OnOk, Some, true};
 ghost use Rattle.std.specs.BTreeMap.{get};
 ghost use Rattle.std.specs.Ordering.{nat_cmp};
 ghost use Rattle.audit_recording.specs.Losses.Noted.{IsFirst, IsTold, Since, is_soon};
@@ -115,12 +115,24 @@ fn first_of(frames: &BTreeMap<u64, u64>) -> Option<u64>
     }
 }
 
+/// The first of some frames from this one on, and when it passed.
+fn first_from(frames: &BTreeMap<u64, u64>, first: u64) -> Option<(u64, u64)>
+    ensures none { result ≡ None → (n time : ℕ) → get nat_cmp frames.now n ≡ Some time → n < first }
+    ensures some { IfSome result (λ e. (get nat_cmp frames.now e.0 ≡ Some e.1) × (first ≤ e.0)) }
+    ensures least { IfSome result (λ e. (n time : ℕ) → get nat_cmp frames.now n ≡ Some time → first ≤ n → e.0 ≤ n) }
+{
+    match frames.range(first..).next() {
+        Some((frame, time)) => Some((*frame, *time)),
+        None => None,
+    }
+}
+
 /// The first of some frames since a transfer's request, if it stands among its datagrams or comes at most 300 s after them.
 fn first_within(frames: &BTreeMap<u64, u64>, stretch: &Stretch) -> Option<u64>
     ensures { IsTold (Since (λ n time. get nat_cmp frames.now n ≡ Some time) stretch.now) stretch.now result }
 {
-    match frames.range(stretch.first..).next() {
-        Some((frame, time)) if is_soon(stretch, *frame, *time) => Some(*frame),
+    match first_from(frames, stretch.first) {
+        Some((frame, time)) if is_soon(stretch, frame, time) => Some(frame),
         _ => None,
     }
 }

@@ -23,6 +23,7 @@ ghost use Rattle.audit_recording.specs.Reasons.Unplaced.Event.{Ends, Opens, Pass
 ghost use Rattle.audit_recording.specs.Audit.Passed.{HasPassed};
 ghost use Rattle.audit_recording.specs.Blame.Frames.{Carried, datagrams_of};
 ghost use Rattle.audit_flows.specs.Lines.{silence};
+ghost use Rattle.audit_recording.specs.Session.Headed.{is_recording};
 ghost use Rattle.audit_recording.specs.Session.Lines.{behind_words, dropped_lines, fault_lines, left_out_lines, lines_of, pair_lines, ports_text};
 ghost use Rattle.audit_recording.specs.Session.Noted.{AreUpTo, Noticed, frames_in, giving_up, going_back, told_in};
 ghost use Rattle.audit_recording.specs.Session.Over.{AreLater, IsPast};
@@ -216,4 +217,12 @@ pub fn worked_texts()
     ensures second { ordinal 1 (placed [] two_clients) ≡ 2 }
     ensures unopened { ordinal 2 (placed [] two_clients) ≡ 0 }
     ensures heading { heading_text 2 (codes "boot.pcap") Client client server ≡ codes "transfer 2 of 'boot.pcap', at the client; client 192.0.2.7:40000, server 192.0.2.1:41000" }
+{}
+
+/// A classic recording and a pcapng one begin so, and a capture text does not.
+pub fn worked_heads()
+    ensures classic { is_recording (212 ∷ 195 ∷ 178 ∷ 161 ∷ 2 ∷ 0 ∷ []) ≡ true }
+    ensures blocks { is_recording (10 ∷ 13 ∷ 13 ∷ 10 ∷ []) ≡ true }
+    ensures text { is_recording (codes "tftp-capture 1") ≡ false }
+    ensures short { is_recording (212 ∷ 195 ∷ 178 ∷ []) ≡ false }
 {}

@@ -9,7 +9,7 @@ ghost use Rattle.audit_recording.specs.Reasons.Clock.{IsClockAfter};
 ghost use Rattle.audit_recording.specs.Session.Lines.{aside_lines, fault_lines, lines_told, lost_lines, ports_text};
 ghost use Rattle.audit_recording.specs.Session.Noted.{AreHostsOf, AreNotesOf, Noticed, finding, frames_in, giving_up, going, going_back, leaving, leaving_aside, losing, lost_frames, may_be_datagram, nothing_noticed, noting, others, passing_by, stretch_of, told_in, unread_in};
 ghost use Rattle.audit_recording.specs.Session.Over.{IsPast, IsWaitingAt};
-ghost use Rattle.audit_recording.specs.Session.Recording.{reached_by};
+ghost use Rattle.audit_recording.specs.Session.Recording.{reached_by, setting_aside};
 ghost use Rattle.audit_recording.specs.Session.Told.{AreKindsOf, Told, is_nil};
 
 use crate::blame::{Missing, Passing, Trail};
@@ -21,7 +21,7 @@ use crate::session::intact::IntactHosts;
 use crate::session::kinds::Kinds;
 use crate::session::losses::{Losses, SILENCE, Stretch, WAIT};
 use crate::session::missing::{fault_line, put_dropped};
-use audit_flows::lines::Endpoint;
+use audit_flows::lines::{Endpoint, Place};
 use net_pcap::PcapFault;
 use net_udp::fragments::Fragments;
 use net_udp::frames::{FrameFault, UdpFault};
@@ -29,7 +29,6 @@ use net_udp::recording::{Event, LeftOut};
 use std::alloc::{AllocError, Global};
 
 /// What is to be told of a recording.
-#[derive(Drop)]
 pub struct Notes {
     /// Frames of which something is told, by what is told.
     kinds: Kinds,
@@ -50,6 +49,24 @@ pub struct Notes {
     pub may_lose: bool,
     /// How many packets the recorder lost, as far as it has told that.
     pub dropped: u64,
+}
+
+impl Drop for Notes {
+    // written out, since the prover takes a derived one apart again wherever a value is let go
+    fn drop(self) {
+        let Notes {
+            kinds: _,
+            behind: _,
+            losses: _,
+            intact: _,
+            begun: _,
+            asked: _,
+            fault: _,
+            clock: _,
+            may_lose: _,
+            dropped: _,
+        } = self;
+    }
 }
 
 impl Notes {
@@ -237,6 +254,21 @@ impl Notes {
     {
         self.intact.discard(source, target, frame, time)?;
         self.kinds.discarded.add(frame)
+    }
+
+    /// Notes a datagram that is about no transfer.
+    pub(crate) fn set_aside(
+        &mut self,
+        place: &Place,
+        passing: &Passing<'_>,
+    ) -> Result<(), AllocError>
+        ensures stands { (s : Noticed) → AreNotesOf self.old s → OnOk result (AreNotesOf self.new (setting_aside place.now passing.now.frame s)) }
+        ensures fault { self.new.fault ≡ self.old.fault }
+    {
+        match place {
+            Place::Opens(_) | Place::Repeats(_) | Place::Talks(_) | Place::Beside(_) => Ok(()),
+            Place::Apart(_) | Place::Nowhere => self.leave_out(passing),
+        }
     }
 
     /// Notes a datagram of no transfer.

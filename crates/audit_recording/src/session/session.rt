@@ -11,32 +11,31 @@ ghost use Rattle.net_udp.specs.Recording.{IsFateOf, StandsFor, Step, checksum_to
 ghost use Rattle.net_udp.specs.{Fate as Became};
 ghost use Rattle.net_udp.specs.declared.recording.fate.Datagram.{Datagram as Given};
 ghost use Rattle.audit_flows.specs.Lines.{same_address};
-ghost use Rattle.audit_flows.specs.{Attributed as Found, Opens, Transfer as TransferValue};
+ghost use Rattle.audit_flows.specs.{Attributed as Found, Opens};
 ghost use Rattle.audit_recording.specs.Audit.{AuditsAfter};
 ghost use Rattle.audit_recording.specs.Audit.Audited.{IsAttributed, IsOfEvent};
 ghost use Rattle.audit_recording.specs.Blame.Frames.{Carried, datagrams_of, framed_after, whole_of};
-ghost use Rattle.audit_recording.specs.Blame.Kept.{IsPassing, IsTrailOf, is_about_it};
+ghost use Rattle.audit_recording.specs.Blame.Kept.{IsPassing};
 ghost use Rattle.audit_recording.specs.Judges.{IsWatching, WereOpened, is_among, opened};
 ghost use Rattle.audit_recording.specs.declared.judges.judging.Judging.{Judging as JudgingKind};
 ghost use Rattle.audit_views.specs.Parties.{host_name};
-ghost use Rattle.audit_recording.specs.Losses.Noted.{IsAsked, IsFirst, IsMissingOf, IsTold, MayMiss, Since};
-ghost use Rattle.audit_recording.specs.Losses.Noted.Event.{Asks};
-ghost use Rattle.audit_recording.specs.Session.Noted.{AreNotesOf, Noticed, finding, going, nothing_noticed, noting, sharers_of, stretch_of};
-ghost use Rattle.audit_recording.specs.Session.Recording.{AddsOne, IsCarriedBy, IsNoticedOf, asking, gone_by, intact_at, intact_by, placing, reached_by, setting_aside};
+ghost use Rattle.audit_recording.specs.Losses.Noted.{IsAsked, IsFirst, IsMissingOf, IsTold, Since};
+ghost use Rattle.audit_recording.specs.Session.Noted.{AreNotesOf, Noticed, nothing_noticed, stretch_of};
+ghost use Rattle.audit_recording.specs.Session.Recording.{AddsOne, IsCarriedBy, IsNoticedOf, intact_at, intact_by, placing, setting_aside};
 ghost use Rattle.audit_recording.specs.Session.Kept.{AreJudgesLeft, GivesNone, IsSessionAfter, IsSessionOf, ReadsOn};
 ghost use Rattle.audit_recording.specs.Session.Over.{IsOldestOver};
 ghost use Rattle.audit_recording.specs.Session.Texts.{AreTextsKept, IsNoneNumbered, opened_numbers, ordinal};
 ghost use Rattle.audit_recording.specs.Session.Trails.{AreTrailsBegun, AreTrailsKept, IsTrailAfter};
 
 use crate::audit::{AuditFault, NextFrame, RecordingAudit};
-use crate::blame::{Missing, Passing, Spoilt, Trail, Undelivered, about};
+use crate::blame::{Missing, Passing, Trail, about};
 use crate::judges::{Judging, Watched};
 use crate::session::fault::{ReadFault, TextFault};
 use crate::session::kept::Kept;
-use crate::session::losses::SILENCE;
 use crate::session::notes::Notes;
+use crate::session::trails::{ask, discard, hand_over, note_undelivered};
 use crate::session::unplaced::Unplaced;
-use audit_flows::lines::{Endpoint, Place, Transfer};
+use audit_flows::lines::Place;
 use audit_flows::transfers::{Attributed, AttributionFault};
 use audit_views::parties::party_of;
 use audit_views::views::Fed;
@@ -201,44 +200,8 @@ impl Session {
         self.notes.lose(alloc, event.old())?;
         self.notes.lose_all(alloc, event.take_ousted(alloc))?;
         self.note(alloc, event, found)?;
-        self.note_undelivered(event);
+        note_undelivered(&mut self.trails, &self.unplaced, event);
         Ok(true)
-    }
-
-    /// Notes at the newest transfer of a client that its datagram, or one to it, did not arrive, if the frame tells that.
-    fn note_undelivered(&mut self, event: &Event)
-        ensures notes { self.new.notes ≡ self.old.notes }
-        ensures audit { self.new.audit ≡ self.old.audit }
-        ensures trails { (judging : JudgingKind) (named out : List ℕ) (carried : List Carried) → AreTrailsKept self.old.trails judging named out carried → AreTrailsKept self.new.trails judging named out carried }
-        ensures kept { self.new.kept ≡ self.old.kept }
-    {
-        let Some(told) = event.unreachable() else {
-            return;
-        };
-        let undelivered = Undelivered {
-            frame: event.number(),
-            host: party_of(told.from, 0).end.address,
-            code: told.code,
-            source: party_of(told.quoted.source, told.quoted.source_port).end,
-            target: party_of(told.quoted.target, told.quoted.target_port).end,
-        };
-        self.note_undelivered_at(undelivered.source, undelivered);
-        self.note_undelivered_at(undelivered.target, undelivered);
-    }
-
-    /// Notes it at the newest transfer of a client with this endpoint.
-    fn note_undelivered_at(&mut self, end: Endpoint, undelivered: Undelivered)
-        ensures notes { self.new.notes ≡ self.old.notes }
-        ensures audit { self.new.audit ≡ self.old.audit }
-        ensures trails { (judging : JudgingKind) (named out : List ℕ) (carried : List Carried) → AreTrailsKept self.old.trails judging named out carried → AreTrailsKept self.new.trails judging named out carried }
-        ensures kept { self.new.kept ≡ self.old.kept }
-    {
-        let Some(number) = self.unplaced.newest(end) else {
-            return;
-        };
-        if let Some(trail) = self.trails.get_mut(&number) {
-            trail.note_undelivered(undelivered);
-        }
     }
 
     /// Notes what became of a frame.
@@ -278,51 +241,14 @@ impl Session {
             Fate::Datagram(datagram) => self.pass(alloc, event, &datagram, found),
             Fate::Left(why) => Ok(self.notes.leave(alloc, why, event)?),
             Fate::Waits => Ok(self.notes.wait(alloc, event)?),
-            Fate::Discarded(datagram) => Ok(self.discard(alloc, event, &datagram)?),
-        }
-    }
-
-    /// Notes a datagram that its host discarded, also at the newest transfer of a client that sent it, or that it went to.
-    fn discard(
-        &mut self,
-        alloc: Global,
-        event: &Event,
-        datagram: &Datagram<'_>,
-    ) -> Result<(), AllocError>
-        ensures notes { (s : Noticed) → AreNotesOf self.old.notes s
-            → OnOk result (AreNotesOf self.new.notes (going (gone_by event.now datagram.now s.times) (finding (reached_by s.times) (sharers_of event.now) s))) }
-        ensures audit { self.new.audit ≡ self.old.audit }
-        ensures trails { (judging : JudgingKind) (named out : List ℕ) (carried : List Carried) → AreTrailsKept self.old.trails judging named out carried → AreTrailsKept self.new.trails judging named out carried }
-        ensures fault { self.new.notes.fault ≡ self.old.notes.fault }
-        ensures kept { self.new.kept ≡ self.old.kept }
-    {
-        self.notes.find(alloc, event.sharers())?;
-        let source = party_of(datagram.source, datagram.source_port).end;
-        let target = party_of(datagram.target, datagram.target_port).end;
-        let time = self.notes.clock.time_of(event.time());
-        let frame = event.number();
-        self.notes.discard(source, target, frame, time)?;
-        let spoilt = Spoilt {
-            frame,
-            host: source.address,
-        };
-        self.discard_at(source, spoilt);
-        self.discard_at(target, spoilt);
-        Ok(())
-    }
-
-    /// Notes it at the newest transfer of a client with this endpoint.
-    fn discard_at(&mut self, end: Endpoint, spoilt: Spoilt)
-        ensures notes { self.new.notes ≡ self.old.notes }
-        ensures audit { self.new.audit ≡ self.old.audit }
-        ensures trails { (judging : JudgingKind) (named out : List ℕ) (carried : List Carried) → AreTrailsKept self.old.trails judging named out carried → AreTrailsKept self.new.trails judging named out carried }
-        ensures kept { self.new.kept ≡ self.old.kept }
-    {
-        let Some(number) = self.unplaced.newest(end) else {
-            return;
-        };
-        if let Some(trail) = self.trails.get_mut(&number) {
-            trail.discard(spoilt);
+            Fate::Discarded(datagram) => Ok(discard(
+                &mut self.trails,
+                &self.unplaced,
+                &mut self.notes,
+                alloc,
+                event,
+                &datagram,
+            )?),
         }
     }
 
@@ -369,7 +295,14 @@ impl Session {
             payload: datagram.payload,
         };
         self.notes.pass(&passing)?;
-        self.ask(alloc, &found.place, &passing)?;
+        ask(
+            &mut self.trails,
+            &mut self.unplaced,
+            &mut self.notes,
+            alloc,
+            &found.place,
+            &passing,
+        )?;
         let fed = Fed {
             place: &found.place,
             source: &source,
@@ -378,55 +311,6 @@ impl Session {
         };
         self.kept.note(alloc, &fed, &passing)?;
         Ok(self.follow(&found, &passing)?)
-    }
-
-    /// Keeps a transfer, if the datagram is a request that opens one.
-    fn ask(&mut self, alloc: Global, place: &Place, request: &Passing<'_>) -> Result<(), AllocError>
-        ensures notes { (s : Noticed) → AreNotesOf self.old.notes s → s.last < request.now.frame
-            → OnOk result (AreNotesOf self.new.notes (asking place.now request.now.frame s)) }
-        ensures audit { self.new.audit ≡ self.old.audit }
-        ensures trails { (judging : JudgingKind) (named out : List ℕ) (c : Carried) (carried : List Carried)
-            → place.now ≡ (framed_after named carried c).placed.place → IsPassing request.now c → WereOpened out (whole_of named carried)
-            → AreTrailsKept self.old.trails judging named out carried → OnOk result (AreTrailsBegun self.new.trails judging named out c carried) }
-        ensures fault { self.new.notes.fault ≡ self.old.notes.fault }
-        ensures kept { self.new.kept ≡ self.old.kept }
-    {
-        match place {
-            Place::Opens(transfer) => self.open(alloc, *transfer, request),
-            Place::Repeats(_) => Ok(()),
-            Place::Talks(_) => Ok(()),
-            Place::Apart(_) => Ok(()),
-            Place::Beside(_) => Ok(()),
-            Place::Nowhere => Ok(()),
-        }
-    }
-
-    /// Keeps a transfer that a request opens.
-    fn open(
-        &mut self,
-        alloc: Global,
-        transfer: Transfer,
-        request: &Passing<'_>,
-    ) -> Result<(), AllocError>
-        ensures notes { (s : Noticed) → AreNotesOf self.old.notes s → s.last < request.now.frame
-            → OnOk result (AreNotesOf self.new.notes (noting (Asks transfer.client.address request.now.frame) request.now.frame s)) }
-        ensures audit { self.new.audit ≡ self.old.audit }
-        ensures trails { (judging : JudgingKind) (named out : List ℕ) (c : Carried) (carried : List Carried)
-            → Opens transfer ≡ (framed_after named carried c).placed.place → IsPassing request.now c → WereOpened out (whole_of named carried)
-            → AreTrailsKept self.old.trails judging named out carried → OnOk result (AreTrailsBegun self.new.trails judging named out c carried) }
-        ensures fault { self.new.notes.fault ≡ self.old.notes.fault }
-        ensures kept { self.new.kept ≡ self.old.kept }
-    {
-        let payload = Vec::from_slice(alloc, request.payload)?;
-        let mut trail = Trail::new(alloc, transfer, payload, request.frame);
-        let time = self.notes.clock.time_of(request.time);
-        let later = self.unplaced.open(transfer.client, transfer.number, time);
-        let asked = self.notes.ask(alloc, &trail);
-        note_later(&mut trail, &later);
-        self.notes.intact.open(&mut trail, time);
-        self.trails.insert(transfer.number, trail)?;
-        later?;
-        asked
     }
 
     /// Notes a datagram at the transfer that it is about, or as one of none.
@@ -441,99 +325,15 @@ impl Session {
         ensures fault { self.new.notes.fault ≡ self.old.notes.fault }
         ensures kept { self.new.kept ≡ self.old.kept }
     {
-        self.hand_over(found, passing)?;
-        self.set_aside(&found.place, passing)
-    }
-
-    /// Hands a datagram to the transfer that it is about, or to those within whose time it may be.
-    fn hand_over(&mut self, found: &Attributed, passing: &Passing<'_>) -> Result<(), AllocError>
-        ensures notes { self.new.notes ≡ self.old.notes }
-        ensures audit { self.new.audit ≡ self.old.audit }
-        ensures trails { (named out : List ℕ) (history : List Step) (c : Carried) (carried : List Carried)
-            → IsAttributed named (datagrams_of carried) c.datagram found.now → IsPassing passing.now c
-            → AuditsAfter self.old.audit named out history (datagrams_of (c ∷ carried))
-            → AreTrailsBegun self.old.trails self.old.audit.judge.judging named out c carried
-            → OnOk result (AreTrailsKept self.new.trails self.old.audit.judge.judging named out (c ∷ carried)) }
-        ensures kept { self.new.kept ≡ self.old.kept }
-    {
-        match about(&found.place) {
-            Some(number) => self.hand(number, found, passing),
-            None => self.leave_out(&found.place, passing),
-        }
-    }
-
-    /// Hands a datagram to the trail of the transfer with this number.
-    fn hand(
-        &mut self,
-        number: u64,
-        found: &Attributed,
-        passing: &Passing<'_>,
-    ) -> Result<(), AllocError>
-        ensures notes { self.new.notes ≡ self.old.notes }
-        ensures audit { self.new.audit ≡ self.old.audit }
-        ensures trails { (named out : List ℕ) (history : List Step) (c : Carried) (carried : List Carried)
-            → ((n : ℕ) → is_about_it n (framed_after named carried c) ≡ (number == n))
-            → IsAttributed named (datagrams_of carried) c.datagram found.now → IsPassing passing.now c
-            → AuditsAfter self.old.audit named out history (datagrams_of (c ∷ carried))
-            → AreTrailsBegun self.old.trails self.old.audit.judge.judging named out c carried
-            → OnOk result (AreTrailsKept self.new.trails self.old.audit.judge.judging named out (c ∷ carried)) }
-        ensures kept { self.new.kept ≡ self.old.kept }
-    {
-        match self.trails.get_mut(&number) {
-            Some(trail) => match self.audit.watched(number) {
-                Some(watched) => trail.take(found, passing, watched),
-                None => Ok(()),
-            },
-            None => Ok(()),
-        }
-    }
-
-    /// Notes a datagram that is about no transfer.
-    fn set_aside(&mut self, place: &Place, passing: &Passing<'_>) -> Result<(), AllocError>
-        ensures notes { (s : Noticed) → AreNotesOf self.old.notes s → OnOk result (AreNotesOf self.new.notes (setting_aside place.now passing.now.frame s)) }
-        ensures audit { self.new.audit ≡ self.old.audit }
-        ensures trails { self.new.trails ≡ self.old.trails }
-        ensures fault { self.new.notes.fault ≡ self.old.notes.fault }
-        ensures kept { self.new.kept ≡ self.old.kept }
-    {
-        match place {
-            Place::Opens(_) | Place::Repeats(_) | Place::Talks(_) | Place::Beside(_) => Ok(()),
-            Place::Apart(_) | Place::Nowhere => self.notes.leave_out(passing),
-        }
-    }
-
-    /// Notes a datagram of no client's line where its time may be within a transfer's.
-    fn leave_out(&mut self, place: &Place, passing: &Passing<'_>) -> Result<(), AllocError>
-        ensures notes { self.new.notes ≡ self.old.notes }
-        ensures audit { self.new.audit ≡ self.old.audit }
-        ensures trails { (judging : JudgingKind) (named out : List ℕ) (carried : List Carried) → AreTrailsKept self.old.trails judging named out carried → AreTrailsKept self.new.trails judging named out carried }
-        ensures kept { self.new.kept ≡ self.old.kept }
-    {
-        let Place::Nowhere = place else {
-            return Ok(());
-        };
-        let time = self.notes.clock.time_of(passing.time);
-        self.leave_out_at(passing.source, passing.frame, time);
-        self.leave_out_at(passing.target, passing.frame, time);
-        self.unplaced.note(passing, time)
-    }
-
-    /// Notes it at the newest transfer of a client with this endpoint, if its time is within the transfer's.
-    fn leave_out_at(&mut self, end: Endpoint, frame: u64, time: u64)
-        ensures notes { self.new.notes ≡ self.old.notes }
-        ensures audit { self.new.audit ≡ self.old.audit }
-        ensures trails { (judging : JudgingKind) (named out : List ℕ) (carried : List Carried) → AreTrailsKept self.old.trails judging named out carried → AreTrailsKept self.new.trails judging named out carried }
-        ensures kept { self.new.kept ≡ self.old.kept }
-    {
-        let Some(number) = self.unplaced.newest(end) else {
-            return;
-        };
-        if let Some(trail) = self.trails.get_mut(&number) {
-            let silent = trail.last_time.saturating_add(SILENCE);
-            if time.max(self.notes.clock.reached) <= silent {
-                trail.leave_out(frame);
-            }
-        }
+        hand_over(
+            &mut self.trails,
+            &mut self.unplaced,
+            &self.notes.clock,
+            &self.audit,
+            found,
+            passing,
+        )?;
+        self.notes.set_aside(&found.place, passing)
     }
 
     /// Whether there is a transfer, and nothing that comes later changes what is told of the oldest: no datagram joins it any
@@ -622,16 +422,6 @@ impl Session {
         }
     }
 
-    /// Whether datagrams of the client of this transfer may be missing.
-    pub(crate) fn may_lack(&self, trail: &Trail) -> bool
-        ensures none { (s : Noticed) → AreNotesOf self.now.notes s → result ≡ false
-            → (self.now.notes.fault ≡ None) × ((n time : ℕ) → IsMissingOf trail.now.transfer.client.address s.events n time → trail.now.last < n) }
-        ensures some { (s : Noticed) → AreNotesOf self.now.notes s → IsAsked (λ host. same_address host trail.now.transfer.client.address) trail.now.first s.events → result ≡ true
-            → IsSome self.now.notes.fault ⊎ MayMiss (stretch_of trail.now) s.events }
-    {
-        self.notes.may_lack(trail)
-    }
-
     /// Lets all that is kept go.
     pub fn let_go(self) {}
 
@@ -666,19 +456,6 @@ fn key_at(keys: &[u64], number: u64) -> Option<u64>
     }
     let place = usize::try_from(number - 1).unwrap_or(usize::MAX);
     keys.get(place).copied()
-}
-
-/// Notes at a transfer the frame of what was left out before its request, but has a later time.
-fn note_later(trail: &mut Trail, later: &Result<Option<u64>, AllocError>)
-    ensures stands { (judging : JudgingKind) (x : TransferValue) (named : List ℕ) (carried : List Carried) → IsTrailOf trail.old judging x named carried
-        → IsTrailOf trail.new judging x named carried }
-    ensures blame { trail.new.blame ≡ trail.old.blame }
-    ensures first { trail.new.first ≡ trail.old.first }
-    ensures request { trail.new.request ≡ trail.old.request }
-{
-    if let Ok(Some(frame)) = later {
-        trail.leave_out(*frame);
-    }
 }
 
 /// Whether a datagram of a transfer is as it was sent, where its checksums tell that.

@@ -81,7 +81,7 @@ impl<'a> TextAt<'a> {
         let Some(text) = session.kept.text(key) else {
             return Err(TextFault::NoTransfer(number, session.count()));
         };
-        if session.may_lack(trail) {
+        if session.notes.may_lack(trail) {
             return Err(TextFault::NotWhole);
         }
         let heading = heading_of(alloc, number, end, file, trail)?;

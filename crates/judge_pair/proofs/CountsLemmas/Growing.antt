@@ -1,6 +1,8 @@
 -- Of more packets no less is lost, and no less repeated; and of few datagrams no more than fits.
-use Rattle.std.proofs.Common.{◌≡◌, ◌≤◌, ◌<◌, ◌⊎◌, ◌+◌, ◌-◌, ◌*◌, ◌==◌, ◌&&◌, if◌then◌else◌, ℕ, zero, suc, Bool, true, false, List, [], ◌∷◌, length, inl, inr, subst, sym, ap, refl, ◌∙◌, arith}
+use Rattle.std.proofs.Common.{◌≡◌, ◌≤◌, ◌<◌, ◌⊎◌, ◌+◌, ◌-◌, ◌==◌, ◌&&◌, if◌then◌else◌, min, slice_index_or, ℕ, zero, suc, Bool, true, false, List, [], ◌∷◌, length, inl, inr, subst, sym, ap, refl, ◌∙◌, arith}
 use Rattle.std.proofs.Math.Nat.{le-suc_iff}
+use Rattle.std.proofs.lemmas.Bool.{cases_eq, cases_lt, ne_eqb}
+use Rattle.std.proofs.lemmas.List.{get_or_past}
 use Rattle.tftp_packet.specs.Hosts.{Datagram}
 use Rattle.law_model.specs.Rules.{comes_in, goes_out}
 use Rattle.judge_pair.specs.Counts.{AreBothWays, AreTooMany, IsSurplus, lost_below, packet_of, packets, repeated_below, sent, surplus_below, taken, times}
@@ -33,28 +35,101 @@ one_surplus more less a b this that = this packets refl ∙ sym (that packets re
 pub sum_over : (limit sum there back a b : ℕ) → a ≡ there → b ≡ back → sum ≡ there + back → (a + b < limit → ⊥) → limit ≤ sum
 sum_over limit sum there back a b a_is b_is is over = omega (arith, a_is, b_is, is, over)
 
+-- behind the numbers that the one count has, it is above no other
+surplus_past : (more less : ℕ → ℕ) (n : ℕ) → ((packet : ℕ) → n ≤ packet → more packet ≡ 0) → (above : ℕ) → n ≤ above → surplus_below above more less ≡ surplus_below n more less
+surplus_past more less n none zero le = let e : n ≡ zero = omega (arith, le) in subst (λ x. surplus_below zero more less ≡ surplus_below x more less) (sym e) refl
+surplus_past more less n none (suc above) le = elim (cases_eq n (suc above)) [
+  | inl e ↦ subst (λ x. surplus_below (suc above) more less ≡ surplus_below x more less) (sym e) refl
+  | inr other ↦
+      let low : n ≤ above = omega (arith, le, other) in
+      let before = surplus_past more less n none above low in
+      let no_more = none above low in
+      omega (arith, before, no_more)
+]
+
+pub surplus_of_list : (xs : List ℕ) (less : ℕ → ℕ) (n above : ℕ) → n ≡ min (length xs) above → surplus_below above (λ packet. slice_index_or xs packet 0) less ≡ surplus_below n (λ packet. slice_index_or xs packet 0) less
+surplus_of_list xs less n above is = elim (cases_lt (length xs) above) [
+  | inl past ↦
+      let e : n ≡ length xs = omega (arith, is, past) in
+      surplus_past (λ packet. slice_index_or xs packet 0) less n (λ packet low. get_or_past xs packet 0 (omega (arith, low, e))) above (omega (arith, past, e))
+  | inr within ↦
+      let e : n ≡ above = omega (arith, is, within) in
+      subst (λ x. surplus_below above (λ packet. slice_index_or xs packet 0) less ≡ surplus_below x (λ packet. slice_index_or xs packet 0) less) (sym e) refl
+]
+
 -- ---- how many can be lost
 
-times_within : (goes : Datagram → Bool) (packet : ℕ) (passed : List Datagram) → times goes packet passed ≤ length passed
-times_within goes packet [] = omega arith
-times_within goes packet (d ∷ passed) = by (goes d && packet_of d.payload == packet) (times_within goes packet passed) where
-  by : (b : Bool) → times goes packet passed ≤ length passed → (if b then 1 else 0) + times goes packet passed ≤ suc (length passed)
-  by true low = omega (arith, low)
-  by false low = omega (arith, low)
+-- of all packets with a lower number
+abbrev all_below : ℕ → (ℕ → ℕ) → ℕ
+all_below zero f = 0
+all_below (suc n) f = all_below n f + f n
 
--- of each packet no more is lost than datagrams passed
-surplus_within : (more less : ℕ → ℕ) (most : ℕ) → ((packet : ℕ) → more packet ≤ most) → (n : ℕ) → surplus_below n more less ≤ n * most
-surplus_within more less most few zero = omega arith
-surplus_within more less most few (suc n) =
-    let low = surplus_within more less most few n in
-    let this = few n in
-    omega (arith, low, this)
+surplus_all : (more less : ℕ → ℕ) (n : ℕ) → surplus_below n more less ≤ all_below n more
+surplus_all more less zero = omega arith
+surplus_all more less (suc n) = let low = surplus_all more less n in omega (arith, low)
 
-lost_within : (n : ℕ) (from to : List Datagram) → lost_below n from to ≤ n * length from
-lost_within n from to = surplus_within (λ packet. sent packet from) (λ packet. taken packet to) (length from) (λ packet. times_within goes_out packet from) n
+all_none : (n : ℕ) → all_below n (λ packet. 0) ≡ 0
+all_none zero = refl
+all_none (suc n) = let none = all_none n in omega (arith, none)
 
-repeated_within : (n : ℕ) (from to : List Datagram) → repeated_below n from to ≤ n * length to
-repeated_within n from to = surplus_within (λ packet. taken packet to) (λ packet. sent packet from) (length to) (λ packet. times_within comes_in packet to) n
+all_sum : (f g : ℕ → ℕ) (n : ℕ) → all_below n (λ packet. f packet + g packet) ≡ all_below n f + all_below n g
+all_sum f g zero = refl
+all_sum f g (suc n) = let sum = all_sum f g n in omega (arith, sum)
+
+-- a datagram is a copy of one packet at most
+abbrev copy_of : Bool → ℕ → ℕ → ℕ
+copy_of goes number packet = if goes && number == packet then 1 else 0
+
+one_or_none : (goes : Bool) (number packet : ℕ) → copy_of goes number packet ≤ 1
+one_or_none goes number packet = by (goes && number == packet) where
+  by : (b : Bool) → (if b then 1 else 0) ≤ 1
+  by true = omega arith
+  by false = omega arith
+
+of_another : (goes : Bool) (number packet : ℕ) → (number ≡ packet → ⊥) → copy_of goes number packet ≡ 0
+of_another true number packet other = ap (λ b. if b then 1 else 0) (ne_eqb number packet other)
+of_another false number packet other = refl
+
+none_below : (goes : Bool) (number n : ℕ) → n ≤ number → all_below n (copy_of goes number) ≡ 0
+none_below goes number zero le = refl
+none_below goes number (suc n) le =
+    let before = none_below goes number n (omega (arith, le)) in
+    let this = of_another goes number n (λ same. omega (arith, same, le)) in
+    omega (arith, before, this)
+
+one_below : (goes : Bool) (number n : ℕ) → all_below n (copy_of goes number) ≤ 1
+one_below goes number zero = omega arith
+one_below goes number (suc n) = elim (cases_eq number n) [
+  | inl same ↦
+      let before = none_below goes number n (omega (arith, same)) in
+      let this = one_or_none goes number n in
+      omega (arith, before, this)
+  | inr other ↦
+      let before = one_below goes number n in
+      let this = of_another goes number n other in
+      omega (arith, before, this)
+]
+
+-- so all copies together are as many as the datagrams at most
+times_within : (goes : Datagram → Bool) (n : ℕ) (passed : List Datagram) → all_below n (λ packet. times goes packet passed) ≤ length passed
+times_within goes n [] = let none = all_none n in omega (arith, none)
+times_within goes n (d ∷ passed) =
+    let sum = all_sum (copy_of (goes d) (packet_of d.payload)) (λ packet. times goes packet passed) n in
+    let this = one_below (goes d) (packet_of d.payload) n in
+    let others = times_within goes n passed in
+    omega (arith, sum, this, others)
+
+lost_within : (n : ℕ) (from to : List Datagram) → lost_below n from to ≤ length from
+lost_within n from to =
+    let low = surplus_all (λ packet. sent packet from) (λ packet. taken packet to) n in
+    let all = times_within goes_out n from in
+    omega (arith, low, all)
+
+repeated_within : (n : ℕ) (from to : List Datagram) → repeated_below n from to ≤ length to
+repeated_within n from to =
+    let low = surplus_all (λ packet. taken packet to) (λ packet. sent packet from) n in
+    let all = times_within comes_in n to in
+    omega (arith, low, all)
 
 both_ways : (more less : List Datagram → List Datagram → ℕ → ℕ) (n : ℕ) (one other : List Datagram) → n ≡ packets
     → AreBothWays (λ from to. IsSurplus (more from to) (less from to)) one other (surplus_below n (more one other) (less one other) + surplus_below n (more other one) (less other one))
@@ -66,24 +141,14 @@ both_ways more less n one other all = record {
   sum = refl;
 }
 
-over_few : (there back x y : ℕ) → 18446744073709551616 ≤ there + back → there ≤ 262144 * x → back ≤ 262144 * y → 70368744177664 ≤ x + y
-over_few there back x y over a b = omega (arith, over, a, b)
-
-over_few_turned : (there back x y : ℕ) → 18446744073709551616 ≤ there + back → there ≤ 262144 * y → back ≤ 262144 * x → 70368744177664 ≤ x + y
-over_few_turned there back x y over a b = omega (arith, over, a, b)
-
 -- More copies are lost, or made, than fit 64 bits only among as many datagrams as that.
-many_among : (n : ℕ) (one other : List Datagram) → n ≡ packets → AreTooMany one other → 70368744177664 ≤ length one + length other
+many_among : (n : ℕ) (one other : List Datagram) → n ≡ packets → AreTooMany one other → 18446744073709551616 ≤ length one + length other
 many_among n one other all many = by (many (lost_below n one other + lost_below n other one) (repeated_below n one other + repeated_below n other one)
     (both_ways (λ from to packet. sent packet from) (λ from to packet. taken packet to) n one other all)
     (both_ways (λ from to packet. taken packet to) (λ from to packet. sent packet from) n one other all)) where
-      by : (18446744073709551616 ≤ lost_below n one other + lost_below n other one) ⊎ (18446744073709551616 ≤ repeated_below n one other + repeated_below n other one) → 70368744177664 ≤ length one + length other
-      by (inl over) = over_few (lost_below n one other) (lost_below n other one) (length one) (length other) over
-          (subst (λ m. lost_below n one other ≤ m * length one) all (lost_within n one other))
-          (subst (λ m. lost_below n other one ≤ m * length other) all (lost_within n other one))
-      by (inr over) = over_few_turned (repeated_below n one other) (repeated_below n other one) (length one) (length other) over
-          (subst (λ m. repeated_below n one other ≤ m * length other) all (repeated_within n one other))
-          (subst (λ m. repeated_below n other one ≤ m * length one) all (repeated_within n other one))
+      by : (18446744073709551616 ≤ lost_below n one other + lost_below n other one) ⊎ (18446744073709551616 ≤ repeated_below n one other + repeated_below n other one) → 18446744073709551616 ≤ length one + length other
+      by (inl over) = let there = lost_within n one other in let back = lost_within n other one in omega (arith, over, there, back)
+      by (inr over) = let there = repeated_within n one other in let back = repeated_within n other one in omega (arith, over, there, back)
 
-pub many_of_many : (one other : List Datagram) → AreTooMany one other → 70368744177664 ≤ length one + length other
+pub many_of_many : (one other : List Datagram) → AreTooMany one other → 18446744073709551616 ≤ length one + length other
 many_of_many one other = many_among packets one other refl

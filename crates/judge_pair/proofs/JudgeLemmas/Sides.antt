@@ -2,31 +2,54 @@
 use Rattle.std.proofs.Common.{◌≡◌, ◌≤◌, ◌<◌, ◌+◌, ◌↔◌, if◌then◌else◌, ℕ, suc, Bool, true, false, IsTrue, List, [], ◌∷◌, length, Option, Some, None, IfNone, IfSome, Result, Ok, Err, inl, inr, refl, sym, subst, ap, ◌∙◌, arith, IfErr, OnOk}
 use Rattle.tftp_packet.specs.{Message, Spells}
 use Rattle.tftp_packet.specs.Hosts.{Datagram, Header}
-use Rattle.tftp_packet.specs.{In, Out}
+use Rattle.tftp_packet.specs.{In, Out, Rollover}
+use Rattle.law_rollover.specs.{IsTaken, unrolled_payload}
 use Rattle.law_end.proofs.Spelled.{spelled_once}
-use Rattle.law_model.specs.Rules.{route_of, is_of_transfer, transfer_of, Passed}
+use Rattle.law_model.specs.Rules.{IsHigh, route_of, is_of_transfer, transfer_of, Passed}
 use Rattle.law_end.proofs.FirstBroken.FirstAnswered.{main_none, main_some}
-use Rattle.tftp_judge.specs.{IsJudgeAfter, IsKept, Judge, Transfer, AreFlags, HasSentIn, flags_of, Refusal}
+use Rattle.tftp_judge.specs.{IsJudgeAfter, IsKept, Judge, Transfer, AreFlags, HasSentBy, HasSentIn, Refusal}
 use Rattle.judge_pair.proofs.JudgeLemmas.SentByKept.{sent_by_kept}
+use Rattle.judge_pair.specs.Blocks.{at_block, with_block}
 use Rattle.judge_pair.specs.Counts.{AreCounted, AreTooMany, Counted}
 use Rattle.judge_pair.proofs.CountsLemmas.Growing.{many_of_many}
-use Rattle.judge_pair.specs.Judge.{AreMergedBut, IsAskedAgain, WasSent, AreSidesAfter, HasSame, IsSideAfter, Side}
+use Rattle.judge_pair.specs.Judge.{Acks, AreMergedBut, AreSidesAfter, HasSame, IsAskedAgain, IsSideAfter, Side, WasSent, flags_in}
+use Rattle.judge_pair.proofs.JudgeLemmas.Blocks.{taken_block}
+use Rattle.judge_pair.proofs.JudgeLemmas.Highest.{high_low}
 use Rattle.judge_pair.proofs.JudgeLemmas.Merging.{but_turned, merges_held, merges_in, merges_out, merges_stray}
 
 -- ---- what was sent
 
-pub sent_by_side : (s : Side) (h : Header) (read : List Datagram) → IsSideAfter s h read → (m : Message) → Passed Out m (transfer_of h read) ↔ HasSentIn s.judge.state.transfer (flags_of s.acks) m
+pub sent_by_side : (s : Side) (h : Header) (read : List Datagram) → IsSideAfter s h read → (m : Message) → Passed Out m (transfer_of h read) ↔ HasSentIn s.judge.state.transfer (flags_in s.acks) m
 sent_by_side s h read after m = by s.judge.state.transfer after.kept where
-  by : (t : Option Transfer) → IsKept h read t → Passed Out m (transfer_of h read) ↔ HasSentIn t (flags_of s.acks) m
+  by : (t : Option Transfer) → IsKept h read t → Passed Out m (transfer_of h read) ↔ HasSentIn t (flags_in s.acks) m
   by None kept = (λ p. absurd (subst (λ (ds : List Datagram). Passed Out m (transfer_of h ds)) kept p), λ none. absurd none)
-  by (Some t) kept = sent_by_kept t h read (flags_of s.acks) (record { lawful = after.lawful; short = after.short; asked = kept.0; after = kept.1 }) after.acks m
+  by (Some t) kept = sent_by_kept t h read (flags_in s.acks) (record { lawful = after.lawful; short = after.short; asked = kept.0; after = kept.1 }) after.acks m
+
+-- but of ACKs the flags tell nothing
+other_sent : (t : Transfer) (flags other : ℕ → Bool) (m : Message) → ((j : ℕ) → m ≡ Message.Ack j → ⊥) → HasSentBy t flags m → HasSentBy t other m
+other_sent t flags other (Message.Request asked) none is = is
+other_sent t flags other (Message.Oack options) none is = is
+other_sent t flags other (Message.Data k bytes) none is = is
+other_sent t flags other (Message.Ack j) none is = absurd (none j refl)
+other_sent t flags other (Message.Error code text) none is = is
+
+other_sent_in : (o : Option Transfer) (flags other : ℕ → Bool) (m : Message) → ((j : ℕ) → m ≡ Message.Ack j → ⊥) → HasSentIn o flags m → HasSentIn o other m
+other_sent_in None flags other m none is = is
+other_sent_in (Some t) flags other m none is = other_sent t flags other m none is
+
+pub other_sent_by : (s : Side) (h : Header) (read : List Datagram) → IsSideAfter s h read → (m : Message) → ((j : ℕ) → m ≡ Message.Ack j → ⊥) → (flags : ℕ → Bool) (b : Bool)
+    → IsTrue b ↔ HasSentIn s.judge.state.transfer flags m → IsTrue b ↔ Passed Out m (transfer_of h read)
+other_sent_by s h read after m none flags b is = (
+  λ sent. (sent_by_side s h read after m).1 (other_sent_in s.judge.state.transfer flags (flags_in s.acks) m none (is.0 sent)),
+  λ passed. is.1 (other_sent_in s.judge.state.transfer (flags_in s.acks) flags m none ((sent_by_side s h read after m).0 passed)),
+)
 
 -- a payload that spells this message
-pub payload_sent : (s : Side) (h : Header) (read : List Datagram) → IsSideAfter s h read → (payload : List ℕ) (m : Message) → Spells payload m → (b : Bool)
-    → IsTrue b ↔ HasSentIn s.judge.state.transfer (flags_of s.acks) m → IsTrue b ↔ WasSent payload (transfer_of h read)
-payload_sent s h read after payload m spells b is = (
-  λ sent. (m, spells, (sent_by_side s h read after m).1 (is.0 sent)),
-  λ was. is.1 ((sent_by_side s h read after m).0 (subst (λ x. Passed Out x (transfer_of h read)) (spelled_once payload was.0 m was.1 spells) was.2)),
+pub payload_sent : (passed : List Datagram) (payload : List ℕ) (m : Message) → Spells payload m → (b : Bool)
+    → IsTrue b ↔ Passed Out m passed → IsTrue b ↔ WasSent payload passed
+payload_sent passed payload m spells b is = (
+  λ sent. (m, spells, is.0 sent),
+  λ was. is.1 (subst (λ x. Passed Out x passed) (spelled_once payload was.0 m was.1 spells) was.2),
 )
 
 -- ---- the flags of ACKs
@@ -46,8 +69,9 @@ flags_after_main flags h read d is are = subst (AreFlags flags) (sym (main_some 
 
 -- ---- the side
 
-pub side_of_judge : (s : Side) (h : Header) (read : List Datagram) → IsJudgeAfter s.judge h read → AreFlags (flags_of s.acks) (transfer_of h read) → AreCounted s.counts (transfer_of h read) → length read ≤ 1099511627776 → IsSideAfter s h read
-side_of_judge s h read j acks counted few = record { goes_on = λ _. j; lawful = j.lawful; short = j.short; kept = j.has_kept.kept; fed = j.fed; few = few; acks = acks; counted = counted }
+pub side_of_judge : (s : Side) (h : Header) (read : List Datagram) → IsJudgeAfter s.judge h read → AreFlags (flags_in s.acks) (transfer_of h read) → AreCounted s.counts (transfer_of h read)
+    → IsHigh (transfer_of h read) s.highest → length read ≤ 1099511627776 → IsSideAfter s h read
+side_of_judge s h read j acks counted high few = record { goes_on = λ _. j; lawful = j.lawful; short = j.short; kept = j.has_kept.kept; fed = j.fed; few = few; acks = acks; high = high; counted = counted }
 
 -- one more, where the judge has accepted fewer than 2^40
 pub one_more : (fed n : ℕ) → fed ≡ n → fed < 1099511627776 → suc n ≤ 1099511627776
@@ -66,7 +90,7 @@ not_too_many own other h k read other_read after other_after many =
     few_between (length read) (length other_read) (length (transfer_of h read)) (length (transfer_of k other_read)) after.few other_after.few
     (transfer_within h read) (transfer_within k other_read) (many_of_many (transfer_of h read) (transfer_of k other_read) many)
   where
-    few_between : (n k i j : ℕ) → n ≤ 1099511627776 → k ≤ 1099511627776 → i ≤ n → j ≤ k → 70368744177664 ≤ i + j → ⊥
+    few_between : (n k i j : ℕ) → n ≤ 1099511627776 → k ≤ 1099511627776 → i ≤ n → j ≤ k → 18446744073709551616 ≤ i + j → ⊥
     few_between n k i j few other_few in_n in_k many = omega (arith, few, other_few, in_n, in_k, many)
 
 pub none_map : {T : Type 0} {P Q : Type 0} (o : Option T) → (P → Q) → IfNone o P → IfNone o Q
@@ -91,7 +115,8 @@ same_side old new h read same after = record {
   kept = subst (λ (j : Judge). IsKept h read j.state.transfer) (sym same.0) after.kept;
   fed = ap (λ (j : Judge). j.fed) same.0 ∙ after.fed;
   few = after.few;
-  acks = subst (λ (ws : List ℕ). AreFlags (flags_of ws) (transfer_of h read)) (sym same.1) after.acks;
+  acks = subst (λ (a : Acks). AreFlags (flags_in a) (transfer_of h read)) (sym same.1) after.acks;
+  high = subst (IsHigh (transfer_of h read)) (sym same.3) after.high;
   counted = subst (λ (counts : Option Counted). AreCounted counts (transfer_of h read)) (sym same.2) after.counted;
 }
 
@@ -146,3 +171,32 @@ on_ok (Err e) P Q f is = is
 pub on_err : {A E : Type 0} → (result : Result A E) (P Q : E → Type 0) → ((e : E) → P e → Q e) → IfErr result P → IfErr result Q
 on_err (Ok x) P Q f is = is
 on_err (Err e) P Q f is = f e is
+
+pub any_err : {A E : Type 0} → (result : Result A E) (P : Type 0) → P → IfErr result (λ _. P)
+any_err (Ok x) P is = tt
+any_err (Err e) P is = is
+
+-- ---- what a datagram is read as
+
+pub read_by : (s : Side) (h : Header) (read : List Datagram) → IsSideAfter s h read → (rollover : Option Rollover) (block : Option ℕ) (payload : List ℕ) (here d : Datagram) → payload ≡ here.payload
+    → (rollover ≡ None → block ≡ None) → ((r : Rollover) → rollover ≡ Some r → s.highest ≤ 8388607 → with_block block payload ≡ unrolled_payload r s.highest payload)
+    → IsTaken rollover (transfer_of h read) here d → d ≡ at_block block here
+read_by s h read after rollover block payload here d same none near taken =
+    taken_block rollover (transfer_of h read) s.highest block here d after.high none
+    (λ r is low. subst (λ bytes. with_block block bytes ≡ unrolled_payload r s.highest bytes) same (near r is low))
+    (high_low h read after.lawful s.judge.state.transfer after.kept s.highest after.high) taken
+
+-- a refusal leaves all as it was
+pub side_refused : (old new : Side) (h : Header) (read : List Datagram) (refusal : Refusal) → IsSideAfter old h read → new.judge.state.transfer ≡ old.judge.state.transfer → new.judge.fed ≡ old.judge.fed
+    → new.judge.refused ≡ Some refusal → new.acks ≡ old.acks → new.highest ≡ old.highest → new.counts ≡ old.counts → IsSideAfter new h read
+side_refused old new h read refusal after transfer fed refused acks highest counts = record {
+  goes_on = λ none. let apart : None ≡ Some refusal = sym none ∙ refused in absurd (cc);
+  lawful = after.lawful;
+  short = after.short;
+  kept = subst (IsKept h read) (sym transfer) after.kept;
+  fed = fed ∙ after.fed;
+  few = after.few;
+  acks = subst (λ (a : Acks). AreFlags (flags_in a) (transfer_of h read)) (sym acks) after.acks;
+  high = subst (IsHigh (transfer_of h read)) (sym highest) after.high;
+  counted = subst (λ (o : Option Counted). AreCounted o (transfer_of h read)) (sym counts) after.counted;
+}

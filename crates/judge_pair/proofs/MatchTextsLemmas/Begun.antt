@@ -1,7 +1,7 @@
 -- What is known of a text by its header, and of one that has none.
-use Rattle.std.proofs.Common.{◌≡◌, inl, inr, ℕ, Bool, false, List, [], ◌∷◌, ◌++◌, length, Option, Some, Err, refl, sym, ap, ◌∙◌, subst, arith, append_assoc, append-nil}
+use Rattle.std.proofs.Common.{◌≡◌, inl, inr, ℕ, Bool, false, List, [], ◌∷◌, ◌++◌, length, Option, None, Some, Err, refl, sym, ap, ◌∙◌, subst, arith, append_assoc, append-nil}
 use Rattle.std.specs.Io.KnownBytes.{Consumes, IsAtEnd, prepend_known}
-use Rattle.tftp_packet.specs.{End}
+use Rattle.tftp_packet.specs.{End, Rollover}
 use Rattle.tftp_capture.specs.{Begins, BeginsWith, HasFault, Numbered, FailsToBegin, GoesOn, IsAtTextEnd, ReaderState, CaptureFault}
 use Rattle.net_streams.specs.{Open}
 use Rattle.tftp_capture.specs.declared.fault.CaptureFault.TheVariants.{Text, Read, Memory}
@@ -11,26 +11,31 @@ use Rattle.tftp_packet.specs.Hosts.{Header}
 use Rattle.tftp_judge.specs.{Capture}
 use Rattle.tftp_judge.proofs.FirstFaults.{fault_kinds}
 use Rattle.tftp_judge.proofs.TextFound.{rest_of}
-use Rattle.judge_pair.specs.MatchTexts.{HasBegun, IsStopped, NamesEnd}
+use Rattle.judge_pair.specs.MatchTexts.{AreReadAs, HasBegun, IsStopped, NamesEnd}
 use Rattle.judge_pair.proofs.MatchTextsLemmas.Fronts.{all_of}
 
-pub has_begun : (before after : Option (List ℕ)) (failed : Bool) (reader : ReaderState) (taken : List ℕ) → Consumes before (prepend_known reader.lines.ahead after) taken → GoesOn reader.header reader.lines reader.count taken [] → reader.standing ≡ Open → failed ≡ false
-    → HasBegun before after failed reader
-has_begun before after failed reader taken consumed on ready clean = record {
-  ready = ready;
-  clean = clean;
-  header = refl;
-  has = record { taken = taken; datagrams = []; consumed = consumed; goes_on = on; is = refl };
-}
+none_read : (rollover : Option Rollover) (h : Header) → AreReadAs rollover h [] []
+none_read None h = refl
+none_read (Some r) h = tt
 
-pub header_of_text : (before after : Option (List ℕ)) (failed : Bool) (reader : ReaderState) → HasBegun before after failed reader → (text : List ℕ) → before ≡ Some text → (h : Header) (ds : List Numbered) → Begins text h ds → h ≡ reader.header
-header_of_text before after failed reader begun text is h ds begins =
-    let has = begun.has in
-    let (more, left, are) = rest_of (prepend_known reader.lines.ahead after) text has.taken (subst (λ b. Consumes b (prepend_known reader.lines.ahead after) has.taken) is has.consumed) in
-    (agree text h reader.header ds has.datagrams begins (subst (λ t. Begins t reader.header has.datagrams) (sym are) (begins_more has.taken more has.goes_on.lines reader.header has.datagrams has.goes_on.stands))).0
+module _ (rollover : Option Rollover) where
+  pub has_begun : (before after : Option (List ℕ)) (failed : Bool) (reader : ReaderState) (taken : List ℕ) → Consumes before (prepend_known reader.lines.ahead after) taken → GoesOn reader.header reader.lines reader.count taken [] → reader.standing ≡ Open → failed ≡ false
+      → HasBegun rollover before after failed reader
+  has_begun before after failed reader taken consumed on ready clean = record {
+    ready = ready;
+    clean = clean;
+    header = refl;
+    has = record { taken = taken; datagrams = []; consumed = consumed; goes_on = on; is = none_read rollover reader.header };
+  }
 
-pub names_end : (before after : Option (List ℕ)) (failed : Bool) (reader : ReaderState) (e : End) → HasBegun before after failed reader → reader.header.named ≡ e → NamesEnd before e
-names_end before after failed reader e begun named = λ text is h ds begins. ap (λ (x : Header). x.named) (header_of_text before after failed reader begun text is h ds begins) ∙ named
+  pub header_of_text : (before after : Option (List ℕ)) (failed : Bool) (reader : ReaderState) → HasBegun rollover before after failed reader → (text : List ℕ) → before ≡ Some text → (h : Header) (ds : List Numbered) → Begins text h ds → h ≡ reader.header
+  header_of_text before after failed reader begun text is h ds begins =
+      let has = begun.has in
+      let (more, left, are) = rest_of (prepend_known reader.lines.ahead after) text has.taken (subst (λ b. Consumes b (prepend_known reader.lines.ahead after) has.taken) is has.consumed) in
+      (agree text h reader.header ds has.datagrams begins (subst (λ t. Begins t reader.header has.datagrams) (sym are) (begins_more has.taken more has.goes_on.lines reader.header has.datagrams has.goes_on.stands))).0
+
+  pub names_end : (before after : Option (List ℕ)) (failed : Bool) (reader : ReaderState) (e : End) → HasBegun rollover before after failed reader → reader.header.named ≡ e → NamesEnd before e
+  names_end before after failed reader e begun named = λ text is h ds begins. ap (λ (x : Header). x.named) (header_of_text before after failed reader begun text is h ds begins) ∙ named
 
 -- ---- no header was read
 
@@ -55,3 +60,20 @@ is_stopped before after (Text line fault) fails end of = (
       ] in
       none_before ds (fault_after text h [] ds line fault broken begins),
 )
+
+-- ---- nothing was read, for memory was wanting before
+
+pub not_begun : (before : Option (List ℕ)) → FailsToBegin before before (Memory 1)
+not_begun before = record {
+  taken = [];
+  ahead = [];
+  consumed = none_taken before;
+  tells = tt;
+  drained = λ h. refl;
+  ended = λ h. refl;
+  near = omega arith;
+  memory = (refl, refl, refl);
+} where
+  none_taken : (b : Option (List ℕ)) → Consumes b b []
+  none_taken None = tt
+  none_taken (Some text) = refl

@@ -1,16 +1,15 @@
 -- What was read of a text is the front of its datagrams.
-use Rattle.std.proofs.Common.{◌≡◌, ◌≤◌, inl, inr, ℕ, List, [], ◌∷◌, ◌++◌, length, take, reverse, Option, Some, None, add-one, refl, sym, ap, ◌∙◌, subst, arith, append_assoc, append-nil}
+use Rattle.std.proofs.Common.{◌≡◌, inl, inr, ℕ, List, [], ◌∷◌, ◌++◌, length, take, reverse, Option, Some, None, add-one, refl, sym, ap, ◌∙◌, subst, arith, append_assoc, append-nil}
 use Rattle.std.specs.Io.KnownBytes.{Consumes, IsAtEnd}
 use Rattle.std.proofs.Math.Seq.{take-append_seam}
-use Rattle.std.proofs.lemmas.List.{length-append, length-reverse, map-append, reverse-append}
+use Rattle.std.proofs.lemmas.List.{length-append, length-reverse, reverse-append, reverse-reverse}
 use Rattle.tftp_capture.specs.{Begins, BeginsWith, HasFault, IsCapture, Numbered, TextFault}
 use Rattle.tftp_capture.proofs.Beginnings.{agree, capture_begins, capture_has, fault_after}
 use Rattle.tftp_packet.specs.Hosts.{Datagram, Header}
 use Rattle.law_end.specs.{OneEnded}
-use Rattle.tftp_judge.specs.{unnumbered}
-use Rattle.law_pair.specs.{IsLawfulTo}
+use Rattle.law_pair.specs.{Capture, IsLawfulTo}
 use Rattle.judge_pair.specs.Judge.{IsReadOf}
-use Rattle.judge_pair.specs.MatchTexts.{HasDatagrams, capture_of}
+use Rattle.judge_pair.specs.MatchTexts.{HasDatagrams}
 
 -- ---- lists
 
@@ -30,44 +29,40 @@ same_fronts xs ys (more, is) (rest, also) = both where
   both : xs ≡ ys
   both = is ∙ ap (λ l. ys ++ l) (empty more rest (none_more ys (more ++ rest) is_also)) ∙ append-nil ys
 
--- what was read, the newest first, is as long as the datagrams
-read_length : (ds : List Numbered) (read : List Datagram) → reverse (unnumbered ds) ≡ read → length read ≡ length (unnumbered ds)
-read_length ds read is = ap length (sym is) ∙ length-reverse (unnumbered ds)
+-- ---- what was read, the newest first, and what comes behind it
 
-front_taken : (es ds : List Numbered) → BeginsWith es ds → take (length (unnumbered ds)) (unnumbered es) ≡ unnumbered ds
-front_taken es ds (rest, is) = ap (λ l. take (length (unnumbered ds)) l) (ap unnumbered is ∙ map-append (λ (n : Numbered). n.1) ds rest) ∙ take-append_seam (unnumbered ds) (unnumbered rest)
+module _ (c : Capture) (read more : List Datagram) (is : reverse c.datagrams ≡ more ++ read) where
+  whole : c.datagrams ≡ reverse read ++ reverse more
+  whole = sym (reverse-reverse c.datagrams) ∙ ap reverse is ∙ reverse-append more read
 
-front_within : (es ds : List Numbered) → BeginsWith es ds → length (unnumbered ds) ≤ length (unnumbered es)
-front_within es ds (rest, is) =
-    let whole = ap length (ap unnumbered is ∙ map-append (λ (n : Numbered). n.1) ds rest) ∙ length-append (unnumbered ds) (unnumbered rest) in
-    omega (arith, whole)
+  front_is : take (length read) c.datagrams ≡ reverse read
+  front_is = ap (λ ds. take (length read) ds) whole ∙ ap (λ n. take n (reverse read ++ reverse more)) (sym (length-reverse read)) ∙ take-append_seam (reverse read) (reverse more)
 
-pub read_of_front : (k : Header) (es ds : List Numbered) (read : List Datagram) → BeginsWith es ds → reverse (unnumbered ds) ≡ read → IsReadOf (capture_of k es) read
-read_of_front k es ds read front is = record {
-  within = let same = read_length ds read is in let low = front_within es ds front in omega (arith, same, low);
-  is = ap (λ n. reverse (take n (unnumbered es))) (read_length ds read is) ∙ ap reverse (front_taken es ds front) ∙ is;
-}
+  pub read_of_front : IsReadOf c read
+  read_of_front = record {
+    within = let all = ap length whole ∙ length-append (reverse read) (reverse more) in let same = length-reverse read in omega (arith, all, same);
+    is = ap reverse front_is ∙ reverse-reverse read;
+  }
 
 -- ---- what is lawful
 
-pub lawful_whole : (k : Header) (es : List Numbered) (read : List Datagram) → reverse (unnumbered es) ≡ read → OneEnded k read → IsReadOf (capture_of k es) read × IsLawfulTo (capture_of k es) (length read)
-lawful_whole k es read is lawful =
-    let of = read_of_front k es es read ([], sym (append-nil es)) is in (
+pub lawful_whole : (c : Capture) (read : List Datagram) → reverse c.datagrams ≡ read → OneEnded c.header read → IsReadOf c read × IsLawfulTo c (length read)
+lawful_whole c read is lawful =
+    let of = read_of_front c read [] is in (
       of,
-      record { within = of.within; keeps = subst (OneEnded k) (sym of.is) lawful; ends = inl (read_length es read is) },
+      record { within = of.within; keeps = subst (OneEnded c.header) (sym of.is) lawful; ends = inl (ap length (sym is) ∙ length-reverse c.datagrams) },
     )
 
-pub lawful_front : (k : Header) (es ds : List Numbered) (line : ℕ) (d : Datagram) (read : List Datagram) → BeginsWith es (ds ++ (line, d) ∷ []) → reverse (unnumbered ds) ≡ read
-    → OneEnded k read → (OneEnded k (d ∷ read) → ⊥) → IsReadOf (capture_of k es) read × IsLawfulTo (capture_of k es) (length read)
-lawful_front k es ds line d read (rest, is) same lawful not =
-    let of = read_of_front k es ds read ((line, d) ∷ rest, is ∙ append_assoc ds ((line, d) ∷ []) rest) same in
-    let with_it = read_of_front k es (ds ++ (line, d) ∷ []) (d ∷ read) (rest, is)
-    (ap reverse (map-append (λ (n : Numbered). n.1) ds ((line, d) ∷ [])) ∙ reverse-append (unnumbered ds) (d ∷ []) ∙ ap (λ l. d ∷ l) same) in (
+pub lawful_front : (c : Capture) (read more : List Datagram) (d : Datagram) → reverse c.datagrams ≡ more ++ d ∷ read → OneEnded c.header read → (OneEnded c.header (d ∷ read) → ⊥)
+    → IsReadOf c read × IsLawfulTo c (length read)
+lawful_front c read more d is lawful not =
+    let of = read_of_front c read (more ++ d ∷ []) (is ∙ sym (append_assoc more (d ∷ []) read)) in
+    let with_it = read_of_front c (d ∷ read) more is in (
       of,
       record {
         within = of.within;
-        keeps = subst (OneEnded k) (sym of.is) lawful;
-        ends = inr (λ keeps. not (subst (OneEnded k) (ap (λ n. reverse (take n (unnumbered es))) (add-one (length read)) ∙ with_it.is) keeps));
+        keeps = subst (OneEnded c.header) (sym of.is) lawful;
+        ends = inr (λ keeps. not (subst (OneEnded c.header) (ap (λ n. reverse (take n c.datagrams)) (add-one (length read)) ∙ with_it.is) keeps));
       },
     )
 

@@ -1,5 +1,5 @@
 -- Two captures are said to be matched exactly if one run has both.
-use Rattle.std.proofs.Common.{◌≡◌, ◌⊎◌, ◌↔◌, inl, inr, ℕ, Bool, false, true≢false, List, Option, Some, Result, Ok, Err, sym, ◌∙◌, subst, None}
+use Rattle.std.proofs.Common.{◌≡◌, ◌⊎◌, ◌↔◌, inl, inr, ℕ, Bool, false, true≢false, List, Option, Some, Result, Ok, Err, refl, sym, ◌∙◌, subst, None}
 use Rattle.tftp_packet.specs.{Client, Server}
 use Rattle.tftp_capture.specs.{IsCapture, Numbered}
 use Rattle.tftp_capture.specs.CaptureText.Reading.{Capture as Says}
@@ -17,7 +17,7 @@ use Rattle.tftp_judge.proofs.OneVerdict.{not_lawful}
 use Rattle.tftp_judge.proofs.TextFound.{answers}
 use Rattle.law_pair.specs.{AreConsistent}
 use Rattle.law_pair.proofs.PairVerdict.{kept_all, lawful_whole, pair_decides}
-use Rattle.judge_pair.specs.MatchTexts.{capture_of, IsJudged, IsAllLawful, IsPairSaid, IsTextFault, SaysMatched}
+use Rattle.judge_pair.specs.MatchTexts.{capture_of, IsJudged, IsAllLawful, IsPairSaid, IsPairSaidBy, IsTextFault, SaysMatched}
 use Rattle.judge_pair.specs.declared.judge.matched.Matched.{Matched}
 use Rattle.judge_pair.specs.declared.match_texts.said.Apart.{Apart}
 use Rattle.judge_pair.specs.declared.match_texts.said.Apart.TheVariants.{WrongEnd, Stopped}
@@ -53,6 +53,18 @@ not_faulty text h ds _ capture is fault = fault
 -- a text says nothing of what comes after block 65535
 plain_of : (text : List ℕ) (h : Header) (ds : List Numbered) → IsCapture text h ds → h.rollover ≡ None
 plain_of text h ds (version, lines, stands) = let (before, are, says) = stands.says in says.plain
+
+-- ---- where numbers do not begin again
+
+pub plain_said : (before after other_before other_after : Option (List ℕ)) (failed other_failed : Bool) (c s : Result Meaning Verdict) (t : Result Matched Apart) → IsPairSaidBy None before after other_before other_after failed other_failed c s t
+    → IsPairSaid before after other_before other_after failed other_failed c s t
+plain_said before after other_before other_after failed other_failed c s (Ok m) pair = record {
+  at_client = pair.at_client;
+  at_server = pair.at_server;
+  numbers = λ text other is other_is h k ds es has other_has. pair.numbers text other is other_is h k ds es has other_has (unnumbered ds) (unnumbered es) refl refl;
+  why = tt;
+}
+plain_said before after other_before other_after failed other_failed c s (Err why) pair = record { at_client = pair.at_client; at_server = pair.at_server; numbers = tt; why = pair.why }
 
 -- ---- two captures
 

@@ -21,9 +21,9 @@ number_of Error = 3
 number_of (Data block) = 4 * block + 1
 number_of (Ack block) = 4 * block + 2
 
--- above all of these numbers
+-- above all of these numbers: no block is above 8421375 that is near one of 8388607 or less
 abbrev pub packets : ℕ
-packets = 262144
+packets = 33685504
 
 -- how many of the datagrams that go so are copies of the packet
 abbrev pub times : (Datagram → Bool) → ℕ → List Datagram → ℕ

@@ -1,18 +1,20 @@
 -- What the judge of a pair keeps, and for which datagrams of the two captures that stands. Lists have the newest first.
-use Rattle.std.specs.Prelude.{◌≡◌, ◌≤◌, ◌^◌, ℕ, List, All, length, Option, Some, None, IfNone}
+use Rattle.std.specs.Prelude.{◌≡◌, ◌≤◌, ◌^◌, ℕ, true, List, All, length, Option, Some, None, IfNone, is_some}
 use Rattle.tftp_packet.specs.{End, Client, Server}
 use Rattle.tftp_packet.specs.Hosts.{Datagram, Header}
-use Rattle.law_model.specs.Rules.{transfer_of}
+use Rattle.law_model.specs.Rules.{IsHigh, transfer_of}
 use Rattle.law_end.specs.{OneEnded}
-use Rattle.tftp_judge.specs.{IsJudgeAfter, IsKept, Judge, AreFlags, flags_of}
+use Rattle.tftp_judge.specs.{IsJudgeAfter, IsKept, Judge, AreFlags}
 use Rattle.judge_pair.specs.Counts.{AreCounted, Counted, TakesRoom, counts_of, packet_of}
+use Rattle.judge_pair.specs.Judge.Flags.{Acks, flags_in}
 use Rattle.judge_pair.specs.Judge.Merging.{AreMergedBut}
 
 -- what is kept of one end
 pub record Side : Type 0 where
   pub judge : Judge
-  pub acks : List ℕ  -- the words of the flags of the ACKs that it has sent
-  pub held : Option Datagram  -- the last one that was read, where it came in and waits
+  pub acks : Acks  -- the flags of the ACKs that it has sent
+  pub highest : ℕ  -- the highest block that it has sent or taken, or 0
+  pub held : Option Datagram  -- the last one that was read, where it came in and waits, with the block that it was read as
   pub counts : Option Counted  -- how often each packet passed, while there is memory for it
 
 pub record Pair : Type 0 where
@@ -27,7 +29,8 @@ pub record IsSideAfter (s : Side) (h : Header) (read : List Datagram) : Type 0 w
   pub kept : IsKept h read s.judge.state.transfer
   pub fed : s.judge.fed ≡ length read
   pub few : length read ≤ 2 ^ 40
-  pub acks : AreFlags (flags_of s.acks) (transfer_of h read)
+  pub acks : AreFlags (flags_in s.acks) (transfer_of h read)
+  pub high : IsHigh (transfer_of h read) s.highest
   pub counted : AreCounted s.counts (transfer_of h read)
 
 -- Two sides stand for what was read at each, and all of it is merged but what waits.
@@ -41,7 +44,11 @@ IsPairAfter p client_header client server_header server = AreSidesAfter p.client
 
 -- all but what waits
 abbrev pub HasSame : Side → Side → Type 0
-HasSame old new = (new.judge ≡ old.judge) × (new.acks ≡ old.acks) × (new.counts ≡ old.counts)
+HasSame old new = (new.judge ≡ old.judge) × (new.acks ≡ old.acks) × (new.counts ≡ old.counts) × (new.highest ≡ old.highest)
+
+-- It has a flag for each block, so that it can be fed where numbers begin again.
+abbrev pub IsNumbered : Side → Type 0
+IsNumbered s = is_some s.acks.blocks ≡ true
 
 -- Where packets were counted and are not any more, the datagram's packet took room.
 abbrev pub CountsOn : Option Counted → Option Counted → Datagram → Type 0

@@ -1,17 +1,17 @@
 -- What there is to say of two capture texts together.
-use Rattle.std.specs.Prelude.{◌≡◌, ◌⊎◌, ℕ, List, [], Bool, Option, Some, Result, Ok, Err, IfOk, IfErr}
-use Rattle.tftp_packet.specs.{End, Client, Server}
+use Rattle.std.specs.Prelude.{◌≡◌, ◌⊎◌, ℕ, List, [], reverse, Bool, Option, Some, Result, Ok, Err, IfOk, IfErr}
+use Rattle.tftp_packet.specs.{End, Client, Rollover, Server}
 use Rattle.tftp_capture.specs.{Begins, Numbered}
 use Rattle.tftp_capture.specs.declared.fault.CaptureFault.TheVariants.{Text, Read, Memory}
-use Rattle.tftp_packet.specs.Hosts.{Header}
+use Rattle.tftp_packet.specs.Hosts.{Datagram, Header}
 use Rattle.law_model.specs.Model.{Meaning}
-use Rattle.tftp_judge.specs.{IsOfText, Verdict, Capture, Refused}
+use Rattle.tftp_judge.specs.{IsOfText, Verdict, Capture, Refused, unnumbered}
 use Rattle.tftp_judge.specs.declared.refusal.Refusal.TheVariants as refusal
 use Rattle.law_pair.specs.{Capture as Captured, IsPairVerdict}
 use Rattle.judge_pair.specs.Judge.{AreCarried, AreCountsOf, IsWhyWaiting}
 use Rattle.judge_pair.specs.declared.judge.matched.Matched.{Matched}
-use Rattle.judge_pair.specs.MatchTexts.Judged.{IsJudged}
-use Rattle.judge_pair.specs.MatchTexts.Datagrams.{HasDatagrams, capture_of}
+use Rattle.judge_pair.specs.MatchTexts.Judged.{IsJudged, IsJudgedBy}
+use Rattle.judge_pair.specs.MatchTexts.Datagrams.{AreReadAs, HasDatagrams, capture_of, captured_by}
 use Rattle.judge_pair.specs.declared.match_texts.said.Apart.{Apart}
 use Rattle.judge_pair.specs.declared.match_texts.said.Apart.TheVariants.{WrongEnd, Stopped}
 
@@ -52,6 +52,14 @@ AreNumbersOf before other_before m =
     → (h.named ≡ Client) × (k.named ≡ Server) × IsPairVerdict (capture_of h ds) (capture_of k es) m.client_lawful m.server_lawful m.client_matched m.server_matched × AreWhys (capture_of h ds) (capture_of k es) m
     × AreCopies (capture_of h ds) (capture_of k es) m
 
+-- The same where numbers begin again, of the datagrams as they are read by that.
+abbrev pub AreNumbersBy : Option Rollover → Option (List ℕ) → Option (List ℕ) → Matched → Type 0
+AreNumbersBy rollover before other_before m =
+    (text other_text : List ℕ) → before ≡ Some text → other_before ≡ Some other_text → (h k : Header) (ds es : List Numbered) → HasDatagrams text h ds → HasDatagrams other_text k es
+    → (read other_read : List Datagram) → AreReadAs rollover h (reverse (unnumbered ds)) (reverse read) → AreReadAs rollover k (reverse (unnumbered es)) (reverse other_read)
+    → (h.named ≡ Client) × (k.named ≡ Server) × IsPairVerdict (captured_by rollover h read) (captured_by rollover k other_read) m.client_lawful m.server_lawful m.client_matched m.server_matched
+    × AreWhys (captured_by rollover h read) (captured_by rollover k other_read) m × AreCopies (captured_by rollover h read) (captured_by rollover k other_read) m
+
 -- the text names this end
 abbrev pub NamesEnd : Option (List ℕ) → End → Type 0
 NamesEnd before e = (text : List ℕ) → before ≡ Some text → (h : Header) (ds : List Numbered) → Begins text h ds → h.named ≡ e
@@ -89,6 +97,13 @@ abbrev pub AreTogether : End → End → Result Meaning Verdict → Result Meani
 AreTogether named other_named client server numbers m = (named ≡ Client) × (other_named ≡ Server) × IsOfText client × IsOfText server × (m ≡ numbers)
 
 -- of each text what there is to say of it alone, and how far the two go together, or why there are no numbers
+pub record IsPairSaidBy (rollover : Option Rollover) (before after other_before other_after : Option (List ℕ)) (failed other_failed : Bool) (client server : Result Meaning Verdict) (together : Result Matched Apart) : Type 0 where
+  pub at_client : IsJudgedBy rollover before after failed client
+  pub at_server : IsJudgedBy rollover other_before other_after other_failed server
+  pub numbers : IfOk together (AreNumbersBy rollover before other_before)
+  pub why : IfErr together (IsWhy before other_before client server)
+
+-- the same of texts whose blocks go up to 65535
 pub record IsPairSaid (before after other_before other_after : Option (List ℕ)) (failed other_failed : Bool) (client server : Result Meaning Verdict) (together : Result Matched Apart) : Type 0 where
   pub at_client : IsJudged before after failed client
   pub at_server : IsJudged other_before other_after other_failed server

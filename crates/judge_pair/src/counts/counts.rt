@@ -1,5 +1,6 @@
-ghost use Rattle.std.specs.Prelude.{◌≡◌, ◌<◌, List, [], ◌∷◌, Some, IfNone, slice_index_or};
+ghost use Rattle.std.specs.Prelude.{◌≡◌, ◌<◌, List, [], ◌∷◌, Some, IfNone, IfSome, slice_index_or};
 ghost use Rattle.tftp_packet.specs.Hosts.{Datagram};
+ghost use Rattle.judge_pair.specs.Blocks.{with_block};
 ghost use Rattle.judge_pair.specs.Counts.Counts.{Answers, AreCounted, AreLost, AreRepeated, Counted, IsCountOf, TakesRoom, counts_of, number_of, packet_of as packet_number, sent, taken};
 
 use crate::counts::packets::CountedPacket;
@@ -7,6 +8,7 @@ use crate::counts::table::Table;
 use std::alloc::Global;
 use std::marker::Model;
 use tftp_packet::hosts::Dir;
+use tftp_packet::{ack_of, block_of};
 
 /// How often each packet of a transfer went out at an end, and how often it came in.
 #[derive(Debug, Drop)]
@@ -71,8 +73,24 @@ impl Counts {
             → AreCounted result (d ∷ passed) }
         ensures wanting { (c : Counted) → counts ≡ Some c → IfNone result (TakesRoom (counts_of dir c) (packet_number payload.now)) }
     {
+        Counts::note_block(counts, dir, payload, None)
+    }
+
+    /// The same of a payload that was read by this block: it is counted by the block, and not by its number.
+    pub fn note_block(
+        counts: Option<Self>,
+        dir: Dir,
+        payload: &[u8],
+        block: Option<u32>,
+    ) -> Option<Self>
+        requires low { IfSome block (λ block. block < 8421376) }
+        ensures counted { (passed : List Datagram) (d : Datagram) → d.dir ≡ dir → d.payload ≡ with_block block payload.now → AreCounted counts passed
+            → AreCounted result (d ∷ passed) }
+        ensures wanting { (c : Counted) → counts ≡ Some c
+            → IfNone result (TakesRoom (counts_of dir c) (packet_number (with_block block payload.now))) }
+    {
         let mut counts = counts?;
-        let packet = packet_of(payload);
+        let packet = packet_of(payload, block);
         match dir {
             Dir::Out => counts.sent.note(packet)?,
             Dir::In => counts.taken.note(packet)?,
@@ -81,10 +99,28 @@ impl Counts {
     }
 }
 
-/// The number of the packet that a payload is a copy of.
-fn packet_of(payload: &[u8]) -> usize
+/// The number of the packet that a payload is a copy of, where it was read by this block.
+fn packet_of(payload: &[u8], block: Option<u32>) -> usize
+    requires low { IfSome block (λ block. block < 8421376) }
+    ensures number { result ≡ packet_number (with_block block payload.now) }
+    ensures few { result < 33685504 }
+{
+    let Some(block) = block else {
+        return packet_by_number(payload);
+    };
+    if let Some(_) = block_of(payload) {
+        return 4 * block as usize + 1;
+    }
+    if let Some(_) = ack_of(payload) {
+        return 4 * block as usize + 2;
+    }
+    packet_by_number(payload)
+}
+
+/// The number of the packet that a payload is a copy of, by its number.
+fn packet_by_number(payload: &[u8]) -> usize
     ensures number { result ≡ packet_number payload.now }
-    ensures few { result < 262144 }
+    ensures few { result < 33685504 }
 {
     let block = 256 * usize::from(byte_at(payload, 2)) + usize::from(byte_at(payload, 3));
     match byte_at(payload, 1) {

@@ -14,9 +14,9 @@ pub fn counted_as_it_is_spelled()
     ensures { (payload : List ℕ) (m : Message) → Spells payload m → packet_of payload ≡ number_of (named m) }
 {}
 
-/// More copies are lost, or made, than fit 64 bits only among 2^46 datagrams or more.
+/// More copies are lost, or made, than fit 64 bits only among 2^64 datagrams or more: a datagram is a copy of one packet.
 pub fn too_many_of_as_many()
-    ensures { (one other : List Datagram) → AreTooMany one other → 2 ^ 46 ≤ length one + length other }
+    ensures { (one other : List Datagram) → AreTooMany one other → 2 ^ 64 ≤ length one + length other }
 {}
 
 /// What the network lost and made between two ends is what those of each packet are that one end sent and the other took, both ways

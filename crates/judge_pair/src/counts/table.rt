@@ -4,8 +4,8 @@ ghost use Rattle.judge_pair.specs.Counts.Counts.{Answers, IsSurplus, TakesRoom};
 use std::alloc::{AllocError, Global};
 use std::marker::Model;
 
-/// How many numbers of packets there are: four for each block (RFC 1350, section 5).
-const PACKETS: usize = 262_144;
+/// How many numbers of packets there are: four for each block that is near one of 8,388,607 or less.
+const PACKETS: usize = 33_685_504;
 
 /// How often each packet passed, by its number.
 #[derive(Debug, Drop)]
@@ -47,7 +47,7 @@ impl Table {
         ensures { Answers (IsSurplus (λ packet. slice_index_or self.now packet 0) (λ packet. slice_index_or other.now packet 0)) result }
     {
         let mut count: u64 = 0;
-        for packet in 0..PACKETS {
+        for packet in 0..self.counts.len().min(PACKETS) {
             let surplus = self.at(packet).saturating_sub(other.at(packet));
             count = count.checked_add(surplus)?;
         }
@@ -56,7 +56,7 @@ impl Table {
 
     /// Counts a packet once more. None where memory runs out, or where it passed 2^64 times; then the table is of no use.
     pub fn note(&mut self, packet: usize) -> Option<()>
-        requires { packet < 262144 }
+        requires { packet < 33685504 }
         ensures counted { OnSome result ((other : ℕ) → slice_index_or self.new other 0 ≡ slice_index_or self.old other 0 + (if packet == other then 1 else 0)) }
         ensures wanting { IfNone result (TakesRoom self.old packet) }
     {
@@ -68,7 +68,7 @@ impl Table {
 
     /// Makes room for the count of a packet.
     fn reach(&mut self, packet: usize) -> Result<(), AllocError>
-        requires { packet < 262144 }
+        requires { packet < 33685504 }
         ensures same { OnOk result ((other : ℕ) → slice_index_or self.new other 0 ≡ slice_index_or self.old other 0) }
         ensures reached { OnOk result (packet < length self.new) }
         ensures wanting { IfErr result (λ _. length self.old ≤ packet) }

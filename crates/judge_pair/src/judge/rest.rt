@@ -1,13 +1,14 @@
 ghost use Rattle.std.specs.Prelude.{◌≡◌, ◌+◌, ◌^◌, ◌<◌, ◌≤◌, ℕ, List, [], ◌∷◌, length, reverse, true, Option, None, Some, is_some, Err, OnOk, IfErr};
 ghost use Rattle.tftp_capture.specs.{datagram_of};
-ghost use Rattle.tftp_packet.specs.{Client, Server};
+ghost use Rattle.tftp_packet.specs.{Client, End as EndKind, Rollover as RolloverKind, Server};
 ghost use Rattle.tftp_packet.specs.Hosts.{Datagram as DatagramParts, Header as HeaderParts};
 ghost use Rattle.law_model.specs.Rules.{transfer_of};
+ghost use Rattle.law_rollover.specs.{IsTaken, IsUnrolled};
 ghost use Rattle.law_model.specs.Model.Roles.{other_end};
 ghost use Rattle.tftp_judge.specs.{Refuses, TakesForJoin, IsVerdict, Refusal as RefusalKind};
 ghost use Rattle.law_pair.specs.{Capture, IsLawfulTo, IsPairVerdict};
 ghost use Rattle.judge_pair.specs.Judge.Merging.{IsWaitFor, with_held};
-ghost use Rattle.judge_pair.specs.Judge.Kept.{CountsOn, IsSideAfter};
+ghost use Rattle.judge_pair.specs.Judge.Kept.{CountsOn, IsNumbered, IsSideAfter};
 ghost use Rattle.judge_pair.specs.Judge.Rest.{IsLeftAfter, IsRestAfter, left_at};
 ghost use Rattle.judge_pair.specs.Judge.Verdicts.{AreCarried, AreCountsOf, IsReadOf, IsWhyWaiting};
 
@@ -21,6 +22,7 @@ use tftp_capture::Datagram;
 use tftp_ends::blocks::Delivered;
 use tftp_judge::{Meaning, Refusal};
 use tftp_packet::End;
+use tftp_packet::rounds::Rollover;
 
 /// What is left of one capture: its end, and how many of its datagrams are merged.
 #[derive(Drop)]
@@ -60,24 +62,35 @@ impl<D: Delivered + Drop> Left<D> {
         self.side.why(&other.side)
     }
 
-    /// Takes the next datagram of a capture in which one waited.
-    fn feed(&mut self, alloc: Global, datagram: &Datagram) -> Result<(), Refusal>
+    /// Takes the next datagram of a capture in which one waited, whose numbers begin again or do not.
+    fn feed(
+        &mut self,
+        alloc: Global,
+        rollover: Option<Rollover>,
+        datagram: &Datagram,
+    ) -> Result<(), Refusal>
         requires few { self.old.side.judge.fed < 2 ^ 40 }
         requires short { length datagram.now.payload ≤ 65527 }
         requires waited { is_some self.old.side.held ≡ true }
-        ensures accepts { (held : Option DatagramParts) (part early : List DatagramParts) (h : HeaderParts) (read : List DatagramParts)
-            → IsLeftAfter self.old held part early h read → OnOk result (IsLeftAfter self.new held part early h (datagram_of datagram.now ∷ read)) }
-        ensures refuses { (held : Option DatagramParts) (part early : List DatagramParts) (h : HeaderParts) (read : List DatagramParts)
-            → IsLeftAfter self.old held part early h read → self.old.side.judge.refused ≡ None → IfErr result (Refuses h read (datagram_of datagram.now)) }
+        requires numbered { (r : RolloverKind) → rollover ≡ Some r → IsNumbered self.old.side }
+        ensures accepts { (held : Option DatagramParts) (part early : List DatagramParts) (h : HeaderParts) (read : List DatagramParts) (d : DatagramParts)
+            → IsLeftAfter self.old held part early h read → IsTaken rollover (transfer_of h read) (datagram_of datagram.now) d
+            → OnOk result (IsLeftAfter self.new held part early h (d ∷ read)) }
+        ensures refuses { (held : Option DatagramParts) (part early : List DatagramParts) (h : HeaderParts) (read : List DatagramParts) (d : DatagramParts)
+            → IsLeftAfter self.old held part early h read → IsTaken rollover (transfer_of h read) (datagram_of datagram.now) d
+            → self.old.side.judge.refused ≡ None → IfErr result (Refuses h read d) }
         ensures stays { (held : Option DatagramParts) (part early : List DatagramParts) (h : HeaderParts) (read : List DatagramParts)
             → IsLeftAfter self.old held part early h read → IfErr result (λ refusal. IsLeftAfter self.new held part early h read) }
         ensures keeps { IfErr result (λ refusal. self.new.side.judge.refused ≡ Some refusal) }
         ensures goes_on { self.old.side.judge.refused ≡ None → OnOk result (self.new.side.judge.refused ≡ None) }
         ensures waited { self.new.side.held ≡ self.old.side.held }
         ensures counts { OnOk result (self.new.side.judge.fed ≡ self.old.side.judge.fed + 1) }
-        ensures counting { CountsOn self.old.side.counts self.new.side.counts (datagram_of datagram.now) }
+        ensures counting { rollover ≡ None → CountsOn self.old.side.counts self.new.side.counts (datagram_of datagram.now) }
+        ensures counting_block { (h : HeaderParts) (read : List DatagramParts) (d : DatagramParts) → IsSideAfter self.old.side h read
+            → IsTaken rollover (transfer_of h read) (datagram_of datagram.now) d → CountsOn self.old.side.counts self.new.side.counts d }
+        ensures numbered { IsNumbered self.old.side → IsNumbered self.new.side }
     {
-        self.side.feed(alloc, datagram)?;
+        self.side.feed(alloc, rollover, datagram)?;
         Ok(())
     }
 }
@@ -145,9 +158,87 @@ impl<D: Delivered + Drop> PairRest<D> {
         ensures counting { CountsOn (left_at end self.old).side.counts (left_at end self.new).side.counts (datagram_of datagram.now) }
         ensures other { left_at (other_end end) self.new ≡ left_at (other_end end) self.old }
     {
+        self.take(alloc, None, end, datagram)
+    }
+
+    /// The same where numbers begin again after 65535 (RFC 1350, section 5): a number is taken for the block near the highest that has
+    /// passed at that end.
+    pub fn feed_numbered(
+        &mut self,
+        alloc: Global,
+        rollover: Rollover,
+        end: End,
+        datagram: &Datagram,
+    ) -> Result<(), Refusal>
+        requires few { (left_at end self.old).side.judge.fed < 2 ^ 40 }
+        requires short { length datagram.now.payload ≤ 65527 }
+        requires waited { is_some (left_at end self.old).side.held ≡ true }
+        requires numbered { IsNumbered (left_at end self.old).side }
+
+        // For all that it stands for: it stands for them with this one, with a block in the place of its number.
+        ensures client { end ≡ Client → (h k : HeaderParts) (client server : List DatagramParts) (d : DatagramParts) → IsRestAfter self.old h client k server
+            → IsUnrolled rollover (transfer_of h client) (datagram_of datagram.now) d → OnOk result (IsRestAfter self.new h (d ∷ client) k server) }
+        ensures server { end ≡ Server → (h k : HeaderParts) (client server : List DatagramParts) (d : DatagramParts) → IsRestAfter self.old h client k server
+            → IsUnrolled rollover (transfer_of k server) (datagram_of datagram.now) d → OnOk result (IsRestAfter self.new h client k (d ∷ server)) }
+        ensures refuses_client { end ≡ Client → (h k : HeaderParts) (client server : List DatagramParts) (d : DatagramParts) → IsRestAfter self.old h client k server
+            → IsUnrolled rollover (transfer_of h client) (datagram_of datagram.now) d → self.old.client.side.judge.refused ≡ None → IfErr result (Refuses h client d) }
+        ensures refuses_server { end ≡ Server → (h k : HeaderParts) (client server : List DatagramParts) (d : DatagramParts) → IsRestAfter self.old h client k server
+            → IsUnrolled rollover (transfer_of k server) (datagram_of datagram.now) d → self.old.server.side.judge.refused ≡ None → IfErr result (Refuses k server d) }
+
+        // And all else as above.
+        ensures stays { (h k : HeaderParts) (client server : List DatagramParts) → IsRestAfter self.old h client k server
+            → IfErr result (λ refusal. IsRestAfter self.new h client k server) }
+        ensures keeps { IfErr result (λ refusal. (left_at end self.new).side.judge.refused ≡ Some refusal) }
+        ensures goes_on { (left_at end self.old).side.judge.refused ≡ None → OnOk result ((left_at end self.new).side.judge.refused ≡ None) }
+        ensures waited { (left_at end self.new).side.held ≡ (left_at end self.old).side.held }
+        ensures counts { OnOk result ((left_at end self.new).side.judge.fed ≡ (left_at end self.old).side.judge.fed + 1) }
+        ensures counting_client { end ≡ Client → (h k : HeaderParts) (client server : List DatagramParts) (d : DatagramParts) → IsRestAfter self.old h client k server
+            → IsUnrolled rollover (transfer_of h client) (datagram_of datagram.now) d → CountsOn self.old.client.side.counts self.new.client.side.counts d }
+        ensures counting_server { end ≡ Server → (h k : HeaderParts) (client server : List DatagramParts) (d : DatagramParts) → IsRestAfter self.old h client k server
+            → IsUnrolled rollover (transfer_of k server) (datagram_of datagram.now) d → CountsOn self.old.server.side.counts self.new.server.side.counts d }
+        ensures other { left_at (other_end end) self.new ≡ left_at (other_end end) self.old }
+        ensures numbered { (e : EndKind) → IsNumbered (left_at e self.old).side → IsNumbered (left_at e self.new).side }
+    {
+        self.take(alloc, Some(rollover), end, datagram)
+    }
+
+    /// Takes the next datagram of a capture in which one waited, whose numbers begin again or do not.
+    pub(crate) fn take(
+        &mut self,
+        alloc: Global,
+        rollover: Option<Rollover>,
+        end: End,
+        datagram: &Datagram,
+    ) -> Result<(), Refusal>
+        requires few { (left_at end self.old).side.judge.fed < 2 ^ 40 }
+        requires short { length datagram.now.payload ≤ 65527 }
+        requires waited { is_some (left_at end self.old).side.held ≡ true }
+        requires numbered { (r : RolloverKind) → rollover ≡ Some r → IsNumbered (left_at end self.old).side }
+        ensures client { end ≡ Client → (h k : HeaderParts) (client server : List DatagramParts) (d : DatagramParts) → IsRestAfter self.old h client k server
+            → IsTaken rollover (transfer_of h client) (datagram_of datagram.now) d → OnOk result (IsRestAfter self.new h (d ∷ client) k server) }
+        ensures server { end ≡ Server → (h k : HeaderParts) (client server : List DatagramParts) (d : DatagramParts) → IsRestAfter self.old h client k server
+            → IsTaken rollover (transfer_of k server) (datagram_of datagram.now) d → OnOk result (IsRestAfter self.new h client k (d ∷ server)) }
+        ensures refuses_client { end ≡ Client → (h k : HeaderParts) (client server : List DatagramParts) (d : DatagramParts) → IsRestAfter self.old h client k server
+            → IsTaken rollover (transfer_of h client) (datagram_of datagram.now) d → self.old.client.side.judge.refused ≡ None → IfErr result (Refuses h client d) }
+        ensures refuses_server { end ≡ Server → (h k : HeaderParts) (client server : List DatagramParts) (d : DatagramParts) → IsRestAfter self.old h client k server
+            → IsTaken rollover (transfer_of k server) (datagram_of datagram.now) d → self.old.server.side.judge.refused ≡ None → IfErr result (Refuses k server d) }
+        ensures stays { (h k : HeaderParts) (client server : List DatagramParts) → IsRestAfter self.old h client k server
+            → IfErr result (λ refusal. IsRestAfter self.new h client k server) }
+        ensures keeps { IfErr result (λ refusal. (left_at end self.new).side.judge.refused ≡ Some refusal) }
+        ensures goes_on { (left_at end self.old).side.judge.refused ≡ None → OnOk result ((left_at end self.new).side.judge.refused ≡ None) }
+        ensures waited { (left_at end self.new).side.held ≡ (left_at end self.old).side.held }
+        ensures counts { OnOk result ((left_at end self.new).side.judge.fed ≡ (left_at end self.old).side.judge.fed + 1) }
+        ensures counting { rollover ≡ None → CountsOn (left_at end self.old).side.counts (left_at end self.new).side.counts (datagram_of datagram.now) }
+        ensures counting_client { end ≡ Client → (h k : HeaderParts) (client server : List DatagramParts) (d : DatagramParts) → IsRestAfter self.old h client k server
+            → IsTaken rollover (transfer_of h client) (datagram_of datagram.now) d → CountsOn self.old.client.side.counts self.new.client.side.counts d }
+        ensures counting_server { end ≡ Server → (h k : HeaderParts) (client server : List DatagramParts) (d : DatagramParts) → IsRestAfter self.old h client k server
+            → IsTaken rollover (transfer_of k server) (datagram_of datagram.now) d → CountsOn self.old.server.side.counts self.new.server.side.counts d }
+        ensures other { left_at (other_end end) self.new ≡ left_at (other_end end) self.old }
+        ensures numbered { (e : EndKind) → IsNumbered (left_at e self.old).side → IsNumbered (left_at e self.new).side }
+    {
         match end {
-            End::Client => self.client.feed(alloc, datagram),
-            End::Server => self.server.feed(alloc, datagram),
+            End::Client => self.client.feed(alloc, rollover, datagram),
+            End::Server => self.server.feed(alloc, rollover, datagram),
         }
     }
 

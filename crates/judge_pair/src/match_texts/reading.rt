@@ -1,6 +1,7 @@
 ghost use Rattle.std.specs.Prelude.{◌≡◌, ◌<◌, ◌≤◌, ◌^◌, ℕ, List, length, true, false, Option, None, Some};
 ghost use Rattle.tftp_capture.specs.{datagram_of};
 ghost use Rattle.net_streams.specs.{Standing};
+ghost use Rattle.tftp_packet.specs.{Rollover as RolloverKind};
 ghost use Rattle.tftp_packet.specs.Hosts.{Datagram as DatagramParts, Header as HeaderParts};
 ghost use Rattle.tftp_judge.specs.{IsJudgeAfter, Judge as JudgeParts};
 ghost use Rattle.judge_pair.specs.MatchTexts.Reading.{GoesOnAt, IsGiven, IsHalted, said_by};
@@ -30,15 +31,25 @@ pub struct Reading {
 }
 
 impl Reading {
+    /// A text of which the header is read.
+    pub fn begin(capture: CaptureReader) -> Self
+        ensures { result ≡ record { capture = capture; halt = None } }
+    {
+        Reading {
+            capture,
+            halt: None,
+        }
+    }
+
     /// The next datagram, into what the caller holds; false once no more is read, and then it is kept why.
     pub fn next<R: Read>(&mut self, reader: &mut Latched<R>, datagram: &mut Datagram) -> bool
         requires open { self.old.capture.standing ≡ Standing.Open }
-        ensures given { result ≡ true → (before : Option (List ℕ)) (h : HeaderParts) (read : List DatagramParts) (judge : JudgeParts)
-            → GoesOnAt before (R.remaining reader.old.0) reader.old.1 self.old.capture h read → IsJudgeAfter judge h read
-            → IsGiven before (R.remaining reader.new.0) reader.new.1 self.new.capture h read (datagram_of datagram.new) }
-        ensures halted { result ≡ false → (before : Option (List ℕ)) (h : HeaderParts) (read : List DatagramParts) (judge : JudgeParts)
-            → GoesOnAt before (R.remaining reader.old.0) reader.old.1 self.old.capture h read → IsJudgeAfter judge h read
-            → (halt : HaltKind) × (self.new.halt ≡ Some halt) × IsHalted before (R.remaining reader.new.0) reader.new.1 halt None h read }
+        ensures given { result ≡ true → (rollover : Option RolloverKind) (before : Option (List ℕ)) (h : HeaderParts) (read : List DatagramParts) (judge : JudgeParts)
+            → GoesOnAt rollover before (R.remaining reader.old.0) reader.old.1 self.old.capture h read → IsJudgeAfter judge h read
+            → IsGiven rollover before (R.remaining reader.new.0) reader.new.1 self.new.capture h read (datagram_of datagram.new) }
+        ensures halted { result ≡ false → (rollover : Option RolloverKind) (before : Option (List ℕ)) (h : HeaderParts) (read : List DatagramParts) (judge : JudgeParts)
+            → GoesOnAt rollover before (R.remaining reader.old.0) reader.old.1 self.old.capture h read → IsJudgeAfter judge h read
+            → (halt : HaltKind) × (self.new.halt ≡ Some halt) × IsHalted rollover before (R.remaining reader.new.0) reader.new.1 halt None h read }
         ensures halts { result ≡ false → (halt : HaltKind) × (self.new.halt ≡ Some halt) }
         ensures goes_on { result ≡ true → self.new.halt ≡ self.old.halt }
         ensures open { result ≡ true → self.new.capture.standing ≡ Standing.Open }

@@ -14,9 +14,18 @@ const WRONG: Result<Route, PortFault> = Err(PortFault::Broken(PortRule::Wrong));
 
 const BAD_ANSWER: Result<Route, PortFault> = Err(PortFault::Broken(PortRule::BadAnswer));
 
-/// A datagram by its direction, its port at the named end, the other host, the port there and the
-/// opcode; and what is answered.
-type Row = (Dir, u16, &'static [u8], u16, u16, Result<Route, PortFault>);
+/// A datagram by its direction, its port at the named end, the other host, none that is named or this one of 10.0.0.0, the
+/// port there and the opcode; and what is answered.
+type Row = (Dir, u16, u8, u16, u16, Result<Route, PortFault>);
+
+/// The host of a row.
+fn host_of(which: u8) -> Option<Host> {
+    if which == 0 {
+        return Some(Host::none());
+    }
+    let digit = b'0'.saturating_add(which);
+    Host::new(&[b'1', b'0', b'.', b'0', b'.', b'0', b'.', digit])
+}
 
 /// Asks where a datagram belongs, and again where a growth was refused: nothing may have changed.
 fn class(
@@ -32,7 +41,7 @@ fn class(
 /// Fails unless each datagram has its answer after those before it.
 fn all_have_answers(ports: &mut Ports, rows: &[Row]) -> Result<(), Fail> {
     for (dir, local, host, remote, opcode, wanted) in rows {
-        let Some(host) = Host::new(*host) else {
+        let Some(host) = host_of(*host) else {
             return Err(Fail::new("no host"));
         };
         let found = class(ports, (*dir, *local, &host, *remote, *opcode));
@@ -49,124 +58,117 @@ fn answers(rt: &HostRuntime, end: End, service: u16, rows: &[Row]) -> Result<(),
 
 /// A read, a stray, and what answers it.
 const WITH_A_STRAY: &[Row] = &[
-    (Dir::Out, 40000, b"-", 70, 1, WRONG),
-    (Dir::Out, 40000, b"-", 69, 1, Ok(Route::Request)),
-    (Dir::In, 40000, b"-", 41000, 3, Ok(Route::Peer)),
-    (Dir::In, 40000, b"-", 42000, 3, Ok(Route::Stray)),
-    (Dir::Out, 40000, b"-", 42000, 5, Ok(Route::StrayAnswer)),
-    (Dir::Out, 40000, b"-", 42000, 4, BAD_ANSWER),
+    (Dir::Out, 40000, 0, 70, 1, WRONG),
+    (Dir::Out, 40000, 0, 69, 1, Ok(Route::Request)),
+    (Dir::In, 40000, 0, 41000, 3, Ok(Route::Peer)),
+    (Dir::In, 40000, 0, 42000, 3, Ok(Route::Stray)),
+    (Dir::Out, 40000, 0, 42000, 5, Ok(Route::StrayAnswer)),
+    (Dir::Out, 40000, 0, 42000, 4, BAD_ANSWER),
 ];
 
 /// Before the first request, before the server is known, and after.
 const AT_A_CLIENT: &[Row] = &[
-    (Dir::In, 40000, b"-", 41000, 3, Ok(Route::Peer)),
-    (Dir::Out, 40000, b"-", 69, 4, Ok(Route::Peer)),
-    (Dir::Out, 40000, b"-", 70, 2, WRONG),
-    (Dir::Out, 40000, b"-", 69, 2, Ok(Route::Request)),
-    (Dir::Out, 40001, b"-", 69, 2, FOREIGN),
-    (Dir::In, 40001, b"-", 44000, 4, FOREIGN),
-    (Dir::Out, 40000, b"-", 69, 2, Ok(Route::Request)),
-    (Dir::Out, 40000, b"-", 70, 2, WRONG),
-    (Dir::Out, 40000, b"-", 41000, 3, WRONG),
-    (Dir::In, 40000, b"-", 41001, 4, Ok(Route::Peer)),
-    (Dir::Out, 40000, b"-", 41001, 3, Ok(Route::Peer)),
-    (Dir::In, 40000, b"-", 41001, 1, Ok(Route::Peer)),
-    (Dir::Out, 40000, b"-", 42000, 5, WRONG),
-    (Dir::In, 40000, b"-", 42000, 1, Ok(Route::Stray)),
-    (Dir::In, 40000, b"-", 41001, 4, Ok(Route::Peer)),
-    (Dir::In, 40000, b"-", 42000, 4, Ok(Route::Stray)),
-    (Dir::Out, 40000, b"-", 42000, 5, Ok(Route::StrayAnswer)),
-    (Dir::Out, 40000, b"-", 42000, 0, BAD_ANSWER),
-    (Dir::Out, 40000, b"-", 42000, 1, WRONG),
-    (Dir::Out, 40000, b"-", 44000, 5, WRONG),
-    (Dir::Out, 40000, b"-", 41000, 3, WRONG),
-    (Dir::Out, 40000, b"-", 41001, 5, Ok(Route::Peer)),
-    (Dir::Out, 40000, b"-", 69, 1, Ok(Route::Request)),
+    (Dir::In, 40000, 0, 41000, 3, Ok(Route::Peer)),
+    (Dir::Out, 40000, 0, 69, 4, Ok(Route::Peer)),
+    (Dir::Out, 40000, 0, 70, 2, WRONG),
+    (Dir::Out, 40000, 0, 69, 2, Ok(Route::Request)),
+    (Dir::Out, 40001, 0, 69, 2, FOREIGN),
+    (Dir::In, 40001, 0, 44000, 4, FOREIGN),
+    (Dir::Out, 40000, 0, 69, 2, Ok(Route::Request)),
+    (Dir::Out, 40000, 0, 70, 2, WRONG),
+    (Dir::Out, 40000, 0, 41000, 3, WRONG),
+    (Dir::In, 40000, 0, 41001, 4, Ok(Route::Peer)),
+    (Dir::Out, 40000, 0, 41001, 3, Ok(Route::Peer)),
+    (Dir::In, 40000, 0, 41001, 1, Ok(Route::Peer)),
+    (Dir::Out, 40000, 0, 42000, 5, WRONG),
+    (Dir::In, 40000, 0, 42000, 1, Ok(Route::Stray)),
+    (Dir::In, 40000, 0, 41001, 4, Ok(Route::Peer)),
+    (Dir::In, 40000, 0, 42000, 4, Ok(Route::Stray)),
+    (Dir::Out, 40000, 0, 42000, 5, Ok(Route::StrayAnswer)),
+    (Dir::Out, 40000, 0, 42000, 0, BAD_ANSWER),
+    (Dir::Out, 40000, 0, 42000, 1, WRONG),
+    (Dir::Out, 40000, 0, 44000, 5, WRONG),
+    (Dir::Out, 40000, 0, 41000, 3, WRONG),
+    (Dir::Out, 40000, 0, 41001, 5, Ok(Route::Peer)),
+    (Dir::Out, 40000, 0, 69, 1, Ok(Route::Request)),
 ];
 
 /// Before the first request, before the server's own port is known, and after.
 const AT_A_SERVER: &[Row] = &[
-    (Dir::Out, 3000, b"-", 2000, 3, Ok(Route::Peer)),
-    (Dir::In, 6970, b"-", 2000, 1, WRONG),
-    (Dir::In, 6969, b"-", 2000, 4, Ok(Route::Peer)),
-    (Dir::In, 6969, b"-", 2000, 1, Ok(Route::Request)),
-    (Dir::In, 6969, b"-", 2000, 2, Ok(Route::Request)),
-    (Dir::In, 6969, b"-", 2001, 1, FOREIGN),
-    (Dir::In, 6969, b"-", 2000, 4, WRONG),
-    (Dir::In, 6969, b"-", 2001, 4, FOREIGN),
-    (Dir::In, 3001, b"-", 2000, 4, FOREIGN),
-    (Dir::Out, 3001, b"-", 2001, 3, WRONG),
-    (Dir::Out, 3001, b"-", 2000, 3, Ok(Route::Peer)),
-    (Dir::Out, 3000, b"-", 2000, 3, FOREIGN),
-    (Dir::In, 3001, b"-", 2000, 4, Ok(Route::Peer)),
-    (Dir::In, 3001, b"-", 2000, 1, WRONG),
-    (Dir::In, 6969, b"-", 2000, 1, Ok(Route::Request)),
-    (Dir::In, 6969, b"-", 2001, 1, FOREIGN),
-    (Dir::In, 6969, b"-", 2000, 4, WRONG),
-    (Dir::In, 6969, b"-", 2001, 4, FOREIGN),
-    (Dir::In, 3000, b"-", 2000, 4, FOREIGN),
-    (Dir::Out, 3001, b"-", 2002, 5, WRONG),
-    (Dir::In, 3001, b"-", 2002, 1, Ok(Route::Stray)),
-    (Dir::In, 3001, b"-", 2002, 4, Ok(Route::Stray)),
-    (Dir::Out, 3001, b"-", 2002, 5, Ok(Route::StrayAnswer)),
-    (Dir::Out, 3001, b"-", 2002, 1, BAD_ANSWER),
-    (Dir::Out, 3001, b"-", 2001, 5, WRONG),
-    (Dir::Out, 3001, b"-", 2000, 3, Ok(Route::Peer)),
-    (Dir::In, 3001, b"-", 2000, 5, Ok(Route::Peer)),
+    (Dir::Out, 3000, 0, 2000, 3, Ok(Route::Peer)),
+    (Dir::In, 6970, 0, 2000, 1, WRONG),
+    (Dir::In, 6969, 0, 2000, 4, Ok(Route::Peer)),
+    (Dir::In, 6969, 0, 2000, 1, Ok(Route::Request)),
+    (Dir::In, 6969, 0, 2000, 2, Ok(Route::Request)),
+    (Dir::In, 6969, 0, 2001, 1, FOREIGN),
+    (Dir::In, 6969, 0, 2000, 4, WRONG),
+    (Dir::In, 6969, 0, 2001, 4, FOREIGN),
+    (Dir::In, 3001, 0, 2000, 4, FOREIGN),
+    (Dir::Out, 3001, 0, 2001, 3, WRONG),
+    (Dir::Out, 3001, 0, 2000, 3, Ok(Route::Peer)),
+    (Dir::Out, 3000, 0, 2000, 3, FOREIGN),
+    (Dir::In, 3001, 0, 2000, 4, Ok(Route::Peer)),
+    (Dir::In, 3001, 0, 2000, 1, WRONG),
+    (Dir::In, 6969, 0, 2000, 1, Ok(Route::Request)),
+    (Dir::In, 6969, 0, 2001, 1, FOREIGN),
+    (Dir::In, 6969, 0, 2000, 4, WRONG),
+    (Dir::In, 6969, 0, 2001, 4, FOREIGN),
+    (Dir::In, 3000, 0, 2000, 4, FOREIGN),
+    (Dir::Out, 3001, 0, 2002, 5, WRONG),
+    (Dir::In, 3001, 0, 2002, 1, Ok(Route::Stray)),
+    (Dir::In, 3001, 0, 2002, 4, Ok(Route::Stray)),
+    (Dir::Out, 3001, 0, 2002, 5, Ok(Route::StrayAnswer)),
+    (Dir::Out, 3001, 0, 2002, 1, BAD_ANSWER),
+    (Dir::Out, 3001, 0, 2001, 5, WRONG),
+    (Dir::Out, 3001, 0, 2000, 3, Ok(Route::Peer)),
+    (Dir::In, 3001, 0, 2000, 5, Ok(Route::Peer)),
 ];
 
 /// A server that answers from its service port.
 const AT_THE_SERVICE_PORT: &[Row] = &[
-    (Dir::In, 69, b"-", 2000, 1, Ok(Route::Request)),
-    (Dir::Out, 69, b"-", 2000, 3, Ok(Route::Peer)),
-    (Dir::In, 69, b"-", 2000, 1, Ok(Route::Request)),
-    (Dir::In, 69, b"-", 2000, 4, Ok(Route::Peer)),
-    (Dir::In, 69, b"-", 2001, 1, FOREIGN),
-    (Dir::Out, 69, b"-", 2001, 5, WRONG),
-    (Dir::In, 69, b"-", 2001, 4, Ok(Route::Stray)),
-    (Dir::Out, 69, b"-", 2001, 5, Ok(Route::StrayAnswer)),
-    (Dir::Out, 70, b"-", 2000, 3, FOREIGN),
+    (Dir::In, 69, 0, 2000, 1, Ok(Route::Request)),
+    (Dir::Out, 69, 0, 2000, 3, Ok(Route::Peer)),
+    (Dir::In, 69, 0, 2000, 1, Ok(Route::Request)),
+    (Dir::In, 69, 0, 2000, 4, Ok(Route::Peer)),
+    (Dir::In, 69, 0, 2001, 1, FOREIGN),
+    (Dir::Out, 69, 0, 2001, 5, WRONG),
+    (Dir::In, 69, 0, 2001, 4, Ok(Route::Stray)),
+    (Dir::Out, 69, 0, 2001, 5, Ok(Route::StrayAnswer)),
+    (Dir::Out, 70, 0, 2000, 3, FOREIGN),
 ];
 
 /// A stray from another host at the server's port, and a request to another host.
 const HOSTS_AT_A_CLIENT: &[Row] = &[
-    (Dir::Out, 40000, b"10.0.0.1", 69, 1, Ok(Route::Request)),
-    (Dir::Out, 40000, b"10.0.0.2", 69, 1, WRONG),
-    (Dir::In, 40000, b"10.0.0.1", 41000, 3, Ok(Route::Peer)),
-    (Dir::In, 40000, b"10.0.0.9", 41000, 3, Ok(Route::Stray)),
-    (
-        Dir::Out,
-        40000,
-        b"10.0.0.9",
-        41000,
-        5,
-        Ok(Route::StrayAnswer),
-    ),
-    (Dir::Out, 40000, b"10.0.0.9", 41000, 4, BAD_ANSWER),
-    (Dir::Out, 40000, b"10.0.0.8", 41000, 5, WRONG),
-    (Dir::Out, 40000, b"10.0.0.1", 41000, 4, Ok(Route::Peer)),
+    (Dir::Out, 40000, 1, 69, 1, Ok(Route::Request)),
+    (Dir::Out, 40000, 2, 69, 1, WRONG),
+    (Dir::In, 40000, 1, 41000, 3, Ok(Route::Peer)),
+    (Dir::In, 40000, 9, 41000, 3, Ok(Route::Stray)),
+    (Dir::Out, 40000, 9, 41000, 5, Ok(Route::StrayAnswer)),
+    (Dir::Out, 40000, 9, 41000, 4, BAD_ANSWER),
+    (Dir::Out, 40000, 8, 41000, 5, WRONG),
+    (Dir::Out, 40000, 1, 41000, 4, Ok(Route::Peer)),
 ];
 
 /// A server that answers from another host than the one asked.
 const ANOTHER_HOST_ANSWERS: &[Row] = &[
-    (Dir::Out, 40000, b"10.0.0.1", 69, 1, Ok(Route::Request)),
-    (Dir::In, 40000, b"10.0.0.2", 41000, 3, Ok(Route::Peer)),
-    (Dir::Out, 40000, b"10.0.0.1", 41000, 4, WRONG),
-    (Dir::Out, 40000, b"10.0.0.2", 41000, 4, Ok(Route::Peer)),
-    (Dir::Out, 40000, b"10.0.0.1", 69, 1, Ok(Route::Request)),
+    (Dir::Out, 40000, 1, 69, 1, Ok(Route::Request)),
+    (Dir::In, 40000, 2, 41000, 3, Ok(Route::Peer)),
+    (Dir::Out, 40000, 1, 41000, 4, WRONG),
+    (Dir::Out, 40000, 2, 41000, 4, Ok(Route::Peer)),
+    (Dir::Out, 40000, 1, 69, 1, Ok(Route::Request)),
 ];
 
 /// Two hosts with one port.
 const HOSTS_AT_A_SERVER: &[Row] = &[
-    (Dir::In, 69, b"10.0.0.1", 2000, 1, Ok(Route::Request)),
-    (Dir::In, 69, b"10.0.0.2", 2000, 1, FOREIGN),
-    (Dir::Out, 3000, b"10.0.0.2", 2000, 3, WRONG),
-    (Dir::Out, 3000, b"10.0.0.1", 2000, 3, Ok(Route::Peer)),
-    (Dir::In, 3000, b"10.0.0.2", 2000, 4, Ok(Route::Stray)),
-    (Dir::Out, 3000, b"10.0.0.2", 2000, 5, Ok(Route::StrayAnswer)),
-    (Dir::Out, 3000, b"10.0.0.3", 2000, 5, WRONG),
-    (Dir::In, 3000, b"10.0.0.1", 2000, 4, Ok(Route::Peer)),
-    (Dir::In, 69, b"10.0.0.2", 2000, 1, FOREIGN),
+    (Dir::In, 69, 1, 2000, 1, Ok(Route::Request)),
+    (Dir::In, 69, 2, 2000, 1, FOREIGN),
+    (Dir::Out, 3000, 2, 2000, 3, WRONG),
+    (Dir::Out, 3000, 1, 2000, 3, Ok(Route::Peer)),
+    (Dir::In, 3000, 2, 2000, 4, Ok(Route::Stray)),
+    (Dir::Out, 3000, 2, 2000, 5, Ok(Route::StrayAnswer)),
+    (Dir::Out, 3000, 3, 2000, 5, WRONG),
+    (Dir::In, 3000, 1, 2000, 4, Ok(Route::Peer)),
+    (Dir::In, 69, 2, 2000, 1, FOREIGN),
 ];
 
 /// The end, its service port, and what passes there.
@@ -190,14 +192,14 @@ fn datagrams_belong_where_their_ports_say(rt: HostRuntime) -> Result<(), Fail> {
 
 /// A client that was answered.
 const ANSWERED: &[Row] = &[
-    (Dir::Out, 40000, b"-", 69, 1, Ok(Route::Request)),
-    (Dir::In, 40000, b"-", 65535, 3, Ok(Route::Peer)),
+    (Dir::Out, 40000, 0, 69, 1, Ok(Route::Request)),
+    (Dir::In, 40000, 0, 65535, 3, Ok(Route::Peer)),
 ];
 
 /// The answer again, and what would answer a host that was not heard of.
 const STILL: &[Row] = &[
-    (Dir::In, 40000, b"-", 65535, 3, Ok(Route::Peer)),
-    (Dir::Out, 40000, b"10.0.0.1", 1, 5, WRONG),
+    (Dir::In, 40000, 0, 65535, 3, Ok(Route::Peer)),
+    (Dir::Out, 40000, 1, 1, 5, WRONG),
 ];
 
 /// Fails unless a datagram of each port below the server's has this answer, the highest first.
@@ -215,13 +217,17 @@ fn all_have(
     Ok(())
 }
 
-/// Each stray is noted, may come again, and may be answered.
+/// Fails unless each stray is noted, may come again, and may be answered.
+fn notes_each(ports: &mut Ports) -> Result<(), Fail> {
+    all_have_answers(ports, ANSWERED)?;
+    all_have(ports, Dir::In, 3, Ok(Route::Stray))?;
+    all_have(ports, Dir::In, 3, Ok(Route::Stray))?;
+    all_have(ports, Dir::Out, 5, Ok(Route::StrayAnswer))?;
+    all_have_answers(ports, STILL)
+}
+
 #[test]
 fn client_notes_each_stray(rt: HostRuntime) -> Result<(), Fail> {
     let mut ports = Ports::new(rt.alloc(), End::Client, 69);
-    all_have_answers(&mut ports, ANSWERED)?;
-    all_have(&mut ports, Dir::In, 3, Ok(Route::Stray))?;
-    all_have(&mut ports, Dir::In, 3, Ok(Route::Stray))?;
-    all_have(&mut ports, Dir::Out, 5, Ok(Route::StrayAnswer))?;
-    all_have_answers(&mut ports, STILL)
+    notes_each(&mut ports)
 }

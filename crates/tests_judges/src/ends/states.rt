@@ -9,10 +9,30 @@ use tftp_ends::{NamedEnd, Rejection};
 use tftp_packet::hosts::Dir;
 use tftp_packet::{End, Packet, Side};
 
+/// The bytes of blocks.
+const BYTES: &[u8; 50] = b"111111112222222233333333444444440000000011111112hi";
+
+/// Where a block's bytes begin and end there. In a table, bytes of their own would be dear to prove.
+type Part = (usize, usize);
+
+const ONES: Part = (0, 8);
+
+const TWOS: Part = (8, 16);
+
+const THREES: Part = (16, 24);
+
+const FOURS: Part = (24, 32);
+
+const ZEROS: Part = (32, 40);
+
+const CHANGED: Part = (40, 48);
+
+const HI: Part = (48, 50);
+
 /// What passes.
 enum Passes {
     /// A block, by its number and its bytes.
-    Data(u32, &'static [u8]),
+    Data(u32, Part),
     /// An ACK.
     Ack(u32),
     /// The other end's ERROR.
@@ -25,9 +45,9 @@ type Step = (Dir, Passes, Result<(), Rejection>, bool);
 /// The packet of what passes.
 fn packet_of(passes: &Passes) -> Packet<'static> {
     match passes {
-        Passes::Data(block, bytes) => Packet::Data {
+        Passes::Data(block, (from, to)) => Packet::Data {
             block: *block,
-            bytes: *bytes,
+            bytes: BYTES.get(*from..*to).unwrap_or(b""),
         },
         Passes::Ack(block) => Packet::Ack { block: *block },
         Passes::Stop => Packet::Error {
@@ -41,7 +61,7 @@ fn packet_of(passes: &Passes) -> Packet<'static> {
 const READ_IN_WINDOWS: &[Step] = &[
     (
         Dir::Out,
-        Passes::Data(1, b"11111111"),
+        Passes::Data(1, ONES),
         Err(Rejection::Broken(EndRule::NotStarted)),
         false,
     ),
@@ -49,22 +69,22 @@ const READ_IN_WINDOWS: &[Step] = &[
     (Dir::In, Passes::Ack(0), Ok(()), false),
     (
         Dir::Out,
-        Passes::Data(2, b"22222222"),
+        Passes::Data(2, TWOS),
         Err(Rejection::Broken(EndRule::BlockSkipped)),
         false,
     ),
     (
         Dir::Out,
-        Passes::Data(3, b"33333333"),
+        Passes::Data(3, THREES),
         Err(Rejection::Broken(EndRule::WindowOverrun)),
         false,
     ),
-    (Dir::Out, Passes::Data(1, b"11111111"), Ok(()), false),
-    (Dir::Out, Passes::Data(2, b"22222222"), Ok(()), false),
-    (Dir::Out, Passes::Data(1, b"11111111"), Ok(()), false),
+    (Dir::Out, Passes::Data(1, ONES), Ok(()), false),
+    (Dir::Out, Passes::Data(2, TWOS), Ok(()), false),
+    (Dir::Out, Passes::Data(1, ONES), Ok(()), false),
     (
         Dir::Out,
-        Passes::Data(1, b"11111112"),
+        Passes::Data(1, CHANGED),
         Err(Rejection::Broken(EndRule::BlockChanged)),
         false,
     ),
@@ -76,17 +96,17 @@ const READ_IN_WINDOWS: &[Step] = &[
     ),
     (Dir::In, Passes::Ack(1), Ok(()), false),
     (Dir::In, Passes::Ack(0), Ok(()), false),
-    (Dir::Out, Passes::Data(3, b"33"), Ok(()), false),
+    (Dir::Out, Passes::Data(3, (16, 18)), Ok(()), false),
     (Dir::In, Passes::Ack(3), Ok(()), true),
 ];
 
 /// A sender hears of no block that it sent after the ERROR.
 const STOPPED_SENDER: &[Step] = &[
     (Dir::In, Passes::Ack(0), Ok(()), false),
-    (Dir::Out, Passes::Data(1, b"11111111"), Ok(()), false),
+    (Dir::Out, Passes::Data(1, ONES), Ok(()), false),
     (Dir::In, Passes::Ack(1), Ok(()), false),
     (Dir::In, Passes::Stop, Ok(()), false),
-    (Dir::Out, Passes::Data(2, b"22"), Ok(()), false),
+    (Dir::Out, Passes::Data(2, (8, 10)), Ok(()), false),
     (
         Dir::In,
         Passes::Ack(2),
@@ -102,7 +122,7 @@ const STOPPED_SENDER: &[Step] = &[
     ),
     (
         Dir::Out,
-        Passes::Data(1, b"11111111"),
+        Passes::Data(1, ONES),
         Err(Rejection::Broken(EndRule::GoneBack)),
         false,
     ),
@@ -110,29 +130,29 @@ const STOPPED_SENDER: &[Step] = &[
 
 /// The largest window goes past the last number that a block can have.
 const LARGEST_SENDER: &[Step] = &[
-    (Dir::Out, Passes::Data(1, b"11111111"), Ok(()), false),
+    (Dir::Out, Passes::Data(1, ONES), Ok(()), false),
     (Dir::In, Passes::Ack(1), Ok(()), false),
     (
         Dir::Out,
-        Passes::Data(65535, b"1111111"),
+        Passes::Data(65535, (0, 7)),
         Err(Rejection::Broken(EndRule::BlockSkipped)),
         false,
     ),
     (
         Dir::Out,
-        Passes::Data(65535, b"11111111"),
+        Passes::Data(65535, ONES),
         Err(Rejection::Broken(EndRule::BeyondBlock65535)),
         false,
     ),
     (
         Dir::Out,
-        Passes::Data(65536, b"1111111"),
+        Passes::Data(65536, (0, 7)),
         Err(Rejection::Broken(EndRule::BeyondBlock65535)),
         false,
     ),
     (
         Dir::Out,
-        Passes::Data(u32::MAX, b"1111111"),
+        Passes::Data(u32::MAX, (0, 7)),
         Err(Rejection::Broken(EndRule::BeyondBlock65535)),
         false,
     ),
@@ -154,11 +174,11 @@ const WRITTEN_OUT_OF_ORDER: &[Step] = &[
     ),
     (
         Dir::In,
-        Passes::Data(0, b"00000000"),
+        Passes::Data(0, ZEROS),
         Err(Rejection::Broken(EndRule::BlockZero)),
         false,
     ),
-    (Dir::In, Passes::Data(2, b"22222222"), Ok(()), false),
+    (Dir::In, Passes::Data(2, TWOS), Ok(()), false),
     (Dir::Out, Passes::Ack(0), Ok(()), false),
     (
         Dir::Out,
@@ -168,17 +188,17 @@ const WRITTEN_OUT_OF_ORDER: &[Step] = &[
     ),
     (
         Dir::In,
-        Passes::Data(2, b"222"),
+        Passes::Data(2, (8, 11)),
         Err(Rejection::Broken(EndRule::BlockLength)),
         false,
     ),
-    (Dir::In, Passes::Data(3, b"333"), Ok(()), false),
-    (Dir::In, Passes::Data(1, b"11111111"), Ok(()), false),
+    (Dir::In, Passes::Data(3, (16, 19)), Ok(()), false),
+    (Dir::In, Passes::Data(1, ONES), Ok(()), false),
     (Dir::Out, Passes::Ack(2), Ok(()), false),
     (Dir::Out, Passes::Ack(3), Ok(()), true),
     (
         Dir::In,
-        Passes::Data(4, b"44444444"),
+        Passes::Data(4, FOURS),
         Err(Rejection::Broken(EndRule::BlockLength)),
         true,
     ),
@@ -188,25 +208,25 @@ const WRITTEN_OUT_OF_ORDER: &[Step] = &[
 const STOPPED_RECEIVER: &[Step] = &[
     (
         Dir::In,
-        Passes::Data(1, b"11111111"),
+        Passes::Data(1, ONES),
         Err(Rejection::Broken(EndRule::NotStarted)),
         false,
     ),
     (Dir::Out, Passes::Ack(0), Ok(()), false),
-    (Dir::In, Passes::Data(1, b"11111111"), Ok(()), false),
+    (Dir::In, Passes::Data(1, ONES), Ok(()), false),
     (Dir::In, Passes::Stop, Ok(()), false),
     (Dir::Out, Passes::Ack(1), Ok(()), false),
     (
         Dir::In,
-        Passes::Data(2, b"22222222"),
+        Passes::Data(2, TWOS),
         Err(Rejection::Broken(EndRule::WindowOverrun)),
         false,
     ),
-    (Dir::In, Passes::Data(1, b"11111111"), Ok(()), false),
+    (Dir::In, Passes::Data(1, ONES), Ok(()), false),
     (Dir::In, Passes::Stop, Ok(()), false),
     (
         Dir::In,
-        Passes::Data(2, b"22222222"),
+        Passes::Data(2, TWOS),
         Err(Rejection::Broken(EndRule::WindowOverrun)),
         false,
     ),
@@ -218,7 +238,7 @@ const STOPPED_AT_ONCE: &[Step] = &[
     (Dir::Out, Passes::Ack(0), Ok(()), false),
     (
         Dir::In,
-        Passes::Data(1, b"1"),
+        Passes::Data(1, (0, 1)),
         Err(Rejection::Broken(EndRule::NotStarted)),
         false,
     ),
@@ -232,7 +252,7 @@ const STOPPED_AT_THE_END: &[Step] = &[
         Err(Rejection::Broken(EndRule::AckZero)),
         false,
     ),
-    (Dir::In, Passes::Data(1, b"hi"), Ok(()), false),
+    (Dir::In, Passes::Data(1, HI), Ok(()), false),
     (Dir::In, Passes::Stop, Ok(()), false),
     (Dir::Out, Passes::Ack(1), Ok(()), true),
 ];
@@ -241,63 +261,63 @@ const STOPPED_AT_THE_END: &[Step] = &[
 const KNOWN_SIZE: &[Step] = &[
     (
         Dir::In,
-        Passes::Data(1, b"1111111"),
+        Passes::Data(1, (0, 7)),
         Err(Rejection::Broken(EndRule::BlockLength)),
         false,
     ),
     (
         Dir::In,
-        Passes::Data(2, b"22222222"),
+        Passes::Data(2, TWOS),
         Err(Rejection::Broken(EndRule::BlockLength)),
         false,
     ),
     (
         Dir::In,
-        Passes::Data(2, b"2"),
+        Passes::Data(2, (8, 9)),
         Err(Rejection::Broken(EndRule::BlockLength)),
         false,
     ),
     (
         Dir::In,
-        Passes::Data(3, b"33333333"),
+        Passes::Data(3, THREES),
         Err(Rejection::Broken(EndRule::BlockLength)),
         false,
     ),
-    (Dir::In, Passes::Data(2, b"22"), Ok(()), false),
-    (Dir::In, Passes::Data(1, b"11111111"), Ok(()), false),
+    (Dir::In, Passes::Data(2, (8, 10)), Ok(()), false),
+    (Dir::In, Passes::Data(1, ONES), Ok(()), false),
     (Dir::Out, Passes::Ack(2), Ok(()), true),
 ];
 
 const EMPTY: &[Step] = &[
-    (Dir::In, Passes::Data(1, b""), Ok(()), false),
+    (Dir::In, Passes::Data(1, (0, 0)), Ok(()), false),
     (
         Dir::In,
-        Passes::Data(1, b"1"),
+        Passes::Data(1, (0, 1)),
         Err(Rejection::Broken(EndRule::BlockLength)),
         false,
     ),
 ];
 
-const ONE_WHOLE_BLOCK: &[Step] = &[(Dir::In, Passes::Data(2, b""), Ok(()), false)];
+const ONE_WHOLE_BLOCK: &[Step] = &[(Dir::In, Passes::Data(2, (0, 0)), Ok(()), false)];
 
 const THE_LARGEST_SIZE: &[Step] = &[
-    (Dir::In, Passes::Data(1, b"11111111"), Ok(()), false),
+    (Dir::In, Passes::Data(1, ONES), Ok(()), false),
     (
         Dir::In,
-        Passes::Data(1, b"1"),
+        Passes::Data(1, (0, 1)),
         Err(Rejection::Broken(EndRule::BlockLength)),
         false,
     ),
 ];
 
 const LARGEST_RECEIVER: &[Step] = &[
-    (Dir::In, Passes::Data(65535, b"1111111"), Ok(()), false),
-    (Dir::In, Passes::Data(1, b"11111111"), Ok(()), false),
+    (Dir::In, Passes::Data(65535, (0, 7)), Ok(()), false),
+    (Dir::In, Passes::Data(1, ONES), Ok(()), false),
     (Dir::Out, Passes::Ack(1), Ok(()), false),
-    (Dir::In, Passes::Data(65534, b"11111111"), Ok(()), false),
+    (Dir::In, Passes::Data(65534, ONES), Ok(()), false),
     (
         Dir::In,
-        Passes::Data(65534, b"1111111"),
+        Passes::Data(65534, (0, 7)),
         Err(Rejection::Broken(EndRule::BlockLength)),
         false,
     ),

@@ -61,17 +61,20 @@ fn captures_of_all_scripts(rt: HostRuntime) -> Result<(), Fail> {
     all_hold(&rt, limits::SCRIPT, 12)
 }
 
+/// Fails unless this is said of a text, and this normal text is written for it.
+fn is_said(rt: &HostRuntime, text: &[u8], said: &[u8], normal: &[u8]) -> Result<(), Fail> {
+    let line = line_of(rt.alloc(), said)?;
+    prints(rt, "check", text, 0, line.as_slice())?;
+    prints(rt, "normal", text, 0, normal)
+}
+
 /// Fails unless of the next capture of a script is said what is wanted, and the same of its normal text after it, which is
 /// written for both.
 fn next_are_said(rt: &HostRuntime, script: &mut Script<'_>) -> Result<(), Fail> {
     let (text, said) = script.next(rt.alloc())?;
     let (normal, _) = script.next(rt.alloc())?;
-    let line = line_of(rt.alloc(), said)?;
-    for text in [text.as_slice(), normal.as_slice()] {
-        prints(rt, "check", text, 0, line.as_slice())?;
-        prints(rt, "normal", text, 0, normal.as_slice())?;
-    }
-    Ok(())
+    is_said(rt, text.as_slice(), said, normal.as_slice())?;
+    is_said(rt, normal.as_slice(), said, normal.as_slice())
 }
 
 #[test]

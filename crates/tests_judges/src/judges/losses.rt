@@ -16,78 +16,112 @@ const SERVICE: u16 = 69;
 
 const SERVER: u16 = 41_000;
 
-const READ: &[u8] = b"\x00\x01a\x00octet\x00";
+/// What passes. Payloads of their own would be dear to prove in the table of what passed.
+#[derive(Clone, Copy)]
+enum Sent {
+    // A read and a write.
+    Read,
+    Write,
+    // The same with blocks of 8 bytes, two at a time; and what agrees to it.
+    ReadByTwo,
+    WriteByTwo,
+    AgreedByTwo,
+    // The same with a block at a time.
+    ReadByOne,
+    WriteByOne,
+    AgreedByOne,
+    // A read with four.
+    ReadByFour,
+    AgreedByFour,
+    // Blocks of 8 bytes, by their numbers.
+    Block1,
+    Block2,
+    Block3,
+    Block4,
+    // Blocks of bytes of their own.
+    Own1,
+    Own2,
+    Own3,
+    Own4,
+    // Blocks of no byte.
+    Last1,
+    Last2,
+    Last3,
+    Last5,
+    // ACKs.
+    Ack0,
+    Ack1,
+    Ack2,
+    Ack3,
+    Ack4,
+    Ack5,
+    // Block 1 of one byte, and an ERROR.
+    Changed1,
+    Error,
+}
 
-const WRITE: &[u8] = b"\x00\x02a\x00octet\x00";
+/// The payload of each, in their order.
+const PAYLOADS: &[&[u8]] = &[
+    b"\x00\x01a\x00octet\x00",
+    b"\x00\x02a\x00octet\x00",
+    b"\x00\x01a\x00octet\x00blksize\x008\x00windowsize\x002\x00",
+    b"\x00\x02a\x00octet\x00blksize\x008\x00windowsize\x002\x00",
+    b"\x00\x06blksize\x008\x00windowsize\x002\x00",
+    b"\x00\x01a\x00octet\x00blksize\x008\x00",
+    b"\x00\x02a\x00octet\x00blksize\x008\x00",
+    b"\x00\x06blksize\x008\x00",
+    b"\x00\x01a\x00octet\x00blksize\x008\x00windowsize\x004\x00",
+    b"\x00\x06blksize\x008\x00windowsize\x004\x00",
+    b"\x00\x03\x00\x01\x01\x02\x03\x04\x05\x06\x07\x08",
+    b"\x00\x03\x00\x02\x01\x02\x03\x04\x05\x06\x07\x08",
+    b"\x00\x03\x00\x03\x01\x02\x03\x04\x05\x06\x07\x08",
+    b"\x00\x03\x00\x04\x01\x02\x03\x04\x05\x06\x07\x08",
+    b"\x00\x03\x00\x01\x01\x02\x03\x04\x05\x06\x07\x01",
+    b"\x00\x03\x00\x02\x02\x02\x03\x04\x05\x06\x07\x02",
+    b"\x00\x03\x00\x03\x03\x02\x03\x04\x05\x06\x07\x03",
+    b"\x00\x03\x00\x04\x04\x02\x03\x04\x05\x06\x07\x04",
+    b"\x00\x03\x00\x01",
+    b"\x00\x03\x00\x02",
+    b"\x00\x03\x00\x03",
+    b"\x00\x03\x00\x05",
+    b"\x00\x04\x00\x00",
+    b"\x00\x04\x00\x01",
+    b"\x00\x04\x00\x02",
+    b"\x00\x04\x00\x03",
+    b"\x00\x04\x00\x04",
+    b"\x00\x04\x00\x05",
+    b"\x00\x03\x00\x01x",
+    b"\x00\x05\x00\x00\x00",
+];
 
-/// A read with blocks of 8 bytes, two at a time; and what agrees to it.
-const SIZED: &[u8] = b"\x00\x01a\x00octet\x00blksize\x008\x00windowsize\x002\x00";
-
-const SIZED_WRITE: &[u8] = b"\x00\x02a\x00octet\x00blksize\x008\x00windowsize\x002\x00";
-
-const AGREED: &[u8] = b"\x00\x06blksize\x008\x00windowsize\x002\x00";
-
-/// The same with a block at a time, and with four.
-const SINGLE: &[u8] = b"\x00\x01a\x00octet\x00blksize\x008\x00";
-
-const SINGLE_WRITE: &[u8] = b"\x00\x02a\x00octet\x00blksize\x008\x00";
-
-const SINGLE_AGREED: &[u8] = b"\x00\x06blksize\x008\x00";
-
-const FOUR: &[u8] = b"\x00\x01a\x00octet\x00blksize\x008\x00windowsize\x004\x00";
-
-const FOUR_AGREED: &[u8] = b"\x00\x06blksize\x008\x00windowsize\x004\x00";
-
-/// Blocks of 8 bytes, by their numbers.
-const BLOCK_1: &[u8] = b"\x00\x03\x00\x01\x01\x02\x03\x04\x05\x06\x07\x08";
-
-const BLOCK_2: &[u8] = b"\x00\x03\x00\x02\x01\x02\x03\x04\x05\x06\x07\x08";
-
-const BLOCK_3: &[u8] = b"\x00\x03\x00\x03\x01\x02\x03\x04\x05\x06\x07\x08";
-
-const BLOCK_4: &[u8] = b"\x00\x03\x00\x04\x01\x02\x03\x04\x05\x06\x07\x08";
-
-/// Blocks of bytes of their own.
-const OWN_1: &[u8] = b"\x00\x03\x00\x01\x01\x02\x03\x04\x05\x06\x07\x01";
-
-const OWN_2: &[u8] = b"\x00\x03\x00\x02\x02\x02\x03\x04\x05\x06\x07\x02";
-
-const OWN_3: &[u8] = b"\x00\x03\x00\x03\x03\x02\x03\x04\x05\x06\x07\x03";
-
-const OWN_4: &[u8] = b"\x00\x03\x00\x04\x04\x02\x03\x04\x05\x06\x07\x04";
-
-/// Blocks of no byte.
-const LAST_1: &[u8] = b"\x00\x03\x00\x01";
-
-const LAST_2: &[u8] = b"\x00\x03\x00\x02";
-
-const LAST_3: &[u8] = b"\x00\x03\x00\x03";
-
-const LAST_5: &[u8] = b"\x00\x03\x00\x05";
-
-/// ACKs.
-const ACK_0: &[u8] = b"\x00\x04\x00\x00";
-
-const ACK_1: &[u8] = b"\x00\x04\x00\x01";
-
-const ACK_2: &[u8] = b"\x00\x04\x00\x02";
-
-const ACK_3: &[u8] = b"\x00\x04\x00\x03";
-
-const ACK_4: &[u8] = b"\x00\x04\x00\x04";
-
-const ACK_5: &[u8] = b"\x00\x04\x00\x05";
+/// The payload of what passes.
+fn payload_of(sent: Sent) -> &'static [u8] {
+    match PAYLOADS.get(sent as usize) {
+        Some(payload) => *payload,
+        None => b"",
+    }
+}
 
 /// What came in or went out.
-type Passed = (Dir, &'static [u8]);
+type Passed = (Dir, Sent);
 
 /// A mender of one end, and the clues for it. Contracts see nothing of it, so that what the library promises of them is read
 /// only here, where they are called.
-#[derive(Drop)]
 struct Trial {
     mender: Mender,
     clues: Clues,
     end: End,
+}
+
+impl Drop for Trial {
+    // written out, since the prover takes a derived one apart again wherever a value is let go
+    fn drop(self) {
+        let Trial {
+            mender: _,
+            clues: _,
+            end: _,
+        } = self;
+    }
 }
 
 impl Model for Trial {
@@ -121,7 +155,8 @@ impl Trial {
 
     /// The datagram with this payload, of which a request goes where the server is asked.
     fn datagram(&self, alloc: Global, passed: Passed) -> Result<Datagram, AllocError> {
-        let (dir, payload) = passed;
+        let (dir, sent) = passed;
+        let payload = payload_of(sent);
         let asks = matches!(payload, [0, 1 | 2, ..]);
         let server = if asks { SERVICE } else { SERVER };
         let (local_port, remote_port) = match self.end {
@@ -137,12 +172,27 @@ impl Trial {
         })
     }
 
-    fn feed(&mut self, alloc: Global, passed: Passed) -> Result<Result<(), Unmended>, Fail> {
-        let datagram = self.datagram(alloc, passed)?;
-        if self.mender.recorded() >= 1 << 40 || datagram.payload.as_slice().len() > 65527 {
-            return Err(Fail::new("too many"));
+    /// Feeds a datagram of at most 65,527 bytes, after fewer than 2^40.
+    fn mend(&mut self, alloc: Global, datagram: &Datagram) -> Result<(), Unmended> {
+        if self.mender.recorded() >= 1 << 40 || datagram.payload.as_slice().len() > 65_527 {
+            return Err(Unmended::Memory);
         }
-        Ok(self.mender.feed(alloc, &self.clues, &datagram))
+        self.mender.feed(alloc, &self.clues, datagram)
+    }
+
+    fn feed(&mut self, alloc: Global, passed: Passed) -> Result<Result<(), Unmended>, AllocError> {
+        let datagram = self.datagram(alloc, passed)?;
+        Ok(self.mend(alloc, &datagram))
+    }
+
+    /// The places that were found.
+    fn into_places(self) -> Vec<Place> {
+        let Trial {
+            mender,
+            clues: _,
+            end: _,
+        } = self;
+        mender.into_places()
     }
 }
 
@@ -154,18 +204,22 @@ const CASES: &[Case] = &[
     // nothing is missing of whole transfers
     (
         End::Client,
-        &[(Dir::Out, READ), (Dir::In, LAST_1), (Dir::Out, ACK_1)],
+        &[
+            (Dir::Out, Sent::Read),
+            (Dir::In, Sent::Last1),
+            (Dir::Out, Sent::Ack1),
+        ],
         Some(&[]),
     ),
     (
         End::Server,
         &[
-            (Dir::In, SIZED),
-            (Dir::Out, AGREED),
-            (Dir::In, ACK_0),
-            (Dir::Out, BLOCK_1),
-            (Dir::Out, LAST_2),
-            (Dir::In, ACK_2),
+            (Dir::In, Sent::ReadByTwo),
+            (Dir::Out, Sent::AgreedByTwo),
+            (Dir::In, Sent::Ack0),
+            (Dir::Out, Sent::Block1),
+            (Dir::Out, Sent::Last2),
+            (Dir::In, Sent::Ack2),
         ],
         Some(&[]),
     ),
@@ -173,21 +227,21 @@ const CASES: &[Case] = &[
     (
         End::Server,
         &[
-            (Dir::In, SIZED_WRITE),
-            (Dir::Out, AGREED),
-            (Dir::In, BLOCK_2),
-            (Dir::Out, ACK_0),
-            (Dir::In, BLOCK_1),
-            (Dir::Out, ACK_2),
-            (Dir::In, LAST_3),
-            (Dir::Out, ACK_3),
+            (Dir::In, Sent::WriteByTwo),
+            (Dir::Out, Sent::AgreedByTwo),
+            (Dir::In, Sent::Block2),
+            (Dir::Out, Sent::Ack0),
+            (Dir::In, Sent::Block1),
+            (Dir::Out, Sent::Ack2),
+            (Dir::In, Sent::Last3),
+            (Dir::Out, Sent::Ack3),
         ],
         Some(&[]),
     ),
     // blocks are missing where they are acknowledged
     (
         End::Client,
-        &[(Dir::Out, READ), (Dir::Out, ACK_1)],
+        &[(Dir::Out, Sent::Read), (Dir::Out, Sent::Ack1)],
         Some(&[Place {
             before: 2,
             came: 1,
@@ -197,7 +251,7 @@ const CASES: &[Case] = &[
     // blocks 1 and 2, and the ACK between them
     (
         End::Client,
-        &[(Dir::Out, READ), (Dir::Out, ACK_2)],
+        &[(Dir::Out, Sent::Read), (Dir::Out, Sent::Ack2)],
         Some(&[Place {
             before: 2,
             came: 2,
@@ -206,7 +260,7 @@ const CASES: &[Case] = &[
     ),
     (
         End::Server,
-        &[(Dir::In, READ), (Dir::In, ACK_1)],
+        &[(Dir::In, Sent::Read), (Dir::In, Sent::Ack1)],
         Some(&[Place {
             before: 2,
             came: 0,
@@ -215,7 +269,11 @@ const CASES: &[Case] = &[
     ),
     (
         End::Server,
-        &[(Dir::In, WRITE), (Dir::Out, ACK_0), (Dir::Out, ACK_1)],
+        &[
+            (Dir::In, Sent::Write),
+            (Dir::Out, Sent::Ack0),
+            (Dir::Out, Sent::Ack1),
+        ],
         Some(&[Place {
             before: 3,
             came: 1,
@@ -226,7 +284,7 @@ const CASES: &[Case] = &[
     // a write waits for its reply, which went out
     (
         End::Server,
-        &[(Dir::In, WRITE), (Dir::In, LAST_1)],
+        &[(Dir::In, Sent::Write), (Dir::In, Sent::Last1)],
         Some(&[Place {
             before: 2,
             came: 0,
@@ -236,7 +294,11 @@ const CASES: &[Case] = &[
     // and where it is sent the reply came in
     (
         End::Client,
-        &[(Dir::Out, WRITE), (Dir::Out, LAST_1), (Dir::In, ACK_1)],
+        &[
+            (Dir::Out, Sent::Write),
+            (Dir::Out, Sent::Last1),
+            (Dir::In, Sent::Ack1),
+        ],
         Some(&[Place {
             before: 2,
             came: 1,
@@ -247,11 +309,11 @@ const CASES: &[Case] = &[
     (
         End::Server,
         &[
-            (Dir::In, SIZED),
-            (Dir::Out, AGREED),
-            (Dir::Out, BLOCK_1),
-            (Dir::Out, BLOCK_2),
-            (Dir::Out, BLOCK_3),
+            (Dir::In, Sent::ReadByTwo),
+            (Dir::Out, Sent::AgreedByTwo),
+            (Dir::Out, Sent::Block1),
+            (Dir::Out, Sent::Block2),
+            (Dir::Out, Sent::Block3),
         ],
         Some(&[
             Place {
@@ -270,10 +332,10 @@ const CASES: &[Case] = &[
     (
         End::Client,
         &[
-            (Dir::Out, SIZED),
-            (Dir::In, AGREED),
-            (Dir::Out, ACK_0),
-            (Dir::In, BLOCK_4),
+            (Dir::Out, Sent::ReadByTwo),
+            (Dir::In, Sent::AgreedByTwo),
+            (Dir::Out, Sent::Ack0),
+            (Dir::In, Sent::Block4),
         ],
         Some(&[Place {
             before: 4,
@@ -286,16 +348,16 @@ const CASES: &[Case] = &[
     (
         End::Client,
         &[
-            (Dir::Out, SINGLE),
-            (Dir::In, SINGLE_AGREED),
-            (Dir::Out, ACK_0),
-            (Dir::In, OWN_1),
-            (Dir::Out, ACK_1),
-            (Dir::Out, ACK_2),
-            (Dir::In, OWN_2),
-            (Dir::Out, ACK_2),
-            (Dir::In, LAST_3),
-            (Dir::Out, ACK_3),
+            (Dir::Out, Sent::ReadByOne),
+            (Dir::In, Sent::AgreedByOne),
+            (Dir::Out, Sent::Ack0),
+            (Dir::In, Sent::Own1),
+            (Dir::Out, Sent::Ack1),
+            (Dir::Out, Sent::Ack2),
+            (Dir::In, Sent::Own2),
+            (Dir::Out, Sent::Ack2),
+            (Dir::In, Sent::Last3),
+            (Dir::Out, Sent::Ack3),
         ],
         Some(&[Place {
             before: 6,
@@ -307,13 +369,13 @@ const CASES: &[Case] = &[
     (
         End::Server,
         &[
-            (Dir::In, SINGLE_WRITE),
-            (Dir::Out, SINGLE_AGREED),
-            (Dir::In, OWN_1),
-            (Dir::Out, ACK_1),
-            (Dir::Out, ACK_2),
-            (Dir::In, LAST_2),
-            (Dir::Out, ACK_2),
+            (Dir::In, Sent::WriteByOne),
+            (Dir::Out, Sent::AgreedByOne),
+            (Dir::In, Sent::Own1),
+            (Dir::Out, Sent::Ack1),
+            (Dir::Out, Sent::Ack2),
+            (Dir::In, Sent::Last2),
+            (Dir::Out, Sent::Ack2),
         ],
         Some(&[Place {
             before: 5,
@@ -325,19 +387,19 @@ const CASES: &[Case] = &[
     (
         End::Client,
         &[
-            (Dir::Out, FOUR),
-            (Dir::In, FOUR_AGREED),
-            (Dir::Out, ACK_0),
-            (Dir::In, OWN_1),
-            (Dir::In, OWN_4),
-            (Dir::Out, ACK_4),
-            (Dir::In, OWN_1),
-            (Dir::In, OWN_2),
-            (Dir::In, OWN_3),
-            (Dir::In, OWN_4),
-            (Dir::Out, ACK_4),
-            (Dir::In, LAST_5),
-            (Dir::Out, ACK_5),
+            (Dir::Out, Sent::ReadByFour),
+            (Dir::In, Sent::AgreedByFour),
+            (Dir::Out, Sent::Ack0),
+            (Dir::In, Sent::Own1),
+            (Dir::In, Sent::Own4),
+            (Dir::Out, Sent::Ack4),
+            (Dir::In, Sent::Own1),
+            (Dir::In, Sent::Own2),
+            (Dir::In, Sent::Own3),
+            (Dir::In, Sent::Own4),
+            (Dir::Out, Sent::Ack4),
+            (Dir::In, Sent::Last5),
+            (Dir::Out, Sent::Ack5),
         ],
         Some(&[Place {
             before: 6,
@@ -349,13 +411,13 @@ const CASES: &[Case] = &[
     (
         End::Client,
         &[
-            (Dir::Out, SINGLE),
-            (Dir::In, SINGLE_AGREED),
-            (Dir::Out, ACK_0),
-            (Dir::Out, ACK_1),
-            (Dir::In, OWN_1),
-            (Dir::Out, ACK_1),
-            (Dir::In, BLOCK_1),
+            (Dir::Out, Sent::ReadByOne),
+            (Dir::In, Sent::AgreedByOne),
+            (Dir::Out, Sent::Ack0),
+            (Dir::Out, Sent::Ack1),
+            (Dir::In, Sent::Own1),
+            (Dir::Out, Sent::Ack1),
+            (Dir::In, Sent::Block1),
         ],
         None,
     ),
@@ -363,12 +425,12 @@ const CASES: &[Case] = &[
     (
         End::Client,
         &[
-            (Dir::Out, SINGLE),
-            (Dir::Out, ACK_0),
-            (Dir::In, SINGLE_AGREED),
-            (Dir::Out, ACK_0),
-            (Dir::In, OWN_1),
-            (Dir::Out, ACK_1),
+            (Dir::Out, Sent::ReadByOne),
+            (Dir::Out, Sent::Ack0),
+            (Dir::In, Sent::AgreedByOne),
+            (Dir::Out, Sent::Ack0),
+            (Dir::In, Sent::Own1),
+            (Dir::Out, Sent::Ack1),
         ],
         Some(&[Place {
             before: 2,
@@ -380,10 +442,10 @@ const CASES: &[Case] = &[
     (
         End::Client,
         &[
-            (Dir::Out, SINGLE),
-            (Dir::In, OWN_1),
-            (Dir::Out, ACK_1),
-            (Dir::In, SINGLE_AGREED),
+            (Dir::Out, Sent::ReadByOne),
+            (Dir::In, Sent::Own1),
+            (Dir::Out, Sent::Ack1),
+            (Dir::In, Sent::AgreedByOne),
         ],
         Some(&[Place {
             before: 2,
@@ -394,12 +456,12 @@ const CASES: &[Case] = &[
     (
         End::Server,
         &[
-            (Dir::In, SINGLE_WRITE),
-            (Dir::In, OWN_1),
-            (Dir::Out, SINGLE_AGREED),
-            (Dir::Out, ACK_1),
-            (Dir::In, LAST_2),
-            (Dir::Out, ACK_2),
+            (Dir::In, Sent::WriteByOne),
+            (Dir::In, Sent::Own1),
+            (Dir::Out, Sent::AgreedByOne),
+            (Dir::Out, Sent::Ack1),
+            (Dir::In, Sent::Last2),
+            (Dir::Out, Sent::Ack2),
         ],
         Some(&[Place {
             before: 2,
@@ -412,28 +474,36 @@ const CASES: &[Case] = &[
     (
         End::Client,
         &[
-            (Dir::Out, READ),
-            (Dir::In, LAST_1),
-            (Dir::In, b"\x00\x03\x00\x01x"),
+            (Dir::Out, Sent::Read),
+            (Dir::In, Sent::Last1),
+            (Dir::In, Sent::Changed1),
         ],
         None,
     ),
     // an ACK above the last block
     (
         End::Client,
-        &[(Dir::Out, READ), (Dir::In, LAST_1), (Dir::Out, ACK_2)],
+        &[
+            (Dir::Out, Sent::Read),
+            (Dir::In, Sent::Last1),
+            (Dir::Out, Sent::Ack2),
+        ],
         None,
     ),
     // a server that acknowledges in a read
-    (End::Client, &[(Dir::Out, READ), (Dir::In, ACK_1)], None),
+    (
+        End::Client,
+        &[(Dir::Out, Sent::Read), (Dir::In, Sent::Ack1)],
+        None,
+    ),
     // what comes after an ERROR of the other end
     (
         End::Server,
         &[
-            (Dir::In, WRITE),
-            (Dir::Out, ACK_0),
-            (Dir::In, b"\x00\x05\x00\x00\x00"),
-            (Dir::Out, ACK_1),
+            (Dir::In, Sent::Write),
+            (Dir::Out, Sent::Ack0),
+            (Dir::In, Sent::Error),
+            (Dir::Out, Sent::Ack1),
         ],
         None,
     ),
@@ -444,7 +514,7 @@ fn first_unexplained(
     alloc: Global,
     trial: &mut Trial,
     all: &[Passed],
-) -> Result<Option<usize>, Fail> {
+) -> Result<Option<usize>, AllocError> {
     for (index, passed) in all.iter().enumerate() {
         if trial.feed(alloc, *passed)? == Err(Unmended::Unexplained) {
             return Ok(Some(index));
@@ -453,22 +523,12 @@ fn first_unexplained(
     Ok(None)
 }
 
-/// The places that were found.
-fn places_of(trial: Trial) -> Vec<Place> {
-    let Trial {
-        mender,
-        clues: _clues,
-        end: _,
-    } = trial;
-    mender.into_places()
-}
-
 /// Fails unless just that is missing.
 fn holds(alloc: Global, (end, all, wanted): &Case) -> Result<(), Fail> {
     let mut trial = Trial::at(alloc, *end);
     trial.note(alloc, *all)?;
     let refused = first_unexplained(alloc, &mut trial, *all)?;
-    let places = places_of(trial);
+    let places = trial.into_places();
     match wanted {
         Some(wanted) => is_so(
             refused == None && places.as_slice() == *wanted,

@@ -27,16 +27,40 @@ const PAST: u64 = 131_074;
 
 /// A client's capture of a read in blocks of 8 bytes. Contracts see nothing of it, so that what the library promises of its
 /// judges is read only here, where it is called.
-#[derive(Drop)]
 struct Reading {
     judge: Judge<RingDelivered>,
     rollover: Option<Rollover>,
+}
+
+impl Drop for Reading {
+    // written out, since the prover takes a derived one apart again wherever a value is let go
+    fn drop(self) {
+        let Reading {
+            judge: _,
+            rollover: _,
+        } = self;
+    }
 }
 
 impl Model for Reading {
     ghost Value = { Unit {0} };
 
     ghost view = { λ _. tt };
+}
+
+/// A datagram of the client's port with this payload, of which a request goes to port 69.
+fn datagram_of(alloc: Global, dir: Dir, payload: &[u8]) -> Result<Datagram, AllocError> {
+    Ok(Datagram {
+        dir,
+        local_port: 40_000,
+        remote_host: Host::none(),
+        remote_port: if payload.starts_with(b"\x00\x01") {
+            69
+        } else {
+            41_000
+        },
+        payload: Bytes::of(Vec::from_slice(alloc, payload)?),
+    })
 }
 
 impl Reading {
@@ -52,34 +76,37 @@ impl Reading {
         }
     }
 
-    /// Feeds a judge that has not yet accepted 2^40 datagrams.
-    fn feed(&mut self, alloc: Global, dir: Dir, payload: &[u8]) -> Result<(), AllocError> {
-        let datagram = Datagram {
-            dir,
-            local_port: 40_000,
-            remote_host: Host::none(),
-            remote_port: if payload.starts_with(b"\x00\x01") {
-                69
-            } else {
-                41_000
-            },
-            payload: Bytes::of(Vec::from_slice(alloc, payload)?),
-        };
-        if self.judge.fed() >= 1 << 40 || payload.len() > 65_527 {
-            return Err(AllocError);
+    /// Feeds a judge that has not yet accepted 2^40 datagrams, one of at most 65,527 bytes. What is refused is asked for at
+    /// the end.
+    fn take(&mut self, alloc: Global, datagram: &Datagram) {
+        if self.judge.fed() >= 1 << 40 || datagram.payload.as_slice().len() > 65_527 {
+            return;
         }
         let _ = match self.rollover {
-            Some(rollover) => self.judge.feed_numbered(alloc, rollover, &datagram),
-            None => self.judge.feed(alloc, &datagram),
+            Some(rollover) => self.judge.feed_numbered(alloc, rollover, datagram),
+            None => self.judge.feed(alloc, datagram),
         };
+    }
+
+    fn feed(&mut self, alloc: Global, dir: Dir, payload: &[u8]) -> Result<(), AllocError> {
+        let datagram = datagram_of(alloc, dir, payload)?;
+        self.take(alloc, &datagram);
         Ok(())
     }
 
-    /// The request, its answer, and the blocks, of which block 65536 has the number `first`; each is acknowledged.
-    fn read(&mut self, alloc: Global, first: u16) -> Result<(), AllocError> {
-        self.feed(alloc, Dir::Out, REQUEST)?;
-        self.feed(alloc, Dir::In, OACK)?;
-        self.feed(alloc, Dir::Out, b"\x00\x04\x00\x00")?;
+    /// Feeds a block of 8 bytes, or an empty one, with this number, and its ACK.
+    fn pass(&mut self, alloc: Global, number: u16, is_empty: bool) -> Result<(), AllocError> {
+        let [high, low] = number.to_be_bytes();
+        if is_empty {
+            self.feed(alloc, Dir::In, &[0, 3, high, low])?;
+        } else {
+            self.feed(alloc, Dir::In, &[0, 3, high, low, 1, 2, 3, 4, 5, 6, 7, 8])?;
+        }
+        self.feed(alloc, Dir::Out, &[0, 4, high, low])
+    }
+
+    /// The blocks, of which block 65536 has the number `first`.
+    fn pass_all(&mut self, alloc: Global, first: u16) -> Result<(), AllocError> {
         let mut number = 0;
         for block in 1..=BLOCKS {
             number = if number == u16::MAX {
@@ -87,18 +114,22 @@ impl Reading {
             } else {
                 number + 1
             };
-            let length = if block < BLOCKS { 12 } else { 4 };
-            let [high, low] = number.to_be_bytes();
-            let data = [0, 3, high, low, 1, 2, 3, 4, 5, 6, 7, 8];
-            self.feed(alloc, Dir::In, &data[..length])?;
-            self.feed(alloc, Dir::Out, &[0, 4, high, low])?;
+            self.pass(alloc, number, block == BLOCKS)?;
         }
         Ok(())
     }
 
+    /// The request, its answer and the blocks; each is acknowledged.
+    fn read(&mut self, alloc: Global, first: u16) -> Result<(), AllocError> {
+        self.feed(alloc, Dir::Out, REQUEST)?;
+        self.feed(alloc, Dir::In, OACK)?;
+        self.feed(alloc, Dir::Out, b"\x00\x04\x00\x00")?;
+        self.pass_all(alloc, first)
+    }
+
     /// How long the file is, or why the read is refused.
     fn finish(self, alloc: Global) -> Result<u64, Refusal> {
-        let Reading { judge, .. } = self;
+        let Reading { judge, rollover: _ } = self;
         match judge.finish(alloc) {
             Ok(meaning) => Ok(meaning.file_len()),
             Err(refusal) => Err(refusal),

@@ -1,7 +1,8 @@
 //! Each fault of a text by its name, with the lines that have it, in both versions; and lines that have none.
 
 use crate::captures::outcomes::gives;
-use crate::captures::texts::{Line, NAMED_LINES, READ_LINES, changed};
+use crate::captures::texts::{Line, changed};
+use crate::trials::texts::{NAMED, READ};
 use std::test::Fail;
 use tftp_capture::{CaptureFault, TextFault};
 
@@ -174,8 +175,8 @@ const IN_NAMED: &[Row] = &[
 ];
 
 /// Fails unless a changed line has its fault, or none.
-fn has(rt: &HostRuntime, lines: &[&[u8]], (line, wanted): &Row) -> Result<(), Fail> {
-    let text = changed(rt, lines, line)?;
+fn has(rt: &HostRuntime, text: &str, (line, wanted): &Row) -> Result<(), Fail> {
+    let text = changed(rt, text, line)?;
     let wanted = match wanted {
         Ok(lines) => Ok((3, *lines)),
         Err(fault) => Err(CaptureFault::Text(line.0 as u64, *fault)),
@@ -184,76 +185,66 @@ fn has(rt: &HostRuntime, lines: &[&[u8]], (line, wanted): &Row) -> Result<(), Fa
 }
 
 /// Fails unless that is so of each row.
-fn all_have(rt: &HostRuntime, lines: &[&[u8]], rows: &[Row]) -> Result<(), Fail> {
+fn all_have(rt: &HostRuntime, text: &str, rows: &[Row]) -> Result<(), Fail> {
     for row in rows {
-        has(rt, lines, row)?;
+        has(rt, text, row)?;
     }
     Ok(())
 }
 
 #[test]
 fn lines_of_version_1(rt: HostRuntime) -> Result<(), Fail> {
-    all_have(&rt, READ_LINES, IN_READ)
+    all_have(&rt, READ, IN_READ)
 }
 
 #[test]
 fn lines_of_version_2(rt: HostRuntime) -> Result<(), Fail> {
-    all_have(&rt, NAMED_LINES, IN_NAMED)
+    all_have(&rt, NAMED, IN_NAMED)
 }
 
 /// Texts with a fault on this line, whatever was changed: comments before it, the first line of the other version, and
 /// what comes after the total.
-const ELSEWHERE: &[(&[&[u8]], Line, u64, TextFault)] = &[
+const ELSEWHERE: &[(&str, Line, u64, TextFault)] = &[
+    (READ, (4, b"#\n#\nin", (b' ', 0)), 6, TextFault::BadLine),
+    (READ, (5, b"#\nin 1", (b' ', 0)), 6, TextFault::BadLine),
     (
-        READ_LINES,
-        (4, b"#\n#\nin", (b' ', 0)),
-        6,
-        TextFault::BadLine,
-    ),
-    (
-        READ_LINES,
-        (5, b"#\nin 1", (b' ', 0)),
-        6,
-        TextFault::BadLine,
-    ),
-    (
-        READ_LINES,
+        READ,
         (7, b"#\n#\ntotal 4", (b' ', 0)),
         9,
         TextFault::TotalWrong,
     ),
     (
-        READ_LINES,
+        READ,
         (1, b"tftp-capture 2", (b' ', 0)),
         4,
         TextFault::BadLine,
     ),
     (
-        NAMED_LINES,
+        NAMED,
         (1, b"tftp-capture 1", (b' ', 0)),
         4,
         TextFault::BadLine,
     ),
     (
-        READ_LINES,
+        READ,
         (7, b"total 3\n#", (b' ', 0)),
         8,
         TextFault::TrailingText,
     ),
     (
-        READ_LINES,
+        READ,
         (7, b"total 3\n", (b' ', 0)),
         8,
         TextFault::TrailingText,
     ),
     (
-        READ_LINES,
+        READ,
         (7, b"total 3\nx", (b' ', 0)),
         8,
         TextFault::TrailingText,
     ),
     (
-        READ_LINES,
+        READ,
         (7, b"total 3\n", (b'a', 131_071)),
         8,
         TextFault::TrailingText,
@@ -262,8 +253,8 @@ const ELSEWHERE: &[(&[&[u8]], Line, u64, TextFault)] = &[
 
 #[test]
 fn faults_of_other_lines(rt: HostRuntime) -> Result<(), Fail> {
-    for (lines, line, number, fault) in ELSEWHERE {
-        let text = changed(&rt, *lines, line)?;
+    for (text, line, number, fault) in ELSEWHERE {
+        let text = changed(&rt, *text, line)?;
         let wanted = Err(CaptureFault::Text(*number, *fault));
         gives(rt.alloc(), text.as_slice(), wanted)?;
     }

@@ -26,20 +26,16 @@ fn tell(told: &mut Vec<u8>, datagram: &Datagram) -> Result<(), AllocError> {
 }
 
 /// What the datagrams that are left give, each of which is told.
-fn totals(
-    reading: &mut Reading<'_>,
-    held: &mut Datagram,
-    told: &mut Vec<u8>,
-) -> Result<Outcome, AllocError> {
+fn totals(reading: &mut Reading<'_>, told: &mut Vec<u8>) -> Result<Outcome, AllocError> {
     let mut count = 0u64;
     let mut lines = 0u64;
     for _ in 0..u64::MAX {
-        match reading.fill(held) {
+        match reading.fill() {
             Ok(true) => {}
             Ok(false) => break,
             Err(fault) => return Ok(Err(fault)),
         }
-        tell(told, held)?;
+        tell(told, reading.held())?;
         count = count.saturating_add(1);
         lines = lines.saturating_add(reading.line());
     }
@@ -47,9 +43,9 @@ fn totals(
 }
 
 /// Whether that is answered for good, as an end or a fault, and the line stays.
-fn is_for_good(reading: &mut Reading<'_>, held: &mut Datagram, outcome: Outcome) -> bool {
+fn is_for_good(reading: &mut Reading<'_>, outcome: Outcome) -> bool {
     let line = reading.line();
-    let again = match reading.fill(held) {
+    let again = match reading.fill() {
         Ok(is_read) => !is_read && outcome.is_ok(),
         Err(fault) => outcome == Err(fault),
     };
@@ -64,9 +60,8 @@ pub fn read_out(
 ) -> Result<(Outcome, bool), Fail> {
     match Reading::begin(alloc, drip) {
         Ok(mut reading) => {
-            let mut held = Datagram::empty(alloc);
-            let outcome = totals(&mut reading, &mut held, told)?;
-            if is_for_good(&mut reading, &mut held, outcome) {
+            let outcome = totals(&mut reading, told)?;
+            if is_for_good(&mut reading, outcome) {
                 Ok((outcome, reading.has_failed()))
             } else {
                 Err(Fail::new("another answer after the end"))

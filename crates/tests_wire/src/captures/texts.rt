@@ -10,66 +10,36 @@ use tftp_capture::{CaptureFault, TextFault};
 pub const BLOCKS: &str =
     "tftp-capture 1\nend client\nservice 69\nin 40000 41000 0003000161626364\nin 40000 41000 000300026A6b6C6d\nin 40000 41000 0003000365666768\ntotal 3\n";
 
-/// The lines of `READ`, of `NAMED` and of `BLOCKS`.
-pub const READ_LINES: &[&[u8]] = &[
-    b"tftp-capture 1",
-    b"end client",
-    b"service 69",
-    b"out 40000 69 000161006f6374657400",
-    b"in 40000 41000 000300016869",
-    b"out 40000 41000 00040001",
-    b"total 3",
-];
-
-pub const NAMED_LINES: &[&[u8]] = &[
-    b"tftp-capture 2",
-    b"end client",
-    b"service 69",
-    b"out 40000 10.0.0.1 69 000161006f6374657400",
-    b"in 40000 10.0.0.1 41000 000300016869",
-    b"out 40000 10.0.0.1 41000 00040001",
-    b"total 3",
-];
-
-pub const BLOCKS_LINES: &[&[u8]] = &[
-    b"tftp-capture 1",
-    b"end client",
-    b"service 69",
-    b"in 40000 41000 0003000161626364",
-    b"in 40000 41000 000300026A6b6C6d",
-    b"in 40000 41000 0003000365666768",
-    b"total 3",
-];
-
 /// A line of a text, by its number, counted from 1, changed to this start and that many of one byte.
 pub type Line = (usize, &'static [u8], (u8, usize));
 
-/// Adds a line that begins so, with that many of one byte behind it.
-fn add_line(
-    text: &mut Vec<u8>,
-    start: &[u8],
-    (byte, count): (u8, usize),
-) -> Result<(), AllocError> {
-    text.extend_from_slice(start)?;
-    text.resize(text.len().saturating_add(count), byte)?;
-    text.push(b'\n')?;
-    Ok(())
-}
-
-/// The text of these lines, one of them changed.
-pub fn changed(
-    rt: &HostRuntime,
-    lines: &[&[u8]],
-    (number, start, more): &Line,
-) -> Result<Vec<u8>, AllocError> {
-    let mut text = Vec::new(rt.alloc());
-    for (index, old) in (1usize..).zip(lines) {
-        if index == *number {
-            add_line(&mut text, *start, *more)?;
-        } else {
-            add_line(&mut text, *old, (b' ', 0))?;
+/// What stands before a line of a text, by its number, and what stands behind it, from its end on.
+fn around(text: &[u8], number: usize) -> Option<(&[u8], &[u8])> {
+    let mut line = 1usize;
+    let mut start = 0usize;
+    for (index, byte) in text.iter().enumerate() {
+        if *byte == b'\n' {
+            if line == number {
+                return Some((text.get(..start)?, text.get(index..)?));
+            }
+            line = line.saturating_add(1);
+            start = index.saturating_add(1);
         }
     }
+    None
+}
+
+/// The text with one of its lines changed.
+pub fn changed(
+    rt: &HostRuntime,
+    text: &str,
+    (number, start, (byte, count)): &Line,
+) -> Result<Vec<u8>, AllocError> {
+    let (before, behind) = around(text.as_bytes(), *number).unwrap_or((b"", b""));
+    let mut text = Vec::from_slice(rt.alloc(), before)?;
+    text.extend_from_slice(*start)?;
+    text.resize(text.len().saturating_add(*count), *byte)?;
+    text.extend_from_slice(behind)?;
     Ok(text)
 }
 

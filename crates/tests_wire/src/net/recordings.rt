@@ -1,11 +1,13 @@
 //! A recording of twelve frames of raw IP: what became of each, and what was told with it.
 
 use crate::net::fragments::let_go_any;
-use crate::trials::comparing::is_so;
+use crate::trials::comparing::{is_same, is_so};
 use crate::trials::drip::DripReader;
 use net_pcap::{FaultKind, PcapFault};
 use net_streams::streams::Latched;
+use net_udp::fragments::Fragments;
 use net_udp::recording::{Event, Fate, LeftOut, RecordingReader};
+use std::alloc::AllocError;
 use std::test::Fail;
 
 /// A classic recording (draft-ietf-opsawg-pcap) of raw IP: the last part of a datagram, a whole datagram, a part, the
@@ -35,53 +37,80 @@ fn failed(fault: PcapFault) -> Fail {
     }
 }
 
-/// What is told of a frame.
-enum Told {
-    /// It is a datagram with this payload.
-    Payload(&'static [u8]),
-    /// It waits for others of its packet.
-    Waits,
-    /// It carries no UDP.
-    NoUdp,
-    /// Its bytes are not those that came before.
-    Apart,
-}
-
-fn has_payload(fate: &Fate<'_>, payload: &[u8]) -> bool {
-    matches!(fate, Fate::Datagram(datagram) if datagram.payload == payload)
-}
-
-fn is_told(fate: &Fate<'_>, told: &Told) -> bool {
-    match told {
-        Told::Payload(payload) => has_payload(fate, payload),
-        Told::Waits => matches!(fate, Fate::Waits),
-        Told::NoUdp => matches!(fate, Fate::Left(LeftOut::Frame(_))),
-        Told::Apart => matches!(fate, Fate::Left(LeftOut::Apart)),
+/// Tells frames by their numbers, and how many they are.
+fn tell_frames(told: &mut Vec<u8>, frames: &[u64]) -> Result<(), AllocError> {
+    told.push(frames.len().min(255) as u8)?;
+    for frame in frames {
+        told.push((*frame).min(255) as u8)?;
     }
+    Ok(())
 }
 
-/// Of each frame what is told, the frames that share that, and those that were too old.
-const FATES: &[(Told, &[u64], &[u64])] = &[
-    (Told::Waits, &[], &[]),
-    (Told::Payload(b"hello"), &[], &[]),
-    (Told::Waits, &[], &[]),
-    (Told::Payload(b"0123456789abcdefghij"), &[1, 4], &[]),
-    (Told::NoUdp, &[], &[]),
-    (Told::Waits, &[], &[]),
-    (Told::Apart, &[3], &[]),
-    (Told::Waits, &[], &[6]),
-    (Told::Waits, &[], &[]),
-    (Told::Payload(b"0123456789abcdefghij"), &[9, 10], &[]),
-    (Told::Waits, &[], &[]),
-    (Told::NoUdp, &[11, 12], &[]),
-];
+/// Tells what has become of a frame: its payload, that it waits for others of its packet, that it carries no UDP, or that
+/// its bytes are not those that came before.
+fn tell_fate(told: &mut Vec<u8>, fate: &Fate<'_>) -> Result<(), AllocError> {
+    let words = match fate {
+        Fate::Datagram(datagram) => datagram.payload,
+        Fate::Waits => b" waits",
+        Fate::Left(LeftOut::Frame(_)) => b" no UDP",
+        Fate::Left(LeftOut::Apart) => b" apart",
+        _ => b" another fate",
+    };
+    told.extend_from_slice(words)
+}
+
+/// Tells a frame: its number, its fate, the frames that share that, those that were too old, and a line end.
+fn tell(told: &mut Vec<u8>, event: &Event) -> Result<(), AllocError> {
+    tell_frames(told, &[event.number()])?;
+    tell_fate(told, &event.fate())?;
+    tell_frames(told, event.sharers())?;
+    tell_frames(told, event.old())?;
+    told.push(b'\n')?;
+    Ok(())
+}
+
+/// What is told of the frames. A count stands before the numbers of frames.
+const FATES: &[u8] = b"\x01\x01 waits\0\0\n\
+    \x01\x02hello\0\0\n\
+    \x01\x03 waits\0\0\n\
+    \x01\x040123456789abcdefghij\x02\x01\x04\0\n\
+    \x01\x05 no UDP\0\0\n\
+    \x01\x06 waits\0\0\n\
+    \x01\x07 apart\x01\x03\0\n\
+    \x01\x08 waits\0\x01\x06\n\
+    \x01\x09 waits\0\0\n\
+    \x01\x0a0123456789abcdefghij\x02\x09\x0a\0\n\
+    \x01\x0b waits\0\0\n\
+    \x01\x0c no UDP\x02\x0b\x0c\0\n";
 
 /// A recording, how far it is read, and the last event. It hides what the libraries promise.
-#[derive(Drop)]
 struct Reading<'a> {
     reader: Latched<DripReader<'a>>,
     frames: RecordingReader,
     event: Event,
+}
+
+impl Drop for Reading<'_> {
+    // written out, since the prover takes a derived one apart again wherever a value is let go
+    fn drop(self) {
+        let Reading {
+            reader: _,
+            frames: _,
+            event: _,
+        } = self;
+    }
+}
+
+impl Reading<'_> {
+    /// The packets that wait for fragments.
+    fn into_waiting(self) -> Fragments {
+        let Reading {
+            reader: _,
+            frames,
+            event: _,
+        } = self;
+        frames.into_waiting()
+    }
 }
 
 /// Begins to read a recording in pieces of this size.
@@ -111,38 +140,26 @@ fn is_next(rt: &HostRuntime, reading: &mut Reading<'_>) -> Result<bool, Fail> {
     }
 }
 
-/// Whether this is told of the last frame, which has this number.
-fn was_told(event: &Event, number: u64, (told, sharers, old): &(Told, &[u64], &[u64])) -> bool {
-    let is_shared = event.sharers() == *sharers && event.old() == *old;
-    event.number() == number && is_shared && is_told(&event.fate(), told)
-}
-
-/// Fails unless the next frame has this number and this fate.
-fn has_fate(
-    rt: &HostRuntime,
-    reading: &mut Reading<'_>,
-    number: u64,
-    wanted: &(Told, &[u64], &[u64]),
-) -> Result<(), Fail> {
-    let is_read = is_next(rt, reading)?;
-    is_so(
-        is_read && was_told(&reading.event, number, wanted),
-        "another fate",
-    )
-}
-
-/// Fails unless the next frames have their fates, and none follows.
-fn all_have_fates(rt: &HostRuntime, reading: &mut Reading<'_>) -> Result<(), Fail> {
-    for (number, wanted) in (1u64..).zip(FATES) {
-        has_fate(rt, reading, number, wanted)?;
+/// Tells the next frames, as many as there are, and at most thirteen.
+fn tell_all(rt: &HostRuntime, reading: &mut Reading<'_>, told: &mut Vec<u8>) -> Result<(), Fail> {
+    for _ in 0..13u8 {
+        if !is_next(rt, reading)? {
+            break;
+        }
+        tell(told, &reading.event)?;
     }
-    is_so(!is_next(rt, reading)?, "another frame")
+    Ok(())
+}
+
+/// Fails unless the frames have their fates.
+fn have_fates(rt: &HostRuntime, reading: &mut Reading<'_>) -> Result<(), Fail> {
+    let mut told = Vec::new(rt.alloc());
+    tell_all(rt, reading, &mut told)?;
+    is_same(told.as_slice(), FATES)
 }
 
 /// The frames that wait at the end for others.
-fn waiting_of(rt: &HostRuntime, reading: Reading<'_>) -> Result<Vec<u64>, Fail> {
-    let Reading { frames, .. } = reading;
-    let mut waiting = frames.into_waiting();
+fn waiting_of(rt: &HostRuntime, mut waiting: Fragments) -> Result<Vec<u64>, AllocError> {
     let mut missing = Vec::new(rt.alloc());
     for _ in 0..3 {
         if let Some((_, gone)) = let_go_any(&mut waiting) {
@@ -155,8 +172,8 @@ fn waiting_of(rt: &HostRuntime, reading: Reading<'_>) -> Result<Vec<u64>, Fail> 
 /// Fails unless the recording in such pieces has its fates, and one frame waits at the end.
 fn is_read_in(rt: &HostRuntime, piece: usize) -> Result<(), Fail> {
     let mut reading = begun(rt, RECORDING, piece)?;
-    all_have_fates(rt, &mut reading)?;
-    let missing = waiting_of(rt, reading)?;
+    have_fates(rt, &mut reading)?;
+    let missing = waiting_of(rt, reading.into_waiting())?;
     is_so(missing.as_slice() == [8u64].as_slice(), "other frames wait")
 }
 
@@ -175,6 +192,18 @@ const CUT: PcapFault = PcapFault {
     frame: 12,
 };
 
+/// Fails unless the frames before the cut are read, and the fault comes then for good.
+fn is_cut(rt: &HostRuntime, reading: &mut Reading<'_>) -> Result<(), Fail> {
+    for frame in 1..14u64 {
+        match next(rt, reading) {
+            Ok(is_read) => is_so(is_read && frame < 12, "a frame, or none")?,
+            Err(fault) if fault == CUT => is_so(12 <= frame, "a fault before")?,
+            Err(fault) => return Err(failed(fault)),
+        }
+    }
+    Ok(())
+}
+
 /// A recording that is cut within its last record has a fault there for good, and the frames before it.
 #[test]
 fn a_cut_recording_has_the_frames_before(rt: HostRuntime) -> Result<(), Fail> {
@@ -182,12 +211,5 @@ fn a_cut_recording_has_the_frames_before(rt: HostRuntime) -> Result<(), Fail> {
         return Err(Fail::new("empty"));
     };
     let mut reading = begun(&rt, front, 5)?;
-    for frame in 1..14u64 {
-        match next(&rt, &mut reading) {
-            Ok(is_read) => is_so(is_read && frame < 12, "a frame, or none")?,
-            Err(fault) if fault == CUT => is_so(12 <= frame, "a fault before")?,
-            Err(fault) => return Err(failed(fault)),
-        }
-    }
-    Ok(())
+    is_cut(&rt, &mut reading)
 }

@@ -17,14 +17,23 @@ const TEXTS: &[(&[u8], &[u8], usize)] = &[
     (b"one\r\ntwo\0\r\0three", b"one\ntwo\0\rthree", 16),
 ];
 
+/// What a text reads as that comes in two pieces.
+fn read_in_pieces(alloc: Global, wire: &[u8]) -> Result<Vec<u8>, AllocError> {
+    let (front, rest) = wire.split_at(wire.len() / 2);
+    decode_pieces(alloc, &[front, rest])
+}
+
+/// Whether the file of a text is counted so, and the text that is written for it.
+fn is_counted(wire: &[u8], file: usize, encoded: usize) -> bool {
+    let lengths = file_lengths(wire);
+    lengths.file == file as u64 && lengths.encoded == encoded as u64
+}
+
 /// Fails unless a text reads as this file, also in two pieces, and is counted so.
 fn reads_as(alloc: Global, wire: &[u8], file: &[u8], length: usize) -> Result<(), Fail> {
     is_same(decode(alloc, wire)?.as_slice(), file)?;
-    let (front, rest) = wire.split_at(wire.len() / 2);
-    is_same(decode_pieces(alloc, &[front, rest])?.as_slice(), file)?;
-    let lengths = file_lengths(wire);
-    let is_counted = lengths.file == file.len() as u64 && lengths.encoded == length as u64;
-    is_so(is_counted, "other lengths")
+    is_same(read_in_pieces(alloc, wire)?.as_slice(), file)?;
+    is_so(is_counted(wire, file.len(), length), "other lengths")
 }
 
 #[test]

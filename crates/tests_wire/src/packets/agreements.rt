@@ -3,6 +3,7 @@
 use crate::packets::views::{oack_of, owned_request_of};
 use std::test::Fail;
 use tftp_nego::{Agreed, AgreementRule, NegoFault, agree};
+use tftp_packet::{OptionsView, Request};
 
 /// The block size, the window, the timeout and the size.
 type Numbers = (u16, u16, Option<u8>, Option<u64>);
@@ -20,13 +21,25 @@ fn numbers_of(agreed: &Agreed) -> Numbers {
 /// A request, an OACK, and what it agrees to, or the fault that it has first.
 type Row = (&'static [u8], &'static [u8], Result<Numbers, NegoFault>);
 
+/// What is agreed of an OACK. It promises nothing.
+fn agreed_of(
+    rt: &HostRuntime,
+    request: &Request,
+    oack: &OptionsView<'_>,
+) -> Result<Numbers, NegoFault> {
+    match agree(rt.alloc(), request, oack, None) {
+        Ok(agreed) => Ok(numbers_of(&agreed)),
+        Err(fault) => Err(fault),
+    }
+}
+
 /// What an OACK answers to a request.
 fn answer(rt: &HostRuntime, (request, oack, _): &Row) -> Result<Result<Numbers, NegoFault>, Fail> {
+    let oack = oack_of(*oack)?;
     let request = owned_request_of(rt, *request)?;
-    match agree(rt.alloc(), &request, &oack_of(*oack)?, None) {
-        Ok(agreed) => Ok(Ok(numbers_of(&agreed))),
+    match agreed_of(rt, &request, &oack) {
         Err(NegoFault::Memory) => Err(Fail::new("want of memory")),
-        Err(fault) => Ok(Err(fault)),
+        found => Ok(found),
     }
 }
 

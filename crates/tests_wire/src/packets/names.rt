@@ -79,9 +79,10 @@ const ROWS: &[Row] = &[
 fn holds_each_once(rt: &HostRuntime, (start, count, twice): &Row) -> Result<(), Fail> {
     let mut payload = Vec::from_slice(rt.alloc(), *start)?;
     add_options(&mut payload, *count)?;
-    is_so(fault_of(payload.as_slice()) == None, "a fault")?;
+    let before = fault_of(payload.as_slice());
     payload.extend_from_slice(*twice)?;
     let found = fault_of(payload.as_slice());
+    is_so(before == None, "a fault")?;
     is_so(
         found == Some(PacketFault::DuplicateOption),
         "another fault, or none",

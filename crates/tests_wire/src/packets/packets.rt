@@ -7,7 +7,9 @@ use crate::trials::comparing::{is_same, is_so};
 use std::alloc::AllocError;
 use std::test::Fail;
 use tftp_packet::hosts::Host;
-use tftp_packet::{Packet, PacketFault, own_options, write_oack, write_packet, write_request};
+use tftp_packet::{
+    OptionsView, Packet, PacketFault, Request, own_options, write_oack, write_packet, write_request,
+};
 
 const ASKED: &[u8] = b"\x00\x01a\x00octet\x00WindowSize\x004\x00BLKSIZE\x0008\x00";
 
@@ -17,59 +19,70 @@ const AGREED: &[u8] = b"\x00\x06blksize\x008\x00windowsize\x004\x00";
 
 const CAPITALS: &[u8] = b"\x00\x06WINDOWSIZE\x004\x00BLKSIZE\x0008\x00";
 
-/// What is written of a packet.
-fn written(rt: &HostRuntime, packet: &Packet<'_>) -> Result<Vec<u8>, AllocError>
+/// Fails unless this is written of a packet.
+fn is_written(rt: &HostRuntime, packet: &Packet<'_>, wanted: &[u8]) -> Result<(), Fail>
     requires { IsSpellable packet.now }
 {
-    write_packet(rt.alloc(), packet)
+    is_same(write_packet(rt.alloc(), packet)?.as_slice(), wanted)
 }
 
-/// What is written of the request or the OACK that a payload spells.
-fn written_of(rt: &HostRuntime, payload: &[u8]) -> Result<Vec<u8>, Fail> {
+/// Fails unless this is written of the request or the OACK that a payload spells.
+fn is_written_of(rt: &HostRuntime, payload: &[u8], wanted: &[u8]) -> Result<(), Fail> {
     match packet_of(payload) {
-        Ok(Packet::Request(request)) => Ok(written(rt, &Packet::Request(request))?),
-        Ok(Packet::Oack(options)) => Ok(written(rt, &Packet::Oack(options))?),
+        Ok(Packet::Request(request)) => is_written(rt, &Packet::Request(request), wanted),
+        Ok(Packet::Oack(options)) => is_written(rt, &Packet::Oack(options), wanted),
         _ => Err(Fail::new("another packet")),
     }
 }
 
-/// What is written of a request that is owned.
-fn request_written(rt: &HostRuntime, payload: &[u8]) -> Result<Vec<u8>, Fail> {
-    let request = owned_request_of(rt, payload)?;
-    Ok(write_request(rt.alloc(), &request)?)
+/// What is written of a request. It promises nothing.
+fn written_request(rt: &HostRuntime, request: &Request) -> Result<Vec<u8>, AllocError> {
+    write_request(rt.alloc(), request)
 }
 
-/// What is written of an OACK's options that are owned.
-fn oack_written(rt: &HostRuntime, payload: &[u8]) -> Result<Vec<u8>, Fail> {
-    let options = own_options(rt.alloc(), &oack_of(payload)?)?;
-    Ok(write_oack(rt.alloc(), &options)?)
+/// Fails unless this is written of a request that is owned.
+fn is_request_written(rt: &HostRuntime, payload: &[u8], wanted: &[u8]) -> Result<(), Fail> {
+    let request = owned_request_of(rt, payload)?;
+    let text = written_request(rt, &request);
+    is_same(text?.as_slice(), wanted)
+}
+
+/// What is written of an OACK's options that are owned. It promises nothing.
+fn written_oack(rt: &HostRuntime, view: &OptionsView<'_>) -> Result<Vec<u8>, AllocError> {
+    let options = own_options(rt.alloc(), view)?;
+    write_oack(rt.alloc(), &options)
+}
+
+/// Fails unless this is written of an OACK's options that are owned.
+fn is_oack_written(rt: &HostRuntime, payload: &[u8], wanted: &[u8]) -> Result<(), Fail> {
+    let view = oack_of(payload)?;
+    is_same(written_oack(rt, &view)?.as_slice(), wanted)
 }
 
 /// A request without a name is one too.
 #[test]
 fn requests_and_oacks_are_written_canonically(rt: HostRuntime) -> Result<(), Fail> {
     let unnamed = b"\x00\x01\x00octet\x00";
-    is_same(written_of(&rt, ASKED)?.as_slice(), CANONICAL)?;
-    is_same(request_written(&rt, ASKED)?.as_slice(), CANONICAL)?;
-    is_same(written_of(&rt, unnamed)?.as_slice(), unnamed)?;
-    is_same(written_of(&rt, CAPITALS)?.as_slice(), AGREED)?;
-    is_same(oack_written(&rt, CAPITALS)?.as_slice(), AGREED)
+    is_written_of(&rt, ASKED, CANONICAL)?;
+    is_request_written(&rt, ASKED, CANONICAL)?;
+    is_written_of(&rt, unnamed, unnamed)?;
+    is_written_of(&rt, CAPITALS, AGREED)?;
+    is_oack_written(&rt, CAPITALS, AGREED)
 }
 
 #[test]
 fn writes_blocks(rt: HostRuntime) -> Result<(), Fail> {
-    let ack = written(&rt, &Packet::Ack { block: 258 })?;
-    is_same(ack.as_slice(), b"\x00\x04\x01\x02")?;
+    is_written(&rt, &Packet::Ack { block: 258 }, b"\x00\x04\x01\x02")?;
     let data = Packet::Data {
         block: 1,
         bytes: b"hi",
     };
-    is_same(written(&rt, &data)?.as_slice(), b"\x00\x03\x00\x01hi")?;
+    is_written(&rt, &data, b"\x00\x03\x00\x01hi")?;
     let error = Packet::Error {
         code: 5,
         message: b"",
     };
-    is_same(written(&rt, &error)?.as_slice(), b"\x00\x05\x00\x05\x00")
+    is_written(&rt, &error, b"\x00\x05\x00\x05\x00")
 }
 
 /// The fault of a payload, where it has one.

@@ -71,15 +71,24 @@ fn each_read_asks_once(_rt: HostRuntime) -> Result<(), Fail> {
     Ok(())
 }
 
+/// Whether each of three writes passes until one fails.
+fn pass_until(writer: &mut LineWriter<Asked>, fails_at: u64) -> bool {
+    for number in 1..4u64 {
+        let passes = fails_at == 0 || number < fails_at;
+        if writer.write(b"ab").is_ok() != passes {
+            return false;
+        }
+    }
+    true
+}
+
 /// Fails unless each of three writes asks once, until one fails, and no more are made then.
 fn asks_until_it_fails(rt: &HostRuntime, fails_at: u64) -> Result<(), Fail> {
     let mut writer = LineWriter::new(rt.alloc(), Asked { calls: 0, fails_at });
-    for number in 1..4u64 {
-        let passes = fails_at == 0 || number < fails_at;
-        is_so(writer.write(b"ab").is_ok() == passes, "another answer")?;
-    }
+    let are_wanted = pass_until(&mut writer, fails_at);
     let (asked, ended) = writer.finish();
     let calls = if fails_at == 0 { 3 } else { fails_at };
+    is_so(are_wanted, "another answer")?;
     is_so(ended.is_ok() == (fails_at == 0), "another end")?;
     is_so(asked.calls == calls, "another count")
 }
@@ -104,6 +113,16 @@ fn call(writer: &mut LineWriter<Asked>, which: u8) -> Result<(), WriteFault> {
     }
 }
 
+/// Whether each call fails after a write that failed.
+fn all_fail(writer: &mut LineWriter<Asked>) -> bool {
+    for which in [5, 0, 1, 2, 3, 4, 5] {
+        if call(writer, which).is_ok() {
+            return false;
+        }
+    }
+    true
+}
+
 /// Each call after a write that failed answers a fault, and asks for nothing.
 #[test]
 fn a_failure_is_for_good(rt: HostRuntime) -> Result<(), Fail> {
@@ -112,10 +131,9 @@ fn a_failure_is_for_good(rt: HostRuntime) -> Result<(), Fail> {
         fails_at: 1,
     };
     let mut writer = LineWriter::new(rt.alloc(), asked);
-    is_so(call(&mut writer, 0).is_ok(), "it does not wait")?;
-    for which in [5, 0, 1, 2, 3, 4, 5] {
-        is_so(call(&mut writer, which).is_err(), "it goes on")?;
-    }
+    let waits = call(&mut writer, 0).is_ok();
+    let fails = all_fail(&mut writer);
     let (asked, ended) = writer.finish();
+    is_so(waits && fails, "it does not wait, or goes on")?;
     is_so(ended.is_err() && asked.calls == 1, "another end")
 }

@@ -9,14 +9,25 @@ use tftp_packet::hosts::Host;
 
 /// Fails unless this text is written of the datagrams of `NAMED`, with a comment or none, where each write takes so many
 /// bytes.
+fn is_written_in(
+    rt: &HostRuntime,
+    piece: usize,
+    host: &Host,
+    text: &str,
+    comment: Option<&[u8]>,
+) -> Result<(), Fail> {
+    let drip = DripWriter::new(rt.alloc(), text.len(), piece, 0, false)?;
+    let found = write_with_host(rt.alloc(), drip, &HEADER, comment, host, DATAGRAMS);
+    has_written(&found, Ok(()), text.as_bytes())
+}
+
+/// Fails unless that is so of writes of each length.
 fn is_written(rt: &HostRuntime, text: &str, comment: Option<&[u8]>) -> Result<(), Fail> {
     let Some(host) = Host::new(b"10.0.0.1") else {
         return Err(Fail::new("host"));
     };
-    for piece in [usize::MAX, 1, 5] {
-        let drip = DripWriter::new(rt.alloc(), text.len(), piece, 0, false)?;
-        let found = write_with_host(rt.alloc(), drip, &HEADER, comment, &host, DATAGRAMS);
-        has_written(&found, Ok(()), text.as_bytes())?;
+    for piece in &[usize::MAX, 1, 5] {
+        is_written_in(rt, *piece, &host, text, comment)?;
     }
     Ok(())
 }

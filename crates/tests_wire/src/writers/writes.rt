@@ -1,6 +1,6 @@
 //! What is written of whole texts, and what of it where a write fails.
 
-use crate::captures::outcomes::gives;
+use crate::captures::outcomes;
 use crate::trials::comparing::{is_same, is_so};
 use crate::trials::drip::DripWriter;
 use crate::trials::texts::{READ, long};
@@ -37,12 +37,21 @@ pub fn has_written(
     is_same(drip.taken(), text)
 }
 
+/// Fails unless that is written there of `READ`, with this answer.
+fn gives(
+    rt: &HostRuntime,
+    drip: DripWriter,
+    wanted: Result<(), WriteFault>,
+    text: &[u8],
+) -> Result<(), Fail> {
+    has_written(&write(rt.alloc(), drip, &HEADER, DATAGRAMS), wanted, text)
+}
+
 #[test]
 fn a_read_is_written(rt: HostRuntime) -> Result<(), Fail> {
-    for piece in [usize::MAX, 1, 5] {
-        let drip = DripWriter::new(rt.alloc(), READ.len(), piece, 0, false)?;
-        let found = write(rt.alloc(), drip, &HEADER, DATAGRAMS);
-        has_written(&found, Ok(()), READ.as_bytes())?;
+    for piece in &[usize::MAX, 1, 5] {
+        let drip = DripWriter::new(rt.alloc(), READ.len(), *piece, 0, false)?;
+        gives(&rt, drip, Ok(()), READ.as_bytes())?;
     }
     Ok(())
 }
@@ -51,9 +60,8 @@ fn a_read_is_written(rt: HostRuntime) -> Result<(), Fail> {
 fn stays_written(rt: &HostRuntime, count: usize, none: bool) -> Result<(), Fail> {
     let write_fails = (count as u64).saturating_add(1);
     let drip = DripWriter::new(rt.alloc(), READ.len(), 1, write_fails, none)?;
-    let found = write(rt.alloc(), drip, &HEADER, DATAGRAMS);
     let text = READ.as_bytes();
-    has_written(&found, Err(WriteFault), text.get(..count).unwrap_or(text))
+    gives(rt, drip, Err(WriteFault), text.get(..count).unwrap_or(text))
 }
 
 #[test]
@@ -76,21 +84,23 @@ const AT_SERVER: Header = Header {
 const START: &[u8] = b"tftp-capture 1\nend server\nservice 6969\nin 1 65535 -\nout 65535 1 ab";
 
 /// Fails unless a text begins so and has the digits of 65,527 bytes, and gives its two datagrams.
-fn has_both(rt: &HostRuntime, text: &[u8]) -> Result<(), Fail> {
+fn has_both(rt: &HostRuntime, (drip, answer, _): &Written) -> Result<(), Fail> {
+    let text = drip.taken();
+    is_so(*answer == Ok(()), "a write failed")?;
     is_so(text.starts_with(START), "another start")?;
     is_so(text.len() == START.len() + 2 * 65_526 + 9, "another length")?;
-    gives(rt.alloc(), text, Ok((2, 9)))
+    outcomes::gives(rt.alloc(), text, Ok((2, 9)))
+}
+
+/// Writes a text of an empty payload and this one.
+fn write_both(rt: &HostRuntime, drip: DripWriter, payload: &[u8]) -> Written {
+    let rows: &[Row<'_>] = &[(Dir::In, 1, 65_535, b""), (Dir::Out, 65_535, 1, payload)];
+    write(rt.alloc(), drip, &AT_SERVER, rows)
 }
 
 #[test]
 fn an_empty_and_the_longest_payload_are_written(rt: HostRuntime) -> Result<(), Fail> {
     let payload = long(rt.alloc(), b"", (b'\xab', 65_527))?;
-    let rows: &[Row<'_>] = &[
-        (Dir::In, 1, 65_535, b""),
-        (Dir::Out, 65_535, 1, payload.as_slice()),
-    ];
     let drip = DripWriter::new(rt.alloc(), 200_000, 1000, 0, false)?;
-    let (drip, answer, _) = write(rt.alloc(), drip, &AT_SERVER, rows);
-    is_so(answer == Ok(()), "a write failed")?;
-    has_both(&rt, drip.taken())
+    has_both(&rt, &write_both(&rt, drip, payload.as_slice()))
 }

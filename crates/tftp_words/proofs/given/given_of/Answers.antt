@@ -1,19 +1,19 @@
 use Rattle.std.proofs.Common.{rules, map, inl, inr, sym, ap, ◌∙◌, ◌≡◌, drop, subst, Err}
-use Rattle.std.proofs.lemmas.List.{drop-map, length-map}
+use Rattle.std.proofs.lemmas.List.{length-map}
 use Rattle.tftp_words.specs.{part}
-use Rattle.tftp_words.proofs.Reading.{Read, read_end, read_rest, read_part, read_nothing, read_twice, memory_else}
+use Rattle.tftp_words.proofs.Reading.{Read, texts_left, read_end, read_rest, read_part, read_nothing, read_twice, memory_else}
 use Rattle.tftp_words.proofs.Saying.{part_fits}
 use Rattle.tftp_words.proofs.given.given_of.Goals as goal
 
 pub returns-then-eq-clause-ok : goal.returns-then-eq-clause-ok
 returns-then-eq-clause-ok g c =
-    let after : map g.S.AsStr.text c.split_at.result.1.now ≡ drop 1 (map g.S.AsStr.text c.loop-word.rest.now) = ap (map g.S.AsStr.text) c.split_at.ensures.back ∙ sym (drop-map g.S.AsStr.text 1 c.loop-word.rest.now) in
+    let after : map g.S.AsStr.text c.split_at.result.1.now ≡ drop 1 (map g.S.AsStr.text c.loop-word.rest.now) = texts_left g.S.AsStr.text 1 c.loop-word.rest.now c.split_at.result.1.now c.split_at.ensures.back in
     (read_rest _ _ c.loop-word.given c.add_plain.new.self c.in-Some.word.now c.loop-word.invariant (sym c.in-Some.ensures) (search rules)
     (λ ps h. rw (← after) (c.in_ok-add_plain.ensures ps h))).0
 
 pub returns-then-eq-clause-only : goal.returns-then-eq-clause-only
 returns-then-eq-clause-only g c = λ ps say once.
-    let after : map g.S.AsStr.text c.split_at.result.1.now ≡ drop 1 (map g.S.AsStr.text c.loop-word.rest.now) = ap (map g.S.AsStr.text) c.split_at.ensures.back ∙ sym (drop-map g.S.AsStr.text 1 c.loop-word.rest.now) in
+    let after : map g.S.AsStr.text c.split_at.result.1.now ≡ drop 1 (map g.S.AsStr.text c.loop-word.rest.now) = texts_left g.S.AsStr.text 1 c.loop-word.rest.now c.split_at.result.1.now c.split_at.ensures.back in
     inl ((read_rest _ _ c.loop-word.given c.add_plain.new.self c.in-Some.word.now c.loop-word.invariant (sym c.in-Some.ensures) (search rules)
     (λ qs h. rw (← after) (c.in_ok-add_plain.ensures qs h))).1 ps say)
 
@@ -36,7 +36,7 @@ split_at-requires-in-Some g c =
 pub loop-word-preserved : goal.loop-word-preserved
 loop-word-preserved g c =
     let after : map g.S.AsStr.text c.split_at-in-Some.result.1.now ≡ drop c.in-Some-first_part.count (map g.S.AsStr.text c.loop-word.rest.now) =
-    ap (map g.S.AsStr.text) c.split_at-in-Some.ensures.back ∙ sym (drop-map g.S.AsStr.text c.in-Some-first_part.count c.loop-word.rest.now) in
+    texts_left g.S.AsStr.text c.in-Some-first_part.count c.loop-word.rest.now c.split_at-in-Some.result.1.now c.split_at-in-Some.ensures.back in
     subst (λ left. Read (map g.S.AsStr.text c.args.words.now) left c.add.new.self) (sym after)
     (read_part _ _ c.loop-word.given c.add.new.self c.in-Some.word.now _ (part c.in-Some-first_part.part) c.in-Some-first_part.count c.loop-word.invariant (sym c.in-Some.ensures) (sym c.word_at-in-Some.ensures) (search rules)
     c.in-Some-first_part.ensures c.in_ok-add.ensures.ok)

@@ -1,7 +1,8 @@
-use Rattle.std.proofs.Common.{map, inl, inr, sym, ap, ◌∙◌, ◌≡◌, drop, subst}
-use Rattle.std.proofs.lemmas.List.{drop-map, length-map}
+use Rattle.std.proofs.Common.{map, inl, inr, sym, ◌≡◌, drop, subst}
+use Rattle.std.proofs.lemmas.List.{length-map}
 use Rattle.std.proofs.lemmas.Result.{IfOk-weaker}
 use Rattle.tftp_words.specs.{Say, asked}
+use Rattle.tftp_words.proofs.Reading.{texts_left}
 use Rattle.tftp_words.proofs.Asking.{asks, the_arguments, told, command_in, count_fits}
 use Rattle.tftp_words.proofs.request.requested.Goals as goal
 
@@ -15,7 +16,7 @@ split_at-requires g c = rw (← length-map c.args.words.now g.S.AsStr.text) (cou
 
 pub returns-clause-ok : goal.returns-clause-ok
 returns-clause-ok g c =
-    let after : map g.S.AsStr.text c.split_at.result.1.now ≡ drop c.in-Some-command_of.count (map g.S.AsStr.text c.args.words.now) = ap (map g.S.AsStr.text) c.split_at.ensures.back ∙ sym (drop-map g.S.AsStr.text c.in-Some-command_of.count c.args.words.now) in
+    let after : map g.S.AsStr.text c.split_at.result.1.now ≡ drop c.in-Some-command_of.count (map g.S.AsStr.text c.args.words.now) = texts_left g.S.AsStr.text c.in-Some-command_of.count c.args.words.now c.split_at.result.1.now c.split_at.ensures.back in
     let said = c.in_ok-given.ensures.ok in
     IfOk-weaker c.request_by.result _ _
     (λ r made. asks (asked r) c.in-Some.word.now (map g.S.AsStr.text c.args.words.now) c.in-Some-command_of.command c.in-Some-command_of.count (sym c.in-Some.ensures) c.in-Some-command_of.ensures made.0
@@ -24,7 +25,7 @@ returns-clause-ok g c =
 
 pub returns-clause-only : goal.returns-clause-only
 returns-clause-only g c = λ a request.
-    let after : map g.S.AsStr.text c.split_at.result.1.now ≡ drop c.in-Some-command_of.count (map g.S.AsStr.text c.args.words.now) = ap (map g.S.AsStr.text) c.split_at.ensures.back ∙ sym (drop-map g.S.AsStr.text c.in-Some-command_of.count c.args.words.now) in
+    let after : map g.S.AsStr.text c.split_at.result.1.now ≡ drop c.in-Some-command_of.count (map g.S.AsStr.text c.args.words.now) = texts_left g.S.AsStr.text c.in-Some-command_of.count c.args.words.now c.split_at.result.1.now c.split_at.ensures.back in
     let known = the_arguments a c.in-Some.word.now (map g.S.AsStr.text c.args.words.now) c.in-Some-command_of.command c.in-Some-command_of.count request (sym c.in-Some.ensures) c.in-Some-command_of.ensures in
     let holds = c.in_ok-given.ensures.only known.1 (subst (λ l. Say l known.1) (sym after) known.2) known.3 in
     elim holds [

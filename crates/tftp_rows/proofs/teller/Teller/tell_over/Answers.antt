@@ -10,27 +10,30 @@ loop-init g c = record {
   judging = refl;
 }
 
+pub returns-then-not-is_first_over-clause-turns : goal.returns-then-not-is_first_over-clause-turns
+returns-then-not-is_first_over-clause-turns g c named out history carried s is = c.loop.invariant.turns named out history carried s is
+
 pub returns-then-not-branch-clause-turns : goal.returns-then-not-branch-clause-turns
 returns-then-not-branch-clause-turns g c named out history carried s is =
     let turns = c.loop.invariant.turns named out history carried s is in
-    turns_kept g.W.Write.contents (λ before. IsOldestOver before named carried s × JudgesAs c.args.session.now before) _ c.loop.self c.tell_first_over.new.self c.loop.session c.tell_first_over.new.session named out history carried s turns
-    (c.in_ok-tell_first_over.ensures.nothing (ap Ok c.if-not-branch.true))
-    (c.in_ok-tell_first_over.ensures.same_session named turns.left history carried s (record { noticed = is.noticed; kept = turns.handed_out }) (ap Ok c.if-not-branch.true)).kept
+    turns_kept g.W.Write.contents (λ before. IsOldestOver before named carried s × JudgesAs c.args.session.now before) _ c.loop.self c.tell_oldest.new.self c.loop.session c.tell_oldest.new.session named out history carried s turns
+    (c.in_ok-tell_oldest.ensures.nothing (ap Ok c.if-not-branch.true))
+    (c.in_ok-tell_oldest.ensures.same_session named turns.left history carried s turns.handed_out (ap Ok c.if-not-branch.true))
 
 pub loop-preserved : goal.loop-preserved
 loop-preserved g c = record {
   turns = λ named out history carried s is.
       let turns = c.loop.invariant.turns named out history carried s is in
-      let told = c.in_ok-tell_first_over.ensures.told named turns.left history carried s (record { noticed = is.noticed; kept = turns.handed_out }) (ap Ok c.if-not-branch.false) in
-      turns_more g.W.Write.contents (λ before. IsOldestOver before named carried s × JudgesAs c.args.session.now before) _ c.loop.self c.tell_first_over.new.self c.loop.session c.tell_first_over.new.session named out history carried s turns
-      (told.0, c.loop.invariant.judging) told.1;
-  judging = c.in_ok-tell_first_over.ensures.judging ∙ c.loop.invariant.judging;
+      let over = rw c.if-not-is_first_over.false at (c.is_first_over.ensures named turns.left history carried s (record { noticed = is.noticed; kept = turns.handed_out })) in
+      turns_more g.W.Write.contents (λ before. IsOldestOver before named carried s × JudgesAs c.args.session.now before) _ c.loop.self c.tell_oldest.new.self c.loop.session c.tell_oldest.new.session named out history carried s turns
+      (over, c.loop.invariant.judging) (c.in_ok-tell_oldest.ensures.told named turns.left history carried s turns.handed_out (ap Ok c.if-not-branch.false));
+  judging = c.in_ok-tell_oldest.ensures.judging ∙ c.loop.invariant.judging;
 }
 
-pub returns-in_err-tell_first_over-clause-part : goal.returns-in_err-tell_first_over-clause-part
-returns-in_err-tell_first_over-clause-part g c named out history carried s is =
+pub returns-in_err-tell_oldest-clause-part : goal.returns-in_err-tell_oldest-clause-part
+returns-in_err-tell_oldest-clause-part g c named out history carried s is =
     let turns = c.loop.invariant.turns named out history carried s is in
     on_err c.from_residual.result
-    (turns_part g.W.Write.contents (λ before. IsOldestOver before named carried s × JudgesAs c.args.session.now before) _ c.loop.self c.tell_first_over.new.self c.loop.session c.args.session.now.audit.judge.judging named out history carried s turns
+    (turns_part g.W.Write.contents (λ before. IsOldestOver before named carried s × JudgesAs c.args.session.now before) _ c.loop.self c.tell_oldest.new.self c.loop.session c.args.session.now.audit.judge.judging named out history carried s turns
     c.loop.invariant.judging
-    (c.in_err-tell_first_over.ensures.part named turns.left history carried s (record { noticed = is.noticed; kept = turns.handed_out })))
+    (c.in_err-tell_oldest.ensures.part named turns.left history carried s turns.handed_out))

@@ -1,25 +1,28 @@
-use Rattle.std.proofs.Common.{rules, sym, subst}
-use Rattle.audit_flows.specs.{Transfer}
-use Rattle.audit_views.specs.Views.{client_capture, client_header, server_capture, server_header, IsFoundBy}
+use Rattle.std.proofs.Common.{sym, subst}
 use Rattle.audit_views.specs.Parties.{host_name}
-use Rattle.audit_recording.specs.Judges.{BetweenStands, ClientStands, Judges, ServerStands}
-use Rattle.audit_recording.proofs.JudgesLemmas.Watching.{on_mapped}
+use Rattle.audit_recording.specs.Judges.{AreJudgesAfter, Judges}
 use Rattle.audit_recording.proofs.judges.judges.Judges.finish.Goals as goal
 
 pub returns-clause-client : goal.returns-clause-client
 returns-clause-client g c rollover x name whole after =
-    on_mapped c.self.inside.client c.map-2.result c.map-2.ensures.cases
-    (λ k said post is. subst (λ (y : Transfer). IsFoundBy rollover (client_header y) (client_capture name y whole) said) is.0 (search rules))
-    (subst (λ (j : Judges). ClientStands rollover j.client x name whole) (sym c.self.view_is) after.client)
+    let all : AreJudgesAfter rollover (record { client = c.self.inside.client; server = c.self.inside.server; between = c.self.inside.between; failed = c.self.inside.failed }) x name whole =
+    subst (λ (j : Judges). AreJudgesAfter rollover j x name whole) (sym c.self.view_is) after in
+    c.said_at_client.ensures.found rollover x name whole all.works all.client
 
 pub returns-clause-server : goal.returns-clause-server
 returns-clause-server g c rollover x name whole after =
-    on_mapped c.self.inside.server c.map-3.result c.map-3.ensures.cases
-    (λ v said post is. subst (λ (y : Transfer). IsFoundBy rollover (server_header y) (server_capture name y whole whole) said) is.0 (search rules))
-    (subst (λ (j : Judges). ServerStands rollover j.server x name whole) (sym c.self.view_is) after.server)
+    let all : AreJudgesAfter rollover (record { client = c.self.inside.client; server = c.self.inside.server; between = c.self.inside.between; failed = c.self.inside.failed }) x name whole =
+    subst (λ (j : Judges). AreJudgesAfter rollover j x name whole) (sym c.self.view_is) after in
+    c.said_at_server.ensures.found rollover x name whole all.works all.server
+
+pub returns-clause-between : goal.returns-clause-between
+returns-clause-between g c rollover x whole after apart =
+    let all : AreJudgesAfter rollover (record { client = c.self.inside.client; server = c.self.inside.server; between = c.self.inside.between; failed = c.self.inside.failed }) x host_name whole =
+    subst (λ (j : Judges). AreJudgesAfter rollover j x host_name whole) (sym c.self.view_is) after in
+    c.said_between.ensures.found x whole all.works all.between apart
 
 pub returns-clause-to_itself : goal.returns-clause-to_itself
 returns-clause-to_itself g c rollover x whole after itself =
-    on_mapped c.self.inside.between c.map-4.result c.map-4.ensures.cases
-    (λ v said post is. search rules)
-    (subst (λ (j : Judges). BetweenStands j.between x host_name whole) (sym c.self.view_is) after.between)
+    let all : AreJudgesAfter rollover (record { client = c.self.inside.client; server = c.self.inside.server; between = c.self.inside.between; failed = c.self.inside.failed }) x host_name whole =
+    subst (λ (j : Judges). AreJudgesAfter rollover j x host_name whole) (sym c.self.view_is) after in
+    c.said_between.ensures.to_itself x whole all.works all.between itself

@@ -7,14 +7,11 @@ use Rattle.net_udp.specs.Recording.{checksum_told}
 use Rattle.audit_recording.specs.Reasons.Spoilt.{checked}
 use Rattle.audit_recording.specs.Session.Noted.{AreNotesOf, Noticed, finding, going_back, sharers_of, with_time}
 use Rattle.audit_recording.specs.Session.Recording.{asking, intact_at, passing_at, reached_by, setting_aside}
-use Rattle.audit_recording.specs.Audit.{AuditsAfter, RecordingAudit}
 use Rattle.audit_recording.specs.Audit.Audited.{IsAttributed}
 use Rattle.audit_recording.specs.Blame.Frames.{Framed, datagrams_of, framed_after}
 use Rattle.audit_recording.specs.Blame.Kept.{IsPassing}
 use Rattle.audit_recording.specs.Session.Texts.{AreTextsKept}
-use Rattle.audit_recording.specs.Session.Trails.{AreTrailsBegun, AreTrailsKept}
 use Rattle.audit_recording.specs.declared.blame.passing.Passing.{Passing}
-use Rattle.audit_recording.specs.declared.judges.judging.Judging.{Judging}
 use Rattle.audit_recording.specs.declared.session.kept.Kept.{Kept}
 use Rattle.audit_recording.proofs.SessionLemmas.Recording.{reached_is}
 use Rattle.audit_recording.proofs.session.session.Session.pass.Goals as goal
@@ -64,12 +61,8 @@ returns-clause-trails c named out history carried d a is carries at handed audit
       payload = sym carries.taken.payload;
     } in
     let begun = c.in_ok-ask.ensures.trails judging named out d carried (ap (λ (p : Attributed). p.place) same ∙ at.0) passes handed kept in
-    let judged : c.ask.new.self.audit.judge.judging ≡ judging = ap (λ (s : RecordingAudit). s.judge.judging) c.ask.ensures.audit in
-    let followed = c.in_ok-follow.ensures.trails named out history d carried
-    (subst (λ (f : Attributed). IsAttributed named (datagrams_of carried) d.datagram f) (sym same) at) passes
-    (subst (λ (s : RecordingAudit). AuditsAfter s named out history (datagrams_of (d ∷ carried))) (sym c.ask.ensures.audit) audit)
-    (subst (λ (j : Judging). AreTrailsBegun c.ask.new.self.trails j named out d carried) (sym judged) begun) in
-    subst (λ (j : Judging). AreTrailsKept c.follow.new.self.trails j named out (d ∷ carried)) judged followed
+    c.in_ok-follow.ensures.trails named out history d carried
+    (subst (λ (f : Attributed). IsAttributed named (datagrams_of carried) d.datagram f) (sym same) at) passes audit begun
 
 pub returns-clause-texts : goal.returns-clause-texts
 returns-clause-texts c named carried d a is carries at kept =
@@ -103,5 +96,5 @@ returns-clause-texts c named carried d a is carries at kept =
       target = c.party_of-target.ensures.end ∙ sym carries.taken.target;
       payload = sym carries.taken.payload;
     } in
-    let noted = c.in_ok-note.ensures.texts named d carried is_fed passes (subst (λ (k : Kept). AreTextsKept k named carried) (sym c.ask.ensures.kept) kept) in
+    let noted = c.in_ok-note.ensures.texts named d carried is_fed passes kept in
     subst (λ (k : Kept). AreTextsKept k named (d ∷ carried)) (sym c.follow.ensures.kept) noted

@@ -9,8 +9,6 @@ use Rattle.audit_recording.specs.Session.Noted.{AreNotesOf, Noticed, frames_in, 
 use Rattle.audit_recording.specs.Session.Recording.{AddsOne, IsCarriedBy, letting_go, placing}
 use Rattle.audit_recording.specs.Session.Texts.{AreTextsKept}
 use Rattle.audit_recording.specs.Session.Trails.{AreTrailsKept}
-use Rattle.audit_recording.specs.declared.session.kept.Kept.{Kept}
-use Rattle.audit_recording.specs.declared.session.notes.Notes.{Notes}
 use Rattle.audit_recording.proofs.SessionLemmas.Recording.{adds_bare, bare, carried_bare, last_up_to}
 use Rattle.audit_recording.proofs.session.session.Session.take.Goals as goal
 
@@ -36,7 +34,7 @@ returns-clause-none c named history carried s step none gives of noticed are =
     same (λ gives_so low_so. c.in_ok-note.ensures.none named carried after none gives_so low_so let_go) gives low in (
       told.1,
       (carried, s, event, told.0, noticed, of, told.2, adds_bare named event told.0 carried after told.1 gives told.2 told.3),
-      subst (λ (n : Notes). AreNotesOf n told.1) (sym c.note_undelivered.ensures.notes) told.4,
+      told.4,
     )
 
 pub returns-clause-datagram : goal.returns-clause-datagram
@@ -61,7 +59,7 @@ returns-clause-datagram c named history carried s step x a given is of came carr
     same (λ came_so carries_so later_so. c.in_ok-note.ensures.datagram named carried after x a given is came_so carries_so later_so let_go) came (carried_bare event given carried x carries) later in (
       placing a.place event x after,
       (carried, s, event, Datagram given, noticed, of, came, (x, carries, refl, ap (λ (p : Place). placing p event x after) at)),
-      subst (λ (n : Notes). AreNotesOf n (placing a.place event x after)) (sym c.note_undelivered.ensures.notes) told,
+      told,
     )
 
 pub returns-clause-trails : goal.returns-clause-trails
@@ -74,14 +72,14 @@ returns-clause-trails c named out history carried x a given is came carries at h
       sent = c.take_ousted.ensures.sent i;
       is_discarded = c.take_ousted.ensures.discarded i;
     } in
-    c.note_undelivered.ensures.trails c.args.self.now.audit.judge.judging named out (x ∷ carried)
+    c.note_undelivered.ensures c.args.self.now.audit.judge.judging named out (x ∷ carried)
     (subst (λ (e : EventState). IsFateOf e.frame.parts e.likeness e.brought.outcome e.is_discarded (Datagram given) → IsCarriedBy e given carried x
     → AreTrailsKept c.note.new.self.trails c.args.self.now.audit.judge.judging named out (x ∷ carried))
     same (λ came_so carries_so. c.in_ok-note.ensures.trails named out history carried x a given is came_so carries_so at handed audit kept) came (carried_bare event given carried x carries))
 
 pub returns-clause-same_trails : goal.returns-clause-same_trails
 returns-clause-same_trails c judging named out carried none kept =
-    c.note_undelivered.ensures.trails judging named out carried (c.in_ok-note.ensures.same_trails judging named out carried none kept)
+    c.note_undelivered.ensures judging named out carried (c.in_ok-note.ensures.same_trails judging named out carried none kept)
 
 pub returns-clause-texts : goal.returns-clause-texts
 returns-clause-texts c named carried x a given is came carries at kept =
@@ -93,7 +91,6 @@ returns-clause-texts c named carried x a given is came carries at kept =
       sent = c.take_ousted.ensures.sent i;
       is_discarded = c.take_ousted.ensures.discarded i;
     } in
-    subst (λ (k : Kept). AreTextsKept k named (x ∷ carried)) (sym c.note_undelivered.ensures.kept)
-    (subst (λ (e : EventState). IsFateOf e.frame.parts e.likeness e.brought.outcome e.is_discarded (Datagram given) → IsCarriedBy e given carried x
+    subst (λ (e : EventState). IsFateOf e.frame.parts e.likeness e.brought.outcome e.is_discarded (Datagram given) → IsCarriedBy e given carried x
     → AreTextsKept c.note.new.self.kept named (x ∷ carried))
-    same (λ came_so carries_so. c.in_ok-note.ensures.texts named carried x a given is came_so carries_so at kept) came (carried_bare event given carried x carries))
+    same (λ came_so carries_so. c.in_ok-note.ensures.texts named carried x a given is came_so carries_so at kept) came (carried_bare event given carried x carries)

@@ -9,7 +9,7 @@ invariant-loop-alloc g l = record {
   goes : l.self.halt ≡ None;
   ready : l.self.capture.standing ≡ Standing.Open;
   lines : l.judge.fed < l.self.capture.handed;
-  runs : AloneRuns (seen (g.R.Read.remaining l.fn.reader.0) l.fn.reader.1 l.fn.self.halt l.fn.self.capture) l.fn.judge (seen (g.R.Read.remaining l.reader.0) l.reader.1 l.self.halt l.self.capture) l.judge;
+  runs : AloneRuns l.rollover (seen (g.R.Read.remaining l.fn.reader.0) l.fn.reader.1 l.fn.self.halt l.fn.self.capture) l.fn.judge (seen (g.R.Read.remaining l.reader.0) l.reader.1 l.self.halt l.self.capture) l.judge;
 }
 
 abbrev pub decreases-loop-alloc : goal.decreases-loop-alloc

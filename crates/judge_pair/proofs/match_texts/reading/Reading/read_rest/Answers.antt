@@ -11,9 +11,9 @@ pub returns-in-Err-clause-runs : goal.returns-in-Err-clause-runs
 returns-in-Err-clause-runs g c =
     let e = c.in-Err.ensures in
     let i = c.loop-alloc.invariant in
-    refused_step (left_judge_at c.args.end) (IsRestAt c.args.end) (own_of_rest c.args.end) _ _ _ _ _ _ _ _ _ _ _ _ i.goes i.runs (datagram_of c.next.new.datagram) (c.next.ensures.given c.loop-alloc-test.true)
-    refl c.in-Err.field-0 (rest_says c.args.end c.loop-alloc.rest (λ h read. Refuses h read (datagram_of c.next.new.datagram) c.in-Err.field-0) e.refuses_client e.refuses_server)
-    (rest_stays c.args.end c.loop-alloc.rest c.feed.new.self e.stays) e.keeps
+    refused_step c.args.rollover (left_judge_at c.args.end) (IsRestAt c.args.end) (own_of_rest c.args.end) _ _ _ _ _ _ _ _ _ _ _ _ i.goes i.runs (datagram_of c.next.new.datagram) (c.next.ensures.given c.loop-alloc-test.true c.args.rollover)
+    refl c.in-Err.field-0 (rest_says c.args.rollover c.args.end c.loop-alloc.rest (datagram_of c.next.new.datagram) (λ h read now. Refuses h read now c.in-Err.field-0) e.refuses_client e.refuses_server)
+    (rest_stays c.args.end c.loop-alloc.rest c.take.new.self e.stays) e.keeps
 
 pub loop-alloc-preserved : goal.loop-alloc-preserved
 loop-alloc-preserved g c =
@@ -24,12 +24,13 @@ loop-alloc-preserved g c =
       goes = c.next.ensures.goes_on c.loop-alloc-test.true ∙ i.goes;
       ready = c.next.ensures.open c.loop-alloc-test.true;
       lines = omega (arith, i.lines, rises, e.counts);
-      waited = ap (λ (o : Option Datagram). is_some o) c.feed.ensures.waited ∙ i.waited;
-      runs = accepted_step (left_judge_at c.args.end) (IsRestAt c.args.end) (own_of_rest c.args.end) _ _ _ _ _ _ _ _ _ _ _ _ i.goes i.runs (datagram_of c.next.new.datagram) (c.next.ensures.given c.loop-alloc-test.true)
-          (c.next.ensures.goes_on c.loop-alloc-test.true ∙ i.goes) (λ h k read other at _. rest_grows c.args.end c.loop-alloc.rest c.feed.new.self (datagram_of c.next.new.datagram) e.client e.server h k read other at) e.goes_on;
-      other = c.feed.ensures.other ∙ i.other;
+      waited = ap (λ (o : Option Datagram). is_some o) c.take.ensures.waited ∙ i.waited;
+      numbered = λ r is. c.take.ensures.numbered c.args.end (i.numbered r is);
+      runs = accepted_step c.args.rollover (left_judge_at c.args.end) (IsRestAt c.args.end) (own_of_rest c.args.end) _ _ _ _ _ _ _ _ _ _ _ _ i.goes i.runs (datagram_of c.next.new.datagram) (c.next.ensures.given c.loop-alloc-test.true c.args.rollover)
+          (c.next.ensures.goes_on c.loop-alloc-test.true ∙ i.goes) (λ h k read other now at _ taken. rest_grows c.args.rollover c.args.end c.loop-alloc.rest c.take.new.self (datagram_of c.next.new.datagram) e.client e.server h k read other now at taken) e.goes_on;
+      other = c.take.ensures.other ∙ i.other;
     }
 
 pub returns-clause-runs : goal.returns-clause-runs
 returns-clause-runs g c =
-    halted_step (left_judge_at c.args.end) (IsRestAt c.args.end) (own_of_rest c.args.end) _ _ _ _ _ _ _ _ _ _ _ c.loop-alloc.rest c.loop-alloc.invariant.goes c.loop-alloc.invariant.runs (c.next.ensures.halted c.loop-alloc-test.false)
+    halted_step c.args.rollover (left_judge_at c.args.end) (IsRestAt c.args.end) (own_of_rest c.args.end) _ _ _ _ _ _ _ _ _ _ _ c.loop-alloc.rest c.loop-alloc.invariant.goes c.loop-alloc.invariant.runs (c.next.ensures.halted c.loop-alloc-test.false c.args.rollover)

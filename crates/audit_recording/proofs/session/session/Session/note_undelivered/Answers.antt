@@ -1,5 +1,0 @@
-use Rattle.audit_recording.proofs.session.session.Session.note_undelivered.Goals as goal
-
-pub returns-clause-trails : goal.returns-clause-trails
-returns-clause-trails c judging named out carried kept =
-    c.note_undelivered_at-2.ensures.trails judging named out carried (c.note_undelivered_at.ensures.trails judging named out carried kept)

@@ -1,0 +1,23 @@
+use Rattle.std.proofs.Common.{rules, ◌∙◌, IfNone, IfOk, Some, inl, refl, subst}
+use Rattle.tftp_rows.specs.declared.remarks.Remarks.{Remarks}
+use Rattle.tftp_match.specs.Captures.Capture.{Recording, Text}
+use Rattle.tftp_match.specs.Matching.{IsUntakenOf}
+use Rattle.tftp_match.proofs.MatchingLemmas.{on_none, on_some, some_at, wanted}
+use Rattle.tftp_match.proofs.judging.recorded_server.Goals as goal
+
+pub returns-clause-taken : goal.returns-clause-taken
+returns-clause-taken g c =
+    let asked = some_at c.in_ok-asked.field-0 c.in-Some.asked _ c.in-Some.is c.in_ok-asked.ensures.asked in
+    let held = some_at c.in_ok-held.field-0 c.in-Some-2.held _ c.in-Some-2.is c.in_ok-held.ensures.held in
+    on_some c.beside_held_client.result _ _ (λ j p. ((Text (Some c.in-Some-2.held.bytes.items), Recording c.args.server.now, held.0, refl, p.0), p.1 ∙ (held.2 ∙ asked.1)))
+    (c.beside_held_client.ensures.taken (rw c.as_slice.ensures.value (rw c.or-number.ensures at asked.0)) (λ several. held.1 (wanted c.len.result _ (search rules) several)))
+
+pub returns-clause-told : goal.returns-clause-told
+returns-clause-told g c =
+    let asked = some_at c.in_ok-asked.field-0 c.in-Some.asked _ c.in-Some.is c.in_ok-asked.ensures.asked in
+    let held = some_at c.in_ok-held.field-0 c.in-Some-2.held _ c.in-Some-2.is c.in_ok-held.ensures.held in
+    let one = Text (Some c.in-Some-2.held.bytes.items) in
+    let other = Recording c.args.server.now in
+    on_none c.beside_held_client.result _ _ (λ told. inl (one, other, held.0, refl, told))
+    (subst (λ (m : Remarks g.row.E.Denot). IfOk c.beside_held_client.result (λ found. IfNone found (IsUntakenOf c.args.request.now one other m.program.now (g.E.Write.contents m.errors.0) (g.E.Write.contents c.beside_held_client.new.remarks.errors.0)))) (held.2 ∙ asked.1)
+    (c.beside_held_client.ensures.untaken (rw c.as_slice.ensures.value (rw c.or-number.ensures at asked.0)) (λ several. held.1 (wanted c.len.result _ (search rules) several))))
