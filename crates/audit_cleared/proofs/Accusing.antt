@@ -1,5 +1,5 @@
 -- The worked accusation: a client asks for a file, gets its block, and asks again at the port that answered.
-use Rattle.std.proofs.Common.{◌≡◌, ℕ, true, false, List, [], ◌∷◌, ◌++◌, Some, codes, None, reverse, inl, refl, sym, ap, subst, ◌∙◌}
+use Rattle.std.proofs.Common.{List, [], ◌∷◌, ◌++◌, codes, None, reverse, inl, refl}
 use Rattle.std.specs.Fmt.{digits}
 use Rattle.tftp_packet.specs.{Client, Server}
 use Rattle.tftp_packet.specs.Hosts.{Datagram}

@@ -14,3 +14,5 @@ mod Hosts
 mod Learned
 mod Staying
 mod Accusing
+mod Unlisted
+mod Innocent

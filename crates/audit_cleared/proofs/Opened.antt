@@ -53,7 +53,7 @@ module _ (Holds : Transfer → Type 0) where
 
   -- ---- the transfers that a line tells of
 
-  transfer_held : (place : Place) (x : Transfer) → IsHeld place → transfer_of place ≡ Some x → Holds x
+  pub transfer_held : (place : Place) (x : Transfer) → IsHeld place → transfer_of place ≡ Some x → Holds x
   transfer_held (Opens y) x held is = let this : y ≡ x = cc in subst Holds this held
   transfer_held (Repeats y) x held is = let this : y ≡ x = cc in subst Holds this held
   transfer_held (Talks y) x held is = let this : y ≡ x = cc in subst Holds this held

@@ -1,6 +1,5 @@
 -- What comes after a client's line is silent leaves the refusals of its transfers, their frames and the lack of doubts as they are.
-use Rattle.std.proofs.Common.{◌≡◌, ℕ, ◌-◌, Bool, true, false, cond, List, [], ◌∷◌, ◌++◌, Option, Some, None, Err, arith, length, filter, map, reverse, refl, sym, ap, subst, ◌∙◌, if◌then◌else◌}
-use Rattle.std.specs.List.{slice_get}
+use Rattle.std.proofs.Common.{◌≡◌, ℕ, Bool, false, cond, List, [], ◌∷◌, ◌++◌, Option, Some, Err, arith, length, filter, map, reverse, refl, sym, ap, subst, ◌∙◌, if◌then◌else◌}
 use Rattle.std.proofs.lemmas.List.Elements.{filter_agree}
 use Rattle.tftp_packet.specs.{In, Out, Rollover}
 use Rattle.law_end.specs.{Rule}
@@ -15,11 +14,11 @@ use Rattle.audit_flows.proofs.TransfersLemmas.OwnDatagrams.{about_none, seen_non
 use Rattle.audit_spared.specs.Finality.{IsFinal, IsSilent, opened}
 use Rattle.audit_spared.proofs.FinalityLemmas.Silent.{opened_has_number, silent_is_final}
 use Rattle.audit_views.specs.Parties.{host_name}
-use Rattle.audit_views.specs.Views.{captured, captured_at_client, captured_at_server, client_capture, client_header, server_capture, server_header, way_at_server}
+use Rattle.audit_views.specs.Views.{captured, captured_at_client, captured_at_server, client_header, server_capture, server_header, way_at_server}
 use Rattle.audit_recording.specs.Audit.Audited.{placed_after}
 use Rattle.audit_recording.specs.Between.{IsBetweenVerdict, between_capture, passed_of, sides_of, sides_with}
 use Rattle.audit_recording.specs.Blame.Facts.{IsRefusedAt}
-use Rattle.audit_recording.specs.Blame.Frames.{Carried, Framed, datagrams_of, framed, framed_after, is_seen, numbered, seen_as, view_of, whole_of}
+use Rattle.audit_recording.specs.Blame.Frames.{Carried, Framed, datagrams_of, framed, framed_after, is_seen, numbered, view_of, whole_of}
 use Rattle.audit_recording.specs.declared.rows.row.Point.{Point}
 use Rattle.audit_recording.specs.declared.rows.row.Point.TheVariants.{Client, Server, Between}
 use Rattle.audit_cleared.specs.Accused.{IsAccusation, is_doubtful_there}
@@ -35,7 +34,7 @@ added_none test p ps known more same = by_test (test p)
     let both : length (p ∷ filter test ps) ≡ length (filter test ps) = ap length (longer ∙ sym same) in absurd (omega (arith, both)))
     (λ off. off)
 
-map_agree : {X Y : Type 0} (f g : X → Y) → ((x : X) → f x ≡ g x) → (xs : List X) → map f xs ≡ map g xs
+pub map_agree : {X Y : Type 0} (f g : X → Y) → ((x : X) → f x ≡ g x) → (xs : List X) → map f xs ≡ map g xs
 map_agree f g same [] = refl
 map_agree f g same (x ∷ xs) = ap (λ y. y ∷ map f xs) (same x) ∙ ap (λ ys. g x ∷ ys) (map_agree f g same xs)
 

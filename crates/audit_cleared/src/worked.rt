@@ -1,7 +1,8 @@
 //! Worked recordings: one that a law speaks of, and for what the law asks. Each is the contract of a function that does nothing.
 
-ghost use Rattle.std.specs.Prelude.{◌≡◌, [], ◌∷◌, All, false};
+ghost use Rattle.std.specs.Prelude.{◌≡◌, [], ◌∷◌, All, List, None, false, true};
 ghost use Rattle.tftp_packet.specs.{In, Out};
+ghost use Rattle.audit_flows.specs.{Transfer};
 ghost use Rattle.audit_flows.specs.Lines.{same_endpoint};
 ghost use Rattle.law_model.specs.Rules.{Route, route_of};
 ghost use Rattle.law_end.specs.{OneEnded};
@@ -12,6 +13,14 @@ ghost use Rattle.audit_views.specs.Views.{captured, client_capture, client_heade
 ghost use Rattle.law_tap.specs.{BreaksNoTapRule, TapRoute, tap_route};
 ghost use Rattle.audit_recording.specs.Between.{between_capture, passed_of, sides_of};
 ghost use Rattle.audit_recording.specs.Between.Worked.{first_transfer};
+ghost use Rattle.audit_recording.specs.{Telling};
+ghost use Rattle.audit_recording.specs.Blame.Frames.{Carried};
+ghost use Rattle.audit_recording.specs.Reasons.Listed.{worked_doubted};
+ghost use Rattle.audit_recording.specs.declared.blame.doubted.Doubted.{Doubted};
+ghost use Rattle.audit_rows.specs.Viewing.{number_in};
+ghost use Rattle.audit_rows.specs.Worked.{worked_telling, worked_transfer, worked_view};
+ghost use Rattle.audit_rows.specs.declared.viewed.Viewed.{Viewed};
+ghost use Rattle.audit_cleared.specs.Accusing.{AccusesNobody, IsServerKnown};
 ghost use Rattle.audit_cleared.specs.Cleared.{HasAddresses, IsOpenedIn, IsSentThere, IsServedIn, IsTransferIn};
 ghost use Rattle.audit_cleared.specs.Worked.{asked_at_learned, before_going_on, before_namesake, from_namesake, from_one_address, to_who_answered, learned, not_opened, one_request, to_a_stranger, to_the_other};
 
@@ -69,4 +78,13 @@ pub fn the_server_must_have_seen_it()
     ensures server { server_view 0 (placed [] (to_a_stranger ∷ before_namesake)) ≡ placed [] before_namesake }
     ensures between { tap_route (sides_of first_transfer (placed [] before_namesake))
         (between_capture first_transfer (placed [] before_namesake)) (passed_of to_a_stranger) ≡ TapRoute.WrongPort }
+{}
+
+/// A refusal of what its client sent accuses it, where no reason is listed; once it is listed that the client had asked again, it accuses nobody,
+/// as no row does that blames no datagram. Who the server is need not be known where nothing is refused.
+pub fn worked_rows()
+    ensures accuses { AccusesNobody (worked_transfer 2000) [] (worked_doubted false false None) (worked_telling (worked_view false)) (worked_view false) → ⊥ }
+    ensures late { AccusesNobody (worked_transfer 2000) [] (worked_doubted false false None) (worked_telling (worked_view true)) (worked_view true) }
+    ensures blames { (x : Transfer) (carried : List Carried) (d : Doubted) (t : Telling) (v : Viewed) → v.blamed ≡ None → AccusesNobody x carried d t v }
+    ensures known { (x : Transfer) (carried : List Carried) (v : Viewed) → number_in v.found ≡ None → IsServerKnown x carried v }
 {}

@@ -1,7 +1,8 @@
-mod Sent
-mod Named
-mod Behind
-mod GoneOn
+pub mod Sent
+pub mod Named
+pub mod Behind
+pub mod GoneOn
+pub mod First
 mod Stood
 mod Unnamed
 mod StoodAtEnd

@@ -1,15 +1,13 @@
 -- A refusal at an end that is said to stand is certain.
-use Rattle.std.proofs.Common.{◌≡◌, ◌≢◌, ◌&&◌, ℕ, ◌+◌, Bool, true, false, List, [], ◌∷◌, ◌++◌, Option, Some, None, Result, Ok, Err, refl, sym, ap, subst, ◌∙◌, arith, inl, inr, append_assoc, length, reverse}
+use Rattle.std.proofs.Common.{◌≡◌, ◌≢◌, ◌&&◌, ℕ, Bool, true, false, List, ◌∷◌, ◌++◌, Option, Some, None, Result, Ok, Err, refl, sym, ap, subst, ◌∙◌, inl, inr, length, reverse}
 use Rattle.std.proofs.lemmas.Bool.{and_parts}
-use Rattle.std.proofs.lemmas.List.{length-reverse, reverse-append, reverse-reverse}
 use Rattle.tftp_packet.specs.{Dir, In, Out, Rollover}
 use Rattle.tftp_packet.specs.Hosts.{Datagram, Header}
 use Rattle.law_model.specs.Model.{Meaning}
-use Rattle.law_end.specs.{IsRefused, Rule}
-use Rattle.law_end.proofs.Completeness.RunsBreakNoRule.{run_keeps}
+use Rattle.law_end.specs.{Rule}
 use Rattle.law_tap.specs.{IsCertain, KnowsOtherEnd, StandsAtEnd}
 use Rattle.law_tap.proofs.EndStands.{known_is_certain, own_is_certain}
-use Rattle.tftp_judge.specs.{IsVerdict, Refusal}
+use Rattle.tftp_judge.specs.{Refusal}
 use Rattle.tftp_judge.specs.declared.refusal.Refusal.TheVariants as refusal
 use Rattle.audit_flows.specs.Lines.{Placed, Recorded, is_of, same_endpoint}
 use Rattle.audit_flows.specs.{Transfer}
@@ -31,39 +29,10 @@ use Rattle.audit_rows.specs.declared.found.Found.{Found}
 use Rattle.audit_rows.specs.declared.found.Found.TheVariants.{AtEnd, Between}
 use Rattle.audit_rows.specs.declared.viewed.Viewed.{Viewed}
 use Rattle.audit_rows.proofs.Behind.{IsCaptured, captured_there}
-use Rattle.audit_rows.proofs.GoneOn.{IsDivided, either, known_by_earlier, own_or_known, went_out}
+use Rattle.audit_rows.proofs.First.{IsOf, of_verdict}
+use Rattle.audit_rows.proofs.GoneOn.{either, known_by_earlier, own_or_known, went_out}
 use Rattle.audit_rows.proofs.Named.{named_by}
 use Rattle.audit_rows.proofs.Unnamed.{NamesNone, names_none, unnamed_known, unnamed_own}
-
--- ---- the refused datagram of a verdict, with those before it; the newest first
-
-record IsOf (h : Header) (given : List Datagram) (number : ℕ) (broken : Rule) : Type 0 where
-  later : List Datagram
-  datagram : Datagram
-  earlier : List Datagram
-  are : given ≡ later ++ datagram ∷ earlier
-  number_is : number ≡ length earlier + 1
-  refused : IsRefused h earlier datagram broken
-  divided : IsDivided h earlier
-
-turned : (before rest : List Datagram) (d : Datagram) → reverse (before ++ d ∷ rest) ≡ reverse rest ++ d ∷ reverse before
-turned before rest d =
-    reverse-append before (d ∷ rest)
-    ∙ ap (λ l. l ++ reverse before) (reverse-append (d ∷ []) rest)
-    ∙ append_assoc (reverse rest) (d ∷ []) (reverse before)
-
-of_verdict : (h : Header) (given : List Datagram) (number : ℕ) (broken : Rule) → IsVerdict h (reverse given) (Err (refusal.Unlawful number broken)) → IsOf h given number broken
-of_verdict h given number broken is =
-    let (m, wire, seen) = is.lawful in
-    record {
-      later = reverse is.rest;
-      datagram = is.datagram;
-      earlier = reverse is.before;
-      are = sym (reverse-reverse given) ∙ ap reverse is.split ∙ turned is.before is.rest is.datagram;
-      number_is = let long = length-reverse is.before in let at = is.index_is in omega (arith, long, at);
-      refused = record { lawful = (run_keeps h m wire is.before seen).0; broken = is.broken };
-      divided = record { meaning = m; wire = wire; ids = seen.dressed.ids; division = seen.dressed.division; whole = seen.dressed.whole; labels = seen.dressed.labels };
-    }
 
 -- it is certain, where its rule says so
 certain_of : (h : Header) (given : List Datagram) (number : ℕ) (broken : Rule) (it : IsOf h given number broken) → IsCertain h (reverse (it.later ++ it.datagram ∷ it.earlier)) (length it.earlier) → IsCertainAtEnd h given number
@@ -164,7 +133,7 @@ module _ (x : Transfer) (named : List ℕ) (carried : List Carried) where
     by (Between said) e is standing = absurd is
     by (AtEnd (Ok m)) e is standing = let no : Some true ≡ None = standing in absurd (cc)
     by (AtEnd (Err (refusal.Unlawful number broken))) e is (inl (so, told)) =
-        (number, refl, sure number broken (ap number_in e) v.blamed refl so (of_verdict (client_header x) (client_capture host_name x (whole_of named carried)) number broken (is tt).verdict))
+        (number, refl, sure number broken (ap number_in e) v.blamed refl so (of_verdict (client_header x) (client_capture host_name x (whole_of named carried)) number broken is.verdict))
     by (AtEnd (Err (refusal.Unlawful number broken))) e is (inr (so, told)) = let no : Some true ≡ None = told in absurd (cc)
     by (AtEnd (Err (refusal.Aborted end code))) e is standing = let no : Some true ≡ None = standing in absurd (cc)
     by (AtEnd (Err (refusal.Incomplete count))) e is standing = let no : Some true ≡ None = standing in absurd (cc)
@@ -181,7 +150,7 @@ module _ (x : Transfer) (named : List ℕ) (carried : List Carried) where
   in_one_round b (Between said) is standing = absurd is
   in_one_round b (AtEnd (Ok m)) is standing = let no : Some true ≡ None = standing in absurd (cc)
   in_one_round b (AtEnd (Err (refusal.Unlawful number broken))) is (inl (so, told)) =
-      let it = of_verdict (server_header x) (server_capture host_name x (whole_of named carried) (whole_of named carried)) number broken (is tt).verdict in (
+      let it = of_verdict (server_header x) (server_capture host_name x (whole_of named carried) (whole_of named carried)) number broken is.verdict in (
         number,
         refl,
         certain_of (server_header x) (server_capture host_name x (whole_of named carried) (whole_of named carried)) number broken it (elim so [

@@ -1,5 +1,5 @@
 -- What depends on an option alone that no datagram of a transfer names is certain.
-use Rattle.std.proofs.Common.{◌≡◌, ◌⊎◌, ℕ, ◌==◌, ◌&&◌, ◌||◌, Bool, true, false, List, [], ◌∷◌, ◌++◌, Contains, Option, Some, None, bytes_eq, codes, cond, filter, length, map, option_map, reverse, inl, inr, refl, sym, ap, subst, ◌∙◌, append_assoc}
+use Rattle.std.proofs.Common.{◌≡◌, ℕ, ◌==◌, ◌&&◌, ◌||◌, Bool, true, false, List, [], ◌∷◌, ◌++◌, Contains, Option, Some, None, bytes_eq, codes, cond, filter, length, map, option_map, reverse, inl, inr, refl, sym, ap, subst, ◌∙◌, append_assoc}
 use Rattle.std.specs.FinMap as map
 use Rattle.std.specs.List.{AllByRecursion, list_any, onto_first, slice_split}
 use Rattle.std.specs.Str.{str_eq_ignore_ascii_case}
@@ -7,15 +7,15 @@ use Rattle.std.proofs.lemmas.Bool.{and_from, eqb-true, false≢true, or_left, or
 use Rattle.tftp_packet.specs.{Get, IsString, Message, OptionValue, Out, Pair, Put, RequestParts, Side, Spells, lower, pair_strings, side_opcode, strings, text_of, value_of}
 use Rattle.tftp_packet.specs.Hosts.{Datagram, Header}
 use Rattle.tftp_packet.proofs.Maps.{text_in_map}
-use Rattle.law_model.specs.Rules.{AckBreaks, asks, first_of, transfer_of}
+use Rattle.law_model.specs.Rules.{AckBreaks, asks, transfer_of}
 use Rattle.law_model.specs.{EndRule, Terms}
 use Rattle.law_model.proofs.ModelLemmas.Members.{contains_cases, contains_first, contains_later, contains_none}
-use Rattle.law_end.specs.{Broken, FirstAsked, IsRefused, MessageBreaks, MessageBroken, Rule}
+use Rattle.law_end.specs.{Broken, IsRefused, MessageBreaks, MessageBroken, Rule}
 use Rattle.law_end.specs.declared.rule.Rule.TheVariants as rule
-use Rattle.law_tap.specs.{IsCertain, IsKnownOption, KnowsOtherEnd, StandsByOptions}
+use Rattle.law_tap.specs.{IsCertain, KnowsOtherEnd, StandsByOptions}
 use Rattle.law_tap.proofs.EndKnown.{first_there}
 use Rattle.law_tap.proofs.EndOptions.{known_options_certain, own_options_certain}
-use Rattle.audit_flows.specs.Lines.{Placed, Recorded}
+use Rattle.audit_flows.specs.Lines.{Placed}
 use Rattle.audit_flows.specs.{Transfer}
 use Rattle.audit_flows.specs.Transfers.{is_about}
 use Rattle.audit_flows.proofs.LinesLemmas.Lines.{by_test}

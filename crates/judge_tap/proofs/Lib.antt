@@ -14,5 +14,6 @@ mod TapVerdictFound
 mod SaidAfter
 mod LossyFound
 mod ToldFound
+mod TakenBetween
 mod ChangedFirst
 mod WorkedLossy

@@ -13,7 +13,11 @@ use Rattle.law_tap.proofs.KeptOf.{any_here, any_more, kept_in}
 use Rattle.law_tap.proofs.TapTests.{source_is}
 use Rattle.law_tap.proofs.TapMade.{recorded_payload}
 use Rattle.law_end.proofs.Division.RouteTests.{same_is}
-use Rattle.judge_tap.specs.{IsReceiving, Receiving, kept_there, ReceiverBreaks, error_by_refusal}
+use Rattle.judge_tap.specs.{IsReceiving, IsRecordedFor, Receiving, kept_there, ReceiverBreaks, error_by_refusal}
+use Rattle.tftp_capture.specs.{datagram_of}
+use Rattle.tftp_capture.specs.declared.datagram.Datagram.{Datagram as OwnedDatagram}
+use Rattle.law_model.specs.Rules.{transfer_of}
+use Rattle.tftp_judge.proofs.Taken.{opcode_taken}
 use Rattle.tftp_judge.specs.declared.pass_error.PassError.TheVariants as stop
 
 module _ (s : TapSides) (side : Side) (passed : List TapDatagram) (d : TapDatagram) (stays : is_left_out (tap_tests s) (receiver_of side) d (kept_there s side passed) ≡ false) where
@@ -86,6 +90,13 @@ kept_first s side d judge apart source asks after =
 
 pub recorded_same : (s : TapSides) (end : End) (d : TapDatagram) (x : Datagram) → x ≡ recorded_at s end d → d.payload ≡ x.payload
 recorded_same s end d x is = sym (ap (λ (y : Datagram). y.payload) is ∙ recorded_payload s end d)
+
+-- what it takes the value in memory for has its opcode
+pub opcode_there : (s : TapSides) (side : Side) (passed : List TapDatagram) (d : TapDatagram) (rollover : Option Rollover) (owned : OwnedDatagram) → IsRecordedFor rollover s side passed d owned
+    → opcode_of d.payload ≡ opcode_of owned.payload
+opcode_there s side passed d rollover owned taken =
+    ap opcode_of (sym (recorded_payload s (receiver_of side) d))
+    ∙ opcode_taken (transfer_of (header_at s side) (kept_between s side passed)) (datagram_of owned).payload (recorded_at s (receiver_of side) d).payload rollover taken.1
 
 pub refused_takes : (s : TapSides) (side : Side) (passed : List TapDatagram) (d : TapDatagram) (refusal : Refusal) → Refuses (header_at s side) (kept_between s side passed) (recorded_at s (receiver_of side) d) refusal → error_by_refusal refusal ≡ stop.Memory → TakesMemory (header_at s side) (kept_between s side passed) (recorded_at s (receiver_of side) d)
 refused_takes s side passed d (of_end.Unlawful index rule) r is = cc

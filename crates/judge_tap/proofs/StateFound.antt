@@ -242,6 +242,20 @@ module _ (s : TapSides) (earlier : List TapDatagram) (d : TapDatagram) where
       breaks (rule.Port PortRule.BadAnswer) b = elim b [ inl bad ↦ absurd (cc) | inr other ↦ other.1 text says ]
       breaks r b = absurd b
 
+  -- one that answers no stray as it may
+  pub answer_bad : tap_route s earlier d ≡ route.StrayAnswer → ((text : List ℕ) → Spells d.payload (Message.Error 5 text) → ⊥) → FirstTapBroken s earlier d (rule.Port PortRule.BadAnswer)
+  answer_bad at none = record { breaks = inl (inr (at, none)); first = λ r low b. lower r low (subst (λ (x : TapRoute). SidesBreak x d r) at (of_route (ap is_passing at) r b)) } where
+    lower : (r : Rule) → number_of r < 3 → SidesBreak route.StrayAnswer d r → ⊥
+    lower (rule.Port PortRule.Foreign) low b = cc
+    lower (rule.Port PortRule.Wrong) low b = cc
+    lower (rule.Port PortRule.BadAnswer) low b = omega (arith, low)
+    lower r low b = absurd b
+
+  -- what is refused leaves nothing
+  pub found_stop : (One Other : Type 0) (e : PassError) → FindsAtTap s earlier d One (Err e) → FindsAtTap s earlier d Other (Err e)
+  found_stop One Other (Breaks r) f = f
+  found_stop One Other Memory f = f
+
 -- ---- which end it comes from
 
 abbrev pub is_from_client : TapRoute → Bool

@@ -99,7 +99,7 @@ module _ (s : TapSides) (apart : AreApart s) where
     by false true = inr refl
     by false false = inl refl
 
-  transfer_there : (earlier : List TapDatagram) (x : TapDatagram) → Contains (transfer_between s earlier) x → Contains earlier x × (is_passing (lossy_route s x) ≡ true)
+  pub transfer_there : (earlier : List TapDatagram) (x : TapDatagram) → Contains (transfer_between s earlier) x → Contains earlier x × (is_passing (lossy_route s x) ≡ true)
   transfer_there [] x at = absurd (contains_none x at)
   transfer_there (d ∷ earlier) x at = elim (cases_Bool (is_passing (tap_route s earlier d))) [
     | inr off ↦ let r = transfer_there earlier x (subst (λ l. Contains l x) (left off) at) in (contains_later d earlier x r.0, r.1)
@@ -115,7 +115,7 @@ module _ (s : TapSides) (apart : AreApart s) where
       taken : is_passing (tap_route s earlier d) ≡ true → transfer_between s (d ∷ earlier) ≡ d ∷ transfer_between s earlier
       taken goes = rw (goes) refl
 
-  said_there : (earlier : List TapDatagram) (e : End) (n : Message) (x : TapDatagram) → Contains (transfer_between s earlier) x → x.source ≡ side_of s e → Spells x.payload n → IsSaid s earlier e n
+  pub said_there : (earlier : List TapDatagram) (e : End) (n : Message) (x : TapDatagram) → Contains (transfer_between s earlier) x → x.source ≡ side_of s e → Spells x.payload n → IsSaid s earlier e n
   said_there earlier e n x at source spells = let r = transfer_there earlier x at in said_in s e n earlier x r.0 (record { goes = r.1; source = source; spells = spells })
 
   pub known_of : (tapped : List TapDatagram) → BreaksNoTapRule s tapped → Known s apart tapped

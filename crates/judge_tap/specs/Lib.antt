@@ -10,7 +10,7 @@ pub mod WorkedLossy
 pub use TapSeen.{AreMarks, AreNotes, AreSeen, ErrorPassed, IsNew, IsNewBlock, IsStop, IsStoppedBy, Notes, Seen, Stopped, first_stop, has_number, stop_of}
 pub use TapFinds.{FindsRule, IsOtherError, IsOtherRequest, IsReadOf, MessageBreaks, OwnBreaks}
 pub use TapKept.{IsErrorAtTap, IsHeard, IsKeptAtTap, IsReceiving, IsTapJudge, IsTapTransfer, Receiving, TapJudge, TapState, TapTransfer, kept_there}
-pub use TapStops.{BeginsAtTap, FindsAtTap, IsCertainByRule, IsNoRequest, IsReadUnless, IsRecorded, ReceiverBreaks, RefusesAtTap, TransferBreaks, passing_of, smaller_of, error_by_refusal}
+pub use TapStops.{BeginsAtTap, FindsAtTap, IsCertainByRule, IsNoRequest, IsReadUnless, IsRecorded, IsRecordedFor, ReceiverBreaks, RefusesAtTap, TransferBreaks, passing_as, passing_of, smaller_of, error_by_refusal}
 pub use TapVerdict.{IsTapVerdict, NoneShown, said_at_tap, unfinished_by}
 pub use Said.{AreSaidNotes, FindsSaid, IsErrorPut, IsErrorSaid, IsNewlySaid, IsOfferSaid, SaidError, SaidErrors, SaidNotes, ack_broken, error_of}
 pub use LossyKept.{FindsWithLosses, HasBegun, HasKeptWithLosses, IsKeptWithLosses, IsLossyJudge, IsNotCertain, LossyJudge, LossyState, NoneIsSaid, RefusesWithLosses, TakesMemoryWithLosses}

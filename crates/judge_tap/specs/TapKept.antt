@@ -6,7 +6,7 @@ use Rattle.tftp_packet.specs.{Message, RequestParts, Spells, Side, End}
 use Rattle.law_model.specs.Model.Roles.{receiver_of}
 use Rattle.law_end.specs.{IsFirstError}
 use Rattle.tftp_judge.specs.{IsJudgeAfter, Judge}
-use Rattle.law_tap.specs.{TapDatagram, TapSides, side_of, AreApart, kept_of, KnownWays, StandsForTap, tap_tests, transfer_between, BreaksNoTapRule, FirstTapAsked, header_at, kept_between}
+use Rattle.law_tap.specs.{TapDatagram, TapSides, side_of, AreApart, kept_of, KnownWays, StandsForTap, tap_tests, transfer_between, BreaksNoTapRule, FirstTapAsked, IsHighBetween, header_at, kept_between}
 use Rattle.judge_tap.specs.TapSeen.{AreNotes, Notes}
 use Rattle.judge_tap.specs.ToldKept.{AreTold, Told}
 use Rattle.judge_tap.specs.declared.refusal.TapRefusal.{TapRefusal}
@@ -39,6 +39,7 @@ pub record TapTransfer : Type 0 where
   pub receiving : Receiving
   pub notes : Notes
   pub first_error : Option (End × ℕ)  -- whose the first ERROR was, and its code
+  pub highest : ℕ  -- the highest block of a DATA that has passed, or 0
 
 -- the transfer stands for these datagrams of it
 pub record IsTapTransfer (t : TapTransfer) (s : TapSides) (passed : List TapDatagram) : Type 0 where
@@ -46,6 +47,7 @@ pub record IsTapTransfer (t : TapTransfer) (s : TapSides) (passed : List TapData
   pub receiving : IsReceiving t.receiving s t.asked.side passed
   pub notes : AreNotes t.notes s passed
   pub first_error : IsFirstError (IsErrorAtTap s) passed t.first_error
+  pub highest : IsHighBetween passed t.highest
 
 -- ---- the judge
 

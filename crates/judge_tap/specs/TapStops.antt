@@ -1,10 +1,12 @@
 -- What is found of one datagram between the ends, by the rules that it may break. The lists `earlier` and `passed` have the
 -- datagrams that have passed and those of the transfer, the newest first.
 use Rattle.std.specs.Prelude.{◌≡◌, ◌⊎◌, ◌+◌, ◌&&◌, not, ℕ, false, List, [], ◌∷◌, length, nat_lt, Option, Some, None, Result, Ok, Err, if◌then◌else◌}
-use Rattle.tftp_packet.specs.{Message, RequestParts, Spells, FirstFault, Side, End}
+use Rattle.tftp_packet.specs.{Message, RequestParts, Spells, FirstFault, Side, End, Rollover}
 use Rattle.tftp_capture.specs.declared.datagram.Datagram.{Datagram as OwnedDatagram}
 use Rattle.tftp_capture.specs.{datagram_of}
 use Rattle.law_model.specs.Model.Roles.{receiver_of}
+use Rattle.law_model.specs.Rules.{transfer_of}
+use Rattle.law_rollover.specs.{IsTaken}
 use Rattle.tftp_judge.specs.{TakesMemory, Refusal}
 use Rattle.tftp_judge.specs.declared.refusal.Refusal.TheVariants as of_end
 use Rattle.law_end.specs.{Broken, number_of, Rule}
@@ -24,6 +26,10 @@ use Rattle.tftp_judge.specs.declared.pass_error.PassError.TheVariants.{Broken as
 abbrev pub passing_of : Owned → TapDatagram
 passing_of d = record { source = d.source; destination = d.destination; payload = d.payload }
 
+-- and the same with this payload
+abbrev pub passing_as : Owned → List ℕ → TapDatagram
+passing_as d payload = record { source = d.source; destination = d.destination; payload = payload }
+
 -- Of the first rules of two kinds the one that is tried first, where either is broken. A rule of ports at the end that gets the
 -- file stands back: between the ends those are told by the two sides alone.
 abbrev pub smaller_of : Option Rule → Result (Unit {0}) PassError → Result (Unit {0}) PassError
@@ -34,6 +40,11 @@ smaller_of (Some own) _ = Err (Breaks own)
 -- the value in memory is what the end that gets the file would have recorded of the datagram
 abbrev pub IsRecorded : TapSides → End → TapDatagram → OwnedDatagram → Type 0
 IsRecorded s receiver d owned = datagram_of owned ≡ recorded_at s receiver d
+
+-- That end takes the value in memory for what it would have recorded of the datagram, after those that it would keep.
+abbrev pub IsRecordedFor : Option Rollover → TapSides → Side → List TapDatagram → TapDatagram → OwnedDatagram → Type 0
+IsRecordedFor rollover s side passed d owned =
+    IsTaken rollover (transfer_of (header_at s side) (kept_between s side passed)) (datagram_of owned) (recorded_at s (receiver_of side) d)
 
 -- what the end that gets the file would find of a datagram, where it would keep it, the rules of ports among it
 abbrev pub ReceiverBreaks : TapSides → Side → List TapDatagram → TapDatagram → Rule → Type 0

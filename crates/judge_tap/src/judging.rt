@@ -1,7 +1,7 @@
-ghost use Rattle.std.specs.Prelude.{◌≡◌, ◌+◌, ◌^◌, ◌<◌, ◌≤◌, List, [], ◌∷◌, length, None, Some, OnOk, IfErr, Err};
-ghost use Rattle.law_tap.specs.{TapDatagram as Passing, TapSides, AreApart, TapPasses};
+ghost use Rattle.std.specs.Prelude.{◌≡◌, ◌+◌, ◌^◌, ◌<◌, ◌≤◌, ℕ, List, [], ◌∷◌, length, None, Some, OnOk, IfErr, Err};
+ghost use Rattle.law_tap.specs.{TapDatagram as Passing, TapSides, AreApart, TapPasses, IsTakenBetween, IsUnrolledBetween, transfer_between};
 ghost use Rattle.judge_tap.specs.TapKept.{IsTapJudge};
-ghost use Rattle.judge_tap.specs.TapStops.{IsCertainByRule, RefusesAtTap, passing_of};
+ghost use Rattle.judge_tap.specs.TapStops.{IsCertainByRule, RefusesAtTap, passing_as, passing_of};
 ghost use Rattle.judge_tap.specs.ToldKept.{IsStandingBy};
 ghost use Rattle.judge_tap.specs.TapVerdict.{IsTapVerdict};
 ghost use Rattle.judge_tap.specs.declared.refusal.TapRefusal.{TapRefusal as RefusalKind};
@@ -15,6 +15,7 @@ use std::alloc::Global;
 use std::marker::Model;
 use tftp_ends::blocks::Delivered;
 use tftp_judge::{Meaning, PassError};
+use tftp_packet::rounds::Rollover;
 
 /// The judge of a capture that was taken at a point between the ends, datagram by datagram (RFC 1350; RFC 2347; RFC 7440). It is
 /// told who the client is, where it asks and who the server is. It keeps no list of datagrams: what it keeps are the ways that
@@ -92,10 +93,72 @@ impl<D: Delivered + Drop> TapJudge<D> {
         ensures counts { OnOk result (self.new.fed ≡ self.old.fed + 1) }
         ensures counted { IfErr result (λ _. self.new.fed ≡ self.old.fed) }
     {
+        self.take(alloc, None, datagram)
+    }
+
+    /// The same where numbers begin again after 65535 (RFC 1350, section 5, gives them two bytes and says no more): a block's number is
+    /// taken for the block near the highest that has passed.
+    pub fn feed_numbered(
+        &mut self,
+        alloc: Global,
+        rollover: Rollover,
+        datagram: TapDatagram,
+    ) -> Result<(), TapRefusal>
+        requires few { self.old.fed < 2 ^ 40 }
+        requires short { length datagram.payload ≤ 65527 }
+
+        // For all datagrams that it stands for: it stands for them with this one, with a block in the place of its number.
+        ensures accepts { (s : TapSides) (earlier : List Passing) (d : Passing) → IsTapJudge self.old s earlier
+            → IsUnrolledBetween rollover (transfer_between s earlier) (passing_of datagram) d
+            → OnOk result (TapPasses s earlier d × IsTapJudge self.new s (d ∷ earlier)) }
+
+        // Or the first rule that it breaks so, and whether that stands whatever is missing; memory runs out only where it breaks none,
+        // and is one that takes some.
+        ensures refuses { (s : TapSides) (earlier : List Passing) (d : Passing) → IsTapJudge self.old s earlier
+            → IsUnrolledBetween rollover (transfer_between s earlier) (passing_of datagram) d → IfErr result (RefusesAtTap s earlier d) }
+
+        // Some rules are certain by their name, as above.
+        ensures certain { (s : TapSides) (earlier : List Passing) (d : Passing) → IsTapJudge self.old s earlier
+            → IsUnrolledBetween rollover (transfer_between s earlier) (passing_of datagram) d → IfErr result (IsCertainByRule s earlier d) }
+        ensures unrolls { (s : TapSides) (earlier : List Passing) → IsTapJudge self.old s earlier
+            → (d : Passing) × IsUnrolledBetween rollover (transfer_between s earlier) (passing_of datagram) d }
+        ensures keeps { IfErr result (λ refusal. self.new.refused ≡ Some refusal) }
+        ensures for_good { (refusal : RefusalKind) → self.old.refused ≡ Some refusal → (result ≡ Err refusal) × (self.new ≡ self.old) }
+        ensures goes_on { self.old.refused ≡ None → OnOk result (self.new.refused ≡ None) }
+        ensures counts { OnOk result (self.new.fed ≡ self.old.fed + 1) }
+        ensures counted { IfErr result (λ _. self.new.fed ≡ self.old.fed) }
+    {
+        self.take(alloc, Some(rollover), datagram)
+    }
+
+    /// Takes the next datagram, whose numbers begin again or do not.
+    fn take(
+        &mut self,
+        alloc: Global,
+        rollover: Option<Rollover>,
+        datagram: TapDatagram,
+    ) -> Result<(), TapRefusal>
+        requires few { self.old.fed < 2 ^ 40 }
+        requires short { length datagram.payload ≤ 65527 }
+        ensures accepts { (s : TapSides) (earlier : List Passing) (now : List ℕ) → IsTapJudge self.old s earlier
+            → IsTakenBetween rollover (transfer_between s earlier) datagram.payload now
+            → OnOk result (TapPasses s earlier (passing_as datagram now) × IsTapJudge self.new s (passing_as datagram now ∷ earlier)) }
+        ensures refuses { (s : TapSides) (earlier : List Passing) (now : List ℕ) → IsTapJudge self.old s earlier
+            → IsTakenBetween rollover (transfer_between s earlier) datagram.payload now
+            → IfErr result (RefusesAtTap s earlier (passing_as datagram now)) }
+        ensures certain { (s : TapSides) (earlier : List Passing) (now : List ℕ) → IsTapJudge self.old s earlier
+            → IsTakenBetween rollover (transfer_between s earlier) datagram.payload now
+            → IfErr result (IsCertainByRule s earlier (passing_as datagram now)) }
+        ensures keeps { IfErr result (λ refusal. self.new.refused ≡ Some refusal) }
+        ensures for_good { (refusal : RefusalKind) → self.old.refused ≡ Some refusal → (result ≡ Err refusal) × (self.new ≡ self.old) }
+        ensures goes_on { self.old.refused ≡ None → OnOk result (self.new.refused ≡ None) }
+        ensures counts { OnOk result (self.new.fed ≡ self.old.fed + 1) }
+        ensures counted { IfErr result (λ _. self.new.fed ≡ self.old.fed) }
+    {
         if let Some(refusal) = self.refused {
             return Err(refusal);
         }
-        if let Err(stop) = self.state.pass(alloc, datagram) {
+        if let Err(stop) = self.state.pass(alloc, rollover, datagram) {
             let refusal = match stop {
                 PassError::Broken(rule) => {
                     let stands = standing_by(rule, self.state.stands());

@@ -11,6 +11,7 @@ mod lossy_refusal;
 mod lossy_state;
 mod notes;
 mod pass_error;
+mod reading;
 mod receiving;
 mod refusal;
 mod said_blocks;

@@ -1,11 +1,15 @@
 ghost use Rattle.std.specs.Prelude.{◌≡◌, ◌+◌, ◌^◌, ◌<◌, ◌≤◌, List, [], ◌∷◌, length, reverse, true, IfErr, IfOk, OnOk, Err};
 ghost use Rattle.tftp_packet.specs.{opcode_of, Server, Side as Way};
+ghost use Rattle.tftp_packet.specs.Hosts.{Datagram as DatagramParts, Header as HeaderParts};
+ghost use Rattle.tftp_capture.specs.{datagram_of};
+ghost use Rattle.law_model.specs.Rules.{transfer_of};
+ghost use Rattle.law_rollover.specs.{IsTaken};
 ghost use Rattle.law_model.specs.Model.Roles.{receiver_of};
-ghost use Rattle.tftp_judge.specs.{Finds, TakesMemory, IsVerdict};
+ghost use Rattle.tftp_judge.specs.{Finds, IsJudgeAfter, Refuses, TakesMemory, IsVerdict};
 ghost use Rattle.law_end.specs.{Passes};
 ghost use Rattle.law_tap.specs.{TapDatagram, TapSides, side_of, AreApart, is_left_out, same_end, asks_in, tap_tests, header_at, kept_between, recorded_at};
 ghost use Rattle.judge_tap.specs.TapKept.{IsReceiving, kept_there};
-ghost use Rattle.judge_tap.specs.TapStops.{IsRecorded, ReceiverBreaks};
+ghost use Rattle.judge_tap.specs.TapStops.{IsRecorded, IsRecordedFor, ReceiverBreaks};
 ghost use Rattle.tftp_judge.specs.declared.pass_error.PassError.{PassError as PassErrorKind};
 
 use crate::pass_error::error_of;
@@ -85,21 +89,27 @@ impl<D: Delivered + Drop> Receiving<D> {
     }
 
     /// What this end would find of the next datagram, which comes from an end of the transfer; nothing of one that is left out.
-    pub fn pass(&mut self, alloc: Global, from: End, datagram: &Datagram) -> Result<(), PassError>
+    pub fn pass(
+        &mut self,
+        alloc: Global,
+        rollover: Option<Rollover>,
+        from: End,
+        datagram: &Datagram,
+    ) -> Result<(), PassError>
         requires few { self.old.judge.fed < 2 ^ 40 }
         requires short { length datagram.now.payload ≤ 65527 }
         ensures finds { (s : TapSides) (side : Way) (passed : List TapDatagram) (d : TapDatagram) → AreApart s → IsReceiving self.old s side passed
-            → d.source ≡ side_of s from → IsRecorded s (receiver_of side) d datagram.now
+            → d.source ≡ side_of s from → IsRecordedFor rollover s side passed d datagram.now
             → Finds (ReceiverBreaks s side passed d) (IsReceiving self.new s side (d ∷ passed)) result }
         ensures memory { (s : TapSides) (side : Way) (passed : List TapDatagram) (d : TapDatagram) → IsReceiving self.old s side passed
-            → IsRecorded s (receiver_of side) d datagram.now → result ≡ Err PassErrorKind.Memory
+            → IsRecordedFor rollover s side passed d datagram.now → result ≡ Err PassErrorKind.Memory
             → TakesMemory (header_at s side) (kept_between s side passed) (recorded_at s (receiver_of side) d) }
         ensures fed { OnOk result (self.new.judge.fed ≤ self.old.judge.fed + 1) }
     {
         if self.leaves_out(from, opcode(datagram.payload.as_slice())) {
             return Ok(());
         }
-        if let Err(refusal) = self.judge.feed(alloc, datagram) {
+        if let Err(refusal) = feed_by(&mut self.judge, alloc, rollover, datagram) {
             return Err(error_of(refusal));
         }
         if is_server(from) {
@@ -127,6 +137,28 @@ impl<D: Delivered + Drop> Receiving<D> {
             5 => from == self.end || (from == End::Client && !self.answered),
             _ => false,
         }
+    }
+}
+
+/// Feeds a judge the next datagram, by number where there is a rollover.
+fn feed_by<D: Delivered + Drop>(
+    judge: &mut Judge<D>,
+    alloc: Global,
+    rollover: Option<Rollover>,
+    datagram: &Datagram,
+) -> Result<(), Refusal>
+    requires few { judge.old.fed < 2 ^ 40 }
+    requires short { length datagram.now.payload ≤ 65527 }
+    ensures accepts { (h : HeaderParts) (earlier : List DatagramParts) (d : DatagramParts) → IsJudgeAfter judge.old h earlier
+        → IsTaken rollover (transfer_of h earlier) (datagram_of datagram.now) d
+        → OnOk result (Passes h earlier d × IsJudgeAfter judge.new h (d ∷ earlier)) }
+    ensures refuses { (h : HeaderParts) (earlier : List DatagramParts) (d : DatagramParts) → IsJudgeAfter judge.old h earlier
+        → IsTaken rollover (transfer_of h earlier) (datagram_of datagram.now) d → IfErr result (Refuses h earlier d) }
+    ensures counts { OnOk result (judge.new.fed ≡ judge.old.fed + 1) }
+{
+    match rollover {
+        Some(rollover) => judge.feed_numbered(alloc, rollover, datagram),
+        None => judge.feed(alloc, datagram),
     }
 }
 

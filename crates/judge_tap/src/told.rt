@@ -4,6 +4,7 @@ ghost use Rattle.std.specs.Prelude.{◌≡◌, List, [], ◌∷◌, true};
 ghost use Rattle.tftp_packet.specs.{Client, End as Who, Message, map_of, meaning};
 ghost use Rattle.law_end.specs.{IsWrongKind};
 ghost use Rattle.law_tap.specs.{AreApart, BreaksNoTapRule, FirstTapAsked, IsSaid, IsSaidBy, TapDatagram, TapSides, is_passing, lossy_route, side_of, transfer_between};
+ghost use Rattle.judge_tap.specs.TapFinds.{IsReadOf};
 ghost use Rattle.judge_tap.specs.TapSeen.{AreNotes};
 ghost use Rattle.judge_tap.specs.ToldKept.{AreTold, IsNoted, IsTold, IsToldOf, IsUnfit, figures_after};
 
@@ -14,7 +15,7 @@ use std::marker::Model;
 use tftp_judge::is_wrong_kind;
 use tftp_nego::{Agreed, NegoFault, agree};
 use tftp_packet::rounds::Rollover;
-use tftp_packet::{End, OptionsView, Packet, Request, read_packet, same_options, same_request};
+use tftp_packet::{End, OptionsView, Packet, PacketFault, Request, same_options, same_request};
 
 /// Four figures of the blocks and ACKs that have passed, and what the first OACK agrees to (RFC 2347). With the request, the
 /// blocks and the ERRORs, which are kept elsewhere, they decide whether what an end says breaks the law whatever frames are missing.
@@ -99,7 +100,7 @@ impl Told {
         }
     }
 
-    /// Whether what an end says with this payload breaks a rule whatever is missing, but that it changes a block. There is no answer
+    /// Whether what was read of an end breaks a rule whatever is missing, but that it changes a block. There is no answer
     /// where memory was wanting for an OACK.
     pub fn standing(
         &self,
@@ -107,14 +108,14 @@ impl Told {
         asked: &Request,
         notes: &TapNotes,
         from: End,
-        payload: &[u8],
+        read: &Result<Packet<'_>, PacketFault>,
     ) -> Option<bool>
         ensures { (s : TapSides) (earlier : List TapDatagram) (d : TapDatagram) → AreApart s → BreaksNoTapRule s earlier → AreTold self.now s earlier
             → FirstTapAsked s (transfer_between s earlier) asked.now → AreNotes notes.now s (transfer_between s earlier)
-            → d.payload ≡ payload.now → d.source ≡ side_of s from → is_passing (lossy_route s d) ≡ true → IsTold s earlier d result }
+            → IsReadOf d.payload read.now → d.source ≡ side_of s from → is_passing (lossy_route s d) ≡ true → IsTold s earlier d result }
     {
-        match read_packet(payload) {
-            Ok(packet) => self.breaks(alloc, asked, notes, from, &packet),
+        match read {
+            Ok(packet) => self.breaks(alloc, asked, notes, from, packet),
             Err(_) => Some(true),
         }
     }

@@ -3,10 +3,11 @@ ghost use Rattle.tftp_packet.specs.{Message, meaning, Spells};
 ghost use Rattle.law_model.specs.Model.Roles.{receiver_of};
 ghost use Rattle.tftp_judge.specs.{Finds};
 ghost use Rattle.law_end.specs.{Passes, IsFirstError};
-ghost use Rattle.law_tap.specs.{TapDatagram, TapSides, side_of, AreApart, is_passing, tap_route, transfer_between, BreaksNoTapRule, header_at, recorded_at};
+ghost use Rattle.law_tap.specs.{TapDatagram, TapSides, side_of, AreApart, is_passing, tap_route, transfer_between, BreaksNoTapRule, IsHighBetween, header_at, recorded_at};
+ghost use Rattle.judge_tap.specs.TapFinds.{IsReadOf};
 ghost use Rattle.judge_tap.specs.TapKept.{IsErrorAtTap, IsTapTransfer};
 ghost use Rattle.judge_tap.specs.TapSeen.{AreNotes};
-ghost use Rattle.judge_tap.specs.TapStops.{IsReadUnless, IsRecorded, TakesInTransfer, TransferBreaks};
+ghost use Rattle.judge_tap.specs.TapStops.{IsReadUnless, IsRecorded, IsRecordedFor, TakesInTransfer, TransferBreaks};
 ghost use Rattle.judge_tap.specs.TapVerdict.{IsTapVerdict, said_at_tap, unfinished_by};
 ghost use Rattle.tftp_judge.specs.declared.pass_error.PassError.{PassError as PassErrorKind};
 
@@ -21,7 +22,7 @@ use tftp_capture::Datagram;
 use tftp_ends::blocks::Delivered;
 use tftp_judge::{Meaning, PassError, Refusal};
 use tftp_packet::rounds::Rollover;
-use tftp_packet::{End, Packet, Request, Side, read_packet};
+use tftp_packet::{End, Packet, PacketFault, Request, Side};
 
 /// A transfer between its ends from its first request on: what was asked for, what the end that gets the file would make of it,
 /// what had passed, and whose ERROR came first.
@@ -30,6 +31,8 @@ pub struct TapTransfer<D: Delivered + Drop> {
     receiving: Receiving<D>,
     notes: TapNotes,
     first_error: Option<(End, u16)>,
+    /// The highest block of a DATA that has passed, or 0.
+    highest: u32,
 }
 
 impl<D: Delivered + Drop> Drop for TapTransfer<D> {
@@ -40,6 +43,7 @@ impl<D: Delivered + Drop> Drop for TapTransfer<D> {
             receiving: _,
             notes: _,
             first_error: _,
+            highest: _,
         } = self;
     }
 }
@@ -59,6 +63,7 @@ impl<D: Delivered + Drop> Model for TapTransfer<D> {
       receiving = t.receiving;
       notes = t.notes;
       first_error = t.first_error;
+      highest = t.highest;
     } };
 }
 
@@ -87,6 +92,7 @@ impl<D: Delivered + Drop> TapTransfer<D> {
             receiving,
             notes,
             first_error: None,
+            highest: 0,
         })
     }
 
@@ -106,6 +112,14 @@ impl<D: Delivered + Drop> TapTransfer<D> {
         &self.notes
     }
 
+    /// The highest block of a DATA that has passed, or 0.
+    #[inline]
+    pub fn highest(&self) -> u32
+        ensures { result ≡ self.now.highest }
+    {
+        self.highest
+    }
+
     /// The end that gets the file.
     #[inline]
     pub fn receiver(&self) -> End
@@ -114,31 +128,38 @@ impl<D: Delivered + Drop> TapTransfer<D> {
         self.receiving.end()
     }
 
-    /// What the next datagram breaks, which comes from this end of the transfer; where it breaks no rule it is kept. The datagram is
-    /// as the end that gets the file would have recorded it.
-    pub fn pass(&mut self, alloc: Global, from: End, datagram: &Datagram) -> Result<(), PassError>
+    /// What the next datagram breaks, which comes from this end of the transfer and says what was read; where it breaks no rule it is
+    /// kept. The datagram is as the end that gets the file would have recorded it, by number where there is a rollover.
+    pub fn pass(
+        &mut self,
+        alloc: Global,
+        rollover: Option<Rollover>,
+        from: End,
+        datagram: &Datagram,
+        read: &Result<Packet<'_>, PacketFault>,
+    ) -> Result<(), PassError>
         requires few { self.old.receiving.judge.fed < 2 ^ 40 }
         requires short { length datagram.now.payload ≤ 65527 }
         ensures finds { (s : TapSides) (earlier : List TapDatagram) (d : TapDatagram) → AreApart s → BreaksNoTapRule s earlier
             → IsTapTransfer self.old s (transfer_between s earlier) → d.source ≡ side_of s from → is_passing (tap_route s earlier d) ≡ true
-            → IsRecorded s (receiver_of self.old.asked.side) d datagram.now
+            → IsRecordedFor rollover s self.old.asked.side (transfer_between s earlier) d datagram.now → IsReadOf d.payload read.now
             → Finds (TransferBreaks s (transfer_between s earlier) (tap_route s earlier d) d) (IsTapTransfer self.new s (d ∷ transfer_between s earlier)) result }
         ensures memory { (s : TapSides) (passed : List TapDatagram) (d : TapDatagram) → IsTapTransfer self.old s passed
-            → d.source ≡ side_of s from → IsRecorded s (receiver_of self.old.asked.side) d datagram.now → result ≡ Err PassErrorKind.Memory
-            → TakesInTransfer s passed d }
+            → d.source ≡ side_of s from → IsRecordedFor rollover s self.old.asked.side passed d datagram.now → IsReadOf d.payload read.now
+            → result ≡ Err PassErrorKind.Memory → TakesInTransfer s passed d }
         ensures read { (s : TapSides) (passed : List TapDatagram) (d : TapDatagram) → AreApart s → IsTapTransfer self.old s passed
-            → d.source ≡ side_of s from → IsRecorded s (receiver_of self.old.asked.side) d datagram.now → IsReadUnless result d.payload }
+            → d.source ≡ side_of s from → IsReadOf d.payload read.now → IsReadUnless result d.payload }
         ensures fed { OnOk result (self.new.receiving.judge.fed ≤ self.old.receiving.judge.fed + 1) }
         ensures asked { self.new.asked ≡ self.old.asked }
         ensures stays { IfErr result (λ stop. stop ≢ PassErrorKind.Memory → self.new.notes ≡ self.old.notes) }
     {
-        let read = read_packet(datagram.payload.as_slice());
-        let own = self.notes.breaks(&self.asked, from, &read);
-        first_of(own, self.receiving.pass(alloc, from, datagram))?;
-        match &read {
+        let own = self.notes.breaks(&self.asked, from, read);
+        first_of(own, self.receiving.pass(alloc, rollover, from, datagram))?;
+        match read {
             Ok(packet) => {
                 self.notes.note(alloc, from, packet)?;
                 keep_first_error(&mut self.first_error, from, packet);
+                self.highest = higher(self.highest, packet);
                 Ok(())
             }
             Err(fault) => Err(PassError::Broken(Rule::Malformed(*fault))),
@@ -155,6 +176,7 @@ impl<D: Delivered + Drop> TapTransfer<D> {
             first_error,
             asked: _,
             notes: _,
+            highest: _,
         } = self;
         said_of(receiving.finish(alloc), first_error, count)
     }
@@ -180,6 +202,20 @@ fn keep_first_error(first: &mut Option<(End, u16)>, from: End, packet: &Packet<'
     }
     if let Packet::Error { code, .. } = packet {
         *first = Some((from, *code));
+    }
+}
+
+/// The highest block of a DATA after a packet that passes.
+fn higher(highest: u32, packet: &Packet<'_>) -> u32
+    ensures { (passed : List TapDatagram) (d : TapDatagram) → IsHighBetween passed highest → Spells d.payload (meaning packet.now)
+        → IsHighBetween (d ∷ passed) result }
+{
+    match packet {
+        Packet::Data { block, .. } => highest.max(*block),
+        Packet::Request(_) => highest,
+        Packet::Oack(_) => highest,
+        Packet::Ack { .. } => highest,
+        Packet::Error { .. } => highest,
     }
 }
 

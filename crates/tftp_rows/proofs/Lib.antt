@@ -9,6 +9,7 @@ pub mod FinalLemmas
 pub mod LaterLemmas
 pub mod LackingLemmas
 pub mod WholeLemmas
+pub mod AccusingLemmas
 pub mod ReadingLemmas
 pub mod MembersLemmas
 pub mod AskedLemmas

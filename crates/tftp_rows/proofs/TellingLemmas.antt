@@ -1,5 +1,6 @@
 -- What is told one after another.
 use Rattle.std.proofs.Common.{◌<◌, length, take, drop, get_or, length-append, take-append-drop, ◌≡◌, ◌∷◌, ◌++◌, ◌||◌, not, [], ℕ, max, Bool, true, false, List, Option, Some, None, IfSome, IsSome, OnErr, OnOk, Result, Ok, Err, IsErr, inl, inr, refl, sym, ap, ◌∙◌, true≢false, append_assoc, append-nil, subst, arith, if◌then◌else◌}
+use Rattle.std.specs.List.{AllByRecursion}
 use Rattle.std.proofs.lemmas.List.{take_more}
 use Rattle.audit_recording.specs.Rows.Told.{depends_on_place, row_of, rows_told}
 use Rattle.audit_recording.specs.declared.rows.row.Point.TheVariants.{Between}
@@ -32,6 +33,15 @@ use Rattle.tftp_rows.specs.declared.printing.RowPrinter.{RowPrinter}
 use Rattle.tftp_rows.specs.declared.row.VerdictRow.{VerdictRow}
 use Rattle.tftp_rows.specs.declared.teller.Teller.{Teller}
 use Rattle.tftp_rows.proofs.PrintingLemmas.{prints_all_so, prints_both, prints_nothing, prints_part}
+
+pub all_appended : {X : Type 0} (P : X → Type 0) (xs ys : List X) → AllByRecursion P xs → AllByRecursion P ys → AllByRecursion P (xs ++ ys)
+all_appended P [] ys one other = other
+all_appended P (x ∷ xs) ys one other = (one.0, all_appended P xs ys one.1 other)
+
+-- what is not there is none
+pub no_frame : (o : Option ℕ) (waits : Bool) → (IsSome o → waits ≡ true) → waits ≡ false → o ≡ None
+no_frame None waits so off = refl
+no_frame (Some frame) waits so off = absurd (true≢false (sym (so refl) ∙ off))
 
 pub with_one : (dropped : ℕ) (row last : VerdictRow) → IsRowWith dropped row last → AreRowsWith dropped (row ∷ []) (last ∷ [])
 with_one dropped row last p = (last, [], refl, p, refl)
@@ -131,6 +141,7 @@ module _ {W : Type 0} (contents : W → Option (List ℕ)) where
     told = refl;
     may_lose = refl;
     none_waits = λ sure none. none;
+    calm = λ lose. tt;
   }
 
   pub tells_both : (s t u : Teller W) (xs ys : List VerdictRow) → TellsAll contents s t xs → TellsAll contents t u ys → TellsAll contents s u (xs ++ ys)
@@ -145,6 +156,7 @@ module _ {W : Type 0} (contents : W → Option (List ℕ)) where
     told = q.told ∙ p.told;
     may_lose = q.may_lose ∙ p.may_lose;
     none_waits = λ sure none. q.none_waits (p.may_lose ∙ sure) (p.none_waits sure none);
+    calm = λ lose. all_appended (λ (row : VerdictRow). row.frame ≡ None) p.due q.due (p.calm lose) (q.calm (p.may_lose ∙ lose));
   }
 
   pub tells_part : (s t u : Teller W) (xs ys : List VerdictRow) → TellsAll contents s t xs → TellsPart contents t u ys → TellsPart contents s u (xs ++ ys)
@@ -159,6 +171,7 @@ module _ {W : Type 0} (contents : W → Option (List ℕ)) where
       | inr part ↦ inr (all_part s.dropped s.printer t.printer u.printer p.due q.due p.prints (rw p.dropped at part.0), part.1)
     ];
     none_waits = λ sure none. q.none_waits (p.may_lose ∙ sure) (p.none_waits sure none);
+    calm = λ lose. all_appended (λ (row : VerdictRow). row.frame ≡ None) p.due q.due (p.calm lose) (q.calm (p.may_lose ∙ lose));
   }
 
   pub places_both : (s t u : Teller W) (j : Judged) (ps qs : List Row) → TellsRowsAt contents s t j ps → TellsRowsAt contents t u j qs → TellsRowsAt contents s u j (ps ++ qs)
@@ -196,7 +209,7 @@ module _ {W : Type 0} (contents : W → Option (List ℕ)) where
     all = refl;
     rows = [];
     are = refl;
-    tells = record { due = []; left = []; are = refl; prints = inl (all_none s.dropped s.printer); none_waits = λ sure none. none };
+    tells = record { due = []; left = []; are = refl; prints = inl (all_none s.dropped s.printer); none_waits = λ sure none. none; calm = λ lose. tt };
   }
 
   -- a row is held back
@@ -211,6 +224,7 @@ module _ {W : Type 0} (contents : W → Option (List ℕ)) where
     told = told;
     may_lose = may_lose;
     none_waits = λ sure none. absurd (never sure none);
+    calm = λ lose. tt;
   }
 
   -- a row that was to be held back is not kept
@@ -221,6 +235,7 @@ module _ {W : Type 0} (contents : W → Option (List ℕ)) where
     are = ap (λ l. l ++ row ∷ []) (sym held);
     prints = inl (subst (λ p. PrintsAllWith contents s.dropped s.printer p []) (sym printer) (all_none s.dropped s.printer));
     none_waits = λ sure none. held ∙ none;
+    calm = λ lose. tt;
   }
 
   module _ {A E : Type 0} where
@@ -246,8 +261,9 @@ module _ {W : Type 0} (contents : W → Option (List ℕ)) where
     printed_with dropped s t (Err e) row last is p = record { due = row ∷ []; others = []; are = refl; printed = last ∷ []; last = with_one dropped row last is; prints = p }
 
     -- a row is printed, since none waits
-    pub tells_now : (s t : Teller W) (r : Result A E) (row : VerdictRow) → t ≡ record s { printer = t.printer } → s.held.items ≡ [] → PrintsWith contents s.dropped s.printer t.printer r (row ∷ []) → Tells contents s t r (row ∷ [])
-    tells_now s t (Ok x) row is none p =
+    pub tells_now : (s t : Teller W) (r : Result A E) (row : VerdictRow) → t ≡ record s { printer = t.printer } → s.held.items ≡ [] → (s.may_lose ≡ true → row.frame ≡ None)
+        → PrintsWith contents s.dropped s.printer t.printer r (row ∷ []) → Tells contents s t r (row ∷ [])
+    tells_now s t (Ok x) row is none calm p =
         let left : t.held.items ≡ [] = ap {A = Teller W} (λ v. v.held.items) is ∙ none in
         record {
           due = row ∷ [];
@@ -258,8 +274,9 @@ module _ {W : Type 0} (contents : W → Option (List ℕ)) where
           told = ap {A = Teller W} (λ v. v.told) is;
           may_lose = ap {A = Teller W} (λ v. v.may_lose) is;
           none_waits = λ sure before. left;
+          calm = λ lose. (calm lose, tt);
         }
-    tells_now s t (Err e) row is none p =
+    tells_now s t (Err e) row is none calm p =
         let left : t.held.items ≡ [] = ap {A = Teller W} (λ v. v.held.items) is ∙ none in
         record {
           due = row ∷ [];
@@ -267,6 +284,7 @@ module _ {W : Type 0} (contents : W → Option (List ℕ)) where
           are = ap (λ l. l ++ row ∷ []) none ∙ sym (ap (λ l. row ∷ (l ++ [])) left);
           prints = inr (p, left);
           none_waits = λ sure before. left;
+          calm = λ lose. (calm lose, tt);
         }
 
     -- A row is told, where the status was raised before.
@@ -284,6 +302,7 @@ module _ {W : Type 0} (contents : W → Option (List ℕ)) where
         told = p.told ∙ told;
         may_lose = p.may_lose ∙ may_lose;
         none_waits = λ sure none. p.none_waits (may_lose ∙ sure) (rw held none);
+        calm = λ lose. p.calm (may_lose ∙ lose);
       };
     }
     row_told s m t (Err e) j place row printer held dropped file told may_lose is p = record {
@@ -298,6 +317,7 @@ module _ {W : Type 0} (contents : W → Option (List ℕ)) where
         are = rw held at p.are;
         prints = rw dropped at (rw printer at p.prints);
         none_waits = λ sure none. p.none_waits (may_lose ∙ sure) (rw held none);
+        calm = λ lose. p.calm (may_lose ∙ lose);
       };
     }
 

@@ -1,5 +1,5 @@
 -- Why a file is not told, or not to its end, and what each such fault rests on. That memory was refused, or that a read failed, nothing shows.
-use Rattle.std.specs.Prelude.{◌≡◌, ◌≤◌, ◌^◌, ◌-◌, ℕ, Bool, true, false, List, Option, Some, length}
+use Rattle.std.specs.Prelude.{◌≡◌, ◌≤◌, ◌^◌, ◌-◌, ℕ, Bool, true, List, Option, Some, length}
 use Rattle.net_udp.specs.Recording.{Step}
 use Rattle.tftp_rows.specs.Whole.{WereRead}
 use Rattle.tftp_rows.specs.declared.printing.PrintFault.{PrintFault}

@@ -14,6 +14,7 @@ pub mod Asked
 pub mod Listing
 pub mod Telling
 pub mod Whole
+pub mod Accusing
 pub mod Faults
 pub mod Remarks
 pub mod Files

@@ -1,6 +1,7 @@
 -- What is told of transfers: the rows of their verdicts. Lists of what a recording has have the newest first; rows stand in the order in which
 -- they are told.
-use Rattle.std.specs.Prelude.{◌≡◌, ◌⊎◌, ◌+◌, ◌-◌, ◌^◌, ◌≤◌, ℕ, false, max, min, List, [], ◌∷◌, ◌++◌, Option, Some, None, IsSome, Result, Ok, Err, codes, string_bytes}
+use Rattle.std.specs.Prelude.{◌≡◌, ◌⊎◌, ◌+◌, ◌-◌, ◌^◌, ◌≤◌, ℕ, false, true, max, min, List, [], ◌∷◌, ◌++◌, Option, Some, None, IsSome, Result, Ok, Err, codes, string_bytes}
+use Rattle.std.specs.List.{AllByRecursion}
 use Rattle.net_udp.specs.Recording.{Step}
 use Rattle.audit_flows.specs.Lines.{follows_request, same_address}
 use Rattle.audit_flows.specs.{Transfer}
@@ -95,6 +96,10 @@ abbrev pub AreRowsWith : ℕ → List VerdictRow → List VerdictRow → Type 0
 AreRowsWith dropped [] last = last ≡ []
 AreRowsWith dropped (row ∷ more) last = (one : VerdictRow) × (others : List VerdictRow) × (last ≡ one ∷ others) × IsRowWith dropped row one × AreRowsWith dropped more others
 
+-- none of these rows refuses a datagram
+abbrev pub RefuseNothing : List VerdictRow → Type 0
+RefuseNothing rows = AllByRecursion (λ (row : VerdictRow). row.frame ≡ None) rows
+
 module _ {W : Type 0} (contents : W → Option (List ℕ)) where
   -- All these rows were printed, as they are where so many packets were lost, and nothing else.
   pub record PrintsAllWith (dropped : ℕ) (old new : RowPrinter W) (rows : List VerdictRow) : Type 0 where
@@ -112,7 +117,7 @@ module _ {W : Type 0} (contents : W → Option (List ℕ)) where
     pub prints : PrintsPart contents verdict_lines old new printed
 
   -- These rows come behind those that wait. The first of all these were printed, each once and in this order, and nothing else; the others
-  -- wait.
+  -- wait. While the recorder may yet tell that it lost packets, none is printed that refuses a datagram.
   pub record TellsAll (old new : Teller W) (rows : List VerdictRow) : Type 0 where
     pub due : List VerdictRow
     pub are : old.held.items ++ rows ≡ due ++ new.held.items
@@ -122,6 +127,7 @@ module _ {W : Type 0} (contents : W → Option (List ℕ)) where
     pub told : new.told ≡ old.told
     pub may_lose : new.may_lose ≡ old.may_lose
     pub none_waits : old.may_lose ≡ false → old.held.items ≡ [] → new.held.items ≡ []
+    pub calm : old.may_lose ≡ true → RefuseNothing due
 
   -- The first of all these were printed, and nothing else: whole, and then those that wait come next; or in part, and none waits.
   pub record TellsPart (old new : Teller W) (rows : List VerdictRow) : Type 0 where
@@ -130,6 +136,7 @@ module _ {W : Type 0} (contents : W → Option (List ℕ)) where
     pub are : old.held.items ++ rows ≡ due ++ (new.held.items ++ left)
     pub prints : PrintsAllWith old.dropped old.printer new.printer due ⊎ (PrintsPartWith old.dropped old.printer new.printer due × (new.held.items ≡ []))
     pub none_waits : old.may_lose ≡ false → old.held.items ≡ [] → new.held.items ≡ []
+    pub calm : old.may_lose ≡ true → RefuseNothing due
 
   -- what is told of a transfer at these places, however the call ends
   pub record TellsRowsAt (old new : Teller W) (j : Judged) (places : List Row) : Type 0 where

@@ -1,9 +1,11 @@
 //! Worked examples of the definitions in `specs/`. Each is the contract of a function that does nothing.
 
-ghost use Rattle.std.specs.Prelude.{◌≡◌, ◌∷◌, ◌++◌, [], ℕ, List, Option, false, true, codes, Some, None};
+ghost use Rattle.std.specs.Prelude.{◌≡◌, ◌∷◌, ◌++◌, [], ℕ, Contains, List, Option, false, true, codes, Some, None};
 ghost use Rattle.json.specs.Json.{string};
 ghost use Rattle.net_udp.specs.Recording.{Step};
 ghost use Rattle.tftp_packet.specs.{Client as ClientEnd, Server as ServerEnd};
+ghost use Rattle.audit_flows.specs.{Endpoint};
+ghost use Rattle.audit_recording.specs.{Accused};
 ghost use Rattle.audit_recording.specs.Blame.Frames.{Carried};
 ghost use Rattle.audit_recording.specs.Losses.Noted.{unread};
 ghost use Rattle.audit_recording.specs.Losses.Noted.Event.{Loses};
@@ -14,6 +16,7 @@ ghost use Rattle.audit_recording.specs.declared.judges.judging.Judging.{Judging 
 ghost use Rattle.audit_recording.specs.declared.blame.reason.Reason.TheVariants.{Late, Lost};
 ghost use Rattle.audit_recording.specs.declared.blame.stop.Stop.{Stop};
 ghost use Rattle.audit_recording.specs.declared.rows.row.Place.TheVariants.{Between, Both, Client as AtClient};
+ghost use Rattle.tftp_rows.specs.Accusing.{AccuseNobody, AccuseNobodyBetween, IsOfClient, IsOfServer};
 ghost use Rattle.tftp_rows.specs.Asked.{options_text};
 ghost use Rattle.tftp_rows.specs.Endings.{ended_text};
 ghost use Rattle.tftp_rows.specs.Listing.{list_head, list_json, list_text};
@@ -121,4 +124,14 @@ pub fn worked_parts()
     ensures quick { slow_text (slow 5400000000 999999999) ≡ [] }
     ensures quiet { ended_text (Quiet ServerEnd 3 7) ≡ codes "; ended: nothing for 3 s after frame 7 of the server" }
     ensures no_second { ended_text (Quiet ServerEnd 0 7) ≡ [] }
+{}
+
+/// A row of both ends tells of the client, and accuses one of them: so not all rows of its client's transfers accuse nobody. Rows of no transfer do, and
+/// a row of both is none of the server's alone.
+pub fn worked_accusing()
+    ensures accuses { (clients : List Endpoint) (t : Telling) (r : VerdictRow) (a : Accused) → Contains clients t.transfer.client → t.rows ≡ r ∷ [] → r.place ≡ Both
+        → r.charge.accused ≡ Some a → AccuseNobody IsOfClient clients (t ∷ []) → ⊥ }
+    ensures none { (clients : List Endpoint) → AccuseNobody IsOfServer clients [] }
+    ensures between { (clients : List Endpoint) (carried : List Carried) → AccuseNobodyBetween clients carried [] }
+    ensures both { IsOfServer Both → ⊥ }
 {}

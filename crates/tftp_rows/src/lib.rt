@@ -1,6 +1,7 @@
 //! The rows that `tftp-transfers check` and `tftp-transfers list` print, as exact text: what each part says, and of what it is.
 #![tactic(auto)]
 
+pub mod accusing;
 mod asked;
 mod cells;
 mod conclusion;

@@ -1,6 +1,6 @@
 //! The verdicts on transfers are told, each in a row.
 
-ghost use Rattle.std.specs.Prelude.{◌≡◌, ◌≢◌, ◌⊎◌, ◌∷◌, ◌+◌, ◌-◌, ◌^◌, [], ℕ, IfErr, List, None, Ok, OnErr, OnOk, Option, false, max, min, option_to_list, true};
+ghost use Rattle.std.specs.Prelude.{◌≡◌, ◌≢◌, ◌⊎◌, ◌∷◌, ◌+◌, ◌-◌, ◌^◌, [], ℕ, IfErr, IsSome, List, None, Ok, OnErr, OnOk, Option, false, max, min, option_to_list, true};
 ghost use Rattle.net_udp.specs.Recording.{Step};
 ghost use Rattle.audit_recording.specs.Blame.Frames.{Carried, whole_of};
 ghost use Rattle.audit_recording.specs.Judges.{is_among, opened};
@@ -219,6 +219,7 @@ impl<'a, W: Write + Drop> Teller<'a, W> {
     fn waits(&self, row: &VerdictRow<'_>) -> bool
         ensures behind { self.now.held.items ≢ [] → result ≡ true }
         ensures none { self.now.held.items ≡ [] → self.now.may_lose ≡ false → result ≡ false }
+        ensures refusal { self.now.may_lose ≡ true → IsSome row.now.frame → result ≡ true }
     {
         !self.held.is_empty() || (self.may_lose && row.frame.is_some())
     }

@@ -52,7 +52,7 @@ module _ (t : Trail) (judging : Judging) (x : Transfer) (named : List ℕ) (carr
       → result ≡ blamed_as point.Client x named carried (refused_in v)
   blamed_at_client v is there judged finds =
       let at = unlawful_by v number is in
-      let said = (subst (IsFoundBy (rollover_of judging) (client_header x) (client_capture host_name x (whole_of named carried))) at.is judged) tt in
+      let said = (subst (IsFoundBy (rollover_of judging) (client_header x) (client_capture host_name x (whole_of named carried))) at.is judged) in
       finds ((was.blame.client there).enough [] number at.rule said.verdict) ∙ ap (blamed_as point.Client x named carried) (sym is)
 
   pub blamed_at_server : (v : Result Meaning Refusal) → refused_in v ≡ Some number → (points_of judging x).server ≡ true
@@ -61,7 +61,7 @@ module _ (t : Trail) (judging : Judging) (x : Transfer) (named : List ℕ) (carr
       → result ≡ blamed_as point.Server x named carried (refused_in v)
   blamed_at_server v is there judged finds =
       let at = unlawful_by v number is in
-      let said = (subst (IsFoundBy (rollover_of judging) (server_header x) (server_capture host_name x (whole_of named carried) (whole_of named carried))) at.is judged) tt in
+      let said = (subst (IsFoundBy (rollover_of judging) (server_header x) (server_capture host_name x (whole_of named carried) (whole_of named carried))) at.is judged) in
       finds ((was.blame.server there).enough [] number at.rule said.verdict) ∙ ap (blamed_as point.Server x named carried) (sym is)
 
   pub blamed_between : (v : Result Meaning TapRefusal) → refused_between v ≡ Some number → IsTrailBetween t judging x named carried → (points_of judging x).between ≡ true → AreApart (sides_of x (whole_of named carried))

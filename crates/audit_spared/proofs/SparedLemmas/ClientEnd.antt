@@ -59,23 +59,33 @@ module _ (write : Address → List ℕ) (write_one : (a b : Address) → write a
       (told_filter (λ d. is_with c d ≡ true) busy recorded (all_of (λ d. busy d ≡ true → is_with c d ≡ true) busy_with recorded)) same all
 
   module _ (clients : List Endpoint) (recorded : List Recorded) (g : AreAll (IsStrayedAt write strays) clients recorded) (newer older : List Placed) (p : Placed) (are : placed [] recorded ≡ newer ++ p ∷ older)
-      (x : Transfer) (at : transfer_of p.place ≡ Some x) (is_client : Contains clients x.client)
-      (rule : Rule) (refused : IsRefused (at_client_of x.asked.port) (map (seen write x.client) (client_view x.number older)) (as_seen_by write x.client p.datagram) rule) where
-    at_69 : IsRefused (at_client_of 69) (map (seen write x.client) (client_view x.number older)) (as_seen_by write x.client p.datagram) rule
-    at_69 = subst (λ port. IsRefused (at_client_of port) (map (seen write x.client) (client_view x.number older)) (as_seen_by write x.client p.datagram) rule)
-        (asked_of (IsStrayedAt write strays) clients recorded g newer older p are x at is_client) refused
-
+      (x : Transfer) (at : transfer_of p.place ≡ Some x) (is_client : Contains clients x.client) where
     this : is_of x.number p ≡ true
     this = of_transfer x.number p.datagram p.moment p.place x at ∙ eq-eqb x.number x.number refl
 
-    -- a doubt is there, or the first that came was a stray
-    pub refused_or_led : (needs_doubt x.number (placed [] recorded) p older ≡ true) ⊎ IsLed write write_one strays x.client (client_view x.number (p ∷ older))
-    refused_or_led = elim (doubted_or (IsStrayedAt write strays) clients recorded g x.client (IsGood x.client) ⊥ (inl tt) (stated x.client) is_client newer older p are x at refl) [
+    asks_69 : x.asked.port ≡ 69
+    asks_69 = asked_of (IsStrayedAt write strays) clients recorded g newer older p are x at is_client
+
+    -- a doubt is there, or the view up to this datagram breaks no rule, or the first that came was a stray
+    pub seen_or_led : (needs_doubt x.number (placed [] recorded) p older ≡ true)
+        ⊎ (OneEnded (at_client_of x.asked.port) (as_seen_by write x.client p.datagram ∷ map (seen write x.client) (client_view x.number older)) ⊎ IsLed write write_one strays x.client (client_view x.number (p ∷ older)))
+    seen_or_led = elim (doubted_or (IsStrayedAt write strays) clients recorded g x.client (IsGood x.client) ⊥ (inl tt) (stated x.client) is_client newer older p are x at refl) [
       | inl doubt ↦ inl doubt
       | inr (inl none) ↦ absurd none.0
-      | inr (inr (inl fair)) ↦ absurd (refused_does_not_pass (at_client_of 69) (map (seen write x.client) (client_view x.number older)) (as_seen_by write x.client p.datagram) rule at_69
-          (subst (λ l. OneEnded (at_client_of 69) (map (seen write x.client) l)) (filter_kept (is_of x.number) p older this) fair))
-      | inr (inr (inr led)) ↦ inr led
+      | inr (inr (inl fair)) ↦ inr (inl (subst (λ port. OneEnded (at_client_of port) (as_seen_by write x.client p.datagram ∷ map (seen write x.client) (client_view x.number older))) (sym asks_69)
+          (subst (λ l. OneEnded (at_client_of 69) (map (seen write x.client) l)) (filter_kept (is_of x.number) p older this) fair)))
+      | inr (inr (inr led)) ↦ inr (inr led)
+    ]
+
+  module _ (clients : List Endpoint) (recorded : List Recorded) (g : AreAll (IsStrayedAt write strays) clients recorded) (newer older : List Placed) (p : Placed) (are : placed [] recorded ≡ newer ++ p ∷ older)
+      (x : Transfer) (at : transfer_of p.place ≡ Some x) (is_client : Contains clients x.client)
+      (rule : Rule) (refused : IsRefused (at_client_of x.asked.port) (map (seen write x.client) (client_view x.number older)) (as_seen_by write x.client p.datagram) rule) where
+    -- a doubt is there, or the first that came was a stray
+    pub refused_or_led : (needs_doubt x.number (placed [] recorded) p older ≡ true) ⊎ IsLed write write_one strays x.client (client_view x.number (p ∷ older))
+    refused_or_led = elim (seen_or_led clients recorded g newer older p are x at is_client) [
+      | inl doubt ↦ inl doubt
+      | inr (inl fair) ↦ absurd (refused_does_not_pass (at_client_of x.asked.port) (map (seen write x.client) (client_view x.number older)) (as_seen_by write x.client p.datagram) rule refused fair)
+      | inr (inr led) ↦ inr led
     ]
 
     steady : GoesOnSteady write write_one strays x.client x.number (placed [] recorded)

@@ -1,7 +1,7 @@
 -- What holds of every recording in which captures of lawful transfers are interleaved. Lists have the newest first.
 use Rattle.std.specs.Prelude.{◌≡◌, ◌⊎◌, ℕ, ◌||◌, Bool, true, false, List, [], ◌∷◌, ◌++◌, map, reverse, filter, All, Contains, Some}
 use Rattle.std.specs.List.{flat_map}
-use Rattle.law_end.specs.{IsLawful, IsRefused, Rule}
+use Rattle.law_end.specs.{IsLawful, IsRefused, OneEnded, Rule}
 use Rattle.audit_flows.specs.Lines.{Recorded, Placed, transfer_of, begins_request, is_asked_again, is_late}
 use Rattle.audit_flows.specs.{Address, Endpoint, Transfer}
 use Rattle.audit_flows.specs.Transfers.Places.{placed}
@@ -70,3 +70,19 @@ SparesClients =
     → (x : Transfer) → transfer_of p.place ≡ Some x → Contains clients x.client
     → (rule : Rule) → IsRefused (at_client_of x.asked.port) (map (λ q. as_seen_by write x.client q.datagram) (client_view x.number older)) (as_seen_by write x.client p.datagram) rule
     → is_doubtful x.number (placed [] recorded) p older ≡ true
+
+-- What such a client saw, up to any datagram, breaks no rule; or one of these doubts is there.
+abbrev pub SparesViews : Type 0
+SparesViews =
+    (write : Address → List ℕ) (clients : List Endpoint) (recorded : List Recorded) → AreInterleaved write clients recorded
+    → (newer older : List Placed) (p : Placed) → placed [] recorded ≡ newer ++ p ∷ older
+    → (x : Transfer) → transfer_of p.place ≡ Some x → Contains clients x.client
+    → (needs_doubt x.number (placed [] recorded) p older ≡ true)
+    ⊎ OneEnded (at_client_of x.asked.port) (as_seen_by write x.client p.datagram ∷ map (λ q. as_seen_by write x.client q.datagram) (client_view x.number older))
+
+-- each transfer of such a client was asked for at port 69
+abbrev pub AreAskedAtService : Type 0
+AreAskedAtService =
+    (write : Address → List ℕ) (clients : List Endpoint) (recorded : List Recorded) → AreInterleaved write clients recorded
+    → (newer older : List Placed) (p : Placed) → placed [] recorded ≡ newer ++ p ∷ older
+    → (x : Transfer) → transfer_of p.place ≡ Some x → Contains clients x.client → x.asked.port ≡ 69

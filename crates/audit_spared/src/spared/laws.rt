@@ -1,12 +1,14 @@
 //! Laws of the definitions in `specs/`. Each is the contract of a function that does nothing.
 
-ghost use Rattle.audit_spared.specs.Spared.{SparesClients, SparesClientsByThree, SparesLateServers, SparesLateServersByFive, SparesServers, SparesServersByFive, SparesServersByFour, SparesStrayedClients, SparesStrayedClientsByFour};
+ghost use Rattle.audit_spared.specs.Spared.{AreAskedAtService, SparesClients, SparesClientsByThree, SparesLateServers, SparesLateServersByFive, SparesServers, SparesServersByFive, SparesServersByFour, SparesStrayedClients, SparesStrayedClientsByFour, SparesViews};
 
 /// Where captures of lawful transfers follow one another at the endpoints of some clients, whatever others do elsewhere, no view
-/// of theirs is refused without a doubt; and three of the doubts are enough.
+/// of theirs is refused without a doubt; and three of the doubts are enough: without one of them no rule is broken there.
 pub fn no_lawful_client_is_refused_without_a_doubt()
     ensures spared { SparesClients }
     ensures by_three { SparesClientsByThree }
+    ensures views { SparesViews }
+    ensures asked { AreAskedAtService }
 {}
 
 /// The same where strays come to a client, as late datagrams of an earlier server: before its server's first answer too, and

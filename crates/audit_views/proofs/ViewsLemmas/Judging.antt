@@ -1,5 +1,5 @@
 -- The verdict on what a judge was given, and on the text that has just that.
-use Rattle.std.proofs.Common.{◌≡◌, ℕ, ◌+◌, List, [], ◌∷◌, ◌++◌, reverse, Option, Some, None, Result, Ok, Err, refl, sym, ap, ◌∙◌, subst, append_assoc, OnOk, IfErr}
+use Rattle.std.proofs.Common.{◌≡◌, ◌⊎◌, inl, inr, ℕ, ◌+◌, List, [], ◌∷◌, ◌++◌, reverse, Option, Some, None, Result, Ok, Err, refl, sym, ap, ◌∙◌, subst, append_assoc, OnOk, IfErr}
 use Rattle.std.proofs.lemmas.List.{length-reverse, reverse-append, reverse-reverse}
 use Rattle.tftp_capture.specs.{IsCapture, Numbered, numbered, text_with_hosts}
 use Rattle.tftp_capture.proofs.Beginnings.{capture_begins}
@@ -11,9 +11,9 @@ use Rattle.law_model.specs.Rules.{transfer_of}
 use Rattle.law_end.specs.{OneEnded, Passes, FirstBroken, Rule}
 use Rattle.law_rollover.specs.{AreUnrolled, IsUnrolled}
 use Rattle.tftp_judge.specs.{Refuses, IsJudgeAfter, Judge, IsTextVerdictBy, unnumbered, IsSaid, IsSaidBy, IsVerdict, IsVerdictByRules, Refusal, Unlawful, header_by}
-use Rattle.tftp_judge.specs.declared.refusal.Refusal.TheVariants.{Memory}
+use Rattle.tftp_judge.specs.declared.refusal.Refusal.TheVariants.{Aborted, Incomplete, Memory, NormalTooLong}
 use Rattle.tftp_judge.proofs.ByRuns.{verdict}
-use Rattle.audit_views.specs.Views.{AreWritten, HasJudged, HasJudgedBy, HoldsOf, IsFoundBy, IsRefusedIn, JudgedBy, StandsBy, of_text}
+use Rattle.audit_views.specs.Views.{AreWritten, HasJudged, HasJudgedBy, HoldsOf, IsFoundBy, IsJudgedBy, IsRefusedIn, IsWanting, JudgedBy, StandsBy, of_text}
 use Rattle.audit_views.proofs.ViewsLemmas.Numbers.{unrolled_there}
 
 -- ---- one datagram more
@@ -81,6 +81,17 @@ module _ (h : Header) (given : List Datagram) where
     by None none after of = is after
     by (Some refusal) was at of = let same = for_good refusal was in
         subst (IsVerdict h (reverse given)) (sym same) (refused_verdict refusal at (subst IsSaid same of))
+
+  -- memory ran out for one of them, or in the end
+  pub wanting : (count : ℕ) (j : Judge) (said : Result Meaning Refusal) → (IsJudgeAfter j h given → IsVerdict h (reverse given) said) → ((refusal : Refusal) → j.refused ≡ Some refusal → said ≡ Err refusal)
+      → HasJudged j h given → said ≡ Err (Memory count) → IsRefusedIn h given (Memory count) ⊎ IsVerdict h (reverse given) (Err (Memory count))
+  wanting count j said is for_good has none = by j.refused refl has where
+    by : (o : Option Refusal) → j.refused ≡ o → JudgedBy o j h given → IsRefusedIn h given (Memory count) ⊎ IsVerdict h (reverse given) (Err (Memory count))
+    by None going after = inr (subst (IsVerdict h (reverse given)) none (is after))
+    by (Some refusal) was at =
+        let both : Err refusal ≡ Err (Memory count) = sym (for_good refusal was) ∙ none in
+        let this : refusal ≡ Memory count = cc in
+        inl (subst (IsRefusedIn h given) this at)
 
 -- ---- numbers that begin again
 
@@ -186,5 +197,14 @@ said_of_text rollover h given said written of is =
     text_verdict rollover (text_with_hosts h ds) h (numbered 4 ds) (hosts_are_read h ds written.service written.plain written.lawful written.short) said of
     (subst (λ l. IsSaidBy rollover said h l) (sym (without_numbers 4 ds)) is)
 
-pub judged_with : (rollover : Option Rollover) (h : Header) (given : List Datagram) (said : Result Meaning Refusal) → (IsSaid said → IsSaidBy rollover said h (reverse given)) → IsFoundBy rollover h given said
-judged_with rollover h given said is of = record { verdict = is of; text = λ written. said_of_text rollover h given said written of (is of) }
+judged_so : (rollover : Option Rollover) (h : Header) (given : List Datagram) (said : Result Meaning Refusal) → IsSaid said → IsSaidBy rollover said h (reverse given) → IsJudgedBy rollover h given said
+judged_so rollover h given said of is = record { verdict = is; text = λ written. said_of_text rollover h given said written of is }
+
+pub judged_with : (rollover : Option Rollover) (h : Header) (given : List Datagram) (said : Result Meaning Refusal) → (IsSaid said → IsSaidBy rollover said h (reverse given))
+    → ((count : ℕ) → said ≡ Err (Memory count) → IsWanting rollover h given count) → IsFoundBy rollover h given said
+judged_with rollover h given (Ok m) is wants = judged_so rollover h given (Ok m) tt (is tt)
+judged_with rollover h given (Err (Memory count)) is wants = wants count refl
+judged_with rollover h given (Err (Unlawful index rule)) is wants = judged_so rollover h given (Err (Unlawful index rule)) tt (is tt)
+judged_with rollover h given (Err (Aborted end code)) is wants = judged_so rollover h given (Err (Aborted end code)) tt (is tt)
+judged_with rollover h given (Err (Incomplete count)) is wants = judged_so rollover h given (Err (Incomplete count)) tt (is tt)
+judged_with rollover h given (Err NormalTooLong) is wants = judged_so rollover h given (Err NormalTooLong) tt (is tt)

@@ -1,12 +1,13 @@
 -- What a judge stands for that was given each datagram of a capture, also after it refused one. Lists have the newest first.
-use Rattle.std.specs.Prelude.{◌≡◌, ◌^◌, ◌≤◌, List, ◌∷◌, ◌++◌, All, length, reverse, Option, Some, None, Result, Ok, Err}
+use Rattle.std.specs.Prelude.{◌≡◌, ◌⊎◌, ◌^◌, ◌≤◌, ℕ, List, ◌∷◌, ◌++◌, All, length, reverse, Option, Some, None, Result, Ok, Err}
 use Rattle.tftp_capture.specs.{IsLawful, IsPort, text_with_hosts}
 use Rattle.tftp_packet.specs.{Rollover}
 use Rattle.tftp_packet.specs.Hosts.{Datagram, Header}
 use Rattle.law_model.specs.Model.{Meaning}
 use Rattle.law_end.specs.{OneEnded}
 use Rattle.law_rollover.specs.{AreUnrolled}
-use Rattle.tftp_judge.specs.{Refuses, IsJudgeAfter, Judge, IsSaid, IsSaidBy, IsTextVerdictBy, Refusal, Verdict, Refused, header_by}
+use Rattle.tftp_judge.specs.{Refuses, IsJudgeAfter, Judge, IsSaidBy, IsTextVerdictBy, IsVerdict, Refusal, Verdict, Refused, header_by}
+use Rattle.tftp_judge.specs.declared.refusal.Refusal.TheVariants.{Memory}
 
 -- Those before this one break no rule, and this one was refused.
 pub record IsRefusedIn (h : Header) (given : List Datagram) (refusal : Refusal) : Type 0 where
@@ -57,9 +58,14 @@ pub record IsJudgedBy (rollover : Option Rollover) (h : Header) (given : List Da
   pub verdict : IsSaidBy rollover said h (reverse given)
   pub text : AreWritten h given → IsTextVerdictBy rollover (text_with_hosts h (reverse given)) (of_text said)
 
--- unless memory ran out
+-- Memory ran out: for one of them, which takes some where those before it break no rule; or in the end, of a whole transfer.
+abbrev pub IsWanting : Option Rollover → Header → List Datagram → ℕ → Type 0
+IsWanting rollover h given count = HoldsOf rollover (λ k taken. IsRefusedIn k taken (Memory count) ⊎ IsVerdict k (reverse taken) (Err (Memory count))) h given
+
+-- so it is judged, or memory ran out so
 abbrev pub IsFoundBy : Option Rollover → Header → List Datagram → Result Meaning Refusal → Type 0
-IsFoundBy rollover h given said = IsSaid said → IsJudgedBy rollover h given said
+IsFoundBy rollover h given (Err (Memory count)) = IsWanting rollover h given count
+IsFoundBy rollover h given said = IsJudgedBy rollover h given said
 
 -- the same where blocks go up to 65535
 abbrev pub IsJudged : Header → List Datagram → Result Meaning Refusal → Type 0

@@ -1,6 +1,6 @@
 //! Laws of the definitions in `specs/`. Each is the contract of a function that does nothing.
 
-ghost use Rattle.std.specs.Prelude.{◌≡◌, [], ◌++◌, ◌∷◌, ℕ, List, Option, Result, filter, reverse, false, true};
+ghost use Rattle.std.specs.Prelude.{◌≡◌, [], ◌++◌, ◌∷◌, ℕ, List, None, Option, Result, filter, reverse, false, true};
 ghost use Rattle.tftp_packet.specs.Hosts.{Datagram, Header};
 ghost use Rattle.law_model.specs.Model.{Meaning};
 ghost use Rattle.tftp_packet.specs.{Rollover};
@@ -12,7 +12,7 @@ ghost use Rattle.audit_flows.specs.Transfers.Worked.{two_clients};
 ghost use Rattle.audit_flows.specs.{TransferDoubts};
 ghost use Rattle.audit_views.specs.Views.Captured.{Naming, client_capture, server_capture};
 ghost use Rattle.audit_views.specs.Views.Kept.{Client, IsClientAfterBy, IsViewAfterBy, View};
-ghost use Rattle.audit_views.specs.Views.Judged.{AreWritten, of_text};
+ghost use Rattle.audit_views.specs.Views.Judged.{AreWritten, IsWanting, of_text};
 ghost use Rattle.audit_views.specs.Views.Worked.{asked_twice_at_client, asked_twice_at_server, by_bytes, first_transfer, two_clients_at_server};
 
 /// What there is to say of datagrams is what there is to say of the text that has just them, whatever comes after block 65535.
@@ -37,6 +37,11 @@ pub fn worked_captures()
     ensures server { server_capture by_bytes first_transfer (placed [] asked_twice) (placed [] asked_twice) ≡ asked_twice_at_server }
     ensures settled { is_settled 0 (placed [] asked_twice) ≡ true }
     ensures beside { server_capture by_bytes first_transfer (placed [] two_clients) (placed [] two_clients) ≡ two_clients_at_server }
+{}
+
+/// Where nothing was captured, memory ran out for no datagram, and the transfer is not whole: so it is not wanting.
+pub fn worked_wanting()
+    ensures { (h : Header) (count : ℕ) → IsWanting None h [] count → ⊥ }
 {}
 
 /// A datagram that is not about a transfer tells its judges nothing, and makes nothing of it doubtful unless it may be its

@@ -1,6 +1,6 @@
-use Rattle.std.proofs.Common.{◌≡◌, ℕ, true, false, [], Some, refl, sym, subst, ◌∙◌, ap}
+use Rattle.std.proofs.Common.{◌≡◌, true, false, [], Some, refl, sym, ◌∙◌, ap}
 use Rattle.audit_views.specs.Views.Worked.{first_transfer}
-use Rattle.audit_recording.specs.Blame.Frames.{Framed, seen_as, whole_of}
+use Rattle.audit_recording.specs.Blame.Frames.{Framed, whole_of}
 use Rattle.audit_recording.specs.Blame.Worked.{in_even_frames}
 use Rattle.audit_recording.specs.declared.rows.row.Point.TheVariants as point
 use Rattle.audit_cleared.specs.Accused.{is_doubtful_there}

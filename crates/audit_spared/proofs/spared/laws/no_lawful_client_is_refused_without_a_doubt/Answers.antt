@@ -9,12 +9,12 @@ use Rattle.audit_spared.specs.Spared.{AreInterleaved, IsLawfulAt, IsWholeCapture
 use Rattle.audit_spared.specs.Spared.Seen.{HasNoSilence, at_client_of, is_with}
 use Rattle.audit_spared.proofs.SparedLemmas.Basics.{doubtful_is}
 use Rattle.audit_spared.proofs.SparedLemmas.ClientEnd.{client_captures, lawful_at}
-use Rattle.audit_spared.proofs.SparedLemmas.Interleaved.{strayed_or}
+use Rattle.audit_spared.proofs.SparedLemmas.Interleaved.{strayed_or, view_or}
 use Rattle.audit_spared.proofs.SparedLemmas.Lists.{by_recursion}
 use Rattle.audit_spared.proofs.SparedLemmas.Renamed.{IsNamedAsBefore, renamed, renamed_one}
 use Rattle.audit_spared.proofs.SparedLemmas.Retold.{all_both, capture_same, captures_before}
 use Rattle.audit_spared.proofs.SparedLemmas.Strays.{AreTold, IsStrayedAt}
-use Rattle.audit_spared.proofs.SparedLemmas.Whole.{AreAll, with_aside, with_strangers}
+use Rattle.audit_spared.proofs.SparedLemmas.Whole.{AreAll, asked_of, with_aside, with_strangers}
 use Rattle.audit_flows.specs.Transfers.Places.{placed}
 use Rattle.audit_spared.proofs.spared.laws.no_lawful_client_is_refused_without_a_doubt.Goals as goal
 
@@ -67,3 +67,15 @@ returns-clause-spared c write clients recorded g newer older p are x at is_clien
 
 pub returns-clause-by_three : goal.returns-clause-by_three
 returns-clause-by_three c = by_three
+
+pub returns-clause-views : goal.returns-clause-views
+returns-clause-views c write clients recorded g newer older p are x at is_client =
+    elim (view_or write none clients recorded g.hosts (given write clients recorded g) newer older p are x at is_client) [
+      | inl doubt ↦ inl doubt
+      | inr (inl fair) ↦ inr fair
+      | inr (inr stray) ↦ absurd (false≢true stray.1)
+    ]
+
+pub returns-clause-asked : goal.returns-clause-asked
+returns-clause-asked c write clients recorded g newer older p are x at is_client =
+    asked_of (IsStrayedAt (renamed write recorded) none) clients recorded (given write clients recorded g) newer older p are x at is_client

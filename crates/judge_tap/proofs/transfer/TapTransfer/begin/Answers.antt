@@ -3,6 +3,7 @@ use Rattle.tftp_packet.specs.{Message, End}
 use Rattle.law_model.specs.Model.Roles.{receiver_of}
 use Rattle.law_end.specs.{Passes}
 use Rattle.law_tap.specs.{header_at, recorded_at}
+use Rattle.law_tap.proofs.TapHighest.{nothing_high, one_more_high}
 use Rattle.law_tap.proofs.TapTests.{asks_says}
 use Rattle.judge_tap.specs.{IsRecorded}
 use Rattle.judge_tap.proofs.TransferFound.{asked_first, request_no_error}
@@ -18,4 +19,5 @@ returns-clause-ok g c = λ s d apart service follows source says noted recorded 
           (subst (λ (e : End). Passes (header_at s c.args.asked.side) [] (recorded_at s e d)) (sym end) passes);
       notes = noted;
       first_error = request_no_error s d c.args.asked says;
+      highest = one_more_high d [] (Message.Request c.args.asked) says 0 nothing_high;
     }

@@ -1,4 +1,4 @@
-use Rattle.std.proofs.Common.{rules, Result, Ok, Err, Option, List, ℕ, true≢false, sym, IsErr, ◌∙◌}
+use Rattle.std.proofs.Common.{rules, Result, Ok, Err, Option, List, ℕ, true≢false, sym, IsErr}
 use Rattle.std.proofs.Math.Seq.{take-add}
 use Rattle.std.proofs.lemmas.List.{take_rest}
 use Rattle.std.proofs.KnownBytes.{Appends-trans}

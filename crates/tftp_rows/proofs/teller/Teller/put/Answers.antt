@@ -1,5 +1,5 @@
 use Rattle.std.proofs.Common.{◌∙◌, refl, sym, true≢false}
-use Rattle.tftp_rows.proofs.TellingLemmas.{none_there, tells_err, tells_held, tells_lost, tells_now}
+use Rattle.tftp_rows.proofs.TellingLemmas.{no_frame, none_there, tells_err, tells_held, tells_lost, tells_now}
 use Rattle.tftp_rows.proofs.teller.Teller.put.Goals as goal
 
 pub returns-in_err-push-clause-rows : goal.returns-in_err-push-clause-rows
@@ -11,4 +11,5 @@ returns-then-waits-clause-rows g c =
 
 pub returns-clause-rows : goal.returns-clause-rows
 returns-clause-rows g c =
-    tells_now g.W.Write.contents c.args.self.now c.print.new.self c.print.result c.args.row c.print.ensures.rest (none_there c.args.self.now.held.items c.waits.result c.waits.ensures.behind c.if-waits.false) c.print.ensures.prints
+    tells_now g.W.Write.contents c.args.self.now c.print.new.self c.print.result c.args.row c.print.ensures.rest (none_there c.args.self.now.held.items c.waits.result c.waits.ensures.behind c.if-waits.false)
+    (λ lose. no_frame c.args.row.frame c.waits.result (c.waits.ensures.refusal lose) c.if-waits.false) c.print.ensures.prints

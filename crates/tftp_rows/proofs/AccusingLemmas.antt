@@ -1,0 +1,170 @@
+-- A row of a recording accuses as what was seen at its place does.
+use Rattle.std.proofs.Common.{◌≡◌, ◌&&◌, ℕ, Bool, true, false, List, [], ◌∷◌, ◌++◌, Contains, Option, Some, None, ◌⊎◌, inl, inr, refl, ap, subst, ◌∙◌}
+use Rattle.std.specs.List.{AllByRecursion}
+use Rattle.std.specs.Prelude.{IfSome, is_some, if◌then◌else◌}
+use Rattle.tftp_packet.specs.{Rollover}
+use Rattle.law_model.proofs.ModelLemmas.Members.{contains_cases, contains_none}
+use Rattle.audit_flows.specs.{Endpoint, Transfer}
+use Rattle.audit_recording.specs.{Telling as Said}
+use Rattle.audit_recording.specs.Blame.Frames.{Carried, whole_of}
+use Rattle.audit_recording.specs.Judges.{opened}
+use Rattle.audit_recording.specs.Judges.Points.{rollover_of}
+use Rattle.audit_recording.specs.Rows.Told.{between_told, both_row, ends_told, is_told_at_ends, plain_row, row_of, rows_told}
+use Rattle.audit_recording.specs.declared.blame.doubted.Doubted.{Doubted}
+use Rattle.audit_recording.specs.declared.judges.judging.Judging.{Judging}
+use Rattle.audit_recording.specs.declared.rows.row.Place.{Place}
+use Rattle.audit_recording.specs.declared.rows.row.Point.{Point}
+use Rattle.audit_recording.specs.declared.rows.row.Point.TheVariants as point
+use Rattle.audit_recording.specs.declared.rows.row.Row.{Row}
+use Rattle.audit_recording.specs.declared.rows.said.Said.{Said as SaidThere}
+use Rattle.audit_rows.specs.{IsJudgedOf}
+use Rattle.audit_rows.specs.Charging.{dropped_reasons, unless_listed}
+use Rattle.audit_rows.specs.Judging.{are_alike, said_there, view_at}
+use Rattle.audit_rows.specs.Viewing.{IsViewBy, found_in}
+use Rattle.audit_rows.specs.declared.judged.Judged.{Judged}
+use Rattle.audit_rows.specs.declared.viewed.Viewed.{Viewed}
+use Rattle.audit_cleared.specs.Accusing.{AccusesNobody, IsServerKnown, TellsOf}
+use Rattle.tftp_rows.specs.Accusing.{AccuseNobody, AccuseNobodyBetween, IsBetween, IsOfClient, IsOfServer}
+use Rattle.tftp_rows.specs.Telling.{AreRowsAt, IsRowAt, IsRowWith, places_of}
+use Rattle.tftp_rows.specs.Verdicts.{has_same_words}
+use Rattle.tftp_rows.specs.Whole.{AreOf, Telling, counted}
+use Rattle.tftp_rows.specs.declared.row.VerdictRow.{VerdictRow}
+use Rattle.tftp_rows.proofs.TellingLemmas.{all_appended}
+
+-- ---- the places of rows
+
+-- a row of one end alone, or of both
+abbrev IsRowThere : Row → Type 0
+IsRowThere r = (r ≡ plain_row r.point) ⊎ (r ≡ both_row)
+
+plain_there : (at : Point) → IsRowThere (plain_row at)
+plain_there point.Client = inl refl
+plain_there point.Server = inl refl
+plain_there point.Between = inl refl
+
+one_there : (at : Point) (said : Option SaidThere) → AllByRecursion IsRowThere (row_of at said)
+one_there at None = tt
+one_there at (Some said) = (plain_there at, tt)
+
+ends_there : (client server : Option SaidThere) (b : Bool) → AllByRecursion IsRowThere (if b then both_row ∷ [] else row_of point.Client client ++ row_of point.Server server)
+ends_there client server true = (inr refl, tt)
+ends_there client server false = all_appended IsRowThere (row_of point.Client client) (row_of point.Server server) (one_there point.Client client) (one_there point.Server server)
+
+between_there : (between : Option SaidThere) (b : Bool) → AllByRecursion IsRowThere (if b then [] else row_of point.Between between)
+between_there between true = tt
+between_there between false = one_there point.Between between
+
+all_there : (client server between : Option SaidThere) (alike : Bool) → AllByRecursion IsRowThere (rows_told client server between alike)
+all_there client server between alike = all_appended IsRowThere (ends_told client server alike) (between_told client server between)
+    (ends_there client server (is_some client && (is_some server && alike))) (between_there between (is_told_at_ends client server between))
+
+all_places : (j : Judged) → AllByRecursion IsRowThere (places_of j)
+all_places j = all_there (said_there j.client) (said_there j.server) (said_there j.between) (are_alike j.client j.server (has_same_words (found_in j.client) (found_in j.server)))
+
+-- so a row of a place is told by what was seen at its point
+client_point : (r : Row) → IsRowThere r → IsOfClient r.place → r.point ≡ point.Client
+client_point r (inl plain) of = by r.point refl where
+  by : (at : Point) → r.point ≡ at → r.point ≡ point.Client
+  by point.Client is = is
+  by point.Server is = absurd (subst IsOfClient (ap (λ (q : Row). q.place) plain ∙ ap (λ at. (plain_row at).place) is) of)
+  by point.Between is = absurd (subst IsOfClient (ap (λ (q : Row). q.place) plain ∙ ap (λ at. (plain_row at).place) is) of)
+client_point r (inr both) of = ap (λ (q : Row). q.point) both
+
+server_point : (r : Row) → IsRowThere r → IsOfServer r.place → r.point ≡ point.Server
+server_point r (inl plain) of = by r.point refl where
+  by : (at : Point) → r.point ≡ at → r.point ≡ point.Server
+  by point.Server is = is
+  by point.Client is = absurd (subst IsOfServer (ap (λ (q : Row). q.place) plain ∙ ap (λ at. (plain_row at).place) is) of)
+  by point.Between is = absurd (subst IsOfServer (ap (λ (q : Row). q.place) plain ∙ ap (λ at. (plain_row at).place) is) of)
+server_point r (inr both) of = absurd (subst IsOfServer (ap (λ (q : Row). q.place) both) of)
+
+-- ---- one of the rows
+
+record IsAt (name : List ℕ) (n : ℕ) (j : Judged) (row : VerdictRow) : Type 0 where
+  place : Row
+  there : IsRowThere place
+  is : IsRowAt name n j place row
+
+at_place : (name : List ℕ) (n : ℕ) (j : Judged) (places : List Row) (rows : List VerdictRow) (row : VerdictRow) → AllByRecursion IsRowThere places → AreRowsAt name n j places rows → Contains rows row
+    → IsAt name n j row
+at_place name n j [] rows row there are among = absurd (contains_none row (subst (λ l. Contains l row) are among))
+at_place name n j (place ∷ more) rows row there (one, others, parts, is, rest) among = elim (contains_cases one others row (subst (λ l. Contains l row) parts among)) [
+  | inl same ↦ record { place = place; there = there.0; is = subst (IsRowAt name n j place) same is }
+  | inr later ↦ at_place name n j more others row there.1 rest later
+]
+
+between_point : (r : Row) → IsRowThere r → IsBetween r.place → r.point ≡ point.Between
+between_point r (inl plain) of = by r.point refl where
+  by : (at : Point) → r.point ≡ at → r.point ≡ point.Between
+  by point.Between is = is
+  by point.Client is = absurd (subst IsBetween (ap (λ (q : Row). q.place) plain ∙ ap (λ at. (plain_row at).place) is) of)
+  by point.Server is = absurd (subst IsBetween (ap (λ (q : Row). q.place) plain ∙ ap (λ at. (plain_row at).place) is) of)
+between_point r (inr both) of = absurd (subst IsBetween (ap (λ (q : Row). q.place) both) of)
+
+-- ---- what it tells
+
+on_some : (P : Viewed → Type 0) (o : Option Viewed) (v : Viewed) → IfSome o P → o ≡ Some v → P v
+on_some P o v holds is = subst (λ p. IfSome p P) is holds
+
+module _ (judging : Judging) (carried : List Carried) where
+  -- nobody is accused by what this verdict was on, at this point of this transfer
+  abbrev pub IsClear : Point → Transfer → Viewed → Type 0
+  IsClear at x v = (d : Doubted) (t : Said) → TellsOf at x carried d t v → AccusesNobody x carried d t v
+
+  row_clear : (name : List ℕ) (n : ℕ) (j : Judged) (x : Transfer) (r : Row) (row : VerdictRow) (at : Point) → opened x.number (whole_of [] carried) ≡ Some x → IsJudgedOf j judging x [] carried
+      → r.point ≡ at → IsRowAt name n j r row → ((v : Viewed) → view_at at j ≡ Some v → IsViewBy None at x [] carried v × IsClear at x v) → row.charge.accused ≡ None
+  row_clear name n j x r row at opens of is (told, to, rows) clear =
+      let there = clear told.view.now (subst (λ p. view_at p j ≡ Some told.view.now) is to.view) in
+      (rows.charge judging x [] carried of).accused
+      ∙ there.1 j.doubted told.telling (record { opens = opens; view = there.0; doubts = of.kept.number; point = to.point ∙ is; said = to.said })
+
+  -- what a row of this place tells of the transfer accuses nobody
+  rows_clear : (IsThere : Place → Type 0) (at : Point) → ((r : Row) → IsRowThere r → IsThere r.place → r.point ≡ at)
+      → (name : List ℕ) (n : ℕ) (t : Telling) → opened t.transfer.number (whole_of [] carried) ≡ Some t.transfer → IsJudgedOf t.judged judging t.transfer [] carried
+      → AreRowsAt name n t.judged (places_of t.judged) t.rows → ((v : Viewed) → view_at at t.judged ≡ Some v → IsViewBy None at t.transfer [] carried v × IsClear at t.transfer v)
+      → (row : VerdictRow) → Contains t.rows row → IsThere row.place → row.charge.accused ≡ None
+  rows_clear IsThere at point_of name n t opens of rows clear row among there =
+      let it = at_place name n t.judged (places_of t.judged) t.rows row (all_places t.judged) rows among in
+      let (told, to, is) = it.is in
+      row_clear name n t.judged t.transfer it.place row at opens of (point_of it.place it.there (subst IsThere (is.place ∙ to.place) there)) it.is clear
+
+  module _ (none : rollover_of judging ≡ None) where
+    view_of : (at : Point) (o : Option Viewed) (x : Transfer) (v : Viewed) → IfSome o (IsViewBy (rollover_of judging) at x [] carried) → o ≡ Some v → IsViewBy None at x [] carried v
+    view_of at o x v holds is = subst (λ (r : Option Rollover). IsViewBy r at x [] carried v) none (on_some (IsViewBy (rollover_of judging) at x [] carried) o v holds is)
+
+    pub clients_clear : (clients : List Endpoint) → ((x : Transfer) (v : Viewed) → Contains clients x.client → IsClear point.Client x v)
+        → (name : List ℕ) (tellings : List Telling) → AreOf name judging [] carried tellings → AccuseNobody IsOfClient clients tellings
+    clients_clear clients clear name [] of = tt
+    clients_clear clients clear name (t ∷ older) (opens, of, rows, rest) = (
+      λ is_client. rows_clear IsOfClient point.Client client_point name (counted (t ∷ older)) t opens of rows
+          (λ v is. (view_of point.Client t.judged.client t.transfer v of.client is, clear t.transfer v is_client)),
+      clients_clear clients clear name older rest,
+    )
+
+    pub servers_clear : (clients : List Endpoint) → ((x : Transfer) (v : Viewed) → Contains clients x.client → IsClear point.Server x v)
+        → (name : List ℕ) (tellings : List Telling) → AreOf name judging [] carried tellings → AccuseNobody IsOfServer clients tellings
+    servers_clear clients clear name [] of = tt
+    servers_clear clients clear name (t ∷ older) (opens, of, rows, rest) = (
+      λ is_client. rows_clear IsOfServer point.Server server_point name (counted (t ∷ older)) t opens of rows
+          (λ v is. (view_of point.Server t.judged.server t.transfer v of.server is, clear t.transfer v is_client)),
+      servers_clear clients clear name older rest,
+    )
+
+  pub between_clear : (clients : List Endpoint) → ((x : Transfer) (v : Viewed) → Contains clients x.client → IsServerKnown x carried v → IsClear point.Between x v)
+      → (name : List ℕ) (tellings : List Telling) → AreOf name judging [] carried tellings → AccuseNobodyBetween clients carried tellings
+  between_clear clients clear name [] of = tt
+  between_clear clients clear name (t ∷ older) (opens, of, rows, rest) = (
+    λ is_client apart known. rows_clear IsBetween point.Between between_point name (counted (t ∷ older)) t opens of rows
+        (λ v is. (
+          on_some (IsViewBy None point.Between t.transfer [] carried) t.judged.between v (of.between apart) is,
+          clear t.transfer v is_client (on_some (IsServerKnown t.transfer carried) t.judged.between v known is),
+        )),
+    between_clear clients clear name older rest,
+  )
+
+-- what was lost makes none accuse
+pub still_none : (dropped : ℕ) (row last : VerdictRow) → IsRowWith dropped row last → row.charge.accused ≡ None → last.charge.accused ≡ None
+still_none dropped row last is none = is.accused ∙ ap (unless_listed (dropped_reasons row.charge.is_refusal dropped)) none ∙ never (dropped_reasons row.charge.is_refusal dropped) where
+  never : (reasons : List _) → unless_listed reasons None ≡ None
+  never [] = refl
+  never (reason ∷ more) = refl
